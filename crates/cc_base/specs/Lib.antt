@@ -1,0 +1,6 @@
+pub mod Counts
+pub mod Files
+pub mod Sink
+pub mod Wrap
+pub mod Digits
+pub mod LittleEndian

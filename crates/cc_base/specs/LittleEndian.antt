@@ -1,0 +1,19 @@
+-- Little endian numbers at a place among bytes.
+use Rattle.std.specs.Prelude.{ℕ, ◌<◌, List, drop, slice_index}
+use Rattle.byteorder.specs.Endian.{little_number}
+
+-- A list of bytes: every number in it is below 256.
+abbrev pub IsBytes : List ℕ → Type 0
+IsBytes bytes = (i : ℕ) → slice_index bytes i < 256
+
+-- The number in the two bytes at a place.
+unfoldable pub u16_at : List ℕ → ℕ → ℕ
+u16_at bytes at = little_number 2 (drop at bytes)
+
+-- The number in the four bytes at a place.
+unfoldable pub u32_at : List ℕ → ℕ → ℕ
+u32_at bytes at = little_number 4 (drop at bytes)
+
+-- The number in the eight bytes at a place.
+unfoldable pub u64_at : List ℕ → ℕ → ℕ
+u64_at bytes at = little_number 8 (drop at bytes)

@@ -1,0 +1,34 @@
+//! A place that bytes are written to.
+
+ghost use Rattle.std.specs.Prelude.{◌≡◌, ℕ, List, Option, OnOk, IsErrOf};
+ghost use Rattle.cc_base.specs.Counts.{Rose, Kept};
+ghost use Rattle.cc_base.specs.Sink.{appended, AppendsFront};
+
+use std::alloc::Global;
+
+/// Why bytes were not written.
+#[derive(Clone, Copy, Debug, PartialEq, Eq)]
+pub enum PutRefusal {
+    /// A device refused. A front of the bytes may have been written.
+    Failed,
+    /// Memory ran out, and nothing was written.
+    NoMemory,
+}
+
+/// A place that bytes are written to, one after another.
+pub trait Sink {
+    /// All that was written, where the object tells it.
+    ghost written: { Self → Option (List ℕ) };
+
+    /// How often a device refused.
+    ghost faults: { Self → ℕ };
+
+    /// Writes the bytes, whole.
+    fn put(&mut self, alloc: Global, bytes: &[u8]) -> Result<(), PutRefusal>
+        ensures ok { OnOk result (written self.new ≡ appended (written self.old) bytes.now) }
+        ensures failed { IsErrOf result PutRefusal.Failed →
+            AppendsFront (written self.old) (written self.new) bytes.now }
+        ensures no_memory { IsErrOf result PutRefusal.NoMemory → written self.new ≡ written self.old }
+        ensures failed_cause { IsErrOf result PutRefusal.Failed → Rose (faults self.old) (faults self.new) }
+        ensures faults_kept { Kept (faults self.old) (faults self.new) };
+}
