@@ -6,7 +6,7 @@ mod little_endian;
 mod sink;
 
 pub use files::{Files, READ_LIMIT, ReadRefusal, ReplaceRefusal};
-pub use little_endian::{little_endian_law, u16_at, u32_at, u64_at};
+pub use little_endian::{u16_at, u32_at, u64_at};
 pub use sink::{PutRefusal, Sink};
 use std::alloc::AllocError;
 
