@@ -1,0 +1,4 @@
+pub mod CountLemmas
+pub mod SinkLemmas
+pub mod ByteLemmas
+pub mod NumberLemmas
