@@ -2,3 +2,4 @@ pub mod CountLemmas
 pub mod SinkLemmas
 pub mod ByteLemmas
 pub mod NumberLemmas
+pub mod DigitLemmas
