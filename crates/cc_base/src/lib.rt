@@ -1,12 +1,14 @@
 //! Numbers, files and sinks: what every other crate of cccheck stands on.
 #![tactic(auto)]
 
+mod digits;
 mod files;
 mod little_endian;
 mod sink;
 
+pub use digits::{put_hex, put_number};
 pub use files::{Files, READ_LIMIT, ReadRefusal, ReplaceRefusal};
-pub use little_endian::{u16_at, u32_at, u64_at};
+pub use little_endian::{little_endian_law, u16_at, u32_at, u64_at};
 pub use sink::{PutRefusal, Sink};
 use std::alloc::AllocError;
 

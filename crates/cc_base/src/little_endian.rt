@@ -32,3 +32,13 @@ pub fn u64_at(bytes: &[u8], at: usize) -> u64
 {
     LittleEndian::read_u64(&bytes[at..])
 }
+
+/// The law of little endian numbers: from a number to its bytes and back, whatever follows them,
+/// and from bytes to their number and back. It does nothing when it runs.
+#[tactic(auto, using(crate::proofs::ByteLemmas::number_back, crate::proofs::ByteLemmas::bytes_back))]
+pub fn little_endian_law()
+    ensures number_back { (n x : ℕ) (rest : List ℕ) → x < 256 ^ n →
+        little_number n (little_bytes n x ++ rest) ≡ x }
+    ensures bytes_back { (bytes : List ℕ) → IsBytes bytes →
+        little_bytes (length bytes) (little_number (length bytes) bytes) ≡ bytes }
+{}

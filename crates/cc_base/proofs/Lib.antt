@@ -1,0 +1,5 @@
+pub mod CountLemmas
+pub mod SinkLemmas
+pub mod ByteLemmas
+pub mod NumberLemmas
+pub mod DigitLemmas
