@@ -1,0 +1,34 @@
+//! The words that the program is given.
+
+ghost use Rattle.std.specs.Prelude.{◌≡◌, map};
+ghost use Rattle.std.specs.String.{string_bytes};
+ghost use Rattle.check_driver.specs.Words.{command_of, is_file_word};
+
+/// What the program is asked for. Files are places of words, counted from 0.
+#[derive(Clone, Copy, Debug, PartialEq, Eq)]
+pub enum Command {
+    /// The report of the unit in a file.
+    Unit(u32),
+}
+
+/// Whether a word may name a file: it is not empty and does not begin with `-`.
+fn is_file_word(word: &str) -> bool
+    ensures { result ≡ is_file_word word.now }
+{
+    match word.as_bytes() {
+        [] => false,
+        [first, ..] => *first != b'-',
+    }
+}
+
+/// The command that the words are, if they are one.
+pub fn parse_words(words: &[String]) -> Option<Command>
+    ensures { result ≡ command_of (map (λ word. string_bytes word) words.now) }
+{
+    match words {
+        [name, file] if name.as_str() == "unit" && is_file_word(file.as_str()) => {
+            Some(Command::Unit(1))
+        }
+        _ => None,
+    }
+}
