@@ -3,3 +3,4 @@ pub mod SinkLemmas
 pub mod ByteLemmas
 pub mod NumberLemmas
 pub mod DigitLemmas
+pub mod HeldLemmas

@@ -4,11 +4,13 @@
 mod digits;
 mod files;
 mod little_endian;
+mod map_files;
 mod sink;
 
 pub use digits::{put_hex, put_number};
 pub use files::{Files, READ_LIMIT, ReadRefusal, ReplaceRefusal};
 pub use little_endian::{little_endian_law, u16_at, u32_at, u64_at};
+pub use map_files::{MapFiles, NamedFile};
 pub use sink::{PutRefusal, Sink};
 use std::alloc::AllocError;
 
