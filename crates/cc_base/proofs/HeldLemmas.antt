@@ -152,14 +152,6 @@ Replaces-push name files shown new e none isName =
         others = λ other ne. held-push_other other files new (is_named-other name other new named ne)
     }
 
--- A count is listed where `contains` says so.
-pub is_listed : (calls shown : List ℕ) (count counted : ℕ) (r : Bool) → shown ≡ calls → counted ≡ count
-  → IsAnyAnswer (λ call b. nat_eq call counted ≡ b) shown r → IsTrue r ↔ Contains calls count
-is_listed calls shown count counted r e same answer =
-    let at : IsTrue r ↔ Contains shown counted =
-        Decides-contains shown counted r (contains_decides nat_eq Decides-eqb shown counted r answer) in
-    rw (← e, ← same) at
-
 -- The same files and bytes, by other terms.
 pub Replaces-along : (old : Held) (name : List ℕ) (after files : List NamedFile) (bytes told : List ℕ)
   → after ≡ files → told ≡ bytes → Replaces old (held_in files) name told → Replaces old (held_in after) name bytes

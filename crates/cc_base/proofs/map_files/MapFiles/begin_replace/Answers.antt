@@ -1,4 +1,4 @@
-use Rattle.cc_base.proofs.HeldLemmas.{is_listed}
+use Rattle.cc_base.proofs.ListedLemmas.{is_listed}
 use Rattle.cc_base.proofs.map_files.MapFiles.begin_replace.Goals as goal
 
 pub returns-clause-fails : goal.returns-clause-fails
