@@ -3,3 +3,5 @@ pub mod SinkLemmas
 pub mod ByteLemmas
 pub mod NumberLemmas
 pub mod DigitLemmas
+pub mod ListedLemmas
+pub mod HeldLemmas
