@@ -19,8 +19,8 @@ abbrev pub Tells : {X : Type 0} → Option UnitFault → (X → Type 0) → Resu
 Tells fault P (Ok x) = (fault ≡ None) × P x
 Tells fault P (Err found) = fault ≡ Some found
 
--- What was returned is what reading gives, unless memory ran out.
-abbrev pub Reads : {X : Type 0} → Result X UnitFault → Result X UnitRefusal → Type 0
-Reads reading (Ok x) = reading ≡ Ok x
-Reads reading (Err (refusals.Bad fault)) = reading ≡ Err fault
-Reads reading (Err refusals.NoMemory) = Unit {0}
+-- What was returned, seen by view, is what reading gives, unless memory ran out.
+abbrev pub Reads : {X Y : Type 0} → (X → Y) → Result Y UnitFault → Result X UnitRefusal → Type 0
+Reads view reading (Ok x) = reading ≡ Ok (view x)
+Reads view reading (Err (refusals.Bad fault)) = reading ≡ Err fault
+Reads view reading (Err refusals.NoMemory) = Unit {0}

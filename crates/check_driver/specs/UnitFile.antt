@@ -14,7 +14,9 @@ use Rattle.il_decoder.specs.declared.fault.IlRefusal.{IlRefusal}
 use Rattle.il_decoder.specs.declared.fault.IlRefusal.TheVariants as il_refusals
 use Rattle.check_driver.specs.Faults.{◌otherwise◌, fails}
 use Rattle.check_driver.specs.Typing.{typing_fault}
-use Rattle.check_driver.specs.declared.read_unit.TheConstants.{MAX_VARIABLES, MAX_CODE, MAX_INSTRUCTIONS}
+use Rattle.check_driver.specs.declared.unit_fields.Fields.{Fields}
+use Rattle.check_driver.specs.declared.unit_fields.TheConstants.{MAX_VARIABLES, MAX_CODE}
+use Rattle.check_driver.specs.declared.unit_instructions.TheConstants.{MAX_INSTRUCTIONS}
 use Rattle.check_driver.specs.declared.unit_fault.UnitFault.{UnitFault}
 use Rattle.check_driver.specs.declared.unit_fault.UnitFault.TheVariants.{Short, Form, Version, NotBuilt}
 
@@ -82,10 +84,14 @@ magic_fault bytes =
     short bytes 0 4 otherwise wrong_letter bytes 0 67 otherwise wrong_letter bytes 1 67
     otherwise wrong_letter bytes 2 85 otherwise fails (not (slice_index bytes 3 == 49)) (Version 3)
 
+-- A byte that may stand in a name.
+abbrev pub is_printable : ℕ → Bool
+is_printable b = nat_le 0x21 b && nat_le b 0x7e
+
 -- The first byte of a text that no name has. The text begins at this offset.
 unfoldable pub unprintable : ℕ → List ℕ → Option UnitFault
 unprintable at [] = None
-unprintable at (b ∷ bs) = fails (not (nat_le 0x21 b && nat_le b 0x7e)) (Form at) otherwise unprintable (at + 1) bs
+unprintable at (b ∷ bs) = fails (not (is_printable b)) (Form at) otherwise unprintable (at + 1) bs
 
 unfoldable pub name_fault : List ℕ → Option UnitFault
 name_fault bytes =
@@ -138,23 +144,20 @@ code_fault bytes =
 
 -- ---- the instructions' tests
 
--- How a fault of the decoder is named, the code beginning at the offset `base` of the file.
+-- How a fault of the decoder is named, at this offset of the file.
 abbrev pub decoder_fault : ℕ → IlRefusal → UnitFault
-decoder_fault base (il_refusals.Bad (il_faults.Opcode at opcode)) = NotBuilt (base + at)
-decoder_fault base (il_refusals.Bad (il_faults.Short at)) = Form (base + at)
-decoder_fault base (il_refusals.Bad (il_faults.Target at)) = Form (base + at)
-decoder_fault base (il_refusals.Bad (il_faults.Header at)) = Form (base + at)
-decoder_fault base il_refusals.NoMemory = Form base
+decoder_fault place (il_refusals.Bad (il_faults.Opcode at opcode)) = NotBuilt place
+decoder_fault place _ = Form place
 
 -- A call of something else than Assert.
 abbrev pub is_other_call : Op → Bool
 is_other_call (ops.Call number) = not (number == ASSERT_CALL)
 is_other_call _ = false
 
--- An instruction that was decoded, where it is built.
+-- What was decoded at this offset of the file, where it is built.
 abbrev pub built : ℕ → Result Instr IlRefusal → Result Instr UnitFault
-built base (Ok i) = if is_other_call i.op then Err (NotBuilt (base + i.at)) else Ok i
-built base (Err refusal) = Err (decoder_fault base refusal)
+built place (Ok i) = if is_other_call i.op then Err (NotBuilt place) else Ok i
+built place (Err refusal) = Err (decoder_fault place refusal)
 
 abbrev pub followed_by : Instr → Result (List Instr) UnitFault → Result (List Instr) UnitFault
 followed_by i (Ok is) = Ok (i ∷ is)
@@ -166,12 +169,12 @@ then_instructions (Ok i) rest = followed_by i (rest i.size)
 then_instructions (Err fault) rest = Err fault
 
 -- The instructions of code from an IL offset on, this many at most, or the fault of the first that is
--- none or is not built.
+-- none or is not built. The code begins at the offset `base` of the file.
 unfoldable pub instructions : ℕ → ℕ → List ℕ → ℕ → Result (List Instr) UnitFault
 instructions zero base code at = Ok []
 instructions (suc most) base code at =
     if nat_le (length code) at then Ok []
-    else then_instructions (built base (decoded code at)) (λ size. instructions most base code (at + size))
+    else then_instructions (built (base + at) (decoded code at)) (λ size. instructions most base code (at + size))
 
 -- Code has no more instructions than bytes.
 unfoldable pub instructions_of : List ℕ → Result (List Instr) UnitFault
@@ -196,6 +199,14 @@ unfoldable pub field_fault : List ℕ → Option UnitFault
 field_fault bytes =
     magic_fault bytes otherwise name_fault bytes otherwise result_fault bytes otherwise args_fault bytes
     otherwise locals_fault bytes otherwise max_stack_fault bytes otherwise callees_fault bytes otherwise code_fault bytes
+
+-- The fields are those of the file.
+pub record HasFields (bytes : List ℕ) (fields : Fields) : Type 0 where
+  pub name : fields.name.now ≡ name_of bytes
+  pub args : fields.arg_count ≡ arg_count bytes
+  pub stack : fields.max_stack ≡ max_stack bytes
+  pub code : fields.code.now ≡ code_of bytes
+  pub place : fields.code_at ≡ code_at bytes
 
 -- The first fault of a unit file, or none where it has a built unit.
 unfoldable pub first_unit_fault : List ℕ → Option UnitFault

@@ -1,5 +1,6 @@
 -- The analysis of a unit by ranges, and the verdict on each obligation.
-use Rattle.std.specs.Prelude.{ℕ, Bool, true, false, List, [], ◌∷◌, map, Option, Some, None, ◌==◌, if◌then◌else◌, suc}
+use Rattle.std.specs.Prelude.{ℕ, Bool, true, false, List, [], ◌∷◌, map, Option, Some, None, ◌==◌, if◌then◌else◌, count_by}
+use Rattle.std.specs.List.{list_all}
 use Rattle.cil_model.specs.Effects.{ASSERT_CALL}
 use Rattle.cil_model.specs.declared.instruction.BinOp.{BinOp}
 use Rattle.cil_model.specs.declared.instruction.BinOp.TheVariants as operators
@@ -70,9 +71,7 @@ abbrev pub verdicts : MethodUnit → List Verdict
 verdicts unit = map (verdict unit.instrs) (obligations unit.instrs)
 
 abbrev pub all_proved : List Verdict → Bool
-all_proved [] = true
-all_proved (v ∷ vs) = if v.proved then all_proved vs else false
+all_proved vs = list_all (λ v. v.proved) vs
 
 abbrev pub proved_count : List Verdict → ℕ
-proved_count [] = 0
-proved_count (v ∷ vs) = if v.proved then suc (proved_count vs) else proved_count vs
+proved_count vs = count_by (λ v. v.proved) vs

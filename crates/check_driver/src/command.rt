@@ -2,7 +2,7 @@
 
 ghost use Rattle.std.specs.Prelude.{◌≡◌, map};
 ghost use Rattle.std.specs.String.{string_bytes};
-ghost use Rattle.check_driver.specs.Words.{command_of, is_file_word};
+ghost use Rattle.check_driver.specs.Words.{command_of, command_of_two, is_file_word};
 
 /// What the program is asked for. Files are places of words, counted from 0.
 #[derive(Clone, Copy, Debug, PartialEq, Eq)]
@@ -21,14 +21,19 @@ fn is_file_word(word: &str) -> bool
     }
 }
 
+/// The command of two words.
+fn command_of_two(word: &str, file: &str) -> Option<Command>
+    ensures { result ≡ command_of_two word.now file.now }
+{
+    (word == "unit" && is_file_word(file)).then_some(Command::Unit(1))
+}
+
 /// The command that the words are, if they are one.
 pub fn parse_words(words: &[String]) -> Option<Command>
     ensures { result ≡ command_of (map (λ word. string_bytes word) words.now) }
 {
     match words {
-        [name, file] if name.as_str() == "unit" && is_file_word(file.as_str()) => {
-            Some(Command::Unit(1))
-        }
+        [word, file] => command_of_two(word.as_str(), file.as_str()),
         _ => None,
     }
 }

@@ -6,9 +6,9 @@ mod errors;
 mod interrupt;
 mod judge;
 mod lines;
+mod program;
 mod range;
 mod read_unit;
-mod run_words;
 mod stack;
 mod typing;
 mod unit_fault;
@@ -16,4 +16,4 @@ mod unit_fields;
 mod unit_instructions;
 
 pub use command::{Command, parse_words};
-pub use run_words::run_words;
+pub use program::run_words;

@@ -1,27 +1,35 @@
 //! The lines that are written, each made in memory and put at once.
 
-ghost use Rattle.std.specs.Prelude.{◌≡◌, ◌+◌, ◌<◌, ◌≤◌, ◌^◌, ◌++◌, List, length, map, flat_map, OnOk, IfOk, codes};
+ghost use Rattle.std.specs.Prelude.{◌≡◌, ◌+◌, ◌<◌, ◌≤◌, ◌^◌, ◌++◌, List, length, map, OnOk, IfOk, codes};
 ghost use Rattle.std.specs.Fmt.{decimal};
+ghost use Rattle.std.specs.List.{flat_map};
 ghost use Rattle.cc_base.specs.Digits.{hex};
-ghost use Rattle.check_driver.specs.Text.{escaped, place_text, signature_text, unit_line, verdict_line, summary_line, proved_text, Counts};
-ghost use Rattle.check_driver.specs.Expected.{error_line, missing_line, unread_line, refused_line, fault_text, fault_at};
+ghost use Rattle.check_driver.specs.Text.{escaped, escaped_byte, next_parameter, parameters_text, place_text, signature_text, unit_line, verdict_line, summary_line, proved_text};
 
 use crate::judge::Verdict;
+use crate::unit_fields::is_printable;
 use cc_base::{put_hex, put_number};
 use cil_model::{Place, Unit};
 use std::alloc::{AllocError, Global};
 
-/// Appends a name, each byte that is not printed raw as a backslash and its two digits.
+/// Appends a byte of a name, or a backslash and its two digits where it is not printed raw.
+fn append_escaped_byte(alloc: Global, line: &mut Vec<u8>, byte: u8) -> Result<(), AllocError>
+    ensures { OnOk result (line.new.items ≡ line.old.items ++ escaped_byte byte) }
+{
+    if is_printable(byte) && byte != b'\\' {
+        line.push(byte)?;
+        return Ok(());
+    }
+    line.push(b'\\')?;
+    put_hex(alloc, line, u32::from(byte), 2)
+}
+
+/// Appends a name with its escapes.
 pub fn append_escaped(alloc: Global, line: &mut Vec<u8>, name: &[u8]) -> Result<(), AllocError>
     ensures { OnOk result (line.new.items ≡ line.old.items ++ escaped name.now) }
 {
     for byte in name {
-        if (0x21..=0x7e).contains(byte) && *byte != b'\\' {
-            line.push(*byte)?;
-        } else {
-            line.push(b'\\')?;
-            put_hex(alloc, line, u32::from(*byte), 2)?;
-        }
+        append_escaped_byte(alloc, line, *byte)?;
     }
     Ok(())
 }
@@ -45,17 +53,28 @@ fn proved_text(proved: bool) -> &'static [u8]
     if proved { b"proved" } else { b"unproved" }
 }
 
-/// Appends the parameters' types.
-fn append_places(line: &mut Vec<u8>, places: &[Place]) -> Result<(), AllocError>
-    ensures { OnOk result (line.new.items ≡ line.old.items ++ join_with_byte 44 (map place_text places.now)) }
+/// Appends parameters' types, each behind a comma.
+fn append_next_parameters(line: &mut Vec<u8>, places: &[Place]) -> Result<(), AllocError>
+    ensures { OnOk result (line.new.items ≡ line.old.items ++ flat_map next_parameter places.now) }
 {
-    for (i, place) in places.iter().enumerate() {
-        if i > 0 {
-            line.push(b',')?;
-        }
+    for place in places {
+        line.push(b',')?;
         line.extend_from_slice(place_text(*place))?;
     }
     Ok(())
+}
+
+/// Appends parameters' types, with commas between.
+fn append_parameters(line: &mut Vec<u8>, places: &[Place]) -> Result<(), AllocError>
+    ensures { OnOk result (line.new.items ≡ line.old.items ++ parameters_text places.now) }
+{
+    match places {
+        [] => Ok(()),
+        [first, rest @ ..] => {
+            line.extend_from_slice(place_text(*first))?;
+            append_next_parameters(line, rest)
+        }
+    }
 }
 
 /// The first line of a unit's report.
@@ -65,7 +84,7 @@ pub fn unit_line(alloc: Global, unit: &Unit, proved: bool) -> Result<Vec<u8>, Al
     let mut line = Vec::from_slice(alloc, b"unit ")?;
     line.extend_from_slice(unit.name.as_slice())?;
     line.extend_from_slice(b"(")?;
-    append_places(&mut line, unit.args.as_slice())?;
+    append_parameters(&mut line, unit.args.as_slice())?;
     line.extend_from_slice(b"): ")?;
     line.extend_from_slice(proved_text(proved))?;
     line.extend_from_slice(b"\n")?;
@@ -86,7 +105,12 @@ pub fn verdict_line(alloc: Global, verdict: Verdict) -> Result<Vec<u8>, AllocErr
 }
 
 /// Appends a number and what it counts.
-fn append_count(alloc: Global, line: &mut Vec<u8>, count: u32, what: &[u8]) -> Result<(), AllocError>
+fn append_count(
+    alloc: Global,
+    line: &mut Vec<u8>,
+    count: u32,
+    what: &[u8],
+) -> Result<(), AllocError>
     ensures { OnOk result (line.new.items ≡ line.old.items ++ decimal count ++ what.now) }
 {
     put_number(alloc, line, i64::from(count))?;

@@ -1,13 +1,13 @@
 //! Units, read from their files.
 
-ghost use Rattle.std.specs.Prelude.{◌≡◌, ◌+◌, ◌<◌, ◌≤◌, ◌^◌, ⊤, List, [], length, take, drop, IfOk, Ok, Err, Some, None};
+ghost use Rattle.std.specs.Prelude.{◌≡◌, ◌+◌, ◌<◌, ◌≤◌, ◌^◌, ⊤, List, [], length, take, drop, IfOk, Ok, Err, Some, None, replicate};
 ghost use Rattle.check_driver.specs.Faults.{Tells, Reads};
 ghost use Rattle.check_driver.specs.UnitFile.{first_unit_fault, unit_of};
 
+use crate::typing::check_typing;
 use crate::unit_fault::{UnitFault, UnitRefusal};
 use crate::unit_fields::{Fields, read_fields};
 use crate::unit_instructions::{check_limit, read_instructions};
-use crate::typing::check_typing;
 use cil_model::{List, Place, Unit};
 use std::alloc::{AllocError, Global};
 
@@ -29,7 +29,12 @@ pub fn read_unit(alloc: Global, bytes: &[u8]) -> Result<Unit, UnitRefusal>
     let fields = read_fields(bytes)?;
     let instrs = read_instructions(alloc, fields.code, fields.code_at)?;
     check_limit(&instrs, fields.code_at)?;
-    check_typing(&instrs, fields.arg_count, usize::from(fields.max_stack), fields.code_at)?;
+    check_typing(
+        &instrs,
+        fields.arg_count,
+        usize::from(fields.max_stack),
+        fields.code_at,
+    )?;
     Ok(Unit {
         name: List::from_vec(Vec::from_slice(alloc, fields.name)?),
         result: Place::Int,

@@ -2,7 +2,7 @@
 
 ghost use Rattle.std.specs.Prelude.{◌≡◌, ◌+◌, ◌<◌, ◌≤◌, ◌^◌, ⊤, List, length, take, drop};
 ghost use Rattle.check_driver.specs.Faults.{Tells};
-ghost use Rattle.check_driver.specs.UnitFile.{short, wrong_letter, magic_fault, unprintable, name_fault, name_of, place_fault, result_fault, result_at, arg_fault, arg_faults, args_fault, args_at, arg_count, locals_fault, locals_at, max_stack_fault, max_stack_at, max_stack, callees_fault, callees_at, code_fault, code_length_at, code_at, code_of, field_fault};
+ghost use Rattle.check_driver.specs.UnitFile.{short, is_printable, wrong_letter, magic_fault, unprintable, name_fault, name_of, place_fault, result_fault, result_at, arg_fault, arg_faults, args_fault, args_at, arg_count, locals_fault, locals_at, max_stack_fault, max_stack_at, max_stack, callees_fault, callees_at, code_fault, code_length_at, code_at, code_of, field_fault, HasFields};
 
 use crate::unit_fault::UnitFault;
 use cc_base::{u16_at, u32_at};
@@ -23,6 +23,7 @@ const INT: u8 = 2;
 const LAST_PLACE: u8 = 4;
 
 /// The fields of a unit file that has no fault before its instructions.
+#[derive(Clone, Copy)]
 pub struct Fields<'a> {
     pub name: &'a [u8],
     pub arg_count: usize,
@@ -70,13 +71,21 @@ fn check_magic(bytes: &[u8]) -> Result<(), UnitFault>
     Ok(())
 }
 
+/// Whether a byte may stand in a name.
+pub fn is_printable(byte: u8) -> bool
+    ensures { result ≡ is_printable byte }
+{
+    byte >= 0x21 && byte <= 0x7e
+}
+
 /// That every byte of a text, which begins at this offset, may stand in a name.
+#[tactic(auto, unfolding(crate::specs::UnitFile::unprintable))]
 fn check_printable(at: usize, text: &[u8]) -> Result<(), UnitFault>
     requires { at + length text.now < 2 ^ 32 }
     ensures { Tells (unprintable at text.now) (λ _. ⊤) result }
 {
     for (i, byte) in text.iter().enumerate() {
-        if !(0x21..=0x7e).contains(byte) {
+        if !is_printable(*byte) {
             return Err(UnitFault::Form((at + i) as u32));
         }
     }
@@ -136,6 +145,7 @@ fn check_arg(bytes: &[u8], at: usize) -> Result<(), UnitFault>
 }
 
 /// That this many arguments from an offset on are int32.
+#[tactic(auto, unfolding(crate::specs::UnitFile::arg_faults))]
 fn check_each_arg(bytes: &[u8], first: usize, count: usize) -> Result<(), UnitFault>
     requires { first + count < 2 ^ 32 }
     ensures { Tells (arg_faults bytes.now count first) (λ _. ⊤) result }

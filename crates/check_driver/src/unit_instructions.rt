@@ -1,9 +1,9 @@
 //! The instructions of a unit file.
 
-ghost use Rattle.std.specs.Prelude.{◌≡◌, ◌+◌, ◌<◌, ◌≤◌, ◌^◌, ⊤, List, length, drop, MatchResult, Ok, Err};
+ghost use Rattle.std.specs.Prelude.{◌≡◌, ◌+◌, ◌<◌, ◌≤◌, ◌^◌, ⊤, List, length, drop, All};
 ghost use Rattle.il_decoder.specs.Decoding.{decoded};
 ghost use Rattle.check_driver.specs.Faults.{Tells, Reads};
-ghost use Rattle.check_driver.specs.UnitFile.{built, instructions, limit_fault};
+ghost use Rattle.check_driver.specs.UnitFile.{built, is_other_call, instructions, limit_fault};
 
 use crate::unit_fault::{UnitFault, UnitRefusal};
 use cil_model::{Instr, Op};
@@ -16,28 +16,35 @@ pub const MAX_INSTRUCTIONS: usize = 4_096;
 /// The number by which a unit's code calls Contract.Assert.
 const ASSERT_CALL: u32 = 5;
 
+/// Whether the operation is a call of something else than Assert.
+fn is_other_call(op: &Op) -> bool
+    ensures { result ≡ is_other_call op.now }
+{
+    match op {
+        Op::Call(number) => *number != ASSERT_CALL,
+        _ => false,
+    }
+}
+
 /// The built instruction at an IL offset of the code, which begins at the offset `base` of the file.
 fn read_instruction(alloc: Global, code: &[u8], base: u32, at: u32) -> Result<Instr, UnitRefusal>
     requires short { length code.now ≤ 65536 }
-    requires small { base + length code.now + 8 < 2 ^ 32 }
-    requires inside { at < length code.now }
-    ensures { ReadsInstr code.now base at result }
+    requires small { base + at < 2 ^ 32 }
+    ensures { Reads (λ i. i) (built (base + at) (decoded code.now at)) result }
 {
-    let instr = match decode_one(alloc, code, at) {
-        Ok(instr) => instr,
-        Err(IlRefusal::NoMemory) => return Err(UnitRefusal::NoMemory),
-        Err(IlRefusal::Bad(IlFault::Opcode(at, _))) => {
-            return Err(UnitRefusal::Bad(UnitFault::NotBuilt(base + at)));
+    let place = base + at;
+    match decode_one(alloc, code, at) {
+        Ok(instr) => {
+            if is_other_call(&instr.op) {
+                return Err(UnitRefusal::Bad(UnitFault::NotBuilt(place)));
+            }
+            Ok(instr)
         }
-        Err(IlRefusal::Bad(
-            IlFault::Short(at) | IlFault::Target(at) | IlFault::Header(at),
-        )) => return Err(UnitRefusal::Bad(UnitFault::Form(base + at))),
-    };
-    match instr.op {
-        Op::Call(number) if number != ASSERT_CALL => {
-            Err(UnitRefusal::Bad(UnitFault::NotBuilt(base + at)))
+        Err(IlRefusal::NoMemory) => Err(UnitRefusal::NoMemory),
+        Err(IlRefusal::Bad(IlFault::Opcode(_, _))) => {
+            Err(UnitRefusal::Bad(UnitFault::NotBuilt(place)))
         }
-        _ => Ok(instr),
+        Err(IlRefusal::Bad(_)) => Err(UnitRefusal::Bad(UnitFault::Form(place))),
     }
 }
 
@@ -45,7 +52,7 @@ fn read_instruction(alloc: Global, code: &[u8], base: u32, at: u32) -> Result<In
 pub fn read_instructions(alloc: Global, code: &[u8], base: u32) -> Result<Vec<Instr>, UnitRefusal>
     requires short { length code.now ≤ 65536 }
     requires small { base + length code.now + 8 < 2 ^ 32 }
-    ensures { ReadsInstrs (instructions (length code.now) base code.now 0) result }
+    ensures { Reads (λ instrs. instrs.items) (instructions (length code.now) base code.now 0) result }
 {
     let mut instrs = Vec::new(alloc);
     let mut at = 0;
@@ -59,6 +66,7 @@ pub fn read_instructions(alloc: Global, code: &[u8], base: u32) -> Result<Vec<In
 
 /// That there are not too many instructions.
 pub fn check_limit(instrs: &[Instr], base: u32) -> Result<(), UnitFault>
+    requires { All (λ i. base + i.at < 2 ^ 32) instrs.now }
     ensures { Tells (limit_fault base (drop MAX_INSTRUCTIONS instrs.now)) (λ _. ⊤) result }
 {
     match instrs.get(MAX_INSTRUCTIONS) {

@@ -25,11 +25,7 @@ fn put_line<S: Sink>(alloc: Global, sink: &mut S, line: &[u8]) -> Result<(), Int
 }
 
 /// Puts the lines of the obligations.
-fn put_verdicts<O: Sink>(
-    alloc: Global,
-    found: &[Verdict],
-    out: &mut O,
-) -> Result<(), Interrupt> {
+fn put_verdicts<O: Sink>(alloc: Global, found: &[Verdict], out: &mut O) -> Result<(), Interrupt> {
     for verdict in found {
         let line = verdict_line(alloc, *verdict)?;
         put_line(alloc, out, &line)?;
