@@ -1,0 +1,9 @@
+//! PE files (II.25): the sections of an assembly's file, and the bytes at an address.
+#![tactic(auto)]
+
+mod fault;
+mod field;
+mod headers;
+mod sections;
+
+pub use fault::PeFault;
