@@ -39,6 +39,8 @@ first_of-append_some [] rest fault some = absurd cc
 first_of-append_some (None ∷ tests) rest fault some = first_of-append_some tests rest fault some
 first_of-append_some (Some other ∷ tests) rest fault some = some
 
+pub ruleset appended = (first_of-append_none, first_of-append_some)
+
 -- no test of either list failed, and so of each
 
 pub none_before : {F : Type 0} (tests rest : List (Option F)) → first_of (tests ++ rest) ≡ None → first_of tests ≡ None

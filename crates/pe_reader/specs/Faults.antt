@@ -76,13 +76,16 @@ cli_tests bytes =
     ∷ must (is_some (metadata_place bytes)) (RvaOutside (metadata_rva bytes))
     ∷ []
 
-unfoldable pub pe_tests : List ℕ → List (Option PeFault)
-pe_tests bytes =
+-- All section headers are read before the CLI header is sought.
+unfoldable pub header_tests : List ℕ → List (Option PeFault)
+header_tests bytes =
     signature_tests bytes
     ++ file_header_tests bytes
     ++ optional_tests bytes
     ++ sections_tests bytes (section_count bytes)
-    ++ cli_tests bytes
+
+unfoldable pub pe_tests : List ℕ → List (Option PeFault)
+pe_tests bytes = header_tests bytes ++ cli_tests bytes
 
 -- The first fault of a file, if it has one.
 unfoldable pub first_pe_fault : List ℕ → Option PeFault

@@ -4,6 +4,8 @@
 mod fault;
 mod field;
 mod headers;
+mod image;
 mod sections;
 
 pub use fault::PeFault;
+pub use image::Image;
