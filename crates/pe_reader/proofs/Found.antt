@@ -5,7 +5,7 @@ use Rattle.pe_reader.specs.declared.fault.PeFault.{PeFault}
 use Rattle.pe_reader.specs.Places.{section_count}
 use Rattle.pe_reader.specs.Addresses.{section_of, place_in, place_of, metadata_place, metadata_at, metadata_size, metadata}
 use Rattle.pe_reader.specs.Faults.{first_of, header_tests, sections_tests, pe_tests, first_pe_fault}
-use Rattle.pe_reader.proofs.Tests.{none_before, none_behind}
+use Rattle.pe_reader.proofs.FirstFault.{none_before, none_behind}
 
 place_in-lies : (bytes : List ℕ) (rva len i at : ℕ) → place_in bytes rva len i ≡ Some at → at + len ≤ length bytes
 unfolding place_in

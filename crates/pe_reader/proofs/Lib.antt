@@ -1,3 +1,3 @@
-pub mod Tests
+pub mod FirstFault
 pub mod Lookup
 pub mod Found

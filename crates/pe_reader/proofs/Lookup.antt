@@ -5,7 +5,7 @@ use Rattle.pe_reader.specs.declared.fault.PeFault.{PeFault}
 use Rattle.pe_reader.specs.Places.{section_at}
 use Rattle.pe_reader.specs.Addresses.{section_contains, section_from}
 use Rattle.pe_reader.specs.Faults.{first_of, field, section_tests, sections_tests}
-use Rattle.pe_reader.proofs.Tests.{first_of-append_none, first_of-append_some, none_before, none_behind, none_here, field_lies, first_tests}
+use Rattle.pe_reader.proofs.FirstFault.{first_of-append_none, first_of-append_some, none_before, none_behind, none_here, field_lies, first_tests}
 
 -- ---- the tests of the headers
 

@@ -1,6 +1,6 @@
 //! A PE file that was read: the bytes at its addresses, and its metadata.
 
-ghost use Rattle.std.specs.Prelude.{◌≡◌, ◌↔◌, ◌≤◌, length, IsOk, IfOk, IfErr};
+ghost use Rattle.std.specs.Prelude.{◌≡◌, ◌↔◌, ◌+◌, ◌≤◌, length, IsOk, IfOk, IfErr, IfSome, OnSome};
 ghost use Rattle.std.specs.Option.{option_copied};
 ghost use Rattle.pe_reader.specs.Addresses.{bytes_at, metadata, metadata_at, metadata_place, metadata_size};
 ghost use Rattle.pe_reader.specs.Faults.{first_of, header_tests, sections_tests, cli_tests, first_pe_fault};
@@ -36,7 +36,7 @@ impl<'a> Model for Image<'a> {
 
 impl<'a> Image<'a> {
     /// Reads the headers of a PE file and finds its metadata. Nothing is copied.
-    #[tactic(auto, using(crate::proofs::Tests::appended, crate::proofs::Found::whole), unfolding(crate::specs::Faults::first_pe_fault, crate::specs::Faults::pe_tests))]
+    #[tactic(auto, using(crate::proofs::FirstFault::appended, crate::proofs::Found::whole), unfolding(crate::specs::Faults::first_pe_fault, crate::specs::Faults::pe_tests))]
     pub fn read(bytes: &'a [u8]) -> Result<Image<'a>, PeFault>
         requires { length bytes.now ≤ 2147483647 }
         ensures image { IfOk result (λ image. image ≡ bytes.now) }
@@ -57,7 +57,9 @@ impl<'a> Image<'a> {
     /// contains the address, or not in the file.
     #[tactic(auto, using(crate::proofs::Found::whole, crate::proofs::Found::place_lies), unfolding(crate::specs::Addresses::bytes_at))]
     pub fn at(&self, rva: u32, len: u32) -> Option<&'a [u8]>
-        ensures { option_copied result ≡ bytes_at self.now rva len }
+        ensures bytes { option_copied result ≡ bytes_at self.now rva len }
+        ensures len { IfSome result (λ found. length found.now ≡ len) }
+        ensures small { OnSome result (len ≤ 2147483647) }
     {
         let place = self.sections.place_of(self.bytes, rva, len)? as usize;
         Some(&self.bytes[place..place + len as usize])
@@ -67,6 +69,7 @@ impl<'a> Image<'a> {
     #[tactic(auto, using(crate::proofs::Found::place_lies), unfolding(crate::specs::Addresses::metadata, crate::specs::Addresses::metadata_at, crate::specs::Addresses::metadata_place))]
     pub fn metadata(&self) -> &'a [u8]
         ensures bytes { result.now ≡ metadata self.now }
+        ensures len { length result.now ≡ metadata_size self.now }
         ensures accepted { first_pe_fault self.now ≡ None }
     {
         let start = self.metadata_at as usize;
@@ -74,10 +77,12 @@ impl<'a> Image<'a> {
     }
 
     /// Where in the file the metadata begins.
-    #[tactic(auto, unfolding(crate::specs::Addresses::metadata_at))]
+    #[tactic(auto, using(crate::proofs::Found::place_lies), unfolding(crate::specs::Addresses::metadata_at, crate::specs::Addresses::metadata_place))]
     pub fn metadata_at(&self) -> u32
         ensures place { result ≡ metadata_at self.now }
         ensures found { metadata_place self.now ≡ Some result }
+        ensures within { result + metadata_size self.now ≤ length self.now }
+        ensures small { length self.now ≤ 2147483647 }
     {
         self.metadata_at
     }
@@ -92,7 +97,7 @@ struct Headers {
 }
 
 /// Reads the headers up to the last section's.
-#[tactic(auto, using(crate::proofs::Tests::appended), unfolding(crate::specs::Faults::header_tests, crate::specs::Places::optional_at, crate::specs::Places::sections_at))]
+#[tactic(auto, using(crate::proofs::FirstFault::appended), unfolding(crate::specs::Faults::header_tests, crate::specs::Places::optional_at, crate::specs::Places::sections_at))]
 fn read_headers(bytes: &[u8]) -> Result<Headers, PeFault>
     requires { length bytes.now ≤ 2147483647 }
     ensures { Judges result (first_of (header_tests bytes.now))
@@ -118,7 +123,7 @@ struct Metadata {
 }
 
 /// Finds the CLI header (II.25.3.3), and by it the metadata.
-#[tactic(auto, using(crate::proofs::Tests::first_tests, crate::proofs::Found::place_lies), unfolding(crate::specs::Faults::cli_tests, crate::specs::Addresses::cli_place, crate::specs::Addresses::cli_header_at, crate::specs::Addresses::metadata_rva, crate::specs::Addresses::metadata_size, crate::specs::Addresses::metadata_place))]
+#[tactic(auto, using(crate::proofs::FirstFault::first_tests, crate::proofs::Found::place_lies), unfolding(crate::specs::Faults::cli_tests, crate::specs::Addresses::cli_place, crate::specs::Addresses::cli_header_at, crate::specs::Addresses::metadata_rva, crate::specs::Addresses::metadata_size, crate::specs::Addresses::metadata_place))]
 fn find_metadata(bytes: &[u8], headers: Headers) -> Result<Metadata, PeFault>
     requires sections { AreSections bytes.now headers.sections }
     requires address { headers.cli_rva ≡ cli_rva bytes.now }

@@ -9,3 +9,6 @@ mod sections;
 
 pub use fault::PeFault;
 pub use image::Image;
+
+#[cfg(test)]
+mod tests;

@@ -44,7 +44,7 @@ impl Sections {
         Ok(())
     }
 
-    #[tactic(auto, using(crate::proofs::Tests::first_tests), unfolding(crate::specs::Faults::section_tests, crate::specs::Places::section_at))]
+    #[tactic(auto, using(crate::proofs::FirstFault::first_tests), unfolding(crate::specs::Faults::section_tests, crate::specs::Places::section_at))]
     fn test_header(self, bytes: &[u8], index: u16) -> Result<(), PeFault>
         requires sections { AreSections bytes.now self }
         requires within { index < self.count }
