@@ -1,9 +1,8 @@
 -- What is found lies in the file.
-use Rattle.std.proofs.Common.{◌≡◌, ℕ, ◌+◌, ◌≤◌, List, length, Bool, true, false, Option, Some, None, refl, arith, ◌∙◌, sym}
+use Rattle.std.proofs.Common.{◌≡◌, ℕ, ◌+◌, ◌≤◌, List, length, Option, Some, None, arith}
 use Rattle.std.specs.Option.{option_and_then}
-use Rattle.pe_reader.specs.declared.fault.PeFault.{PeFault}
 use Rattle.pe_reader.specs.Places.{section_count}
-use Rattle.pe_reader.specs.Addresses.{section_of, place_in, place_of, metadata_place, metadata_at, metadata_size, metadata}
+use Rattle.pe_reader.specs.Addresses.{section_of, place_in, place_of}
 use Rattle.pe_reader.specs.Faults.{first_of, header_tests, sections_tests, pe_tests, first_pe_fault}
 use Rattle.pe_reader.proofs.FirstFault.{none_before, none_behind}
 
@@ -26,4 +25,5 @@ headers_whole bytes none = none_behind _ _ none
 pub file_whole : (bytes : List ℕ) → first_pe_fault bytes ≡ None → first_of (sections_tests bytes (section_count bytes)) ≡ None
 unfolding first_pe_fault pe_tests
 file_whole bytes none = headers_whole bytes (none_before _ _ none)
+
 pub ruleset whole = (headers_whole, file_whole)

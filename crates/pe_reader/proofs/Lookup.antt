@@ -1,11 +1,11 @@
 -- The section headers, one after another.
-use Rattle.std.proofs.Common.{◌≡◌, ℕ, zero, suc, ◌+◌, ◌-◌, ◌*◌, ◌<◌, ◌≤◌, ◌⊎◌, List, [], ◌∷◌, ◌++◌, length, Bool, true, false, Option, Some, None, refl, arith, inl, inr, ◌∙◌, add-one}
+use Rattle.std.proofs.Common.{◌≡◌, ℕ, zero, suc, ◌+◌, ◌-◌, ◌<◌, ◌≤◌, List, [], ◌∷◌, length, true, false, Some, None, refl, arith, inl, inr, ◌∙◌, add-one}
 use Rattle.std.proofs.lemmas.Bool.{cases_lt}
 use Rattle.pe_reader.specs.declared.fault.PeFault.{PeFault}
 use Rattle.pe_reader.specs.Places.{section_at}
 use Rattle.pe_reader.specs.Addresses.{section_contains, section_from}
 use Rattle.pe_reader.specs.Faults.{first_of, field, section_tests, sections_tests}
-use Rattle.pe_reader.proofs.FirstFault.{first_of-append_none, first_of-append_some, none_before, none_behind, none_here, field_lies, first_tests}
+use Rattle.pe_reader.proofs.FirstFault.{first_of-append_none, first_of-append_some, none_before, none_behind, none_here, field_lies}
 
 -- ---- the tests of the headers
 

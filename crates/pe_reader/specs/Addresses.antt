@@ -8,7 +8,7 @@ use Rattle.pe_reader.specs.Places.{section_count, virtual_address, raw_size, raw
 abbrev pub covers : ℕ → ℕ → ℕ → Bool
 covers first len rva = nat_le first rva && nat_lt rva (first + len)
 
--- Section i contains the address: those of its bytes cover it that the file holds.
+-- Section i contains the address: the bytes that the file holds of it (SizeOfRawData) cover it.
 unfoldable pub section_contains : List ℕ → ℕ → ℕ → Bool
 section_contains bytes rva i = covers (virtual_address bytes i) (raw_size bytes i) rva
 
@@ -21,11 +21,13 @@ section_from bytes rva i (suc n) = if section_contains bytes rva i then Some i e
 unfoldable pub section_of : List ℕ → ℕ → Option ℕ
 section_of bytes rva = section_from bytes rva 0 (section_count bytes)
 
--- The place of these bytes in the file, where they lie within section i and within the file.
+-- The place in the file of bytes at an address of section i, if they end in it and in the file.
 unfoldable pub place_in : List ℕ → ℕ → ℕ → ℕ → Option ℕ
 place_in bytes rva len i =
     let at = raw_at bytes i + (rva - virtual_address bytes i) in
-    if nat_le (rva + len) (virtual_address bytes i + raw_size bytes i) && nat_le (at + len) (length bytes) then Some at else None
+    if nat_le (rva + len) (virtual_address bytes i + raw_size bytes i) && nat_le (at + len) (length bytes)
+    then Some at
+    else None
 
 -- The place in the file of the bytes at an address.
 unfoldable pub place_of : List ℕ → ℕ → ℕ → Option ℕ
@@ -35,14 +37,15 @@ place_of bytes rva len = option_and_then (place_in bytes rva len) (section_of by
 unfoldable pub bytes_at : List ℕ → ℕ → ℕ → Option (List ℕ)
 bytes_at bytes rva len = option_map (λ at. slice_range bytes at (at + len)) (place_of bytes rva len)
 
--- The first 24 bytes of the CLI header (II.25.3.3). It stands at 0 where they are not found.
+-- The place of the CLI header (II.25.3.3), by its first 24 bytes.
 unfoldable pub cli_place : List ℕ → Option ℕ
 cli_place bytes = place_of bytes (cli_rva bytes) 24
 
+-- The same as a number, in a file that has it.
 unfoldable pub cli_header_at : List ℕ → ℕ
 cli_header_at bytes = unwrap_or (cli_place bytes) 0
 
--- The metadata, which the CLI header names.
+-- The CLI header names the metadata's address and its size.
 unfoldable pub metadata_rva : List ℕ → ℕ
 metadata_rva bytes = u32_at bytes (cli_header_at bytes + 8)
 
@@ -52,7 +55,7 @@ metadata_size bytes = u32_at bytes (cli_header_at bytes + 12)
 unfoldable pub metadata_place : List ℕ → Option ℕ
 metadata_place bytes = place_of bytes (metadata_rva bytes) (metadata_size bytes)
 
--- Where the metadata begins in the file, and its bytes, where it is found.
+-- Where the metadata begins, and its bytes, in a file that has it.
 unfoldable pub metadata_at : List ℕ → ℕ
 metadata_at bytes = unwrap_or (metadata_place bytes) 0
 

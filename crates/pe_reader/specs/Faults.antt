@@ -1,4 +1,4 @@
--- The tests of a PE file in reading order, each with the fault that it gives where it fails.
+-- The tests of a PE file (II.25) in reading order, each with the fault that it gives where it fails.
 use Rattle.std.specs.Prelude.{ℕ, zero, suc, ◌+◌, ◌*◌, List, [], ◌∷◌, ◌++◌, length, Bool, ◌==◌, ◌||◌, not, nat_le, is_some, Option, Some, None, if◌then◌else◌}
 use Rattle.cc_base.specs.LittleEndian.{u16_at, u32_at}
 use Rattle.pe_reader.specs.declared.fault.PeFault.{PeFault}

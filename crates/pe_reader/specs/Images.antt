@@ -1,5 +1,5 @@
 -- What a file that was read keeps beside its bytes.
-use Rattle.std.specs.Prelude.{◌≡◌, ℕ, ◌≤◌, List, length, Some, None}
+use Rattle.std.specs.Prelude.{◌≡◌, ◌≤◌, length, Some, None}
 use Rattle.pe_reader.specs.declared.image.Image.TheInside.{Inside}
 use Rattle.pe_reader.specs.Addresses.{metadata_size, metadata_place}
 use Rattle.pe_reader.specs.Faults.{first_pe_fault}

@@ -53,8 +53,8 @@ pub fn file_header(bytes: &[u8], at: u32) -> Result<FileHeader, PeFault>
     requires room { at ≤ 2147483647 }
     ensures { Judges result (first_of (file_header_tests bytes.now))
         (λ header. (header.sections ≡ section_count bytes.now)
-            × (header.optional_len ≡ optional_size bytes.now)
-            × (at + 20 ≤ length bytes.now)) }
+        × (header.optional_len ≡ optional_size bytes.now)
+        × (at + 20 ≤ length bytes.now)) }
 {
     skip_field(bytes, at, 2)?;
     let sections = u16_field(bytes, at + 2)?;
@@ -63,7 +63,10 @@ pub fn file_header(bytes: &[u8], at: u32) -> Result<FileHeader, PeFault>
     skip_field(bytes, at + 12, 4)?;
     let optional_len = u16_field(bytes, at + 16)?;
     skip_field(bytes, at + 18, 2)?;
-    Ok(FileHeader { sections, optional_len })
+    Ok(FileHeader {
+        sections,
+        optional_len,
+    })
 }
 
 /// Reads the address of the CLI header from the optional header (II.25.2.3).

@@ -53,8 +53,8 @@ impl<'a> Image<'a> {
         })
     }
 
-    /// The bytes at an address (RVA). There are none where they do not lie in the first section that
-    /// contains the address, or not in the file.
+    /// The bytes at an address (RVA). All of them have to stand in one section, which is the first to
+    /// hold the address, and before the file's end.
     #[tactic(auto, using(crate::proofs::Found::whole, crate::proofs::Found::place_lies), unfolding(crate::specs::Addresses::bytes_at))]
     pub fn at(&self, rva: u32, len: u32) -> Option<&'a [u8]>
         ensures bytes { option_copied result ≡ bytes_at self.now rva len }

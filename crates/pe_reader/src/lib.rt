@@ -1,4 +1,4 @@
-//! PE files (II.25): the sections of an assembly's file, and the bytes at an address.
+//! PE files (ECMA-335, Partition II, 25): an assembly's sections, and the bytes at an address.
 #![tactic(auto)]
 
 mod fault;

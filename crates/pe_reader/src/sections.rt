@@ -59,8 +59,8 @@ impl Sections {
         skip_field(bytes, at + 20, 4)
     }
 
-    /// The place in the file of the bytes at an address, where they lie in the first section that
-    /// contains the address, and in the file.
+    /// Finds bytes at an address, and answers their place in the file. All of them have to stand in one
+    /// section, which is the first to hold the address, and before the file's end.
     #[tactic(auto, using(crate::proofs::Lookup::lookup), unfolding(crate::specs::Addresses::section_contains, crate::specs::Addresses::section_of, crate::specs::Addresses::place_of))]
     pub fn place_of(self, bytes: &[u8], rva: u32, len: u32) -> Option<u32>
         requires sections { AreSections bytes.now self }
@@ -101,8 +101,7 @@ impl Section {
         self.address <= rva && rva - self.address < self.len
     }
 
-    /// The place in the file of the bytes at an address of the section, where they lie in it and in
-    /// the file.
+    /// The place in the file of bytes at an address of this section, if they end in it and in the file.
     #[tactic(auto, unfolding(crate::specs::Addresses::place_in))]
     fn place_of(self, bytes: &[u8], rva: u32, len: u32) -> Option<u32>
         requires inside { IsTrue (covers self.address self.len rva) }

@@ -59,7 +59,10 @@ fn first_section_of_an_address_counts(rt: HostRuntime) -> Result<(), Fail> {
     assert_eq!(rt; found, b"BSJB".as_slice());
     let found = image.at(0x2250, 4).ok_or("the second section has it")?;
     assert_eq!(rt; found, b"last".as_slice());
-    assert!(rt; image.at(0x21fe, 4).is_none(), "it passes the first section's end");
+    assert!(rt;
+        image.at(0x21fe, 4).is_none(),
+        "it passes the first section's end"
+    );
     assert!(rt; image.at(0x1fff, 0).is_none(), "no section has it");
     Ok(())
 }
