@@ -50,4 +50,58 @@ cut_is_short at (b ∷ tail) h = some_cut at h.0 b tail h.1.1 (rw h.1.3 at h.1.2
 
 -- What is short is the front of a spelling.
 pub operation_short : (at : ℕ) (rest : List ℕ) → IsBytes rest → (operation at rest ≡ Err (Short at)) ↔ IsCutShort rest
-operation_short at rest fits = ?
+operation_short at rest fits = (λ e. (rw e at (operation_explained at rest fits)).1, cut_is_short at rest)
+
+-- ---- the instruction at an IL offset
+
+-- The opcode at an IL offset is the one that begins what stands there.
+opcode_there : (code : List ℕ) (at : ℕ) → opcode_at (drop at code) 0 ≡ opcode_at code at
+opcode_there code at =
+    let first : get_or (drop at code) 0 0 ≡ get_or code at 0 = get_or-drop at code 0 0 ∙ ap (λ (k : ℕ). get_or code k 0) (omega arith) in
+    let second : get_or (drop at code) 1 0 ≡ get_or code (at + 1) 0 = get_or-drop at code 1 0 in
+    rw (first, second) refl
+
+found_in : (code : List ℕ) (at : ℕ) (r : Result Operation IlFault) → Explains at (drop at code) r → IfOk (placed at r) (λ i. (i.at ≡ at) × StandsIn i code)
+found_in code at (Ok (op, size)) h = (refl, (h.0, h.1, (h.2, h.3), h.4))
+found_in code at (Err fault) h = tt
+
+refused_in : (code : List ℕ) (at : ℕ) (r : Result Operation IlFault) → Explains at (drop at code) r
+    → IfErr (placed at r) (λ refusal. (refusal ≡ Bad (Short at)) ⊎ (refusal ≡ Bad (Opcode at (opcode_at code at))))
+refused_in code at (Ok (op, size)) h = tt
+refused_in code at (Err (Short place)) h = inl (ap (λ (p : ℕ). Bad (Short p)) h.0)
+refused_in code at (Err (Opcode place number)) h = inr (rw (h.0, h.1, opcode_there code at) refl)
+refused_in code at (Err _) h = absurd h
+
+bad_is : (at : ℕ) (r : Result Operation IlFault) (fault : IlFault) → placed at r ≡ Err (Bad fault) → r ≡ Err fault
+bad_is at (Ok (op, size)) fault e = absurd cc
+bad_is at (Err other) fault e = cc
+
+has_memory : (at : ℕ) (r : Result Operation IlFault) → placed at r ≢ Err NoMemory
+has_memory at (Ok (op, size)) e = cc
+has_memory at (Err fault) e = cc
+
+-- An instruction that is found stands there.
+pub decoded_found : (code : List ℕ) (at : ℕ) → IsBytes code → IfOk (decoded code at) (λ i. (i.at ≡ at) × StandsIn i code)
+decoded_found code at fits = found_in code at (operation at (drop at code)) (operation_explained at (drop at code) (IsBytes-drop at code fits))
+
+-- An instruction that stands there is found.
+pub decoded_only : (code : List ℕ) (at : ℕ) (i : Instr) → i.at ≡ at → StandsIn i code → decoded code at ≡ Ok i
+decoded_only code at i e h =
+    let read : decoded code i.at ≡ placed i.at (Ok (i.op, length h.0)) = ap (λ (t : List ℕ). placed i.at (operation i.at t)) h.3 ∙ ap (placed i.at) (spells_operation i.at i.op h.0 h.1 h.2.0) in
+    let same : placed i.at (Ok (i.op, length h.0)) ≡ Ok i = ap (λ (n : ℕ). placed i.at (Ok (i.op, n))) (sym h.2.1) in
+    subst (λ (a : ℕ). decoded code a ≡ Ok i) e (read ∙ same)
+
+-- Code is short at an IL offset exactly where it ends inside a spelling that begins there.
+pub decoded_short : (code : List ℕ) (at : ℕ) → IsBytes code → (decoded code at ≡ Err (Bad (Short at))) ↔ EndsInside code at
+decoded_short code at fits =
+    let short = operation_short at (drop at code) (IsBytes-drop at code fits) in
+    (λ e. short.0 (bad_is at (operation at (drop at code)) (Short at) e), λ h. ap (placed at) (short.1 h))
+
+-- Every other refusal names the opcode that stands there.
+pub decoded_refused : (code : List ℕ) (at : ℕ) → IsBytes code
+    → IfErr (decoded code at) (λ refusal. (refusal ≡ Bad (Short at)) ⊎ (refusal ≡ Bad (Opcode at (opcode_at code at))))
+decoded_refused code at fits = refused_in code at (operation at (drop at code)) (operation_explained at (drop at code) (IsBytes-drop at code fits))
+
+-- One instruction takes no memory.
+pub decoded_has_memory : (code : List ℕ) (at : ℕ) → decoded code at ≢ Err NoMemory
+decoded_has_memory code at = has_memory at (operation at (drop at code))
