@@ -44,10 +44,15 @@ load_arg_short_explained at (n ∷ rest) fits = (0x0e ∷ n ∷ [], rest, inr (i
 load_arg_explained : (at : ℕ) (operand : List ℕ) → IsBytes operand → Explains at (0xfe ∷ 0x09 ∷ operand) (load_arg at operand)
 load_arg_explained at operand fits =
     cond_both (ltb (length operand) 2) (Err (Short at)) (Ok (LoadArg (little_number 2 operand), 4)) (Explains at (0xfe ∷ 0x09 ∷ operand))
-      (λ short. let c = number_cut 2 operand read_back_2 fits (ltb-true _ _ short) in
-        (refl, (LoadArg c.number, (0xfe ∷ 0x09 ∷ little_bytes 2 c.number, c.missing, inr (inr (c.fits, refl)), ap (λ (t : List ℕ). 0xfe ∷ 0x09 ∷ t) c.spelled, c.some_missing))))
-      (λ long. (0xfe ∷ 0x09 ∷ little_bytes 2 (little_number 2 operand), drop 2 operand, inr (inr (little_from-lt 0 2 operand fits, refl)), refl,
-        ap (λ (t : List ℕ). 0xfe ∷ 0x09 ∷ t) (number_stands 2 operand read_back_2 fits (ltb-false _ _ long))))
+    (λ short. let c = number_cut 2 operand read_back_2 fits (ltb-true _ _ short) in
+    (refl, (LoadArg c.number, (0xfe ∷ 0x09 ∷ little_bytes 2 c.number, c.missing, inr (inr (c.fits, refl)), ap (λ (t : List ℕ). 0xfe ∷ 0x09 ∷ t) c.spelled, c.some_missing))))
+    (λ long. (
+      0xfe ∷ 0x09 ∷ little_bytes 2 (little_number 2 operand),
+      drop 2 operand,
+      inr (inr (little_from-lt 0 2 operand fits, refl)),
+      refl,
+      ap (λ (t : List ℕ). 0xfe ∷ 0x09 ∷ t) (number_stands 2 operand read_back_2 fits (ltb-false _ _ long)),
+    ))
 
 -- a signed number and its bits
 signed_spells : (bits : ℕ) → bits < 2 ^ 32 → SpellsOp (Const (cast_signed w32 bits)) (0x20 ∷ little_bytes 4 bits)
@@ -67,18 +72,28 @@ const_short_explained at (b ∷ rest) fits = (0x1f ∷ b ∷ [], rest, byte_spel
 const_long_explained : (at : ℕ) (operand : List ℕ) → IsBytes operand → Explains at (0x20 ∷ operand) (const_long at operand)
 const_long_explained at operand fits =
     cond_both (ltb (length operand) 4) (Err (Short at)) (Ok (Const (cast_signed w32 (little_number 4 operand)), 5)) (Explains at (0x20 ∷ operand))
-      (λ short. let c = number_cut 4 operand read_back_4 fits (ltb-true _ _ short) in
-        (refl, (Const (cast_signed w32 c.number), (0x20 ∷ little_bytes 4 c.number, c.missing, signed_spells c.number c.fits, ap (λ (t : List ℕ). 0x20 ∷ t) c.spelled, c.some_missing))))
-      (λ long. (0x20 ∷ little_bytes 4 (little_number 4 operand), drop 4 operand, signed_spells (little_number 4 operand) (little_from-lt 0 4 operand fits), refl,
-        ap (λ (t : List ℕ). 0x20 ∷ t) (number_stands 4 operand read_back_4 fits (ltb-false _ _ long))))
+    (λ short. let c = number_cut 4 operand read_back_4 fits (ltb-true _ _ short) in
+    (refl, (Const (cast_signed w32 c.number), (0x20 ∷ little_bytes 4 c.number, c.missing, signed_spells c.number c.fits, ap (λ (t : List ℕ). 0x20 ∷ t) c.spelled, c.some_missing))))
+    (λ long. (
+      0x20 ∷ little_bytes 4 (little_number 4 operand),
+      drop 4 operand,
+      signed_spells (little_number 4 operand) (little_from-lt 0 4 operand fits),
+      refl,
+      ap (λ (t : List ℕ). 0x20 ∷ t) (number_stands 4 operand read_back_4 fits (ltb-false _ _ long)),
+    ))
 
 call_explained : (at : ℕ) (operand : List ℕ) → IsBytes operand → Explains at (0x28 ∷ operand) (call at operand)
 call_explained at operand fits =
     cond_both (ltb (length operand) 4) (Err (Short at)) (Ok (Call (little_number 4 operand), 5)) (Explains at (0x28 ∷ operand))
-      (λ short. let c = number_cut 4 operand read_back_4 fits (ltb-true _ _ short) in
-        (refl, (Call c.number, (0x28 ∷ little_bytes 4 c.number, c.missing, (c.fits, refl), ap (λ (t : List ℕ). 0x28 ∷ t) c.spelled, c.some_missing))))
-      (λ long. (0x28 ∷ little_bytes 4 (little_number 4 operand), drop 4 operand, (little_from-lt 0 4 operand fits, refl), refl,
-        ap (λ (t : List ℕ). 0x28 ∷ t) (number_stands 4 operand read_back_4 fits (ltb-false _ _ long))))
+    (λ short. let c = number_cut 4 operand read_back_4 fits (ltb-true _ _ short) in
+    (refl, (Call c.number, (0x28 ∷ little_bytes 4 c.number, c.missing, (c.fits, refl), ap (λ (t : List ℕ). 0x28 ∷ t) c.spelled, c.some_missing))))
+    (λ long. (
+      0x28 ∷ little_bytes 4 (little_number 4 operand),
+      drop 4 operand,
+      (little_from-lt 0 4 operand fits, refl),
+      refl,
+      ap (λ (t : List ℕ). 0x28 ∷ t) (number_stands 4 operand read_back_4 fits (ltb-false _ _ long)),
+    ))
 
 -- ---- opcodes
 
