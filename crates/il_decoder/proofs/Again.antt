@@ -1,22 +1,19 @@
 -- A spelling is read as its operation, whatever follows it, and the front of one is short.
-use Rattle.std.proofs.Common.{◌≡◌, ℕ, zero, suc, ◌+◌, ◌-◌, ◌^◌, ◌<◌, ◌≤◌, ℤ, pos, negsuc, ◌-ℤ◌, FitsSigned, Fits, List, [], ◌∷◌, ◌++◌, length, drop, Result, Ok, Err, true, cond, eqb, ltb, leb, refl, sym, ap, subst, ◌∙◌, arith, inl, inr, ◌⊎◌}
-use Rattle.std.specs.Int.{w8, w32, cast_signed, cast_unsigned}
-use Rattle.std.proofs.lemmas.Bool.{cond_both, cond-true, cond-false, eqb-true, ltb-true, ltb-false, leb-true, lt-ltb, le-ltb, and_parts}
+use Rattle.std.proofs.Common.{◌≡◌, ℕ, zero, suc, ◌+◌, ◌^◌, ◌<◌, ◌≤◌, ℤ, pos, FitsSigned, Fits, List, [], ◌∷◌, ◌++◌, length, Ok, Err, true, ltb, refl, sym, ap, arith, inl, inr}
+use Rattle.std.specs.Int.{w8, w32, cast_unsigned}
+use Rattle.std.proofs.lemmas.Bool.{lt-ltb, le-ltb}
 use Rattle.std.proofs.lemmas.List.{length-append}
-use Rattle.std.proofs.lemmas.Int.{to_z-of_z, of_z-to_z, ints}
+use Rattle.std.proofs.lemmas.Int.{to_z-of_z}
 use Rattle.std.proofs.Math.Facts.{Fits-of_z}
-use Rattle.byteorder.specs.Endian.{little_number, little_bytes}
+use Rattle.byteorder.specs.Endian.{little_bytes}
 use Rattle.byteorder.specs.Numbers.{length-bytes_low_first}
-use Rattle.cil_model.specs.Spells.{SpellsLoadArg, SpellsConst, SpellsBin, SpellsOp}
+use Rattle.cil_model.specs.Spells.{SpellsLoadArg, SpellsConst, SpellsBin}
 use Rattle.cil_model.specs.declared.instruction.BinOp.{BinOp}
 use Rattle.cil_model.specs.declared.instruction.BinOp.TheVariants as operators
-use Rattle.cil_model.specs.declared.instruction.Op.{Op}
-use Rattle.cil_model.specs.declared.instruction.Op.TheVariants.{Nop, LoadArg, Const, Call, Return, Bin}
-use Rattle.il_decoder.specs.declared.fault.IlFault.{IlFault}
-use Rattle.il_decoder.specs.declared.fault.IlFault.TheVariants.{Short, Opcode}
-use Rattle.il_decoder.specs.Decodes.{opcode_at}
-use Rattle.il_decoder.specs.Decoding.{Operation, load_arg_short, load_arg, const_short, const_long, call, two_byte, one_byte, operation}
-use Rattle.il_decoder.proofs.Operands.{IsBytes-rest, number_again}
+use Rattle.cil_model.specs.declared.instruction.Op.TheVariants.{LoadArg, Const, Call, Bin}
+use Rattle.il_decoder.specs.declared.fault.IlFault.TheVariants.{Short}
+use Rattle.il_decoder.specs.Decoding.{load_arg, const_long, call, two_byte, one_byte, operation}
+use Rattle.il_decoder.proofs.Operands.{number_again}
 
 -- ---- what is spelled is read
 

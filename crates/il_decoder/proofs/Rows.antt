@@ -1,6 +1,6 @@
 -- What each row of the decoder answers, told in spellings.
-use Rattle.std.proofs.Common.{◌≡◌, ℕ, ◌+◌, ◌-◌, ◌^◌, ◌<◌, ◌≤◌, pos, negsuc, ◌-ℤ◌, Fits, List, [], ◌∷◌, ◌++◌, length, drop, Result, Ok, Err, Bool, false, ◌&&◌, cond, eqb, ltb, leb, refl, sym, ap, ◌∙◌, arith, inl, inr}
-use Rattle.std.specs.Int.{w8, w32, cast_signed, cast_unsigned}
+use Rattle.std.proofs.Common.{◌≡◌, ℕ, ◌+◌, ◌-◌, ◌^◌, ◌<◌, ◌≤◌, pos, ◌-ℤ◌, Fits, List, [], ◌∷◌, ◌++◌, length, drop, Result, Ok, Err, false, ◌&&◌, cond, eqb, ltb, leb, refl, sym, ap, arith, inl, inr}
+use Rattle.std.specs.Int.{w8, w32, cast_signed}
 use Rattle.std.proofs.lemmas.Bool.{cond_both, eqb-true, ltb-true, ltb-false, leb-true, and_parts, cases_eq}
 use Rattle.std.proofs.lemmas.Int.{of_z-to_z, ints}
 use Rattle.std.proofs.Math.Facts.{sfits_to_z}
@@ -10,12 +10,12 @@ use Rattle.cc_base.specs.LittleEndian.{IsBytes}
 use Rattle.cil_model.specs.Spells.{SpellsOp}
 use Rattle.cil_model.specs.declared.instruction.BinOp.TheVariants as operators
 use Rattle.cil_model.specs.declared.instruction.Op.{Op}
-use Rattle.cil_model.specs.declared.instruction.Op.TheVariants.{Nop, LoadArg, Const, Call, Return, Bin}
+use Rattle.cil_model.specs.declared.instruction.Op.TheVariants.{Nop, LoadArg, Const, Call, Bin}
 use Rattle.il_decoder.specs.declared.fault.IlFault.{IlFault}
 use Rattle.il_decoder.specs.declared.fault.IlFault.TheVariants.{Short, Opcode}
 use Rattle.il_decoder.specs.Decodes.{opcode_at}
 use Rattle.il_decoder.specs.Decoding.{Operation, load_arg_short, load_arg, const_short, const_long, call, two_byte, one_byte, operation}
-use Rattle.il_decoder.proofs.Operands.{IsBytes-rest, IsReadBack, read_back_2, read_back_4, number_stands, number_cut}
+use Rattle.il_decoder.proofs.Operands.{IsBytes-rest, read_back_2, read_back_4, number_stands, number_cut}
 
 -- The bytes begin with a spelling of the operation, of this size.
 abbrev pub Begins : Op → ℕ → List ℕ → Type 0

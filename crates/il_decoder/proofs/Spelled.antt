@@ -1,5 +1,5 @@
 -- What is read is spelled so, what is spelled so is read, and what is short is cut off in a spelling.
-use Rattle.std.proofs.Common.{◌≡◌, ◌≢◌, ℕ, zero, suc, ◌+◌, ◌<◌, List, [], ◌∷◌, ◌++◌, length, drop, get_or, Result, Ok, Err, refl, sym, ap, subst, ◌∙◌, arith, ◌↔◌, ◌⊎◌, inl, inr}
+use Rattle.std.proofs.Common.{◌≡◌, ◌≢◌, ℕ, ◌+◌, ◌<◌, List, [], ◌∷◌, ◌++◌, length, drop, get_or, Result, Ok, Err, refl, sym, ap, subst, ◌∙◌, arith, ◌↔◌, ◌⊎◌, inl, inr}
 use Rattle.std.specs.Prelude.{IfOk, IfErr}
 use Rattle.std.proofs.lemmas.List.{get_or-drop}
 use Rattle.cc_base.specs.LittleEndian.{IsBytes}
@@ -9,12 +9,11 @@ use Rattle.cil_model.specs.declared.instruction.Op.{Op}
 use Rattle.cil_model.specs.declared.instruction.Op.TheVariants.{Nop, LoadArg, Const, Call, Return, Bin}
 use Rattle.il_decoder.specs.declared.fault.IlFault.{IlFault}
 use Rattle.il_decoder.specs.declared.fault.IlFault.TheVariants.{Short, Opcode}
-use Rattle.il_decoder.specs.declared.fault.IlRefusal.{IlRefusal}
 use Rattle.il_decoder.specs.declared.fault.IlRefusal.TheVariants.{Bad, NoMemory}
 use Rattle.il_decoder.specs.Decodes.{StandsIn, EndsInside, opcode_at}
 use Rattle.il_decoder.specs.Decoding.{Operation, operation, placed, decoded}
 use Rattle.il_decoder.proofs.Operands.{IsBytes-drop}
-use Rattle.il_decoder.proofs.Rows.{Begins, IsCutShort, Explains, operation_explained}
+use Rattle.il_decoder.proofs.Rows.{IsCutShort, Explains, operation_explained}
 use Rattle.il_decoder.proofs.Again.{load_arg_spelled, const_spelled, call_again, bin_spelled, load_arg_cut, const_cut, one_alone, call_cut, bin_cut}
 
 -- A spelling is read, whatever follows it.

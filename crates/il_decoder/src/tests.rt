@@ -1,13 +1,14 @@
+ghost use Rattle.std.specs.Prelude.{◌≤◌, length};
+
 use super::*;
-use cil_model::{BinOp, Instr, Op};
+use cil_model::{BinOp, Op};
 use std::alloc::Global;
 use std::test::*;
 
 /// Whether the code begins with an instruction that the whole of it spells, and its operation.
-fn whole(alloc: Global, code: &[u8]) -> Option<Op> {
-    if 2147483647 < code.len() {
-        return None;
-    }
+fn whole(alloc: Global, code: &[u8]) -> Option<Op>
+    requires { length code.now ≤ 2147483647 }
+{
     let instr = decode_one(alloc, code, 0).ok()?;
     (instr.at == 0 && instr.size as usize == code.len()).then_some(instr.op)
 }
