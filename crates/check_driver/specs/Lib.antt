@@ -7,3 +7,5 @@ pub mod UnitFile
 pub mod Verdicts
 pub mod Text
 pub mod Expected
+pub mod Reach
+pub mod UnitSpelling

@@ -1,6 +1,6 @@
 -- The typing of a unit's code up to its first return: every operand is there, the stack stays within its
 -- size, arguments are there, and the return finds the result alone (ECMA-335 III.1.7.2).
-use Rattle.std.specs.Prelude.{ℕ, ◌+◌, ◌-◌, Bool, true, false, not, ◌||◌, List, [], ◌∷◌, Option, Some, None, ◌==◌, nat_lt, if◌then◌else◌}
+use Rattle.std.specs.Prelude.{ℕ, ◌+◌, ◌-◌, Bool, true, false, not, ◌||◌, ◌&&◌, List, [], ◌∷◌, Option, Some, None, ◌==◌, nat_lt, if◌then◌else◌}
 use Rattle.cil_model.specs.declared.instruction.Instr.{Instr}
 use Rattle.cil_model.specs.declared.instruction.Op.{Op}
 use Rattle.cil_model.specs.declared.instruction.Op.TheVariants as ops
@@ -37,6 +37,13 @@ height_after op height = height - operands op + results op
 -- The operation breaks the typing of a stack of this height.
 abbrev pub breaks : ℕ → ℕ → ℕ → Op → Bool
 breaks args limit height op = nat_lt height (operands op) || lacks_argument args op || nat_lt limit (height_after op height)
+
+-- The code is typed from a stack of this height on, up to its first return.
+abbrev pub is_typed : ℕ → ℕ → ℕ → List Instr → Bool
+is_typed args limit height [] = false
+is_typed args limit height (i ∷ is) =
+    if is_return i.op then height == 1
+    else (not (breaks args limit height i.op) && is_typed args limit (height_after i.op height) is)
 
 -- The first fault of typing, from a stack of this height on. The code begins at the offset `base` of
 -- the file; where no return comes, the fault is at the last instruction, `last`.
