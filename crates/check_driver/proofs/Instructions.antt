@@ -1,10 +1,16 @@
 -- Instructions that are read one after another are those that were sought.
-use Rattle.std.proofs.Common.{◌≡◌, ℕ, zero, suc, ◌+◌, ◌-◌, ◌<◌, ◌≤◌, List, [], ◌∷◌, ◌++◌, length, Result, Ok, Err, refl, sym, ap, ◌∙◌, append_assoc, append-nil, arith}
+use Rattle.std.proofs.Common.{◌≡◌, ℕ, zero, suc, ◌+◌, ◌-◌, ◌<◌, ◌≤◌, List, [], ◌∷◌, ◌++◌, length, get_or, drop, Option, Some, None, Result, Ok, Err, refl, sym, ap, ◌∙◌, append_assoc, append-nil, arith}
+use Rattle.std.proofs.Math.ListN.{drop_of_length-le}
+use Rattle.std.proofs.Math.Seq.{drop-cons}
 use Rattle.std.proofs.lemmas.Bool.{le-leb, lt-leb}
 use Rattle.cil_model.specs.declared.instruction.Instr.{Instr}
 use Rattle.il_decoder.specs.Decoding.{decoded}
-use Rattle.check_driver.specs.UnitFile.{built, followed_by, then_instructions, instructions}
+use Rattle.check_driver.specs.Faults.{Reads}
+use Rattle.check_driver.specs.UnitFile.{built, followed_by, then_instructions, instructions, limit_fault}
 use Rattle.check_driver.specs.declared.unit_fault.UnitFault.{UnitFault}
+use Rattle.check_driver.specs.declared.unit_fault.UnitFault.TheVariants.{Form}
+use Rattle.check_driver.specs.declared.unit_fault.UnitRefusal.{UnitRefusal}
+use Rattle.check_driver.specs.declared.unit_fault.UnitRefusal.TheVariants as refusals
 
 -- What is read, behind a front that was read before.
 abbrev pub with_front : List Instr → Result (List Instr) UnitFault → Result (List Instr) UnitFault
@@ -44,6 +50,15 @@ instructions-stop front base most k at code fault total lt inside read so_far =
     let one : with_front front (instructions (most - k) base code at) ≡ Err fault = rw (more, test, read) refl in
     sym so_far ∙ one
 
+-- The next is refused.
+pub instructions-refused : {X : Type 0} (view : X → List Instr) (e : UnitRefusal) (front : List Instr) (base most k at : ℕ) (code : List ℕ) (total : Result (List Instr) UnitFault)
+    → k < most → at < length code → Reads {X = Instr} (λ i. i) (built (base + at) (decoded code at)) (Err e)
+    → with_front front (instructions (most - k) base code at) ≡ total
+    → Reads view total (Err e)
+instructions-refused view (refusals.Bad fault) front base most k at code total lt inside read so_far =
+    instructions-stop front base most k at code fault total lt inside read so_far
+instructions-refused view refusals.NoMemory front base most k at code total lt inside read so_far = tt
+
 -- Nothing is left to read.
 pub instructions-end : (front : List Instr) (base n at : ℕ) (code : List ℕ) (total : Result (List Instr) UnitFault)
     → length code ≤ at → with_front front (instructions n base code at) ≡ total → total ≡ Ok front
@@ -53,3 +68,11 @@ instructions-end front base (suc n) at code total past so_far =
     let test = le-leb _ _ past in
     let one : with_front front (instructions (suc n) base code at) ≡ Ok front = rw test (ap Ok (append-nil front)) in
     sym so_far ∙ one
+
+-- ---- the limit
+
+pub limit_fault-few : (base n : ℕ) (is : List Instr) → length is ≤ n → limit_fault base (drop n is) ≡ None
+limit_fault-few base n is few = rw (drop_of_length-le is few) refl
+
+pub limit_fault-many : (base n : ℕ) (is : List Instr) (d : Instr) → n < length is → limit_fault base (drop n is) ≡ Some (Form (base + (get_or is n d).at))
+limit_fault-many base n is d many = rw (drop-cons is n d many) refl

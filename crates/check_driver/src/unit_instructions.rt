@@ -73,8 +73,8 @@ pub fn check_limit(instrs: &[Instr], base: u32) -> Result<(), UnitFault>
     requires { All (λ i. base + i.at < 2 ^ 32) instrs.now }
     ensures { Tells (limit_fault base (drop MAX_INSTRUCTIONS instrs.now)) (λ _. ⊤) result }
 {
-    match instrs.get(MAX_INSTRUCTIONS) {
-        None => Ok(()),
-        Some(instr) => Err(UnitFault::Form(base + instr.at)),
+    if instrs.len() > MAX_INSTRUCTIONS {
+        return Err(UnitFault::Form(base + instrs[MAX_INSTRUCTIONS].at));
     }
+    Ok(())
 }
