@@ -7,7 +7,7 @@ use Rattle.cc_base.specs.declared.files.TheConstants.{READ_LIMIT}
 use Rattle.check_driver.specs.Text.{escaped, unit_report}
 use Rattle.check_driver.specs.UnitFile.{first_unit_fault, unit_of}
 use Rattle.check_driver.specs.Verdicts.{verdicts, all_proved}
-use Rattle.check_driver.specs.Words.{command_of}
+use Rattle.check_driver.specs.Words.{command_of, file_place}
 use Rattle.check_driver.specs.declared.command.Command.{Command}
 use Rattle.check_driver.specs.declared.command.Command.TheVariants as commands
 use Rattle.check_driver.specs.declared.unit_fault.UnitFault.{UnitFault}
@@ -70,14 +70,22 @@ unit_file_answer name (Some bytes) =
     if nat_le READ_LIMIT (length bytes) then error_answer 5 (refused_line name (codes "file too large") 0x04000000)
     else unit_answer name bytes (first_unit_fault bytes)
 
+-- The word at a place.
+abbrev pub word_at : List (List ℕ) → ℕ → List ℕ
+word_at words place = slice_index_or words place []
+
 abbrev pub command_answer : List (List ℕ) → Held → Option Command → Answer
 command_answer words held None = error_answer 2 USAGE
-command_answer words held (Some (commands.Unit file)) =
-    unit_file_answer (slice_index_or words file []) (held (slice_index_or words file []))
+command_answer words held (Some (commands.Unit file)) = unit_file_answer (word_at words file) (held (word_at words file))
 
 -- The answer to the words, where these files are held.
 abbrev pub expected : List (List ℕ) → Held → Answer
 expected words held = command_answer words held (command_of words)
+
+-- The line of a file of these words that a device does not give.
+abbrev pub unread_of : List (List ℕ) → Option Command → List ℕ
+unread_of words None = []
+unread_of words (Some command) = unread_line (word_at words (file_place command))
 
 -- The files are those that are told, where they are told.
 abbrev pub AreTold : Option Held → Held → Type 0

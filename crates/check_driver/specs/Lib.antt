@@ -9,3 +9,4 @@ pub mod Text
 pub mod Expected
 pub mod Reach
 pub mod UnitSpelling
+pub mod Outcome

@@ -19,6 +19,9 @@ pub record Change : Type 0 where
   pub faults_before : ℕ
   pub faults_after : ℕ
 
+abbrev pub change : Option (List ℕ) → Option (List ℕ) → ℕ → ℕ → Change
+change old new before after = record { old = old; new = new; faults_before = before; faults_after = after }
+
 -- The call wrote the text, or was interrupted behind a front of it, by a fault of the sink or for
 -- want of memory.
 pub record Writes {X : Type 0} (result : Result X Interrupt) (sink : Change) (text : List ℕ) : Type 0 where
