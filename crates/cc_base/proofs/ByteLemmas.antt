@@ -1,5 +1,5 @@
 -- Lists of bytes, and the bytes of a number, of any length.
-use Rattle.std.proofs.Common.{◌≡◌, ℕ, zero, suc, ◌+◌, ◌*◌, ◌/◌, ◌%◌, ◌^◌, ◌<◌, ◌≤◌, List, [], ◌∷◌, ◌++◌, length, take, drop, slice_index, refl, sym, ap, ap₂, ◌∙◌, inl, inr, div-one, arith, get_or-drop}
+use Rattle.std.proofs.Common.{Fits, w8, ◌≡◌, ℕ, zero, suc, ◌+◌, ◌*◌, ◌/◌, ◌%◌, ◌^◌, ◌<◌, ◌≤◌, List, [], ◌∷◌, ◌++◌, length, take, drop, slice_index, refl, sym, ap, ap₂, ◌∙◌, inl, inr, div-one, arith, get_or-drop}
 use Rattle.std.proofs.Math.Nat.{div-div-eq-div-mul, pow-succ'}
 use Rattle.std.proofs.lemmas.Bool.{cases_lt}
 use Rattle.std.proofs.lemmas.List.{get_or_past, length-take-le}
@@ -25,6 +25,10 @@ IsBytes-within xs h i =
       | inl below ↦ h i below
       | inr past ↦ let e = get_or_past xs i 0 past in omega (arith, e)
     ]
+
+-- What `c.type_inv` says of a slice or a `Vec` of bytes.
+pub IsBytes-from_fits : (xs : List ℕ) → ((i : ℕ) → Fits w8 (slice_index xs i)) → IsBytes xs
+IsBytes-from_fits xs h i = (h i).fits
 
 pub IsBytes-drop : (n : ℕ) (xs : List ℕ) → IsBytes xs → IsBytes (drop n xs)
 IsBytes-drop n xs h i = let e = get_or-drop n xs i 0 in let b = h (n + i) in omega (arith, e, b)
