@@ -21,3 +21,5 @@ pub Rose-Kept : (a b c : ℕ) → Kept a b → Rose a b → Kept b c → Rose a 
 Rose-Kept a b c ab (inl lt) bc = inl (omega arith)
 Rose-Kept a b c ab (inr full) bc =
     elim (cases_lt b c) [ inl lt ↦ inl (omega arith) | inr ge ↦ inr (omega arith) ]
+
+pub ruleset counts = (Kept-refl, Kept-trans, Kept-Rose, Rose-Kept)

@@ -61,3 +61,5 @@ pub AppendsFront-front : (old new : Option (List ℕ)) (bytes whole : List ℕ)
     → AppendsFront old new bytes → IsFront bytes whole → AppendsFront old new whole
 AppendsFront-front old new bytes whole (f, isFront, e) inWhole =
     (f, IsFront-trans f bytes whole isFront inWhole, e)
+
+pub ruleset sinks = (appended-appended, appended-nil, AppendsFront-all, AppendsFront-none, AppendsFront-more, AppendsFront-after)
