@@ -2,3 +2,4 @@ pub mod Fields
 pub mod Decoded
 pub mod Instructions
 pub mod Judging
+pub mod RangeSums

@@ -1,8 +1,8 @@
 //! The verdicts on a unit's obligations.
 
-ghost use Rattle.std.specs.Prelude.{◌≡◌, IfOk, OnOk, Option, Some, List};
+ghost use Rattle.std.specs.Prelude.{◌≡◌, ◌++◌, IfOk, OnOk, Option, Some, List};
 ghost use Rattle.cil_model.specs.Spells.{CodeOf};
-ghost use Rattle.check_driver.specs.Verdicts.{State, combined, after, after_reached, verdicts, is_assert, shows, all_proved, proved_count};
+ghost use Rattle.check_driver.specs.Verdicts.{State, combined, after, after_reached, verdicts, noted, is_assert, shows, all_proved, proved_count};
 
 use crate::range::Range;
 use crate::stack::Stack;
@@ -90,6 +90,23 @@ fn after_state(
     }
 }
 
+/// Appends the verdict on an instruction, where it is an obligation.
+fn note(
+    found: &mut Vec<Verdict>,
+    instr: &Instr,
+    state: &Option<Stack<Range>>,
+) -> Result<(), AllocError>
+    ensures { OnOk result (found.new.items ≡ found.old.items ++ noted state.now instr.now) }
+{
+    if is_assert(&instr.op) {
+        found.push(Verdict {
+            at: instr.at,
+            proved: shows(state),
+        })?;
+    }
+    Ok(())
+}
+
 /// The verdict on each obligation of a unit, in order. Each Assert is one.
 ///
 /// Cost: linear in the number of instructions.
@@ -101,12 +118,7 @@ pub fn judge(alloc: Global, unit: &Unit) -> Result<Vec<Verdict>, AllocError>
     let mut found = Vec::new(alloc);
     let mut state = Some(Stack::new(alloc));
     for instr in instrs {
-        if is_assert(&instr.op) {
-            found.push(Verdict {
-                at: instr.at,
-                proved: shows(&state),
-            })?;
-        }
+        note(&mut found, instr, &state)?;
         state = after_state(&instr.op, state)?;
     }
     Ok(found)
