@@ -69,9 +69,10 @@ judged_verdicts s at (i ∷ is) (le, h) =
     let here : eqb i.at i.at ≡ true = grind (arith, nat_tests) in
     let first : verdict_from s (i ∷ is) i.at ≡ record { at = i.at; proved = shows s } = rw here refl in
     let others = rest ∙ same in
-    elim (is_assert i.op) as (λ b. cond b (record { at = i.at; proved = shows s } ∷ []) [] ++ judged (after i.op s) is ≡ map (verdict_from s (i ∷ is)) (cond b (i.at ∷ obligations is) (obligations is)))
-    [ true ↦ let joined : record { at = i.at; proved = shows s } ∷ judged (after i.op s) is ≡ verdict_from s (i ∷ is) i.at ∷ map (verdict_from s (i ∷ is)) (obligations is) = cc in joined
-    | false ↦ others ]
+    elim (is_assert i.op) as (λ b. cond b (record { at = i.at; proved = shows s } ∷ []) [] ++ judged (after i.op s) is ≡ map (verdict_from s (i ∷ is)) (cond b (i.at ∷ obligations is) (obligations is))) [
+      | true ↦ let joined : record { at = i.at; proved = shows s } ∷ judged (after i.op s) is ≡ verdict_from s (i ∷ is) i.at ∷ map (verdict_from s (i ∷ is)) (obligations is) = cc in joined
+      | false ↦ others
+    ]
 
 -- The walk is at its end.
 pub judged-end : (front : List Verdict) (s : State) (is : List Instr) (k : ℕ) (total : List Verdict) → length is ≤ k

@@ -63,12 +63,16 @@ abbrev pub unit_answer : List ℕ → List ℕ → Option UnitFault → Answer
 unit_answer name bytes (Some fault) = error_answer 5 (refused_line name (fault_text fault) (fault_at fault))
 unit_answer name bytes None = report_answer (unit_report (unit_of bytes)) (all_proved (verdicts (unit_of bytes)))
 
+-- The answer to `unit FILE` for the bytes of the file.
+abbrev pub bytes_answer : List ℕ → List ℕ → Answer
+bytes_answer name bytes =
+    if nat_le READ_LIMIT (length bytes) then error_answer 5 (refused_line name (codes "file too large") 0x04000000)
+    else unit_answer name bytes (first_unit_fault bytes)
+
 -- The answer to `unit FILE`, by what is held under the name.
 abbrev pub unit_file_answer : List ℕ → Option (List ℕ) → Answer
 unit_file_answer name None = error_answer 3 (missing_line name)
-unit_file_answer name (Some bytes) =
-    if nat_le READ_LIMIT (length bytes) then error_answer 5 (refused_line name (codes "file too large") 0x04000000)
-    else unit_answer name bytes (first_unit_fault bytes)
+unit_file_answer name (Some bytes) = bytes_answer name bytes
 
 -- The word at a place.
 abbrev pub word_at : List (List ℕ) → ℕ → List ℕ

@@ -1,5 +1,5 @@
 -- Units that are built, and the one spelling of each as a file.
-use Rattle.std.specs.Prelude.{◌≡◌, ℕ, ◌+◌, ◌^◌, ◌<◌, ◌≤◌, false, true, List, [], ◌∷◌, ◌++◌, length, map, codes}
+use Rattle.std.specs.Prelude.{◌≡◌, ℕ, ◌+◌, ◌^◌, ◌<◌, ◌≤◌, false, true, List, [], ◌∷◌, ◌++◌, length, map, Result, Ok, Err, codes}
 use Rattle.std.specs.List.{AllByRecursion}
 use Rattle.byteorder.specs.Endian.{little_bytes}
 use Rattle.cil_model.specs.Spells.{CodeOf}
@@ -7,6 +7,8 @@ use Rattle.cil_model.specs.declared.place.Place.{Place}
 use Rattle.cil_model.specs.declared.place.Place.TheVariants as places
 use Rattle.cil_model.specs.declared.unit.Unit.{Unit as MethodUnit}
 use Rattle.check_driver.specs.Typing.{is_typed}
+use Rattle.check_driver.specs.declared.unit_fault.UnitRefusal.{UnitRefusal}
+use Rattle.check_driver.specs.declared.unit_fault.UnitRefusal.TheVariants as refusals
 use Rattle.check_driver.specs.UnitFile.{is_printable, is_other_call}
 use Rattle.check_driver.specs.declared.unit_fields.TheConstants.{MAX_VARIABLES, MAX_CODE}
 use Rattle.check_driver.specs.declared.unit_instructions.TheConstants.{MAX_INSTRUCTIONS}
@@ -48,3 +50,9 @@ pub record IsBuilt (unit : MethodUnit) : Type 0 where
   pub few : length unit.instrs ≤ MAX_INSTRUCTIONS
   pub calls : AllByRecursion (λ i. is_other_call i.op ≡ false) unit.instrs
   pub typed : is_typed (length unit.args) unit.max_stack 0 unit.instrs ≡ true
+
+-- What was returned is this unit, unless memory ran out.
+abbrev pub ReadsOnly : MethodUnit → Result MethodUnit UnitRefusal → Type 0
+ReadsOnly unit (Ok found) = found ≡ unit
+ReadsOnly unit (Err (refusals.Bad fault)) = ⊥
+ReadsOnly unit (Err refusals.NoMemory) = Unit {0}

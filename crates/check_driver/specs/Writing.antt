@@ -1,5 +1,8 @@
 -- What a call that writes a text leaves, where it may be interrupted.
 use Rattle.std.specs.Prelude.{◌≡◌, ℕ, List, Option, Result, OnOk, OnErr, IsErrOf}
+use Rattle.std.specs.List.{flat_map}
+use Rattle.std.specs.declared.alloc.Global.{Global}
+use Rattle.std.specs.declared.vec.Vec.{Vec}
 use Rattle.cc_base.specs.Counts.{Rose, Kept}
 use Rattle.cc_base.specs.Sink.{appended, AppendsFront}
 use Rattle.cc_base.specs.declared.sink.PutRefusal.{PutRefusal}
@@ -29,3 +32,7 @@ pub record Writes {X : Type 0} (result : Result X Interrupt) (sink : Change) (te
   pub front : OnErr result (AppendsFront sink.old sink.new text)
   pub cause : IsErrOf result interrupts.CannotWrite → Rose sink.faults_before sink.faults_after
   pub kept : Kept sink.faults_before sink.faults_after
+
+-- The bytes of some lines, one after another.
+abbrev pub joined : List (Vec ℕ Global) → List ℕ
+joined lines = flat_map (λ line. line.items) lines

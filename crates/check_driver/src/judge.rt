@@ -78,10 +78,7 @@ fn shows(state: &Option<Stack<Range>>) -> bool
 }
 
 /// What is known behind an operation, from what is known before it.
-fn after_state(
-    op: &Op,
-    state: Option<Stack<Range>>,
-) -> Result<Option<Stack<Range>>, AllocError>
+fn after_state(op: &Op, state: Option<Stack<Range>>) -> Result<Option<Stack<Range>>, AllocError>
     ensures { IfOk result (λ behind. behind ≡ after op.now state) }
 {
     match state {

@@ -3,6 +3,8 @@
 ghost use Rattle.std.specs.Prelude.{◌≡◌, ◌+◌, ◌<◌, ◌≤◌, ◌^◌, ⊤, List, [], length, take, drop, IfOk, Ok, Err, Some, None, replicate};
 ghost use Rattle.check_driver.specs.Faults.{Tells, Reads};
 ghost use Rattle.check_driver.specs.UnitFile.{first_unit_fault, unit_of};
+ghost use Rattle.check_driver.specs.UnitSpelling.{IsBuilt, unit_bytes, ReadsOnly};
+ghost use Rattle.cil_model.specs.declared.unit.Unit.{Unit as MethodUnit};
 
 use crate::typing::check_typing;
 use crate::unit_fault::{UnitFault, UnitRefusal};
@@ -23,7 +25,13 @@ fn int_places(alloc: Global, count: usize) -> Result<Vec<Place>, AllocError>
 /// Cost: linear in the length of the file.
 pub fn read_unit(alloc: Global, bytes: &[u8]) -> Result<Unit, UnitRefusal>
     requires { length bytes.now ≤ 67108864 }
-    ensures found { IfOk result (λ unit. (first_unit_fault bytes.now ≡ None) × (unit ≡ unit_of bytes.now)) }
+    // What is read is the one built unit that the bytes spell.
+    ensures built { IfOk result IsBuilt }
+    ensures spelled { IfOk result (λ unit. unit_bytes unit ≡ bytes.now) }
+    // A built unit that is spelled so is read, unless memory runs out.
+    ensures only { (unit : MethodUnit) → IsBuilt unit → unit_bytes unit ≡ bytes.now → ReadsOnly unit result }
+    // Which unit it is, and which fault.
+    ensures unit { IfOk result (λ unit. (first_unit_fault bytes.now ≡ None) × (unit ≡ unit_of bytes.now)) }
     ensures fault { (fault : UnitFault) → result ≡ Err (UnitRefusal.Bad fault) → first_unit_fault bytes.now ≡ Some fault }
 {
     let fields = read_fields(bytes)?;
