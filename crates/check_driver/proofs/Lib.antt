@@ -1,3 +1,12 @@
 pub mod Fields
 pub mod Decoded
 pub mod Instructions
+pub mod Faultless
+pub mod Stands
+pub mod Typed
+pub mod Sequence
+pub mod Same
+pub mod FieldsTaken
+pub mod FieldsAgain
+pub mod UnitTaken
+pub mod UnitAgain
