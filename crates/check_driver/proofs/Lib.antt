@@ -3,3 +3,12 @@ pub mod Decoded
 pub mod Instructions
 pub mod Judging
 pub mod RangeSums
+pub mod Faultless
+pub mod Stands
+pub mod Typed
+pub mod Sequence
+pub mod Same
+pub mod FieldsTaken
+pub mod FieldsAgain
+pub mod UnitTaken
+pub mod UnitAgain
