@@ -1,5 +1,5 @@
 -- Units that are built, and the one spelling of each as a file.
-use Rattle.std.specs.Prelude.{◌≡◌, ℕ, ◌+◌, ◌^◌, ◌<◌, ◌≤◌, false, true, List, [], ◌∷◌, ◌++◌, length, map, Result, Ok, Err, codes}
+use Rattle.std.specs.Prelude.{◌≡◌, ℕ, ◌+◌, ◌^◌, ◌<◌, ◌≤◌, false, true, List, [], ◌∷◌, ◌++◌, length, map, Some, None, Result, Ok, Err, codes}
 use Rattle.std.specs.List.{AllByRecursion}
 use Rattle.byteorder.specs.Endian.{little_bytes}
 use Rattle.cil_model.specs.Spells.{CodeOf}
@@ -9,7 +9,7 @@ use Rattle.cil_model.specs.declared.unit.Unit.{Unit as MethodUnit}
 use Rattle.check_driver.specs.Typing.{is_typed}
 use Rattle.check_driver.specs.declared.unit_fault.UnitRefusal.{UnitRefusal}
 use Rattle.check_driver.specs.declared.unit_fault.UnitRefusal.TheVariants as refusals
-use Rattle.check_driver.specs.UnitFile.{is_printable, is_other_call}
+use Rattle.check_driver.specs.UnitFile.{is_printable, is_other_call, first_unit_fault, unit_of}
 use Rattle.check_driver.specs.declared.unit_fields.TheConstants.{MAX_VARIABLES, MAX_CODE}
 use Rattle.check_driver.specs.declared.unit_instructions.TheConstants.{MAX_INSTRUCTIONS}
 
@@ -56,3 +56,9 @@ abbrev pub ReadsOnly : MethodUnit → Result MethodUnit UnitRefusal → Type 0
 ReadsOnly unit (Ok found) = found ≡ unit
 ReadsOnly unit (Err (refusals.Bad fault)) = ⊥
 ReadsOnly unit (Err refusals.NoMemory) = Unit {0}
+
+-- What was returned is the unit of the file, or its first fault, unless memory ran out.
+abbrev pub IsRead : List ℕ → Result MethodUnit UnitRefusal → Type 0
+IsRead bytes (Ok unit) = (first_unit_fault bytes ≡ None) × (unit ≡ unit_of bytes)
+IsRead bytes (Err (refusals.Bad fault)) = first_unit_fault bytes ≡ Some fault
+IsRead bytes (Err refusals.NoMemory) = Unit {0}

@@ -229,7 +229,7 @@ fn check_callees(bytes: &[u8], at: usize) -> Result<(), UnitFault>
 fn read_code(bytes: &[u8], at: usize) -> Result<&[u8], UnitFault>
     requires place { at ≡ code_length_at bytes.now }
     requires small { at + 65600 < 2 ^ 32 }
-    ensures { Tells (code_fault bytes.now) (λ code. code.now ≡ code_of bytes.now) result }
+    ensures { Tells (code_fault bytes.now) (λ code. (code.now ≡ code_of bytes.now) × (length code.now ≤ MAX_CODE)) result }
 {
     check_end(bytes, at, 4)?;
     let length = u32_at(bytes, at) as usize;
