@@ -10,3 +10,4 @@ pub mod FieldsTaken
 pub mod FieldsAgain
 pub mod UnitTaken
 pub mod UnitAgain
+pub mod UnitBytes
