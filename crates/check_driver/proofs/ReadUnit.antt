@@ -49,10 +49,41 @@ pub checks_passed : (bytes : List ℕ) (is : List Instr) → field_fault bytes �
 unfolding first_unit_fault
 checks_passed bytes is none read e = rw (none, read) e
 
+-- The unit that the fields and the instructions make.
 pub unit_is : (bytes : List ℕ) (fields : Fields) (is : List Instr) → HasFields bytes fields → instructions_of bytes ≡ Ok is
     → unit_with fields.name.now fields.arg_count fields.max_stack fields.code.now is ≡ unit_of bytes
 unfolding unit_of
 unit_is bytes fields is h read = rw (h.name, h.args, h.stack, h.code, read) refl
+
+-- A fault past the limit, as it was found.
+pub limit_refused : (bytes : List ℕ) (fields : Fields) (is seen : List Instr) (fault : UnitFault) → HasFields bytes fields → field_fault bytes ≡ None
+    → instructions (length fields.code.now) fields.code_at fields.code.now 0 ≡ Ok is → seen ≡ is
+    → limit_fault fields.code_at (drop MAX_INSTRUCTIONS seen) ≡ Some fault → first_unit_fault bytes ≡ Some fault
+limit_refused bytes fields is seen fault h none read same e =
+    checks_refused bytes is fault none (sym (code_is bytes fields h) ∙ read) (rw (← same, ← h.place, e) refl)
+
+-- A fault of typing, as it was found.
+pub typing_refused : (bytes : List ℕ) (fields : Fields) (is seen typed : List Instr) (limit : ℕ) (fault : UnitFault) → HasFields bytes fields → field_fault bytes ≡ None
+    → instructions (length fields.code.now) fields.code_at fields.code.now 0 ≡ Ok is → seen ≡ is → typed ≡ is → limit ≡ fields.max_stack
+    → limit_fault fields.code_at (drop MAX_INSTRUCTIONS seen) ≡ None
+    → typing_fault fields.arg_count limit fields.code_at 0 fields.code_at typed ≡ Some fault → first_unit_fault bytes ≡ Some fault
+typing_refused bytes fields is seen typed limit fault h none read same alike size few e =
+    let passed : limit_fault (code_at bytes) (drop MAX_INSTRUCTIONS is) ≡ None = rw (← same, ← h.place) few in
+    let found : typing_fault (arg_count bytes) (max_stack bytes) (code_at bytes) 0 (code_at bytes) is ≡ Some fault = rw (← alike, ← h.args, ← h.stack, ← size, ← h.place) e in
+    checks_refused bytes is fault none (sym (code_is bytes fields h) ∙ read) (rw (passed, found) refl)
+
+-- No fault was found.
+pub unit_found : (bytes : List ℕ) (fields : Fields) (is seen typed : List Instr) (limit : ℕ) (unit : MethodUnit) → HasFields bytes fields → field_fault bytes ≡ None
+    → instructions (length fields.code.now) fields.code_at fields.code.now 0 ≡ Ok is → seen ≡ is → typed ≡ is → limit ≡ fields.max_stack
+    → limit_fault fields.code_at (drop MAX_INSTRUCTIONS seen) ≡ None
+    → typing_fault fields.arg_count limit fields.code_at 0 fields.code_at typed ≡ None
+    → unit ≡ unit_with fields.name.now fields.arg_count fields.max_stack fields.code.now is
+    → (first_unit_fault bytes ≡ None) × (unit ≡ unit_of bytes)
+unit_found bytes fields is seen typed limit unit h none read same alike size few well made =
+    let passed : limit_fault (code_at bytes) (drop MAX_INSTRUCTIONS is) ≡ None = rw (← same, ← h.place) few in
+    let found : typing_fault (arg_count bytes) (max_stack bytes) (code_at bytes) 0 (code_at bytes) is ≡ None = rw (← alike, ← h.args, ← h.stack, ← size, ← h.place) well in
+    let whole : instructions_of bytes ≡ Ok is = sym (code_is bytes fields h) ∙ read in
+    (checks_passed bytes is none whole (rw (passed, found) refl), made ∙ unit_is bytes fields is h whole)
 
 -- Instructions within code stand within the file.
 pub places_fit : (base n : ℕ) (is : List Instr) → base < 2 ^ 17 → n ≤ 65536 → All (λ i. i.at < n) is → All (λ i. base + i.at < 2 ^ 32) is

@@ -3,7 +3,7 @@ use Rattle.std.proofs.Common.{◌≡◌, ℕ, ◌+◌, ◌≤◌, Bool, true, fa
 use Rattle.std.proofs.lemmas.Bool.{not-false}
 use Rattle.std.proofs.lemmas.List.{drop_all}
 use Rattle.cil_model.specs.declared.instruction.Instr.{Instr}
-use Rattle.check_driver.specs.Faults.{fails}
+use Rattle.check_driver.specs.Faults.{fails, ◌otherwise◌}
 use Rattle.check_driver.specs.Typing.{is_return, breaks, height_after, is_typed, typing_fault}
 use Rattle.check_driver.specs.UnitFile.{limit_fault}
 use Rattle.check_driver.specs.declared.unit_fault.UnitFault.{UnitFault}
@@ -13,13 +13,13 @@ use Rattle.check_driver.proofs.Faultless.{fails_none}
 -- One instruction: whether it returns, whether the height is right there, whether it breaks the typing
 -- and whether what follows is typed.
 typed_step : (returns right broken typed : Bool) (here there : UnitFault) (rest : Option UnitFault) → (rest ≡ None → typed ≡ true)
-    → cond returns (fails (not right) here) (cond broken (Some there) rest) ≡ None → cond returns right (not broken && typed) ≡ true
+    → cond returns (fails (not right) here) (fails broken there otherwise rest) ≡ None → cond returns right (not broken && typed) ≡ true
 typed_step true right broken typed here there rest later e = not-false right (fails_none _ _ e)
 typed_step false right true typed here there rest later e = absurd cc
 typed_step false right false typed here there rest later e = later e
 
 step_typed : (returns right broken typed : Bool) (here there : UnitFault) (rest : Option UnitFault) → (typed ≡ true → rest ≡ None)
-    → cond returns right (not broken && typed) ≡ true → cond returns (fails (not right) here) (cond broken (Some there) rest) ≡ None
+    → cond returns right (not broken && typed) ≡ true → cond returns (fails (not right) here) (fails broken there otherwise rest) ≡ None
 step_typed true right broken typed here there rest later e = rw e refl
 step_typed false right true typed here there rest later e = absurd cc
 step_typed false right false typed here there rest later e = later e

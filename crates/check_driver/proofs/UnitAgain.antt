@@ -20,7 +20,7 @@ use Rattle.check_driver.proofs.Same.{same_unit}
 -- ---- the fields
 
 -- The bytes of a unit that is built: its name, its code, and how many arguments and stack slots it has.
-unfoldable spelled : List ℕ → List ℕ → ℕ → ℕ → List ℕ
+unfoldable pub spelled : List ℕ → List ℕ → ℕ → ℕ → List ℕ
 spelled name code n m =
     codes "CCU1" ++ (little_bytes 2 (length name) ++ (name ++ (2 ∷ (n ∷ (replicate n 2 ++ (0 ∷ (m ∷ (little_bytes 2 0 ++ (little_bytes 4 (length code) ++ code)))))))))
 
@@ -61,7 +61,7 @@ all_ints (place ∷ args) all = ap₂ (λ (p : Place) (ps : List Place). p ∷ p
 ints_codes : (args : List Place) → AllByRecursion (λ place. place ≡ places.Int) args → map place_code args ≡ replicate (length args) 2
 ints_codes args all = ap (map place_code) (all_ints args all) ∙ ints_spelled (length args)
 
-built_spelled : (unit : MethodUnit) → IsBuilt unit → unit_bytes unit ≡ spelled unit.name unit.code (length unit.args) unit.max_stack
+pub built_spelled : (unit : MethodUnit) → IsBuilt unit → unit_bytes unit ≡ spelled unit.name unit.code (length unit.args) unit.max_stack
 unfolding spelled
 built_spelled unit built = rw (built.result, built.locals, built.callees, ints_codes unit.args built.args) refl
 

@@ -1,27 +1,33 @@
-use Rattle.std.proofs.Common.{rules, ◌≡◌, ◌+◌, ◌<◌, ◌≤◌, ◌^◌, List, [], length, take, drop, IfOk, Ok, Err, Some, None, replicate, ℕ, ◌-◌, ◌*◌, ◌/◌, ◌%◌, Bool, true, false, nat_eq, nat_lt, ◌∷◌, ◌++◌, slice_index_or, slice_set, bit_and, bit_or, Fits, w8, w32, w64, Bor, MutBor}
-use Rattle.std.specs.Prelude.{⊤}
-use Rattle.check_driver.specs.Faults.{Tells, Reads}
-use Rattle.check_driver.specs.UnitFile.{unit_with}
-use Rattle.check_driver.specs.UnitSpelling.{IsBuilt, unit_bytes, ReadsOnly, IsRead}
-use Rattle.cil_model.specs.declared.unit.Unit.{Unit as MethodUnit}
+use Rattle.std.proofs.Common.{Vec, Global, arith}
+use Rattle.std.proofs.lemmas.Result.{err_from_is_err_and}
+use Rattle.cil_model.specs.declared.instruction.Instr.{Instr}
+use Rattle.check_driver.proofs.ReadUnit.{fields_refused, instructions_unread, limit_refused, typing_refused, unit_found, places_fit}
 use Rattle.check_driver.proofs.read_unit.read_first.Goals as goal
 
--- src/read_unit.rt:45:18
 pub returns-in_err-fields : goal.returns-in_err-fields
-returns-in_err-fields c = ?
+returns-in_err-fields c =
+    let p = err_from_is_err_and c.from_residual.result c.from_residual.ensures.1 in
+    rw (p.1, p.2) (fields_refused c.args.bytes.now c.in_err-fields.field-0.0 c.in_err-fields.ensures)
 
--- src/read_unit.rt:46:18
 pub returns-in_err-instrs : goal.returns-in_err-instrs
-returns-in_err-instrs c = ?
+returns-in_err-instrs c =
+    let p = err_from_is_err_and c.from_residual-in_err-instrs.result c.from_residual-in_err-instrs.ensures.1 in
+    let fields = c.in_ok-fields in
+    rw (p.1, p.2) (instructions_unread (λ (instrs : Vec Instr Global). instrs.items) c.args.bytes.now fields.fields c.in_err-instrs.field-0.0 fields.ensures.1 fields.ensures.0 c.in_err-instrs.ensures.read)
 
--- src/read_unit.rt:47:5
 pub returns-in_err-check_limit : goal.returns-in_err-check_limit
-returns-in_err-check_limit c = ?
+returns-in_err-check_limit c =
+    let p = err_from_is_err_and c.from_residual-in_err-check_limit.result c.from_residual-in_err-check_limit.ensures.1 in
+    let fields = c.in_ok-fields in
+    rw (p.1, p.2) (limit_refused c.args.bytes.now fields.fields c.in_ok-instrs.instrs.items c.deref.result.now c.in_err-check_limit.field-0.0 fields.ensures.1 fields.ensures.0 c.in_ok-instrs.ensures.read c.deref.ensures.value c.in_err-check_limit.ensures)
 
--- src/read_unit.rt:49:5
 pub returns-in_err-check_typing : goal.returns-in_err-check_typing
-returns-in_err-check_typing c = ?
+returns-in_err-check_typing c =
+    let p = err_from_is_err_and c.from_residual-in_err-check_typing.result c.from_residual-in_err-check_typing.ensures.1 in
+    let fields = c.in_ok-fields in
+    rw (p.1, p.2) (typing_refused c.args.bytes.now fields.fields c.in_ok-instrs.instrs.items c.deref.result.now c.deref-2.result.now c.from-max_stack.result c.in_err-check_typing.field-0.0 fields.ensures.1 fields.ensures.0 c.in_ok-instrs.ensures.read c.deref.ensures.value c.deref-2.ensures.value c.from-max_stack.ensures c.in_ok-check_limit.ensures.0 c.in_err-check_typing.ensures)
 
--- src/read_unit.rt:42:1
 pub returns : goal.returns
-returns c = ?
+returns c =
+    let fields = c.in_ok-fields in
+    unit_found c.args.bytes.now fields.fields c.in_ok-instrs.instrs.items c.deref.result.now c.deref-2.result.now c.from-max_stack.result c.in_ok-unit_at.field-0 fields.ensures.1 fields.ensures.0 c.in_ok-instrs.ensures.read c.deref.ensures.value c.deref-2.ensures.value c.from-max_stack.ensures c.in_ok-check_limit.ensures.0 c.in_ok-check_typing.ensures.0 c.in_ok-unit_at.ensures
