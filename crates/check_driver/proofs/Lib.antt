@@ -14,3 +14,5 @@ pub mod Typed
 pub mod UnitAgain
 pub mod UnitBytes
 pub mod UnitTaken
+pub mod Reporting
+pub mod Writings

@@ -86,11 +86,18 @@ command_answer words held (Some (commands.Unit file)) = unit_file_answer (word_a
 abbrev pub expected : List (List ℕ) → Held → Answer
 expected words held = command_answer words held (command_of words)
 
--- The line of a file of these words that a device does not give.
-abbrev pub unread_of : List (List ℕ) → Option Command → List ℕ
-unread_of words None = []
-unread_of words (Some command) = unread_line (word_at words (file_place command))
+-- The word that names the file of these words, where they are a command.
+abbrev pub file_of_command : List (List ℕ) → Option Command → List ℕ
+file_of_command words None = []
+file_of_command words (Some command) = word_at words (file_place command)
+
+abbrev pub file_of : List (List ℕ) → List ℕ
+file_of words = file_of_command words (command_of words)
 
 -- The files are those that are told, where they are told.
 abbrev pub AreTold : Option Held → Held → Type 0
 AreTold told held = ForSome told (λ files. files ≡ held)
+
+-- This is held under the name, where that is told.
+abbrev pub IsUnder : Option Held → List ℕ → Option (List ℕ) → Type 0
+IsUnder told name under = ForSome told (λ files. files name ≡ under)

@@ -1,10 +1,12 @@
 //! The top call: the program's answer to its words.
 
-ghost use Rattle.std.specs.Prelude.{◌≡◌, ◌≢◌, ◌⊎◌, ◌<◌, ◌≤◌, ◌↔◌, List, length, map, IfOk, None};
+#![tactic(auto, using(cc_base::proofs::SinkLemmas::sinks, cc_base::proofs::CountLemmas::counts))]
+
+ghost use Rattle.std.specs.Prelude.{◌≡◌, ◌≢◌, ◌⊎◌, ◌<◌, ◌≤◌, ◌↔◌, List, ℕ, length, map, Option, IfOk, None};
 ghost use Rattle.std.specs.String.{string_bytes};
 ghost use Rattle.cc_base.specs.Counts.{Rose, Kept};
 ghost use Rattle.cc_base.specs.Files.{Held};
-ghost use Rattle.check_driver.specs.Expected.{AreTold, expected, error_answer, unit_answer, bytes_answer, unit_file_answer, unread_of};
+ghost use Rattle.check_driver.specs.Expected.{AreTold, IsUnder, expected, unread_line, file_of, error_answer, unit_answer, bytes_answer, unit_file_answer};
 ghost use Rattle.check_driver.specs.Outcome.{Gives, GivesOrUnread, Leaves};
 ghost use Rattle.check_driver.specs.Text.{unit_report};
 ghost use Rattle.check_driver.specs.UnitFile.{first_unit_fault};
@@ -125,7 +127,14 @@ fn answer_unit_file<F: Files, O: Sink, E: Sink>(
     files: &mut F,
     out: &mut O,
     err: &mut E,
-) -> Result<u8, Interrupt> {
+) -> Result<u8, Interrupt>
+    ensures answer { (under : Option (List ℕ)) × IsUnder (F.held files.old) name.now under
+        × GivesOrUnread (unit_file_answer name.now under) name.now (Rose (F.faults files.old) (F.faults files.new)) result
+        (change (O.written out.old) (O.written out.new) (O.faults out.old) (O.faults out.new))
+        (change (E.written err.old) (E.written err.new) (E.faults err.old) (E.faults err.new)) }
+    ensures missing { IfOk result (λ status. status ≡ 3 → Rose (F.missed files.old) (F.missed files.new)) }
+    ensures files { F.held files.new ≡ F.held files.old }
+{
     match files.read(alloc, name) {
         Ok(bytes) => answer_bytes(alloc, name.as_bytes(), &bytes, out, err),
         Err(ReadRefusal::NoMemory) => Err(Interrupt::NoMemory),
@@ -147,7 +156,15 @@ fn answer_words<F: Files, O: Sink, E: Sink>(
     files: &mut F,
     out: &mut O,
     err: &mut E,
-) -> Result<u8, Interrupt> {
+) -> Result<u8, Interrupt>
+    ensures answer { (held : Held) × AreTold (F.held files.old) held
+        × GivesOrUnread (expected (map (λ word. string_bytes word) words.now) held) (file_of (map (λ word. string_bytes word) words.now))
+        (Rose (F.faults files.old) (F.faults files.new)) result
+        (change (O.written out.old) (O.written out.new) (O.faults out.old) (O.faults out.new))
+        (change (E.written err.old) (E.written err.new) (E.faults err.old) (E.faults err.new)) }
+    ensures missing { IfOk result (λ status. status ≡ 3 → Rose (F.missed files.old) (F.missed files.new)) }
+    ensures files { F.held files.new ≡ F.held files.old }
+{
     match parse_words(words) {
         None => answer_error(alloc, 2, USAGE, err),
         Some(Command::Unit(file)) => {
@@ -157,13 +174,32 @@ fn answer_words<F: Files, O: Sink, E: Sink>(
 }
 
 /// The program: answers the words, writes to the two sinks and gives the status.
+///
+/// Statuses 4, 6 and 7 end a call early: a device refused a read, a sink refused, memory ran out.
 pub fn run_words<F: Files, O: Sink, E: Sink>(
     alloc: Global,
     words: &[String],
     files: &mut F,
     out: &mut O,
     err: &mut E,
-) -> u8 {
+) -> u8
+    // What is written, and the status: those that are expected for the words and for what is held (where
+    // it is not told, for some files).
+    ensures output { (held : Held) × AreTold (F.held files.old) held
+        × Leaves (expected (map (λ word. string_bytes word) words.now) held) (unread_line (file_of (map (λ word. string_bytes word) words.now)))
+        (Rose (F.faults files.old) (F.faults files.new)) result
+        (change (O.written out.old) (O.written out.new) (O.faults out.old) (O.faults out.new))
+        (change (E.written err.old) (E.written err.new) (E.faults err.old) (E.faults err.new)) }
+    ensures files { F.held files.new ≡ F.held files.old }
+
+    // Each status that a device can bring comes only where its count rose in this call.
+    ensures missing_cause { result ≡ 3 → Rose (F.missed files.old) (F.missed files.new) }
+    ensures unread_cause { result ≡ 4 → Rose (F.faults files.old) (F.faults files.new) }
+    ensures unwritten_cause { result ≡ 6 → Rose (O.faults out.old) (O.faults out.new) ⊎ Rose (E.faults err.old) (E.faults err.new) }
+    // Words that are no command are told so, unless that line is interrupted.
+    ensures usage { result ≡ 2 → command_of (map (λ word. string_bytes word) words.now) ≡ None }
+    ensures no_command { command_of (map (λ word. string_bytes word) words.now) ≡ None → (result ≡ 2) ⊎ ((result ≡ 6) ⊎ (result ≡ 7)) }
+{
     match answer_words(alloc, words, files, out, err) {
         Ok(status) => status,
         Err(Interrupt::CannotWrite) => {
