@@ -1,3 +1,4 @@
 pub mod Fields
 pub mod Decoded
 pub mod Instructions
+pub mod RangeSoundness
