@@ -1,4 +1,5 @@
 pub mod Fields
 pub mod Decoded
 pub mod Instructions
+pub mod EffectSoundness
 pub mod RangeSoundness
