@@ -3,3 +3,4 @@ pub mod Decoded
 pub mod Instructions
 pub mod EffectSoundness
 pub mod RangeSoundness
+pub mod Soundness

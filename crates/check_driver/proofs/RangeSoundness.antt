@@ -84,8 +84,8 @@ pub has_equal : (a b : Range) (m n : ℤ) → Has a m → Has b n → Has (equal
 has_equal a b m n hasM hasN =
     cond_both (int_le a.hi b.lo && int_le b.hi a.lo) _ _ (λ r. Has r (truth (int_eq m n)))
     (λ holds.
-      let both = and_parts _ _ holds in let one_way = is_le a.hi b.lo both.0 in let other_way = is_le b.hi a.lo both.1 in
-      has_known (int_eq m n) true (equal_always m n (omega (arith, ints))))
+    let both = and_parts _ _ holds in let one_way = is_le a.hi b.lo both.0 in let other_way = is_le b.hi a.lo both.1 in
+    has_known (int_eq m n) true (equal_always m n (omega (arith, ints))))
     (λ fails. cond_both (int_lt a.hi b.lo || int_lt b.hi a.lo) _ _ (λ r. Has r (truth (int_eq m n)))
     (λ holds. has_known (int_eq m n) false (equal_never m n (apart holds)))
     (λ _. has_truth (int_eq m n)))
