@@ -1,7 +1,7 @@
 -- What a typed instruction does to values that are within the known ranges.
-use Rattle.std.proofs.Common.{◌≡◌, ℕ, zero, suc, ◌+◌, ◌-◌, ◌<◌, ◌≤◌, ◌==◌, ℤ, pos, ◌+ℤ◌, int_lt, int_eq, FitsSigned, Bool, true, false, not, ◌||◌, nat_lt, List, [], ◌∷◌, length, slice_get, Option, Some, None, Ok, if◌then◌else◌, refl, sym, ap, subst, ◌∙◌, arith, w32, true≢false, ltb-false, ltb-true}
+use Rattle.std.proofs.Common.{◌≡◌, ℕ, zero, suc, ◌+◌, ◌-◌, ◌<◌, ◌≤◌, ◌==◌, ℤ, pos, ◌+ℤ◌, int_lt, int_eq, FitsSigned, Bool, true, false, not, ◌||◌, nat_lt, List, [], ◌∷◌, length, slice_get, Some, Ok, refl, ap, subst, arith, w32, true≢false, ltb-false, ltb-true}
 use Rattle.std.specs.List.{AllByRecursion}
-use Rattle.std.proofs.lemmas.Bool.{false≢true, or_parts, false_from_ne_true, not-false}
+use Rattle.std.proofs.lemmas.Bool.{or_parts, false_from_ne_true, not-false}
 use Rattle.std.proofs.lemmas.Bool.Decides.{Decides-int_eq, not_from_Decides}
 use Rattle.cc_base.specs.Wrap.{wrap32}
 use Rattle.cil_model.specs.Effects.{ASSERT_CALL, Effect, goes_on, operated, binary, asserts, effects_of, truth}
@@ -17,12 +17,12 @@ use Rattle.cil_model.specs.declared.machine.Value.{Value}
 use Rattle.cil_model.specs.declared.machine.Value.TheVariants as values
 use Rattle.cil_model.specs.declared.place.Place.{Place}
 use Rattle.cil_model.specs.declared.place.Place.TheVariants as places
-use Rattle.check_driver.specs.Ranges.{Has, one, full, excludes_zero, is_zero}
+use Rattle.check_driver.specs.Ranges.{Has, one, full, is_zero}
 use Rattle.check_driver.specs.Typing.{operands, is_return, lacks_argument, height_after, breaks}
 use Rattle.check_driver.specs.UnitFile.{is_other_call}
-use Rattle.check_driver.specs.Verdicts.{State, combined, after_reached, is_assert, shows}
+use Rattle.check_driver.specs.Verdicts.{combined, after_reached, is_assert, shows}
 use Rattle.check_driver.specs.declared.range.Range.{Range}
-use Rattle.check_driver.proofs.RangeSoundness.{has_one, has_full, has_sum, has_less, has_equal, no_zero, only_zero}
+use Rattle.check_driver.proofs.RangeSoundness.{Has-one, Has-full, Has-sum, Has-less, Has-equal, excludes_zero-true, is_zero-true}
 
 -- The value is a number of the range.
 abbrev pub Holds : Range → Value → Type 0
@@ -35,6 +35,7 @@ StackHolds [] [] = Unit {0}
 StackHolds (r ∷ rs) (v ∷ vs) = Holds r v × StackHolds rs vs
 StackHolds _ _ = ⊥
 
+-- There are as many values as ranges.
 same_height : (known : List Range) (stack : List Value) → StackHolds known stack → length known ≡ length stack
 same_height [] [] holds = refl
 same_height (r ∷ known) (v ∷ stack) holds = ap suc (same_height known stack holds.1)
@@ -52,9 +53,11 @@ pub record Goes (op : Op) (i : Instr) (f : Frame) (heap : Heap) (effects : List 
 
 -- ---- arguments
 
+-- Each place is int32.
 abbrev pub AllInts : List Place → Type 0
 AllInts args = AllByRecursion (λ place. place ≡ places.Int) args
 
+-- The value is an int32.
 abbrev IsInt : Value → Type 0
 IsInt v = (n : ℤ) × (v ≡ values.Int n) × FitsSigned w32 n
 
@@ -81,10 +84,10 @@ abbrev Gives : BinOp → Range → Range → ℤ → ℤ → Type 0
 Gives operator a b m n = (k : ℤ) × (operated operator m n ≡ Some (Ok k)) × Has (combined operator a b) k
 
 operator_gives : (operator : BinOp) (bytes : List ℕ) (a b : Range) (m n : ℤ) → SpellsBin operator bytes → Has a m → Has b n → Gives operator a b m n
-operator_gives operators.Add bytes a b m n spelled hasM hasN = (wrap32 (m +ℤ n), refl, has_sum a b m n hasM hasN)
-operator_gives operators.Ceq bytes a b m n spelled hasM hasN = (truth (int_eq m n), refl, has_equal a b m n hasM hasN)
-operator_gives operators.Cgt bytes a b m n spelled hasM hasN = (truth (int_lt n m), refl, has_less b a n m hasN hasM)
-operator_gives operators.Clt bytes a b m n spelled hasM hasN = (truth (int_lt m n), refl, has_less a b m n hasM hasN)
+operator_gives operators.Add bytes a b m n spelled hasM hasN = (wrap32 (m +ℤ n), refl, Has-sum a b m n hasM hasN)
+operator_gives operators.Ceq bytes a b m n spelled hasM hasN = (truth (int_eq m n), refl, Has-equal a b m n hasM hasN)
+operator_gives operators.Cgt bytes a b m n spelled hasM hasN = (truth (int_lt n m), refl, Has-less b a n m hasN hasM)
+operator_gives operators.Clt bytes a b m n spelled hasM hasN = (truth (int_lt m n), refl, Has-less a b m n hasM hasN)
 operator_gives _ bytes a b m n spelled hasM hasN = absurd spelled
 
 binary_goes : (operator : BinOp) (bytes : List ℕ) (i : Instr) (f : Frame) (heap : Heap) (known : List Range) (stack : List Value)
@@ -106,12 +109,12 @@ binary_goes operator bytes i f heap known stack spelled holds tall = absurd (gri
 -- A range of a number that is not 0 has more than 0.
 more_than_zero : (r : Range) (n : ℤ) → Has r n → int_eq n (pos 0) ≡ false → is_zero r ≡ false
 more_than_zero r n has other =
-    false_from_ne_true (is_zero r) (λ zero_alone. not_from_Decides (int_eq n (pos 0)) (Decides-int_eq n (pos 0)) other (only_zero r n has zero_alone))
+    false_from_ne_true (is_zero r) (λ zero_alone. not_from_Decides (int_eq n (pos 0)) (Decides-int_eq n (pos 0)) other (is_zero-true r n has zero_alone))
 
 asserts_goes : (number : ℕ) (i : Instr) (f : Frame) (heap : Heap) (known : List Range) (stack : List Value)
     → StackHolds known stack → 1 ≤ length stack → shows (Some known) ≡ true → Goes (ops.Call number) i f heap (asserts i f heap stack) known stack
 asserts_goes number i f heap (r ∷ known) (values.Int n ∷ stack) holds tall shown =
-    let other : int_eq n (pos 0) ≡ false = no_zero r n holds.0 shown in
+    let other : int_eq n (pos 0) ≡ false = excludes_zero-true r n holds.0 shown in
     let open_range : is_zero r ≡ false = more_than_zero r n holds.0 other in
     record {
       stack = stack;
@@ -162,7 +165,7 @@ effects_go (ops.LoadArg n) bytes i f heap args limit known spelled passes calls 
       ranges = full ∷ known;
       goes = rw there.1 refl;
       behind = refl;
-      holds = (has_full there.0 there.2, holds);
+      holds = (Has-full there.0 there.2, holds);
       height = omega arith;
     }
 effects_go (ops.Const n) bytes i f heap args limit known spelled passes calls typed shown ints fit holds =
@@ -171,7 +174,7 @@ effects_go (ops.Const n) bytes i f heap args limit known spelled passes calls ty
       ranges = one n ∷ known;
       goes = refl;
       behind = refl;
-      holds = (has_one n, holds);
+      holds = (Has-one n, holds);
       height = omega arith;
     }
 effects_go (ops.Bin operator) bytes i f heap args limit known spelled passes calls typed shown ints fit holds =
