@@ -1,5 +1,5 @@
 -- What a typed instruction does to values that are within the known ranges.
-use Rattle.std.proofs.Common.{◌≡◌, ℕ, zero, suc, ◌+◌, ◌-◌, ◌<◌, ◌≤◌, ◌==◌, ℤ, pos, ◌+ℤ◌, int_lt, int_eq, FitsSigned, Bool, true, false, not, ◌||◌, nat_lt, List, [], ◌∷◌, length, slice_get, Some, Ok, refl, ap, subst, arith, w32, true≢false, ltb-false, ltb-true}
+use Rattle.std.proofs.Common.{◌≡◌, ℕ, zero, suc, ◌<◌, ◌≤◌, ◌==◌, ℤ, pos, ◌+ℤ◌, int_lt, int_eq, FitsSigned, Bool, true, false, ◌||◌, nat_lt, List, [], ◌∷◌, length, slice_get, Some, Ok, refl, ap, subst, arith, w32, true≢false, ltb-false, ltb-true}
 use Rattle.std.specs.List.{AllByRecursion}
 use Rattle.std.proofs.lemmas.Bool.{or_parts, false_from_ne_true, not-false}
 use Rattle.std.proofs.lemmas.Bool.Decides.{Decides-int_eq, not_from_Decides}
