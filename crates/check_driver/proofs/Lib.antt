@@ -21,3 +21,4 @@ pub mod UnitAgain
 pub mod UnitBytes
 pub mod UnitTaken
 pub mod Writings
+pub mod Answering

@@ -38,7 +38,7 @@ verdicts_below instrs n (o ∷ offsets) (lt, h) = (lt, verdicts_below instrs n o
 pub verdicts_near : (unit : MethodUnit) → IsBuilt unit → All (λ v. v.at < 65536) (verdicts unit)
 verdicts_near unit built =
     All-from_recursion (λ v. v.at < 65536) (verdicts unit) (verdicts_below unit.instrs 65536 (obligations unit.instrs)
-    (weaker (length unit.code) 65536 (obligations unit.instrs) built.code_length (obligations_below 0 unit.instrs unit.code built.code)))
+    (weaker (0 + length unit.code) 65536 (obligations unit.instrs) (omega (arith, built.code_length)) (obligations_below 0 unit.instrs unit.code built.code)))
 
 pub verdicts_few : (unit : MethodUnit) → IsBuilt unit → length (verdicts unit) ≤ 65536
-verdicts_few unit built = omega (arith, length-map (verdict unit.instrs) (obligations unit.instrs), obligations_few unit.instrs, built.few)
+verdicts_few unit built = simp length-map (omega (arith, obligations_few unit.instrs, built.few))

@@ -23,8 +23,8 @@ retold interrupts.NoMemory interrupts.CannotWrite h = absurd cc
 
 -- A text that is interrupted behind another one is a front of all that begins with both.
 pub writes_stop : {X Y : Type 0} (e : Interrupt) (old mid new : Option (List ℕ)) (f0 f1 f2 : ℕ) (before text whole : List ℕ)
-    → mid ≡ appended old before → Kept f0 f1 → Writes {X} (Err e) (change mid new f1 f2) text → IsFront (before ++ text) whole
-    → Writes {Y} (Err e) (change old new f0 f2) whole
+    → mid ≡ appended old before → Kept f0 f1 → Writes {X = X} (Err e) (change mid new f1 f2) text → IsFront (before ++ text) whole
+    → Writes {X = Y} (Err e) (change old new f0 f2) whole
 writes_stop {X} {Y} e old mid new f0 f1 f2 before text whole so_far kept w inside = record {
   whole = tt;
   front = AppendsFront-front old new (before ++ text) whole (AppendsFront-after old mid new before text so_far w.front) inside;
@@ -43,11 +43,11 @@ joined_front lines k line lt at =
     (joined (drop (suc k) lines), text ∙ sym (append_assoc (joined (take k lines)) line.items (joined (drop (suc k) lines))))
 
 -- Nothing was written.
-pub writes_nothing : {X : Type 0} (o : Option (List ℕ)) (f : ℕ) (text : List ℕ) → Writes {X} (Err interrupts.NoMemory) (change o o f f) text
+pub writes_nothing : {X : Type 0} (o : Option (List ℕ)) (f : ℕ) (text : List ℕ) → Writes {X = X} (Err interrupts.NoMemory) (change o o f f) text
 writes_nothing o f text = record { whole = tt; front = AppendsFront-none o o text refl; cause = λ is. absurd cc; kept = Kept-refl f }
 
 -- The same interruption, where a call hands it on as it came.
-pub writes_on : {X Y : Type 0} (e : Interrupt) (sink : Change) (text : List ℕ) → Writes {X} (Err e) sink text → Writes {Y} (Err e) sink text
+pub writes_on : {X Y : Type 0} (e : Interrupt) (sink : Change) (text : List ℕ) → Writes {X = X} (Err e) sink text → Writes {X = Y} (Err e) sink text
 writes_on {X} {Y} e sink text w = record { whole = tt; front = w.front; cause = λ is. w.cause (retold {X = Y} {Y = X} e interrupts.CannotWrite is); kept = w.kept }
 
 -- ---- answers
@@ -91,7 +91,7 @@ gives_error status line (Err e) o f err is w = record {
 
 -- A report was interrupted.
 pub gives_report_stop : {X : Type 0} (text : List ℕ) (proved : Bool) (i : Interrupt) (out : Change) (e : Option (List ℕ)) (g : ℕ)
-    → Writes {X} (Err i) out text → Gives (report_answer text proved) (Err i) out (change e e g g)
+    → Writes {X = X} (Err i) out text → Gives (report_answer text proved) (Err i) out (change e e g g)
 gives_report_stop {X} text proved i out e g w = record {
   status = tt;
   out_all = tt;

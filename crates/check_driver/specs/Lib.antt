@@ -10,3 +10,4 @@ pub mod Expected
 pub mod Reach
 pub mod UnitSpelling
 pub mod Outcome
+pub mod SingleUnit

@@ -15,5 +15,5 @@ returns-in_err-put_line g c =
     (written c.args.sink.now) (written c.loop-line.sink) (written c.put_line.new.sink)
     (faults c.args.sink.now) (faults c.loop-line.sink) (faults c.put_line.new.sink)
     (joined (take c.loop-line.line-index lines)) line.items (joined lines)
-    c.loop-line.invariant.so_far c.loop-line.invariant.kept ?
+    c.loop-line.invariant.so_far c.loop-line.invariant.kept (rw c.deref.ensures.value at c.in_err-put_line.ensures)
     (joined_front lines c.loop-line.line-index line c.loop-line-test.true c.line-item.is))
