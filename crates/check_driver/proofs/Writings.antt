@@ -1,5 +1,5 @@
 -- How texts that are written follow one another, and what answers they make.
-use Rattle.std.proofs.Common.{◌≡◌, ℕ, suc, ◌+◌, ◌<◌, Bool, true, false, cond, List, [], ◌∷◌, ◌++◌, length, get_or, take, drop, Option, Result, Ok, Err, Vec, Global, refl, sym, ap, ◌∙◌, append_assoc, append-nil, take-append-drop, add-one, inl, inr}
+use Rattle.std.proofs.Common.{◌≡◌, ℕ, suc, ◌+◌, ◌<◌, Bool, true, false, cond, List, [], ◌∷◌, ◌++◌, length, get_or, take, drop, Option, Result, Ok, Err, Vec, Global, refl, sym, ap, subst, ◌∙◌, append_assoc, append-nil, take-append-drop, add-one, inl, inr}
 use Rattle.std.specs.Prelude.{IfOk, OnOk, IsErrOf}
 use Rattle.std.specs.List.{flat_map}
 use Rattle.std.proofs.Math.Seq.{drop-cons}
@@ -116,3 +116,8 @@ gives_report text proved x status out e g is w = record {
   out_kept = w.kept;
   err_kept = Kept-refl g;
 }
+
+-- The same for a line that was made as it had to be.
+pub gives_line : (status : ℕ) (made line : List ℕ) (r : Result ℕ Interrupt) (o : Option (List ℕ)) (f : ℕ) (err : Change)
+    → made ≡ line → IfOk r (λ given. given ≡ status) → Writes r err made → Gives (error_answer status line) r (change o o f f) err
+gives_line status made line r o f err e is w = gives_error status line r o f err is (subst (λ (t : List ℕ). Writes r err t) e w)

@@ -11,6 +11,17 @@ pub enum Command {
     Unit(u32),
 }
 
+impl Command {
+    /// The place of the word that names its file.
+    pub fn file(self) -> u32
+        ensures { result ≡ file_place self }
+    {
+        match self {
+            Command::Unit(file) => file,
+        }
+    }
+}
+
 /// Whether a word may name a file: it is not empty and does not begin with `-`.
 fn is_file_word(word: &str) -> bool
     ensures { result ≡ is_file_word word.now }

@@ -15,7 +15,7 @@ ghost use Rattle.check_driver.specs.Verdicts.{verdicts, all_proved};
 ghost use Rattle.check_driver.specs.Words.{command_of};
 ghost use Rattle.check_driver.specs.Writing.{Writes, change, joined};
 
-use crate::command::{Command, parse_words};
+use crate::command::parse_words;
 use crate::errors::{
     NO_MEMORY, UNWRITTEN, USAGE, fault_at, fault_text, missing_line, refused_line, unread_line,
 };
@@ -167,8 +167,9 @@ fn answer_words<F: Files, O: Sink, E: Sink>(
 {
     match parse_words(words) {
         None => answer_error(alloc, 2, USAGE, err),
-        Some(Command::Unit(file)) => {
-            answer_unit_file(alloc, words[file as usize].as_str(), files, out, err)
+        Some(command) => {
+            let name = words[command.file() as usize].as_str();
+            answer_unit_file(alloc, name, files, out, err)
         }
     }
 }

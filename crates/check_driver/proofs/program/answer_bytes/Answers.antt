@@ -1,17 +1,14 @@
-use Rattle.std.proofs.Common.{rules, ◌≡◌, ◌≢◌, ◌⊎◌, ◌<◌, ◌≤◌, ◌↔◌, List, ℕ, length, map, Option, IfOk, None, ◌+◌, ◌-◌, ◌*◌, ◌/◌, ◌%◌, Bool, true, false, nat_eq, nat_lt, [], ◌∷◌, ◌++◌, slice_index_or, slice_set, bit_and, bit_or, Fits, w8, w32, w64, Bor, MutBor}
-use Rattle.std.specs.String.{string_bytes}
-use Rattle.cc_base.specs.Counts.{Rose, Kept}
-use Rattle.cc_base.specs.Files.{Held}
-use Rattle.check_driver.specs.Expected.{AreTold, IsUnder, expected, unread_line, file_of, error_answer, unit_answer, bytes_answer, unit_file_answer}
-use Rattle.check_driver.specs.Outcome.{Gives, GivesOrUnread, Leaves}
-use Rattle.check_driver.specs.Text.{unit_report}
-use Rattle.check_driver.specs.UnitFile.{first_unit_fault}
-use Rattle.check_driver.specs.UnitSpelling.{IsBuilt}
-use Rattle.check_driver.specs.Verdicts.{verdicts, all_proved}
-use Rattle.check_driver.specs.Words.{command_of}
-use Rattle.check_driver.specs.Writing.{Writes, change, joined}
+use Rattle.std.proofs.Common.{◌≡◌, ◌∙◌}
+use Rattle.std.specs.Prelude.{codes}
+use Rattle.check_driver.specs.Expected.{refused_line}
+use Rattle.check_driver.proofs.Answering.{too_large}
+use Rattle.check_driver.proofs.Writings.{gives_line}
 use Rattle.check_driver.proofs.program.answer_bytes.Goals as goal
 
--- src/program.rt:118:9
 pub returns-then-bytes-ge-READ_LIMIT : goal.returns-then-bytes-ge-READ_LIMIT
-returns-then-bytes-ge-READ_LIMIT g c = ?
+returns-then-bytes-ge-READ_LIMIT g c =
+    let line = refused_line c.args.name.now (codes "file too large") 0x04000000 in
+    let made : c.deref.result.now ≡ line = c.deref.ensures.value ∙ c.in_ok-line.ensures in
+    rw (too_large c.args.name.now c.args.bytes.now c.if-bytes-ge-READ_LIMIT.true)
+        (gives_line 5 c.deref.result.now line c.answer_error.result
+        (g.O.Sink.written c.args.out.now) (g.O.Sink.faults c.args.out.now) _ made c.answer_error.ensures.status c.answer_error.ensures.written)

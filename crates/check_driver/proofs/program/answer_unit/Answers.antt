@@ -1,17 +1,16 @@
-use Rattle.std.proofs.Common.{rules, ◌≡◌, ◌≢◌, ◌⊎◌, ◌<◌, ◌≤◌, ◌↔◌, List, ℕ, length, map, Option, IfOk, None, ◌+◌, ◌-◌, ◌*◌, ◌/◌, ◌%◌, Bool, true, false, nat_eq, nat_lt, [], ◌∷◌, ◌++◌, slice_index_or, slice_set, bit_and, bit_or, Fits, w8, w32, w64, Bor, MutBor}
-use Rattle.std.specs.String.{string_bytes}
-use Rattle.cc_base.specs.Counts.{Rose, Kept}
-use Rattle.cc_base.specs.Files.{Held}
-use Rattle.check_driver.specs.Expected.{AreTold, IsUnder, expected, unread_line, file_of, error_answer, unit_answer, bytes_answer, unit_file_answer}
-use Rattle.check_driver.specs.Outcome.{Gives, GivesOrUnread, Leaves}
-use Rattle.check_driver.specs.Text.{unit_report}
+use Rattle.std.proofs.Common.{◌≡◌, ◌∙◌, Some}
+use Rattle.check_driver.specs.Expected.{refused_line, fault_text, fault_at}
 use Rattle.check_driver.specs.UnitFile.{first_unit_fault}
-use Rattle.check_driver.specs.UnitSpelling.{IsBuilt}
-use Rattle.check_driver.specs.Verdicts.{verdicts, all_proved}
-use Rattle.check_driver.specs.Words.{command_of}
-use Rattle.check_driver.specs.Writing.{Writes, change, joined}
+use Rattle.check_driver.proofs.Writings.{gives_line}
 use Rattle.check_driver.proofs.program.answer_unit.Goals as goal
 
--- src/program.rt:79:1
 pub returns-in_ok-line-in-Err-Bad : goal.returns-in_ok-line-in-Err-Bad
-returns-in_ok-line-in-Err-Bad g c = ?
+returns-in_ok-line-in-Err-Bad g c =
+    let name = c.args.name.now in
+    let fault = c.in-Err-Bad.fault in
+    let made : c.deref.result.now ≡ refused_line name (fault_text fault) (fault_at fault) =
+        c.deref.ensures.value ∙ (rw (c.fault_text.ensures, c.fault_at.ensures) at c.in_ok-line-in-Err-Bad.ensures) in
+    let first : first_unit_fault c.args.bytes.now ≡ Some fault = rw c.in-Err-Bad.field-0-is at c.in-Err-Bad.ensures.exact in
+    rw first
+        (gives_line 5 c.deref.result.now (refused_line name (fault_text fault) (fault_at fault)) c.answer_error.result
+        (g.O.Sink.written c.args.out.now) (g.O.Sink.faults c.args.out.now) _ made c.answer_error.ensures.status c.answer_error.ensures.written)

@@ -1,21 +1,21 @@
-use Rattle.std.proofs.Common.{rules, ◌≡◌, ◌≢◌, ◌⊎◌, ◌<◌, ◌≤◌, ◌↔◌, List, ℕ, length, map, Option, IfOk, None, ◌+◌, ◌-◌, ◌*◌, ◌/◌, ◌%◌, Bool, true, false, nat_eq, nat_lt, [], ◌∷◌, ◌++◌, slice_index_or, slice_set, bit_and, bit_or, Fits, w8, w32, w64, Bor, MutBor}
+use Rattle.std.proofs.Common.{◌≡◌, ◌∙◌, refl, sym, ap, inl, map, String, Global}
 use Rattle.std.specs.String.{string_bytes}
-use Rattle.cc_base.specs.Counts.{Rose, Kept}
-use Rattle.cc_base.specs.Files.{Held}
-use Rattle.check_driver.specs.Expected.{AreTold, IsUnder, expected, unread_line, file_of, error_answer, unit_answer, bytes_answer, unit_file_answer}
-use Rattle.check_driver.specs.Outcome.{Gives, GivesOrUnread, Leaves}
-use Rattle.check_driver.specs.Text.{unit_report}
-use Rattle.check_driver.specs.UnitFile.{first_unit_fault}
-use Rattle.check_driver.specs.UnitSpelling.{IsBuilt}
-use Rattle.check_driver.specs.Verdicts.{verdicts, all_proved}
-use Rattle.check_driver.specs.Words.{command_of}
-use Rattle.check_driver.specs.Writing.{Writes, change, joined}
+use Rattle.check_driver.specs.Expected.{USAGE, word_at}
+use Rattle.check_driver.proofs.Answering.{any_held, words_answer, word_is, no_command_answer}
+use Rattle.check_driver.proofs.Writings.{gives_line}
 use Rattle.check_driver.proofs.program.answer_words.Goals as goal
 
--- src/program.rt:153:1
 pub returns-in-None-clause-answer : goal.returns-in-None-clause-answer
-returns-in-None-clause-answer g c = ?
+returns-in-None-clause-answer g c =
+    let h = any_held (g.F.Files.held c.args.files.now) in
+    (h.0, h.1, inl (rw (no_command_answer (map (λ (word : String Global). string_bytes word) c.args.words.now) h.0 c.in-None.ensures.command)
+        (gives_line 2 USAGE USAGE c.answer_error.result _ _ _ refl c.answer_error.ensures.status c.answer_error.ensures.written)))
 
--- src/program.rt:153:1
-pub returns-in-Some-Unit-clause-answer : goal.returns-in-Some-Unit-clause-answer
-returns-in-Some-Unit-clause-answer g c = ?
+pub returns-in-Some-clause-answer : goal.returns-in-Some-clause-answer
+returns-in-Some-clause-answer g c =
+    let words = map (λ (word : String Global). string_bytes word) c.args.words.now in
+    let answer = c.answer_unit_file.ensures.answer in
+    let at_file : word_at words c.file.result ≡ c.as_str.result.now =
+        word_is c.args.words.now c.file.result c.index-words-file.result ? c.index-words-file.is ∙ sym c.as_str.ensures.value in
+    words_answer (g.F.Files.held c.args.files.now) words c.in-Some.command c.as_str.result.now answer.0 _ _ _ _
+        c.in-Some.ensures.command (rw c.file.ensures at at_file) answer.1 answer.2
