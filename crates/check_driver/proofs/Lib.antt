@@ -7,6 +7,7 @@ pub mod FieldsTaken
 pub mod Following
 pub mod Instructions
 pub mod Judging
+pub mod PrintedSafe
 pub mod RangeSoundness
 pub mod RangeSums
 pub mod ReadUnit
