@@ -1,3 +1,4 @@
+pub mod Answering
 pub mod Decoded
 pub mod EffectSoundness
 pub mod Faultless
@@ -22,4 +23,3 @@ pub mod UnitAgain
 pub mod UnitBytes
 pub mod UnitTaken
 pub mod Writings
-pub mod Answering
