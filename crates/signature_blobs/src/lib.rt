@@ -1,0 +1,11 @@
+//! Signatures of .NET metadata (ECMA-335, II.23.2): what a blob says of a method, of its locals and of
+//! the type that a generic method is called with.
+#![tactic(auto)]
+
+mod fault;
+mod number;
+mod places;
+
+pub use fault::SigFault;
+pub use number::compressed;
+pub use places::Places;
