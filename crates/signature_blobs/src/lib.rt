@@ -5,6 +5,7 @@
 mod fault;
 mod number;
 mod places;
+mod types;
 
 pub use fault::SigFault;
 pub use number::compressed;
