@@ -1,5 +1,6 @@
 -- Compressed numbers (II.23.2).
-use Rattle.std.specs.Prelude.{ℕ, ◌+◌, ◌^◌, ◌%◌, List, length, drop, slice_index, Result, Ok, Err, nat_lt, if◌then◌else◌}
+use Rattle.std.specs.Prelude.{ℕ, ◌+◌, ◌^◌, ◌%◌, List, length, drop, slice_index, Option, Some, None, Result, Ok, Err, nat_lt, if◌then◌else◌}
+use Rattle.signature_blobs.specs.Reading.{Reading, known, ◌>>=◌}
 use Rattle.byteorder.specs.Endian.{big_number}
 use Rattle.signature_blobs.specs.declared.fault.SigFault.{SigFault}
 use Rattle.signature_blobs.specs.declared.fault.SigFault.TheVariants.{Short, Form}
@@ -24,3 +25,9 @@ unfoldable pub compressed_at : List ℕ → ℕ → Result (ℕ × ℕ) SigFault
 compressed_at blob at =
     if nat_lt at (length blob) then compressed_from (slice_index blob at) blob at
     else Err (Short (length blob))
+
+-- A number of parameters or locals, and the place after it. The profile has at most 128 of them.
+unfoldable pub count_at : List ℕ → ℕ → Reading (ℕ × ℕ)
+count_at blob at = do
+  count ← known (compressed_at blob at)
+  if nat_lt 128 count.0 then Ok None else Ok (Some count)

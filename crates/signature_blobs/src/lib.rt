@@ -3,10 +3,16 @@
 #![tactic(auto)]
 
 mod fault;
+mod local;
+mod method;
 mod number;
 mod places;
+mod spec;
 mod types;
 
 pub use fault::SigFault;
+pub use local::{LocalSig, local_sig};
+pub use method::{MethodSig, SigTypes, Signature, method_sig};
 pub use number::compressed;
 pub use places::Places;
+pub use spec::spec_sig;

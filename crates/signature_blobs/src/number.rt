@@ -1,7 +1,7 @@
 //! Bytes and compressed numbers at a place in a blob.
 
-ghost use Rattle.std.specs.Prelude.{◌≡◌, ◌+◌, ◌≤◌, length, drop, Ok, Err, Result};
-ghost use Rattle.signature_blobs.specs.Numbers.{low_bits, compressed_at};
+ghost use Rattle.std.specs.Prelude.{◌≡◌, ◌+◌, ◌≤◌, length, IfOk, IfSome};
+ghost use Rattle.signature_blobs.specs.Numbers.{low_bits, compressed_at, count_at};
 ghost use Rattle.signature_blobs.specs.Reading.{byte_at};
 
 use crate::fault::SigFault;
@@ -59,4 +59,19 @@ pub fn compressed(blob: &[u8], at: u32) -> Result<(u32, u32), SigFault>
         0xc0..=0xdf => four_bytes(blob, at),
         0xe0..=0xff => Err(SigFault::Form(at)),
     }
+}
+
+/// A number of parameters or locals at a place, and the place after it. None where they are more than
+/// a signature keeps.
+#[tactic(auto, unfolding(crate::specs::Numbers::count_at))]
+pub fn count_at(blob: &[u8], at: u32) -> Result<Option<(u32, u32)>, SigFault>
+    requires { length blob.now ≤ 2147483647 }
+    ensures exact { result ≡ count_at blob.now at }
+    ensures room { IfOk result (λ found. IfSome found (λ count. count.0 ≤ 128)) }
+{
+    let (count, after) = compressed(blob, at)?;
+    if count > 128 {
+        return Ok(None);
+    }
+    Ok(Some((count, after)))
 }
