@@ -24,7 +24,7 @@ const DEFAULT: u8 = 0;
 /// The greatest number of a convention.
 const LAST_CONVENTION: u8 = 5;
 
-/// What a method takes and gives. It has a fixed size, 144 bytes.
+/// What a method takes and gives. It takes 130 bytes.
 #[derive(Drop)]
 pub struct Signature {
     /// The type of the result.
@@ -42,7 +42,7 @@ pub enum SigTypes {
     Other,
 }
 
-/// The signature of a method. It has a fixed size, 160 bytes.
+/// The signature of a method. It takes 133 bytes.
 #[derive(Drop)]
 pub struct MethodSig {
     /// The method has a `this`.

@@ -5,16 +5,13 @@ ghost use Rattle.std.specs.Prelude.{◌≡◌, ◌<◌, [], ◌∷◌, ◌++◌,
 use cil_model::Place;
 use std::marker::Model;
 
-/// The greatest number of parameters or locals that a signature keeps.
-pub const PLACE_LIMIT: usize = 128;
-
 /// At most 128 places, which contracts see as the list of them.
 ///
-/// They stand in the value itself, 136 bytes of it, so making one takes no memory.
+/// They stand in the value itself, which has 129 bytes, so making one takes no memory.
 #[derive(Drop)]
 pub struct Places {
     items: [Place; 128],
-    len: usize,
+    len: u8,
 }
 
 impl Model for Places {
@@ -43,7 +40,7 @@ impl Places {
     pub fn as_slice(&self) -> &[Place]
         ensures { result.now ≡ self.now }
     {
-        &self.items[..self.len]
+        &self.items[..usize::from(self.len)]
     }
 
     /// The same places again.
@@ -61,7 +58,7 @@ impl Places {
         requires { length self.old < 128 }
         ensures { self.new ≡ self.old ++ place ∷ [] }
     {
-        self.items[self.len] = place;
+        self.items[usize::from(self.len)] = place;
         self.len += 1;
     }
 }
