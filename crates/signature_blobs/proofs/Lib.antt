@@ -1,1 +1,4 @@
 pub mod Loop
+pub mod Standing
+pub mod NumberLaws
+pub mod TypeLaws

@@ -11,20 +11,13 @@ use Rattle.signature_blobs.specs.declared.local.LocalSig.{LocalSig}
 use Rattle.signature_blobs.specs.declared.local.LocalSig.TheVariants as locals
 use Rattle.signature_blobs.specs.Reading.{Reading, known, ◌>>=◌, made}
 use Rattle.signature_blobs.specs.Numbers.{compressed_at, count_at}
+use Rattle.signature_blobs.specs.Spelling.{has_this, is_generic}
 use Rattle.signature_blobs.specs.Types.{type_at, result_at, types_at}
 
 -- What is read by the first byte, which tells what a blob is.
 abbrev pub by_first : {A : Type 0} → List ℕ → (ℕ → Result A SigFault) → Result A SigFault
 by_first [] read = Err (Short 0)
 by_first (first ∷ rest) read = read first
-
--- The bit HASTHIS of a convention byte: the method has a `this`.
-abbrev pub has_this : ℕ → Bool
-has_this convention = not (bit_and convention 0x20 == 0)
-
--- The bit GENERIC: the method has type parameters.
-abbrev pub is_generic : ℕ → Bool
-is_generic convention = not (bit_and convention 0x10 == 0)
 
 -- The place after the convention byte and, of a generic method, the number of its type parameters.
 unfoldable pub parameters_at : List ℕ → Bool → Result ℕ SigFault
