@@ -2,3 +2,4 @@ pub mod Loop
 pub mod Standing
 pub mod NumberLaws
 pub mod TypeLaws
+pub mod SignatureLaws
