@@ -1,5 +1,6 @@
 -- A compressed number is read where one of its spellings stands, and only there.
-use Rattle.std.proofs.Common.{◌≡◌, ℕ, zero, suc, ◌+◌, ◌*◌, ◌%◌, ◌^◌, ◌<◌, ◌≤◌, ◌⊎◌, Bool, true, false, cond, ltb, List, [], ◌∷◌, ◌++◌, length, get_or, drop, slice_index, Result, Ok, Err, refl, sym, ap, ap₂, subst, ◌-◌, ◌/◌, ◌∙◌, inl, inr, arith, length-drop}
+use Rattle.std.proofs.Common.{◌≡◌, ℕ, ◌+◌, ◌*◌, ◌%◌, ◌^◌, ◌<◌, ◌≤◌, ◌⊎◌, Bool, true, false, cond, ltb, List, [], ◌∷◌, ◌++◌, length, drop, slice_index, Result, Ok, Err, refl, sym, ap, ap₂, subst, ◌-◌, ◌/◌, ◌∙◌, inl, inr, arith}
+use Rattle.std.specs.Prelude.{IfOk}
 use Rattle.std.proofs.lemmas.Bool.{cases_lt, ltb-true, ltb-false, lt-ltb, le-ltb}
 use Rattle.std.proofs.lemmas.List.{drop_more}
 use Rattle.byteorder.specs.Endian.{big_number, big_bytes}
@@ -7,7 +8,7 @@ use Rattle.signature_blobs.specs.declared.fault.SigFault.{SigFault}
 use Rattle.signature_blobs.specs.declared.fault.SigFault.TheVariants.{Short, Form}
 use Rattle.signature_blobs.specs.Numbers.{low_bits, compressed_from, compressed_at}
 use Rattle.signature_blobs.specs.Spelling.{Stands, SpellsNumber}
-use Rattle.signature_blobs.proofs.Standing.{byte_stands, join_stands, front_stands, back_stands, first_stands, ends_within}
+use Rattle.signature_blobs.proofs.Standing.{byte_stands, first_stands, ends_within}
 
 abbrev pub IsBytes : List ℕ → Type 0
 IsBytes bytes = (i : ℕ) → slice_index bytes i < 256
@@ -65,8 +66,8 @@ low_bits_are bits size blob at n after le e place = rw (le-ltb (length blob) (at
 low_bits_found : (bits size : ℕ) (blob : List ℕ) (at : ℕ) (found : ℕ × ℕ) → low_bits bits size blob at ≡ Ok found → (at + size ≤ length blob) × ((big_number size (drop at blob) % 2 ^ bits, at + size) ≡ found)
 low_bits_found bits size blob at found e =
     elim (chosen (ltb (length blob) (at + size)) (Err (Short (length blob))) (Ok (big_number size (drop at blob) % 2 ^ bits, at + size)) (Ok found) e) [
-      inl t ↦ absurd (let h = t.1 in cc)
-    | inr f ↦ (ltb-false _ _ f.0, ok_is _ _ f.1)
+      | inl t ↦ absurd (let h = t.1 in cc)
+      | inr f ↦ (ltb-false _ _ f.0, ok_is _ _ f.1)
     ]
 
 two_found : (blob : List ℕ) (at : ℕ) (found : ℕ × ℕ) → IsBytes blob → 0x80 ≤ slice_index blob at → slice_index blob at < 0xC0 → low_bits 14 2 blob at ≡ Ok found → Found blob at found
@@ -74,9 +75,11 @@ two_found blob at found fits low high e =
     let h = low_bits_found 14 2 blob at found e in
     let tail = two_stand blob at h.0 in
     let number : big_number 2 (drop at blob) ≡ slice_index blob at * 256 + slice_index blob (at + 1) = rw tail (omega arith) in
-    subst (Found blob at) h.1 (slice_index blob at ∷ slice_index blob (at + 1) ∷ [],
-    inr (inl (omega arith, rw number (pair_spells (slice_index blob at) (slice_index blob (at + 1)) low high (fits (at + 1))))),
-    record { place = refl; parts = tail })
+    subst (Found blob at) h.1 (
+      slice_index blob at ∷ slice_index blob (at + 1) ∷ [],
+      inr (inl (omega arith, rw number (pair_spells (slice_index blob at) (slice_index blob (at + 1)) low high (fits (at + 1))))),
+      record { place = refl; parts = tail },
+    )
 
 four_found : (blob : List ℕ) (at : ℕ) (found : ℕ × ℕ) → IsBytes blob → 0xC0 ≤ slice_index blob at → slice_index blob at < 0xE0 → low_bits 29 4 blob at ≡ Ok found → Found blob at found
 four_found blob at found fits low high e =
@@ -87,20 +90,22 @@ four_found blob at found fits low high e =
     let c = slice_index blob (at + 2) in
     let d = slice_index blob (at + 3) in
     let number : big_number 4 (drop at blob) ≡ slice_index blob at * 0x100_0000 + slice_index blob (at + 1) * 0x1_0000 + slice_index blob (at + 2) * 256 + slice_index blob (at + 3) = rw tail (omega arith) in
-    subst (Found blob at) h.1 (slice_index blob at ∷ slice_index blob (at + 1) ∷ slice_index blob (at + 2) ∷ slice_index blob (at + 3) ∷ [],
-    inr (inr (omega arith, rw number (four_spell a b c d low high (fits (at + 1)) (fits (at + 2)) (fits (at + 3))))),
-    record { place = refl; parts = tail })
+    subst (Found blob at) h.1 (
+      slice_index blob at ∷ slice_index blob (at + 1) ∷ slice_index blob (at + 2) ∷ slice_index blob (at + 3) ∷ [],
+      inr (inr (omega arith, rw number (four_spell a b c d low high (fits (at + 1)) (fits (at + 2)) (fits (at + 3))))),
+      record { place = refl; parts = tail },
+    )
 
 from_found : (blob : List ℕ) (at : ℕ) (found : ℕ × ℕ) → IsBytes blob → at < length blob → compressed_from (slice_index blob at) blob at ≡ Ok found → Found blob at found
 from_found blob at found fits lt e =
     let first = slice_index blob at in
     elim (cases_lt first 0x80) [
-      inl one ↦ subst (Found blob at) (ok_is _ _ (sym (from_one first blob at one) ∙ e)) (first ∷ [], inl (one, refl), byte_stands blob at first lt refl)
-    | inr more ↦ elim (cases_lt first 0xC0) [
-        inl two ↦ two_found blob at found fits more two (sym (from_two first blob at more two) ∙ e)
-      | inr more2 ↦ elim (cases_lt first 0xE0) [
-          inl four ↦ four_found blob at found fits more2 four (sym (from_four first blob at more2 four) ∙ e)
-        | inr past ↦ absurd (let h : ◌≡◌ {A = Result (ℕ × ℕ) SigFault} (Err (Form at)) (Ok found) = sym (rw (le-ltb first 0x80 more, le-ltb first 0xC0 more2, le-ltb first 0xE0 past) refl) ∙ e in cc)
+      | inl one ↦ subst (Found blob at) (ok_is _ _ (sym (from_one first blob at one) ∙ e)) (first ∷ [], inl (one, refl), byte_stands blob at first lt refl)
+      | inr more ↦ elim (cases_lt first 0xC0) [
+        | inl two ↦ two_found blob at found fits more two (sym (from_two first blob at more two) ∙ e)
+        | inr more2 ↦ elim (cases_lt first 0xE0) [
+          | inl four ↦ four_found blob at found fits more2 four (sym (from_four first blob at more2 four) ∙ e)
+          | inr past ↦ absurd (let h : ◌≡◌ {A = Result (ℕ × ℕ) SigFault} (Err (Form at)) (Ok found) = sym (rw (le-ltb first 0x80 more, le-ltb first 0xC0 more2, le-ltb first 0xE0 past) refl) ∙ e in cc)
         ]
       ]
     ]
@@ -109,8 +114,8 @@ pub number_found : (blob : List ℕ) (at n after : ℕ) → IsBytes blob → com
 unfolding compressed_at
 number_found blob at n after fits e =
     elim (chosen (ltb at (length blob)) (compressed_from (slice_index blob at) blob at) (Err (Short (length blob))) (Ok (n, after)) e) [
-      inl t ↦ from_found blob at (n, after) fits (ltb-true _ _ t.0) t.1
-    | inr f ↦ absurd (let h = f.1 in cc)
+      | inl t ↦ from_found blob at (n, after) fits (ltb-true _ _ t.0) t.1
+      | inr f ↦ absurd (let h = f.1 in cc)
     ]
 
 two_read : (blob : List ℕ) (at n after : ℕ) → n < 2 ^ 14 → Stands (big_bytes 2 (0x8000 + n)) blob at after → compressed_at blob at ≡ Ok (n, after)
@@ -142,3 +147,9 @@ number_read blob bytes at n after (inl one) stands =
     at_from n blob at first.0 first.1 ∙ from_one n blob at one.0 ∙ rw here.place refl
 number_read blob bytes at n after (inr (inl two)) stands = two_read blob at n after two.0 (subst (λ (t : List ℕ). Stands t blob at after) two.1 stands)
 number_read blob bytes at n after (inr (inr four)) stands = four_read blob at n after four.0 (subst (λ (t : List ℕ). Stands t blob at after) four.1 stands)
+
+-- the two laws of what a call answered
+pub compressed_found : (blob : List ℕ) (at : ℕ) (result : Result (ℕ × ℕ) SigFault) → IsBytes blob → result ≡ compressed_at blob at
+    → IfOk result (λ number. (bytes : List ℕ) × SpellsNumber number.0 bytes × Stands bytes blob at number.1)
+compressed_found blob at (Ok number) fits e = number_found blob at number.0 number.1 fits (sym e)
+compressed_found blob at (Err fault) fits e = tt

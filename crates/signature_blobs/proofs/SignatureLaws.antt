@@ -1,12 +1,11 @@
 -- A signature is read where a blob begins with one of its spellings, and only there.
-use Rattle.std.proofs.Common.{◌≡◌, ◌≢◌, ℕ, zero, suc, ◌+◌, ◌%◌, ◌<◌, ◌≤◌, ◌⊎◌, Bool, true, false, cond, eqb, ltb, List, [], ◌∷◌, ◌++◌, length, drop, slice_index, Option, Some, None, Result, Ok, Err, refl, sym, ap, ap₂, subst, ◌∙◌, inl, inr, arith}
+use Rattle.std.proofs.Common.{◌≡◌, ℕ, ◌+◌, ◌%◌, ◌<◌, ◌≤◌, Bool, true, false, cond, eqb, ltb, List, [], ◌∷◌, ◌++◌, length, drop, slice_index, Option, Some, None, Result, Ok, Err, refl, sym, ap, ap₂, subst, ◌∙◌, inl, inr, arith}
 use Rattle.std.specs.Prelude.{IfOk, IfSome}
 use Rattle.std.specs.List.{flat_map}
-use Rattle.std.proofs.lemmas.Bool.{ltb-true, ltb-false, lt-ltb, le-ltb, eqb-true, eqb-false, eq-eqb}
+use Rattle.std.proofs.lemmas.Bool.{ltb-false, le-ltb, eqb-true, eq-eqb}
 use Rattle.cil_model.specs.declared.place.Place.{Place}
-use Rattle.cil_model.specs.declared.place.Place.TheVariants.{Void}
 use Rattle.signature_blobs.specs.declared.fault.SigFault.{SigFault}
-use Rattle.signature_blobs.specs.declared.fault.SigFault.TheVariants.{Short, Form}
+use Rattle.signature_blobs.specs.declared.fault.SigFault.TheVariants.{Form}
 use Rattle.signature_blobs.specs.declared.method.MethodSig.{MethodSig}
 use Rattle.signature_blobs.specs.declared.method.Signature.{Signature}
 use Rattle.signature_blobs.specs.declared.method.SigTypes.{SigTypes}
@@ -18,9 +17,9 @@ use Rattle.signature_blobs.specs.Numbers.{compressed_at, count_at}
 use Rattle.signature_blobs.specs.Types.{type_at, result_at, types_at}
 use Rattle.signature_blobs.specs.Spelling.{Stands, Begins, SpellsNumber, SpellsTypeCount, SpellsCount, SpellsMethod, SpellsLocals, SpellsInstance, IfKnown, IfKnownLocals, type_bytes, has_this, is_generic}
 use Rattle.signature_blobs.specs.Signatures.{by_first, parameters_at, signature_at, as_types, types_of, method_signature, locals_at, as_locals, local_signature, argument_at, spec_signature}
-use Rattle.signature_blobs.proofs.Standing.{nothing_stands, byte_stands, join_stands, front_stands, back_stands, first_stands, whole_stands}
+use Rattle.signature_blobs.proofs.Standing.{nothing_stands, join_stands, front_stands, back_stands, first_stands, whole_stands}
 use Rattle.signature_blobs.proofs.NumberLaws.{IsBytes, chosen, number_found, number_read}
-use Rattle.signature_blobs.proofs.TypeLaws.{bind_known, known_is, some_is, type_found, type_read, result_found, result_read, AreFound, types_found, types_read}
+use Rattle.signature_blobs.proofs.TypeLaws.{bind_known, known_is, some_is, type_found, type_read, result_found, result_read, types_found, types_read}
 
 -- what a value was made of
 made_ok : {A B : Type 0} (f : A → B) (r : Result A SigFault) (y : B) → made f r ≡ Ok y → (x : A) × (r ≡ Ok x) × (f x ≡ y)
@@ -36,8 +35,8 @@ count_found blob at count fits e =
     let b = bind_known (known (compressed_at blob at)) (λ n. cond (ltb 128 n.0) (Ok None) (Ok (Some n))) count e in
     let number = number_found blob at b.0.0 b.0.1 fits (known_is _ _ b.1) in
     elim (chosen (ltb 128 b.0.0) (Ok None) (Ok (Some b.0)) (Ok (Some count)) b.2) [
-      inl t ↦ absurd (let h = t.1 in cc)
-    | inr f ↦ subst (λ (c : ℕ × ℕ). (bytes : List ℕ) × SpellsNumber c.0 bytes × Stands bytes blob at c.1 × (c.0 ≤ 128)) (some_is _ _ f.1) (number.0, number.1, number.2, ltb-false _ _ f.0)
+      | inl t ↦ absurd (let h = t.1 in cc)
+      | inr f ↦ subst (λ (c : ℕ × ℕ). (bytes : List ℕ) × SpellsNumber c.0 bytes × Stands bytes blob at c.1 × (c.0 ≤ 128)) (some_is _ _ f.1) (number.0, number.1, number.2, ltb-false _ _ f.0)
     ]
 
 count_read : (blob bytes : List ℕ) (at n after : ℕ) → SpellsNumber n bytes → n ≤ 128 → Stands bytes blob at after → count_at blob at ≡ Ok (Some (n, after))
@@ -144,10 +143,10 @@ types_found_of : (first : ℕ) (rest : List ℕ) (types : SigTypes) → IsBytes 
 unfolding types_of
 types_found_of first rest types fits e =
     elim (chosen (eqb (first % 16) 0) (made as_types (signature_at (first ∷ rest) (is_generic first))) (Ok Other) (Ok types) e) [
-      inl t ↦
-        let m = made_ok as_types (signature_at (first ∷ rest) (is_generic first)) types t.1 in
-        subst (λ (s : SigTypes). IfKnown s (λ signature. Begins (SpellsMethod (has_this first) (is_generic first) signature) (first ∷ rest))) m.2 (types_known first rest m.0 fits (eqb-true _ _ t.0) m.1)
-    | inr f ↦ subst (λ (s : SigTypes). IfKnown s (λ signature. Begins (SpellsMethod (has_this first) (is_generic first) signature) (first ∷ rest))) (value_is Other types f.1) tt
+      | inl t ↦
+          let m = made_ok as_types (signature_at (first ∷ rest) (is_generic first)) types t.1 in
+          subst (λ (s : SigTypes). IfKnown s (λ signature. Begins (SpellsMethod (has_this first) (is_generic first) signature) (first ∷ rest))) m.2 (types_known first rest m.0 fits (eqb-true _ _ t.0) m.1)
+      | inr f ↦ subst (λ (s : SigTypes). IfKnown s (λ signature. Begins (SpellsMethod (has_this first) (is_generic first) signature) (first ∷ rest))) (value_is Other types f.1) tt
     ]
 
 pub method_found : (blob : List ℕ) (method : MethodSig) → IsBytes blob → method_signature blob ≡ Ok method
@@ -156,10 +155,10 @@ unfolding method_signature
 method_found [] method fits e = absurd cc
 method_found (first ∷ rest) method fits e =
     elim (chosen (ltb 5 (first % 16)) (Err (Form 0)) (made (λ types. record { has_this = has_this first; generic = is_generic first; types = types }) (types_of (first ∷ rest) first)) (Ok method) e) [
-      inl t ↦ absurd (let h = t.1 in cc)
-    | inr f ↦
-        let m = made_ok (λ (types : SigTypes). record { has_this = has_this first; generic = is_generic first; types = types }) (types_of (first ∷ rest) first) method f.1 in
-        subst (λ (s : MethodSig). IfKnown s.types (λ signature. Begins (SpellsMethod s.has_this s.generic signature) (first ∷ rest))) m.2 (types_found_of first rest m.0 fits m.1)
+      | inl t ↦ absurd (let h = t.1 in cc)
+      | inr f ↦
+          let m = made_ok (λ (types : SigTypes). record { has_this = has_this first; generic = is_generic first; types = types }) (types_of (first ∷ rest) first) method f.1 in
+          subst (λ (s : MethodSig). IfKnown s.types (λ signature. Begins (SpellsMethod s.has_this s.generic signature) (first ∷ rest))) m.2 (types_found_of first rest m.0 fits m.1)
     ]
 
 pub method_read : (blob : List ℕ) (this generic : Bool) (signature : Signature) → Begins (SpellsMethod this generic signature) blob
@@ -212,10 +211,10 @@ unfolding local_signature
 local_found [] local fits e = absurd cc
 local_found (first ∷ rest) local fits e =
     elim (chosen (eqb first 0x07) (made as_locals (locals_at (first ∷ rest))) (Err (Form 0)) (Ok local) e) [
-      inl t ↦
-        let m = made_ok as_locals (locals_at (first ∷ rest)) local t.1 in
-        subst (λ (s : LocalSig). IfKnownLocals s (λ places. Begins (SpellsLocals places) (first ∷ rest))) m.2 (locals_known first rest m.0 fits (eqb-true _ _ t.0) m.1)
-    | inr f ↦ absurd (let h = f.1 in cc)
+      | inl t ↦
+          let m = made_ok as_locals (locals_at (first ∷ rest)) local t.1 in
+          subst (λ (s : LocalSig). IfKnownLocals s (λ places. Begins (SpellsLocals places) (first ∷ rest))) m.2 (locals_known first rest m.0 fits (eqb-true _ _ t.0) m.1)
+      | inr f ↦ absurd (let h = f.1 in cc)
     ]
 
 pub local_read : (blob : List ℕ) (places : List Place) → Begins (SpellsLocals places) blob → local_signature blob ≡ Ok (locals.Known places)
@@ -240,19 +239,19 @@ argument_found first rest place fits is e =
     let a = bind_known (cond (eqb n.0.0 1) (type_at (first ∷ rest) n.0.1) (Ok None)) (λ argument. Ok (Some argument.0)) place n.2 in
     let count = number_found (first ∷ rest) 1 n.0.0 n.0.1 fits (known_is (compressed_at (first ∷ rest) 1) n.0 n.1) in
     elim (chosen (eqb n.0.0 1) (type_at (first ∷ rest) n.0.1) (Ok None) (Ok (Some a.0)) a.1) [
-      inl t ↦
-        let found = type_found (first ∷ rest) n.0.1 a.0 t.1 in
-        let stand = join_stands count.0 (type_bytes a.0.0) (first ∷ rest) 1 n.0.1 a.0.1 count.2 found.1 in
-        subst (λ (p : Place). Begins (SpellsInstance p) (first ∷ rest)) (some_is a.0.0 place a.2)
-        (begins (SpellsInstance a.0.0) (first ∷ [] ++ (count.0 ++ type_bytes a.0.0)) (first ∷ rest) a.0.1
-        (record {
-          count = count.0;
-          one = subst (λ (k : ℕ). SpellsNumber k count.0) (eqb-true _ _ t.0) count.1;
-          value = found.0;
-          parts = ap (λ (b : ℕ). b ∷ [] ++ (count.0 ++ type_bytes a.0.0)) is;
-        })
-        (join_stands (first ∷ []) (count.0 ++ type_bytes a.0.0) (first ∷ rest) 0 1 a.0.1 (first_byte first rest) stand))
-    | inr f ↦ absurd (let h = f.1 in cc)
+      | inl t ↦
+          let found = type_found (first ∷ rest) n.0.1 a.0 t.1 in
+          let stand = join_stands count.0 (type_bytes a.0.0) (first ∷ rest) 1 n.0.1 a.0.1 count.2 found.1 in
+          subst (λ (p : Place). Begins (SpellsInstance p) (first ∷ rest)) (some_is a.0.0 place a.2)
+          (begins (SpellsInstance a.0.0) (first ∷ [] ++ (count.0 ++ type_bytes a.0.0)) (first ∷ rest) a.0.1
+          (record {
+            count = count.0;
+            one = subst (λ (k : ℕ). SpellsNumber k count.0) (eqb-true _ _ t.0) count.1;
+            value = found.0;
+            parts = ap (λ (b : ℕ). b ∷ [] ++ (count.0 ++ type_bytes a.0.0)) is;
+          })
+          (join_stands (first ∷ []) (count.0 ++ type_bytes a.0.0) (first ∷ rest) 0 1 a.0.1 (first_byte first rest) stand))
+      | inr f ↦ absurd (let h = f.1 in cc)
     ]
 
 pub spec_found : (blob : List ℕ) (place : Place) → IsBytes blob → spec_signature blob ≡ Ok (Some place) → Begins (SpellsInstance place) blob
@@ -260,8 +259,8 @@ unfolding spec_signature
 spec_found [] place fits e = absurd cc
 spec_found (first ∷ rest) place fits e =
     elim (chosen (eqb first 0x0A) (argument_at (first ∷ rest)) (Err (Form 0)) (Ok (Some place)) e) [
-      inl t ↦ argument_found first rest place fits (eqb-true _ _ t.0) t.1
-    | inr f ↦ absurd (let h = f.1 in cc)
+      | inl t ↦ argument_found first rest place fits (eqb-true _ _ t.0) t.1
+      | inr f ↦ absurd (let h = f.1 in cc)
     ]
 
 pub spec_read : (blob : List ℕ) (place : Place) → Begins (SpellsInstance place) blob → spec_signature blob ≡ Ok (Some place)
@@ -276,3 +275,21 @@ spec_read blob place begin =
     let count = number_read blob s.count 1 1 (1 + length s.count) s.one (front_stands s.count (type_bytes place) blob 1 end rest) in
     let type = type_read blob (1 + length s.count) end place s.value (back_stands s.count (type_bytes place) blob 1 end rest) in
     by_first_is blob 0x0A _ first.0 first.1 ∙ rw (count, type) refl
+
+-- ---- what calls answered
+
+pub method_answer : (blob : List ℕ) (result : Result MethodSig SigFault) → IsBytes blob → result ≡ method_signature blob
+    → IfOk result (λ method. IfKnown method.types (λ signature. Begins (SpellsMethod method.has_this method.generic signature) blob))
+method_answer blob (Ok method) fits e = method_found blob method fits (sym e)
+method_answer blob (Err fault) fits e = tt
+
+pub local_answer : (blob : List ℕ) (result : Result LocalSig SigFault) → IsBytes blob → result ≡ local_signature blob
+    → IfOk result (λ local. IfKnownLocals local (λ places. Begins (SpellsLocals places) blob))
+local_answer blob (Ok local) fits e = local_found blob local fits (sym e)
+local_answer blob (Err fault) fits e = tt
+
+pub spec_answer : (blob : List ℕ) (result : Reading Place) → IsBytes blob → result ≡ spec_signature blob
+    → IfOk result (λ read. IfSome read (λ place. Begins (SpellsInstance place) blob))
+spec_answer blob (Ok (Some place)) fits e = spec_found blob place fits (sym e)
+spec_answer blob (Ok None) fits e = tt
+spec_answer blob (Err fault) fits e = tt

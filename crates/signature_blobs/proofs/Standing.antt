@@ -1,7 +1,6 @@
 -- Bytes that stand in a blob.
-use Rattle.std.proofs.Common.{◌≡◌, ℕ, zero, suc, ◌+◌, ◌<◌, ◌≤◌, List, [], ◌∷◌, ◌++◌, length, get_or, drop, slice_index, refl, sym, ap, ◌∙◌, append_assoc, arith, length-append, length-drop}
+use Rattle.std.proofs.Common.{◌≡◌, ℕ, suc, ◌+◌, ◌<◌, ◌≤◌, List, [], ◌∷◌, ◌++◌, length, drop, slice_index, refl, sym, ap, ◌∙◌, append_assoc, arith, length-append, length-drop}
 use Rattle.std.proofs.lemmas.List.{drop_at, drop_more, drop-drop}
-use Rattle.std.proofs.lemmas.Grind.{common_steps}
 use Rattle.signature_blobs.specs.Spelling.{Stands}
 
 pub nothing_stands : (blob : List ℕ) (at : ℕ) → Stands [] blob at at

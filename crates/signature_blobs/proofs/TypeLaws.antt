@@ -1,12 +1,12 @@
 -- A type is read where its spelling stands, and only there.
-use Rattle.std.proofs.Common.{◌≡◌, ◌≢◌, ℕ, zero, suc, ◌+◌, ◌<◌, ◌≤◌, ◌⊎◌, Bool, true, false, cond, eqb, ltb, List, [], ◌∷◌, ◌++◌, length, slice_index, Option, Some, None, Result, Ok, Err, refl, sym, ap, subst, ◌∙◌, inl, inr, arith}
-use Rattle.std.specs.List.{flat_map, AllByRecursion}
-use Rattle.std.proofs.lemmas.Bool.{cases_lt, ltb-true, ltb-false, lt-ltb, le-ltb, eqb-true, eqb-false, eq-eqb}
+use Rattle.std.proofs.Common.{◌≡◌, ◌≢◌, ℕ, zero, suc, ◌+◌, false, cond, eqb, ltb, List, [], ◌∷◌, ◌++◌, length, slice_index, Some, None, Result, Ok, Err, refl, ap, subst, ◌∙◌, inl, inr, arith}
+use Rattle.std.specs.List.{flat_map}
+use Rattle.std.proofs.lemmas.Bool.{ltb-true, lt-ltb, eqb-true}
 use Rattle.std.proofs.lemmas.List.Concat.{flat_map-cons}
 use Rattle.cil_model.specs.declared.place.Place.{Place}
 use Rattle.cil_model.specs.declared.place.Place.TheVariants.{Void, Bool as OfBool, Int, Bools, Ints}
 use Rattle.signature_blobs.specs.declared.fault.SigFault.{SigFault}
-use Rattle.signature_blobs.specs.declared.fault.SigFault.TheVariants.{Short, Form}
+use Rattle.signature_blobs.specs.declared.fault.SigFault.TheVariants.{Short}
 use Rattle.signature_blobs.specs.Reading.{Reading, known, ◌>>=◌, byte_at}
 use Rattle.signature_blobs.specs.Types.{element_at, type_at, result_at, types_at}
 use Rattle.signature_blobs.specs.Spelling.{Stands, type_bytes, AreValues}
@@ -30,8 +30,8 @@ some_is x y e = cc
 byte_found : (blob : List ℕ) (at b : ℕ) → byte_at blob at ≡ Ok b → Stands (b ∷ []) blob at (at + 1)
 byte_found blob at b e =
     elim (chosen (ltb at (length blob)) (Ok (slice_index blob at)) (Err (Short (length blob))) (Ok b) e) [
-      inl t ↦ byte_stands blob at b (ltb-true _ _ t.0) (let h = t.1 in cc)
-    | inr f ↦ absurd (let h = f.1 in cc)
+      | inl t ↦ byte_stands blob at b (ltb-true _ _ t.0) (let h = t.1 in cc)
+      | inr f ↦ absurd (let h = f.1 in cc)
     ]
 
 byte_read : (blob bytes : List ℕ) (at after b : ℕ) → Stands (b ∷ bytes) blob at after → byte_at blob at ≡ Ok b
@@ -65,10 +65,10 @@ element_of_found : (blob : List ℕ) (at after code : ℕ) (found : Place × ℕ
 element_of_found blob at after code found stands e =
     let S : ℕ → Type 0 = λ c. Stands (0x1D ∷ c ∷ []) blob at after in
     elim (chosen (eqb code 0x02) (is_at Bools after) _ _ e) [
-      inl t ↦ subst (Found blob at) (some_is _ _ t.1) (λ h. absurd cc, subst S (eqb-true _ _ t.0) stands)
-    | inr f ↦ elim (chosen (eqb code 0x08) (is_at Ints after) outside _ f.1) [
-        inl t ↦ subst (Found blob at) (some_is _ _ t.1) (λ h. absurd cc, subst S (eqb-true _ _ t.0) stands)
-      | inr none ↦ absurd (outside_not found none.1)
+      | inl t ↦ subst (Found blob at) (some_is _ _ t.1) (λ h. absurd cc, subst S (eqb-true _ _ t.0) stands)
+      | inr f ↦ elim (chosen (eqb code 0x08) (is_at Ints after) outside _ f.1) [
+        | inl t ↦ subst (Found blob at) (some_is _ _ t.1) (λ h. absurd cc, subst S (eqb-true _ _ t.0) stands)
+        | inr none ↦ absurd (outside_not found none.1)
       ]
     ]
 
@@ -83,12 +83,12 @@ type_of_found : (blob : List ℕ) (at code : ℕ) (found : Place × ℕ) → Sta
 type_of_found blob at code found stands e =
     let S : ℕ → Type 0 = λ c. Stands (c ∷ []) blob at (at + 1) in
     elim (chosen (eqb code 0x02) (is_at OfBool (at + 1)) _ _ e) [
-      inl t ↦ subst (Found blob at) (some_is _ _ t.1) (λ h. absurd cc, subst S (eqb-true _ _ t.0) stands)
-    | inr f ↦ elim (chosen (eqb code 0x08) (is_at Int (at + 1)) _ _ f.1) [
-        inl t ↦ subst (Found blob at) (some_is _ _ t.1) (λ h. absurd cc, subst S (eqb-true _ _ t.0) stands)
-      | inr g ↦ elim (chosen (eqb code 0x1D) (element_at blob (at + 1)) outside _ g.1) [
-          inl t ↦ element_found blob at found (subst S (eqb-true _ _ t.0) stands) t.1
-        | inr none ↦ absurd (outside_not found none.1)
+      | inl t ↦ subst (Found blob at) (some_is _ _ t.1) (λ h. absurd cc, subst S (eqb-true _ _ t.0) stands)
+      | inr f ↦ elim (chosen (eqb code 0x08) (is_at Int (at + 1)) _ _ f.1) [
+        | inl t ↦ subst (Found blob at) (some_is _ _ t.1) (λ h. absurd cc, subst S (eqb-true _ _ t.0) stands)
+        | inr g ↦ elim (chosen (eqb code 0x1D) (element_at blob (at + 1)) outside _ g.1) [
+          | inl t ↦ element_found blob at found (subst S (eqb-true _ _ t.0) stands) t.1
+          | inr none ↦ absurd (outside_not found none.1)
         ]
       ]
     ]
@@ -119,8 +119,8 @@ result_found blob at found e =
     let b = bind_known (known (byte_at blob at)) (λ code. cond (eqb code 0x01) (is_at Void (at + 1)) (type_at blob at)) found e in
     let code = byte_found blob at b.0 (known_is _ _ b.1) in
     elim (chosen (eqb b.0 0x01) (is_at Void (at + 1)) (type_at blob at) _ b.2) [
-      inl t ↦ subst (λ (p : Place × ℕ). Stands (type_bytes p.0) blob at p.1) (some_is _ _ t.1) (subst (λ (c : ℕ). Stands (c ∷ []) blob at (at + 1)) (eqb-true _ _ t.0) code)
-    | inr f ↦ (type_found blob at found f.1).1
+      | inl t ↦ subst (λ (p : Place × ℕ). Stands (type_bytes p.0) blob at p.1) (some_is _ _ t.1) (subst (λ (c : ℕ). Stands (c ∷ []) blob at (at + 1)) (eqb-true _ _ t.0) code)
+      | inr f ↦ (type_found blob at found f.1).1
     ]
 
 -- a type that is not void begins with another byte than VOID

@@ -1,5 +1,5 @@
 -- Compressed numbers (II.23.2).
-use Rattle.std.specs.Prelude.{ℕ, ◌+◌, ◌^◌, ◌%◌, List, length, drop, slice_index, Option, Some, None, Result, Ok, Err, nat_lt, if◌then◌else◌}
+use Rattle.std.specs.Prelude.{ℕ, ◌+◌, ◌^◌, ◌%◌, List, length, drop, slice_index, Some, None, Result, Ok, Err, nat_lt, if◌then◌else◌}
 use Rattle.signature_blobs.specs.Reading.{Reading, known, ◌>>=◌}
 use Rattle.byteorder.specs.Endian.{big_number}
 use Rattle.signature_blobs.specs.declared.fault.SigFault.{SigFault}

@@ -1,5 +1,5 @@
 -- Types in a signature (II.23.2.12), and the places that they are.
-use Rattle.std.specs.Prelude.{ℕ, zero, suc, ◌+◌, List, [], ◌∷◌, Option, Some, None, Result, Ok, ◌==◌, if◌then◌else◌}
+use Rattle.std.specs.Prelude.{ℕ, zero, suc, ◌+◌, List, [], ◌∷◌, Some, None, Ok, ◌==◌, if◌then◌else◌}
 use Rattle.cil_model.specs.declared.place.Place.{Place}
 use Rattle.cil_model.specs.declared.place.Place.TheVariants.{Void, Bool, Int, Bools, Ints}
 use Rattle.signature_blobs.specs.Reading.{Reading, known, ◌>>=◌, byte_at}
@@ -9,17 +9,17 @@ unfoldable pub element_at : List ℕ → ℕ → Reading (Place × ℕ)
 element_at blob at = do
   code ← known (byte_at blob at)
   if code == 0x02 then Ok (Some (Bools, at + 1))
-    else if code == 0x08 then Ok (Some (Ints, at + 1))
-    else Ok None
+      else if code == 0x08 then Ok (Some (Ints, at + 1))
+      else Ok None
 
 -- BOOLEAN, I4 or SZARRAY, and the place after it.
 unfoldable pub type_at : List ℕ → ℕ → Reading (Place × ℕ)
 type_at blob at = do
   code ← known (byte_at blob at)
   if code == 0x02 then Ok (Some (Bool, at + 1))
-    else if code == 0x08 then Ok (Some (Int, at + 1))
-    else if code == 0x1D then element_at blob (at + 1)
-    else Ok None
+      else if code == 0x08 then Ok (Some (Int, at + 1))
+      else if code == 0x1D then element_at blob (at + 1)
+      else Ok None
 
 -- VOID, which is a result alone, or a type.
 unfoldable pub result_at : List ℕ → ℕ → Reading (Place × ℕ)

@@ -1,6 +1,8 @@
 //! Signatures of local variables (II.23.2.6).
 
-ghost use Rattle.std.specs.Prelude.{◌≡◌, ◌≤◌, length};
+ghost use Rattle.std.specs.Prelude.{◌≡◌, ◌≤◌, List, length, IfOk};
+ghost use Rattle.cil_model.specs.declared.place.Place.{Place};
+ghost use Rattle.signature_blobs.specs.Spelling.{Begins, SpellsLocals, IfKnownLocals};
 ghost use Rattle.signature_blobs.specs.Signatures.{locals_at, local_signature};
 
 use crate::fault::SigFault;
@@ -32,15 +34,11 @@ fn locals_at(blob: &[u8]) -> Result<Option<Places>, SigFault>
     }
 }
 
-/// The signature of locals that a blob says.
-///
-/// A type outside the profile ends the reading, as more than 128 locals do, and bytes behind the last
-/// type are not read. Another first byte than that of a signature of locals is `Form` at 0. A blob that
-/// ends too early is `Short` at its end.
+/// The first byte and the locals.
 #[tactic(auto, unfolding(crate::specs::Signatures::local_signature))]
-pub fn local_sig(blob: &[u8]) -> Result<LocalSig, SigFault>
+fn locals_of(blob: &[u8]) -> Result<LocalSig, SigFault>
     requires { length blob.now ≤ 2147483647 }
-    ensures exact { result ≡ local_signature blob.now }
+    ensures { result ≡ local_signature blob.now }
 {
     match blob {
         [] => Err(SigFault::Short(0)),
@@ -50,4 +48,21 @@ pub fn local_sig(blob: &[u8]) -> Result<LocalSig, SigFault>
         },
         [_, ..] => Err(SigFault::Form(0)),
     }
+}
+
+/// The signature of locals that a blob says.
+///
+/// A type outside the profile ends the reading, as more than 128 locals do, and bytes behind the last
+/// type are not read. Another first byte than that of a signature of locals is `Form` at 0, a blob that
+/// ends too early `Short` at its end.
+pub fn local_sig(blob: &[u8]) -> Result<LocalSig, SigFault>
+    requires { length blob.now ≤ 2147483647 }
+    // What the blob says, or the first fault.
+    ensures exact { result ≡ local_signature blob.now }
+    // The blob begins with a spelling of the locals that are known.
+    ensures found { IfOk result (λ local. IfKnownLocals local (λ places. Begins (SpellsLocals places) blob.now)) }
+    // Locals whose spelling begins the blob are known.
+    ensures only { (places : List Place) → Begins (SpellsLocals places) blob.now → result ≡ Ok (LocalSig.Known places) }
+{
+    locals_of(blob)
 }

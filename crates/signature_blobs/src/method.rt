@@ -1,10 +1,12 @@
 //! Signatures of methods (II.23.2.1).
 
-ghost use Rattle.std.specs.Prelude.{◌≡◌, ◌≤◌, length};
+ghost use Rattle.std.specs.Prelude.{◌≡◌, ◌≤◌, Bool, length, IfOk};
+ghost use Rattle.signature_blobs.specs.Spelling.{Begins, SpellsMethod, IfKnown};
+ghost use Rattle.signature_blobs.specs.declared.method.Signature.{Signature};
 ghost use Rattle.signature_blobs.specs.Signatures.{parameters_at, signature_at, types_of, method_signature};
 
 use crate::fault::SigFault;
-use crate::number::{compressed, count_at};
+use crate::number::{count_at, number_at};
 use crate::places::Places;
 use crate::types::{result_at, types_at};
 use cil_model::Place;
@@ -62,7 +64,7 @@ fn parameters_at(blob: &[u8], generic: bool) -> Result<u32, SigFault>
     if !generic {
         return Ok(1);
     }
-    let (_, at) = compressed(blob, 1)?;
+    let (_, at) = number_at(blob, 1)?;
     Ok(at)
 }
 
@@ -100,15 +102,11 @@ fn types_of(blob: &[u8], convention: u8) -> Result<SigTypes, SigFault>
     }
 }
 
-/// The signature of a method that a blob says.
-///
-/// A convention, a type or a number of parameters above 128 that is outside the profile ends the
-/// reading, and bytes behind the last type are not read. A convention byte that names no convention is
-/// `Form` at 0. A blob that ends too early is `Short` at its end.
+/// The convention byte and the types.
 #[tactic(auto, unfolding(crate::specs::Signatures::method_signature))]
-pub fn method_sig(blob: &[u8]) -> Result<MethodSig, SigFault>
+fn method_of(blob: &[u8]) -> Result<MethodSig, SigFault>
     requires { length blob.now ≤ 2147483647 }
-    ensures exact { result ≡ method_signature blob.now }
+    ensures { result ≡ method_signature blob.now }
 {
     let [convention, ..] = blob else {
         return Err(SigFault::Short(0));
@@ -121,4 +119,23 @@ pub fn method_sig(blob: &[u8]) -> Result<MethodSig, SigFault>
         generic: convention & GENERIC != 0,
         types: types_of(blob, *convention)?,
     })
+}
+
+/// The signature of a method that a blob says.
+///
+/// A convention or a type outside the profile ends the reading, as more than 128 parameters do, and
+/// bytes behind the last type are not read. A convention byte that names no convention is `Form` at 0,
+/// a blob that ends too early `Short` at its end.
+pub fn method_sig(blob: &[u8]) -> Result<MethodSig, SigFault>
+    requires { length blob.now ≤ 2147483647 }
+    // What the blob says, or the first fault.
+    ensures exact { result ≡ method_signature blob.now }
+    // The blob begins with a spelling of the types that are known.
+    ensures found { IfOk result (λ method. IfKnown method.types (λ signature.
+        Begins (SpellsMethod method.has_this method.generic signature) blob.now)) }
+    // A signature whose spelling begins the blob is known.
+    ensures only { (this generic : Bool) (signature : Signature) → Begins (SpellsMethod this generic signature) blob.now →
+        result ≡ Ok (record { has_this = this; generic = generic; types = SigTypes.Known signature }) }
+{
+    method_of(blob)
 }

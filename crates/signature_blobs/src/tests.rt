@@ -21,8 +21,18 @@ fn methods(rt: HostRuntime) {
         (b"\x00\x01\x01\x02", false, false, Some((Void, &[Bool]))),
         (b"\x20\x00\x01", true, false, Some((Void, &[]))),
         (b"\x10\x01\x00\x1e\x00", false, true, None),
-        (b"\x00\x02\x08\x08\x1d\x08", false, false, Some((Int, &[Int, Ints]))),
-        (b"\x30\x01\x80\x01\x02\x1d\x02\xff", true, true, Some((Bool, &[Bools]))),
+        (
+            b"\x00\x02\x08\x08\x1d\x08",
+            false,
+            false,
+            Some((Int, &[Int, Ints])),
+        ),
+        (
+            b"\x30\x01\x80\x01\x02\x1d\x02\xff",
+            true,
+            true,
+            Some((Bool, &[Bools])),
+        ),
         (b"\x25", true, false, None),
         (b"\x00\x02\x01\x02\x0e", false, false, None),
         (b"\x00\x01\x01\x01", false, false, None),
@@ -60,10 +70,26 @@ fn too_many_parameters(rt: HostRuntime) {
     blob[1] = 0x80;
     blob[2] = 0x80;
     let most = method_sig(&blob);
-    assert!(rt; matches!(most, Ok(MethodSig { types: SigTypes::Known(_), .. })));
+    assert!(rt;
+        matches!(
+            most,
+            Ok(MethodSig {
+                types: SigTypes::Known(_),
+                ..
+            })
+        )
+    );
     blob[2] = 0x81;
     let more = method_sig(&blob[..3]);
-    assert!(rt; matches!(more, Ok(MethodSig { types: SigTypes::Other, .. })));
+    assert!(rt;
+        matches!(
+            more,
+            Ok(MethodSig {
+                types: SigTypes::Other,
+                ..
+            })
+        )
+    );
 }
 
 #[test]

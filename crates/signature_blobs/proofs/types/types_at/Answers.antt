@@ -1,4 +1,4 @@
-use Rattle.std.proofs.Common.{◌≡◌, length, length-append, arith}
+use Rattle.std.proofs.Common.{length-append, arith}
 use Rattle.signature_blobs.proofs.Loop.{goes_on}
 use Rattle.signature_blobs.proofs.types.types_at.Goals as goal
 
