@@ -3,15 +3,13 @@ use Rattle.std.proofs.Common.{◌≡◌, ℕ, ◌+◌, ◌*◌, ◌%◌, ◌^◌
 use Rattle.std.specs.Prelude.{IfOk}
 use Rattle.std.proofs.lemmas.Bool.{cases_lt, ltb-true, ltb-false, lt-ltb, le-ltb}
 use Rattle.std.proofs.lemmas.List.{drop_more}
+use Rattle.cc_base.specs.LittleEndian.{IsBytes}
 use Rattle.byteorder.specs.Endian.{big_number, big_bytes}
 use Rattle.signature_blobs.specs.declared.fault.SigFault.{SigFault}
 use Rattle.signature_blobs.specs.declared.fault.SigFault.TheVariants.{Short, Form}
 use Rattle.signature_blobs.specs.Numbers.{low_bits, compressed_from, compressed_at}
 use Rattle.signature_blobs.specs.Spelling.{Stands, SpellsNumber}
 use Rattle.signature_blobs.proofs.Standing.{byte_stands, first_stands, ends_within}
-
-abbrev pub IsBytes : List ℕ → Type 0
-IsBytes bytes = (i : ℕ) → slice_index bytes i < 256
 
 -- which way a test went
 pub chosen : {A : Type 0} (b : Bool) (x y z : A) → cond b x y ≡ z → ((b ≡ true) × (x ≡ z)) ⊎ ((b ≡ false) × (y ≡ z))

