@@ -1,5 +1,5 @@
 -- Hexadecimal text, and the loop that writes it from its end.
-use Rattle.std.proofs.Common.{◌≡◌, ℕ, zero, suc, ◌+◌, ◌-◌, ◌/◌, ◌%◌, ◌<◌, ◌≤◌, List, [], ◌∷◌, ◌++◌, length, take, drop, set, refl, sym, ap, ap₂, ◌∙◌, arith, sub-one, append_assoc, length-append, take_at}
+use Rattle.std.proofs.Common.{◌≡◌, ℕ, zero, suc, ◌+◌, ◌-◌, ◌/◌, ◌%◌, ◌<◌, ◌≤◌, List, [], ◌∷◌, ◌++◌, length, take, drop, set, refl, sym, ap, ap₂, ◌∙◌, arith, append_assoc, take_at}
 use Rattle.std.proofs.lemmas.List.{drop-set, length_push}
 use Rattle.cc_base.specs.Digits.{hex, hex_digit}
 
@@ -14,7 +14,7 @@ length-hex (suc digits) n =
 
 -- One more digit in front of those that are written.
 hex_more-suc : (place rest digit : ℕ) (text : List ℕ) → place < length text → digit ≡ hex_digit (rest % 16)
-  → hex place (rest / 16) ++ drop place (set text place digit) ≡ hex (suc place) rest ++ drop (suc place) text
+    → hex place (rest / 16) ++ drop place (set text place digit) ≡ hex (suc place) rest ++ drop (suc place) text
 unfolding hex
 hex_more-suc place rest digit text h e =
     let next : place + 1 ≡ suc place = omega arith in
@@ -24,7 +24,7 @@ hex_more-suc place rest digit text h e =
 
 -- The same, from a place that is not the first.
 pub hex_more : (place rest digit : ℕ) (text : List ℕ) → 0 < place → place ≤ length text → digit ≡ hex_digit (rest % 16)
-  → hex (place - 1) (rest / 16) ++ drop (place - 1) (set text (place - 1) digit) ≡ hex place rest ++ drop place text
+    → hex (place - 1) (rest / 16) ++ drop (place - 1) (set text (place - 1) digit) ≡ hex place rest ++ drop place text
 hex_more zero rest digit text above h e = absurd (omega arith)
 hex_more (suc place) rest digit text above h e =
     let back : suc place - 1 ≡ place = omega arith in
@@ -32,7 +32,7 @@ hex_more (suc place) rest digit text above h e =
 
 -- At the first place all is written.
 pub hex_all : (place rest digits n : ℕ) (text old : List ℕ) → place ≤ 0
-  → hex place rest ++ drop place text ≡ hex digits n ++ drop digits old → take digits text ≡ hex digits n
+    → hex place rest ++ drop place text ≡ hex digits n ++ drop digits old → take digits text ≡ hex digits n
 unfolding hex
 hex_all zero rest digits n text old h e =
     ap (λ (xs : List ℕ). take digits xs) e ∙ take_at (hex digits n) (drop digits old) digits (length-hex digits n)

@@ -1,5 +1,5 @@
 -- What files in memory hold.
-use Rattle.std.specs.Prelude.{ℕ, Bool, List, [], ◌∷◌, Option, Some, None, string_bytes, bytes_eq, if◌then◌else◌}
+use Rattle.std.specs.Prelude.{ℕ, Bool, List, [], ◌∷◌, Some, None, string_bytes, bytes_eq, if◌then◌else◌}
 use Rattle.cc_base.specs.declared.map_files.NamedFile.{NamedFile}
 use Rattle.cc_base.specs.Files.{Held}
 

@@ -54,5 +54,9 @@ fn hex_digit(n: u32) -> u8
     requires { n < 16 }
     ensures { result ≡ hex_digit n }
 {
-    if n < 10 { b'0' + n as u8 } else { b'a' + (n - 10) as u8 }
+    if n < 10 {
+        b'0' + n as u8
+    } else {
+        b'a' + (n - 10) as u8
+    }
 }

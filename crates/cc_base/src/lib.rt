@@ -7,6 +7,8 @@ mod little_endian;
 mod map_files;
 mod offset;
 mod sink;
+#[cfg(test)]
+mod tests;
 mod token;
 mod vec_sink;
 mod wrap;
@@ -17,10 +19,10 @@ pub use little_endian::{little_endian_law, u16_at, u32_at, u64_at};
 pub use map_files::{MapFiles, NamedFile};
 pub use offset::Offset;
 pub use sink::{PutRefusal, Sink};
+use std::alloc::AllocError;
 pub use token::Token;
 pub use vec_sink::VecSink;
 pub use wrap::wrap32;
-use std::alloc::AllocError;
 
 /// Memory ran out.
 pub type NoMemory = AllocError;

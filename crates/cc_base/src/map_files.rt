@@ -130,7 +130,8 @@ impl Files for MapFiles {
             self.faults = self.faults.saturating_add(1);
             return Err(ReplaceRefusal::Failed);
         }
-        self.hold(alloc, name, bytes).map_err(|_| ReplaceRefusal::NoMemory)
+        self.hold(alloc, name, bytes)
+            .map_err(|_| ReplaceRefusal::NoMemory)
     }
 }
 

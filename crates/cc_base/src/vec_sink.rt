@@ -55,6 +55,8 @@ impl Sink for VecSink {
             self.faults = self.faults.saturating_add(1);
             return Err(PutRefusal::Failed);
         }
-        self.bytes.extend_from_slice(bytes).map_err(|_| PutRefusal::NoMemory)
+        self.bytes
+            .extend_from_slice(bytes)
+            .map_err(|_| PutRefusal::NoMemory)
     }
 }

@@ -7,7 +7,7 @@ use Rattle.cc_base.specs.declared.files.TheConstants.{READ_LIMIT}
 use Rattle.check_driver.specs.Text.{escaped, unit_report}
 use Rattle.check_driver.specs.UnitFile.{first_unit_fault, unit_of}
 use Rattle.check_driver.specs.Verdicts.{verdicts, all_proved}
-use Rattle.check_driver.specs.Words.{command_of}
+use Rattle.check_driver.specs.Words.{command_of, file_place}
 use Rattle.check_driver.specs.declared.command.Command.{Command}
 use Rattle.check_driver.specs.declared.command.Command.TheVariants as commands
 use Rattle.check_driver.specs.declared.unit_fault.UnitFault.{UnitFault}
@@ -63,22 +63,41 @@ abbrev pub unit_answer : List ℕ → List ℕ → Option UnitFault → Answer
 unit_answer name bytes (Some fault) = error_answer 5 (refused_line name (fault_text fault) (fault_at fault))
 unit_answer name bytes None = report_answer (unit_report (unit_of bytes)) (all_proved (verdicts (unit_of bytes)))
 
--- The answer to `unit FILE`, by what is held under the name.
-abbrev pub unit_file_answer : List ℕ → Option (List ℕ) → Answer
-unit_file_answer name None = error_answer 3 (missing_line name)
-unit_file_answer name (Some bytes) =
+-- The answer to `unit FILE` for the bytes of the file.
+abbrev pub bytes_answer : List ℕ → List ℕ → Answer
+bytes_answer name bytes =
     if nat_le READ_LIMIT (length bytes) then error_answer 5 (refused_line name (codes "file too large") 0x04000000)
     else unit_answer name bytes (first_unit_fault bytes)
 
+-- The answer to `unit FILE`, by what is held under the name.
+abbrev pub unit_file_answer : List ℕ → Option (List ℕ) → Answer
+unit_file_answer name None = error_answer 3 (missing_line name)
+unit_file_answer name (Some bytes) = bytes_answer name bytes
+
+-- The word at a place.
+abbrev pub word_at : List (List ℕ) → ℕ → List ℕ
+word_at words place = slice_index_or words place []
+
 abbrev pub command_answer : List (List ℕ) → Held → Option Command → Answer
 command_answer words held None = error_answer 2 USAGE
-command_answer words held (Some (commands.Unit file)) =
-    unit_file_answer (slice_index_or words file []) (held (slice_index_or words file []))
+command_answer words held (Some (commands.Unit file)) = unit_file_answer (word_at words file) (held (word_at words file))
 
 -- The answer to the words, where these files are held.
 abbrev pub expected : List (List ℕ) → Held → Answer
 expected words held = command_answer words held (command_of words)
 
+-- The word that names the file of these words, where they are a command.
+abbrev pub file_of_command : List (List ℕ) → Option Command → List ℕ
+file_of_command words None = []
+file_of_command words (Some command) = word_at words (file_place command)
+
+abbrev pub file_of : List (List ℕ) → List ℕ
+file_of words = file_of_command words (command_of words)
+
 -- The files are those that are told, where they are told.
 abbrev pub AreTold : Option Held → Held → Type 0
 AreTold told held = ForSome told (λ files. files ≡ held)
+
+-- This is held under the name, where that is told.
+abbrev pub IsUnder : Option Held → List ℕ → Option (List ℕ) → Type 0
+IsUnder told name under = ForSome told (λ files. files name ≡ under)

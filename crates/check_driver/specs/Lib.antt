@@ -7,3 +7,6 @@ pub mod UnitFile
 pub mod Verdicts
 pub mod Text
 pub mod Expected
+pub mod Reach
+pub mod UnitSpelling
+pub mod Outcome

@@ -1,10 +1,10 @@
 -- The typing of a unit's code up to its first return: every operand is there, the stack stays within its
 -- size, arguments are there, and the return finds the result alone (ECMA-335 III.1.7.2).
-use Rattle.std.specs.Prelude.{ℕ, ◌+◌, ◌-◌, Bool, true, false, not, ◌||◌, List, [], ◌∷◌, Option, Some, None, ◌==◌, nat_lt, if◌then◌else◌}
+use Rattle.std.specs.Prelude.{ℕ, ◌+◌, ◌-◌, Bool, true, false, not, ◌||◌, ◌&&◌, List, [], ◌∷◌, Option, Some, None, ◌==◌, nat_lt, if◌then◌else◌}
 use Rattle.cil_model.specs.declared.instruction.Instr.{Instr}
 use Rattle.cil_model.specs.declared.instruction.Op.{Op}
 use Rattle.cil_model.specs.declared.instruction.Op.TheVariants as ops
-use Rattle.check_driver.specs.Faults.{fails}
+use Rattle.check_driver.specs.Faults.{fails, ◌otherwise◌}
 use Rattle.check_driver.specs.declared.unit_fault.UnitFault.{UnitFault}
 use Rattle.check_driver.specs.declared.unit_fault.UnitFault.TheVariants.{Form}
 
@@ -38,11 +38,26 @@ height_after op height = height - operands op + results op
 abbrev pub breaks : ℕ → ℕ → ℕ → Op → Bool
 breaks args limit height op = nat_lt height (operands op) || lacks_argument args op || nat_lt limit (height_after op height)
 
--- The first fault of typing, from a stack of this height on. The code begins at the offset `base` of
--- the file; where no return comes, the fault is at the last instruction, `last`.
+-- The code is typed from a stack of this height on, up to its first return.
+abbrev pub is_typed : ℕ → ℕ → ℕ → List Instr → Bool
+is_typed args limit height [] = false
+is_typed args limit height (i ∷ is) =
+    if is_return i.op then height == 1
+    else (not (breaks args limit height i.op) && is_typed args limit (height_after i.op height) is)
+
+-- The fault of an instruction that is no return, on a stack of this height. The code begins at the
+-- offset `base` of the file.
+abbrev pub step_fault : ℕ → ℕ → ℕ → ℕ → Instr → Option UnitFault
+step_fault args limit base height i = fails (breaks args limit height i.op) (Form (base + i.at))
+
+-- The fault of a return.
+abbrev pub return_fault : ℕ → ℕ → Instr → Option UnitFault
+return_fault base height i = fails (not (height == 1)) (Form (base + i.at))
+
+-- The first fault of typing, from a stack of this height on. Where no return comes, it is at the last
+-- instruction, whose offset in the file is `last`.
 unfoldable pub typing_fault : ℕ → ℕ → ℕ → ℕ → ℕ → List Instr → Option UnitFault
 typing_fault args limit base height last [] = Some (Form last)
 typing_fault args limit base height last (i ∷ is) =
-    if is_return i.op then fails (not (height == 1)) (Form (base + i.at))
-    else (if breaks args limit height i.op then Some (Form (base + i.at))
-    else typing_fault args limit base (height_after i.op height) (base + i.at) is)
+    if is_return i.op then return_fault base height i
+    else (step_fault args limit base height i otherwise typing_fault args limit base (height_after i.op height) (base + i.at) is)

@@ -1,6 +1,6 @@
 -- A unit file: where its fields stand, and the tests that tell a built unit, in order. The first test
 -- that fails names the fault.
-use Rattle.std.specs.Prelude.{◌≡◌, ℕ, zero, suc, ◌+◌, Bool, false, not, ◌&&◌, List, [], ◌∷◌, length, take, drop, replicate, Option, Some, None, Result, Ok, Err, ◌==◌, nat_lt, nat_le, if◌then◌else◌, slice_index}
+use Rattle.std.specs.Prelude.{◌≡◌, ℕ, zero, suc, ◌+◌, ◌^◌, ◌<◌, ◌≤◌, Bool, false, not, ◌&&◌, List, [], ◌∷◌, length, take, drop, replicate, Option, Some, None, Result, Ok, Err, ◌==◌, nat_lt, nat_le, if◌then◌else◌, slice_index}
 use Rattle.cc_base.specs.LittleEndian.{u16_at, u32_at}
 use Rattle.cil_model.specs.Effects.{ASSERT_CALL}
 use Rattle.cil_model.specs.declared.instruction.Instr.{Instr}
@@ -207,6 +207,9 @@ pub record HasFields (bytes : List ℕ) (fields : Fields) : Type 0 where
   pub stack : fields.max_stack ≡ max_stack bytes
   pub code : fields.code.now ≡ code_of bytes
   pub place : fields.code_at ≡ code_at bytes
+  pub few : fields.arg_count ≤ MAX_VARIABLES
+  pub short : length fields.code.now ≤ MAX_CODE
+  pub near : fields.code_at < 2 ^ 17
 
 -- The first fault of a unit file, or none where it has a built unit.
 unfoldable pub first_unit_fault : List ℕ → Option UnitFault
@@ -216,17 +219,21 @@ abbrev pub or_none : Result (List Instr) UnitFault → List Instr
 or_none (Ok is) = is
 or_none (Err fault) = []
 
--- The unit of a file without a fault.
-unfoldable pub unit_of : List ℕ → MethodUnit
-unit_of bytes = record {
-  name = name_of bytes;
+-- A unit of int32 arguments, with no locals, callees or clauses.
+abbrev pub unit_with : List ℕ → ℕ → ℕ → List ℕ → List Instr → MethodUnit
+unit_with name args limit code instrs = record {
+  name = name;
   result = places.Int;
-  args = replicate (arg_count bytes) places.Int;
+  args = replicate args places.Int;
   locals = [];
-  max_stack = max_stack bytes;
+  max_stack = limit;
   callees = [];
-  code = code_of bytes;
+  code = code;
   clauses = [];
   body_start = 0;
-  instrs = or_none (instructions_of bytes);
+  instrs = instrs;
 }
+
+-- The unit of a file without a fault.
+unfoldable pub unit_of : List ℕ → MethodUnit
+unit_of bytes = unit_with (name_of bytes) (arg_count bytes) (max_stack bytes) (code_of bytes) (or_none (instructions_of bytes))

@@ -58,6 +58,10 @@ abbrev pub obligations : List Instr → List ℕ
 obligations [] = []
 obligations (i ∷ is) = if is_assert i.op then i.at ∷ obligations is else obligations is
 
+-- The verdict on an instruction, from what is known before it, where it is an obligation.
+abbrev pub noted : State → Instr → List Verdict
+noted s i = if is_assert i.op then record { at = i.at; proved = shows s } ∷ [] else []
+
 -- The state before the first instruction: an empty stack.
 abbrev pub entry : State
 entry = Some []

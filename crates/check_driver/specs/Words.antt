@@ -17,3 +17,7 @@ command_of_two word file = if bytes_eq word (codes "unit") && is_file_word file 
 abbrev pub command_of : List (List ℕ) → Option Command
 command_of (word ∷ file ∷ []) = command_of_two word file
 command_of _ = None
+
+-- The place of the word that names the command's file.
+abbrev pub file_place : Command → ℕ
+file_place (commands.Unit file) = file

@@ -1,7 +1,8 @@
 //! The verdicts on a unit's obligations.
 
-ghost use Rattle.std.specs.Prelude.{◌≡◌, IfOk, OnOk, Option, Some, List};
-ghost use Rattle.check_driver.specs.Verdicts.{State, combined, after_reached, verdicts, is_assert, shows, all_proved, proved_count};
+ghost use Rattle.std.specs.Prelude.{◌≡◌, ◌++◌, IfOk, OnOk, Option, Some, List};
+ghost use Rattle.cil_model.specs.Spells.{CodeOf};
+ghost use Rattle.check_driver.specs.Verdicts.{State, combined, after, after_reached, verdicts, noted, is_assert, shows, all_proved, proved_count};
 
 use crate::range::Range;
 use crate::stack::Stack;
@@ -76,25 +77,46 @@ fn shows(state: &Option<Stack<Range>>) -> bool
     }
 }
 
+/// What is known behind an operation, from what is known before it.
+fn after_state(op: &Op, state: Option<Stack<Range>>) -> Result<Option<Stack<Range>>, AllocError>
+    ensures { IfOk result (λ behind. behind ≡ after op.now state) }
+{
+    match state {
+        None => Ok(None),
+        Some(stack) => after(op, stack),
+    }
+}
+
+/// Appends the verdict on an instruction, where it is an obligation.
+fn note(
+    found: &mut Vec<Verdict>,
+    instr: &Instr,
+    state: &Option<Stack<Range>>,
+) -> Result<(), AllocError>
+    ensures { OnOk result (found.new.items ≡ found.old.items ++ noted state.now instr.now) }
+{
+    if is_assert(&instr.op) {
+        found.push(Verdict {
+            at: instr.at,
+            proved: shows(state),
+        })?;
+    }
+    Ok(())
+}
+
 /// The verdict on each obligation of a unit, in order. Each Assert is one.
 ///
 /// Cost: linear in the number of instructions.
 pub fn judge(alloc: Global, unit: &Unit) -> Result<Vec<Verdict>, AllocError>
+    requires { CodeOf unit.now.instrs unit.now.code }
     ensures { IfOk result (λ found. found.items ≡ verdicts unit.now) }
 {
+    let instrs = unit.instrs.as_slice();
     let mut found = Vec::new(alloc);
     let mut state = Some(Stack::new(alloc));
-    for instr in unit.instrs.as_slice() {
-        if is_assert(&instr.op) {
-            found.push(Verdict {
-                at: instr.at,
-                proved: shows(&state),
-            })?;
-        }
-        state = match state {
-            None => None,
-            Some(stack) => after(&instr.op, stack)?,
-        };
+    for instr in instrs {
+        note(&mut found, instr, &state)?;
+        state = after_state(&instr.op, state)?;
     }
     Ok(found)
 }

@@ -9,6 +9,7 @@ mod lines;
 mod program;
 mod range;
 mod read_unit;
+mod report;
 mod stack;
 mod typing;
 mod unit_fault;

@@ -12,7 +12,8 @@ pub struct Range {
 }
 
 impl Range {
-    ghost use Rattle.check_driver.specs.Ranges.{one, full, between, sum, less, equal, wrapped, excludes_zero, is_zero};
+    ghost use Rattle.std.specs.Prelude.{◌+ℤ◌, ◌≤ℤ◌};
+    ghost use Rattle.check_driver.specs.Ranges.{one, full, between, sum, less, equal, wrapped, LEAST, GREATEST, excludes_zero, is_zero};
 
     /// Every int32.
     pub const FULL: Range = Range {
@@ -30,17 +31,28 @@ impl Range {
         }
     }
 
+    /// The numbers from `low` to `high` modulo 2^32, moved together so that the lowest is an int32. Where
+    /// the highest is then none, every int32 may come.
+    fn wrapped(low: i64, high: i64) -> Range
+        requires low { ((LEAST +ℤ LEAST) ≤ℤ low) × (low ≤ℤ (GREATEST +ℤ GREATEST)) }
+        requires high { ((LEAST +ℤ LEAST) ≤ℤ high) × (high ≤ℤ (GREATEST +ℤ GREATEST)) }
+        ensures { result ≡ wrapped low high }
+    {
+        let lo = wrap32(low);
+        let hi = i64::from(lo) + (high - low);
+        match i32::try_from(hi) {
+            Ok(hi) => Range { lo, hi },
+            Err(_) => Range::FULL,
+        }
+    }
+
     /// The sums modulo 2^32 of a number of each range.
     pub fn sum(self, other: Range) -> Range
         ensures { result ≡ sum self other }
     {
         let low = i64::from(self.lo) + i64::from(other.lo);
         let high = i64::from(self.hi) + i64::from(other.hi);
-        let lo = wrap32(low);
-        match i32::try_from(i64::from(lo) + (high - low)) {
-            Ok(hi) => Range { lo, hi },
-            Err(_) => Range::FULL,
-        }
+        Range::wrapped(low, high)
     }
 
     /// 1 where the first number is always less than the second, 0 where it never is.

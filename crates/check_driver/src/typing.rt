@@ -2,7 +2,7 @@
 
 ghost use Rattle.std.specs.Prelude.{◌≡◌, ◌+◌, ◌<◌, ◌≤◌, ◌^◌, ⊤, List, length, All};
 ghost use Rattle.check_driver.specs.Faults.{Tells};
-ghost use Rattle.check_driver.specs.Typing.{operands, results, is_return, lacks_argument, typing_fault};
+ghost use Rattle.check_driver.specs.Typing.{operands, results, is_return, lacks_argument, height_after, step_fault, return_fault, typing_fault};
 
 use crate::unit_fault::UnitFault;
 use cil_model::{Instr, Op};
@@ -46,10 +46,49 @@ fn lacks_argument(args: usize, op: &Op) -> bool
     }
 }
 
+/// The height of the stack behind an instruction that is no return.
+fn check_step(
+    instr: &Instr,
+    args: usize,
+    max_stack: usize,
+    base: u32,
+    height: usize,
+) -> Result<usize, UnitFault>
+    requires small { max_stack < 256 }
+    requires low { height ≤ max_stack }
+    requires inside { base + instr.now.at < 2 ^ 32 }
+    ensures { Tells (step_fault args max_stack base height instr.now)
+        (λ behind. (behind ≡ height_after instr.now.op height) × (behind ≤ max_stack)) result }
+{
+    let op = &instr.op;
+    let taken = operands(op);
+    if height < taken || lacks_argument(args, op) {
+        return Err(UnitFault::Form(base + instr.at));
+    }
+    let behind = height - taken + results(op);
+    if behind > max_stack {
+        return Err(UnitFault::Form(base + instr.at));
+    }
+    Ok(behind)
+}
+
+/// That a return finds one value alone.
+fn check_return(instr: &Instr, base: u32, height: usize) -> Result<(), UnitFault>
+    requires { base + instr.now.at < 2 ^ 32 }
+    ensures { Tells (return_fault base height instr.now) (λ _. ⊤) result }
+{
+    if height == 1 {
+        Ok(())
+    } else {
+        Err(UnitFault::Form(base + instr.at))
+    }
+}
+
 /// That the code is typed up to its first return: every operand and argument is there, the stack stays
 /// within its size, and the return finds one value alone.
 ///
 /// The code begins at the offset `base` of the file.
+#[tactic(auto, unfolding(crate::specs::Typing::typing_fault))]
 pub fn check_typing(
     instrs: &[Instr],
     args: usize,
@@ -63,22 +102,11 @@ pub fn check_typing(
     let mut height = 0;
     let mut last = base;
     for instr in instrs {
-        let op = &instr.op;
+        if is_return(&instr.op) {
+            return check_return(instr, base, height);
+        }
+        height = check_step(instr, args, max_stack, base, height)?;
         last = base + instr.at;
-        if is_return(op) {
-            return if height == 1 {
-                Ok(())
-            } else {
-                Err(UnitFault::Form(last))
-            };
-        }
-        if height < operands(op) || lacks_argument(args, op) {
-            return Err(UnitFault::Form(last));
-        }
-        height = height - operands(op) + results(op);
-        if max_stack < height {
-            return Err(UnitFault::Form(last));
-        }
     }
     Err(UnitFault::Form(last))
 }

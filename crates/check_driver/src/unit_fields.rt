@@ -93,9 +93,10 @@ fn check_printable(at: usize, text: &[u8]) -> Result<(), UnitFault>
 }
 
 /// The name, behind its length in two bytes.
-#[tactic(auto, unfolding(crate::specs::UnitFile::name_fault, crate::specs::UnitFile::name_of, crate::specs::UnitFile::name_length))]
+#[tactic(auto, unfolding(crate::specs::UnitFile::name_fault, crate::specs::UnitFile::name_of, crate::specs::UnitFile::name_length, crate::specs::UnitFile::result_at))]
 fn read_name(bytes: &[u8]) -> Result<&[u8], UnitFault>
-    ensures { Tells (name_fault bytes.now) (λ name. (name.now ≡ name_of bytes.now)) result }
+    ensures { Tells (name_fault bytes.now) (λ name. (name.now ≡ name_of bytes.now)
+        × (NAME_AT + length name.now ≡ result_at bytes.now) × (length name.now < 2 ^ 16)) result }
 {
     check_end(bytes, 4, 2)?;
     let length = u16_at(bytes, 4) as usize;
@@ -228,7 +229,7 @@ fn check_callees(bytes: &[u8], at: usize) -> Result<(), UnitFault>
 fn read_code(bytes: &[u8], at: usize) -> Result<&[u8], UnitFault>
     requires place { at ≡ code_length_at bytes.now }
     requires small { at + 65600 < 2 ^ 32 }
-    ensures { Tells (code_fault bytes.now) (λ code. code.now ≡ code_of bytes.now) result }
+    ensures { Tells (code_fault bytes.now) (λ code. (code.now ≡ code_of bytes.now) × (length code.now ≤ MAX_CODE)) result }
 {
     check_end(bytes, at, 4)?;
     let length = u32_at(bytes, at) as usize;
@@ -244,7 +245,7 @@ fn read_code(bytes: &[u8], at: usize) -> Result<&[u8], UnitFault>
 }
 
 /// The fields, or the first fault among them.
-#[tactic(auto, unfolding(crate::specs::UnitFile::field_fault))]
+#[tactic(auto, unfolding(crate::specs::UnitFile::field_fault, crate::specs::UnitFile::args_at, crate::specs::UnitFile::locals_at, crate::specs::UnitFile::max_stack_at, crate::specs::UnitFile::callees_at, crate::specs::UnitFile::code_length_at, crate::specs::UnitFile::code_at))]
 pub fn read_fields(bytes: &[u8]) -> Result<Fields<'_>, UnitFault>
     ensures { Tells (field_fault bytes.now) (HasFields bytes.now) result }
 {

@@ -1,8 +1,9 @@
 //! The instructions of a unit file.
 
-ghost use Rattle.std.specs.Prelude.{◌≡◌, ◌+◌, ◌<◌, ◌≤◌, ◌^◌, ⊤, List, length, drop, All};
+ghost use Rattle.std.specs.Prelude.{◌≡◌, ◌+◌, ◌<◌, ◌≤◌, ◌^◌, ⊤, List, length, drop, All, IfOk};
 ghost use Rattle.il_decoder.specs.Decoding.{decoded};
 ghost use Rattle.check_driver.specs.Faults.{Tells, Reads};
+ghost use Rattle.check_driver.specs.Reach.{Reaches};
 ghost use Rattle.check_driver.specs.UnitFile.{built, is_other_call, instructions, limit_fault};
 
 use crate::unit_fault::{UnitFault, UnitRefusal};
@@ -30,7 +31,9 @@ fn is_other_call(op: &Op) -> bool
 fn read_instruction(alloc: Global, code: &[u8], base: u32, at: u32) -> Result<Instr, UnitRefusal>
     requires short { length code.now ≤ 65536 }
     requires small { base + at < 2 ^ 32 }
-    ensures { Reads (λ i. i) (built (base + at) (decoded code.now at)) result }
+    ensures built { Reads (λ i. i) (built (base + at) (decoded code.now at)) result }
+    ensures place { IfOk result (λ i. i.at ≡ at) }
+    ensures reach { IfOk result (λ i. Reaches i code.now) }
 {
     let place = base + at;
     match decode_one(alloc, code, at) {
@@ -52,7 +55,8 @@ fn read_instruction(alloc: Global, code: &[u8], base: u32, at: u32) -> Result<In
 pub fn read_instructions(alloc: Global, code: &[u8], base: u32) -> Result<Vec<Instr>, UnitRefusal>
     requires short { length code.now ≤ 65536 }
     requires small { base + length code.now + 8 < 2 ^ 32 }
-    ensures { Reads (λ instrs. instrs.items) (instructions (length code.now) base code.now 0) result }
+    ensures read { Reads (λ instrs. instrs.items) (instructions (length code.now) base code.now 0) result }
+    ensures places { IfOk result (λ instrs. All (λ i. i.at < length code.now) instrs.items) }
 {
     let mut instrs = Vec::new(alloc);
     let mut at = 0;
@@ -69,8 +73,8 @@ pub fn check_limit(instrs: &[Instr], base: u32) -> Result<(), UnitFault>
     requires { All (λ i. base + i.at < 2 ^ 32) instrs.now }
     ensures { Tells (limit_fault base (drop MAX_INSTRUCTIONS instrs.now)) (λ _. ⊤) result }
 {
-    match instrs.get(MAX_INSTRUCTIONS) {
-        None => Ok(()),
-        Some(instr) => Err(UnitFault::Form(base + instr.at)),
+    if instrs.len() > MAX_INSTRUCTIONS {
+        return Err(UnitFault::Form(base + instrs[MAX_INSTRUCTIONS].at));
     }
+    Ok(())
 }

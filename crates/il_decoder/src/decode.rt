@@ -1,9 +1,10 @@
 //! One instruction after another.
 
-ghost use Rattle.std.specs.Prelude.{◌≡◌, ◌≢◌, ◌≤◌, ◌↔◌, ◌⊎◌, List, length, IfOk, IsErrOf, Ok, Err};
-ghost use Rattle.cil_model.specs.Spells.{Spells};
+ghost use Rattle.std.specs.Prelude.{◌≡◌, ◌≤◌, ◌↔◌, ◌⊎◌, length, IfOk, IfErr, Ok, Err};
 ghost use Rattle.cil_model.specs.declared.instruction.Instr.{Instr};
-ghost use Rattle.il_decoder.specs.Decodes.{StandsIn, EndsInside};
+ghost use Rattle.il_decoder.specs.declared.fault.IlFault.TheVariants.{Short, Opcode};
+ghost use Rattle.il_decoder.specs.declared.fault.IlRefusal.TheVariants.{Bad};
+ghost use Rattle.il_decoder.specs.Decodes.{StandsIn, EndsInside, opcode_at};
 ghost use Rattle.il_decoder.specs.Decoding.{decoded, operation, two_byte, load_arg, load_arg_short, const_short, const_long, call};
 
 use crate::fault::{IlFault, IlRefusal};
@@ -109,6 +110,12 @@ fn operation(at: u32, bytes: &[u8]) -> Result<Operation, IlFault>
 /// takes memory.
 pub fn decode_one(_alloc: Global, code: &[u8], at: u32) -> Result<Instr, IlRefusal>
     requires { length code.now ≤ 2147483647 }
+    // What is found stands there.
+    ensures found { IfOk result (λ i. (i.at ≡ at) × StandsIn i code.now) }
+    // What stands there is found.
+    ensures only { (i : Instr) → i.at ≡ at → StandsIn i code.now → result ≡ Ok i }
+    ensures short { (result ≡ Err (Bad (Short at))) ↔ EndsInside code.now at }
+    ensures opcode { IfErr result (λ refusal. (refusal ≡ Bad (Short at)) ⊎ (refusal ≡ Bad (Opcode at (opcode_at code.now at)))) }
     ensures exact { result ≡ decoded code.now at }
 {
     let bytes = code.get(at as usize..).unwrap_or(&[]);

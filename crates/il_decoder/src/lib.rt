@@ -6,3 +6,6 @@ mod fault;
 
 pub use decode::decode_one;
 pub use fault::{IlFault, IlRefusal};
+
+#[cfg(test)]
+mod tests;

@@ -5,13 +5,13 @@ use Rattle.cc_base.proofs.wrap.wrap32.Goals as goal
 
 -- The remainder, taken as a signed number.
 wrapped : (n r s : ℤ) → FitsSigned w64 n → FitsSigned w64 r → FitsSigned w32 s
-  → r ≡ int_rem_euclid (to_z w64 (of_z w64 n)) (pos 4294967296)
-  → s ≡ to_z w32 (nat_abs (to_z w64 (of_z w64 r))) → to_z w32 (of_z w32 s) ≡ wrap32 n
+    → r ≡ int_rem_euclid (to_z w64 (of_z w64 n)) (pos 4294967296)
+    → s ≡ to_z w32 (nat_abs (to_z w64 (of_z w64 r))) → to_z w32 (of_z w32 s) ≡ wrap32 n
 unfolding int_wrap
 wrapped n r s nFits rFits sFits remainder signed =
     to_z-of_z sFits ∙ signed
     ∙ ap (λ (z : ℤ). to_z w32 (nat_abs z))
-        (to_z-of_z rFits ∙ remainder ∙ ap (λ (z : ℤ). int_rem_euclid z (pos 4294967296)) (to_z-of_z nFits))
+    (to_z-of_z rFits ∙ remainder ∙ ap (λ (z : ℤ). int_rem_euclid z (pos 4294967296)) (to_z-of_z nFits))
 
 pub returns : goal.returns
 returns c =
