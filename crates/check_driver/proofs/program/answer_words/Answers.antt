@@ -1,4 +1,4 @@
-use Rattle.std.proofs.Common.{◌≡◌, ◌∙◌, refl, sym, ap, inl, map, String, Global}
+use Rattle.std.proofs.Common.{◌≡◌, ◌∙◌, refl, sym, ap, inl, arith, map, String, Global}
 use Rattle.std.specs.String.{string_bytes}
 use Rattle.check_driver.specs.Expected.{USAGE, word_at}
 use Rattle.check_driver.proofs.Answering.{any_held, words_answer, word_is, no_command_answer}
@@ -15,7 +15,7 @@ pub returns-in-Some-clause-answer : goal.returns-in-Some-clause-answer
 returns-in-Some-clause-answer g c =
     let words = map (λ (word : String Global). string_bytes word) c.args.words.now in
     let answer = c.answer_unit_file.ensures.answer in
-    let at_file : word_at words c.file.result ≡ c.as_str.result.now =
-        word_is c.args.words.now c.file.result c.index-words-file.result ? c.index-words-file.is ∙ sym c.as_str.ensures.value in
-    words_answer (g.F.Files.held c.args.files.now) words c.in-Some.command c.as_str.result.now answer.0 _ _ _ _
+    let at_file : word_at words c.file.result ≡ c.as_str-name.result.now =
+        word_is c.args.words.now c.file.result c.index-words-file.result (omega (arith, c.file.ensures, c.in-Some.ensures.inside)) c.index-words-file.is ∙ sym c.as_str-name.ensures.value in
+    words_answer (g.F.Files.held c.args.files.now) words c.in-Some.command c.as_str-name.result.now answer.0 _ _ _ _
         c.in-Some.ensures.command (rw c.file.ensures at at_file) answer.1 answer.2
