@@ -21,9 +21,9 @@ cut_alike name bytes limit is =
     elim (cases_lt (length bytes) limit) [
       | inl lt ↦ ap (bytes_answer name) (sym (take_all limit bytes (omega arith)))
       | inr ge ↦
-        let whole = le-leb READ_LIMIT (length bytes) (omega arith) in
-        let cut = le-leb READ_LIMIT (length (take limit bytes)) (omega (arith, length-take limit bytes)) in
-        rw (whole, cut) refl
+          let whole = le-leb READ_LIMIT (length bytes) (omega arith) in
+          let cut = le-leb READ_LIMIT (length (take limit bytes)) (omega (arith, length-take limit bytes)) in
+          rw (whole, cut) refl
     ]
 
 some_is : {X : Type 0} (x y : X) → Some x ≡ Some y → x ≡ y

@@ -23,3 +23,4 @@ pub mod UnitAgain
 pub mod UnitBytes
 pub mod UnitTaken
 pub mod Writings
+pub mod Leaving

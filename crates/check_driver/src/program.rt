@@ -2,17 +2,20 @@
 
 #![tactic(auto, using(cc_base::proofs::SinkLemmas::sinks, cc_base::proofs::CountLemmas::counts))]
 
-ghost use Rattle.std.specs.Prelude.{◌≡◌, ◌≢◌, ◌⊎◌, ◌<◌, ◌≤◌, ◌↔◌, List, ℕ, length, map, Option, IfOk, None};
+ghost use Rattle.std.specs.Prelude.{◌≡◌, ◌≢◌, ◌⊎◌, ◌<◌, ◌≤◌, ◌↔◌, List, ℕ, length, map, Option, Some, IfOk, None};
 ghost use Rattle.std.specs.String.{string_bytes};
 ghost use Rattle.cc_base.specs.Counts.{Rose, Kept};
 ghost use Rattle.cc_base.specs.Files.{Held};
+ghost use Rattle.cc_base.specs.Sink.{AppendsFront};
 ghost use Rattle.check_driver.specs.Expected.{AreTold, IsUnder, expected, unread_line, file_of, error_answer, unit_answer, bytes_answer, unit_file_answer};
 ghost use Rattle.check_driver.specs.Outcome.{Gives, GivesOrUnread, Leaves};
+ghost use Rattle.check_driver.specs.SingleUnit.{AsksFor, PrintsProved, IsSafe};
 ghost use Rattle.check_driver.specs.Text.{unit_report};
 ghost use Rattle.check_driver.specs.UnitFile.{first_unit_fault};
 ghost use Rattle.check_driver.specs.UnitSpelling.{IsBuilt};
 ghost use Rattle.check_driver.specs.Verdicts.{verdicts, all_proved};
 ghost use Rattle.check_driver.specs.Words.{command_of};
+ghost use Rattle.cil_model.specs.declared.unit.Unit.{Unit as MethodUnit};
 ghost use Rattle.check_driver.specs.Writing.{Writes, change, joined};
 
 use crate::command::parse_words;
@@ -163,6 +166,7 @@ fn answer_words<F: Files, O: Sink, E: Sink>(
         (change (O.written out.old) (O.written out.new) (O.faults out.old) (O.faults out.new))
         (change (E.written err.old) (E.written err.new) (E.faults err.old) (E.faults err.new)) }
     ensures missing { IfOk result (λ status. status ≡ 3 → Rose (F.missed files.old) (F.missed files.new)) }
+    ensures usage { command_of (map (λ word. string_bytes word) words.now) ≡ None → IfOk result (λ status. status ≡ 2) }
     ensures files { F.held files.new ≡ F.held files.old }
 {
     match parse_words(words) {
@@ -172,6 +176,14 @@ fn answer_words<F: Files, O: Sink, E: Sink>(
             answer_unit_file(alloc, name, files, out, err)
         }
     }
+}
+
+/// Tries to put a line once. What refuses it changes nothing further.
+fn try_line<E: Sink>(alloc: Global, line: &[u8], err: &mut E)
+    ensures front { AppendsFront (E.written err.old) (E.written err.new) line.now }
+    ensures kept { Kept (E.faults err.old) (E.faults err.new) }
+{
+    let _ = err.put(alloc, line);
 }
 
 /// The program: answers the words, writes to the two sinks and gives the status.
@@ -192,6 +204,10 @@ pub fn run_words<F: Files, O: Sink, E: Sink>(
         (change (O.written out.old) (O.written out.new) (O.faults out.old) (O.faults out.new))
         (change (E.written err.old) (E.written err.new) (E.faults err.old) (E.faults err.new)) }
     ensures files { F.held files.new ≡ F.held files.old }
+    // A unit that was printed as proved is safe, whatever the status.
+    ensures single_unit { (held : Held) (unit : MethodUnit) → F.held files.old ≡ Some held
+        → AsksFor (map (λ word. string_bytes word) words.now) held unit
+        → PrintsProved (O.written out.old) (O.written out.new) unit → IsSafe unit }
 
     // Each status that a device can bring comes only where its count rose in this call.
     ensures missing_cause { result ≡ 3 → Rose (F.missed files.old) (F.missed files.new) }
@@ -204,11 +220,11 @@ pub fn run_words<F: Files, O: Sink, E: Sink>(
     match answer_words(alloc, words, files, out, err) {
         Ok(status) => status,
         Err(Interrupt::CannotWrite) => {
-            let _ = err.put(alloc, UNWRITTEN);
+            try_line(alloc, UNWRITTEN, err);
             6
         }
         Err(Interrupt::NoMemory) => {
-            let _ = err.put(alloc, NO_MEMORY);
+            try_line(alloc, NO_MEMORY, err);
             7
         }
     }

@@ -10,5 +10,5 @@ returns-then-bytes-ge-READ_LIMIT g c =
     let line = refused_line c.args.name.now (codes "file too large") 0x04000000 in
     let made : c.deref.result.now ≡ line = c.deref.ensures.value ∙ c.in_ok-line.ensures in
     rw (too_large c.args.name.now c.args.bytes.now c.if-bytes-ge-READ_LIMIT.true)
-        (gives_line 5 c.deref.result.now line c.answer_error.result
-        (g.O.Sink.written c.args.out.now) (g.O.Sink.faults c.args.out.now) _ made c.answer_error.ensures.status c.answer_error.ensures.written)
+    (gives_line 5 c.deref.result.now line c.answer_error.result
+    (g.O.Sink.written c.args.out.now) (g.O.Sink.faults c.args.out.now) _ made c.answer_error.ensures.status c.answer_error.ensures.written)

@@ -1,25 +1,50 @@
-use Rattle.std.proofs.Common.{rules, ◌≡◌, ◌≢◌, ◌⊎◌, ◌<◌, ◌≤◌, ◌↔◌, List, ℕ, length, map, Option, IfOk, None, ◌+◌, ◌-◌, ◌*◌, ◌/◌, ◌%◌, Bool, true, false, nat_eq, nat_lt, [], ◌∷◌, ◌++◌, slice_index_or, slice_set, bit_and, bit_or, Fits, w8, w32, w64, Bor, MutBor}
+use Rattle.std.proofs.Common.{inl, map, String, Global, refl}
 use Rattle.std.specs.String.{string_bytes}
-use Rattle.cc_base.specs.Counts.{Rose, Kept}
-use Rattle.cc_base.specs.Files.{Held}
-use Rattle.check_driver.specs.Expected.{AreTold, IsUnder, expected, unread_line, file_of, error_answer, unit_answer, bytes_answer, unit_file_answer}
-use Rattle.check_driver.specs.Outcome.{Gives, GivesOrUnread, Leaves}
-use Rattle.check_driver.specs.Text.{unit_report}
-use Rattle.check_driver.specs.UnitFile.{first_unit_fault}
-use Rattle.check_driver.specs.UnitSpelling.{IsBuilt}
-use Rattle.check_driver.specs.Verdicts.{verdicts, all_proved}
-use Rattle.check_driver.specs.Words.{command_of}
-use Rattle.check_driver.specs.Writing.{Writes, change, joined}
+use Rattle.cc_base.specs.Counts.{Rose}
+use Rattle.check_driver.specs.Expected.{expected, file_of}
+use Rattle.check_driver.specs.Writing.{change}
+use Rattle.check_driver.proofs.Leaving.{leaves_unwritten, leaves_no_memory, told_front}
+use Rattle.check_driver.proofs.PrintedSafe.{printed_safe}
 use Rattle.check_driver.proofs.program.run_words.Goals as goal
 
--- src/program.rt:179:1
 pub returns-in-Ok-clause-no_command : goal.returns-in-Ok-clause-no_command
-returns-in-Ok-clause-no_command g c = ?
+returns-in-Ok-clause-no_command g c = λ e. inl (c.in-Ok.ensures.usage e)
 
--- src/program.rt:179:1
 pub returns-in-Err-CannotWrite-clause-output : goal.returns-in-Err-CannotWrite-clause-output
-returns-in-Err-CannotWrite-clause-output g c = ?
+returns-in-Err-CannotWrite-clause-output g c =
+    let words = map (λ (word : String Global). string_bytes word) c.args.words.now in
+    let answer = rw c.in-Err-CannotWrite.field-0-is at c.in-Err-CannotWrite.ensures.answer in
+    (answer.0, answer.1, leaves_unwritten (expected words answer.0) (file_of words) _ _ _ _ _ _ _ _ answer.2 c.try_line.ensures.front c.try_line.ensures.kept)
 
--- src/program.rt:179:1
 pub returns-in-Err-NoMemory-clause-output : goal.returns-in-Err-NoMemory-clause-output
-returns-in-Err-NoMemory-clause-output g c = ?
+returns-in-Err-NoMemory-clause-output g c =
+    let words = map (λ (word : String Global). string_bytes word) c.args.words.now in
+    let answer = rw c.in-Err-NoMemory.field-0-is at c.in-Err-NoMemory.ensures.answer in
+    (answer.0, answer.1, leaves_no_memory (expected words answer.0) (file_of words) _ _ _ _ _ _ _ _ answer.2 c.try_line-in-Err-NoMemory.ensures.front)
+
+pub returns-in-Ok-clause-single_unit : goal.returns-in-Ok-clause-single_unit
+returns-in-Ok-clause-single_unit g c = λ held unit told asks prints.
+    let words = map (λ (word : String Global). string_bytes word) c.args.words.now in
+    let answer = c.answer_words.ensures.answer in
+    printed_safe words held unit (g.O.Sink.written c.args.out.now) (g.O.Sink.written c.answer_words.new.out) asks (told_front words (g.F.Files.held c.args.files.now) held answer.0 (file_of words) (Rose (g.F.Files.faults c.args.files.now) (g.F.Files.faults c.answer_words.new.files)) c.answer_words.result
+        (g.O.Sink.written c.args.out.now) (g.O.Sink.written c.answer_words.new.out) (g.O.Sink.faults c.args.out.now) (g.O.Sink.faults c.answer_words.new.out)
+        (change (g.E.Sink.written c.args.err.now) (g.E.Sink.written c.answer_words.new.err) (g.E.Sink.faults c.args.err.now) (g.E.Sink.faults c.answer_words.new.err))
+        told answer.1 answer.2) prints
+
+pub returns-in-Err-CannotWrite-clause-single_unit : goal.returns-in-Err-CannotWrite-clause-single_unit
+returns-in-Err-CannotWrite-clause-single_unit g c = λ held unit told asks prints.
+    let words = map (λ (word : String Global). string_bytes word) c.args.words.now in
+    let answer = c.answer_words.ensures.answer in
+    printed_safe words held unit (g.O.Sink.written c.args.out.now) (g.O.Sink.written c.answer_words.new.out) asks (told_front words (g.F.Files.held c.args.files.now) held answer.0 (file_of words) (Rose (g.F.Files.faults c.args.files.now) (g.F.Files.faults c.answer_words.new.files)) c.answer_words.result
+        (g.O.Sink.written c.args.out.now) (g.O.Sink.written c.answer_words.new.out) (g.O.Sink.faults c.args.out.now) (g.O.Sink.faults c.answer_words.new.out)
+        (change (g.E.Sink.written c.args.err.now) (g.E.Sink.written c.answer_words.new.err) (g.E.Sink.faults c.args.err.now) (g.E.Sink.faults c.answer_words.new.err))
+        told answer.1 answer.2) prints
+
+pub returns-in-Err-NoMemory-clause-single_unit : goal.returns-in-Err-NoMemory-clause-single_unit
+returns-in-Err-NoMemory-clause-single_unit g c = λ held unit told asks prints.
+    let words = map (λ (word : String Global). string_bytes word) c.args.words.now in
+    let answer = c.answer_words.ensures.answer in
+    printed_safe words held unit (g.O.Sink.written c.args.out.now) (g.O.Sink.written c.answer_words.new.out) asks (told_front words (g.F.Files.held c.args.files.now) held answer.0 (file_of words) (Rose (g.F.Files.faults c.args.files.now) (g.F.Files.faults c.answer_words.new.files)) c.answer_words.result
+        (g.O.Sink.written c.args.out.now) (g.O.Sink.written c.answer_words.new.out) (g.O.Sink.faults c.args.out.now) (g.O.Sink.faults c.answer_words.new.out)
+        (change (g.E.Sink.written c.args.err.now) (g.E.Sink.written c.answer_words.new.err) (g.E.Sink.faults c.args.err.now) (g.E.Sink.faults c.answer_words.new.err))
+        told answer.1 answer.2) prints
