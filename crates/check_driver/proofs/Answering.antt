@@ -1,14 +1,14 @@
 -- Answers, by what is held under a name and by the words.
-use Rattle.std.proofs.Common.{◌≡◌, ℕ, zero, suc, ◌<◌, ◌≤◌, Bool, true, false, List, [], ◌∷◌, length, get_or, map, take, String, Global, Option, Some, None, option_map, Result, refl, sym, ap, ◌∙◌, arith, inl, inr, ◌⊎◌, length-take}
+use Rattle.std.proofs.Common.{◌≡◌, ℕ, zero, suc, ◌<◌, ◌≤◌, List, [], ◌∷◌, length, get_or, map, take, String, Global, Option, Some, None, Result, refl, sym, ap, ◌∙◌, arith, inl, inr, length-take}
 use Rattle.std.specs.Prelude.{codes}
 use Rattle.std.specs.String.{string_bytes}
 use Rattle.std.specs.Option.{ForSome}
-use Rattle.std.proofs.lemmas.Bool.{cases_lt, le-leb, lt-leb}
+use Rattle.std.proofs.lemmas.Bool.{cases_lt, le-leb}
 use Rattle.std.proofs.lemmas.List.{take_all}
 use Rattle.cc_base.specs.Files.{Held, IsRead}
 use Rattle.cc_base.specs.declared.files.TheConstants.{READ_LIMIT}
-use Rattle.check_driver.specs.Expected.{Answer, USAGE, error_answer, refused_line, AreTold, IsUnder, expected, command_answer, unit_file_answer, bytes_answer, word_at, file_of}
-use Rattle.check_driver.specs.Outcome.{Gives, GivesOrUnread}
+use Rattle.check_driver.specs.Expected.{USAGE, error_answer, refused_line, AreTold, IsUnder, expected, unit_file_answer, bytes_answer, word_at, file_of}
+use Rattle.check_driver.specs.Outcome.{GivesOrUnread}
 use Rattle.check_driver.specs.Words.{command_of, file_place}
 use Rattle.check_driver.specs.Writing.{Change}
 use Rattle.check_driver.specs.declared.command.Command.{Command}

@@ -1,6 +1,6 @@
 -- An instruction that stands in code takes some of its bytes, and no more than there are.
-use Rattle.std.proofs.Common.{◌≡◌, ℕ, ◌+◌, ◌-◌, ◌<◌, ◌≤◌, List, [], ◌∷◌, ◌++◌, length, drop, inl, inr, ap, arith, length-append, length-drop}
-use Rattle.cil_model.specs.Spells.{Spells, SpellsOp}
+use Rattle.std.proofs.Common.{◌≡◌, ℕ, ◌+◌, ◌<◌, List, ◌∷◌, ◌++◌, length, drop, inl, inr, ap, arith, length-append, length-drop}
+use Rattle.cil_model.specs.Spells.{SpellsOp}
 use Rattle.cil_model.specs.declared.instruction.BinOp.{BinOp}
 use Rattle.cil_model.specs.declared.instruction.BinOp.TheVariants as operators
 use Rattle.cil_model.specs.declared.instruction.Instr.{Instr}

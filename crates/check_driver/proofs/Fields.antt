@@ -1,6 +1,5 @@
 -- The arguments of a unit file, one after another.
 use Rattle.std.proofs.Common.{◌≡◌, ℕ, suc, ◌+◌, ◌-◌, ◌<◌, List, Some, None, refl, arith}
-use Rattle.check_driver.specs.Faults.{◌otherwise◌}
 use Rattle.check_driver.specs.UnitFile.{arg_fault, arg_faults}
 use Rattle.check_driver.specs.declared.unit_fault.UnitFault.{UnitFault}
 

@@ -1,12 +1,12 @@
 -- Instructions that are read one after another are those that were sought.
-use Rattle.std.proofs.Common.{◌≡◌, ℕ, zero, suc, ◌+◌, ◌-◌, ◌<◌, ◌≤◌, List, [], ◌∷◌, ◌++◌, length, get_or, drop, Option, Some, None, Result, Ok, Err, refl, sym, ap, ◌∙◌, append_assoc, append-nil, arith}
+use Rattle.std.proofs.Common.{◌≡◌, ℕ, zero, suc, ◌+◌, ◌-◌, ◌<◌, ◌≤◌, List, [], ◌∷◌, ◌++◌, length, get_or, drop, Some, None, Result, Ok, Err, refl, sym, ap, ◌∙◌, append_assoc, append-nil, arith}
 use Rattle.std.proofs.Math.ListN.{drop_of_length-le}
 use Rattle.std.proofs.Math.Seq.{drop-cons}
 use Rattle.std.proofs.lemmas.Bool.{le-leb, lt-leb}
 use Rattle.cil_model.specs.declared.instruction.Instr.{Instr}
 use Rattle.il_decoder.specs.Decoding.{decoded}
 use Rattle.check_driver.specs.Faults.{Reads}
-use Rattle.check_driver.specs.UnitFile.{built, followed_by, then_instructions, instructions, limit_fault}
+use Rattle.check_driver.specs.UnitFile.{built, followed_by, instructions, limit_fault}
 use Rattle.check_driver.specs.declared.unit_fault.UnitFault.{UnitFault}
 use Rattle.check_driver.specs.declared.unit_fault.UnitFault.TheVariants.{Form}
 use Rattle.check_driver.specs.declared.unit_fault.UnitRefusal.{UnitRefusal}

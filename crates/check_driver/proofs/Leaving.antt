@@ -1,12 +1,12 @@
 -- What a call of the program leaves, from what its answer gave.
-use Rattle.std.proofs.Common.{◌≡◌, ◌≢◌, ℕ, Bool, true, false, cond, List, [], ◌∷◌, ◌++◌, Option, Some, None, Result, Ok, Err, refl, sym, ap, subst, ◌∙◌, arith, inl, inr, ◌⊎◌}
+use Rattle.std.proofs.Common.{◌≡◌, ◌≢◌, ℕ, List, [], Option, Some, Result, Ok, Err, refl, sym, ap, subst, ◌∙◌, arith, inl, inr, ◌⊎◌}
 use Rattle.cc_base.specs.Counts.{Rose, Kept}
 use Rattle.cc_base.specs.Files.{Held}
-use Rattle.cc_base.specs.Sink.{appended, IsFront, AppendsFront}
+use Rattle.cc_base.specs.Sink.{appended, AppendsFront}
 use Rattle.cc_base.proofs.CountLemmas.{Rose-Kept}
 use Rattle.cc_base.proofs.SinkLemmas.{appended-appended, IsFront-nil, AppendsFront-all, AppendsFront-front}
 use Rattle.check_driver.specs.Expected.{Answer, AreTold, expected, unread_line, UNWRITTEN_LINE, NO_MEMORY_LINE}
-use Rattle.check_driver.specs.Outcome.{Gives, GivesOrUnread, Leaves, Interrupted, WritesAll}
+use Rattle.check_driver.specs.Outcome.{GivesOrUnread, Leaves, Interrupted}
 use Rattle.check_driver.specs.Writing.{Change, change}
 use Rattle.check_driver.specs.declared.interrupt.Interrupt.{Interrupt}
 use Rattle.check_driver.specs.declared.interrupt.Interrupt.TheVariants as interrupts

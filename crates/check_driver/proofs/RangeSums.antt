@@ -1,5 +1,5 @@
 -- Sums of ranges, where their ends are moved into int32.
-use Rattle.std.proofs.Common.{◌≡◌, ℤ, pos, negsuc, ◌+ℤ◌, ◌-ℤ◌, ◌≤ℤ◌, Bool, true, false, cond, ◌&&◌, FitsSigned, w32, refl, arith}
+use Rattle.std.proofs.Common.{◌≡◌, ℤ, ◌+ℤ◌, ◌-ℤ◌, true, false, ◌&&◌, FitsSigned, w32, refl, arith}
 use Rattle.std.specs.Prelude.{int_le}
 use Rattle.std.proofs.lemmas.Int.{ints}
 use Rattle.cc_base.specs.Wrap.{wrap32}

@@ -1,12 +1,12 @@
 -- What reading a unit finds, step after step.
-use Rattle.std.proofs.Common.{◌≡◌, ℕ, ◌+◌, ◌^◌, ◌<◌, ◌≤◌, List, length, drop, All, Option, Some, None, Result, Ok, Err, Vec, Global, refl, sym, ap, ◌∙◌, arith}
+use Rattle.std.proofs.Common.{◌≡◌, ℕ, ◌+◌, ◌^◌, ◌<◌, ◌≤◌, List, length, drop, All, Some, None, Result, Ok, Err, refl, sym, ◌∙◌, arith}
 use Rattle.std.specs.Prelude.{IfOk}
 use Rattle.cc_base.specs.LittleEndian.{IsBytes}
 use Rattle.cil_model.specs.declared.instruction.Instr.{Instr}
 use Rattle.cil_model.specs.declared.unit.Unit.{Unit as MethodUnit}
 use Rattle.check_driver.specs.Faults.{◌otherwise◌, Reads}
 use Rattle.check_driver.specs.Typing.{typing_fault}
-use Rattle.check_driver.specs.UnitFile.{HasFields, field_fault, first_unit_fault, instructions, instructions_of, instructions_fault, limit_fault, unit_with, unit_of, arg_count, max_stack, code_at}
+use Rattle.check_driver.specs.UnitFile.{HasFields, field_fault, first_unit_fault, instructions, instructions_of, limit_fault, unit_with, unit_of, arg_count, max_stack, code_at}
 use Rattle.check_driver.specs.UnitSpelling.{IsBuilt, IsRead, ReadsOnly, unit_bytes}
 use Rattle.check_driver.specs.declared.unit_fault.UnitFault.{UnitFault}
 use Rattle.check_driver.specs.declared.unit_fault.UnitRefusal.{UnitRefusal}

@@ -1,5 +1,5 @@
 -- How many verdicts there are, and where.
-use Rattle.std.proofs.Common.{◌≡◌, ℕ, suc, ◌+◌, ◌<◌, ◌≤◌, Bool, true, false, cond, List, [], ◌∷◌, ◌++◌, length, map, All, ap, arith, length-append}
+use Rattle.std.proofs.Common.{◌≡◌, ℕ, suc, ◌+◌, ◌<◌, ◌≤◌, true, false, cond, List, [], ◌∷◌, ◌++◌, length, map, All, ap, arith, length-append}
 use Rattle.std.specs.List.{AllByRecursion}
 use Rattle.std.proofs.lemmas.List.{length-map}
 use Rattle.std.proofs.lemmas.List.Elements.{All-from_recursion}
@@ -8,7 +8,6 @@ use Rattle.cil_model.specs.declared.instruction.Instr.{Instr}
 use Rattle.cil_model.specs.declared.unit.Unit.{Unit as MethodUnit}
 use Rattle.check_driver.specs.UnitSpelling.{IsBuilt}
 use Rattle.check_driver.specs.Verdicts.{is_assert, obligations, verdict, verdicts}
-use Rattle.check_driver.specs.declared.judge.Verdict.{Verdict}
 use Rattle.check_driver.proofs.Decoded.{spelling_some}
 
 weaker : (a b : ℕ) (offsets : List ℕ) → a ≤ b → AllByRecursion (λ o. o < a) offsets → AllByRecursion (λ o. o < b) offsets

@@ -1,11 +1,10 @@
 -- How texts that are written follow one another, and what answers they make.
-use Rattle.std.proofs.Common.{◌≡◌, ℕ, suc, ◌+◌, ◌<◌, Bool, true, false, cond, List, [], ◌∷◌, ◌++◌, length, get_or, take, drop, Option, Result, Ok, Err, Vec, Global, refl, sym, ap, subst, ◌∙◌, append_assoc, append-nil, take-append-drop, add-one, inl, inr}
-use Rattle.std.specs.Prelude.{IfOk, OnOk, IsErrOf}
-use Rattle.std.specs.List.{flat_map}
+use Rattle.std.proofs.Common.{◌≡◌, ℕ, suc, ◌<◌, Bool, cond, List, [], ◌∷◌, ◌++◌, length, get_or, take, drop, Option, Result, Ok, Err, Vec, Global, refl, sym, ap, subst, ◌∙◌, append_assoc, take-append-drop, inl, inr}
+use Rattle.std.specs.Prelude.{IfOk, IsErrOf}
 use Rattle.std.proofs.Math.Seq.{drop-cons}
 use Rattle.std.proofs.lemmas.List.Concat.{flat_map-append}
-use Rattle.cc_base.specs.Counts.{Rose, Kept}
-use Rattle.cc_base.specs.Sink.{appended, IsFront, AppendsFront}
+use Rattle.cc_base.specs.Counts.{Kept}
+use Rattle.cc_base.specs.Sink.{appended, IsFront}
 use Rattle.cc_base.proofs.CountLemmas.{Kept-refl, Kept-trans, Kept-Rose}
 use Rattle.cc_base.proofs.SinkLemmas.{appended-nil, AppendsFront-none, AppendsFront-after, AppendsFront-front}
 use Rattle.check_driver.specs.Expected.{Answer, error_answer, report_answer}

@@ -1,5 +1,5 @@
 -- What a call of the program gives where nothing interrupts it.
-use Rattle.std.specs.Prelude.{◌≡◌, ℕ, Bool, List, [], ◌∷◌, ◌++◌, length, Option, Some, None, ◌⊎◌, nat_le, if◌then◌else◌, codes, slice_index_or}
+use Rattle.std.specs.Prelude.{◌≡◌, ℕ, Bool, List, [], ◌++◌, length, Option, Some, None, nat_le, if◌then◌else◌, codes, slice_index_or}
 use Rattle.std.specs.Option.{ForSome}
 use Rattle.cc_base.specs.Digits.{hex}
 use Rattle.cc_base.specs.Files.{Held}

@@ -1,5 +1,5 @@
 -- What a call of the program leaves, however it ends.
-use Rattle.std.specs.Prelude.{◌≡◌, ◌≢◌, ◌⊎◌, ℕ, List, ◌++◌, Result, IfOk, OnErr, IsErrOf, slice_index_or, []}
+use Rattle.std.specs.Prelude.{◌≡◌, ◌≢◌, ◌⊎◌, ℕ, List, ◌++◌, Result, IfOk, OnErr, IsErrOf}
 use Rattle.cc_base.specs.Counts.{Rose, Kept}
 use Rattle.cc_base.specs.Sink.{appended, AppendsFront, IsFront}
 use Rattle.check_driver.specs.Expected.{Answer, error_answer, unread_line, UNWRITTEN_LINE, NO_MEMORY_LINE}

@@ -8,7 +8,7 @@ use cc_base::PutRefusal;
 use std::alloc::{AllocError, AllocFailed};
 
 /// Why a call ended before its answer was whole.
-#[derive(Clone, Copy, Debug, PartialEq, Eq)]
+#[derive(Clone, Copy)]
 pub enum Interrupt {
     /// A sink refused.
     CannotWrite,

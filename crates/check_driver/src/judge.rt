@@ -10,7 +10,7 @@ use cil_model::{BinOp, Instr, Op, Unit};
 use std::alloc::{AllocError, Global};
 
 /// Whether the obligation at an IL offset is proved.
-#[derive(Clone, Copy, Debug, PartialEq, Eq)]
+#[derive(Clone, Copy)]
 pub struct Verdict {
     pub at: u32,
     pub proved: bool,

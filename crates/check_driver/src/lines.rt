@@ -118,7 +118,7 @@ fn append_count(
 }
 
 /// How many methods and obligations a report has, and how they were found.
-#[derive(Clone, Copy, Debug, PartialEq, Eq)]
+#[derive(Clone, Copy)]
 pub struct Counts {
     pub methods: u32,
     pub proved: u32,

@@ -5,7 +5,7 @@ ghost use Rattle.std.specs.Prelude.{◌≡◌};
 use cc_base::wrap32;
 
 /// All numbers from `lo` to `hi`.
-#[derive(Clone, Copy, Debug, PartialEq, Eq)]
+#[derive(Clone, Copy)]
 pub struct Range {
     pub lo: i32,
     pub hi: i32,

@@ -6,7 +6,7 @@ ghost use Rattle.check_driver.specs.declared.unit_fault.UnitRefusal.TheVariants.
 use std::alloc::{AllocError, AllocFailed};
 
 /// The first thing that is wrong with a unit file, with its offset in the file.
-#[derive(Clone, Copy, Debug, PartialEq, Eq)]
+#[derive(Clone, Copy)]
 pub enum UnitFault {
     /// A field passes the end of the file.
     Short(u32),
@@ -19,7 +19,7 @@ pub enum UnitFault {
 }
 
 /// Why a unit was not read.
-#[derive(Clone, Copy, Debug, PartialEq, Eq)]
+#[derive(Clone, Copy)]
 pub enum UnitRefusal {
     Bad(UnitFault),
     /// Memory ran out.

@@ -1,4 +1,4 @@
-use Rattle.std.proofs.Common.{◌∙◌, ap, arith}
+use Rattle.std.proofs.Common.{◌∙◌, ap}
 use Rattle.check_driver.specs.Verdicts.{entry}
 use Rattle.check_driver.proofs.Judging.{judged, judged-step, judged-end, judged_verdicts, code_rises}
 use Rattle.check_driver.proofs.judge.judge.Goals as goal

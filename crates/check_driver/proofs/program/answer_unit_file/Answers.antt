@@ -1,7 +1,6 @@
 use Rattle.std.proofs.Common.{◌≡◌, ◌∙◌, None, refl, inl, inr}
 use Rattle.std.proofs.lemmas.Result.{err_from_is_err_and}
 use Rattle.check_driver.specs.Expected.{unit_file_answer, missing_line, unread_line}
-use Rattle.check_driver.specs.Outcome.{unread_answer}
 use Rattle.check_driver.proofs.Answering.{read_under, any_under}
 use Rattle.check_driver.proofs.Writings.{gives_line, gives_no_memory}
 use Rattle.check_driver.proofs.program.answer_unit_file.Goals as goal

@@ -1,4 +1,4 @@
-use Rattle.std.proofs.Common.{◌≡◌, ◌∙◌, refl, sym, ap, inl, arith, map, String, Global}
+use Rattle.std.proofs.Common.{◌≡◌, ◌∙◌, refl, sym, inl, arith, map, String, Global}
 use Rattle.std.specs.String.{string_bytes}
 use Rattle.check_driver.specs.Expected.{USAGE, word_at}
 use Rattle.check_driver.proofs.Answering.{any_held, words_answer, word_is, no_command_answer}

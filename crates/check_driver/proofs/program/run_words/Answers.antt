@@ -1,4 +1,4 @@
-use Rattle.std.proofs.Common.{inl, map, String, Global, refl}
+use Rattle.std.proofs.Common.{inl, map, String, Global}
 use Rattle.std.specs.String.{string_bytes}
 use Rattle.cc_base.specs.Counts.{Rose}
 use Rattle.check_driver.specs.Expected.{expected, file_of}
@@ -27,24 +27,24 @@ returns-in-Ok-clause-single_unit g c = λ held unit told asks prints.
     let words = map (λ (word : String Global). string_bytes word) c.args.words.now in
     let answer = c.answer_words.ensures.answer in
     printed_safe words held unit (g.O.Sink.written c.args.out.now) (g.O.Sink.written c.answer_words.new.out) asks (told_front words (g.F.Files.held c.args.files.now) held answer.0 (file_of words) (Rose (g.F.Files.faults c.args.files.now) (g.F.Files.faults c.answer_words.new.files)) c.answer_words.result
-        (g.O.Sink.written c.args.out.now) (g.O.Sink.written c.answer_words.new.out) (g.O.Sink.faults c.args.out.now) (g.O.Sink.faults c.answer_words.new.out)
-        (change (g.E.Sink.written c.args.err.now) (g.E.Sink.written c.answer_words.new.err) (g.E.Sink.faults c.args.err.now) (g.E.Sink.faults c.answer_words.new.err))
-        told answer.1 answer.2) prints
+    (g.O.Sink.written c.args.out.now) (g.O.Sink.written c.answer_words.new.out) (g.O.Sink.faults c.args.out.now) (g.O.Sink.faults c.answer_words.new.out)
+    (change (g.E.Sink.written c.args.err.now) (g.E.Sink.written c.answer_words.new.err) (g.E.Sink.faults c.args.err.now) (g.E.Sink.faults c.answer_words.new.err))
+    told answer.1 answer.2) prints
 
 pub returns-in-Err-CannotWrite-clause-single_unit : goal.returns-in-Err-CannotWrite-clause-single_unit
 returns-in-Err-CannotWrite-clause-single_unit g c = λ held unit told asks prints.
     let words = map (λ (word : String Global). string_bytes word) c.args.words.now in
     let answer = c.answer_words.ensures.answer in
     printed_safe words held unit (g.O.Sink.written c.args.out.now) (g.O.Sink.written c.answer_words.new.out) asks (told_front words (g.F.Files.held c.args.files.now) held answer.0 (file_of words) (Rose (g.F.Files.faults c.args.files.now) (g.F.Files.faults c.answer_words.new.files)) c.answer_words.result
-        (g.O.Sink.written c.args.out.now) (g.O.Sink.written c.answer_words.new.out) (g.O.Sink.faults c.args.out.now) (g.O.Sink.faults c.answer_words.new.out)
-        (change (g.E.Sink.written c.args.err.now) (g.E.Sink.written c.answer_words.new.err) (g.E.Sink.faults c.args.err.now) (g.E.Sink.faults c.answer_words.new.err))
-        told answer.1 answer.2) prints
+    (g.O.Sink.written c.args.out.now) (g.O.Sink.written c.answer_words.new.out) (g.O.Sink.faults c.args.out.now) (g.O.Sink.faults c.answer_words.new.out)
+    (change (g.E.Sink.written c.args.err.now) (g.E.Sink.written c.answer_words.new.err) (g.E.Sink.faults c.args.err.now) (g.E.Sink.faults c.answer_words.new.err))
+    told answer.1 answer.2) prints
 
 pub returns-in-Err-NoMemory-clause-single_unit : goal.returns-in-Err-NoMemory-clause-single_unit
 returns-in-Err-NoMemory-clause-single_unit g c = λ held unit told asks prints.
     let words = map (λ (word : String Global). string_bytes word) c.args.words.now in
     let answer = c.answer_words.ensures.answer in
     printed_safe words held unit (g.O.Sink.written c.args.out.now) (g.O.Sink.written c.answer_words.new.out) asks (told_front words (g.F.Files.held c.args.files.now) held answer.0 (file_of words) (Rose (g.F.Files.faults c.args.files.now) (g.F.Files.faults c.answer_words.new.files)) c.answer_words.result
-        (g.O.Sink.written c.args.out.now) (g.O.Sink.written c.answer_words.new.out) (g.O.Sink.faults c.args.out.now) (g.O.Sink.faults c.answer_words.new.out)
-        (change (g.E.Sink.written c.args.err.now) (g.E.Sink.written c.answer_words.new.err) (g.E.Sink.faults c.args.err.now) (g.E.Sink.faults c.answer_words.new.err))
-        told answer.1 answer.2) prints
+    (g.O.Sink.written c.args.out.now) (g.O.Sink.written c.answer_words.new.out) (g.O.Sink.faults c.args.out.now) (g.O.Sink.faults c.answer_words.new.out)
+    (change (g.E.Sink.written c.args.err.now) (g.E.Sink.written c.answer_words.new.err) (g.E.Sink.faults c.args.err.now) (g.E.Sink.faults c.answer_words.new.err))
+    told answer.1 answer.2) prints

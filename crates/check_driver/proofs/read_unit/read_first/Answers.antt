@@ -1,7 +1,7 @@
-use Rattle.std.proofs.Common.{Vec, Global, arith}
+use Rattle.std.proofs.Common.{Vec, Global}
 use Rattle.std.proofs.lemmas.Result.{err_from_is_err_and}
 use Rattle.cil_model.specs.declared.instruction.Instr.{Instr}
-use Rattle.check_driver.proofs.ReadUnit.{fields_refused, instructions_unread, limit_refused, typing_refused, unit_found, places_fit}
+use Rattle.check_driver.proofs.ReadUnit.{fields_refused, instructions_unread, limit_refused, typing_refused, unit_found}
 use Rattle.check_driver.proofs.read_unit.read_first.Goals as goal
 
 pub returns-in_err-fields : goal.returns-in_err-fields
