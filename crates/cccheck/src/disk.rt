@@ -1,6 +1,7 @@
 //! The files of the system.
 
-ghost use Rattle.std.specs.Prelude.{None};
+ghost use Rattle.std.specs.Prelude.{◌≡◌, None};
+ghost use Rattle.cc_base.specs.Counts.{Rose, Kept};
 
 use cc_base::{Files, READ_LIMIT, ReadRefusal, ReplaceRefusal};
 use std::alloc::Global;
@@ -15,12 +16,6 @@ pub struct Disk<R> {
     faults: u64,
 }
 
-/// Why a file was not read whole.
-enum Unread {
-    Device,
-    NoMemory,
-}
-
 impl<R: fs::Files + Drop> Disk<R> {
     pub fn new(rt: R) -> Disk<R> {
         Disk {
@@ -29,23 +24,33 @@ impl<R: fs::Files + Drop> Disk<R> {
             faults: 0,
         }
     }
-}
 
-/// All that a reader gives, cut to the first `READ_LIMIT` bytes.
-fn read_all(alloc: Global, reader: &mut impl Read) -> Result<Vec<u8>, Unread> {
-    let mut bytes = Vec::new(alloc);
-    let mut buffer = [0; 65_536];
-    while bytes.len() < READ_LIMIT {
-        let room = buffer.len().min(READ_LIMIT - bytes.len());
-        let count = match reader.read(&mut buffer[..room]) {
-            Ok(0) => break,
-            Ok(count) => count,
-            Err(_) => return Err(Unread::Device),
-        };
-        if bytes.extend_from_slice(&buffer[..count]).is_err() {
-            return Err(Unread::NoMemory);
+    /// Counts a read that the system refused for this reason.
+    fn refused(&mut self, reason: ErrorKind) -> ReadRefusal
+        ensures missing { result ≡ ReadRefusal.Missing → Rose self.old.missed self.new.missed }
+        ensures failed { result ≡ ReadRefusal.Failed → Rose self.old.faults self.new.faults }
+        ensures missed_kept { Kept self.old.missed self.new.missed }
+        ensures faults_kept { Kept self.old.faults self.new.faults }
+    {
+        match reason {
+            ErrorKind::OutOfMemory => ReadRefusal::NoMemory,
+            ErrorKind::NotFound => {
+                self.missed = self.missed.saturating_add(1);
+                ReadRefusal::Missing
+            }
+            _ => {
+                self.faults = self.faults.saturating_add(1);
+                ReadRefusal::Failed
+            }
         }
     }
+}
+
+/// What stands under a name, cut to the first `READ_LIMIT` bytes.
+fn read_cut(alloc: Global, rt: &impl fs::Files, name: &str) -> io::Result<Vec<u8>> {
+    let mut bytes = Vec::new(alloc);
+    let file = fs::open(rt, name)?;
+    file.take(READ_LIMIT as u64).read_to_end(&mut bytes)?;
     Ok(bytes)
 }
 
@@ -69,21 +74,10 @@ impl<R: fs::Files + Drop> Files for Disk<R> {
     ghost faults = { λ d. d.faults };
 
     fn read(&mut self, alloc: Global, name: &str) -> Result<Vec<u8>, ReadRefusal> {
-        let refusal = match fs::open(&self.rt, name) {
-            Ok(mut file) => match read_all(alloc, &mut file) {
-                Ok(bytes) => return Ok(bytes),
-                Err(Unread::Device) => ReadRefusal::Failed,
-                Err(Unread::NoMemory) => ReadRefusal::NoMemory,
-            },
-            Err(error) if error.kind() == ErrorKind::NotFound => ReadRefusal::Missing,
-            Err(_) => ReadRefusal::Failed,
-        };
-        match refusal {
-            ReadRefusal::Missing => self.missed = self.missed.saturating_add(1),
-            ReadRefusal::Failed => self.faults = self.faults.saturating_add(1),
-            ReadRefusal::NoMemory => {}
+        match read_cut(alloc, &self.rt, name) {
+            Ok(bytes) => Ok(bytes),
+            Err(error) => Err(self.refused(error.kind())),
         }
-        Err(refusal)
     }
 
     fn replace(&mut self, alloc: Global, name: &str, bytes: &[u8]) -> Result<(), ReplaceRefusal> {

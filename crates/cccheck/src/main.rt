@@ -1,5 +1,5 @@
 //! cccheck: checks the contracts of methods in compiled .NET assemblies without running them.
-#![tactic(auto)]
+#![tactic(auto, using(cc_base::proofs::CountLemmas::counts))]
 
 use check_driver::run_words;
 use disk::Disk;

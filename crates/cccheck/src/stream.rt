@@ -25,15 +25,9 @@ impl<W: Write + Drop> Sink for Stream<W> {
     ghost faults = { λ s. s.faults };
 
     fn put(&mut self, _alloc: Global, bytes: &[u8]) -> Result<(), PutRefusal> {
-        let mut rest = bytes;
-        while !rest.is_empty() {
-            match self.writer.write(rest) {
-                Ok(count) if count > 0 => rest = &rest[count..],
-                _ => {
-                    self.faults = self.faults.saturating_add(1);
-                    return Err(PutRefusal::Failed);
-                }
-            }
+        if self.writer.write_all(bytes).is_err() || self.writer.flush().is_err() {
+            self.faults = self.faults.saturating_add(1);
+            return Err(PutRefusal::Failed);
         }
         Ok(())
     }
