@@ -50,7 +50,14 @@ use Column::*;
 const SCHEMAS: [&[Column]; TABLES] = [
     &[Two, Strings, Guid, Guid, Guid],
     &[Coded(ResolutionScope), Strings, Strings],
-    &[Four, Strings, Strings, Coded(TypeDefOrRef), Row(0x04), Row(0x06)],
+    &[
+        Four,
+        Strings,
+        Strings,
+        Coded(TypeDefOrRef),
+        Row(0x04),
+        Row(0x06),
+    ],
     &[],
     &[Two, Strings, Blob],
     &[],
@@ -108,7 +115,11 @@ fn schema_at<'a>(schemas: &[&'a [Column]], table: u8) -> &'a [Column]
     ensures { result.now ≡ slice_index_or (map (λ schema. schema.now) schemas.now) table [] }
 {
     let table = usize::from(table);
-    if table < schemas.len() { schemas[table] } else { &[] }
+    if table < schemas.len() {
+        schemas[table]
+    } else {
+        &[]
+    }
 }
 
 impl CodedIndex {
@@ -118,7 +129,8 @@ impl CodedIndex {
     {
         match self {
             TypeDefOrRef | HasConstant | HasDeclSecurity | Implementation | ResolutionScope => 2,
-            HasFieldMarshal | HasSemantics | MethodDefOrRef | MemberForwarded | TypeOrMethodDef => 1,
+            HasFieldMarshal | HasSemantics | MethodDefOrRef | MemberForwarded | TypeOrMethodDef =>
+                1,
             MemberRefParent | CustomAttributeType => 3,
             HasCustomAttribute => 5,
         }

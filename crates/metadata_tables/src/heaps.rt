@@ -1,0 +1,64 @@
+//! The items of the heaps (ECMA-335 II.24.2.3 and II.24.2.4).
+
+ghost use Rattle.std.specs.Prelude.{◌≡◌, option_map};
+ghost use Rattle.metadata_tables.specs.Root.{zero_ended};
+ghost use Rattle.metadata_tables.specs.Heaps.{prefix_of, whole_prefix, item_of};
+
+use byteorder::{BigEndian, ByteOrder};
+
+/// The bytes before the first zero, none where there is no zero.
+pub(crate) fn zero_ended(bytes: &[u8]) -> Option<&[u8]>
+    ensures { option_map (λ text. text.now) result ≡ zero_ended bytes.now }
+{
+    let len = bytes.iter().position(|byte| *byte == 0)?;
+    Some(&bytes[..len])
+}
+
+/// A length of an item: its number, and how many bytes it is written in.
+#[derive(Clone, Copy)]
+pub(crate) struct Prefix {
+    pub(crate) len: u32,
+    pub(crate) width: usize,
+}
+
+/// The compressed length at the front (II.23.2).
+fn prefix_of(bytes: &[u8]) -> Option<Prefix>
+    ensures { result ≡ prefix_of bytes.now }
+{
+    let first = *bytes.first()?;
+    if first < 0x80 {
+        return Some(Prefix {
+            len: u32::from(first),
+            width: 1,
+        });
+    }
+    if first < 0xc0 && bytes.len() >= 2 {
+        let len = u32::from(BigEndian::read_u16(bytes) & 0x3fff);
+        return Some(Prefix { len, width: 2 });
+    }
+    if first >= 0xc0 && first < 0xe0 && bytes.len() >= 4 {
+        let len = BigEndian::read_u32(bytes) & 0x1fff_ffff;
+        return Some(Prefix { len, width: 4 });
+    }
+    None
+}
+
+/// The length at the front of an item that is there as a whole.
+pub(crate) fn whole_prefix(bytes: &[u8]) -> Option<Prefix>
+    ensures { result ≡ whole_prefix bytes.now }
+{
+    let front = prefix_of(bytes)?;
+    if front.width + front.len as usize <= bytes.len() {
+        Some(front)
+    } else {
+        None
+    }
+}
+
+/// The item at the front: as many bytes as its length says.
+pub(crate) fn item_of(bytes: &[u8]) -> Option<&[u8]>
+    ensures { option_map (λ item. item.now) result ≡ item_of bytes.now }
+{
+    let front = whole_prefix(bytes)?;
+    Some(&bytes[front.width..front.width + front.len as usize])
+}
