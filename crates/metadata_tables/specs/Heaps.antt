@@ -2,15 +2,11 @@
 use Rattle.std.specs.Prelude.{ℕ, ◌+◌, ◌-◌, ◌^◌, ◌%◌, List, length, take, drop, slice_index, Option, Some, None, option_map, option_and_then, nat_le, nat_lt, ◌==◌, if◌then◌else◌}
 use lib.Chars.{codes}
 use Rattle.byteorder.specs.Endian.{big_number}
+use Rattle.metadata_tables.specs.declared.heaps.Prefix.{Prefix}
 use Rattle.metadata_tables.specs.Layout.{start_of}
 use Rattle.metadata_tables.specs.Root.{stream, heap, zero_ended}
 
--- A length of an item: its number, and how many bytes it is written in.
-pub record Prefix : Type 0 where
-  pub len : ℕ
-  pub width : ℕ
-
--- A field of this many bytes at the front, where they are there.
+-- A length that is written in the first bytes, this many, and has this many bits.
 abbrev pub prefix : List ℕ → ℕ → ℕ → Option Prefix
 prefix bytes width bits =
     if nat_le width (length bytes) then Some (record { len = big_number width bytes % 2 ^ bits; width = width }) else None

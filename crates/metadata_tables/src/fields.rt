@@ -36,11 +36,11 @@ pub(crate) fn after_run(
         (first_of (fields end (λ at. TableFault.Short at) start (replicate count width))) }
     ensures place { IfOk result (λ after. (after ≡ start + count * width) × (after ≤ end)) }
 {
-    let room = (end - start) as u64;
-    let needed = u64::from(count) * u64::from(width);
+    let room = end - start;
+    let width = width as usize;
+    let needed = count as usize * width;
     if needed > room {
-        let width = u64::from(width);
-        return Err(TableFault::Short((start as u64 + room / width * width) as u32));
+        return Err(TableFault::Short((start + room / width * width) as u32));
     }
-    Ok(start + needed as usize)
+    Ok(start + needed)
 }

@@ -1,7 +1,8 @@
 //! How many bytes the columns have.
 
 ghost use Rattle.std.specs.Prelude.{◌≡◌, ◌+◌, ◌*◌, ◌-◌, ◌<◌, ◌≤◌, length, slice_index};
-ghost use Rattle.std.specs.Prelude.{◌==◌};
+ghost use Rattle.std.specs.Prelude.{◌==◌, nat_lt};
+ghost use Rattle.std.specs.List.{list_all};
 ghost use Rattle.std.specs.Int.{bit_at};
 ghost use Rattle.metadata_tables.specs.Schema.{row_index_width, heap_index_width, width, total_width};
 
@@ -34,12 +35,19 @@ fn heap_index_width(heap_sizes: u8, bit: u8) -> u32
     }
 }
 
+/// Whether each of these tables has fewer rows than this.
+fn are_below(counts: &[u32; TABLES], tables: &[u8], limit: u32) -> bool
+    ensures { result ≡ list_all (λ table. nat_lt (slice_index counts.now table) limit) tables.now }
+{
+    tables.iter().all(|table| count_of(counts, *table) < limit)
+}
+
 fn row_index_width(counts: &[u32; TABLES], tables: &[u8], bits: u8) -> u32
     requires { bits ≤ 16 }
     ensures { result ≡ row_index_width counts.now tables.now bits }
 {
     let limit = 1u32 << bits;
-    if tables.iter().all(|table| count_of(counts, *table) < limit) {
+    if are_below(counts, tables, limit) {
         2
     } else {
         4
