@@ -36,7 +36,7 @@ valid md = u64_at md (tables_at md + 8)
 unfoldable pub counts_at : List ℕ → ℕ
 counts_at md = tables_at md + 24
 
--- How many tables with numbers below this one are present.
+-- How many of the tables below this one have their bit set.
 unfoldable pub present_below : ℕ → ℕ → ℕ
 present_below bits table = sum_by (bit_at bits) (range_with_len 0 table)
 
@@ -61,6 +61,13 @@ row_width counts heap_sizes table = total_width counts heap_sizes (columns_of ta
 unfoldable pub bytes_below : List ℕ → ℕ → ℕ → ℕ
 bytes_below counts heap_sizes table =
     sum_by (λ lower. slice_index counts lower * row_width counts heap_sizes lower) (range_with_len 0 table)
+
+-- The bytes of a row of each table, and where its first row stands where those of the first table begin at a place.
+unfoldable pub row_widths : List ℕ → ℕ → List ℕ
+row_widths counts heap_sizes = map (row_width counts heap_sizes) (range_with_len 0 45)
+
+unfoldable pub bases : List ℕ → ℕ → ℕ → List ℕ
+bases counts heap_sizes rows_at = map (λ table. rows_at + bytes_below counts heap_sizes table) (range_with_len 0 45)
 
 -- Where the first row of a table stands.
 unfoldable pub base : List ℕ → ℕ → ℕ

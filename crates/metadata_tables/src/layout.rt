@@ -1,7 +1,12 @@
 //! The stream `#~`: which tables are present, and where their rows stand (ECMA-335 II.24.2.6).
 
-ghost use Rattle.std.specs.Prelude.{◌≡◌, ◌+◌, ◌*◌, ◌^◌, ◌<◌, ◌≤◌, length, map, IfOk};
+ghost use Rattle.std.specs.Prelude.{◌≡◌, ◌+◌, ◌*◌, ◌^◌, ◌<◌, ◌≤◌, length, map, Some, IfOk};
 ghost use Rattle.metadata_tables.specs.Tests.{first_of, Judges};
+ghost use Rattle.metadata_tables.specs.Root.{stream};
+ghost use Rattle.metadata_tables.specs.Layout.{valid, counts_at, present_below, row_counts};
+ghost use Rattle.metadata_tables.specs.TableTests.{bits_tests, all_rows_tests, tables_tests};
+ghost use Rattle.metadata_tables.specs.Placed.{IsPlaced, IsLayoutOf};
+ghost use lib.Chars.{codes};
 
 use crate::fault::TableFault;
 use crate::fields::{after_fields, after_run};
@@ -24,10 +29,13 @@ pub(crate) struct Layout {
 }
 
 /// How many tables the bits of Valid, which stands at a place, name.
-fn present_tables(valid: u64, at: u32) -> Result<u32, TableFault> {
+fn present_tables(bits: u64, at: u32) -> Result<u32, TableFault>
+    ensures judged { Judges result (first_of (bits_tests bits at)) }
+    ensures present { IfOk result (λ present. present ≡ present_below bits 64) }
+{
     let mut present = 0;
-    for bit in 0..64 {
-        if has_bit(valid, bit) {
+    for bit in 0..64u8 {
+        if has_bit(bits, bit) {
             if columns(bit).is_empty() {
                 return Err(TableFault::BadTables { bit, at });
             }
@@ -38,11 +46,17 @@ fn present_tables(valid: u64, at: u32) -> Result<u32, TableFault> {
 }
 
 /// The row counts of all tables, which stand from a place on for those that are present.
-fn row_counts(md: &[u8], counts_at: usize, valid: u64) -> [u32; TABLES] {
+fn row_counts(md: &[u8], start: usize, bits: u64) -> [u32; TABLES]
+    requires length { length md.now < 2 ^ 31 }
+    requires bits { bits ≡ valid md.now }
+    requires place { start ≡ counts_at md.now }
+    requires fits { start + 4 * present_below bits 64 ≤ length md.now }
+    ensures { result ≡ row_counts md.now }
+{
     let mut counts = [0; TABLES];
-    let mut at = counts_at;
+    let mut at = start;
     for table in 0..TABLES {
-        if has_bit(valid, table as u8) {
+        if has_bit(bits, table as u8) {
             counts[table] = u32_at(md, at);
             at += 4;
         }
@@ -54,12 +68,17 @@ fn row_counts(md: &[u8], counts_at: usize, valid: u64) -> [u32; TABLES] {
 fn place_rows(
     counts: [u32; TABLES],
     heap_sizes: u8,
-    rows_at: usize,
+    start: usize,
     end: usize,
-) -> Result<Layout, TableFault> {
+) -> Result<Layout, TableFault>
+    requires start { start ≤ end }
+    requires end { end < 2 ^ 31 }
+    ensures judged { Judges result (first_of (all_rows_tests end counts heap_sizes start)) }
+    ensures placed { IfOk result (IsPlaced counts heap_sizes start) }
+{
     let mut bases = [0; TABLES];
     let mut widths = [0; TABLES];
-    let mut at = rows_at;
+    let mut at = start;
     for table in 0..TABLES {
         let width = columns_width(&counts, heap_sizes, columns(table as u8));
         bases[table] = at as u32;
@@ -75,7 +94,13 @@ fn place_rows(
 }
 
 /// The layout of the stream `#~`.
-pub(crate) fn read_layout(md: &[u8], tables: Stream) -> Result<Layout, TableFault> {
+pub(crate) fn read_layout(md: &[u8], tables: Stream) -> Result<Layout, TableFault>
+    requires length { length md.now < 2 ^ 31 }
+    requires tables { stream md.now (codes "#~") ≡ Some tables }
+    requires within { tables.at + tables.size ≤ length md.now }
+    ensures judged { Judges result (first_of (tables_tests md.now)) }
+    ensures placed { IfOk result (IsLayoutOf md.now) }
+{
     let start = tables.at as usize;
     let end = start + tables.size as usize;
     let sorted_at = after_fields(start, &[4, 1, 1, 1, 1, 8], end)?;

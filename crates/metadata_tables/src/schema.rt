@@ -1,6 +1,6 @@
 //! The columns of each table (ECMA-335 II.22) and the coded indexes (II.24.2.6).
 
-ghost use Rattle.std.specs.Prelude.{◌≡◌, [], map, slice_index_or};
+ghost use Rattle.std.specs.Prelude.{◌≡◌, ◌≤◌, [], length, map, slice_index_or};
 ghost use Rattle.metadata_tables.specs.Schema.{columns_of, tables_of, tag_bits_of};
 
 /// A number of tables: each table of the schemas has a number below it.
@@ -105,7 +105,8 @@ const SCHEMAS: [&[Column]; TABLES] = [
 /// The columns of the table of a number, none where there is no such table.
 #[tactic(auto, unfolding(crate::specs::Schema::columns_of))]
 pub fn columns(table: u8) -> &'static [Column]
-    ensures { result.now ≡ columns_of table }
+    ensures value { result.now ≡ columns_of table }
+    ensures few { length result.now ≤ 9 }
 {
     schema_at(&SCHEMAS, table)
 }
