@@ -11,9 +11,10 @@ use Rattle.std.proofs.lemmas.Bool.{cases_lt, eqb-true}
 use Rattle.std.proofs.lemmas.Bool.Decides.{nat_tests}
 use Rattle.metadata_tables.specs.declared.fault.TableFault.{TableFault}
 use Rattle.metadata_tables.specs.declared.fault.TableFault.TheVariants.{BadTables, Short}
+use Rattle.metadata_tables.specs.declared.schema.Column.{Column}
 use Rattle.metadata_tables.specs.Tests.{first_of, test, fields}
-use Rattle.metadata_tables.specs.Schema.{columns_of}
-use Rattle.metadata_tables.specs.Layout.{valid, counts_at, present_below, row_count, row_counts, row_width, bytes_below}
+use Rattle.metadata_tables.specs.Schema.{columns_of, total_width}
+use Rattle.metadata_tables.specs.Layout.{valid, counts_at, present_below, row_count, row_counts, row_width, bytes_below, row_widths, bases}
 use Rattle.metadata_tables.specs.TableTests.{bit_test, bits_tests, rows_tests, all_rows_tests}
 use Rattle.metadata_tables.proofs.TestLemmas.{first_of-passed, first_of-failed}
 
@@ -180,3 +181,48 @@ pub zeros-at : (n k : ℕ) → get_or (replicate n nothing) k nothing ≡ nothin
 zeros-at zero k = refl
 zeros-at (suc n) zero = refl
 zeros-at (suc n) (suc k) = zeros-at n k
+
+-- ---- the rows
+
+pub row_width-is : (counts : List ℕ) (sizes table : ℕ) (columns : List Column) (w : ℕ) → columns ≡ columns_of table
+  → w ≡ total_width counts sizes columns → w ≡ row_width counts sizes table
+unfolding row_width
+row_width-is counts sizes table columns w same is = is ∙ ap (total_width counts sizes) same
+
+pub bytes_below-zero : (counts : List ℕ) (sizes : ℕ) → bytes_below counts sizes 0 ≡ 0
+unfolding bytes_below
+bytes_below-zero counts sizes = refl
+
+pub bytes_below-more : (counts : List ℕ) (sizes table : ℕ)
+  → bytes_below counts sizes (table + 1) ≡ bytes_below counts sizes table + get_or counts table 0 * row_width counts sizes table
+unfolding bytes_below
+bytes_below-more counts sizes table = sum_below-more (λ lower. get_or counts lower 0 * row_width counts sizes lower) table
+
+pub all_rows_tests-start : (end : ℕ) (counts : List ℕ) (sizes start : ℕ)
+  → from_on (rows_tests end counts sizes start) 0 45 ≡ first_of (all_rows_tests end counts sizes start)
+unfolding all_rows_tests
+all_rows_tests-start end counts sizes start = refl
+
+-- The rows of a table, where its base, its row count and the bytes of its rows are known.
+pub rows_tests-is : (end : ℕ) (counts : List ℕ) (sizes start table at count w : ℕ) → at ≡ start + bytes_below counts sizes table
+  → count ≡ get_or counts table 0 → w ≡ row_width counts sizes table
+  → first_of (fields end (λ at. Short at) at (replicate count w)) ≡ first_of (rows_tests end counts sizes start table)
+unfolding rows_tests
+rows_tests-is end counts sizes start table at count w place many wide = rw (place, many, wide) refl
+
+pub row_widths-filled : (counts : List ℕ) (sizes : ℕ) (xs : List ℕ) → length xs ≡ 45
+  → ((k : ℕ) → k < 45 → get_or xs k 0 ≡ row_width counts sizes k) → xs ≡ row_widths counts sizes
+unfolding row_widths
+row_widths-filled counts sizes xs long each = fill_by_all (row_width counts sizes) xs 45 0 long each
+
+pub bases-filled : (counts : List ℕ) (sizes start : ℕ) (xs : List ℕ) → length xs ≡ 45
+  → ((k : ℕ) → k < 45 → get_or xs k 0 ≡ start + bytes_below counts sizes k) → xs ≡ bases counts sizes start
+unfolding bases
+bases-filled counts sizes start xs long each = fill_by_all (λ table. start + bytes_below counts sizes table) xs 45 0 long each
+
+-- Where the next table begins.
+pub place-next : (counts : List ℕ) (sizes start table at w after : ℕ) → at ≡ start + bytes_below counts sizes table
+  → w ≡ row_width counts sizes table → after ≡ at + get_or counts table 0 * w → after ≡ start + bytes_below counts sizes (table + 1)
+place-next counts sizes start table at w after place wide next =
+    let same : after ≡ at + get_or counts table 0 * row_width counts sizes table = next ∙ ap (λ (k : ℕ). at + get_or counts table 0 * k) wide in
+    omega (arith, bytes_below-more counts sizes table)
