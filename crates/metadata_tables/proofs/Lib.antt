@@ -1,3 +1,4 @@
 pub mod LayoutLemmas
 pub mod SchemaLemmas
+pub mod StreamLemmas
 pub mod TestLemmas
