@@ -1,4 +1,5 @@
 pub mod LayoutLemmas
+pub mod RootLemmas
 pub mod SchemaLemmas
 pub mod StreamLemmas
 pub mod TestLemmas

@@ -1,6 +1,7 @@
 //! The metadata root and its streams (ECMA-335 II.24.2.1 and II.24.2.2).
 
-ghost use Rattle.std.specs.Prelude.{◌≡◌, ◌+◌, ◌^◌, ◌<◌, ◌≤◌, ◌++◌, length, IfOk, Some, None, option_or, option_map, if◌then◌else◌};
+ghost use Rattle.std.specs.Prelude.{◌≡◌, ◌+◌, ◌^◌, ◌<◌, ◌≤◌, ◌++◌, length, IfOk, Some, None, if◌then◌else◌};
+ghost use Rattle.std.specs.Option.{option_or};
 ghost use Rattle.std.specs.Str.{bytes_eq};
 ghost use Rattle.metadata_tables.specs.Tests.{first_of, Judges};
 ghost use Rattle.metadata_tables.specs.Root.{stream_count, headers_at, root_tests, name_of, next_header, stream_of, header_tests, headers_tests, stream_among, presence_tests};
@@ -21,7 +22,7 @@ pub struct Stream {
 }
 
 /// The streams that are read, the first of each name.
-#[derive(Clone, Copy, Debug)]
+#[derive(Clone, Copy)]
 pub(crate) struct Streams {
     pub(crate) tables: Option<Stream>,
     pub(crate) strings: Option<Stream>,

@@ -1,0 +1,91 @@
+-- The tests of the root and of the stream headers.
+use Rattle.std.proofs.Common.{◌≡◌, ◌≢◌, ℕ, zero, suc, ◌+◌, ◌-◌, ◌*◌, ◌/◌, ◌≤◌, ◌<◌, List, [], ◌∷◌, ◌++◌, length, drop, Bool, true, false, cond, eqb, Option, Some, None, refl, sym, ap, subst, ◌∙◌, arith, inl, inr, ◌⊎◌}
+use Rattle.std.specs.Prelude.{sum, is_some, unwrap_or, option_map}
+use Rattle.std.proofs.lemmas.List.Sums.{sum_by-cons}
+use Rattle.std.proofs.lemmas.Bool.{cases_lt}
+use Rattle.std.proofs.lemmas.Bool.Decides.{nat_tests}
+use Rattle.cc_base.specs.LittleEndian.{u16_at, u32_at}
+use Rattle.metadata_tables.specs.declared.fault.TableFault.{TableFault}
+use Rattle.metadata_tables.specs.declared.fault.TableFault.TheVariants.{BadRoot}
+use Rattle.metadata_tables.specs.Tests.{first_of, test, fields}
+use Rattle.metadata_tables.specs.Root.{signature, version_width, headers_at, root_tests, name_of, padded, name_width, next_header, stream_of, header_tests, headers_tests}
+use Rattle.metadata_tables.proofs.TestLemmas.{first_of-passed, first_of-failed, fields-fits, fields-short, fields-none}
+
+-- Fields of one fault that end before the end.
+pub fields-all : (end : ℕ) (fault : TableFault) (at : ℕ) (widths : List ℕ) → at + sum widths ≤ end
+  → first_of (fields end (λ _. fault) at widths) ≡ None
+fields-all end fault at [] h = fields-none end (λ _. fault) at
+fields-all end fault at (width ∷ widths) h =
+    let total : sum (width ∷ widths) ≡ width + sum widths = sum_by-cons (λ (x : ℕ). x) width widths in
+    fields-fits end (λ _. fault) at width widths (omega arith)
+    ∙ fields-all end fault (at + width) widths (omega arith)
+
+-- Fields of one fault of which one passes the end.
+pub fields-some : (end : ℕ) (fault : TableFault) (at : ℕ) (widths : List ℕ) → at ≤ end → end < at + sum widths
+  → first_of (fields end (λ _. fault) at widths) ≡ Some fault
+fields-some end fault at [] h past = absurd (omega arith)
+fields-some end fault at (width ∷ widths) h past =
+    let total : sum (width ∷ widths) ≡ width + sum widths = sum_by-cons (λ (x : ℕ). x) width widths in
+    elim (cases_lt end (at + width)) [
+      | inl short ↦ fields-short end (λ _. fault) at width widths short
+      | inr fit ↦ fields-fits end (λ _. fault) at width widths fit ∙ fields-some end fault (at + width) widths fit (omega arith)
+    ]
+
+-- A test that is passed, and one that is not.
+pub test-passed : (b : Bool) (fault : TableFault) (tests : List (Option TableFault)) → b ≡ true
+  → first_of (test b fault ∷ tests) ≡ first_of tests
+test-passed b fault tests e = rw e refl
+
+pub test-failed : (b : Bool) (fault : TableFault) (tests : List (Option TableFault)) → b ≡ false
+  → first_of (test b fault ∷ tests) ≡ Some fault
+test-failed b fault tests e = rw e refl
+
+bool_cases : (b : Bool) → (b ≡ true) ⊎ (b ≡ false)
+bool_cases true = inl refl
+bool_cases false = inr refl
+
+root_fields : List ℕ → List (Option TableFault)
+root_fields md = fields (length md) (λ _. BadRoot) 4 (2 ∷ 2 ∷ 4 ∷ 4 ∷ version_width md ∷ 2 ∷ 2 ∷ [])
+
+-- The root where its first field fits.
+root-first : (md : List ℕ) → 4 ≤ length md
+  → first_of (root_tests md) ≡ first_of (test (eqb (u32_at md 0) signature) BadRoot ∷ root_fields md)
+unfolding root_tests root_fields
+root-first md h =
+    first_of-passed (fields (length md) (λ _. BadRoot) 0 (4 ∷ [])) (test (eqb (u32_at md 0) signature) BadRoot ∷ root_fields md)
+    (fields-all (length md) BadRoot 0 (4 ∷ []) (omega arith))
+
+pub root-good : (md : List ℕ) → 20 + version_width md ≤ length md → u32_at md 0 ≡ signature → first_of (root_tests md) ≡ None
+unfolding root_fields
+root-good md h same =
+    let equal : eqb (u32_at md 0) signature ≡ true = grind (arith, nat_tests) in
+    root-first md (omega arith) ∙ test-passed _ BadRoot (root_fields md) equal
+    ∙ fields-all (length md) BadRoot 4 (2 ∷ 2 ∷ 4 ∷ 4 ∷ version_width md ∷ 2 ∷ 2 ∷ []) (omega arith)
+
+pub root-other : (md : List ℕ) → 4 ≤ length md → u32_at md 0 ≢ signature → first_of (root_tests md) ≡ Some BadRoot
+root-other md h other =
+    let differs : eqb (u32_at md 0) signature ≡ false = grind (arith, nat_tests) in
+    root-first md h ∙ test-failed _ BadRoot (root_fields md) differs
+
+pub root-short : (md : List ℕ) → length md < 20 + version_width md → first_of (root_tests md) ≡ Some BadRoot
+unfolding root_tests root_fields
+root-short md h =
+    elim (cases_lt (length md) 4) [
+      | inl short ↦
+        first_of-failed (fields (length md) (λ _. BadRoot) 0 (4 ∷ [])) (test (eqb (u32_at md 0) signature) BadRoot ∷ root_fields md) BadRoot
+        (fields-some (length md) BadRoot 0 (4 ∷ []) (omega arith) (omega arith))
+      | inr enough ↦
+        elim (bool_cases (eqb (u32_at md 0) signature)) [
+          | inl same ↦ root-first md enough ∙ test-passed _ BadRoot (root_fields md) same
+            ∙ fields-some (length md) BadRoot 4 (2 ∷ 2 ∷ 4 ∷ 4 ∷ version_width md ∷ 2 ∷ 2 ∷ []) enough (omega arith)
+          | inr other ↦ root-first md enough ∙ test-failed _ BadRoot (root_fields md) other
+        ]
+    ]
+
+pub version-is : (md : List ℕ) → u32_at md 12 ≡ version_width md
+unfolding version_width
+version-is md = refl
+
+pub headers_at-is : (md : List ℕ) → 20 + version_width md ≡ headers_at md
+unfolding headers_at
+headers_at-is md = refl
