@@ -12,12 +12,8 @@ use Rattle.metadata_tables.specs.declared.fault.TableFault.TheVariants.{Short}
 use Rattle.metadata_tables.specs.Tests.{first_of, fields}
 use Rattle.metadata_tables.specs.Root.{stream}
 use Rattle.metadata_tables.specs.Layout.{tables_at, tables_end, heap_sizes, valid, counts_at, present_below, row_counts, rows_at}
+use Rattle.metadata_tables.proofs.TestLemmas.{first_of-append}
 use Rattle.metadata_tables.specs.TableTests.{bits_tests, all_rows_tests, tables_tests}
-
-pub first_of-append : (a b : List (Option TableFault)) → first_of (a ++ b) ≡ option_or (first_of a) (first_of b)
-first_of-append [] b = refl
-first_of-append (None ∷ a) b = first_of-append a b
-first_of-append (Some fault ∷ a) b = refl
 
 -- The first of five faults.
 abbrev pub first_of_five : Option TableFault → Option TableFault → Option TableFault → Option TableFault → Option TableFault → Option TableFault

@@ -1,11 +1,17 @@
 -- The first fault of tests that stand behind others, and of fields.
 use Rattle.std.proofs.Common.{◌≡◌, ℕ, zero, suc, ◌+◌, ◌-◌, ◌*◌, ◌/◌, ◌≤◌, ◌<◌, List, [], ◌∷◌, ◌++◌, length, get_or, take, drop, replicate, Bool, true, false, cond, leb, Option, Some, None, refl, sym, ap, subst, ◌∙◌, arith, add-one, drop-cons, inl, inr, length-drop}
 use Rattle.std.specs.Prelude.{sum}
+use Rattle.std.specs.Option.{option_or}
 use Rattle.std.proofs.Math.Nat.{div-mul-le_self, lt-div-mul-add, lt_of_mul-lt-mul_right}
 use Rattle.std.proofs.lemmas.Bool.{cases_lt, le-leb, lt-leb, leb-true}
 use Rattle.std.proofs.lemmas.List.{nil_from_length}
 use Rattle.metadata_tables.specs.declared.fault.TableFault.{TableFault}
 use Rattle.metadata_tables.specs.Tests.{first_of, test, fields}
+
+pub first_of-append : (a b : List (Option TableFault)) → first_of (a ++ b) ≡ option_or (first_of a) (first_of b)
+first_of-append [] b = refl
+first_of-append (None ∷ a) b = first_of-append a b
+first_of-append (Some fault ∷ a) b = refl
 
 -- Tests behind others that are all passed.
 pub first_of-passed : (a b : List (Option TableFault)) → first_of a ≡ None → first_of (a ++ b) ≡ first_of b

@@ -56,6 +56,7 @@ fn read_root(md: &[u8]) -> Result<usize, TableFault>
 }
 
 /// The stream header at a place.
+#[tactic(auto, unfolding(crate::specs::Root::stream_of))]
 fn read_header(md: &[u8], at: usize) -> Result<Header<'_>, TableFault>
     requires length { length md.now < 2 ^ 31 }
     requires place { at ≤ length md.now }
