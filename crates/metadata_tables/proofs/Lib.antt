@@ -1,3 +1,4 @@
+pub mod HeaderLemmas
 pub mod LayoutLemmas
 pub mod RootLemmas
 pub mod SchemaLemmas
