@@ -51,6 +51,16 @@ pub fields-none : (end : ℕ) (fault : ℕ → TableFault) (at : ℕ) → first_
 unfolding fields
 fields-none end fault at = refl
 
+-- A field whose test is passed.
+pub field-fits : (end : ℕ) (fault : ℕ → TableFault) (at width : ℕ) → first_of (fields end fault at (width ∷ [])) ≡ None → at + width ≤ end
+field-fits end fault at width e =
+    elim (cases_lt end (at + width)) [
+      | inl past ↦
+        let failed = fields-short end fault at width [] past in
+        absurd cc
+      | inr fit ↦ fit
+    ]
+
 -- Fields of one width that all fit.
 pub run-fits : (count end : ℕ) (fault : ℕ → TableFault) (at width : ℕ) → at + count * width ≤ end
   → first_of (fields end fault at (replicate count width)) ≡ None

@@ -1,5 +1,5 @@
 -- The metadata root and the streams (ECMA-335 II.24.2.1 and II.24.2.2).
-use Rattle.std.specs.Prelude.{ℕ, zero, suc, ◌+◌, ◌*◌, ◌/◌, List, [], ◌∷◌, ◌++◌, length, take, drop, Option, Some, None, option_map, unwrap_or, is_some, nat_le, ◌==◌, if◌then◌else◌, position}
+use Rattle.std.specs.Prelude.{◌≡◌, ◌≤◌, ℕ, zero, suc, ◌+◌, ◌*◌, ◌/◌, List, [], ◌∷◌, ◌++◌, length, take, drop, Option, Some, None, option_map, unwrap_or, is_some, nat_le, ◌==◌, if◌then◌else◌, position}
 use Rattle.std.specs.Str.{bytes_eq}
 use lib.Chars.{codes}
 use Rattle.cc_base.specs.LittleEndian.{u16_at, u32_at}
@@ -78,13 +78,22 @@ stream_among md name (suc count) at =
 unfoldable pub stream : List ℕ → List ℕ → Option Stream
 stream md name = stream_among md name (stream_count md) (headers_at md)
 
--- These streams are there (II.24.2.2). The others are empty where they are missing.
+-- Three streams are there (II.24.2.2).
+unfoldable pub presence_of : Option Stream → Option Stream → Option Stream → List (Option TableFault)
+presence_of tables strings blob =
+    test (is_some tables) MissingStream ∷ test (is_some strings) MissingStream ∷ test (is_some blob) MissingStream ∷ []
+
+-- The streams that have to be there. The others are empty where they are missing.
 unfoldable pub presence_tests : List ℕ → List (Option TableFault)
-presence_tests md =
-    test (is_some (stream md (codes "#~"))) MissingStream
-    ∷ test (is_some (stream md (codes "#Strings"))) MissingStream
-    ∷ test (is_some (stream md (codes "#Blob"))) MissingStream
-    ∷ []
+presence_tests md = presence_of (stream md (codes "#~")) (stream md (codes "#Strings")) (stream md (codes "#Blob"))
+
+-- All tests of the root and its streams.
+unfoldable pub streams_tests : List ℕ → List (Option TableFault)
+streams_tests md = root_tests md ++ headers_tests md (stream_count md) (headers_at md) ++ presence_tests md
+
+-- Each stream lies in the metadata.
+abbrev pub AreWithin : List ℕ → Type 0
+AreWithin md = (name : List ℕ) (s : Stream) → stream md name ≡ Some s → s.at + s.size ≤ length md
 
 -- The bytes of the first stream of a name.
 abbrev pub bytes_of : List ℕ → Option Stream → List ℕ

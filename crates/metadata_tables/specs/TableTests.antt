@@ -5,7 +5,7 @@ use Rattle.std.specs.Int.{bit_at}
 use Rattle.metadata_tables.specs.declared.fault.TableFault.{TableFault}
 use Rattle.metadata_tables.specs.declared.fault.TableFault.TheVariants.{BadTables, Short}
 use Rattle.metadata_tables.specs.Tests.{first_of, test, fields}
-use Rattle.metadata_tables.specs.Root.{root_tests, headers_tests, stream_count, headers_at, presence_tests}
+use Rattle.metadata_tables.specs.Root.{streams_tests}
 use Rattle.metadata_tables.specs.Schema.{columns_of}
 use Rattle.metadata_tables.specs.Layout.{tables_at, tables_end, valid, counts_at, present_below, rows_at, row_counts, heap_sizes, row_width, bytes_below}
 
@@ -38,11 +38,7 @@ tables_tests md =
 
 -- All tests.
 unfoldable pub table_tests : List ℕ → List (Option TableFault)
-table_tests md =
-    root_tests md
-    ++ headers_tests md (stream_count md) (headers_at md)
-    ++ presence_tests md
-    ++ tables_tests md
+table_tests md = streams_tests md ++ tables_tests md
 
 -- The first fault of the metadata.
 unfoldable pub first_table_fault : List ℕ → Option TableFault

@@ -4,7 +4,7 @@ ghost use Rattle.std.specs.Prelude.{◌≡◌, ◌+◌, ◌^◌, ◌<◌, ◌≤
 ghost use Rattle.std.specs.Option.{option_or};
 ghost use Rattle.std.specs.Str.{bytes_eq};
 ghost use Rattle.metadata_tables.specs.Tests.{first_of, Judges};
-ghost use Rattle.metadata_tables.specs.Root.{stream_count, headers_at, root_tests, name_of, next_header, stream_of, header_tests, headers_tests, stream_among, presence_tests};
+ghost use Rattle.metadata_tables.specs.Root.{stream_count, headers_at, root_tests, name_of, next_header, stream_of, header_tests, headers_tests, stream_among, stream, presence_of, streams_tests};
 ghost use lib.Chars.{codes};
 
 use crate::fault::TableFault;
@@ -21,12 +21,21 @@ pub struct Stream {
     pub size: u32,
 }
 
-/// The streams that are read, the first of each name.
+/// The streams that were found, the first of each name.
+#[derive(Clone, Copy)]
+struct Found {
+    tables: Option<Stream>,
+    strings: Option<Stream>,
+    blob: Option<Stream>,
+    user_strings: Option<Stream>,
+}
+
+/// The streams of metadata, of which `#US` may be missing.
 #[derive(Clone, Copy)]
 pub(crate) struct Streams {
-    pub(crate) tables: Option<Stream>,
-    pub(crate) strings: Option<Stream>,
-    pub(crate) blob: Option<Stream>,
+    pub(crate) tables: Stream,
+    pub(crate) strings: Stream,
+    pub(crate) blob: Stream,
     pub(crate) user_strings: Option<Stream>,
 }
 
@@ -95,7 +104,7 @@ fn first_named(found: Option<Stream>, wanted: &[u8], name: &[u8], stream: Stream
 }
 
 /// The streams of these stream headers.
-fn read_headers(md: &[u8], first: usize, count: u16) -> Result<Streams, TableFault>
+fn read_headers(md: &[u8], first: usize, count: u16) -> Result<Found, TableFault>
     requires length { length md.now < 2 ^ 31 }
     requires place { first ≤ length md.now }
     ensures judged { Judges result (first_of (headers_tests md.now count first)) }
@@ -106,7 +115,7 @@ fn read_headers(md: &[u8], first: usize, count: u16) -> Result<Streams, TableFau
     ensures user_strings { IfOk result
         (λ found. found.user_strings ≡ stream_among md.now (codes "#US") count first) }
 {
-    let mut found = Streams {
+    let mut found = Found {
         tables: None,
         strings: None,
         blob: None,
@@ -115,7 +124,7 @@ fn read_headers(md: &[u8], first: usize, count: u16) -> Result<Streams, TableFau
     let mut at = first;
     for _ in 0..count {
         let header = read_header(md, at)?;
-        found = Streams {
+        found = Found {
             tables: first_named(found.tables, b"#~", header.name, header.stream),
             strings: first_named(found.strings, b"#Strings", header.name, header.stream),
             blob: first_named(found.blob, b"#Blob", header.name, header.stream),
@@ -126,12 +135,43 @@ fn read_headers(md: &[u8], first: usize, count: u16) -> Result<Streams, TableFau
     Ok(found)
 }
 
+/// The streams that have to be there, and `#US` where it is.
+#[tactic(auto, unfolding(crate::specs::Root::presence_of))]
+fn all_present(found: Found) -> Result<Streams, TableFault>
+    ensures judged { Judges result (first_of (presence_of found.tables found.strings found.blob)) }
+    ensures tables { IfOk result (λ streams. found.tables ≡ Some streams.tables) }
+    ensures strings { IfOk result (λ streams. found.strings ≡ Some streams.strings) }
+    ensures blob { IfOk result (λ streams. found.blob ≡ Some streams.blob) }
+    ensures user_strings { IfOk result (λ streams. found.user_strings ≡ streams.user_strings) }
+{
+    let Some(tables) = found.tables else {
+        return Err(TableFault::MissingStream);
+    };
+    let Some(strings) = found.strings else {
+        return Err(TableFault::MissingStream);
+    };
+    let Some(blob) = found.blob else {
+        return Err(TableFault::MissingStream);
+    };
+    let user_strings = found.user_strings;
+    Ok(Streams {
+        tables,
+        strings,
+        blob,
+        user_strings,
+    })
+}
+
 /// The streams of metadata.
-pub(crate) fn read_streams(md: &[u8]) -> Result<Streams, TableFault> {
+pub(crate) fn read_streams(md: &[u8]) -> Result<Streams, TableFault>
+    requires { length md.now < 2 ^ 31 }
+    ensures judged { Judges result (first_of (streams_tests md.now)) }
+    ensures tables { IfOk result (λ streams. stream md.now (codes "#~") ≡ Some streams.tables) }
+    ensures strings { IfOk result (λ streams. stream md.now (codes "#Strings") ≡ Some streams.strings) }
+    ensures blob { IfOk result (λ streams. stream md.now (codes "#Blob") ≡ Some streams.blob) }
+    ensures user_strings { IfOk result (λ streams. stream md.now (codes "#US") ≡ streams.user_strings) }
+{
     let first = read_root(md)?;
     let found = read_headers(md, first, u16_at(md, first - 2))?;
-    if found.tables.is_none() || found.strings.is_none() || found.blob.is_none() {
-        return Err(TableFault::MissingStream);
-    }
-    Ok(found)
+    all_present(found)
 }

@@ -30,15 +30,15 @@ impl<'a> Tables<'a> {
     /// Reads metadata: its root and streams, and where the rows of its tables stand.
     pub fn read(md: &'a [u8]) -> Result<Tables<'a>, TableFault> {
         let streams = read_streams(md)?;
-        let layout = read_layout(md, streams.tables.unwrap())?;
-        let blob = streams.blob.unwrap();
+        let layout = read_layout(md, streams.tables)?;
+        let blob = streams.blob;
         let user_strings = match streams.user_strings {
             Some(stream) => bytes_of(md, stream),
             None => &[],
         };
         Ok(Tables {
             md,
-            strings: bytes_of(md, streams.strings.unwrap()),
+            strings: bytes_of(md, streams.strings),
             blob: bytes_of(md, blob),
             blob_at: blob.at,
             user_strings,
