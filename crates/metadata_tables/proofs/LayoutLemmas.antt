@@ -14,7 +14,7 @@ use Rattle.metadata_tables.specs.declared.fault.TableFault.TheVariants.{BadTable
 use Rattle.metadata_tables.specs.declared.schema.Column.{Column}
 use Rattle.metadata_tables.specs.Tests.{first_of, test, fields}
 use Rattle.metadata_tables.specs.Schema.{columns_of, total_width}
-use Rattle.metadata_tables.specs.Layout.{valid, counts_at, present_below, row_count, row_counts, row_width, bytes_below, row_widths, bases}
+use Rattle.metadata_tables.specs.Layout.{valid, counts_at, present_below, stored_count, row_counts, row_width, bytes_below, row_widths, bases}
 use Rattle.metadata_tables.specs.TableTests.{bit_test, bits_tests, rows_tests, all_rows_tests}
 use Rattle.metadata_tables.proofs.TestLemmas.{first_of-passed, first_of-failed}
 
@@ -142,23 +142,23 @@ bit_at-unset bits i e = grind (arith, nat_tests)
 
 -- ---- the row counts
 
-pub row_count-set : (md : List ℕ) (bits start table at : ℕ) → bits ≡ valid md → start ≡ counts_at md
-  → eqb (bit_at bits table) 1 ≡ true → at ≡ start + 4 * present_below bits table → u32_at md at ≡ row_count md table
-unfolding row_count
-row_count-set md bits start table at same_bits same_start set place =
+pub stored_count-set : (md : List ℕ) (bits start table at : ℕ) → bits ≡ valid md → start ≡ counts_at md
+  → eqb (bit_at bits table) 1 ≡ true → at ≡ start + 4 * present_below bits table → u32_at md at ≡ stored_count md table
+unfolding stored_count
+stored_count-set md bits start table at same_bits same_start set place =
     let there : eqb (bit_at (valid md) table) 1 ≡ true = rw (← same_bits) set in
     let where_it_is : at ≡ counts_at md + 4 * present_below (valid md) table = rw (← same_bits, ← same_start) place in
     rw (there, where_it_is) refl
 
-pub row_count-unset : (md : List ℕ) (bits table : ℕ) → bits ≡ valid md → eqb (bit_at bits table) 1 ≡ false → 0 ≡ row_count md table
-unfolding row_count
-row_count-unset md bits table same_bits unset =
+pub stored_count-unset : (md : List ℕ) (bits table : ℕ) → bits ≡ valid md → eqb (bit_at bits table) 1 ≡ false → 0 ≡ stored_count md table
+unfolding stored_count
+stored_count-unset md bits table same_bits unset =
     let missing : eqb (bit_at (valid md) table) 1 ≡ false = rw (← same_bits) unset in
     rw missing refl
 
-pub row_counts-filled : (md counts : List ℕ) → length counts ≡ 45 → ((k : ℕ) → k < 45 → get_or counts k 0 ≡ row_count md k) → counts ≡ row_counts md
+pub row_counts-filled : (md counts : List ℕ) → length counts ≡ 45 → ((k : ℕ) → k < 45 → get_or counts k 0 ≡ stored_count md k) → counts ≡ row_counts md
 unfolding row_counts
-row_counts-filled md counts long each = fill_by_all (row_count md) counts 45 0 long each
+row_counts-filled md counts long each = fill_by_all (stored_count md) counts 45 0 long each
 
 -- What a write at a place leaves, and what it puts there.
 pub filled-more : (f : ℕ → ℕ) (xs : List ℕ) (i v : ℕ) → i < length xs → v ≡ f i → ((k : ℕ) → k < i → get_or xs k 0 ≡ f k)

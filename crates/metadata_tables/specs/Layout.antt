@@ -40,14 +40,18 @@ counts_at md = tables_at md + 24
 unfoldable pub present_below : ℕ → ℕ → ℕ
 present_below bits table = sum_by (bit_at bits) (range_with_len 0 table)
 
--- How many rows a table has.
-unfoldable pub row_count : List ℕ → ℕ → ℕ
-row_count md table =
+-- The row count of a table where it is present, else 0.
+unfoldable pub stored_count : List ℕ → ℕ → ℕ
+stored_count md table =
     if bit_at (valid md) table == 1 then u32_at md (counts_at md + 4 * present_below (valid md) table) else 0
 
 -- The row counts of the tables 00 to 2c.
 unfoldable pub row_counts : List ℕ → List ℕ
-row_counts md = map (row_count md) (range_with_len 0 45)
+row_counts md = map (stored_count md) (range_with_len 0 45)
+
+-- How many rows a table has, 0 where there is no such table.
+abbrev pub row_count : List ℕ → ℕ → ℕ
+row_count md table = slice_index (row_counts md) table
 
 -- Where the rows begin: behind the row counts.
 unfoldable pub rows_at : List ℕ → ℕ
