@@ -1,4 +1,6 @@
+pub mod CellLemmas
 pub mod HeaderLemmas
+pub mod HeapLemmas
 pub mod LayoutLemmas
 pub mod RootLemmas
 pub mod SchemaLemmas

@@ -1,6 +1,6 @@
 //! Metadata as read: rows, cells and the items of heaps.
 
-ghost use Rattle.std.specs.Prelude.{◌≡◌, ℕ, ◌+◌, ◌<◌, ◌≤◌, ◌↔◌, List, length, None, Some, IsOk, IfOk, IfErr, IfSome, option_map};
+ghost use Rattle.std.specs.Prelude.{◌≡◌, ℕ, ◌+◌, ◌<◌, ◌≤◌, ◌↔◌, List, length, None, Some, IsOk, IfOk, IfErr, IfSome, option_map, drop};
 ghost use Rattle.metadata_tables.specs.Heaps.{string_at, blob_at, blob_offset, user_string_at};
 ghost use Rattle.metadata_tables.specs.Layout.{row_count, cell_at, cell};
 ghost use Rattle.metadata_tables.specs.Root.{bytes_of};
@@ -47,6 +47,18 @@ fn bytes_of(md: &[u8], stream: Stream) -> &[u8]
 {
     let start = stream.at as usize;
     &md[start..start + stream.size as usize]
+}
+
+/// The bytes from a place on, none past the end.
+fn rest_from(bytes: &[u8], index: u32) -> &[u8]
+    ensures { result.now ≡ drop index bytes.now }
+{
+    let index = index as usize;
+    if index < bytes.len() {
+        &bytes[index..]
+    } else {
+        &[]
+    }
 }
 
 impl<'a> Tables<'a> {
@@ -117,14 +129,14 @@ impl<'a> Tables<'a> {
     pub fn string_at(&self, index: u32) -> Option<&'a [u8]>
         ensures { option_map (λ text. text.now) result ≡ string_at self.now index }
     {
-        zero_ended(self.strings.get(index as usize..)?)
+        zero_ended(rest_from(self.strings, index))
     }
 
     /// The item at a place of the heap `#Blob`, none where it is not there as a whole.
     pub fn blob_at(&self, index: u32) -> Option<&'a [u8]>
         ensures { option_map (λ item. item.now) result ≡ blob_at self.now index }
     {
-        item_of(self.blob.get(index as usize..)?)
+        item_of(rest_from(self.blob, index))
     }
 
     /// Where the bytes of the item at a place of the heap `#Blob` stand in the metadata.
@@ -132,7 +144,7 @@ impl<'a> Tables<'a> {
         ensures place { result ≡ blob_offset self.now index }
         ensures within { IfSome result (λ at. at ≤ length self.now) }
     {
-        let front = whole_prefix(self.blob.get(index as usize..)?)?;
+        let front = whole_prefix(rest_from(self.blob, index))?;
         Some(self.blob_at + index + front.width as u32)
     }
 
@@ -140,6 +152,6 @@ impl<'a> Tables<'a> {
     pub fn user_string_at(&self, index: u32) -> Option<&'a [u8]>
         ensures { option_map (λ item. item.now) result ≡ user_string_at self.now index }
     {
-        item_of(self.user_strings.get(index as usize..)?)
+        item_of(rest_from(self.user_strings, index))
     }
 }

@@ -1,0 +1,35 @@
+use Rattle.std.proofs.Common.{◌≡◌, ◌+◌, ◌≤◌, length, sym, ap, ◌∙◌, arith, length-drop, Some, None}
+use lib.Chars.{codes}
+use Rattle.metadata_tables.proofs.HeapLemmas.{heap-end, blob_offset-is}
+use Rattle.metadata_tables.proofs.tables.Tables.blob_offset.Goals as goal
+
+pub returns-in_err-front-clause-place : goal.returns-in_err-front-clause-place
+returns-in_err-front-clause-place c =
+    let kept = rw c.self.view_is at c.self.invariant.blob_kept in
+    let begin = rw c.self.view_is at c.self.invariant.blob_begin in
+    rw c.from_residual.ensures
+    (blob_offset-is c.args.self.now c.self.inside.blob.now c.rest_from.result.now c.args.index c.self.inside.blob_at None kept begin c.rest_from.ensures c.in_err-front.ensures.value)
+
+pub overflow_add-result : goal.overflow_add-result
+overflow_add-result c =
+    let i = c.self.inside in
+    let kept = c.self.invariant in
+    omega (arith, kept.short, kept.blob_begin, ap length kept.blob_kept, heap-end i.md.now (codes "#Blob") kept.sound, ap length c.rest_from.ensures, length-drop c.args.index i.blob.now, c.in_ok-front.ensures.whole, c.in_ok-front.ensures.short.0)
+
+pub overflow_add-result-2 : goal.overflow_add-result-2
+overflow_add-result-2 c =
+    let i = c.self.inside in
+    let kept = c.self.invariant in
+    omega (arith, kept.short, kept.blob_begin, ap length kept.blob_kept, heap-end i.md.now (codes "#Blob") kept.sound, ap length c.rest_from.ensures, length-drop c.args.index i.blob.now, c.in_ok-front.ensures.whole, c.in_ok-front.ensures.short.0)
+
+pub returns-clause-place : goal.returns-clause-place
+returns-clause-place c =
+    let kept = rw c.self.view_is at c.self.invariant.blob_kept in
+    let begin = rw c.self.view_is at c.self.invariant.blob_begin in
+    blob_offset-is c.args.self.now c.self.inside.blob.now c.rest_from.result.now c.args.index c.self.inside.blob_at (Some c.in_ok-front.front) kept begin c.rest_from.ensures c.in_ok-front.ensures.value
+
+pub returns-clause-within : goal.returns-clause-within
+returns-clause-within c =
+    let i = c.self.inside in
+    let kept = c.self.invariant in
+    omega (arith, kept.blob_begin, ap length kept.blob_kept, heap-end i.md.now (codes "#Blob") kept.sound, ap length c.rest_from.ensures, length-drop c.args.index i.blob.now, c.in_ok-front.ensures.whole, c.in_ok-front.ensures.short.0, ap length c.self.view_is)
