@@ -1,8 +1,9 @@
 -- Where cells stand, and that they lie in the metadata.
-use Rattle.std.proofs.Common.{◌≡◌, ℕ, zero, suc, ◌+◌, ◌-◌, ◌*◌, ◌≤◌, ◌<◌, List, [], ◌∷◌, length, ◌++◌, get_or, take, map, replicate, Option, Some, None, Bool, true, false, cond, eqb, refl, sym, ap, subst, ◌∙◌, arith, add-one, inl, inr}
+use Rattle.std.proofs.Common.{◌≡◌, ◌≢◌, ℕ, zero, suc, ◌+◌, ◌-◌, ◌*◌, ◌≤◌, ◌<◌, List, [], ◌∷◌, length, ◌++◌, get_or, take, map, replicate, Option, Some, None, Bool, true, false, cond, eqb, refl, sym, ap, subst, ◌∙◌, arith, add-one, inl, inr}
 use Rattle.std.specs.Prelude.{sum_by, slice_index, slice_index_or}
 use Rattle.std.specs.List.{flat_map, range_with_len}
 use Rattle.std.proofs.lemmas.Bool.{cases_lt}
+use Rattle.std.proofs.lemmas.Bool.Decides.{nat_tests}
 use Rattle.std.proofs.lemmas.List.{get_or_past}
 use Rattle.std.proofs.lemmas.List.Sums.{sum_by_more_le}
 use Rattle.std.proofs.lemmas.List.Concat.{flat_map-cons}
@@ -168,3 +169,26 @@ cell_at-is md layout table row column b w before kept sound first last known b_i
       is = place;
       within = omega (arith, place, cell-end md table row column sound first last known, width-least (row_counts md) (heap_sizes md) (slice_index_or (columns_of table) column Two));
     }
+
+-- The number in a cell, over the width that the code computes.
+pub column_width-is : (md : List ℕ) (layout : Layout) (table column w : ℕ) → IsLayoutOf md layout
+  → w ≡ width layout.counts layout.heap_sizes (slice_index_or (columns_of table) column Two)
+  → w ≡ width (row_counts md) (heap_sizes md) (slice_index_or (columns_of table) column Two)
+column_width-is md layout table column w kept is =
+    is ∙ ap (λ (k : List ℕ). width k layout.heap_sizes (slice_index_or (columns_of table) column Two)) kept.counts_kept
+    ∙ ap (λ (k : ℕ). width (row_counts md) k (slice_index_or (columns_of table) column Two)) kept.heap_sizes_kept
+
+pub cell-wide : (md : List ℕ) (table row column w at v : ℕ) → w ≡ width (row_counts md) (heap_sizes md) (slice_index_or (columns_of table) column Two)
+  → w ≡ 4 → at ≡ cell_at md table row column → v ≡ u32_at md at → v ≡ cell md table row column
+unfolding cell
+cell-wide md table row column w at v is four place read =
+    let test : eqb (width (row_counts md) (heap_sizes md) (slice_index_or (columns_of table) column Two)) 4 ≡ true = rw (← is, four) refl in
+    rw test (read ∙ ap (u32_at md) place)
+
+pub cell-narrow : (md : List ℕ) (table row column w at v : ℕ) → w ≡ width (row_counts md) (heap_sizes md) (slice_index_or (columns_of table) column Two)
+  → w ≢ 4 → at ≡ cell_at md table row column → v ≡ u16_at md at → v ≡ cell md table row column
+unfolding cell
+cell-narrow md table row column w at v is other place read =
+    let differs : eqb w 4 ≡ false = grind (arith, nat_tests) in
+    let test : eqb (width (row_counts md) (heap_sizes md) (slice_index_or (columns_of table) column Two)) 4 ≡ false = rw (← is) differs in
+    rw test (read ∙ ap (u16_at md) place)
