@@ -1,6 +1,6 @@
 -- Where cells stand, and that they lie in the metadata.
-use Rattle.std.proofs.Common.{◌≡◌, ◌≢◌, ℕ, zero, suc, ◌+◌, ◌-◌, ◌*◌, ◌≤◌, ◌<◌, List, [], ◌∷◌, length, ◌++◌, get_or, take, map, replicate, Option, Some, None, Bool, true, false, cond, eqb, refl, sym, ap, subst, ◌∙◌, arith, add-one, inl, inr}
-use Rattle.std.specs.Prelude.{sum_by, slice_index, slice_index_or}
+use Rattle.std.proofs.Common.{◌≡◌, ◌≢◌, ℕ, zero, suc, ◌+◌, ◌-◌, ◌*◌, ◌≤◌, ◌<◌, List, [], ◌∷◌, length, ◌++◌, get_or, take, replicate, Option, Some, None, Bool, true, false, cond, eqb, refl, sym, ap, subst, ◌∙◌, arith, inl, inr}
+use Rattle.std.specs.Prelude.{slice_index_or}
 use Rattle.std.specs.List.{flat_map, range_with_len}
 use Rattle.std.proofs.lemmas.Bool.{cases_lt}
 use Rattle.std.proofs.lemmas.Bool.Decides.{nat_tests}
@@ -17,10 +17,10 @@ use Rattle.metadata_tables.specs.declared.root.Stream.{Stream}
 use Rattle.metadata_tables.specs.declared.schema.Column.{Column}
 use Rattle.metadata_tables.specs.declared.schema.Column.TheVariants.{Two, Four, Strings, Guid, Blob, Row, Coded}
 use Rattle.metadata_tables.specs.Tests.{first_of, fields}
-use Rattle.metadata_tables.specs.Root.{stream, streams_tests}
+use Rattle.metadata_tables.specs.Root.{stream}
 use Rattle.metadata_tables.specs.Schema.{columns_of, width, total_width}
 use Rattle.metadata_tables.specs.Layout.{end_of, tables_at, tables_end, heap_sizes, valid, counts_at, present_below, stored_count, row_counts, row_count, rows_at, row_width, bytes_below, row_widths, bases, base, cell_at, cell}
-use Rattle.metadata_tables.specs.Placed.{IsPlaced, IsLayoutOf}
+use Rattle.metadata_tables.specs.Placed.{IsLayoutOf}
 use Rattle.metadata_tables.specs.TableTests.{rows_tests, all_rows_tests, tables_tests, first_table_fault, bits_tests}
 use Rattle.metadata_tables.proofs.TestLemmas.{first_of-front, first_of-back, fields-fits, fields-short}
 use Rattle.metadata_tables.proofs.HeaderLemmas.{stream-within}
@@ -31,14 +31,14 @@ front-fits : (end : ℕ) (fault : ℕ → TableFault) (at w : ℕ) (widths : Lis
 front-fits end fault at w widths e =
     elim (cases_lt end (at + w)) [
       | inl past ↦
-        let failed = fields-short end fault at w widths past in
-        absurd cc
+          let failed = fields-short end fault at w widths past in
+          absurd cc
       | inr fit ↦ fit
     ]
 
 -- Of fields that all fit, each ends before the end.
 run-row : (count end : ℕ) (fault : ℕ → TableFault) (at w row : ℕ) → row < count
-  → first_of (fields end fault at (replicate count w)) ≡ None → at + row * w + w ≤ end
+    → first_of (fields end fault at (replicate count w)) ≡ None → at + row * w + w ≤ end
 run-row zero end fault at w row h e = absurd (omega arith)
 run-row (suc count) end fault at w zero h e = omega (arith, front-fits end fault at w (replicate count w) e)
 run-row (suc count) end fault at w (suc row) h e =
@@ -48,17 +48,17 @@ run-row (suc count) end fault at w (suc row) h e =
 
 -- All tests of several lists are passed, so those of each are.
 flat-each : (tests : ℕ → List (Option TableFault)) (i n k : ℕ) → i ≤ k → k < i + n
-  → first_of (flat_map tests (range_with_len i n)) ≡ None → first_of (tests k) ≡ None
+    → first_of (flat_map tests (range_with_len i n)) ≡ None → first_of (tests k) ≡ None
 flat-each tests i zero k low high e = absurd (omega arith)
 flat-each tests i (suc n) k low high e =
     let split : first_of (flat_map tests (range_with_len i (suc n))) ≡ first_of (tests i ++ flat_map tests (range_with_len (i + 1) n)) =
-        ap first_of (flat_map-cons tests i (range_with_len (i + 1) n)) in
+    ap first_of (flat_map-cons tests i (range_with_len (i + 1) n)) in
     let whole = sym split ∙ e in
     elim (cases_lt i k) [
       | inl lt ↦ flat-each tests (i + 1) n k (omega arith) (omega arith) (first_of-back (tests i) (flat_map tests (range_with_len (i + 1) n)) whole)
       | inr le ↦
-        let same : i ≡ k = omega arith in
-        subst (λ (j : ℕ). first_of (tests j) ≡ None) same (first_of-front (tests i) (flat_map tests (range_with_len (i + 1) n)) whole)
+          let same : i ≡ k = omega arith in
+          subst (λ (j : ℕ). first_of (tests j) ≡ None) same (first_of-front (tests i) (flat_map tests (range_with_len (i + 1) n)) whole)
     ]
 
 -- ---- the rows
@@ -68,9 +68,9 @@ unfolding tables_tests
 all-rows md e =
     first_of-back
     (fields (tables_end md) (λ at. Short at) (tables_at md) (4 ∷ 1 ∷ 1 ∷ 1 ∷ 1 ∷ 8 ∷ [])
-      ++ bits_tests (valid md) (tables_at md + 8)
-      ++ fields (tables_end md) (λ at. Short at) (tables_at md + 16) (8 ∷ [])
-      ++ fields (tables_end md) (λ at. Short at) (counts_at md) (replicate (present_below (valid md) 64) 4))
+    ++ bits_tests (valid md) (tables_at md + 8)
+    ++ fields (tables_end md) (λ at. Short at) (tables_at md + 16) (8 ∷ [])
+    ++ fields (tables_end md) (λ at. Short at) (counts_at md) (replicate (present_below (valid md) 64) 4))
     (all_rows_tests (tables_end md) (row_counts md) (heap_sizes md) (rows_at md)) (tables-sound md e)
 
 row_counts-length : (md : List ℕ) → length (row_counts md) ≡ 45
@@ -82,13 +82,13 @@ table-known md table row first last =
     elim (cases_lt table 45) [
       | inl lt ↦ lt
       | inr past ↦
-        let none : get_or (row_counts md) table 0 ≡ 0 = get_or_past (row_counts md) table 0 (omega (arith, row_counts-length md)) in
-        absurd (omega arith)
+          let none : get_or (row_counts md) table 0 ≡ 0 = get_or_past (row_counts md) table 0 (omega (arith, row_counts-length md)) in
+          absurd (omega arith)
     ]
 
 -- A row ends before the stream does.
 row-end : (md : List ℕ) (table row : ℕ) → first_table_fault md ≡ None → 1 ≤ row → row ≤ row_count md table
-  → base md table + (row - 1) * row_width (row_counts md) (heap_sizes md) table + row_width (row_counts md) (heap_sizes md) table ≤ tables_end md
+    → base md table + (row - 1) * row_width (row_counts md) (heap_sizes md) table + row_width (row_counts md) (heap_sizes md) table ≤ tables_end md
 unfolding all_rows_tests rows_tests base
 row-end md table row e first last =
     run-row (row_count md table) (tables_end md) (λ at. Short at) (rows_at md + bytes_below (row_counts md) (heap_sizes md) table) (row_width (row_counts md) (heap_sizes md) table)
@@ -105,11 +105,15 @@ tables_end-within md e = end-within md (stream md (codes "#~")) (λ s found. str
 
 -- A cell ends before its row does.
 pub cell-end : (md : List ℕ) (table row column : ℕ) → first_table_fault md ≡ None → 1 ≤ row → row ≤ row_count md table → column < length (columns_of table)
-  → cell_at md table row column + width (row_counts md) (heap_sizes md) (slice_index_or (columns_of table) column Two) ≤ length md
+    → cell_at md table row column + width (row_counts md) (heap_sizes md) (slice_index_or (columns_of table) column Two) ≤ length md
 unfolding cell_at row_width
 cell-end md table row column e first last known =
-    omega (arith, row-end md table row e first last, tables_end-within md e,
-      sum_by_more_le (width (row_counts md) (heap_sizes md)) (columns_of table) column Two known)
+    omega (
+      arith,
+      row-end md table row e first last,
+      tables_end-within md e,
+      sum_by_more_le (width (row_counts md) (heap_sizes md)) (columns_of table) column Two known,
+    )
 
 -- ---- what is kept of the layout
 
@@ -120,7 +124,7 @@ base-is md layout table kept known =
     ∙ get_or-map-range_with_len (λ k. rows_at md + bytes_below (row_counts md) (heap_sizes md) k) 0 45 table table 0 known (omega arith)
 
 row_width-kept : (md : List ℕ) (layout : Layout) (table : ℕ) → IsLayoutOf md layout → table < 45
-  → get_or layout.widths table 0 ≡ row_width (row_counts md) (heap_sizes md) table
+    → get_or layout.widths table 0 ≡ row_width (row_counts md) (heap_sizes md) table
 unfolding row_widths
 row_width-kept md layout table kept known =
     ap (λ (xs : List ℕ). get_or xs table 0) kept.widths_kept
@@ -146,7 +150,7 @@ width-least counts sizes (Row table) = cond-least _
 width-least counts sizes (Coded kind) = cond-least _
 
 cell_at-place : (md : List ℕ) (table row column b w before : ℕ) → b ≡ base md table → w ≡ row_width (row_counts md) (heap_sizes md) table
-  → before ≡ total_width (row_counts md) (heap_sizes md) (take column (columns_of table)) → b + (row - 1) * w + before ≡ cell_at md table row column
+    → before ≡ total_width (row_counts md) (heap_sizes md) (take column (columns_of table)) → b + (row - 1) * w + before ≡ cell_at md table row column
 unfolding cell_at
 cell_at-place md table row column b w before e f g = rw (e, f, g) refl
 
@@ -156,15 +160,15 @@ pub record IsCellPlace (md : List ℕ) (table row column place : ℕ) : Type 0 w
   pub within : place + 2 ≤ length md
 
 pub cell_at-is : (md : List ℕ) (layout : Layout) (table row column b w before : ℕ) → IsLayoutOf md layout → first_table_fault md ≡ None
-  → 1 ≤ row → row ≤ row_count md table → column < length (columns_of table)
-  → b ≡ get_or layout.bases table 0 → w ≡ get_or layout.widths table 0
-  → before ≡ total_width layout.counts layout.heap_sizes (take column (columns_of table))
-  → IsCellPlace md table row column (b + (row - 1) * w + before)
+    → 1 ≤ row → row ≤ row_count md table → column < length (columns_of table)
+    → b ≡ get_or layout.bases table 0 → w ≡ get_or layout.widths table 0
+    → before ≡ total_width layout.counts layout.heap_sizes (take column (columns_of table))
+    → IsCellPlace md table row column (b + (row - 1) * w + before)
 cell_at-is md layout table row column b w before kept sound first last known b_is w_is before_is =
     let lt = table-known md table row first last in
     let place = cell_at-place md table row column b w before (b_is ∙ base-is md layout table kept lt) (w_is ∙ row_width-kept md layout table kept lt)
-        (before_is ∙ ap (λ (k : List ℕ). total_width k layout.heap_sizes (take column (columns_of table))) kept.counts_kept
-          ∙ ap (λ (k : ℕ). total_width (row_counts md) k (take column (columns_of table))) kept.heap_sizes_kept) in
+    (before_is ∙ ap (λ (k : List ℕ). total_width k layout.heap_sizes (take column (columns_of table))) kept.counts_kept
+    ∙ ap (λ (k : ℕ). total_width (row_counts md) k (take column (columns_of table))) kept.heap_sizes_kept) in
     record {
       is = place;
       within = omega (arith, place, cell-end md table row column sound first last known, width-least (row_counts md) (heap_sizes md) (slice_index_or (columns_of table) column Two));
@@ -172,21 +176,21 @@ cell_at-is md layout table row column b w before kept sound first last known b_i
 
 -- The number in a cell, over the width that the code computes.
 pub column_width-is : (md : List ℕ) (layout : Layout) (table column w : ℕ) → IsLayoutOf md layout
-  → w ≡ width layout.counts layout.heap_sizes (slice_index_or (columns_of table) column Two)
-  → w ≡ width (row_counts md) (heap_sizes md) (slice_index_or (columns_of table) column Two)
+    → w ≡ width layout.counts layout.heap_sizes (slice_index_or (columns_of table) column Two)
+    → w ≡ width (row_counts md) (heap_sizes md) (slice_index_or (columns_of table) column Two)
 column_width-is md layout table column w kept is =
     is ∙ ap (λ (k : List ℕ). width k layout.heap_sizes (slice_index_or (columns_of table) column Two)) kept.counts_kept
     ∙ ap (λ (k : ℕ). width (row_counts md) k (slice_index_or (columns_of table) column Two)) kept.heap_sizes_kept
 
 pub cell-wide : (md : List ℕ) (table row column w at v : ℕ) → w ≡ width (row_counts md) (heap_sizes md) (slice_index_or (columns_of table) column Two)
-  → w ≡ 4 → at ≡ cell_at md table row column → v ≡ u32_at md at → v ≡ cell md table row column
+    → w ≡ 4 → at ≡ cell_at md table row column → v ≡ u32_at md at → v ≡ cell md table row column
 unfolding cell
 cell-wide md table row column w at v is four place read =
     let test : eqb (width (row_counts md) (heap_sizes md) (slice_index_or (columns_of table) column Two)) 4 ≡ true = rw (← is, four) refl in
     rw test (read ∙ ap (u32_at md) place)
 
 pub cell-narrow : (md : List ℕ) (table row column w at v : ℕ) → w ≡ width (row_counts md) (heap_sizes md) (slice_index_or (columns_of table) column Two)
-  → w ≢ 4 → at ≡ cell_at md table row column → v ≡ u16_at md at → v ≡ cell md table row column
+    → w ≢ 4 → at ≡ cell_at md table row column → v ≡ u16_at md at → v ≡ cell md table row column
 unfolding cell
 cell-narrow md table row column w at v is other place read =
     let differs : eqb w 4 ≡ false = grind (arith, nat_tests) in

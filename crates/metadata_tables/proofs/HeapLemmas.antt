@@ -1,5 +1,5 @@
 -- What is kept of a heap, and its items.
-use Rattle.std.proofs.Common.{◌≡◌, ℕ, ◌+◌, ◌-◌, ◌≤◌, ◌<◌, List, [], length, take, drop, Option, Some, None, refl, sym, ap, subst, ◌∙◌, arith, length-drop}
+use Rattle.std.proofs.Common.{◌≡◌, ℕ, ◌+◌, ◌-◌, ◌≤◌, List, [], length, take, drop, Option, Some, None, refl, sym, ap, ◌∙◌, arith}
 use Rattle.std.specs.Prelude.{option_map, Result, Ok, Err, IsOk, IfErr, ◌↔◌}
 use Rattle.metadata_tables.specs.declared.fault.TableFault.{TableFault}
 use Rattle.std.proofs.lemmas.List.{length-take}
@@ -49,22 +49,22 @@ unfolding heap
 heap-end md name e = bytes-end md (stream md name) (λ s found. stream-within md name s (streams-sound md e) found)
 
 pub string_at-is : (md strings rest : List ℕ) (index : ℕ) (r : Option (List ℕ)) → strings ≡ heap md (codes "#Strings")
-  → rest ≡ drop index strings → r ≡ zero_ended rest → r ≡ string_at md index
+    → rest ≡ drop index strings → r ≡ zero_ended rest → r ≡ string_at md index
 unfolding string_at
 string_at-is md strings rest index r kept from is = is ∙ ap zero_ended (from ∙ ap (drop index) kept)
 
 pub blob_at-is : (md blob rest : List ℕ) (index : ℕ) (r : Option (List ℕ)) → blob ≡ heap md (codes "#Blob")
-  → rest ≡ drop index blob → r ≡ item_of rest → r ≡ blob_at md index
+    → rest ≡ drop index blob → r ≡ item_of rest → r ≡ blob_at md index
 unfolding blob_at
 blob_at-is md blob rest index r kept from is = is ∙ ap item_of (from ∙ ap (drop index) kept)
 
 pub user_string_at-is : (md strings rest : List ℕ) (index : ℕ) (r : Option (List ℕ)) → strings ≡ heap md (codes "#US")
-  → rest ≡ drop index strings → r ≡ item_of rest → r ≡ user_string_at md index
+    → rest ≡ drop index strings → r ≡ item_of rest → r ≡ user_string_at md index
 unfolding user_string_at
 user_string_at-is md strings rest index r kept from is = is ∙ ap item_of (from ∙ ap (drop index) kept)
 
 pub blob_offset-is : (md blob rest : List ℕ) (index begin : ℕ) (o : Option Prefix) → blob ≡ heap md (codes "#Blob") → begin ≡ start_of (stream md (codes "#Blob"))
-  → rest ≡ drop index blob → o ≡ whole_prefix rest → option_map (λ front. begin + index + front.width) o ≡ blob_offset md index
+    → rest ≡ drop index blob → o ≡ whole_prefix rest → option_map (λ front. begin + index + front.width) o ≡ blob_offset md index
 unfolding blob_offset
 blob_offset-is md blob rest index begin o kept start from is =
     let front : o ≡ whole_prefix (drop index (heap md (codes "#Blob"))) = is ∙ ap whole_prefix (from ∙ ap (drop index) kept) in

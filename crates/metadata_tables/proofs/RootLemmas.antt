@@ -1,21 +1,21 @@
 -- The tests of the root and of the stream headers.
-use Rattle.std.proofs.Common.{◌≡◌, ◌≢◌, ℕ, zero, suc, ◌+◌, ◌-◌, ◌*◌, ◌/◌, ◌≤◌, ◌<◌, List, [], ◌∷◌, ◌++◌, length, length-drop, take, drop, Bool, true, false, cond, eqb, Option, Some, None, refl, sym, ap, subst, ◌∙◌, arith, inl, inr, ◌⊎◌}
-use Rattle.std.specs.Prelude.{sum, is_some, unwrap_or, option_map}
+use Rattle.std.proofs.Common.{◌≡◌, ◌≢◌, ℕ, ◌+◌, ◌-◌, ◌≤◌, ◌<◌, List, [], ◌∷◌, ◌++◌, length, length-drop, take, drop, Bool, true, false, eqb, Option, Some, None, refl, sym, ap, ◌∙◌, arith, inl, inr, ◌⊎◌}
+use Rattle.std.specs.Prelude.{sum, is_some}
 use Rattle.std.proofs.lemmas.List.{take_all}
 use Rattle.std.proofs.lemmas.List.Sums.{sum_by-cons}
 use Rattle.std.proofs.lemmas.Bool.{cases_lt}
 use Rattle.std.proofs.lemmas.Bool.Decides.{nat_tests}
-use Rattle.cc_base.specs.LittleEndian.{u16_at, u32_at}
+use Rattle.cc_base.specs.LittleEndian.{u32_at}
 use Rattle.metadata_tables.specs.declared.fault.TableFault.{TableFault}
 use Rattle.metadata_tables.specs.declared.fault.TableFault.TheVariants.{BadRoot}
 use Rattle.metadata_tables.specs.Tests.{first_of, test, fields}
-use Rattle.metadata_tables.specs.Root.{zero_ended, signature, version_width, headers_at, root_tests, name_of, padded, name_width, next_header, stream_of, header_tests, headers_tests}
+use Rattle.metadata_tables.specs.Root.{zero_ended, signature, version_width, headers_at, root_tests, name_of, padded, name_width, next_header, stream_of, header_tests}
 use Rattle.std.specs.Option.{option_or}
 use Rattle.metadata_tables.proofs.TestLemmas.{first_of-append, first_of-passed, first_of-failed, fields-fits, fields-short, fields-none}
 
 -- Fields of one fault that end before the end.
 pub fields-all : (end : ℕ) (fault : TableFault) (at : ℕ) (widths : List ℕ) → at + sum widths ≤ end
-  → first_of (fields end (λ _. fault) at widths) ≡ None
+    → first_of (fields end (λ _. fault) at widths) ≡ None
 fields-all end fault at [] h = fields-none end (λ _. fault) at
 fields-all end fault at (width ∷ widths) h =
     let total : sum (width ∷ widths) ≡ width + sum widths = sum_by-cons (λ (x : ℕ). x) width widths in
@@ -24,7 +24,7 @@ fields-all end fault at (width ∷ widths) h =
 
 -- Fields of one fault of which one passes the end.
 pub fields-some : (end : ℕ) (fault : TableFault) (at : ℕ) (widths : List ℕ) → at ≤ end → end < at + sum widths
-  → first_of (fields end (λ _. fault) at widths) ≡ Some fault
+    → first_of (fields end (λ _. fault) at widths) ≡ Some fault
 fields-some end fault at [] h past = absurd (omega arith)
 fields-some end fault at (width ∷ widths) h past =
     let total : sum (width ∷ widths) ≡ width + sum widths = sum_by-cons (λ (x : ℕ). x) width widths in
@@ -35,11 +35,11 @@ fields-some end fault at (width ∷ widths) h past =
 
 -- A test that is passed, and one that is not.
 pub test-passed : (b : Bool) (fault : TableFault) (tests : List (Option TableFault)) → b ≡ true
-  → first_of (test b fault ∷ tests) ≡ first_of tests
+    → first_of (test b fault ∷ tests) ≡ first_of tests
 test-passed b fault tests e = rw e refl
 
 pub test-failed : (b : Bool) (fault : TableFault) (tests : List (Option TableFault)) → b ≡ false
-  → first_of (test b fault ∷ tests) ≡ Some fault
+    → first_of (test b fault ∷ tests) ≡ Some fault
 test-failed b fault tests e = rw e refl
 
 bool_cases : (b : Bool) → (b ≡ true) ⊎ (b ≡ false)
@@ -51,7 +51,7 @@ root_fields md = fields (length md) (λ _. BadRoot) 4 (2 ∷ 2 ∷ 4 ∷ 4 ∷ v
 
 -- The root where its first field fits.
 root-first : (md : List ℕ) → 4 ≤ length md
-  → first_of (root_tests md) ≡ first_of (test (eqb (u32_at md 0) signature) BadRoot ∷ root_fields md)
+    → first_of (root_tests md) ≡ first_of (test (eqb (u32_at md 0) signature) BadRoot ∷ root_fields md)
 unfolding root_tests root_fields
 root-first md h =
     first_of-passed (fields (length md) (λ _. BadRoot) 0 (4 ∷ [])) (test (eqb (u32_at md 0) signature) BadRoot ∷ root_fields md)
@@ -74,14 +74,14 @@ unfolding root_tests root_fields
 root-short md h =
     elim (cases_lt (length md) 4) [
       | inl short ↦
-        first_of-failed (fields (length md) (λ _. BadRoot) 0 (4 ∷ [])) (test (eqb (u32_at md 0) signature) BadRoot ∷ root_fields md) BadRoot
-        (fields-some (length md) BadRoot 0 (4 ∷ []) (omega arith) (omega arith))
+          first_of-failed (fields (length md) (λ _. BadRoot) 0 (4 ∷ [])) (test (eqb (u32_at md 0) signature) BadRoot ∷ root_fields md) BadRoot
+          (fields-some (length md) BadRoot 0 (4 ∷ []) (omega arith) (omega arith))
       | inr enough ↦
-        elim (bool_cases (eqb (u32_at md 0) signature)) [
-          | inl same ↦ root-first md enough ∙ test-passed _ BadRoot (root_fields md) same
-            ∙ fields-some (length md) BadRoot 4 (2 ∷ 2 ∷ 4 ∷ 4 ∷ version_width md ∷ 2 ∷ 2 ∷ []) enough (omega arith)
-          | inr other ↦ root-first md enough ∙ test-failed _ BadRoot (root_fields md) other
-        ]
+          elim (bool_cases (eqb (u32_at md 0) signature)) [
+            | inl same ↦ root-first md enough ∙ test-passed _ BadRoot (root_fields md) same
+                ∙ fields-some (length md) BadRoot 4 (2 ∷ 2 ∷ 4 ∷ 4 ∷ version_width md ∷ 2 ∷ 2 ∷ []) enough (omega arith)
+            | inr other ↦ root-first md enough ∙ test-failed _ BadRoot (root_fields md) other
+          ]
     ]
 
 pub version-is : (md : List ℕ) → u32_at md 12 ≡ version_width md
@@ -116,7 +116,7 @@ header_stream : List ℕ → ℕ → List (Option TableFault)
 header_stream md at = fields (length md) (λ _. BadRoot) (stream_of md at).at ((stream_of md at).size ∷ [])
 
 header-parts : (md : List ℕ) (at : ℕ)
-  → first_of (header_tests md at) ≡ option_or (option_or (first_of (header_numbers md at)) (first_of (header_name md at))) (first_of (header_stream md at))
+    → first_of (header_tests md at) ≡ option_or (option_or (first_of (header_numbers md at)) (first_of (header_name md at))) (first_of (header_stream md at))
 unfolding header_tests header_numbers header_name header_stream
 header-parts md at =
     first_of-append (header_numbers md at ++ header_name md at) (header_stream md at)
@@ -147,18 +147,18 @@ header-endless md at h e =
     header-parts md at ∙ rw (numbers-good md at h, bad) refl
 
 pub header-long : (md : List ℕ) (at : ℕ) (name : List ℕ) → at + 8 ≤ length md → name_of md at ≡ Some name → length md < at + 8 + padded (length name)
-  → first_of (header_tests md at) ≡ Some BadRoot
+    → first_of (header_tests md at) ≡ Some BadRoot
 unfolding header_name
 header-long md at name h e long =
     let next = next_header-is md at name e in
     let there : is_some (name_of md at) ≡ true = rw e refl in
     let bad : first_of (header_name md at) ≡ Some BadRoot =
-        test-passed _ BadRoot (fields (length md) (λ _. BadRoot) (at + 8) (name_width md at ∷ [])) there
-        ∙ fields-some (length md) BadRoot (at + 8) (name_width md at ∷ []) h (omega arith) in
+    test-passed _ BadRoot (fields (length md) (λ _. BadRoot) (at + 8) (name_width md at ∷ [])) there
+    ∙ fields-some (length md) BadRoot (at + 8) (name_width md at ∷ []) h (omega arith) in
     header-parts md at ∙ rw (numbers-good md at h, bad) refl
 
 pub header-outside : (md : List ℕ) (at : ℕ) (name : List ℕ) → at + 8 ≤ length md → name_of md at ≡ Some name → at + 8 + padded (length name) ≤ length md
-  → length md < u32_at md at + u32_at md (at + 4) → first_of (header_tests md at) ≡ Some BadRoot
+    → length md < u32_at md at + u32_at md (at + 4) → first_of (header_tests md at) ≡ Some BadRoot
 unfolding header_stream stream_of
 header-outside md at name h e fit outside =
     let next = next_header-is md at name e in
@@ -166,7 +166,7 @@ header-outside md at name h e fit outside =
     header-parts md at ∙ rw (numbers-good md at h, name-good md at name e (omega arith), bad) refl
 
 pub header-good : (md : List ℕ) (at : ℕ) (name : List ℕ) → at + 8 ≤ length md → name_of md at ≡ Some name → at + 8 + padded (length name) ≤ length md
-  → u32_at md at + u32_at md (at + 4) ≤ length md → first_of (header_tests md at) ≡ None
+    → u32_at md at + u32_at md (at + 4) ≤ length md → first_of (header_tests md at) ≡ None
 unfolding header_stream stream_of
 header-good md at name h e fit within =
     let next = next_header-is md at name e in

@@ -1,5 +1,5 @@
 -- The tests of the stream `#~`, where the stream is known.
-use Rattle.std.proofs.Common.{◌≡◌, ℕ, ◌+◌, ◌*◌, List, [], ◌∷◌, ◌++◌, length, get_or, replicate, Option, Some, None, refl, sym, ap, subst, ◌∙◌, arith}
+use Rattle.std.proofs.Common.{◌≡◌, ℕ, ◌+◌, ◌*◌, List, [], ◌∷◌, ◌++◌, replicate, Option, Some, refl, ap, subst, ◌∙◌, arith}
 use Rattle.std.specs.Prelude.{slice_index, Result, IfOk}
 use Rattle.metadata_tables.specs.declared.layout.Layout.{Layout}
 use Rattle.metadata_tables.specs.Placed.{IsPlaced, IsLayoutOf}
@@ -20,7 +20,7 @@ abbrev pub first_of_five : Option TableFault → Option TableFault → Option Ta
 first_of_five a b c d e = option_or (option_or (option_or (option_or a b) c) d) e
 
 first_of-five : (a b c d e : List (Option TableFault))
-  → first_of (a ++ b ++ c ++ d ++ e) ≡ first_of_five (first_of a) (first_of b) (first_of c) (first_of d) (first_of e)
+    → first_of (a ++ b ++ c ++ d ++ e) ≡ first_of_five (first_of a) (first_of b) (first_of c) (first_of d) (first_of e)
 first_of-five a b c d e = simp first_of-append
 
 pub valid-is : (md : List ℕ) (s : Stream) → stream md (codes "#~") ≡ Some s → u64_at md (s.at + 8) ≡ valid md
@@ -44,7 +44,7 @@ unfolding tables_end
 tables_end-is md s there = rw there refl
 
 pub rows_at-is : (md : List ℕ) (s : Stream) (bits counts rows : ℕ) → stream md (codes "#~") ≡ Some s → bits ≡ u64_at md (s.at + 8)
-  → counts ≡ s.at + 24 → rows ≡ counts + present_below bits 64 * 4 → rows ≡ rows_at md
+    → counts ≡ s.at + 24 → rows ≡ counts + present_below bits 64 * 4 → rows ≡ rows_at md
 unfolding rows_at
 rows_at-is md s bits counts rows there same place after =
     let known : bits ≡ valid md = same ∙ valid-is md s there in
@@ -53,13 +53,13 @@ rows_at-is md s bits counts rows there same place after =
 
 -- The tests of the stream, over what is read of it.
 pub tables_tests-is : (md : List ℕ) (s : Stream) (bits sorted counts rows : ℕ) → stream md (codes "#~") ≡ Some s
-  → bits ≡ u64_at md (s.at + 8) → sorted ≡ s.at + 16 → counts ≡ s.at + 24 → rows ≡ counts + present_below bits 64 * 4
-  → first_of (tables_tests md) ≡ first_of_five
-      (first_of (fields (s.at + s.size) (λ at. Short at) s.at (4 ∷ 1 ∷ 1 ∷ 1 ∷ 1 ∷ 8 ∷ [])))
-      (first_of (bits_tests bits (s.at + 8)))
-      (first_of (fields (s.at + s.size) (λ at. Short at) sorted (8 ∷ [])))
-      (first_of (fields (s.at + s.size) (λ at. Short at) counts (replicate (present_below bits 64) 4)))
-      (first_of (all_rows_tests (s.at + s.size) (row_counts md) (slice_index md (s.at + 6)) rows))
+    → bits ≡ u64_at md (s.at + 8) → sorted ≡ s.at + 16 → counts ≡ s.at + 24 → rows ≡ counts + present_below bits 64 * 4
+    → first_of (tables_tests md) ≡ first_of_five
+    (first_of (fields (s.at + s.size) (λ at. Short at) s.at (4 ∷ 1 ∷ 1 ∷ 1 ∷ 1 ∷ 8 ∷ [])))
+    (first_of (bits_tests bits (s.at + 8)))
+    (first_of (fields (s.at + s.size) (λ at. Short at) sorted (8 ∷ [])))
+    (first_of (fields (s.at + s.size) (λ at. Short at) counts (replicate (present_below bits 64) 4)))
+    (first_of (all_rows_tests (s.at + s.size) (row_counts md) (slice_index md (s.at + 6)) rows))
 unfolding tables_tests
 tables_tests-is md s bits sorted counts rows there same sorted_is counts_is rows_is =
     let known : bits ≡ valid md = same ∙ valid-is md s there in
@@ -68,14 +68,14 @@ tables_tests-is md s bits sorted counts rows there same sorted_is counts_is rows
     let begin : rows ≡ rows_at md = rows_at-is md s bits counts rows there same counts_is rows_is in
     rw (begin, behind, after, known, heap_sizes-is md s there, tables_end-is md s there, tables_at-is md s there)
     (first_of-five
-      (fields (tables_end md) (λ at. Short at) (tables_at md) (4 ∷ 1 ∷ 1 ∷ 1 ∷ 1 ∷ 8 ∷ []))
-      (bits_tests (valid md) (tables_at md + 8))
-      (fields (tables_end md) (λ at. Short at) (tables_at md + 16) (8 ∷ []))
-      (fields (tables_end md) (λ at. Short at) (counts_at md) (replicate (present_below (valid md) 64) 4))
-      (all_rows_tests (tables_end md) (row_counts md) (heap_sizes md) (rows_at md)))
+    (fields (tables_end md) (λ at. Short at) (tables_at md) (4 ∷ 1 ∷ 1 ∷ 1 ∷ 1 ∷ 8 ∷ []))
+    (bits_tests (valid md) (tables_at md + 8))
+    (fields (tables_end md) (λ at. Short at) (tables_at md + 16) (8 ∷ []))
+    (fields (tables_end md) (λ at. Short at) (counts_at md) (replicate (present_below (valid md) 64) 4))
+    (all_rows_tests (tables_end md) (row_counts md) (heap_sizes md) (rows_at md)))
 
 pub placed-is : (md : List ℕ) (r : Result Layout TableFault) (counts : List ℕ) (sizes rows : ℕ) → counts ≡ row_counts md → sizes ≡ heap_sizes md
-  → rows ≡ rows_at md → IfOk r (IsPlaced counts sizes rows) → IfOk r (IsLayoutOf md)
+    → rows ≡ rows_at md → IfOk r (IsPlaced counts sizes rows) → IfOk r (IsLayoutOf md)
 placed-is md r counts sizes rows e f g h =
     subst (λ (x : ℕ). IfOk r (IsPlaced (row_counts md) (heap_sizes md) x)) g
     (subst (λ (x : ℕ). IfOk r (IsPlaced (row_counts md) x rows)) f

@@ -1,5 +1,5 @@
 -- All tests of the metadata's root, streams and tables, in the order of reading.
-use Rattle.std.specs.Prelude.{ℕ, ◌+◌, List, [], ◌∷◌, ◌++◌, length, map, replicate, slice_index, Option, Some, None, nat_lt, ◌==◌, ◌&&◌, not, if◌then◌else◌}
+use Rattle.std.specs.Prelude.{ℕ, ◌+◌, List, [], ◌∷◌, ◌++◌, length, map, replicate, slice_index, Option, ◌==◌, ◌&&◌, not}
 use Rattle.std.specs.List.{flat_map, range_with_len}
 use Rattle.std.specs.Int.{bit_at}
 use Rattle.metadata_tables.specs.declared.fault.TableFault.{TableFault}

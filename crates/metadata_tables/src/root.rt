@@ -16,9 +16,9 @@ const SIGNATURE: u32 = 0x424a_5342;
 
 /// A stream: where it begins in the metadata, and how many bytes it has.
 #[derive(Clone, Copy, Debug, PartialEq, Eq)]
-pub struct Stream {
-    pub at: u32,
-    pub size: u32,
+pub(crate) struct Stream {
+    pub(crate) at: u32,
+    pub(crate) size: u32,
 }
 
 /// The streams that were found, the first of each name.

@@ -59,6 +59,7 @@ fn reads_rows(rt: HostRuntime) -> Result<(), Fail> {
 }
 
 #[test]
+#[tactic(auto, unfolding(crate::specs::Schema::columns_of))]
 fn reads_cells(rt: HostRuntime) -> Result<(), Fail> {
     let tables = Tables::read(&METADATA)?;
     assert!(rt; tables.row_count(0x06) == 2 && tables.row_count(0x23) == 1);

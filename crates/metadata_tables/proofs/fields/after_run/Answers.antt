@@ -1,4 +1,4 @@
-use Rattle.std.proofs.Common.{arith, ◌∙◌, sym, ap}
+use Rattle.std.proofs.Common.{arith}
 use Rattle.metadata_tables.proofs.TestLemmas.{run-room, run-fits}
 use Rattle.metadata_tables.proofs.fields.after_run.Goals as goal
 

@@ -1,4 +1,4 @@
-use Rattle.std.proofs.Common.{◌≡◌, ◌+◌, refl, sym, ◌∙◌, arith, eqb, true, false, length}
+use Rattle.std.proofs.Common.{◌≡◌, sym, ◌∙◌, arith, eqb, true, false, length}
 use Rattle.std.specs.Int.{bit_at}
 use Rattle.std.proofs.lemmas.Bool.{eqb-true}
 use Rattle.metadata_tables.specs.Schema.{columns_of}
@@ -13,7 +13,7 @@ loop-bit-init c = (sym (present_below-zero c.args.bits), omega arith, bits_tests
 pub returns-then-is_empty-clause-judged : goal.returns-then-is_empty-clause-judged
 returns-then-is_empty-clause-judged c =
     let none : eqb (length (columns_of c.loop-bit.bit)) 0 ≡ true =
-        rw (← c.columns.ensures.value) (sym c.is_empty.ensures ∙ c.if-is_empty.true) in
+    rw (← c.columns.ensures.value) (sym c.is_empty.ensures ∙ c.if-is_empty.true) in
     singles_on-stop (bit_test c.args.bits c.args.at) c.loop-bit.bit 64 _ _ (omega arith)
     (bit_test-bad c.args.bits c.args.at c.loop-bit.bit (sym c.has_bit.ensures ∙ c.if-has_bit.true) none) c.loop-bit.invariant.2
 
@@ -22,19 +22,19 @@ loop-bit-preserved c =
     let more = present_below-more c.args.bits c.loop-bit.bit in
     elim c.if-has_bit.branch [
       | then-has_bit+else-is_empty w ↦
-        let known : eqb (length (columns_of c.loop-bit.bit)) 0 ≡ false =
-            rw (← w.columns.ensures.value) (sym w.is_empty.ensures ∙ w.if-is_empty.false) in
-        let set : bit_at c.args.bits c.loop-bit.bit ≡ 1 = eqb-true _ _ (sym c.has_bit.ensures ∙ w.if-has_bit.true) in
-        (
-          omega (arith, more, set), omega arith,
-          singles_on-next (bit_test c.args.bits c.args.at) c.loop-bit.bit 64 _ (omega arith) (bit_test-known c.args.bits c.args.at c.loop-bit.bit known) c.loop-bit.invariant.2
-        )
+          let known : eqb (length (columns_of c.loop-bit.bit)) 0 ≡ false =
+          rw (← w.columns.ensures.value) (sym w.is_empty.ensures ∙ w.if-is_empty.false) in
+          let set : bit_at c.args.bits c.loop-bit.bit ≡ 1 = eqb-true _ _ (sym c.has_bit.ensures ∙ w.if-has_bit.true) in (
+            omega (arith, more, set),
+            omega arith,
+            singles_on-next (bit_test c.args.bits c.args.at) c.loop-bit.bit 64 _ (omega arith) (bit_test-known c.args.bits c.args.at c.loop-bit.bit known) c.loop-bit.invariant.2,
+          )
       | else-has_bit w ↦
-        let unset : eqb (bit_at c.args.bits c.loop-bit.bit) 1 ≡ false = sym c.has_bit.ensures ∙ w.if-has_bit.false in
-        (
-          omega (arith, more, bit_at-unset c.args.bits c.loop-bit.bit unset), omega arith,
-          singles_on-next (bit_test c.args.bits c.args.at) c.loop-bit.bit 64 _ (omega arith) (bit_test-unset c.args.bits c.args.at c.loop-bit.bit unset) c.loop-bit.invariant.2
-        )
+          let unset : eqb (bit_at c.args.bits c.loop-bit.bit) 1 ≡ false = sym c.has_bit.ensures ∙ w.if-has_bit.false in (
+            omega (arith, more, bit_at-unset c.args.bits c.loop-bit.bit unset),
+            omega arith,
+            singles_on-next (bit_test c.args.bits c.args.at) c.loop-bit.bit 64 _ (omega arith) (bit_test-unset c.args.bits c.args.at c.loop-bit.bit unset) c.loop-bit.invariant.2,
+          )
     ]
 
 pub returns-clause-judged : goal.returns-clause-judged

@@ -1,6 +1,6 @@
-use Rattle.std.proofs.Common.{◌≡◌, ℕ, ◌+◌, ◌*◌, refl, sym, ap, ◌∙◌, arith}
+use Rattle.std.proofs.Common.{◌≡◌, ◌+◌, ◌*◌, refl, ◌∙◌, arith}
 use Rattle.std.proofs.lemmas.Result.{err_from_is_err_and}
-use Rattle.metadata_tables.specs.Layout.{present_below, valid, row_counts}
+use Rattle.metadata_tables.specs.Layout.{present_below}
 use Rattle.metadata_tables.proofs.StreamLemmas.{tables_tests-is, valid-is, counts_at-is, rows_at-is, heap_sizes-is, placed-is}
 use Rattle.metadata_tables.proofs.layout.read_layout.Goals as goal
 

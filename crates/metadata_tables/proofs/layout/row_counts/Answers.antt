@@ -1,8 +1,8 @@
-use Rattle.std.proofs.Common.{◌≡◌, ℕ, ◌+◌, ◌*◌, ◌<◌, ◌≤◌, length, get_or, eqb, true, false, sym, ap, subst, ◌∙◌, below_more, refl, arith}
+use Rattle.std.proofs.Common.{◌≡◌, eqb, true, false, sym, ◌∙◌, below_more, refl, arith}
 use Rattle.std.specs.Int.{bit_at}
 use Rattle.std.proofs.lemmas.Bool.{eqb-true}
 use Rattle.std.proofs.lemmas.List.{length-set}
-use Rattle.metadata_tables.specs.Layout.{valid, stored_count}
+use Rattle.metadata_tables.specs.Layout.{stored_count}
 use Rattle.metadata_tables.proofs.LayoutLemmas.{present_below-zero, present_below-more, present_below-le, bit_at-unset, stored_count-set, stored_count-unset, row_counts-filled, filled-more, zero-behind, zeros-at}
 use Rattle.metadata_tables.proofs.layout.row_counts.Goals as goal
 use Rattle.metadata_tables.proofs.layout.row_counts.Goals.{then-has_bit, else-has_bit}
@@ -34,22 +34,22 @@ loop-table-preserved c =
     let before = c.loop-table.invariant in
     elim c.if-has_bit.branch [
       | then-has_bit w ↦
-        let set : eqb (bit_at bits table) 1 ≡ true = sym c.has_bit.ensures ∙ w.if-has_bit.true in
-        let one : bit_at bits table ≡ 1 = eqb-true _ _ set in
-        rw (w.counts-is) (record {
-          place = omega (arith, more, one);
-          long = length-set _ _ _ ∙ before.long;
-          filled = filled-more (stored_count md) c.loop-table.counts table _ (omega arith) (w.u32_at.ensures ∙ stored_count-set md bits c.args.start table c.loop-table.at c.requires.bits c.requires.place set before.place) before.filled;
-          rest = zero-behind c.loop-table.counts table _ before.rest;
-        })
+          let set : eqb (bit_at bits table) 1 ≡ true = sym c.has_bit.ensures ∙ w.if-has_bit.true in
+          let one : bit_at bits table ≡ 1 = eqb-true _ _ set in
+          rw (w.counts-is) (record {
+            place = omega (arith, more, one);
+            long = length-set _ _ _ ∙ before.long;
+            filled = filled-more (stored_count md) c.loop-table.counts table _ (omega arith) (w.u32_at.ensures ∙ stored_count-set md bits c.args.start table c.loop-table.at c.requires.bits c.requires.place set before.place) before.filled;
+            rest = zero-behind c.loop-table.counts table _ before.rest;
+          })
       | else-has_bit w ↦
-        let unset : eqb (bit_at bits table) 1 ≡ false = sym c.has_bit.ensures ∙ w.if-has_bit.false in
-        rw (w.counts-is) (record {
-          place = omega (arith, more, bit_at-unset bits table unset);
-          long = before.long;
-          filled = below_more _ _ before.filled (before.rest table (omega arith) ∙ stored_count-unset md bits table c.requires.bits unset);
-          rest = λ k h. before.rest k (omega arith);
-        })
+          let unset : eqb (bit_at bits table) 1 ≡ false = sym c.has_bit.ensures ∙ w.if-has_bit.false in
+          rw (w.counts-is) (record {
+            place = omega (arith, more, bit_at-unset bits table unset);
+            long = before.long;
+            filled = below_more _ _ before.filled (before.rest table (omega arith) ∙ stored_count-unset md bits table c.requires.bits unset);
+            rest = λ k h. before.rest k (omega arith);
+          })
     ]
 
 pub returns : goal.returns

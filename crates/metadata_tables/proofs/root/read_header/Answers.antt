@@ -1,5 +1,5 @@
-use Rattle.std.proofs.Common.{◌≡◌, ◌+◌, Some, None, sym, ◌∙◌, arith}
-use Rattle.metadata_tables.specs.Root.{name_of, padded}
+use Rattle.std.proofs.Common.{◌≡◌, Some, None, arith}
+use Rattle.metadata_tables.specs.Root.{name_of}
 use Rattle.metadata_tables.proofs.RootLemmas.{name_of-is, next_header-is, header-short, header-endless, header-long, header-outside, header-good}
 use Rattle.metadata_tables.proofs.root.read_header.Goals as goal
 use Rattle.metadata_tables.proofs.root.read_header.Goals.{then-md-next-via-then-md-next, then-md-next-via-else-md-next+then-md-from}

@@ -1,4 +1,4 @@
-use Rattle.std.proofs.Common.{◌≡◌, refl, sym, ap, subst, ◌∙◌, arith}
+use Rattle.std.proofs.Common.{◌≡◌, refl, sym, ap, subst, ◌∙◌}
 use Rattle.std.proofs.lemmas.Result.{err_from_is_err_and}
 use Rattle.std.specs.Prelude.{IfOk, Option, Some}
 use Rattle.metadata_tables.specs.declared.fault.TableFault.{TableFault}
@@ -29,10 +29,10 @@ returns-clause-judged c =
     let found = c.in_ok-found.ensures in
     let all = streams-are md c.u16_at.result c.in_ok-first.first first count ∙ rw (c.in_ok-first.ensures.judged, found.judged) refl in
     let present =
-        presence-is md c.in_ok-found.found.tables c.in_ok-found.found.strings c.in_ok-found.found.blob
-        (found.tables ∙ stream-is md (codes "#~") c.u16_at.result c.in_ok-first.first first count)
-        (found.strings ∙ stream-is md (codes "#Strings") c.u16_at.result c.in_ok-first.first first count)
-        (found.blob ∙ stream-is md (codes "#Blob") c.u16_at.result c.in_ok-first.first first count) in
+    presence-is md c.in_ok-found.found.tables c.in_ok-found.found.strings c.in_ok-found.found.blob
+    (found.tables ∙ stream-is md (codes "#~") c.u16_at.result c.in_ok-first.first first count)
+    (found.strings ∙ stream-is md (codes "#Strings") c.u16_at.result c.in_ok-first.first first count)
+    (found.blob ∙ stream-is md (codes "#Blob") c.u16_at.result c.in_ok-first.first first count) in
     subst (λ (o : Option TableFault). Judges c.all_present.result o) (ap first_of present ∙ sym all) c.all_present.ensures.judged
 
 pub returns-clause-tables : goal.returns-clause-tables

@@ -1,4 +1,3 @@
-use Rattle.std.proofs.Common.{arith}
 use Rattle.metadata_tables.proofs.HeapLemmas.{blob_at-is}
 use Rattle.metadata_tables.proofs.tables.Tables.blob_at.Goals as goal
 

@@ -1,4 +1,4 @@
-use Rattle.std.proofs.Common.{◌≡◌, ◌+◌, ◌≤◌, length, sym, ap, ◌∙◌, arith, length-drop, Some, None}
+use Rattle.std.proofs.Common.{length, ap, arith, length-drop, Some, None}
 use lib.Chars.{codes}
 use Rattle.metadata_tables.proofs.HeapLemmas.{heap-end, blob_offset-is}
 use Rattle.metadata_tables.proofs.tables.Tables.blob_offset.Goals as goal

@@ -1,6 +1,6 @@
-use Rattle.std.proofs.Common.{◌≡◌, ◌+◌, ◌-◌, ◌≤◌, ◌<◌, length, take, refl, ap, ◌∙◌, arith}
+use Rattle.std.proofs.Common.{◌≡◌, ◌≤◌, length, take, refl, ap, arith}
 use Rattle.metadata_tables.specs.Schema.{columns_of, total_width}
-use Rattle.metadata_tables.specs.Layout.{row_count, cell_at}
+use Rattle.metadata_tables.specs.Layout.{row_count}
 use Rattle.metadata_tables.proofs.CellLemmas.{cell_at-is}
 use Rattle.metadata_tables.proofs.tables.Tables.cell_at.Goals as goal
 

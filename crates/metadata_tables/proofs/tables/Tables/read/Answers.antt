@@ -1,4 +1,4 @@
-use Rattle.std.proofs.Common.{◌≡◌, refl, sym, ap, ◌∙◌, arith, Some, None}
+use Rattle.std.proofs.Common.{refl, ◌∙◌, Some, None}
 use Rattle.std.proofs.lemmas.Result.{err_from_is_err_and}
 use lib.Chars.{codes}
 use Rattle.metadata_tables.specs.Tests.{Judges}
@@ -27,14 +27,14 @@ pub returns-in_err-layout-clause-ok : goal.returns-in_err-layout-clause-ok
 returns-in_err-layout-clause-ok c =
     let p = err_from_is_err_and c.from_residual-in_err-layout.result c.from_residual-in_err-layout.ensures.1 in
     let judged : Judges c.from_residual-in_err-layout.result (first_table_fault c.args.md.now) =
-        rw (p.1, p.2) (fault-tables c.args.md.now _ c.in_ok-streams.ensures.judged c.in_err-layout.ensures.judged) in
+    rw (p.1, p.2) (fault-tables c.args.md.now _ c.in_ok-streams.ensures.judged c.in_err-layout.ensures.judged) in
     judged-ok c.from_residual-in_err-layout.result (first_table_fault c.args.md.now) judged
 
 pub returns-in_err-layout-clause-err : goal.returns-in_err-layout-clause-err
 returns-in_err-layout-clause-err c =
     let p = err_from_is_err_and c.from_residual-in_err-layout.result c.from_residual-in_err-layout.ensures.1 in
     let judged : Judges c.from_residual-in_err-layout.result (first_table_fault c.args.md.now) =
-        rw (p.1, p.2) (fault-tables c.args.md.now _ c.in_ok-streams.ensures.judged c.in_err-layout.ensures.judged) in
+    rw (p.1, p.2) (fault-tables c.args.md.now _ c.in_ok-streams.ensures.judged c.in_err-layout.ensures.judged) in
     judged-err c.from_residual-in_err-layout.result (first_table_fault c.args.md.now) judged
 
 pub bytes_of-user_strings-requires : goal.bytes_of-user_strings-requires
@@ -55,12 +55,12 @@ invariant_of-result c = record {
   blob_kept = heap-is c.args.md.now (codes "#Blob") _ _ c.in_ok-streams.ensures.blob c.bytes_of-2.ensures;
   blob_begin = start-is c.args.md.now (codes "#Blob") c.in_ok-streams.streams.blob c.in_ok-streams.ensures.blob;
   user_strings_kept =
-    elim c.match-streams.branch [
-      | in-Some w ↦
-        rw w.user_strings-is
-        (heap-is c.args.md.now (codes "#US") (Some w.in-Some.stream) _ (c.in_ok-streams.ensures.user_strings ∙ w.in-Some.is) w.bytes_of-user_strings.ensures)
-      | in-None w ↦ rw w.user_strings-is (heap-is c.args.md.now (codes "#US") None _ (c.in_ok-streams.ensures.user_strings ∙ w.in-None.is) refl)
-    ];
+      elim c.match-streams.branch [
+        | in-Some w ↦
+            rw w.user_strings-is
+            (heap-is c.args.md.now (codes "#US") (Some w.in-Some.stream) _ (c.in_ok-streams.ensures.user_strings ∙ w.in-Some.is) w.bytes_of-user_strings.ensures)
+        | in-None w ↦ rw w.user_strings-is (heap-is c.args.md.now (codes "#US") None _ (c.in_ok-streams.ensures.user_strings ∙ w.in-None.is) refl)
+      ];
   layout_kept = c.in_ok-layout.ensures.placed;
 }
 

@@ -1,4 +1,3 @@
-use Rattle.std.proofs.Common.{arith}
 use Rattle.metadata_tables.proofs.HeapLemmas.{string_at-is}
 use Rattle.metadata_tables.proofs.tables.Tables.string_at.Goals as goal
 

@@ -1,4 +1,3 @@
-use Rattle.std.proofs.Common.{arith}
 use Rattle.metadata_tables.proofs.HeapLemmas.{user_string_at-is}
 use Rattle.metadata_tables.proofs.tables.Tables.user_string_at.Goals as goal
 
