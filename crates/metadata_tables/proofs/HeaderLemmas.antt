@@ -1,7 +1,6 @@
 -- Stream headers one after another.
 use Rattle.std.proofs.Common.{◌≡◌, ℕ, zero, suc, ◌+◌, ◌-◌, ◌≤◌, ◌<◌, List, [], ◌∷◌, ◌++◌, length, Bool, true, false, cond, Option, Some, None, refl, sym, ap, subst, ◌∙◌, arith, ◌⊎◌, inl, inr}
-use Rattle.std.specs.Prelude.{unwrap_or, is_some}
-use lib.Chars.{codes}
+use Rattle.std.specs.Prelude.{unwrap_or, is_some, codes}
 use Rattle.cc_base.specs.LittleEndian.{u16_at}
 use Rattle.std.specs.Option.{option_or}
 use Rattle.std.specs.Str.{bytes_eq}

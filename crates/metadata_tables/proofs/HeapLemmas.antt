@@ -1,10 +1,9 @@
 -- What is kept of a heap, and its items.
 use Rattle.std.proofs.Common.{◌≡◌, ℕ, ◌+◌, ◌-◌, ◌≤◌, List, [], length, take, drop, Option, Some, None, refl, sym, ap, ◌∙◌, arith}
-use Rattle.std.specs.Prelude.{option_map, Result, Ok, Err, IsOk, IfErr, ◌↔◌}
+use Rattle.std.specs.Prelude.{option_map, Result, Ok, Err, IsOk, IfErr, ◌↔◌, codes}
 use Rattle.metadata_tables.specs.declared.fault.TableFault.{TableFault}
 use Rattle.std.proofs.lemmas.List.{length-take}
 use Rattle.std.proofs.Math.ListN.{drop_of_length-le}
-use lib.Chars.{codes}
 use Rattle.metadata_tables.specs.declared.root.Stream.{Stream}
 use Rattle.metadata_tables.specs.declared.heaps.Prefix.{Prefix}
 use Rattle.metadata_tables.specs.Tests.{first_of, Judges}

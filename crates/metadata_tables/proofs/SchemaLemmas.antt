@@ -1,6 +1,5 @@
 -- The table of schemas.
-use Rattle.std.proofs.Common.{zero, suc, ◌∷◌, leb, Bool, true, false, ◌&&◌, refl, ◌≡◌, ℕ, ◌≤◌, ◌<◌, List, [], map, length, get_or, sym, arith}
-use denote.Ref.{Bor}
+use Rattle.std.proofs.Common.{Bor, zero, suc, ◌∷◌, leb, Bool, true, false, ◌&&◌, refl, ◌≡◌, ℕ, ◌≤◌, ◌<◌, List, [], map, length, get_or, sym, arith}
 use Rattle.std.proofs.lemmas.List.{get_or_past, get_or-map, length-map}
 use Rattle.std.specs.List.{list_all}
 use Rattle.std.proofs.lemmas.Bool.{leb-true}

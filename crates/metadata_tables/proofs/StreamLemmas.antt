@@ -1,10 +1,9 @@
 -- The tests of the stream `#~`, where the stream is known.
 use Rattle.std.proofs.Common.{◌≡◌, ℕ, ◌+◌, ◌*◌, List, [], ◌∷◌, ◌++◌, replicate, Option, Some, refl, ap, subst, ◌∙◌, arith}
-use Rattle.std.specs.Prelude.{slice_index, Result, IfOk}
+use Rattle.std.specs.Prelude.{slice_index, Result, IfOk, codes}
 use Rattle.metadata_tables.specs.declared.layout.Layout.{Layout}
 use Rattle.metadata_tables.specs.Placed.{IsPlaced, IsLayoutOf}
 use Rattle.std.specs.Option.{option_or}
-use lib.Chars.{codes}
 use Rattle.cc_base.specs.LittleEndian.{u64_at}
 use Rattle.metadata_tables.specs.declared.root.Stream.{Stream}
 use Rattle.metadata_tables.specs.declared.fault.TableFault.{TableFault}

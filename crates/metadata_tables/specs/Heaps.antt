@@ -1,6 +1,5 @@
 -- The items of the heaps (ECMA-335 II.24.2.3 and II.24.2.4).
-use Rattle.std.specs.Prelude.{ℕ, ◌+◌, ◌^◌, ◌%◌, List, length, take, drop, slice_index, Option, Some, None, option_map, option_and_then, nat_le, nat_lt, if◌then◌else◌}
-use lib.Chars.{codes}
+use Rattle.std.specs.Prelude.{ℕ, ◌+◌, ◌^◌, ◌%◌, List, length, take, drop, slice_index, Option, Some, None, option_map, option_and_then, nat_le, nat_lt, if◌then◌else◌, codes}
 use Rattle.byteorder.specs.Endian.{big_number}
 use Rattle.metadata_tables.specs.declared.heaps.Prefix.{Prefix}
 use Rattle.metadata_tables.specs.Layout.{start_of}

@@ -1,8 +1,7 @@
 -- Where the fields, row counts and cells of the stream `#~` stand (ECMA-335 II.24.2.6).
-use Rattle.std.specs.Prelude.{ℕ, ◌+◌, ◌-◌, ◌*◌, List, map, take, sum_by, slice_index, slice_index_or, Option, Some, None, ◌==◌, if◌then◌else◌}
+use Rattle.std.specs.Prelude.{ℕ, ◌+◌, ◌-◌, ◌*◌, List, map, take, sum_by, slice_index, slice_index_or, Option, Some, None, ◌==◌, if◌then◌else◌, codes}
 use Rattle.std.specs.List.{range_with_len}
 use Rattle.std.specs.Int.{bit_at}
-use lib.Chars.{codes}
 use Rattle.cc_base.specs.LittleEndian.{u16_at, u32_at, u64_at}
 use Rattle.metadata_tables.specs.declared.root.Stream.{Stream}
 use Rattle.metadata_tables.specs.declared.schema.Column.TheVariants.{Two}

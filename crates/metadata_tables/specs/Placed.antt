@@ -1,6 +1,5 @@
 -- What is kept of metadata that was read.
-use Rattle.std.specs.Prelude.{◌≡◌, ◌≤◌, ℕ, List, length, None}
-use lib.Chars.{codes}
+use Rattle.std.specs.Prelude.{◌≡◌, ◌≤◌, ℕ, List, length, None, codes}
 use Rattle.metadata_tables.specs.declared.layout.Layout.{Layout}
 use Rattle.metadata_tables.specs.Layout.{start_of, row_counts, heap_sizes, rows_at, row_widths, bases}
 use Rattle.metadata_tables.specs.Root.{stream, heap}

@@ -1,7 +1,6 @@
 -- The metadata root and the streams (ECMA-335 II.24.2.1 and II.24.2.2).
-use Rattle.std.specs.Prelude.{◌≡◌, ◌≤◌, ℕ, zero, suc, ◌+◌, ◌*◌, ◌/◌, List, [], ◌∷◌, ◌++◌, length, take, drop, Option, Some, None, option_map, unwrap_or, is_some, ◌==◌, if◌then◌else◌, position}
+use Rattle.std.specs.Prelude.{ℕ, zero, suc, ◌+◌, ◌*◌, ◌/◌, List, [], ◌∷◌, ◌++◌, length, take, drop, Option, Some, None, option_map, unwrap_or, is_some, ◌==◌, if◌then◌else◌, position, codes}
 use Rattle.std.specs.Str.{bytes_eq}
-use lib.Chars.{codes}
 use Rattle.cc_base.specs.LittleEndian.{u16_at, u32_at}
 use Rattle.metadata_tables.specs.declared.root.Stream.{Stream}
 use Rattle.metadata_tables.specs.declared.fault.TableFault.{TableFault}
@@ -91,14 +90,11 @@ presence_tests md = presence_of (stream md (codes "#~")) (stream md (codes "#Str
 unfoldable pub streams_tests : List ℕ → List (Option TableFault)
 streams_tests md = root_tests md ++ headers_tests md (stream_count md) (headers_at md) ++ presence_tests md
 
--- Each stream lies in the metadata.
-abbrev pub AreWithin : List ℕ → Type 0
-AreWithin md = (name : List ℕ) (s : Stream) → stream md name ≡ Some s → s.at + s.size ≤ length md
-
--- The bytes of the first stream of a name.
+-- The bytes of a stream, none where it is missing.
 abbrev pub bytes_of : List ℕ → Option Stream → List ℕ
 bytes_of md None = []
 bytes_of md (Some s) = take s.size (drop s.at md)
 
+-- The bytes of the first stream of a name.
 unfoldable pub heap : List ℕ → List ℕ → List ℕ
 heap md name = bytes_of md (stream md name)

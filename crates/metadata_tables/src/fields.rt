@@ -10,7 +10,8 @@ pub(crate) fn after_fields(start: usize, widths: &[u8], end: usize) -> Result<us
     requires start { start ≤ end }
     requires end { end < 2 ^ 31 }
     ensures judged { Judges result (first_of (fields end (λ at. TableFault.Short at) start widths.now)) }
-    ensures place { IfOk result (λ after. (after ≡ start + sum widths.now) × (after ≤ end)) }
+    ensures place { IfOk result (λ after. after ≡ start + sum widths.now) }
+    ensures within { IfOk result (λ after. after ≤ end) }
 {
     let mut at = start;
     for width in widths {
@@ -34,7 +35,8 @@ pub(crate) fn after_run(
     requires end { end < 2 ^ 31 }
     ensures judged { Judges result
         (first_of (fields end (λ at. TableFault.Short at) start (replicate count width))) }
-    ensures place { IfOk result (λ after. (after ≡ start + count * width) × (after ≤ end)) }
+    ensures place { IfOk result (λ after. after ≡ start + count * width) }
+    ensures within { IfOk result (λ after. after ≤ end) }
 {
     let room = end - start;
     let width = width as usize;

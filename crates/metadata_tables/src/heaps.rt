@@ -36,7 +36,8 @@ pub(crate) struct Prefix {
 #[tactic(auto, unfolding(crate::specs::Heaps::prefix_of))]
 fn prefix_of(bytes: &[u8]) -> Option<Prefix>
     ensures value { result ≡ prefix_of bytes.now }
-    ensures short { IfSome result (λ front. (1 ≤ front.width) × (front.width ≤ 4)) }
+    ensures written { IfSome result (λ front. 1 ≤ front.width) }
+    ensures short { IfSome result (λ front. front.width ≤ 4) }
 {
     let first = *bytes.first()?;
     if first < 0x80 {
@@ -65,7 +66,8 @@ fn prefix_of(bytes: &[u8]) -> Option<Prefix>
 pub(crate) fn whole_prefix(bytes: &[u8]) -> Option<Prefix>
     ensures value { result ≡ whole_prefix bytes.now }
     ensures whole { IfSome result (λ front. front.width + front.len ≤ length bytes.now) }
-    ensures short { IfSome result (λ front. (1 ≤ front.width) × (front.width ≤ 4)) }
+    ensures written { IfSome result (λ front. 1 ≤ front.width) }
+    ensures short { IfSome result (λ front. front.width ≤ 4) }
 {
     let front = prefix_of(bytes)?;
     if front.width + front.len as usize <= bytes.len() {

@@ -1,18 +1,17 @@
 //! The stream `#~`: which tables are present, and where their rows stand (ECMA-335 II.24.2.6).
 
-ghost use Rattle.std.specs.Prelude.{◌≡◌, ◌+◌, ◌*◌, ◌^◌, ◌<◌, ◌≤◌, length, map, Some, IfOk};
+ghost use Rattle.std.specs.Prelude.{◌≡◌, ◌+◌, ◌*◌, ◌^◌, ◌<◌, ◌≤◌, length, map, Some, IfOk, codes};
 ghost use Rattle.metadata_tables.specs.Tests.{first_of, Judges};
 ghost use Rattle.metadata_tables.specs.Root.{stream};
 ghost use Rattle.metadata_tables.specs.Layout.{valid, counts_at, present_below, row_counts};
 ghost use Rattle.metadata_tables.specs.TableTests.{bits_tests, all_rows_tests, tables_tests};
 ghost use Rattle.metadata_tables.specs.Placed.{IsPlaced, IsLayoutOf};
-ghost use lib.Chars.{codes};
 
 use crate::fault::TableFault;
 use crate::fields::{after_fields, after_run};
 use crate::root::Stream;
 use crate::schema::{TABLES, columns};
-use crate::width::{columns_width, count_of, has_bit};
+use crate::width::{columns_width, has_bit};
 use cc_base::{u32_at, u64_at};
 
 /// Where the rows of all tables stand.

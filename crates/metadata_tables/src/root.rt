@@ -1,11 +1,10 @@
 //! The metadata root and its streams (ECMA-335 II.24.2.1 and II.24.2.2).
 
-ghost use Rattle.std.specs.Prelude.{◌≡◌, ◌+◌, ◌^◌, ◌<◌, ◌≤◌, ◌++◌, length, IfOk, Some, None, if◌then◌else◌};
+ghost use Rattle.std.specs.Prelude.{◌≡◌, ◌+◌, ◌^◌, ◌<◌, ◌≤◌, ◌++◌, length, IfOk, Some, None, if◌then◌else◌, codes};
 ghost use Rattle.std.specs.Option.{option_or};
 ghost use Rattle.std.specs.Str.{bytes_eq};
 ghost use Rattle.metadata_tables.specs.Tests.{first_of, Judges};
 ghost use Rattle.metadata_tables.specs.Root.{stream_count, headers_at, root_tests, name_of, next_header, stream_of, header_tests, headers_tests, stream_among, stream, presence_of, streams_tests};
-ghost use lib.Chars.{codes};
 
 use crate::fault::TableFault;
 use crate::heaps::zero_ended;
@@ -52,7 +51,9 @@ struct Header<'a> {
 fn read_root(md: &[u8]) -> Result<usize, TableFault>
     requires { length md.now < 2 ^ 31 }
     ensures judged { Judges result (first_of (root_tests md.now)) }
-    ensures place { IfOk result (λ at. (at ≡ headers_at md.now) × (at ≤ length md.now) × (20 ≤ at)) }
+    ensures place { IfOk result (λ at. at ≡ headers_at md.now) }
+    ensures within { IfOk result (λ at. at ≤ length md.now) }
+    ensures behind { IfOk result (λ at. 20 ≤ at) }
 {
     if md.len() < 16 || u32_at(md, 0) != SIGNATURE {
         return Err(TableFault::BadRoot);
@@ -72,8 +73,8 @@ fn read_header(md: &[u8], at: usize) -> Result<Header<'_>, TableFault>
     ensures judged { Judges result (first_of (header_tests md.now at)) }
     ensures stream { IfOk result (λ header. header.stream ≡ stream_of md.now at) }
     ensures name { IfOk result (λ header. name_of md.now at ≡ Some header.name.now) }
-    ensures next { IfOk result
-        (λ header. (header.next ≡ next_header md.now at) × (header.next ≤ length md.now)) }
+    ensures next { IfOk result (λ header. header.next ≡ next_header md.now at) }
+    ensures within { IfOk result (λ header. header.next ≤ length md.now) }
 {
     if md.len() - at < 8 {
         return Err(TableFault::BadRoot);

@@ -1,7 +1,6 @@
 //! How many bytes the columns have.
 
-ghost use Rattle.std.specs.Prelude.{◌≡◌, ◌+◌, ◌*◌, ◌-◌, ◌<◌, ◌≤◌, length, slice_index};
-ghost use Rattle.std.specs.Prelude.{◌==◌, nat_lt};
+ghost use Rattle.std.specs.Prelude.{◌≡◌, ◌+◌, ◌*◌, ◌-◌, ◌<◌, ◌≤◌, ◌==◌, length, slice_index, nat_lt};
 ghost use Rattle.std.specs.List.{list_all};
 ghost use Rattle.std.specs.Int.{bit_at};
 ghost use Rattle.metadata_tables.specs.Schema.{row_index_width, heap_index_width, width, total_width};
@@ -24,6 +23,7 @@ pub(crate) fn has_bit(bits: u64, bit: u8) -> bool
     (bits >> bit) & 1 == 1
 }
 
+/// The bytes of an index into a heap, whose bit of HeapSizes this is.
 fn heap_index_width(heap_sizes: u8, bit: u8) -> u32
     requires { bit < 8 }
     ensures { result ≡ heap_index_width heap_sizes bit }
@@ -42,6 +42,7 @@ fn are_below(counts: &[u32; TABLES], tables: &[u8], limit: u32) -> bool
     tables.iter().all(|table| count_of(counts, *table) < limit)
 }
 
+/// The bytes of an index into these tables that has this many bits for the row.
 fn row_index_width(counts: &[u32; TABLES], tables: &[u8], bits: u8) -> u32
     requires { bits ≤ 16 }
     ensures { result ≡ row_index_width counts.now tables.now bits }

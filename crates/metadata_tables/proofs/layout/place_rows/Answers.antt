@@ -32,8 +32,8 @@ loop-table-preserved c =
     let wide = row_width-is c.args.counts c.args.heap_sizes table c.columns.result.now c.columns_width-width.result c.columns.ensures.value c.columns_width-width.ensures.value in
     let same = rows_tests-is c.args.end c.args.counts c.args.heap_sizes c.args.start table c.loop-table.at (get_or c.args.counts table 0) c.columns_width-width.result before.place refl wide in
     record {
-      place = place-next c.args.counts c.args.heap_sizes c.args.start table c.loop-table.at c.columns_width-width.result c.in_ok-at.at before.place wide c.in_ok-at.ensures.place.0;
-      within = c.in_ok-at.ensures.place.1;
+      place = place-next c.args.counts c.args.heap_sizes c.args.start table c.loop-table.at c.columns_width-width.result c.in_ok-at.at before.place wide c.in_ok-at.ensures.place;
+      within = c.in_ok-at.ensures.within;
       long_bases = length-set _ _ _ ∙ before.long_bases;
       long_widths = length-set _ _ _ ∙ before.long_widths;
       filled_bases = filled-more (λ k. c.args.start + bytes_below c.args.counts c.args.heap_sizes k) c.loop-table.bases table c.loop-table.at (omega arith) before.place before.filled_bases;

@@ -46,7 +46,7 @@ returns-clause-judged c =
     let sorted : c.in_ok-sorted_at.sorted_at ≡ c.args.tables.at + 16 = omega (arith, c.in_ok-sorted_at.ensures.place) in
     let counts : c.in_ok-counts_at.counts_at ≡ c.args.tables.at + 24 = omega (arith, c.in_ok-sorted_at.ensures.place, c.in_ok-counts_at.ensures.place) in
     let many = c.in_ok-present.ensures.present in
-    let rows : c.in_ok-rows_at.rows_at ≡ c.in_ok-counts_at.counts_at + present_below c.u64_at-valid.result 64 * 4 = rw (← many) (c.in_ok-rows_at.ensures.place.0) in
+    let rows : c.in_ok-rows_at.rows_at ≡ c.in_ok-counts_at.counts_at + present_below c.u64_at-valid.result 64 * 4 = rw (← many) (c.in_ok-rows_at.ensures.place) in
     let tests = tables_tests-is md s c.u64_at-valid.result c.in_ok-sorted_at.sorted_at c.in_ok-counts_at.counts_at c.in_ok-rows_at.rows_at c.requires.tables c.u64_at-valid.ensures sorted counts rows in
     let last = tests ∙ rw (c.in_ok-sorted_at.ensures.judged, c.in_ok-present.ensures.judged, c.in_ok-counts_at.ensures.judged, rw many at c.in_ok-rows_at.ensures.judged, ← c.row_counts-counts.ensures) refl in
     rw last c.place_rows.ensures.judged
@@ -57,6 +57,6 @@ returns-clause-placed c =
     let s = c.args.tables in
     let counts : c.in_ok-counts_at.counts_at ≡ c.args.tables.at + 24 = omega (arith, c.in_ok-sorted_at.ensures.place, c.in_ok-counts_at.ensures.place) in
     let many = c.in_ok-present.ensures.present in
-    let rows : c.in_ok-rows_at.rows_at ≡ c.in_ok-counts_at.counts_at + present_below c.u64_at-valid.result 64 * 4 = rw (← many) (c.in_ok-rows_at.ensures.place.0) in
+    let rows : c.in_ok-rows_at.rows_at ≡ c.in_ok-counts_at.counts_at + present_below c.u64_at-valid.result 64 * 4 = rw (← many) (c.in_ok-rows_at.ensures.place) in
     let begin = rows_at-is md s c.u64_at-valid.result c.in_ok-counts_at.counts_at c.in_ok-rows_at.rows_at c.requires.tables c.u64_at-valid.ensures counts rows in
     placed-is md c.place_rows.result _ _ _ c.row_counts-counts.ensures (heap_sizes-is md s c.requires.tables) begin c.place_rows.ensures.placed

@@ -33,4 +33,4 @@ pub returns-clause-next : goal.returns-clause-next
 returns-clause-next c =
     let md = c.args.md.now in
     let named : name_of md c.args.at ≡ Some c.in-Some.name.now = name_of-is md c.args.at (Some c.in-Some.name.now) c.in-Some.ensures in
-    (next_header-is md c.args.at c.in-Some.name.now named, omega arith)
+    next_header-is md c.args.at c.in-Some.name.now named

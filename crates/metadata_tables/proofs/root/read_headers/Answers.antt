@@ -1,6 +1,6 @@
 use Rattle.std.proofs.Common.{arith}
 use Rattle.std.proofs.lemmas.Result.{err_from_is_err_and}
-use lib.Chars.{codes}
+use Rattle.std.specs.Prelude.{codes}
 use Rattle.metadata_tables.proofs.HeaderLemmas.{headers-next, headers-stop, headers-done, among-next, among-done}
 use Rattle.metadata_tables.proofs.root.read_headers.Goals as goal
 
@@ -19,12 +19,12 @@ loop-preserved c =
     let read = c.in_ok-header.ensures in
     let before = c.loop.invariant in
     record {
-      within = read.next.1;
-      tests = headers-next md at n i header.next _ (omega arith) read.judged read.next.0 before.tests;
-      tables = among-next md (codes "#~") at n i header.next c.loop.found.tables c.first_named.result header.name.now header.stream _ (omega arith) read.name read.stream read.next.0 c.first_named.ensures before.tables;
-      strings = among-next md (codes "#Strings") at n i header.next c.loop.found.strings c.first_named-in-loop.result header.name.now header.stream _ (omega arith) read.name read.stream read.next.0 c.first_named-in-loop.ensures before.strings;
-      blob = among-next md (codes "#Blob") at n i header.next c.loop.found.blob c.first_named-in-loop-2.result header.name.now header.stream _ (omega arith) read.name read.stream read.next.0 c.first_named-in-loop-2.ensures before.blob;
-      user_strings = among-next md (codes "#US") at n i header.next c.loop.found.user_strings c.first_named-in-loop-3.result header.name.now header.stream _ (omega arith) read.name read.stream read.next.0 c.first_named-in-loop-3.ensures before.user_strings;
+      within = read.within;
+      tests = headers-next md at n i header.next _ (omega arith) read.judged read.next before.tests;
+      tables = among-next md (codes "#~") at n i header.next c.loop.found.tables c.first_named.result header.name.now header.stream _ (omega arith) read.name read.stream read.next c.first_named.ensures before.tables;
+      strings = among-next md (codes "#Strings") at n i header.next c.loop.found.strings c.first_named-in-loop.result header.name.now header.stream _ (omega arith) read.name read.stream read.next c.first_named-in-loop.ensures before.strings;
+      blob = among-next md (codes "#Blob") at n i header.next c.loop.found.blob c.first_named-in-loop-2.result header.name.now header.stream _ (omega arith) read.name read.stream read.next c.first_named-in-loop-2.ensures before.blob;
+      user_strings = among-next md (codes "#US") at n i header.next c.loop.found.user_strings c.first_named-in-loop-3.result header.name.now header.stream _ (omega arith) read.name read.stream read.next c.first_named-in-loop-3.ensures before.user_strings;
     }
 
 pub returns-clause-judged : goal.returns-clause-judged

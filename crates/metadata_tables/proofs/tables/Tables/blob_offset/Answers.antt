@@ -1,5 +1,5 @@
 use Rattle.std.proofs.Common.{length, ap, arith, length-drop, Some, None}
-use lib.Chars.{codes}
+use Rattle.std.specs.Prelude.{codes}
 use Rattle.metadata_tables.proofs.HeapLemmas.{heap-end, blob_offset-is}
 use Rattle.metadata_tables.proofs.tables.Tables.blob_offset.Goals as goal
 
@@ -14,13 +14,13 @@ pub overflow_add-result : goal.overflow_add-result
 overflow_add-result c =
     let i = c.self.inside in
     let kept = c.self.invariant in
-    omega (arith, kept.short, kept.blob_begin, ap length kept.blob_kept, heap-end i.md.now (codes "#Blob") kept.sound, ap length c.rest_from.ensures, length-drop c.args.index i.blob.now, c.in_ok-front.ensures.whole, c.in_ok-front.ensures.short.0)
+    omega (arith, kept.short, kept.blob_begin, ap length kept.blob_kept, heap-end i.md.now (codes "#Blob") kept.sound, ap length c.rest_from.ensures, length-drop c.args.index i.blob.now, c.in_ok-front.ensures.whole, c.in_ok-front.ensures.written)
 
 pub overflow_add-result-2 : goal.overflow_add-result-2
 overflow_add-result-2 c =
     let i = c.self.inside in
     let kept = c.self.invariant in
-    omega (arith, kept.short, kept.blob_begin, ap length kept.blob_kept, heap-end i.md.now (codes "#Blob") kept.sound, ap length c.rest_from.ensures, length-drop c.args.index i.blob.now, c.in_ok-front.ensures.whole, c.in_ok-front.ensures.short.0)
+    omega (arith, kept.short, kept.blob_begin, ap length kept.blob_kept, heap-end i.md.now (codes "#Blob") kept.sound, ap length c.rest_from.ensures, length-drop c.args.index i.blob.now, c.in_ok-front.ensures.whole, c.in_ok-front.ensures.written)
 
 pub returns-clause-place : goal.returns-clause-place
 returns-clause-place c =
@@ -32,4 +32,4 @@ pub returns-clause-within : goal.returns-clause-within
 returns-clause-within c =
     let i = c.self.inside in
     let kept = c.self.invariant in
-    omega (arith, kept.blob_begin, ap length kept.blob_kept, heap-end i.md.now (codes "#Blob") kept.sound, ap length c.rest_from.ensures, length-drop c.args.index i.blob.now, c.in_ok-front.ensures.whole, c.in_ok-front.ensures.short.0, ap length c.self.view_is)
+    omega (arith, kept.blob_begin, ap length kept.blob_kept, heap-end i.md.now (codes "#Blob") kept.sound, ap length c.rest_from.ensures, length-drop c.args.index i.blob.now, c.in_ok-front.ensures.whole, c.in_ok-front.ensures.written, ap length c.self.view_is)

@@ -1,6 +1,6 @@
 use Rattle.std.proofs.Common.{refl, ◌∙◌, Some, None}
 use Rattle.std.proofs.lemmas.Result.{err_from_is_err_and}
-use lib.Chars.{codes}
+use Rattle.std.specs.Prelude.{codes}
 use Rattle.metadata_tables.specs.Tests.{Judges}
 use Rattle.metadata_tables.specs.TableTests.{first_table_fault}
 use Rattle.metadata_tables.proofs.HeaderLemmas.{stream-within}
