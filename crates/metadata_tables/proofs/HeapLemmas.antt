@@ -1,15 +1,15 @@
 -- What is kept of a heap, and its items.
-use Rattle.std.proofs.Common.{◌≡◌, ℕ, ◌+◌, ◌-◌, ◌≤◌, List, [], length, take, drop, Option, Some, None, refl, sym, ap, ◌∙◌, arith}
-use Rattle.std.specs.Prelude.{option_map, Result, Ok, Err, IsOk, IfErr, ◌↔◌, codes}
+use Rattle.std.proofs.Common.{length-drop, subst, ◌≡◌, ℕ, ◌+◌, ◌-◌, ◌≤◌, List, [], length, take, drop, Option, Some, None, refl, sym, ap, ◌∙◌, arith}
+use Rattle.std.specs.Prelude.{option_map, Result, Ok, Err, IsOk, IfErr, ◌↔◌, codes, is_some, IfSome}
 use Rattle.metadata_tables.specs.declared.fault.TableFault.{TableFault}
-use Rattle.std.proofs.lemmas.List.{length-take}
+use Rattle.std.proofs.lemmas.List.{length-take, length-take-le, drop-drop, drop-take, take-take}
 use Rattle.std.proofs.Math.ListN.{drop_of_length-le}
 use Rattle.metadata_tables.specs.declared.root.Stream.{Stream}
 use Rattle.metadata_tables.specs.declared.heaps.Prefix.{Prefix}
 use Rattle.metadata_tables.specs.Tests.{first_of, Judges}
 use Rattle.metadata_tables.specs.Root.{zero_ended, stream, streams_tests, bytes_of, heap}
 use Rattle.metadata_tables.specs.Layout.{start_of}
-use Rattle.metadata_tables.specs.Heaps.{whole_prefix, item_of, string_at, blob_at, blob_offset, user_string_at}
+use Rattle.metadata_tables.specs.Heaps.{whole_prefix, item_of, string_at, blob_at, blob_offset, user_string_at, StandsAt}
 use Rattle.metadata_tables.specs.TableTests.{table_tests, tables_tests, first_table_fault}
 use Rattle.metadata_tables.proofs.TestLemmas.{first_of-passed, first_of-failed, first_of-front, first_of-back}
 use Rattle.metadata_tables.proofs.HeaderLemmas.{stream-within}
@@ -89,3 +89,64 @@ judged-err (Err fault) o e = e
 
 pub start-is : (md name : List ℕ) (s : Stream) → stream md name ≡ Some s → s.at ≡ start_of (stream md name)
 start-is md name s e = rw e refl
+
+-- ---- where an item stands
+
+-- A part of a part of some bytes.
+part-of : (md : List ℕ) (at size index n len : ℕ) → index + n + len ≤ size
+    → take len (drop n (drop index (take size (drop at md)))) ≡ take len (drop (at + index + n) md)
+part-of md at size index n len h =
+    let m : ℕ = size - (index + n) in
+    let split : size ≡ (index + n) + m = omega arith in
+    let fits : len ≤ m = omega arith in
+    let place : at + (index + n) ≡ at + index + n = omega arith in
+    ap (take len) (drop-drop n index (take size (drop at md)))
+    ∙ ap (λ (k : ℕ). take len (drop (index + n) (take k (drop at md)))) split
+    ∙ ap (take len) (drop-take (index + n) m (drop at md))
+    ∙ take-take len m (drop (index + n) (drop at md)) fits
+    ∙ ap (take len) (drop-drop (index + n) at md)
+    ∙ ap (λ (k : ℕ). take len (drop k md)) place
+
+-- As many bytes as an item has.
+take-own : (xs item : List ℕ) (len : ℕ) → len ≤ length xs → item ≡ take len xs → item ≡ take (length item) xs
+take-own xs item len h e =
+    let same : length item ≡ len = ap length e ∙ length-take-le len xs h in
+    e ∙ ap (λ (k : ℕ). take k xs) (sym same)
+
+stands-in : (md : List ℕ) (o : Option Stream) (index : ℕ) (front : Prefix) → 1 ≤ front.width
+    → front.width + front.len ≤ length (drop index (bytes_of md o)) → start_of o + length (bytes_of md o) ≤ length md
+    → StandsAt md (start_of o + index + front.width) (take front.len (drop front.width (drop index (bytes_of md o))))
+stands-in md None index front written whole within = absurd (omega (arith, length-drop index (bytes_of md None)))
+stands-in md (Some s) index front written whole within =
+    let long = length-drop index (bytes_of md (Some s)) in
+    let size = length-take s.size (drop s.at md) in
+    let behind = length-drop (s.at + index + front.width) md in
+    take-own (drop (s.at + index + front.width) md) (take front.len (drop front.width (drop index (bytes_of md (Some s))))) front.len (omega arith)
+    (part-of md s.at s.size index front.width front.len (omega arith))
+
+blob_at-found : (md : List ℕ) (index : ℕ) (front : Prefix) → whole_prefix (drop index (heap md (codes "#Blob"))) ≡ Some front
+    → blob_at md index ≡ Some (take front.len (drop front.width (drop index (heap md (codes "#Blob")))))
+unfolding blob_at item_of
+blob_at-found md index front e = rw e refl
+
+-- The item stands at the place that is told.
+pub stands-is : (md blob rest : List ℕ) (index begin : ℕ) (front : Prefix) → first_table_fault md ≡ None → blob ≡ heap md (codes "#Blob")
+    → begin ≡ start_of (stream md (codes "#Blob")) → rest ≡ drop index blob → Some front ≡ whole_prefix rest → 1 ≤ front.width
+    → front.width + front.len ≤ length rest → IfSome (blob_at md index) (λ item. StandsAt md (begin + index + front.width) item)
+unfolding heap
+stands-is md blob rest index begin front sound kept start from is written whole =
+    let same : rest ≡ drop index (heap md (codes "#Blob")) = from ∙ ap (drop index) kept in
+    let found = blob_at-found md index front (sym (is ∙ ap whole_prefix same)) in
+    rw (found, start) (stands-in md (stream md (codes "#Blob")) index front written (subst (λ (xs : List ℕ). front.width + front.len ≤ length xs) same whole) (heap-end md (codes "#Blob") sound))
+
+is_some-map : (f : Prefix → List ℕ) (o : Option Prefix) → is_some o ≡ is_some (option_map f o)
+is_some-map f None = refl
+is_some-map f (Some front) = refl
+
+pub lent-is : (md blob rest : List ℕ) (index : ℕ) (o : Option Prefix) → blob ≡ heap md (codes "#Blob") → rest ≡ drop index blob → o ≡ whole_prefix rest
+    → is_some o ≡ is_some (blob_at md index)
+unfolding blob_at item_of
+lent-is md blob rest index o kept from is =
+    let same : rest ≡ drop index (heap md (codes "#Blob")) = from ∙ ap (drop index) kept in
+    is_some-map (λ front. take front.len (drop front.width (drop index (heap md (codes "#Blob"))))) o
+    ∙ ap (λ (p : Option Prefix). is_some (option_map (λ front. take front.len (drop front.width (drop index (heap md (codes "#Blob"))))) p)) (is ∙ ap whole_prefix same)

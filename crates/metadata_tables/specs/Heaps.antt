@@ -1,5 +1,5 @@
 -- The items of the heaps (ECMA-335 II.24.2.3 and II.24.2.4).
-use Rattle.std.specs.Prelude.{ℕ, ◌+◌, ◌^◌, ◌%◌, List, length, take, drop, slice_index, Option, Some, None, option_map, option_and_then, nat_le, nat_lt, if◌then◌else◌, codes}
+use Rattle.std.specs.Prelude.{◌≡◌, ℕ, ◌+◌, ◌^◌, ◌%◌, List, length, take, drop, slice_index, Option, Some, None, option_map, option_and_then, nat_le, nat_lt, if◌then◌else◌, codes}
 use Rattle.byteorder.specs.Endian.{big_number}
 use Rattle.metadata_tables.specs.declared.heaps.Prefix.{Prefix}
 use Rattle.metadata_tables.specs.Layout.{start_of}
@@ -44,3 +44,7 @@ blob_offset md index =
 -- The item at a place of `#US`.
 unfoldable pub user_string_at : List ℕ → ℕ → Option (List ℕ)
 user_string_at md index = item_of (drop index (heap md (codes "#US")))
+
+-- The bytes of an item stand at a place of the metadata.
+abbrev pub StandsAt : List ℕ → ℕ → List ℕ → Type 0
+StandsAt md at item = item ≡ take (length item) (drop at md)

@@ -1,7 +1,7 @@
 //! Metadata as read: rows, cells and the items of heaps.
 
-ghost use Rattle.std.specs.Prelude.{◌≡◌, ℕ, ◌+◌, ◌<◌, ◌≤◌, ◌↔◌, List, length, None, Some, IsOk, IfOk, IfErr, IfSome, option_map, drop};
-ghost use Rattle.metadata_tables.specs.Heaps.{string_at, blob_at, blob_offset, user_string_at};
+ghost use Rattle.std.specs.Prelude.{◌≡◌, ℕ, ◌+◌, ◌<◌, ◌≤◌, ◌↔◌, List, length, None, Some, IsOk, IfOk, IfErr, IfSome, is_some, option_map, drop};
+ghost use Rattle.metadata_tables.specs.Heaps.{string_at, blob_at, blob_offset, user_string_at, StandsAt};
 ghost use Rattle.metadata_tables.specs.Layout.{row_count, cell_at, cell};
 ghost use Rattle.metadata_tables.specs.Root.{bytes_of};
 ghost use Rattle.metadata_tables.specs.Schema.{columns_of};
@@ -142,6 +142,9 @@ impl<'a> Tables<'a> {
     /// Where the bytes of the item at a place of the heap `#Blob` stand in the metadata.
     pub fn blob_offset(&self, index: u32) -> Option<u32>
         ensures place { result ≡ blob_offset self.now index }
+        ensures lent { is_some result ≡ is_some (blob_at self.now index) }
+        ensures stands { IfSome result
+            (λ at. IfSome (blob_at self.now index) (λ item. StandsAt self.now at item)) }
         ensures within { IfSome result (λ at. at ≤ length self.now) }
     {
         let front = whole_prefix(rest_from(self.blob, index))?;
