@@ -1,11 +1,10 @@
 -- Lists of bytes, and the bytes of a number, of any length.
-use Rattle.std.proofs.Common.{◌≡◌, ℕ, zero, suc, ◌+◌, ◌*◌, ◌/◌, ◌%◌, ◌^◌, ◌<◌, ◌≤◌, List, [], ◌∷◌, ◌++◌, length, take, drop, slice_index, refl, sym, ap, ap₂, ◌∙◌, inl, inr, div-one, arith, length-append, get_or-append-add, get_or-take, get_or-drop}
-use Rattle.std.proofs.Math.Nat.{div-div-eq-div-mul, pow-succ', mod-lt, le-add_left}
-use Rattle.std.proofs.Math.ListN.{get_or-append}
+use Rattle.std.proofs.Common.{Fits, w8, ◌≡◌, ℕ, zero, suc, ◌+◌, ◌*◌, ◌/◌, ◌%◌, ◌^◌, ◌<◌, ◌≤◌, List, [], ◌∷◌, ◌++◌, length, take, drop, slice_index, refl, sym, ap, ap₂, ◌∙◌, inl, inr, div-one, arith, get_or-drop}
+use Rattle.std.proofs.Math.Nat.{div-div-eq-div-mul, pow-succ'}
 use Rattle.std.proofs.lemmas.Bool.{cases_lt}
-use Rattle.std.proofs.lemmas.List.{get_or_past, get_or-append_right, length-take-le, take-take}
+use Rattle.std.proofs.lemmas.List.{get_or_past, length-take-le}
 use Rattle.std.specs.Int.{byte_at, bytes_low_first}
-use Rattle.byteorder.specs.Endian.{little_from, little_number, little_bytes}
+use Rattle.byteorder.specs.Endian.{little_number, little_bytes}
 use Rattle.byteorder.specs.Numbers.{little_from-cons, little_from-lt, little_from-take, length-bytes_low_first, little_number-reads_back}
 use Rattle.cc_base.specs.LittleEndian.{IsBytes}
 
@@ -23,9 +22,13 @@ IsBytes-tail a xs h i = h (suc i)
 pub IsBytes-within : (xs : List ℕ) → ((i : ℕ) → i < length xs → slice_index xs i < 256) → IsBytes xs
 IsBytes-within xs h i =
     elim (cases_lt i (length xs)) [
-      inl below ↦ h i below
-    | inr past ↦ let e = get_or_past xs i 0 past in omega (arith, e)
+      | inl below ↦ h i below
+      | inr past ↦ let e = get_or_past xs i 0 past in omega (arith, e)
     ]
+
+-- What `c.type_inv` says of a slice or a `Vec` of bytes.
+pub IsBytes-from_fits : (xs : List ℕ) → ((i : ℕ) → Fits w8 (slice_index xs i)) → IsBytes xs
+IsBytes-from_fits xs h i = (h i).fits
 
 pub IsBytes-drop : (n : ℕ) (xs : List ℕ) → IsBytes xs → IsBytes (drop n xs)
 IsBytes-drop n xs h i = let e = get_or-drop n xs i 0 in let b = h (n + i) in omega (arith, e, b)
@@ -106,7 +109,7 @@ bytes_back (a ∷ xs) h =
 
 -- The same for the first n bytes of a list.
 pub bytes_back-take : (n : ℕ) (bytes : List ℕ) → n ≤ length bytes → IsBytes bytes
-  → little_bytes n (little_number n bytes) ≡ take n bytes
+    → little_bytes n (little_number n bytes) ≡ take n bytes
 bytes_back-take n bytes h isBytes =
     let len : length (take n bytes) ≡ n = length-take-le n bytes h in
     let whole = bytes_back (take n bytes) (IsBytes-take n bytes isBytes) in

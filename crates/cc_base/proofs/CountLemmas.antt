@@ -1,5 +1,5 @@
 -- How counts that rise or stay follow one another.
-use Rattle.std.proofs.Common.{◌≡◌, ℕ, ◌-◌, ◌^◌, ◌<◌, ◌≤◌, ◌⊎◌, inl, inr, arith}
+use Rattle.std.proofs.Common.{ℕ, inl, inr, arith}
 use Rattle.std.proofs.lemmas.Bool.{cases_lt}
 use Rattle.cc_base.specs.Counts.{Rose, Kept}
 
@@ -21,3 +21,5 @@ pub Rose-Kept : (a b c : ℕ) → Kept a b → Rose a b → Kept b c → Rose a 
 Rose-Kept a b c ab (inl lt) bc = inl (omega arith)
 Rose-Kept a b c ab (inr full) bc =
     elim (cases_lt b c) [ inl lt ↦ inl (omega arith) | inr ge ↦ inr (omega arith) ]
+
+pub ruleset counts = (Kept-refl, Kept-trans, Kept-Rose, Rose-Kept)

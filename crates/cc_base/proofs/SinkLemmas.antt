@@ -1,5 +1,5 @@
 -- How bytes that are appended follow one another, and the fronts of lists.
-use Rattle.std.proofs.Common.{◌≡◌, ℕ, List, [], ◌∷◌, ◌++◌, Option, Some, None, option_map, refl, ap, sym, ◌∙◌, append_assoc, append-nil}
+use Rattle.std.proofs.Common.{◌≡◌, ℕ, List, [], ◌++◌, Option, Some, None, refl, ap, sym, ◌∙◌, append_assoc, append-nil}
 use Rattle.cc_base.specs.Sink.{appended, IsFront, AppendsFront}
 
 -- Two appends are one of both lists.
@@ -49,13 +49,17 @@ AppendsFront-more old new xs ys (f, isFront, e) = (f, IsFront-more f xs ys isFro
 
 -- Bytes that are written whole, and then a front of further ones.
 pub AppendsFront-after : (old mid new : Option (List ℕ)) (xs ys : List ℕ)
-  → mid ≡ appended old xs → AppendsFront mid new ys → AppendsFront old new (xs ++ ys)
-AppendsFront-after old mid new xs ys whole (f, isFront, e) =
-    (xs ++ f, IsFront-after xs f ys isFront,
-    e ∙ ap (λ (o : Option (List ℕ)). appended o f) whole ∙ appended-appended old xs f)
+    → mid ≡ appended old xs → AppendsFront mid new ys → AppendsFront old new (xs ++ ys)
+AppendsFront-after old mid new xs ys whole (f, isFront, e) = (
+  xs ++ f,
+  IsFront-after xs f ys isFront,
+  e ∙ ap (λ (o : Option (List ℕ)). appended o f) whole ∙ appended-appended old xs f,
+)
 
 -- A front of a front.
 pub AppendsFront-front : (old new : Option (List ℕ)) (bytes whole : List ℕ)
-  → AppendsFront old new bytes → IsFront bytes whole → AppendsFront old new whole
+    → AppendsFront old new bytes → IsFront bytes whole → AppendsFront old new whole
 AppendsFront-front old new bytes whole (f, isFront, e) inWhole =
     (f, IsFront-trans f bytes whole isFront inWhole, e)
+
+pub ruleset sinks = (appended-appended, appended-nil, AppendsFront-all, AppendsFront-none, AppendsFront-more, AppendsFront-after)

@@ -1,6 +1,5 @@
 -- What files hold, and what a read and a replacement do to it.
 use Rattle.std.specs.Prelude.{◌≡◌, ◌≢◌, ℕ, List, Option, Some, None, take, option_map}
-use Rattle.std.specs.Option.{ForSome}
 use Rattle.cc_base.specs.declared.files.TheConstants.{READ_LIMIT}
 
 -- The bytes under each name that is held.

@@ -1,5 +1,6 @@
 pub mod Counts
 pub mod Files
+pub mod MapFiles
 pub mod Sink
 pub mod Wrap
 pub mod Digits

@@ -1,6 +1,6 @@
 -- Little endian numbers at a place among bytes.
 use Rattle.std.specs.Prelude.{ℕ, ◌<◌, List, drop, slice_index}
-use Rattle.byteorder.specs.Endian.{little_number}
+pub use Rattle.byteorder.specs.Endian.{little_number, little_bytes}
 
 -- A list of bytes: every number in it is below 256.
 abbrev pub IsBytes : List ℕ → Type 0

@@ -1,0 +1,150 @@
+//! Files in memory, for tests: they hold what they were given, and fail where they are told to.
+
+ghost use Rattle.std.specs.Prelude.{◌≡◌, ◌↔◌, ℕ, [], Option, Some, IsTrue, Contains, OnOk, OnErr, IfOk, position, take, option_copied};
+ghost use Rattle.cc_base.specs.Counts.{count_up};
+ghost use Rattle.cc_base.specs.Files.{Held, Replaces};
+ghost use Rattle.cc_base.specs.MapFiles.{held_in, is_named};
+
+use crate::NoMemory;
+use crate::files::{Files, READ_LIMIT, ReadRefusal, ReplaceRefusal};
+use std::alloc::Global;
+
+/// Bytes under a name.
+#[derive(Drop)]
+pub struct NamedFile {
+    /// The name, as it is passed to `read` and `replace`.
+    pub name: String,
+    /// What the file holds.
+    pub bytes: Vec<u8>,
+}
+
+/// Files in memory. Of two files of one name, the first counts. Each counter stays at 2^64 - 1 once
+/// it is there.
+#[derive(Drop)]
+pub struct MapFiles {
+    /// The files that are held.
+    pub files: Vec<NamedFile>,
+    /// How many reads there were.
+    pub reads: u64,
+    /// The reads that are to fail, by their number from 1, where they name a file that is held.
+    pub fail_reads: Vec<u64>,
+    /// How many replacements there were.
+    pub replaces: u64,
+    /// The replacements that are to fail, by their number from 1.
+    pub fail_replaces: Vec<u64>,
+    /// How many reads found no file.
+    pub missed: u64,
+    /// How many calls failed because they were to.
+    pub faults: u64,
+}
+
+impl MapFiles {
+    /// No files, of which nothing was asked yet, and whose calls are not to fail.
+    pub fn new(alloc: Global) -> MapFiles
+        ensures files { result.files.items ≡ [] }
+        ensures calls { (result.reads ≡ 0) × (result.replaces ≡ 0) }
+        ensures to_fail { (result.fail_reads.items ≡ []) × (result.fail_replaces.items ≡ []) }
+        ensures refused { (result.missed ≡ 0) × (result.faults ≡ 0) }
+    {
+        MapFiles {
+            files: Vec::new(alloc),
+            reads: 0,
+            fail_reads: Vec::new(alloc),
+            replaces: 0,
+            fail_replaces: Vec::new(alloc),
+            missed: 0,
+            faults: 0,
+        }
+    }
+
+    /// Puts the bytes under the name, in place of what it held, and counts no call. Where memory runs
+    /// out, nothing changes.
+    pub fn hold(&mut self, alloc: Global, name: &str, bytes: &[u8]) -> Result<(), NoMemory>
+        ensures ok { OnOk result
+            (Replaces (held_in self.old.files.items) (held_in self.new.files.items) name.now bytes.now) }
+        ensures err { OnErr result (held_in self.new.files.items ≡ held_in self.old.files.items) }
+        ensures rest { self.new ≡ record self.old { files = self.new.files } }
+    {
+        let bytes = Vec::from_slice(alloc, bytes)?;
+        match place_of(&self.files, name) {
+            Some(place) => self.files[place].bytes = bytes,
+            None => {
+                let name = String::from_str(alloc, name)?;
+                self.files.push(NamedFile { name, bytes })?;
+            }
+        }
+        Ok(())
+    }
+
+    /// The bytes under the name. It counts no call.
+    pub fn get(&self, name: &str) -> Option<&[u8]>
+        ensures { option_copied result ≡ held_in self.now.files.items name.now }
+    {
+        match place_of(&self.files, name) {
+            Some(place) => Some(&self.files[place].bytes),
+            None => None,
+        }
+    }
+
+    /// Counts a read, and says whether it is to fail.
+    fn begin_read(&mut self) -> bool
+        ensures fails { IsTrue result ↔ Contains self.old.fail_reads.items (count_up self.old.reads) }
+        ensures counted { self.new ≡ record self.old { reads = count_up self.old.reads } }
+    {
+        self.reads = self.reads.saturating_add(1);
+        self.fail_reads.contains(&self.reads)
+    }
+
+    /// Counts a replacement, and says whether it is to fail.
+    fn begin_replace(&mut self) -> bool
+        ensures fails { IsTrue result ↔ Contains self.old.fail_replaces.items (count_up self.old.replaces) }
+        ensures counted { self.new ≡ record self.old { replaces = count_up self.old.replaces } }
+    {
+        self.replaces = self.replaces.saturating_add(1);
+        self.fail_replaces.contains(&self.replaces)
+    }
+}
+
+impl Files for MapFiles {
+    ghost held = { λ m. Some (held_in m.files.items) };
+
+    ghost missed = { λ m. m.missed };
+
+    ghost faults = { λ m. m.faults };
+
+    fn read(&mut self, alloc: Global, name: &str) -> Result<Vec<u8>, ReadRefusal> {
+        let fails = self.begin_read();
+        let Some(bytes) = self.get(name) else {
+            self.missed = self.missed.saturating_add(1);
+            return Err(ReadRefusal::Missing);
+        };
+        if fails {
+            self.faults = self.faults.saturating_add(1);
+            return Err(ReadRefusal::Failed);
+        }
+        first_bytes(alloc, bytes).map_err(|_| ReadRefusal::NoMemory)
+    }
+
+    fn replace(&mut self, alloc: Global, name: &str, bytes: &[u8]) -> Result<(), ReplaceRefusal> {
+        if self.begin_replace() {
+            self.faults = self.faults.saturating_add(1);
+            return Err(ReplaceRefusal::Failed);
+        }
+        self.hold(alloc, name, bytes)
+            .map_err(|_| ReplaceRefusal::NoMemory)
+    }
+}
+
+/// A copy of the bytes, cut to the first `READ_LIMIT`.
+fn first_bytes(alloc: Global, bytes: &[u8]) -> Result<Vec<u8>, NoMemory>
+    ensures { IfOk result (λ copy. copy.items ≡ take READ_LIMIT bytes.now) }
+{
+    Vec::from_slice(alloc, &bytes[..bytes.len().min(READ_LIMIT)])
+}
+
+/// The place of the first file of the name.
+fn place_of(files: &[NamedFile], name: &str) -> Option<usize>
+    ensures { result ≡ position (is_named name.now) files.now }
+{
+    files.iter().position(|file| file.name.as_str() == name)
+}

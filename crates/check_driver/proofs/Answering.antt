@@ -1,0 +1,80 @@
+-- Answers, by what is held under a name and by the words.
+use Rattle.std.proofs.Common.{◌≡◌, ℕ, zero, suc, ◌<◌, ◌≤◌, Bool, true, false, List, [], ◌∷◌, length, get_or, map, take, String, Global, Option, Some, None, option_map, Result, refl, sym, ap, ◌∙◌, arith, inl, inr, ◌⊎◌, length-take}
+use Rattle.std.specs.Prelude.{codes}
+use Rattle.std.specs.String.{string_bytes}
+use Rattle.std.specs.Option.{ForSome}
+use Rattle.std.proofs.lemmas.Bool.{cases_lt, le-leb, lt-leb}
+use Rattle.std.proofs.lemmas.List.{take_all}
+use Rattle.cc_base.specs.Files.{Held, IsRead}
+use Rattle.cc_base.specs.declared.files.TheConstants.{READ_LIMIT}
+use Rattle.check_driver.specs.Expected.{Answer, USAGE, error_answer, refused_line, AreTold, IsUnder, expected, command_answer, unit_file_answer, bytes_answer, word_at, file_of}
+use Rattle.check_driver.specs.Outcome.{Gives, GivesOrUnread}
+use Rattle.check_driver.specs.Words.{command_of, file_place}
+use Rattle.check_driver.specs.Writing.{Change}
+use Rattle.check_driver.specs.declared.command.Command.{Command}
+use Rattle.check_driver.specs.declared.command.Command.TheVariants as commands
+use Rattle.check_driver.specs.declared.interrupt.Interrupt.{Interrupt}
+
+-- Bytes that were cut off past the limit have the answer of the whole.
+cut_alike : (name bytes : List ℕ) (limit : ℕ) → limit ≡ READ_LIMIT → bytes_answer name bytes ≡ bytes_answer name (take limit bytes)
+cut_alike name bytes limit is =
+    elim (cases_lt (length bytes) limit) [
+      | inl lt ↦ ap (bytes_answer name) (sym (take_all limit bytes (omega arith)))
+      | inr ge ↦
+        let whole = le-leb READ_LIMIT (length bytes) (omega arith) in
+        let cut = le-leb READ_LIMIT (length (take limit bytes)) (omega (arith, length-take limit bytes)) in
+        rw (whole, cut) refl
+    ]
+
+some_is : {X : Type 0} (x y : X) → Some x ≡ Some y → x ≡ y
+some_is x y e = cc
+
+read_alike : (name bytes : List ℕ) (under : Option (List ℕ)) → IsRead under bytes → unit_file_answer name under ≡ bytes_answer name bytes
+read_alike name bytes None h = absurd cc
+read_alike name bytes (Some whole) h = cut_alike name whole READ_LIMIT refl ∙ ap (bytes_answer name) (some_is (take READ_LIMIT whole) bytes h)
+
+-- What was read is held, as far as that is told, and has the answer of what was read.
+pub read_under : (told : Option Held) (name bytes : List ℕ) → ForSome told (λ h. IsRead (h name) bytes)
+    → (under : Option (List ℕ)) × IsUnder told name under × (unit_file_answer name under ≡ bytes_answer name bytes)
+read_under None name bytes h = (Some bytes, λ files e. absurd cc, refl)
+read_under (Some held) name bytes h =
+    (held name, λ files e. ap (λ (h : Held). h name) (sym (some_is held files e)), read_alike name bytes (held name) (h held refl))
+
+-- Something is held under each name, as far as that is told.
+pub any_under : (told : Option Held) (name : List ℕ) → (under : Option (List ℕ)) × IsUnder told name under
+any_under None name = (None, λ files e. absurd cc)
+any_under (Some held) name = (held name, λ files e. ap (λ (h : Held). h name) (sym (some_is held files e)))
+
+-- Some files are those that are told and hold this under the name.
+held_under : (told : Option Held) (name : List ℕ) (under : Option (List ℕ)) → IsUnder told name under → (held : Held) × AreTold told held × (held name ≡ under)
+held_under None name under h = (λ other. under, λ files e. absurd cc, refl)
+held_under (Some files) name under h = (files, λ others e. sym (some_is files others e), h files refl)
+
+-- Some files are those that are told.
+pub any_held : (told : Option Held) → (held : Held) × AreTold told held
+any_held None = (λ name. None, λ files e. absurd cc)
+any_held (Some held) = (held, λ files e. sym (some_is held files e))
+
+-- Words that are no command have the usage as their answer.
+pub no_command_answer : (words : List (List ℕ)) (held : Held) → None ≡ command_of words → expected words held ≡ error_answer 2 USAGE
+no_command_answer words held e = rw (← e) refl
+
+-- A file past the limit is refused.
+pub too_large : (name bytes : List ℕ) → READ_LIMIT ≤ length bytes → bytes_answer name bytes ≡ error_answer 5 (refused_line name (codes "file too large") 0x04000000)
+too_large name bytes past = let test = le-leb READ_LIMIT (length bytes) past in rw test refl
+
+-- The answer for a name is that for the words.
+pub words_answer : (told : Option Held) (words : List (List ℕ)) (command : Command) (name : List ℕ) (under : Option (List ℕ)) (failed : Type 0) (r : Result ℕ Interrupt) (out err : Change)
+    → Some command ≡ command_of words → word_at words (file_place command) ≡ name → IsUnder told name under
+    → GivesOrUnread (unit_file_answer name under) name failed r out err
+    → (held : Held) × AreTold told held × GivesOrUnread (expected words held) (file_of words) failed r out err
+words_answer told words (commands.Unit file) name under failed r out err command is under_is gives =
+    let h = held_under told name under under_is in
+    (h.0, h.1, rw (← command, is, h.2) gives)
+
+-- The word at a place, as bytes.
+pub word_is : (words : List (String Global)) (place : ℕ) (word : String Global) → place < length words → word ≡ get_or words place word
+    → word_at (map (λ (w : String Global). string_bytes w) words) place ≡ string_bytes word
+word_is [] place word inside is = absurd (omega arith)
+word_is (w ∷ words) zero word inside is = ap (λ (s : String Global). string_bytes s) (sym is)
+word_is (w ∷ words) (suc place) word inside is = word_is words place word (omega arith) is

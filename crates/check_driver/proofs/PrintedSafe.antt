@@ -1,0 +1,112 @@
+-- Where the line that tells a unit to be proved was printed for the unit's file, the unit is safe.
+use Rattle.std.proofs.Common.{◌≡◌, ℕ, Bool, true, false, List, [], ◌∷◌, ◌++◌, get_or, Option, Some, None, nat_le, if◌then◌else◌, length, codes, refl, sym, ap, subst, ◌∙◌, append_assoc, arith}
+use Rattle.std.specs.List.{flat_map}
+use Rattle.std.proofs.lemmas.List.{append_cancel_left}
+use Rattle.std.proofs.lemmas.Option.{same_Some}
+use Rattle.cc_base.specs.Files.{Held}
+use Rattle.cc_base.specs.Sink.{appended, IsFront, AppendsFront}
+use Rattle.cc_base.specs.declared.files.TheConstants.{READ_LIMIT}
+use Rattle.cc_base.proofs.SinkLemmas.{IsFront-trans}
+use Rattle.cil_model.specs.declared.unit.Unit.{Unit as MethodUnit}
+use Rattle.check_driver.specs.Expected.{Answer, expected, command_answer, unit_file_answer, bytes_answer, unit_answer, word_at}
+use Rattle.check_driver.specs.SingleUnit.{AsksFor, PrintsProved, IsSafe}
+use Rattle.check_driver.specs.Text.{signature_text, proved_text, unit_line, verdict_line, unit_counts, summary_line, unit_report}
+use Rattle.check_driver.specs.UnitFile.{first_unit_fault, unit_of}
+use Rattle.check_driver.specs.UnitSpelling.{unit_bytes}
+use Rattle.check_driver.specs.Verdicts.{verdicts, all_proved}
+use Rattle.check_driver.proofs.Soundness.{local_safe, safe}
+use Rattle.check_driver.proofs.UnitAgain.{unit_again}
+
+-- ---- lists
+
+-- Two lists that are one behind the same list begin alike.
+begins_alike : (front : List ℕ) (a b : ℕ) (xs ys : List ℕ) → front ++ (a ∷ xs) ≡ front ++ (b ∷ ys) → a ≡ b
+begins_alike front a b xs ys e = ap (λ (l : List ℕ). get_or l 0 0) (append_cancel_left front (a ∷ xs) (b ∷ ys) e)
+
+-- A line, in which a text stands between a head and a last part, with more behind.
+line_behind : (head text last more : List ℕ) → head ++ text ++ last ++ more ≡ head ++ (text ++ (last ++ more))
+line_behind head text last more = append_assoc (head ++ text) last more ∙ append_assoc head text (last ++ more)
+
+-- What was appended is known from what was written before and after.
+same_appended : (old new : Option (List ℕ)) (front before text : List ℕ)
+    → new ≡ appended old front → old ≡ Some before → new ≡ Some (before ++ text) → front ≡ text
+same_appended old new front before text adds was is =
+    let both : Some (before ++ front) ≡ Some (before ++ text) = ap (λ (o : Option (List ℕ)). appended o front) (sym was) ∙ sym adds ∙ is in
+    append_cancel_left before front text (same_Some (before ++ front) (before ++ text) both)
+
+-- ---- the line of a unit
+
+-- Before its verdict.
+unit_head : MethodUnit → List ℕ
+unit_head unit = codes "unit " ++ signature_text unit ++ codes ": "
+
+-- Lines with different verdicts do not begin one text.
+one_verdict : (unit : MethodUnit) (proved : Bool) (more rest : List ℕ) → unit_line unit proved ++ more ≡ unit_line unit true ++ rest → proved ≡ true
+unfolding unit_head
+one_verdict unit true more rest e = refl
+one_verdict unit false more rest e =
+    let aligned : unit_head unit ++ (proved_text false ++ (codes "\n" ++ more)) ≡ unit_head unit ++ (proved_text true ++ (codes "\n" ++ rest)) =
+    sym (line_behind (unit_head unit) (proved_text false) (codes "\n") more) ∙ e ∙ line_behind (unit_head unit) (proved_text true) (codes "\n") rest in
+    let letters : 117 ≡ 112 = begins_alike (unit_head unit) 117 112 (codes "nproved" ++ (codes "\n" ++ more)) (codes "roved" ++ (codes "\n" ++ rest)) aligned in
+    absurd (omega (arith, letters))
+
+-- A report that begins with the line of a proved unit is that of a proved unit.
+report_proved : (unit : MethodUnit) → IsFront (unit_line unit true) (unit_report unit) → all_proved (verdicts unit) ≡ true
+unfolding unit_report
+report_proved unit (rest, is) =
+    let line = unit_line unit (all_proved (verdicts unit)) in
+    let verdict_lines = flat_map verdict_line (verdicts unit) in
+    let summary = summary_line (unit_counts (verdicts unit)) in
+    one_verdict unit (all_proved (verdicts unit)) (verdict_lines ++ summary) rest (sym (append_assoc line verdict_lines summary) ∙ is)
+
+-- ---- the answer
+
+-- A line that begins what is printed of a file, whether or not that is too large.
+front_of_answer : (large : Bool) (refused answer : Answer) (unit : MethodUnit) → refused.out ≡ [] → answer.out ≡ unit_report unit
+    → IsFront (unit_line unit true) (Answer.out (if large then refused else answer)) → IsFront (unit_line unit true) (unit_report unit)
+front_of_answer true refused answer unit none report (rest, is) =
+    let letters : 0 ≡ 117 = ap (λ (l : List ℕ). get_or l 0 0) (sym none ∙ is) in
+    absurd (omega (arith, letters))
+front_of_answer false refused answer unit none report front = subst (IsFront (unit_line unit true)) report front
+
+-- What is printed for bytes that are read as a unit without a fault.
+answer_report : (name bytes : List ℕ) (unit : MethodUnit) → first_unit_fault bytes ≡ None → unit_of bytes ≡ unit
+    → Answer.out (unit_answer name bytes (first_unit_fault bytes)) ≡ unit_report unit
+answer_report name bytes unit none same = rw none (ap unit_report same)
+
+-- The answer to the words is the answer for the bytes of the unit.
+asked_answer : (words : List (List ℕ)) (held : Held) (unit : MethodUnit) (asks : AsksFor words held unit)
+    → expected words held ≡ bytes_answer (word_at words asks.file) (unit_bytes unit)
+asked_answer words held unit asks =
+    ap (command_answer words held) asks.command ∙ ap (unit_file_answer (word_at words asks.file)) asks.bytes
+
+-- The line begins the report of the unit, if it begins what is printed at all.
+front_of_report : (words : List (List ℕ)) (held : Held) (unit : MethodUnit) → AsksFor words held unit
+    → IsFront (unit_line unit true) (Answer.out (expected words held)) → IsFront (unit_line unit true) (unit_report unit)
+front_of_report words held unit asks front =
+    let name = word_at words asks.file in
+    let bytes = unit_bytes unit in
+    let again = unit_again unit asks.built in
+    let begins : IsFront (unit_line unit true) (Answer.out (bytes_answer name bytes)) =
+    subst (λ (a : Answer). IsFront (unit_line unit true) a.out) (asked_answer words held unit asks) front in
+    front_of_answer (nat_le READ_LIMIT (length bytes)) _ (unit_answer name bytes (first_unit_fault bytes)) unit refl (answer_report name bytes unit again.0 again.1) begins
+
+-- What begins what was appended begins what was to be printed.
+front_of_expected : (old new : Option (List ℕ)) (unit : MethodUnit) (out : List ℕ)
+    → AppendsFront old new out → PrintsProved old new unit → IsFront (unit_line unit true) out
+front_of_expected old new unit out (front, is_front, adds) prints =
+    let same : front ≡ prints.text = same_appended old new front prints.before prints.text adds prints.was prints.is in
+    IsFront-trans (unit_line unit true) front out (subst (IsFront (unit_line unit true)) (sym same) prints.line) is_front
+
+-- ---- the theorem
+
+-- A unit is safe whose file was asked for and whose report was printed as far as the line that tells it
+-- to be proved.
+pub printed_safe : (words : List (List ℕ)) (held : Held) (unit : MethodUnit) (old new : Option (List ℕ))
+    → AsksFor words held unit → AppendsFront old new (expected words held).out → PrintsProved old new unit → IsSafe unit
+printed_safe words held unit old new asks appends prints =
+    let proved = report_proved unit (front_of_report words held unit asks (front_of_expected old new unit (expected words held).out appends prints)) in
+    record {
+      local = local_safe unit asks.built proved;
+      worlds = λ w m of. safe w m unit of asks.built proved;
+    }

@@ -1,0 +1,123 @@
+-- How texts that are written follow one another, and what answers they make.
+use Rattle.std.proofs.Common.{◌≡◌, ℕ, suc, ◌+◌, ◌<◌, Bool, true, false, cond, List, [], ◌∷◌, ◌++◌, length, get_or, take, drop, Option, Result, Ok, Err, Vec, Global, refl, sym, ap, subst, ◌∙◌, append_assoc, append-nil, take-append-drop, add-one, inl, inr}
+use Rattle.std.specs.Prelude.{IfOk, OnOk, IsErrOf}
+use Rattle.std.specs.List.{flat_map}
+use Rattle.std.proofs.Math.Seq.{drop-cons}
+use Rattle.std.proofs.lemmas.List.Concat.{flat_map-append}
+use Rattle.cc_base.specs.Counts.{Rose, Kept}
+use Rattle.cc_base.specs.Sink.{appended, IsFront, AppendsFront}
+use Rattle.cc_base.proofs.CountLemmas.{Kept-refl, Kept-trans, Kept-Rose}
+use Rattle.cc_base.proofs.SinkLemmas.{appended-nil, AppendsFront-none, AppendsFront-after, AppendsFront-front}
+use Rattle.check_driver.specs.Expected.{Answer, error_answer, report_answer}
+use Rattle.check_driver.specs.Outcome.{Gives}
+use Rattle.check_driver.specs.Writing.{Change, change, Writes, joined}
+use Rattle.check_driver.specs.declared.interrupt.Interrupt.{Interrupt}
+use Rattle.check_driver.specs.declared.interrupt.Interrupt.TheVariants as interrupts
+
+-- A call that was interrupted as another one gives the same error.
+retold : {X Y : Type 0} (e f : Interrupt) → IsErrOf {T = X} (Err e) f → IsErrOf {T = Y} (Err e) f
+retold interrupts.CannotWrite interrupts.CannotWrite h = refl
+retold interrupts.NoMemory interrupts.NoMemory h = refl
+retold interrupts.CannotWrite interrupts.NoMemory h = absurd cc
+retold interrupts.NoMemory interrupts.CannotWrite h = absurd cc
+
+-- A text that is interrupted behind another one is a front of all that begins with both.
+pub writes_stop : {X Y : Type 0} (e : Interrupt) (old mid new : Option (List ℕ)) (f0 f1 f2 : ℕ) (before text whole : List ℕ)
+    → mid ≡ appended old before → Kept f0 f1 → Writes {X = X} (Err e) (change mid new f1 f2) text → IsFront (before ++ text) whole
+    → Writes {X = Y} (Err e) (change old new f0 f2) whole
+writes_stop {X} {Y} e old mid new f0 f1 f2 before text whole so_far kept w inside = record {
+  whole = tt;
+  front = AppendsFront-front old new (before ++ text) whole (AppendsFront-after old mid new before text so_far w.front) inside;
+  cause = λ is. Kept-Rose f0 f1 f2 kept (w.cause (retold {X = Y} {Y = X} e interrupts.CannotWrite is));
+  kept = Kept-trans f0 f1 f2 kept w.kept;
+}
+
+-- The lines so far and the next are a front of all of them.
+pub joined_front : (lines : List (Vec ℕ Global)) (k : ℕ) (line : Vec ℕ Global) → k < length lines → line ≡ get_or lines k line
+    → IsFront (joined (take k lines) ++ line.items) (joined lines)
+joined_front lines k line lt at =
+    let split : drop k lines ≡ line ∷ drop (suc k) lines = drop-cons lines k line lt ∙ ap (λ (x : Vec ℕ Global). x ∷ drop (suc k) lines) (sym at) in
+    let whole : lines ≡ take k lines ++ (line ∷ drop (suc k) lines) = sym (take-append-drop k lines) ∙ ap (λ (r : List (Vec ℕ Global)). take k lines ++ r) split in
+    let text : joined lines ≡ joined (take k lines) ++ (line.items ++ joined (drop (suc k) lines)) =
+    ap joined whole ∙ flat_map-append (λ (l : Vec ℕ Global). l.items) (take k lines) (line ∷ drop (suc k) lines) in
+    (joined (drop (suc k) lines), text ∙ sym (append_assoc (joined (take k lines)) line.items (joined (drop (suc k) lines))))
+
+-- Nothing was written.
+pub writes_nothing : {X : Type 0} (o : Option (List ℕ)) (f : ℕ) (text : List ℕ) → Writes {X = X} (Err interrupts.NoMemory) (change o o f f) text
+writes_nothing o f text = record { whole = tt; front = AppendsFront-none o o text refl; cause = λ is. absurd cc; kept = Kept-refl f }
+
+-- The same interruption, where a call hands it on as it came.
+pub writes_on : {X Y : Type 0} (e : Interrupt) (sink : Change) (text : List ℕ) → Writes {X = X} (Err e) sink text → Writes {X = Y} (Err e) sink text
+writes_on {X} {Y} e sink text w = record { whole = tt; front = w.front; cause = λ is. w.cause (retold {X = Y} {Y = X} e interrupts.CannotWrite is); kept = w.kept }
+
+-- ---- answers
+
+-- Memory ran out before anything was written.
+pub gives_no_memory : (x : Answer) (o : Option (List ℕ)) (f : ℕ) (e : Option (List ℕ)) (g : ℕ) → Gives x (Err interrupts.NoMemory) (change o o f f) (change e e g g)
+gives_no_memory x o f e g = record {
+  status = tt;
+  out_all = tt;
+  err_all = tt;
+  out_front = AppendsFront-none o o x.out refl;
+  err_front = AppendsFront-none e e x.err refl;
+  cause = λ is. absurd cc;
+  out_kept = Kept-refl f;
+  err_kept = Kept-refl g;
+}
+
+-- A line on the sink of errors is the answer.
+pub gives_error : (status : ℕ) (line : List ℕ) (r : Result ℕ Interrupt) (o : Option (List ℕ)) (f : ℕ) (err : Change)
+    → IfOk r (λ given. given ≡ status) → Writes r err line → Gives (error_answer status line) r (change o o f f) err
+gives_error status line (Ok given) o f err is w = record {
+  status = is;
+  out_all = sym (appended-nil o);
+  err_all = w.whole;
+  out_front = tt;
+  err_front = tt;
+  cause = λ e. absurd cc;
+  out_kept = Kept-refl f;
+  err_kept = w.kept;
+}
+gives_error status line (Err e) o f err is w = record {
+  status = tt;
+  out_all = tt;
+  err_all = tt;
+  out_front = AppendsFront-none o o [] refl;
+  err_front = w.front;
+  cause = λ e. inr (w.cause e);
+  out_kept = Kept-refl f;
+  err_kept = w.kept;
+}
+
+-- A report was interrupted.
+pub gives_report_stop : {X : Type 0} (text : List ℕ) (proved : Bool) (i : Interrupt) (out : Change) (e : Option (List ℕ)) (g : ℕ)
+    → Writes {X = X} (Err i) out text → Gives (report_answer text proved) (Err i) out (change e e g g)
+gives_report_stop {X} text proved i out e g w = record {
+  status = tt;
+  out_all = tt;
+  err_all = tt;
+  out_front = w.front;
+  err_front = AppendsFront-none e e [] refl;
+  cause = λ is. inl (w.cause (retold {X = ℕ} {Y = X} i interrupts.CannotWrite is));
+  out_kept = w.kept;
+  err_kept = Kept-refl g;
+}
+
+-- A report was written.
+pub gives_report : {X : Type 0} (text : List ℕ) (proved : Bool) (x : X) (status : ℕ) (out : Change) (e : Option (List ℕ)) (g : ℕ)
+    → status ≡ cond proved 0 1 → Writes (Ok x) out text → Gives (report_answer text proved) (Ok status) out (change e e g g)
+gives_report text proved x status out e g is w = record {
+  status = is;
+  out_all = w.whole;
+  err_all = sym (appended-nil e);
+  out_front = tt;
+  err_front = tt;
+  cause = λ i. absurd cc;
+  out_kept = w.kept;
+  err_kept = Kept-refl g;
+}
+
+-- The same for a line that was made as it had to be.
+pub gives_line : (status : ℕ) (made line : List ℕ) (r : Result ℕ Interrupt) (o : Option (List ℕ)) (f : ℕ) (err : Change)
+    → made ≡ line → IfOk r (λ given. given ≡ status) → Writes r err made → Gives (error_answer status line) r (change o o f f) err
+gives_line status made line r o f err e is w = gives_error status line r o f err is (subst (λ (t : List ℕ). Writes r err t) e w)

@@ -1,0 +1,103 @@
+-- What a call of the program gives where nothing interrupts it.
+use Rattle.std.specs.Prelude.{◌≡◌, ℕ, Bool, List, [], ◌∷◌, ◌++◌, length, Option, Some, None, ◌⊎◌, nat_le, if◌then◌else◌, codes, slice_index_or}
+use Rattle.std.specs.Option.{ForSome}
+use Rattle.cc_base.specs.Digits.{hex}
+use Rattle.cc_base.specs.Files.{Held}
+use Rattle.cc_base.specs.declared.files.TheConstants.{READ_LIMIT}
+use Rattle.check_driver.specs.Text.{escaped, unit_report}
+use Rattle.check_driver.specs.UnitFile.{first_unit_fault, unit_of}
+use Rattle.check_driver.specs.Verdicts.{verdicts, all_proved}
+use Rattle.check_driver.specs.Words.{command_of, file_place}
+use Rattle.check_driver.specs.declared.command.Command.{Command}
+use Rattle.check_driver.specs.declared.command.Command.TheVariants as commands
+use Rattle.check_driver.specs.declared.unit_fault.UnitFault.{UnitFault}
+use Rattle.check_driver.specs.declared.unit_fault.UnitFault.TheVariants.{Short, Form, Version, NotBuilt}
+
+-- What is written to the two sinks, and the status.
+pub record Answer : Type 0 where
+  pub out : List ℕ
+  pub err : List ℕ
+  pub status : ℕ
+
+abbrev pub error_line : List ℕ → List ℕ
+error_line text = codes "cccheck: " ++ text ++ codes "\n"
+
+abbrev pub USAGE : List ℕ
+USAGE = error_line (codes "usage: check FILE.. [--cache F] [--show] | run FILE METHOD ARG.. [--steps N] | list FILE | il FILE METHOD | unit FILE | gen SEED COUNT")
+
+abbrev pub missing_line : List ℕ → List ℕ
+missing_line name = error_line (codes "missing file " ++ escaped name)
+
+abbrev pub unread_line : List ℕ → List ℕ
+unread_line name = error_line (codes "cannot read " ++ escaped name)
+
+abbrev pub refused_line : List ℕ → List ℕ → ℕ → List ℕ
+refused_line name fault at = error_line (codes "refused " ++ escaped name ++ codes ": " ++ fault ++ codes " at " ++ hex 8 at)
+
+abbrev pub UNWRITTEN_LINE : List ℕ
+UNWRITTEN_LINE = error_line (codes "cannot write")
+
+abbrev pub NO_MEMORY_LINE : List ℕ
+NO_MEMORY_LINE = error_line (codes "no memory")
+
+abbrev pub fault_text : UnitFault → List ℕ
+fault_text (Short at) = codes "unit short"
+fault_text (Form at) = codes "unit form"
+fault_text (Version at) = codes "unit version"
+fault_text (NotBuilt at) = codes "unit not built"
+
+abbrev pub fault_at : UnitFault → ℕ
+fault_at (Short at) = at
+fault_at (Form at) = at
+fault_at (Version at) = at
+fault_at (NotBuilt at) = at
+
+-- An answer on the sink of errors alone.
+abbrev pub error_answer : ℕ → List ℕ → Answer
+error_answer status line = record { out = []; err = line; status = status }
+
+abbrev pub report_answer : List ℕ → Bool → Answer
+report_answer text proved = record { out = text; err = []; status = if proved then 0 else 1 }
+
+abbrev pub unit_answer : List ℕ → List ℕ → Option UnitFault → Answer
+unit_answer name bytes (Some fault) = error_answer 5 (refused_line name (fault_text fault) (fault_at fault))
+unit_answer name bytes None = report_answer (unit_report (unit_of bytes)) (all_proved (verdicts (unit_of bytes)))
+
+-- The answer to `unit FILE` for the bytes of the file.
+abbrev pub bytes_answer : List ℕ → List ℕ → Answer
+bytes_answer name bytes =
+    if nat_le READ_LIMIT (length bytes) then error_answer 5 (refused_line name (codes "file too large") 0x04000000)
+    else unit_answer name bytes (first_unit_fault bytes)
+
+-- The answer to `unit FILE`, by what is held under the name.
+abbrev pub unit_file_answer : List ℕ → Option (List ℕ) → Answer
+unit_file_answer name None = error_answer 3 (missing_line name)
+unit_file_answer name (Some bytes) = bytes_answer name bytes
+
+-- The word at a place.
+abbrev pub word_at : List (List ℕ) → ℕ → List ℕ
+word_at words place = slice_index_or words place []
+
+abbrev pub command_answer : List (List ℕ) → Held → Option Command → Answer
+command_answer words held None = error_answer 2 USAGE
+command_answer words held (Some (commands.Unit file)) = unit_file_answer (word_at words file) (held (word_at words file))
+
+-- The answer to the words, where these files are held.
+abbrev pub expected : List (List ℕ) → Held → Answer
+expected words held = command_answer words held (command_of words)
+
+-- The word that names the file of these words, where they are a command.
+abbrev pub file_of_command : List (List ℕ) → Option Command → List ℕ
+file_of_command words None = []
+file_of_command words (Some command) = word_at words (file_place command)
+
+abbrev pub file_of : List (List ℕ) → List ℕ
+file_of words = file_of_command words (command_of words)
+
+-- The files are those that are told, where they are told.
+abbrev pub AreTold : Option Held → Held → Type 0
+AreTold told held = ForSome told (λ files. files ≡ held)
+
+-- This is held under the name, where that is told.
+abbrev pub IsUnder : Option Held → List ℕ → Option (List ℕ) → Type 0
+IsUnder told name under = ForSome told (λ files. files name ≡ under)

@@ -1,0 +1,20 @@
+//! The program's words, what it answers to them, and the call that does it all.
+#![tactic(auto)]
+
+mod command;
+mod errors;
+mod interrupt;
+mod judge;
+mod lines;
+mod program;
+mod range;
+mod read_unit;
+mod report;
+mod stack;
+mod typing;
+mod unit_fault;
+mod unit_fields;
+mod unit_instructions;
+
+pub use command::{Command, parse_words};
+pub use program::run_words;

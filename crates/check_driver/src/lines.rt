@@ -1,0 +1,143 @@
+//! The lines that are written, each made in memory and put at once.
+
+ghost use Rattle.std.specs.Prelude.{◌≡◌, ◌+◌, ◌<◌, ◌≤◌, ◌^◌, ◌++◌, List, length, map, OnOk, IfOk, codes};
+ghost use Rattle.std.specs.Fmt.{decimal};
+ghost use Rattle.std.specs.List.{flat_map};
+ghost use Rattle.cc_base.specs.Digits.{hex};
+ghost use Rattle.check_driver.specs.Text.{escaped, escaped_byte, next_parameter, parameters_text, place_text, signature_text, unit_line, verdict_line, summary_line, proved_text};
+
+use crate::judge::Verdict;
+use crate::unit_fields::is_printable;
+use cc_base::{put_hex, put_number};
+use cil_model::{Place, Unit};
+use std::alloc::{AllocError, Global};
+
+/// Appends a byte of a name, or a backslash and its two digits where it is not printed raw.
+fn append_escaped_byte(alloc: Global, line: &mut Vec<u8>, byte: u8) -> Result<(), AllocError>
+    ensures { OnOk result (line.new.items ≡ line.old.items ++ escaped_byte byte) }
+{
+    if is_printable(byte) && byte != b'\\' {
+        line.push(byte)?;
+        return Ok(());
+    }
+    line.push(b'\\')?;
+    put_hex(alloc, line, u32::from(byte), 2)
+}
+
+/// Appends a name with its escapes.
+pub fn append_escaped(alloc: Global, line: &mut Vec<u8>, name: &[u8]) -> Result<(), AllocError>
+    ensures { OnOk result (line.new.items ≡ line.old.items ++ escaped name.now) }
+{
+    for byte in name {
+        append_escaped_byte(alloc, line, *byte)?;
+    }
+    Ok(())
+}
+
+/// A place's name in a signature.
+fn place_text(place: Place) -> &'static [u8]
+    ensures { result.now ≡ place_text place }
+{
+    match place {
+        Place::Void => b"void",
+        Place::Bool => b"bool",
+        Place::Int => b"int32",
+        Place::Bools => b"bool[]",
+        Place::Ints => b"int32[]",
+    }
+}
+
+fn proved_text(proved: bool) -> &'static [u8]
+    ensures { result.now ≡ proved_text proved }
+{
+    if proved { b"proved" } else { b"unproved" }
+}
+
+/// Appends parameters' types, each behind a comma.
+fn append_next_parameters(line: &mut Vec<u8>, places: &[Place]) -> Result<(), AllocError>
+    ensures { OnOk result (line.new.items ≡ line.old.items ++ flat_map next_parameter places.now) }
+{
+    for place in places {
+        line.push(b',')?;
+        line.extend_from_slice(place_text(*place))?;
+    }
+    Ok(())
+}
+
+/// Appends parameters' types, with commas between.
+fn append_parameters(line: &mut Vec<u8>, places: &[Place]) -> Result<(), AllocError>
+    ensures { OnOk result (line.new.items ≡ line.old.items ++ parameters_text places.now) }
+{
+    match places {
+        [] => Ok(()),
+        [first, rest @ ..] => {
+            line.extend_from_slice(place_text(*first))?;
+            append_next_parameters(line, rest)
+        }
+    }
+}
+
+/// The first line of a unit's report.
+pub fn unit_line(alloc: Global, unit: &Unit, proved: bool) -> Result<Vec<u8>, AllocError>
+    ensures { IfOk result (λ line. line.items ≡ unit_line unit.now proved) }
+{
+    let mut line = Vec::from_slice(alloc, b"unit ")?;
+    line.extend_from_slice(unit.name.as_slice())?;
+    line.extend_from_slice(b"(")?;
+    append_parameters(&mut line, unit.args.as_slice())?;
+    line.extend_from_slice(b"): ")?;
+    line.extend_from_slice(proved_text(proved))?;
+    line.extend_from_slice(b"\n")?;
+    Ok(line)
+}
+
+/// The line of an obligation.
+pub fn verdict_line(alloc: Global, verdict: Verdict) -> Result<Vec<u8>, AllocError>
+    requires { verdict.at < 65536 }
+    ensures { IfOk result (λ line. line.items ≡ verdict_line verdict) }
+{
+    let mut line = Vec::from_slice(alloc, b"  IL_")?;
+    put_hex(alloc, &mut line, verdict.at, 4)?;
+    line.extend_from_slice(b" assert: ")?;
+    line.extend_from_slice(proved_text(verdict.proved))?;
+    line.extend_from_slice(b"\n")?;
+    Ok(line)
+}
+
+/// Appends a number and what it counts.
+fn append_count(
+    alloc: Global,
+    line: &mut Vec<u8>,
+    count: u32,
+    what: &[u8],
+) -> Result<(), AllocError>
+    ensures { OnOk result (line.new.items ≡ line.old.items ++ decimal count ++ what.now) }
+{
+    put_number(alloc, line, i64::from(count))?;
+    line.extend_from_slice(what)
+}
+
+/// How many methods and obligations a report has, and how they were found.
+#[derive(Clone, Copy, Debug, PartialEq, Eq)]
+pub struct Counts {
+    pub methods: u32,
+    pub proved: u32,
+    pub unproved: u32,
+    pub skipped: u32,
+    pub obligations: u32,
+    pub proved_obligations: u32,
+}
+
+/// The last line of a report.
+pub fn summary_line(alloc: Global, counts: Counts) -> Result<Vec<u8>, AllocError>
+    ensures { IfOk result (λ line. line.items ≡ summary_line counts) }
+{
+    let mut line = Vec::from_slice(alloc, b"summary: ")?;
+    append_count(alloc, &mut line, counts.methods, b" methods, ")?;
+    append_count(alloc, &mut line, counts.proved, b" proved, ")?;
+    append_count(alloc, &mut line, counts.unproved, b" unproved, ")?;
+    append_count(alloc, &mut line, counts.skipped, b" not analysed, ")?;
+    append_count(alloc, &mut line, counts.obligations, b" obligations, ")?;
+    append_count(alloc, &mut line, counts.proved_obligations, b" proved\n")?;
+    Ok(line)
+}

@@ -1,0 +1,5 @@
+pub mod Spells
+pub mod Machine
+pub mod Effects
+pub mod Step
+pub mod LocalStep

@@ -1,0 +1,35 @@
+//! Units: methods with all that their analysis needs.
+
+use crate::clause::Clause;
+use crate::instruction::Instr;
+use crate::list::List;
+use crate::place::Place;
+
+/// What a unit knows of a method that it calls.
+#[derive(Drop)]
+pub struct CalleeInfo {
+    pub name: List<u8>,
+    pub result: Place,
+    pub args: List<Place>,
+    pub clauses: List<Clause>,
+}
+
+/// A method with all that its analysis needs.
+#[derive(Drop)]
+pub struct Unit {
+    /// The printed name, up to the parameter list.
+    pub name: List<u8>,
+    pub result: Place,
+    pub args: List<Place>,
+    pub locals: List<Place>,
+    /// How many values the stack holds at most.
+    pub max_stack: u8,
+    /// The methods that the code calls, in order of first use.
+    pub callees: List<CalleeInfo>,
+    pub code: List<u8>,
+    pub clauses: List<Clause>,
+    /// Where the body starts, after the contract block: an IL offset.
+    pub body_start: u32,
+    /// The instructions of the whole code.
+    pub instrs: List<Instr>,
+}

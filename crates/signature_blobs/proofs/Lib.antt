@@ -1,0 +1,5 @@
+pub mod Loop
+pub mod Standing
+pub mod NumberLaws
+pub mod TypeLaws
+pub mod SignatureLaws

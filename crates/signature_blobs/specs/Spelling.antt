@@ -1,0 +1,95 @@
+-- How signatures are spelled (II.23.2).
+use Rattle.std.specs.Prelude.{◌≡◌, ◌≢◌, ℕ, ◌+◌, ◌%◌, ◌^◌, ◌<◌, ◌≤◌, ◌⊎◌, List, [], ◌∷◌, ◌++◌, length, drop, Bool, true, false, not, ◌==◌, bit_and}
+use Rattle.std.specs.List.{flat_map, AllByRecursion}
+use Rattle.byteorder.specs.Endian.{big_bytes}
+use Rattle.cil_model.specs.declared.place.Place.{Place}
+use Rattle.cil_model.specs.declared.place.Place.TheVariants.{Void, Bool as OfBool, Int, Bools, Ints}
+use Rattle.signature_blobs.specs.declared.method.Signature.{Signature}
+use Rattle.signature_blobs.specs.declared.method.SigTypes.{SigTypes}
+use Rattle.signature_blobs.specs.declared.method.SigTypes.TheVariants as types
+use Rattle.signature_blobs.specs.declared.local.LocalSig.{LocalSig}
+use Rattle.signature_blobs.specs.declared.local.LocalSig.TheVariants as locals
+
+-- These bytes stand in the blob from one place up to another.
+pub record Stands (bytes blob : List ℕ) (at after : ℕ) : Type 0 where
+  pub place : after ≡ at + length bytes
+  pub parts : drop at blob ≡ bytes ++ drop after blob
+
+-- The blob begins with bytes of which this holds.
+abbrev pub Begins : (List ℕ → Type 0) → List ℕ → Type 0
+Begins P blob = (front rest : List ℕ) × P front × (blob ≡ front ++ rest)
+
+-- The number in one byte, in two behind the bits 10, or in four behind the bits 110. It may stand in
+-- more bytes than it needs.
+abbrev pub SpellsNumber : ℕ → List ℕ → Type 0
+SpellsNumber n bytes =
+    ((n < 2 ^ 7) × (bytes ≡ n ∷ []))
+    ⊎ (((n < 2 ^ 14) × (bytes ≡ big_bytes 2 (0x8000 + n)))
+    ⊎ ((n < 2 ^ 29) × (bytes ≡ big_bytes 4 (0xC000_0000 + n))))
+
+-- VOID, BOOLEAN, I4, and SZARRAY with its element type (II.23.1.16).
+abbrev pub type_bytes : Place → List ℕ
+type_bytes Void = 0x01 ∷ []
+type_bytes OfBool = 0x02 ∷ []
+type_bytes Int = 0x08 ∷ []
+type_bytes Bools = 0x1D ∷ 0x02 ∷ []
+type_bytes Ints = 0x1D ∷ 0x08 ∷ []
+
+-- Parameters and locals are of any type but VOID.
+abbrev pub AreValues : List Place → Type 0
+AreValues places = AllByRecursion (λ place. place ≢ Void) places
+
+-- The bit HASTHIS of a convention byte: the method has a `this`.
+abbrev pub has_this : ℕ → Bool
+has_this convention = not (bit_and convention 0x20 == 0)
+
+-- The bit GENERIC: the method has type parameters.
+abbrev pub is_generic : ℕ → Bool
+is_generic convention = not (bit_and convention 0x10 == 0)
+
+-- A generic method alone has a number of type parameters.
+abbrev pub SpellsTypeCount : Bool → List ℕ → Type 0
+SpellsTypeCount true bytes = (n : ℕ) × SpellsNumber n bytes
+SpellsTypeCount false bytes = bytes ≡ []
+
+-- A number of places and the places, of which the profile has at most 128.
+pub record SpellsCount (places : List Place) (bytes : List ℕ) : Type 0 where
+  pub number : SpellsNumber (length places) bytes
+  pub few : length places ≤ 128
+  pub values : AreValues places
+
+-- The signature of a method with these flags (II.23.2.1). Its convention is 0, in the low four bits
+-- of the first byte.
+pub record SpellsMethod (this generic : Bool) (signature : Signature) (bytes : List ℕ) : Type 0 where
+  pub convention : ℕ
+  pub type_count : List ℕ
+  pub count : List ℕ
+  pub default : convention % 16 ≡ 0
+  pub this_is : has_this convention ≡ this
+  pub generic_is : is_generic convention ≡ generic
+  pub type_counted : SpellsTypeCount generic type_count
+  pub counted : SpellsCount signature.args count
+  pub parts : bytes ≡ convention ∷ [] ++ (type_count ++ (count ++ (type_bytes signature.result ++ flat_map type_bytes signature.args)))
+
+-- The signature of these locals (II.23.2.6).
+pub record SpellsLocals (places : List Place) (bytes : List ℕ) : Type 0 where
+  pub count : List ℕ
+  pub counted : SpellsCount places count
+  pub parts : bytes ≡ 0x07 ∷ [] ++ (count ++ flat_map type_bytes places)
+
+-- An instantiation with this type (II.23.2.15).
+pub record SpellsInstance (place : Place) (bytes : List ℕ) : Type 0 where
+  pub count : List ℕ
+  pub one : SpellsNumber 1 count
+  pub value : place ≢ Void
+  pub parts : bytes ≡ 0x0A ∷ [] ++ (count ++ type_bytes place)
+
+-- What is known of the types of a method.
+abbrev pub IfKnown : SigTypes → (Signature → Type 0) → Type 0
+IfKnown (types.Known signature) P = P signature
+IfKnown types.Other P = Unit {0}
+
+-- What is known of the locals of a method.
+abbrev pub IfKnownLocals : LocalSig → (List Place → Type 0) → Type 0
+IfKnownLocals (locals.Known places) P = P places
+IfKnownLocals locals.Other P = Unit {0}

@@ -1,0 +1,68 @@
+//! Signatures of local variables (II.23.2.6).
+
+ghost use Rattle.std.specs.Prelude.{◌≡◌, ◌≤◌, List, length, IfOk};
+ghost use Rattle.cil_model.specs.declared.place.Place.{Place};
+ghost use Rattle.signature_blobs.specs.Spelling.{Begins, SpellsLocals, IfKnownLocals};
+ghost use Rattle.signature_blobs.specs.Signatures.{locals_at, local_signature};
+
+use crate::fault::SigFault;
+use crate::number::count_at;
+use crate::places::Places;
+use crate::types::types_at;
+
+/// The first byte of a signature of locals.
+const LOCAL_SIG: u8 = 0x07;
+
+/// The locals of a method, as far as the profile has them. It takes 130 bytes.
+#[derive(Drop)]
+pub enum LocalSig {
+    /// The types of the locals, in order.
+    Known(Places),
+    /// More than 128 locals, or a type outside the profile.
+    Other,
+}
+
+/// The number of locals and their types.
+#[tactic(auto, unfolding(crate::specs::Signatures::locals_at))]
+fn locals_at(blob: &[u8]) -> Result<Option<Places>, SigFault>
+    requires { length blob.now ≤ 2147483647 }
+    ensures { result ≡ locals_at blob.now }
+{
+    match count_at(blob, 1)? {
+        Some((count, at)) => types_at(blob, at, count),
+        None => Ok(None),
+    }
+}
+
+/// The first byte and the locals.
+#[tactic(auto, unfolding(crate::specs::Signatures::local_signature))]
+fn locals_of(blob: &[u8]) -> Result<LocalSig, SigFault>
+    requires { length blob.now ≤ 2147483647 }
+    ensures { result ≡ local_signature blob.now }
+{
+    match blob {
+        [] => Err(SigFault::Short(0)),
+        [LOCAL_SIG, ..] => match locals_at(blob)? {
+            Some(places) => Ok(LocalSig::Known(places)),
+            None => Ok(LocalSig::Other),
+        },
+        [_, ..] => Err(SigFault::Form(0)),
+    }
+}
+
+/// The signature of locals that a blob says.
+///
+/// A type outside the profile ends the reading, as more than 128 locals do, and bytes behind the last
+/// type are not read. Another first byte than that of a signature of locals is `Form` at 0, a blob that
+/// ends too early `Short` at its end.
+pub fn local_sig(blob: &[u8]) -> Result<LocalSig, SigFault>
+    requires { length blob.now ≤ 2147483647 }
+    // What the blob says, or the first fault.
+    ensures exact { result ≡ local_signature blob.now }
+    // The blob begins with a spelling of the locals that are known.
+    ensures found { IfOk result (λ local. IfKnownLocals local (λ places. Begins (SpellsLocals places) blob.now)) }
+    // Locals whose spelling begins the blob are known.
+    ensures only { (places : List Place) → Begins (SpellsLocals places) blob.now → result ≡ Ok (LocalSig.Known places) }
+{
+    locals_of(blob)
+}

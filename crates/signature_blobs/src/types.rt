@@ -1,0 +1,81 @@
+//! Types in a signature (II.23.2.12), as places.
+//!
+//! Each reader answers None at a type outside the profile.
+
+ghost use Rattle.std.specs.Prelude.{◌≡◌, ◌≤◌, length};
+ghost use Rattle.signature_blobs.specs.Types.{element_at, type_at, result_at, types_at};
+
+use crate::fault::SigFault;
+use crate::number::byte_at;
+use crate::places::Places;
+use cil_model::Place;
+
+/// ELEMENT_TYPE_VOID (II.23.1.16).
+const VOID: u8 = 0x01;
+
+/// ELEMENT_TYPE_BOOLEAN.
+const BOOLEAN: u8 = 0x02;
+
+/// ELEMENT_TYPE_I4.
+const I4: u8 = 0x08;
+
+/// ELEMENT_TYPE_SZARRAY.
+const SZARRAY: u8 = 0x1d;
+
+/// The array whose element type stands at a place behind SZARRAY, and the place after it.
+#[tactic(auto, unfolding(crate::specs::Types::element_at))]
+fn element_at(blob: &[u8], at: u32) -> Result<Option<(Place, u32)>, SigFault>
+    requires { length blob.now ≤ 2147483647 }
+    ensures { result ≡ element_at blob.now at }
+{
+    match byte_at(blob, at)? {
+        BOOLEAN => Ok(Some((Place::Bools, at + 1))),
+        I4 => Ok(Some((Place::Ints, at + 1))),
+        _ => Ok(None),
+    }
+}
+
+/// The type of a parameter or local at a place, and the place after it.
+#[tactic(auto, unfolding(crate::specs::Types::type_at))]
+pub fn type_at(blob: &[u8], at: u32) -> Result<Option<(Place, u32)>, SigFault>
+    requires { length blob.now ≤ 2147483647 }
+    ensures { result ≡ type_at blob.now at }
+{
+    match byte_at(blob, at)? {
+        BOOLEAN => Ok(Some((Place::Bool, at + 1))),
+        I4 => Ok(Some((Place::Int, at + 1))),
+        SZARRAY => element_at(blob, at + 1),
+        _ => Ok(None),
+    }
+}
+
+/// The type of a result at a place, and the place after it.
+#[tactic(auto, unfolding(crate::specs::Types::result_at))]
+pub fn result_at(blob: &[u8], at: u32) -> Result<Option<(Place, u32)>, SigFault>
+    requires { length blob.now ≤ 2147483647 }
+    ensures { result ≡ result_at blob.now at }
+{
+    match byte_at(blob, at)? {
+        VOID => Ok(Some((Place::Void, at + 1))),
+        _ => type_at(blob, at),
+    }
+}
+
+/// So many types from a place on, one after another.
+#[tactic(auto, using(crate::proofs::Loop::goes_on, crate::proofs::Loop::fails, crate::proofs::Loop::leaves, crate::proofs::Loop::is_done))]
+pub fn types_at(blob: &[u8], at: u32, count: u32) -> Result<Option<Places>, SigFault>
+    requires blob { length blob.now ≤ 2147483647 }
+    requires room { count ≤ 128 }
+    ensures { result ≡ types_at blob.now at count }
+{
+    let mut places = Places::new();
+    let mut next = at;
+    for _ in 0..count {
+        let Some((place, after)) = type_at(blob, next)? else {
+            return Ok(None);
+        };
+        places.push(place);
+        next = after;
+    }
+    Ok(Some(places))
+}
