@@ -1,0 +1,197 @@
+-- Where cells stand, and that they lie in the metadata.
+use Rattle.std.proofs.Common.{◌≡◌, ◌≢◌, ℕ, zero, suc, ◌+◌, ◌-◌, ◌*◌, ◌≤◌, ◌<◌, List, [], ◌∷◌, length, ◌++◌, get_or, take, replicate, Option, Some, None, Bool, true, false, cond, eqb, refl, sym, ap, subst, ◌∙◌, arith, inl, inr}
+use Rattle.std.specs.Prelude.{slice_index_or, codes}
+use Rattle.std.specs.List.{flat_map, range_with_len}
+use Rattle.std.proofs.lemmas.Bool.{cases_lt}
+use Rattle.std.proofs.lemmas.Bool.Decides.{nat_tests}
+use Rattle.std.proofs.lemmas.List.{get_or_past}
+use Rattle.std.proofs.lemmas.List.Sums.{sum_by_more_le}
+use Rattle.std.proofs.lemmas.List.Concat.{flat_map-cons}
+use Rattle.std.proofs.lemmas.List.FromFn.{get_or-map-range_with_len, length-map-range_with_len}
+use Rattle.cc_base.specs.LittleEndian.{u16_at, u32_at}
+use Rattle.metadata_tables.specs.declared.fault.TableFault.{TableFault}
+use Rattle.metadata_tables.specs.declared.fault.TableFault.TheVariants.{Short}
+use Rattle.metadata_tables.specs.declared.layout.Layout.{Layout}
+use Rattle.metadata_tables.specs.declared.root.Stream.{Stream}
+use Rattle.metadata_tables.specs.declared.schema.Column.{Column}
+use Rattle.metadata_tables.specs.declared.schema.Column.TheVariants.{Two, Four, Strings, Guid, Blob, Row, Coded}
+use Rattle.metadata_tables.specs.Tests.{first_of, fields}
+use Rattle.metadata_tables.specs.Root.{stream}
+use Rattle.metadata_tables.specs.Schema.{columns_of, width, total_width}
+use Rattle.metadata_tables.specs.Layout.{end_of, tables_at, tables_end, heap_sizes, valid, counts_at, present_below, stored_count, row_counts, row_count, rows_at, row_width, bytes_below, row_widths, bases, base, cell_at, cell}
+use Rattle.metadata_tables.specs.Placed.{IsLayoutOf}
+use Rattle.metadata_tables.specs.TableTests.{rows_tests, all_rows_tests, tables_tests, first_table_fault, bits_tests}
+use Rattle.metadata_tables.proofs.TestLemmas.{first_of-front, first_of-back, fields-fits, fields-short}
+use Rattle.metadata_tables.proofs.HeaderLemmas.{stream-within}
+use Rattle.metadata_tables.proofs.HeapLemmas.{streams-sound, tables-sound}
+
+-- Of fields that all fit, the first does.
+front-fits : (end : ℕ) (fault : ℕ → TableFault) (at w : ℕ) (widths : List ℕ) → first_of (fields end fault at (w ∷ widths)) ≡ None → at + w ≤ end
+front-fits end fault at w widths e =
+    elim (cases_lt end (at + w)) [
+      | inl past ↦
+          let failed = fields-short end fault at w widths past in
+          absurd cc
+      | inr fit ↦ fit
+    ]
+
+-- Of fields that all fit, each ends before the end.
+run-row : (count end : ℕ) (fault : ℕ → TableFault) (at w row : ℕ) → row < count
+    → first_of (fields end fault at (replicate count w)) ≡ None → at + row * w + w ≤ end
+run-row zero end fault at w row h e = absurd (omega arith)
+run-row (suc count) end fault at w zero h e = omega (arith, front-fits end fault at w (replicate count w) e)
+run-row (suc count) end fault at w (suc row) h e =
+    let fit = front-fits end fault at w (replicate count w) e in
+    let later = run-row count end fault (at + w) w row (omega arith) (sym (fields-fits end fault at w (replicate count w) fit) ∙ e) in
+    omega arith
+
+-- All tests of several lists are passed, so those of each are.
+flat-each : (tests : ℕ → List (Option TableFault)) (i n k : ℕ) → i ≤ k → k < i + n
+    → first_of (flat_map tests (range_with_len i n)) ≡ None → first_of (tests k) ≡ None
+flat-each tests i zero k low high e = absurd (omega arith)
+flat-each tests i (suc n) k low high e =
+    let split : first_of (flat_map tests (range_with_len i (suc n))) ≡ first_of (tests i ++ flat_map tests (range_with_len (i + 1) n)) =
+    ap first_of (flat_map-cons tests i (range_with_len (i + 1) n)) in
+    let whole = sym split ∙ e in
+    elim (cases_lt i k) [
+      | inl lt ↦ flat-each tests (i + 1) n k (omega arith) (omega arith) (first_of-back (tests i) (flat_map tests (range_with_len (i + 1) n)) whole)
+      | inr le ↦
+          let same : i ≡ k = omega arith in
+          subst (λ (j : ℕ). first_of (tests j) ≡ None) same (first_of-front (tests i) (flat_map tests (range_with_len (i + 1) n)) whole)
+    ]
+
+-- ---- the rows
+
+all-rows : (md : List ℕ) → first_table_fault md ≡ None → first_of (all_rows_tests (tables_end md) (row_counts md) (heap_sizes md) (rows_at md)) ≡ None
+unfolding tables_tests
+all-rows md e =
+    first_of-back
+    (fields (tables_end md) (λ at. Short at) (tables_at md) (4 ∷ 1 ∷ 1 ∷ 1 ∷ 1 ∷ 8 ∷ [])
+    ++ bits_tests (valid md) (tables_at md + 8)
+    ++ fields (tables_end md) (λ at. Short at) (tables_at md + 16) (8 ∷ [])
+    ++ fields (tables_end md) (λ at. Short at) (counts_at md) (replicate (present_below (valid md) 64) 4))
+    (all_rows_tests (tables_end md) (row_counts md) (heap_sizes md) (rows_at md)) (tables-sound md e)
+
+row_counts-length : (md : List ℕ) → length (row_counts md) ≡ 45
+unfolding row_counts
+row_counts-length md = length-map-range_with_len (stored_count md) 0 45
+
+pub table-known : (md : List ℕ) (table row : ℕ) → 1 ≤ row → row ≤ row_count md table → table < 45
+table-known md table row first last =
+    elim (cases_lt table 45) [
+      | inl lt ↦ lt
+      | inr past ↦
+          let none : get_or (row_counts md) table 0 ≡ 0 = get_or_past (row_counts md) table 0 (omega (arith, row_counts-length md)) in
+          absurd (omega arith)
+    ]
+
+-- A row ends before the stream does.
+row-end : (md : List ℕ) (table row : ℕ) → first_table_fault md ≡ None → 1 ≤ row → row ≤ row_count md table
+    → base md table + (row - 1) * row_width (row_counts md) (heap_sizes md) table + row_width (row_counts md) (heap_sizes md) table ≤ tables_end md
+unfolding all_rows_tests rows_tests base
+row-end md table row e first last =
+    run-row (row_count md table) (tables_end md) (λ at. Short at) (rows_at md + bytes_below (row_counts md) (heap_sizes md) table) (row_width (row_counts md) (heap_sizes md) table)
+    (row - 1) (omega arith)
+    (flat-each (rows_tests (tables_end md) (row_counts md) (heap_sizes md) (rows_at md)) 0 45 table (omega arith) (table-known md table row first last) (all-rows md e))
+
+end-within : (md : List ℕ) (o : Option Stream) → ((s : Stream) → o ≡ Some s → s.at + s.size ≤ length md) → end_of o ≤ length md
+end-within md None h = omega arith
+end-within md (Some s) h = h s refl
+
+pub tables_end-within : (md : List ℕ) → first_table_fault md ≡ None → tables_end md ≤ length md
+unfolding tables_end
+tables_end-within md e = end-within md (stream md (codes "#~")) (λ s found. stream-within md (codes "#~") s (streams-sound md e) found)
+
+-- A cell ends before its row does.
+pub cell-end : (md : List ℕ) (table row column : ℕ) → first_table_fault md ≡ None → 1 ≤ row → row ≤ row_count md table → column < length (columns_of table)
+    → cell_at md table row column + width (row_counts md) (heap_sizes md) (slice_index_or (columns_of table) column Two) ≤ length md
+unfolding cell_at row_width
+cell-end md table row column e first last known =
+    omega (
+      arith,
+      row-end md table row e first last,
+      tables_end-within md e,
+      sum_by_more_le (width (row_counts md) (heap_sizes md)) (columns_of table) column Two known,
+    )
+
+-- ---- what is kept of the layout
+
+base-is : (md : List ℕ) (layout : Layout) (table : ℕ) → IsLayoutOf md layout → table < 45 → get_or layout.bases table 0 ≡ base md table
+unfolding bases base
+base-is md layout table kept known =
+    ap (λ (xs : List ℕ). get_or xs table 0) kept.bases_kept
+    ∙ get_or-map-range_with_len (λ k. rows_at md + bytes_below (row_counts md) (heap_sizes md) k) 0 45 table table 0 known (omega arith)
+
+row_width-kept : (md : List ℕ) (layout : Layout) (table : ℕ) → IsLayoutOf md layout → table < 45
+    → get_or layout.widths table 0 ≡ row_width (row_counts md) (heap_sizes md) table
+unfolding row_widths
+row_width-kept md layout table kept known =
+    ap (λ (xs : List ℕ). get_or xs table 0) kept.widths_kept
+    ∙ get_or-map-range_with_len (row_width (row_counts md) (heap_sizes md)) 0 45 table table 0 known (omega arith)
+
+cond-least : (b : Bool) → 2 ≤ cond b 2 4
+cond-least true = omega arith
+cond-least false = omega arith
+
+cond-least-wide : (b : Bool) → 2 ≤ cond b 4 2
+cond-least-wide true = omega arith
+cond-least-wide false = omega arith
+
+-- No column is narrower than two bytes.
+pub width-least : (counts : List ℕ) (sizes : ℕ) (column : Column) → 2 ≤ width counts sizes column
+unfolding width
+width-least counts sizes Two = omega arith
+width-least counts sizes Four = omega arith
+width-least counts sizes Strings = cond-least-wide _
+width-least counts sizes Guid = cond-least-wide _
+width-least counts sizes Blob = cond-least-wide _
+width-least counts sizes (Row table) = cond-least _
+width-least counts sizes (Coded kind) = cond-least _
+
+cell_at-place : (md : List ℕ) (table row column b w before : ℕ) → b ≡ base md table → w ≡ row_width (row_counts md) (heap_sizes md) table
+    → before ≡ total_width (row_counts md) (heap_sizes md) (take column (columns_of table)) → b + (row - 1) * w + before ≡ cell_at md table row column
+unfolding cell_at
+cell_at-place md table row column b w before e f g = rw (e, f, g) refl
+
+-- The place that the code computes is that of the cell, and the cell's two bytes at least lie before the end.
+pub record IsCellPlace (md : List ℕ) (table row column place : ℕ) : Type 0 where
+  pub is : place ≡ cell_at md table row column
+  pub within : place + 2 ≤ length md
+
+pub cell_at-is : (md : List ℕ) (layout : Layout) (table row column b w before : ℕ) → IsLayoutOf md layout → first_table_fault md ≡ None
+    → 1 ≤ row → row ≤ row_count md table → column < length (columns_of table)
+    → b ≡ get_or layout.bases table 0 → w ≡ get_or layout.widths table 0
+    → before ≡ total_width layout.counts layout.heap_sizes (take column (columns_of table))
+    → IsCellPlace md table row column (b + (row - 1) * w + before)
+cell_at-is md layout table row column b w before kept sound first last known b_is w_is before_is =
+    let lt = table-known md table row first last in
+    let place = cell_at-place md table row column b w before (b_is ∙ base-is md layout table kept lt) (w_is ∙ row_width-kept md layout table kept lt)
+    (before_is ∙ ap (λ (k : List ℕ). total_width k layout.heap_sizes (take column (columns_of table))) kept.counts_kept
+    ∙ ap (λ (k : ℕ). total_width (row_counts md) k (take column (columns_of table))) kept.heap_sizes_kept) in
+    record {
+      is = place;
+      within = omega (arith, place, cell-end md table row column sound first last known, width-least (row_counts md) (heap_sizes md) (slice_index_or (columns_of table) column Two));
+    }
+
+-- The number in a cell, over the width that the code computes.
+pub column_width-is : (md : List ℕ) (layout : Layout) (table column w : ℕ) → IsLayoutOf md layout
+    → w ≡ width layout.counts layout.heap_sizes (slice_index_or (columns_of table) column Two)
+    → w ≡ width (row_counts md) (heap_sizes md) (slice_index_or (columns_of table) column Two)
+column_width-is md layout table column w kept is =
+    is ∙ ap (λ (k : List ℕ). width k layout.heap_sizes (slice_index_or (columns_of table) column Two)) kept.counts_kept
+    ∙ ap (λ (k : ℕ). width (row_counts md) k (slice_index_or (columns_of table) column Two)) kept.heap_sizes_kept
+
+pub cell-wide : (md : List ℕ) (table row column w at v : ℕ) → w ≡ width (row_counts md) (heap_sizes md) (slice_index_or (columns_of table) column Two)
+    → w ≡ 4 → at ≡ cell_at md table row column → v ≡ u32_at md at → v ≡ cell md table row column
+unfolding cell
+cell-wide md table row column w at v is four place read =
+    let test : eqb (width (row_counts md) (heap_sizes md) (slice_index_or (columns_of table) column Two)) 4 ≡ true = rw (← is, four) refl in
+    rw test (read ∙ ap (u32_at md) place)
+
+pub cell-narrow : (md : List ℕ) (table row column w at v : ℕ) → w ≡ width (row_counts md) (heap_sizes md) (slice_index_or (columns_of table) column Two)
+    → w ≢ 4 → at ≡ cell_at md table row column → v ≡ u16_at md at → v ≡ cell md table row column
+unfolding cell
+cell-narrow md table row column w at v is other place read =
+    let differs : eqb w 4 ≡ false = grind (arith, nat_tests) in
+    let test : eqb (width (row_counts md) (heap_sizes md) (slice_index_or (columns_of table) column Two)) 4 ≡ false = rw (← is) differs in
+    rw test (read ∙ ap (u16_at md) place)

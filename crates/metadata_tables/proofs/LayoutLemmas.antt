@@ -1,0 +1,228 @@
+-- Numbered tests one after another, and what they say of Valid, the row counts and the rows.
+use Rattle.std.proofs.Common.{◌≡◌, ◌≢◌, ℕ, zero, suc, ◌+◌, ◌-◌, ◌*◌, ◌≤◌, ◌<◌, List, [], ◌∷◌, ◌++◌, length, get_or, map, replicate, Bool, true, false, eqb, not, ◌&&◌, Option, Some, None, refl, sym, ap, ◌∙◌, arith, add-one, inl, inr, set, get_or-set_other, get_or-set_same, below_more}
+use Rattle.std.specs.Prelude.{sum_by}
+use Rattle.std.specs.List.{flat_map, range_with_len}
+use Rattle.std.specs.Int.{bit_at}
+use Rattle.std.proofs.lemmas.List.Sums.{sum_by-append}
+use Rattle.std.proofs.lemmas.List.FromFn.{fill_by_all}
+use Rattle.cc_base.specs.LittleEndian.{u32_at}
+use Rattle.std.proofs.lemmas.List.Concat.{flat_map-cons}
+use Rattle.std.proofs.lemmas.Bool.{cases_lt}
+use Rattle.std.proofs.lemmas.Bool.Decides.{nat_tests}
+use Rattle.metadata_tables.specs.declared.fault.TableFault.{TableFault}
+use Rattle.metadata_tables.specs.declared.fault.TableFault.TheVariants.{BadTables, Short}
+use Rattle.metadata_tables.specs.declared.schema.Column.{Column}
+use Rattle.metadata_tables.specs.Tests.{first_of, test, fields}
+use Rattle.metadata_tables.specs.Schema.{columns_of, total_width}
+use Rattle.metadata_tables.specs.Layout.{valid, counts_at, present_below, stored_count, row_counts, row_width, bytes_below, row_widths, bases}
+use Rattle.metadata_tables.specs.TableTests.{bit_test, bits_tests, rows_tests, all_rows_tests}
+use Rattle.metadata_tables.proofs.TestLemmas.{first_of-passed, first_of-failed}
+
+-- The numbers from i on.
+range-from : (i n : ℕ) → i < n → range_with_len i (n - i) ≡ i ∷ range_with_len (i + 1) (n - (i + 1))
+range-from i n h =
+    let k : n - i ≡ suc (n - (i + 1)) = omega arith in
+    rw k refl
+
+range-end : (i n : ℕ) → n ≤ i → range_with_len i (n - i) ≡ []
+range-end i n h =
+    let k : n - i ≡ 0 = omega arith in
+    rw k refl
+
+-- The tests with numbers from i on, each a list.
+abbrev pub from_on : (ℕ → List (Option TableFault)) → ℕ → ℕ → Option TableFault
+from_on tests i n = first_of (flat_map tests (range_with_len i (n - i)))
+
+from_on-is : (tests : ℕ → List (Option TableFault)) (i n : ℕ) → i < n
+    → from_on tests i n ≡ first_of (tests i ++ flat_map tests (range_with_len (i + 1) (n - (i + 1))))
+from_on-is tests i n h =
+    ap (λ (numbers : List ℕ). first_of (flat_map tests numbers)) (range-from i n h)
+    ∙ ap first_of (flat_map-cons tests i (range_with_len (i + 1) (n - (i + 1))))
+
+pub from_on-next : (tests : ℕ → List (Option TableFault)) (i n : ℕ) (all : Option TableFault) → i < n
+    → first_of (tests i) ≡ None → from_on tests i n ≡ all → from_on tests (i + 1) n ≡ all
+from_on-next tests i n all h passed so_far =
+    sym (first_of-passed (tests i) (flat_map tests (range_with_len (i + 1) (n - (i + 1)))) passed)
+    ∙ sym (from_on-is tests i n h) ∙ so_far
+
+pub from_on-stop : (tests : ℕ → List (Option TableFault)) (i n : ℕ) (all : Option TableFault) (fault : TableFault) → i < n
+    → first_of (tests i) ≡ Some fault → from_on tests i n ≡ all → all ≡ Some fault
+from_on-stop tests i n all fault h failed so_far =
+    sym so_far ∙ from_on-is tests i n h
+    ∙ first_of-failed (tests i) (flat_map tests (range_with_len (i + 1) (n - (i + 1)))) fault failed
+
+pub from_on-done : (tests : ℕ → List (Option TableFault)) (i n : ℕ) (all : Option TableFault) → n ≤ i
+    → from_on tests i n ≡ all → all ≡ None
+from_on-done tests i n all h so_far =
+    sym so_far ∙ ap (λ (numbers : List ℕ). first_of (flat_map tests numbers)) (range-end i n h)
+
+-- The tests with numbers from i on, each alone.
+abbrev pub singles_on : (ℕ → Option TableFault) → ℕ → ℕ → Option TableFault
+singles_on tests i n = first_of (map tests (range_with_len i (n - i)))
+
+singles_on-is : (tests : ℕ → Option TableFault) (i n : ℕ) → i < n
+    → singles_on tests i n ≡ first_of (tests i ∷ map tests (range_with_len (i + 1) (n - (i + 1))))
+singles_on-is tests i n h = ap (λ (numbers : List ℕ). first_of (map tests numbers)) (range-from i n h)
+
+pub singles_on-next : (tests : ℕ → Option TableFault) (i n : ℕ) (all : Option TableFault) → i < n
+    → tests i ≡ None → singles_on tests i n ≡ all → singles_on tests (i + 1) n ≡ all
+singles_on-next tests i n all h passed so_far =
+    let rest : List (Option TableFault) = map tests (range_with_len (i + 1) (n - (i + 1))) in
+    let one : first_of (tests i ∷ rest) ≡ first_of rest = rw passed refl in
+    sym one ∙ sym (singles_on-is tests i n h) ∙ so_far
+
+pub singles_on-stop : (tests : ℕ → Option TableFault) (i n : ℕ) (all : Option TableFault) (fault : TableFault) → i < n
+    → tests i ≡ Some fault → singles_on tests i n ≡ all → all ≡ Some fault
+singles_on-stop tests i n all fault h failed so_far =
+    let rest : List (Option TableFault) = map tests (range_with_len (i + 1) (n - (i + 1))) in
+    let one : first_of (tests i ∷ rest) ≡ Some fault = rw failed refl in
+    sym so_far ∙ singles_on-is tests i n h ∙ one
+
+pub singles_on-done : (tests : ℕ → Option TableFault) (i n : ℕ) (all : Option TableFault) → n ≤ i
+    → singles_on tests i n ≡ all → all ≡ None
+singles_on-done tests i n all h so_far =
+    sym so_far ∙ ap (λ (numbers : List ℕ). first_of (map tests numbers)) (range-end i n h)
+
+-- ---- the bits of Valid
+
+pub bit_test-unset : (bits at bit : ℕ) → eqb (bit_at bits bit) 1 ≡ false → bit_test bits at bit ≡ None
+unfolding bit_test
+bit_test-unset bits at bit e = rw e refl
+
+pub bit_test-known : (bits at bit : ℕ) → eqb (length (columns_of bit)) 0 ≡ false → bit_test bits at bit ≡ None
+unfolding bit_test
+bit_test-known bits at bit e =
+    elim (eqb (bit_at bits bit) 1) as (λ (set : Bool). test (not (set && eqb (length (columns_of bit)) 0)) (BadTables bit at) ≡ None) [
+      | true ↦ rw e refl
+      | false ↦ refl
+    ]
+
+pub bit_test-bad : (bits at bit : ℕ) → eqb (bit_at bits bit) 1 ≡ true → eqb (length (columns_of bit)) 0 ≡ true
+    → bit_test bits at bit ≡ Some (BadTables bit at)
+unfolding bit_test
+bit_test-bad bits at bit set none = rw (set, none) refl
+
+pub bits_tests-start : (bits at : ℕ) → singles_on (bit_test bits at) 0 64 ≡ first_of (bits_tests bits at)
+unfolding bits_tests
+bits_tests-start bits at = refl
+
+range-more : (i n : ℕ) → range_with_len i (n + 1) ≡ range_with_len i n ++ (i + n) ∷ []
+range-more i zero = let e : i + 0 ≡ i = omega arith in rw e refl
+range-more i (suc n) =
+    let longer : suc n + 1 ≡ suc (n + 1) = omega arith in
+    let there : (i + 1) + n ≡ i + suc n = omega arith in
+    rw longer (ap (λ (numbers : List ℕ). i ∷ numbers) (range-more (i + 1) n ∙ ap (λ (k : ℕ). range_with_len (i + 1) n ++ k ∷ []) there))
+
+-- A sum over the numbers below one more.
+pub sum_below-more : (f : ℕ → ℕ) (i : ℕ) → sum_by f (range_with_len 0 (i + 1)) ≡ sum_by f (range_with_len 0 i) + f i
+sum_below-more f i =
+    ap (sum_by f) (range-more 0 i) ∙ sum_by-append f (range_with_len 0 i) ((0 + i) ∷ [])
+    ∙ (let e : 0 + i ≡ i = omega arith in rw e (let z : 0 + f i ≡ f i = omega arith in ap (λ (n : ℕ). sum_by f (range_with_len 0 i) + n) z))
+
+pub present_below-more : (bits i : ℕ) → present_below bits (i + 1) ≡ present_below bits i + bit_at bits i
+unfolding present_below
+present_below-more bits i = sum_below-more (bit_at bits) i
+
+pub present_below-zero : (bits : ℕ) → present_below bits 0 ≡ 0
+unfolding present_below
+present_below-zero bits = refl
+
+-- A bit and the bits before it are among those below a higher place.
+pub present_below-le : (bits i n : ℕ) → i < n → present_below bits i + bit_at bits i ≤ present_below bits n
+present_below-le bits i zero h = absurd (omega arith)
+present_below-le bits i (suc n) h =
+    let one : present_below bits (suc n) ≡ present_below bits n + bit_at bits n = rw (← add-one) (present_below-more bits n) in
+    elim (cases_lt i n) [
+      | inl lt ↦ omega (arith, present_below-le bits i n lt)
+      | inr le ↦ let same : i ≡ n = omega arith in rw same (omega (arith, one))
+    ]
+
+pub bit_at-unset : (bits i : ℕ) → eqb (bit_at bits i) 1 ≡ false → bit_at bits i ≡ 0
+bit_at-unset bits i e = grind (arith, nat_tests)
+
+-- ---- the row counts
+
+pub stored_count-set : (md : List ℕ) (bits start table at : ℕ) → bits ≡ valid md → start ≡ counts_at md
+    → eqb (bit_at bits table) 1 ≡ true → at ≡ start + 4 * present_below bits table → u32_at md at ≡ stored_count md table
+unfolding stored_count
+stored_count-set md bits start table at same_bits same_start set place =
+    let there : eqb (bit_at (valid md) table) 1 ≡ true = rw (← same_bits) set in
+    let where_it_is : at ≡ counts_at md + 4 * present_below (valid md) table = rw (← same_bits, ← same_start) place in
+    rw (there, where_it_is) refl
+
+pub stored_count-unset : (md : List ℕ) (bits table : ℕ) → bits ≡ valid md → eqb (bit_at bits table) 1 ≡ false → 0 ≡ stored_count md table
+unfolding stored_count
+stored_count-unset md bits table same_bits unset =
+    let missing : eqb (bit_at (valid md) table) 1 ≡ false = rw (← same_bits) unset in
+    rw missing refl
+
+pub row_counts-filled : (md counts : List ℕ) → length counts ≡ 45 → ((k : ℕ) → k < 45 → get_or counts k 0 ≡ stored_count md k) → counts ≡ row_counts md
+unfolding row_counts
+row_counts-filled md counts long each = fill_by_all (stored_count md) counts 45 0 long each
+
+-- What a write at a place leaves, and what it puts there.
+pub filled-more : (f : ℕ → ℕ) (xs : List ℕ) (i v : ℕ) → i < length xs → v ≡ f i → ((k : ℕ) → k < i → get_or xs k 0 ≡ f k)
+    → (k : ℕ) → k < i + 1 → get_or (set xs i v) k 0 ≡ f k
+filled-more f xs i v within same before =
+    below_more _ _
+    (λ k h. let other : k ≢ i = omega arith in rw get_or-set_other (before k h))
+    (rw (get_or-set_same, same) refl)
+
+-- What a write at a place leaves behind it.
+pub zero-behind : (xs : List ℕ) (i v : ℕ) → ((k : ℕ) → i ≤ k → get_or xs k 0 ≡ 0)
+    → (k : ℕ) → i + 1 ≤ k → get_or (set xs i v) k 0 ≡ 0
+zero-behind xs i v zeros k h = let other : k ≢ i = omega arith in rw get_or-set_other (zeros k (omega arith))
+
+-- Zeros.
+abbrev pub nothing : ℕ
+nothing = 0
+
+pub zeros-at : (n k : ℕ) → get_or (replicate n nothing) k nothing ≡ nothing
+zeros-at zero k = refl
+zeros-at (suc n) zero = refl
+zeros-at (suc n) (suc k) = zeros-at n k
+
+-- ---- the rows
+
+pub row_width-is : (counts : List ℕ) (sizes table : ℕ) (columns : List Column) (w : ℕ) → columns ≡ columns_of table
+    → w ≡ total_width counts sizes columns → w ≡ row_width counts sizes table
+unfolding row_width
+row_width-is counts sizes table columns w same is = is ∙ ap (total_width counts sizes) same
+
+pub bytes_below-zero : (counts : List ℕ) (sizes : ℕ) → bytes_below counts sizes 0 ≡ 0
+unfolding bytes_below
+bytes_below-zero counts sizes = refl
+
+pub bytes_below-more : (counts : List ℕ) (sizes table : ℕ)
+    → bytes_below counts sizes (table + 1) ≡ bytes_below counts sizes table + get_or counts table 0 * row_width counts sizes table
+unfolding bytes_below
+bytes_below-more counts sizes table = sum_below-more (λ lower. get_or counts lower 0 * row_width counts sizes lower) table
+
+pub all_rows_tests-start : (end : ℕ) (counts : List ℕ) (sizes start : ℕ)
+    → from_on (rows_tests end counts sizes start) 0 45 ≡ first_of (all_rows_tests end counts sizes start)
+unfolding all_rows_tests
+all_rows_tests-start end counts sizes start = refl
+
+-- The rows of a table, where its base, its row count and the bytes of its rows are known.
+pub rows_tests-is : (end : ℕ) (counts : List ℕ) (sizes start table at count w : ℕ) → at ≡ start + bytes_below counts sizes table
+    → count ≡ get_or counts table 0 → w ≡ row_width counts sizes table
+    → first_of (fields end (λ at. Short at) at (replicate count w)) ≡ first_of (rows_tests end counts sizes start table)
+unfolding rows_tests
+rows_tests-is end counts sizes start table at count w place many wide = rw (place, many, wide) refl
+
+pub row_widths-filled : (counts : List ℕ) (sizes : ℕ) (xs : List ℕ) → length xs ≡ 45
+    → ((k : ℕ) → k < 45 → get_or xs k 0 ≡ row_width counts sizes k) → xs ≡ row_widths counts sizes
+unfolding row_widths
+row_widths-filled counts sizes xs long each = fill_by_all (row_width counts sizes) xs 45 0 long each
+
+pub bases-filled : (counts : List ℕ) (sizes start : ℕ) (xs : List ℕ) → length xs ≡ 45
+    → ((k : ℕ) → k < 45 → get_or xs k 0 ≡ start + bytes_below counts sizes k) → xs ≡ bases counts sizes start
+unfolding bases
+bases-filled counts sizes start xs long each = fill_by_all (λ table. start + bytes_below counts sizes table) xs 45 0 long each
+
+-- Where the next table begins.
+pub place-next : (counts : List ℕ) (sizes start table at w after : ℕ) → at ≡ start + bytes_below counts sizes table
+    → w ≡ row_width counts sizes table → after ≡ at + get_or counts table 0 * w → after ≡ start + bytes_below counts sizes (table + 1)
+place-next counts sizes start table at w after place wide next =
+    let same : after ≡ at + get_or counts table 0 * row_width counts sizes table = next ∙ ap (λ (k : ℕ). at + get_or counts table 0 * k) wide in
+    omega (arith, bytes_below-more counts sizes table)

@@ -1,0 +1,7 @@
+pub mod Heaps
+pub mod Layout
+pub mod Placed
+pub mod Root
+pub mod Schema
+pub mod TableTests
+pub mod Tests

@@ -1,0 +1,87 @@
+//! The items of the heaps (ECMA-335 II.24.2.3 and II.24.2.4).
+
+ghost use Rattle.std.specs.Prelude.{◌≡◌, ◌==◌, ◌+◌, ◌<◌, ◌≤◌, length, position, option_map, IfSome};
+ghost use Rattle.metadata_tables.specs.Root.{zero_ended};
+ghost use Rattle.metadata_tables.specs.Heaps.{prefix_of, whole_prefix, item_of};
+
+use byteorder::{BigEndian, ByteOrder};
+
+/// Where the first zero stands.
+fn first_zero(bytes: &[u8]) -> Option<usize>
+    ensures place { result ≡ position (λ byte. byte == 0) bytes.now }
+    ensures within { IfSome result (λ len. len < length bytes.now) }
+{
+    bytes.iter().position(|byte| *byte == 0)
+}
+
+/// The bytes before the first zero, none where there is no zero.
+#[tactic(auto, unfolding(crate::specs::Root::zero_ended))]
+pub(crate) fn zero_ended(bytes: &[u8]) -> Option<&[u8]>
+    ensures { option_map (λ text. text.now) result ≡ zero_ended bytes.now }
+{
+    match first_zero(bytes) {
+        Some(len) => Some(&bytes[..len]),
+        None => None,
+    }
+}
+
+/// A length of an item: its number, and how many bytes it is written in.
+#[derive(Clone, Copy)]
+pub(crate) struct Prefix {
+    pub(crate) len: u32,
+    pub(crate) width: usize,
+}
+
+/// The compressed length at the front (II.23.2).
+#[tactic(auto, unfolding(crate::specs::Heaps::prefix_of))]
+fn prefix_of(bytes: &[u8]) -> Option<Prefix>
+    ensures value { result ≡ prefix_of bytes.now }
+    ensures written { IfSome result (λ front. 1 ≤ front.width) }
+    ensures short { IfSome result (λ front. front.width ≤ 4) }
+{
+    let first = *bytes.first()?;
+    if first < 0x80 {
+        let len = u32::from(first);
+        return Some(Prefix { len, width: 1 });
+    }
+    if first < 0xc0 {
+        if bytes.len() < 2 {
+            return None;
+        }
+        let len = u32::from(BigEndian::read_u16(bytes) & 0x3fff);
+        return Some(Prefix { len, width: 2 });
+    }
+    if first < 0xe0 {
+        if bytes.len() < 4 {
+            return None;
+        }
+        let len = BigEndian::read_u32(bytes) & 0x1fff_ffff;
+        return Some(Prefix { len, width: 4 });
+    }
+    None
+}
+
+/// The length at the front of an item that is there as a whole.
+#[tactic(auto, unfolding(crate::specs::Heaps::whole_prefix))]
+pub(crate) fn whole_prefix(bytes: &[u8]) -> Option<Prefix>
+    ensures value { result ≡ whole_prefix bytes.now }
+    ensures whole { IfSome result (λ front. front.width + front.len ≤ length bytes.now) }
+    ensures written { IfSome result (λ front. 1 ≤ front.width) }
+    ensures short { IfSome result (λ front. front.width ≤ 4) }
+{
+    let front = prefix_of(bytes)?;
+    if front.width + front.len as usize <= bytes.len() {
+        Some(front)
+    } else {
+        None
+    }
+}
+
+/// The item at the front: as many bytes as its length says.
+#[tactic(auto, unfolding(crate::specs::Heaps::item_of))]
+pub(crate) fn item_of(bytes: &[u8]) -> Option<&[u8]>
+    ensures { option_map (λ item. item.now) result ≡ item_of bytes.now }
+{
+    let front = whole_prefix(bytes)?;
+    Some(&bytes[front.width..front.width + front.len as usize])
+}

@@ -1,0 +1,17 @@
+//! The tables and the heaps of metadata (ECMA-335 II.22 and II.24.2). Nothing here takes memory.
+#![tactic(auto)]
+
+mod fault;
+mod fields;
+mod heaps;
+mod layout;
+mod root;
+mod schema;
+mod tables;
+#[cfg(test)]
+mod tests;
+mod width;
+
+pub use fault::TableFault;
+pub use schema::{CodedIndex, Column, TABLES, columns};
+pub use tables::Tables;

@@ -1,0 +1,160 @@
+//! Metadata as read: rows, cells and the items of heaps.
+
+ghost use Rattle.std.specs.Prelude.{◌≡◌, ℕ, ◌+◌, ◌<◌, ◌≤◌, ◌↔◌, List, length, None, Some, IsOk, IfOk, IfErr, IfSome, is_some, option_map, drop};
+ghost use Rattle.metadata_tables.specs.Heaps.{string_at, blob_at, blob_offset, user_string_at, StandsAt};
+ghost use Rattle.metadata_tables.specs.Layout.{row_count, cell_at, cell};
+ghost use Rattle.metadata_tables.specs.Root.{bytes_of};
+ghost use Rattle.metadata_tables.specs.Schema.{columns_of};
+ghost use Rattle.metadata_tables.specs.TableTests.{first_table_fault};
+
+use crate::fault::TableFault;
+use crate::heaps::{item_of, whole_prefix, zero_ended};
+use crate::layout::{Layout, read_layout};
+use crate::root::{Stream, read_streams};
+use crate::schema::columns;
+use crate::width::{column_width, columns_width, count_of};
+use cc_base::{u16_at, u32_at};
+use std::marker::Model;
+
+/// Metadata whose root, streams and tables are in order. Contracts see its bytes.
+#[derive(Drop)]
+pub struct Tables<'a> {
+    md: &'a [u8],
+    strings: &'a [u8],
+    blob: &'a [u8],
+    /// Where the heap `#Blob` begins.
+    blob_at: u32,
+    user_strings: &'a [u8],
+    layout: Layout,
+}
+
+impl<'a> Model for Tables<'a> {
+    ghost use Rattle.std.specs.Prelude.{ℕ, List};
+
+    ghost Value = { List ℕ };
+
+    ghost use Rattle.metadata_tables.specs.Placed.{ArePartsOf};
+
+    ghost view = { λ t. t.md.now };
+
+    ghost invariant = { λ t. ArePartsOf t.md.now t.strings.now t.blob.now t.blob_at t.user_strings.now t.layout };
+}
+
+/// The bytes of a stream.
+fn bytes_of(md: &[u8], stream: Stream) -> &[u8]
+    requires { stream.at + stream.size ≤ length md.now }
+    ensures { result.now ≡ bytes_of md.now (Some stream) }
+{
+    let start = stream.at as usize;
+    &md[start..start + stream.size as usize]
+}
+
+/// The bytes from a place on, none past the end.
+fn rest_from(bytes: &[u8], index: u32) -> &[u8]
+    ensures { result.now ≡ drop index bytes.now }
+{
+    let index = index as usize;
+    if index < bytes.len() {
+        &bytes[index..]
+    } else {
+        &[]
+    }
+}
+
+impl<'a> Tables<'a> {
+    /// Reads metadata: its root and streams, and where the rows of its tables stand. An error is the
+    /// first fault in the order of reading.
+    pub fn read(md: &'a [u8]) -> Result<Tables<'a>, TableFault>
+        requires { length md.now ≤ 2147483647 }
+        ensures value { IfOk result (λ tables. tables ≡ md.now) }
+        ensures ok { IsOk result ↔ (first_table_fault md.now ≡ None) }
+        ensures err { IfErr result (λ fault. first_table_fault md.now ≡ Some fault) }
+    {
+        let streams = read_streams(md)?;
+        let layout = read_layout(md, streams.tables)?;
+        let user_strings = match streams.user_strings {
+            Some(stream) => bytes_of(md, stream),
+            None => &[],
+        };
+        Ok(Tables {
+            md,
+            strings: bytes_of(md, streams.strings),
+            blob: bytes_of(md, streams.blob),
+            blob_at: streams.blob.at,
+            user_strings,
+            layout,
+        })
+    }
+
+    /// How many rows a table has, 0 where there is no such table.
+    pub fn row_count(&self, table: u8) -> u32
+        ensures { result ≡ row_count self.now table }
+    {
+        count_of(&self.layout.counts, table)
+    }
+
+    /// Where a cell stands in the metadata. Rows are counted from 1, columns from 0.
+    pub fn cell_at(&self, table: u8, row: u32, column: u8) -> u32
+        requires first { 1 ≤ row }
+        requires last { row ≤ row_count self.now table }
+        requires column { column < length (columns_of table) }
+        ensures place { result ≡ cell_at self.now table row column }
+        ensures within { result < length self.now }
+    {
+        let layout = &self.layout;
+        let before = &columns(table)[..usize::from(column)];
+        count_of(&layout.bases, table)
+            + (row - 1) * count_of(&layout.widths, table)
+            + columns_width(&layout.counts, layout.heap_sizes, before)
+    }
+
+    /// The number in a cell. Rows are counted from 1, columns from 0.
+    pub fn cell(&self, table: u8, row: u32, column: u8) -> u32
+        requires first { 1 ≤ row }
+        requires last { row ≤ row_count self.now table }
+        requires column { column < length (columns_of table) }
+        ensures { result ≡ cell self.now table row column }
+    {
+        let at = self.cell_at(table, row, column) as usize;
+        let layout = &self.layout;
+        let kind = columns(table)[usize::from(column)];
+        if column_width(&layout.counts, layout.heap_sizes, kind) == 4 {
+            u32_at(self.md, at)
+        } else {
+            u32::from(u16_at(self.md, at))
+        }
+    }
+
+    /// The text at a place of the heap `#Strings`, none where no zero ends it.
+    pub fn string_at(&self, index: u32) -> Option<&'a [u8]>
+        ensures { option_map (λ text. text.now) result ≡ string_at self.now index }
+    {
+        zero_ended(rest_from(self.strings, index))
+    }
+
+    /// The item at a place of the heap `#Blob`, none where it is not there as a whole.
+    pub fn blob_at(&self, index: u32) -> Option<&'a [u8]>
+        ensures { option_map (λ item. item.now) result ≡ blob_at self.now index }
+    {
+        item_of(rest_from(self.blob, index))
+    }
+
+    /// Where the bytes of the item at a place of the heap `#Blob` stand in the metadata.
+    pub fn blob_offset(&self, index: u32) -> Option<u32>
+        ensures place { result ≡ blob_offset self.now index }
+        ensures lent { is_some result ≡ is_some (blob_at self.now index) }
+        ensures stands { IfSome result
+            (λ at. IfSome (blob_at self.now index) (λ item. StandsAt self.now at item)) }
+        ensures within { IfSome result (λ at. at ≤ length self.now) }
+    {
+        let front = whole_prefix(rest_from(self.blob, index))?;
+        Some(self.blob_at + index + front.width as u32)
+    }
+
+    /// The item at a place of the heap `#US`, none where it is not there as a whole.
+    pub fn user_string_at(&self, index: u32) -> Option<&'a [u8]>
+        ensures { option_map (λ item. item.now) result ≡ user_string_at self.now index }
+    {
+        item_of(rest_from(self.user_strings, index))
+    }
+}
