@@ -1,4 +1,4 @@
-//! The greatest unit file and the longest code that are read, and the next.
+//! The most instructions that a unit may have, and one more.
 
 use crate::devices::{Answer, Devices, joined};
 use std::test::Fail;
@@ -31,18 +31,6 @@ const CODES: [(usize, &[u8], Answer<'_>); 2] = [
     ),
 ];
 
-/// Sizes of files whose bytes are all 0, and what is written of each.
-const FILES: [(usize, &[u8]); 2] = [
-    (
-        67_108_864,
-        b"cccheck: refused u.bin: unit form at 00000000\n",
-    ),
-    (
-        67_108_865,
-        b"cccheck: refused u.bin: file too large at 04000000\n",
-    ),
-];
-
 #[test]
 fn code_has_at_most_4096_instructions(rt: HostRuntime) -> Result<(), Fail> {
     let alloc = rt.alloc();
@@ -50,21 +38,6 @@ fn code_has_at_most_4096_instructions(rt: HostRuntime) -> Result<(), Fail> {
         let nops = vec![in alloc; 0; nops]?;
         let file = joined(alloc, &[HEAD, length, &nops, TAIL])?;
         let mut devices = Devices::with_unit(alloc, &file)?;
-        devices.assert_answer(&rt, alloc, &["unit", "u.bin"], want)?;
-    }
-    Ok(())
-}
-
-#[test]
-fn a_file_has_at_most_67108864_bytes(rt: HostRuntime) -> Result<(), Fail> {
-    let alloc = rt.alloc();
-    for (size, line) in FILES {
-        let want = Answer {
-            status: 5,
-            out: b"",
-            err: line,
-        };
-        let mut devices = Devices::with_unit(alloc, &vec![in alloc; 0; size]?)?;
         devices.assert_answer(&rt, alloc, &["unit", "u.bin"], want)?;
     }
     Ok(())
