@@ -1,0 +1,15 @@
+//! What the program answers, as tables of words, files and devices. There is nothing here but tests.
+#![tactic(auto)]
+
+#[cfg(test)]
+mod devices;
+#[cfg(test)]
+mod failing_devices;
+#[cfg(test)]
+mod limits;
+#[cfg(test)]
+mod unit_refusals;
+#[cfg(test)]
+mod unit_reports;
+#[cfg(test)]
+mod word_lists;

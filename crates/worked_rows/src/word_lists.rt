@@ -1,0 +1,70 @@
+//! Words that are no command, and names of files that are not there.
+
+use crate::devices::{Answer, Devices};
+use check_driver::{Command, parse_words};
+use std::test::Fail;
+
+const USAGE: &[u8] =
+    b"cccheck: usage: check FILE.. [--cache F] [--show] | run FILE METHOD ARG.. [--steps N] | list FILE | il FILE METHOD | unit FILE | gen SEED COUNT\n";
+
+/// Word lists that are no command.
+const NO_COMMANDS: [&[&str]; 11] = [
+    &[],
+    &["unit"],
+    &["unit", "a", "b"],
+    &["unit", "-x"],
+    &["unit", ""],
+    &["Unit", "u.bin"],
+    &["check"],
+    &["check", "a.dll", "--show", "--show"],
+    &["check", "--cache", "F"],
+    &["gen", "7", "0"],
+    &["run", "a.dll", "M", "--steps", "03"],
+];
+
+/// Names of missing files, and what is written of each.
+const MISSING: [(&str, &[u8]); 4] = [
+    ("u.bin", b"cccheck: missing file u.bin\n"),
+    ("a b\\c", b"cccheck: missing file a\\20b\\5cc\n"),
+    ("!~\u{e9}", b"cccheck: missing file !~\\c3\\a9\n"),
+    ("\n\u{7f}", b"cccheck: missing file \\0a\\7f\n"),
+];
+
+#[test]
+fn words_that_are_no_command_are_told_the_usage(rt: HostRuntime) -> Result<(), Fail> {
+    let alloc = rt.alloc();
+    for words in NO_COMMANDS {
+        let want = Answer {
+            status: 2,
+            out: b"",
+            err: USAGE,
+        };
+        Devices::new(alloc).assert_answer(&rt, alloc, words, want)?;
+    }
+    Ok(())
+}
+
+#[test]
+fn a_missing_file_is_named(rt: HostRuntime) -> Result<(), Fail> {
+    let alloc = rt.alloc();
+    for (name, line) in MISSING {
+        let want = Answer {
+            status: 3,
+            out: b"",
+            err: line,
+        };
+        Devices::new(alloc).assert_answer(&rt, alloc, &["unit", name], want)?;
+    }
+    Ok(())
+}
+
+#[test]
+fn a_command_names_its_file_by_place(rt: HostRuntime) -> Result<(), Fail> {
+    let alloc = rt.alloc();
+    let words = vec![in alloc;
+        String::from_str(alloc, "unit")?,
+        String::from_str(alloc, "u.bin")?,
+    ]?;
+    assert_eq!(rt; parse_words(&words), Some(Command::Unit(1)));
+    Ok(())
+}
