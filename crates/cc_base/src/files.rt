@@ -24,7 +24,7 @@ pub enum ReadRefusal {
 /// Why a file was not replaced.
 #[derive(Clone, Copy, Debug, PartialEq, Eq)]
 pub enum ReplaceRefusal {
-    /// A device refused. The name holds what it held, or the new bytes.
+    /// A device refused, before or after the new bytes took the name.
     Failed,
     /// Memory ran out, and nothing changed.
     NoMemory,
