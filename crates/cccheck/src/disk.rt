@@ -55,12 +55,7 @@ fn read_cut(alloc: Global, rt: &impl fs::Files, name: &str) -> io::Result<Vec<u8
 }
 
 /// Writes the bytes under a name, in a file of their own that then takes the name.
-fn write_beside(
-    alloc: Global,
-    rt: &impl fs::Files,
-    name: &str,
-    bytes: &[u8],
-) -> io::Result<()> {
+fn write_beside(alloc: Global, rt: &impl fs::Files, name: &str, bytes: &[u8]) -> io::Result<()> {
     let beside = format!(in alloc; "{name}.new")?;
     fs::write(rt, beside.as_str(), bytes)?;
     fs::rename(rt, beside.as_str(), name)

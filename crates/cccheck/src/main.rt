@@ -28,13 +28,7 @@ fn main(rt: HostRuntime) -> ExitCode {
     let mut out = Stream::new(rt.stdout());
     let mut err = Stream::new(rt.stderr());
     match words(&rt) {
-        Ok(words) => ExitCode::from(run_words(
-            rt.alloc(),
-            &words,
-            &mut files,
-            &mut out,
-            &mut err,
-        )),
+        Ok(words) => ExitCode::from(run_words(rt.alloc(), &words, &mut files, &mut out, &mut err)),
         Err(_) => ExitCode::from(7),
     }
 }
