@@ -1,6 +1,9 @@
-//! What the program answers, as tables of words, files and devices. There is nothing here but tests.
+//! What the program answers, as tables of words, files and devices, and what is read of an assembly. There
+//! is nothing here but tests.
 #![tactic(auto)]
 
+#[cfg(test)]
+mod assembly;
 #[cfg(test)]
 mod devices;
 #[cfg(test)]
