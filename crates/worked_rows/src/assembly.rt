@@ -103,7 +103,9 @@ fn an_image_has_its_metadata(rt: HostRuntime) -> Result<(), Fail> {
 #[tactic(auto, unfolding(metadata_tables::specs::Schema::columns_of))]
 fn methods_have_their_names(rt: HostRuntime) -> Result<(), Fail> {
     let image = Image::read(&ASSEMBLY)?;
-    let tables = Tables::read(image.metadata())?;
+    let metadata = image.metadata();
+    assert!(rt; metadata.len() == 0x218);
+    let tables = Tables::read(metadata)?;
     assert!(rt; tables.row_count(METHOD_DEF) == 2);
     let names = [
         tables.string_at(tables.cell(METHOD_DEF, 1, 3)),
