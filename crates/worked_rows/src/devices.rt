@@ -40,7 +40,8 @@ impl Devices {
 
     /// Calls the program with these words, and asserts its answer.
     ///
-    /// Where memory ran out, what was written is still asserted: a front of the answer's text.
+    /// The sinks are to be empty. Where memory ran out, what was written is still asserted: a front of the
+    /// answer's text, and of the line that tells it.
     pub fn assert_answer(
         &mut self,
         rt: &impl Abort,

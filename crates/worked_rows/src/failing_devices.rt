@@ -29,14 +29,11 @@ fn a_read_fails_and_the_next_succeeds(rt: HostRuntime) -> Result<(), Fail> {
     let alloc = rt.alloc();
     let mut devices = Devices::with_unit(alloc, UNIT)?;
     devices.files.fail_reads.push(1)?;
-    for (status, out) in [(4, b"".as_slice()), (0, REPORT)] {
-        let want = Answer {
-            status,
-            out,
-            err: UNREAD,
-        };
+    for (status, out, err) in [(4, b"".as_slice(), UNREAD), (0, REPORT, b"")] {
+        let want = Answer { status, out, err };
         devices.assert_answer(&rt, alloc, &["unit", "u.bin"], want)?;
         assert_eq!(rt; devices.files.get("u.bin"), Some(UNIT));
+        devices.err.bytes.clear();
     }
     Ok(())
 }
