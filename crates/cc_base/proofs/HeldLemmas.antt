@@ -9,8 +9,7 @@ use Rattle.std.proofs.Math.Nat.{min_comm}
 use Rattle.std.specs.Option.{ForSome}
 use Rattle.std.specs.List.{position_or_len}
 use Rattle.cc_base.specs.declared.map_files.NamedFile.{NamedFile}
-use Rattle.cc_base.specs.declared.files.TheConstants.{READ_LIMIT}
-use Rattle.cc_base.specs.Files.{Held, IsRead, Replaces}
+use Rattle.cc_base.specs.Files.{Held, IsRead, READ_LIMIT, Replaces}
 use Rattle.cc_base.specs.MapFiles.{is_named, held_in}
 
 -- A file of the name has that name, and a file with it is of the name.

@@ -1,6 +1,9 @@
 -- What files hold, and what a read and a replacement do to it.
 use Rattle.std.specs.Prelude.{◌≡◌, ◌≢◌, ℕ, List, Option, Some, None, take, option_map}
-use Rattle.cc_base.specs.declared.files.TheConstants.{READ_LIMIT}
+
+-- The most bytes that a read gives: one more than the largest file that is accepted.
+abbrev pub READ_LIMIT : ℕ
+READ_LIMIT = 67_108_865
 
 -- The bytes under each name that is held.
 abbrev pub Held : Type 0

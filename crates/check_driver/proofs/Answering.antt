@@ -5,8 +5,7 @@ use Rattle.std.specs.String.{string_bytes}
 use Rattle.std.specs.Option.{ForSome}
 use Rattle.std.proofs.lemmas.Bool.{cases_lt, le-leb}
 use Rattle.std.proofs.lemmas.List.{take_all}
-use Rattle.cc_base.specs.Files.{Held, IsRead}
-use Rattle.cc_base.specs.declared.files.TheConstants.{READ_LIMIT}
+use Rattle.cc_base.specs.Files.{Held, IsRead, READ_LIMIT}
 use Rattle.check_driver.specs.Expected.{USAGE, error_answer, refused_line, AreTold, IsUnder, expected, unit_file_answer, bytes_answer, word_at, file_of}
 use Rattle.check_driver.specs.Outcome.{GivesOrUnread}
 use Rattle.check_driver.specs.Words.{command_of, file_place}

@@ -7,7 +7,7 @@ use Rattle.byteorder.specs.Endian.{little_bytes}
 use Rattle.cc_base.specs.LittleEndian.{u16_at, u32_at}
 use Rattle.cc_base.proofs.ByteLemmas.{length-little_bytes}
 use Rattle.check_driver.specs.UnitFile.{NAME_AT, name_length, result_at, args_at, arg_count, locals_at, max_stack_at, max_stack, callees_at, code_length_at, code_length, code_at, name_of, code_of, magic_fault, is_printable, unprintable, name_fault, result_fault, arg_fault, arg_faults, args_fault, locals_fault, max_stack_fault, callees_fault, code_fault}
-use Rattle.check_driver.specs.declared.unit_fields.TheConstants.{MAX_VARIABLES, MAX_CODE}
+use Rattle.check_driver.specs.UnitFile.{MAX_VARIABLES, MAX_CODE}
 use Rattle.check_driver.proofs.Faultless.{none_otherwise, none_fails, none_short, number_is, none_place}
 use Rattle.check_driver.proofs.Stands.{StandsAt, stands_length, stands_next, stands_take, stands_byte, stands_more, stands_u16, stands_u32}
 

@@ -7,7 +7,7 @@ use Rattle.byteorder.specs.Endian.{little_bytes}
 use Rattle.cc_base.specs.LittleEndian.{IsBytes}
 use Rattle.cc_base.proofs.NumberLemmas.{u16_at-lt}
 use Rattle.check_driver.specs.UnitFile.{NAME_AT, name_length, result_at, args_at, arg_count, locals_at, max_stack_at, max_stack, callees_at, code_length_at, code_length, code_at, name_of, code_of, magic_fault, is_printable, unprintable, name_fault, result_fault, arg_fault, arg_faults, args_fault, locals_fault, max_stack_fault, callees_fault, code_fault}
-use Rattle.check_driver.specs.declared.unit_fields.TheConstants.{MAX_VARIABLES, MAX_CODE}
+use Rattle.check_driver.specs.UnitFile.{MAX_VARIABLES, MAX_CODE}
 use Rattle.check_driver.proofs.Faultless.{otherwise_none, fails_none, short_none, is_number, place_none}
 use Rattle.check_driver.proofs.Stands.{byte_stands, text_stands, u16_stands, u32_stands}
 

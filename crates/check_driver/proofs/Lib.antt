@@ -8,6 +8,7 @@ pub mod FieldsTaken
 pub mod Following
 pub mod Instructions
 pub mod Judging
+pub mod Leaving
 pub mod PrintedSafe
 pub mod RangeSoundness
 pub mod RangeSums
@@ -22,5 +23,5 @@ pub mod Typed
 pub mod UnitAgain
 pub mod UnitBytes
 pub mod UnitTaken
+pub mod UnsafeUnit
 pub mod Writings
-pub mod Leaving

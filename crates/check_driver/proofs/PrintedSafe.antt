@@ -3,9 +3,8 @@ use Rattle.std.proofs.Common.{◌≡◌, ℕ, Bool, true, false, List, [], ◌�
 use Rattle.std.specs.List.{flat_map}
 use Rattle.std.proofs.lemmas.List.{append_cancel_left}
 use Rattle.std.proofs.lemmas.Option.{same_Some}
-use Rattle.cc_base.specs.Files.{Held}
+use Rattle.cc_base.specs.Files.{Held, READ_LIMIT}
 use Rattle.cc_base.specs.Sink.{appended, IsFront, AppendsFront}
-use Rattle.cc_base.specs.declared.files.TheConstants.{READ_LIMIT}
 use Rattle.cc_base.proofs.SinkLemmas.{IsFront-trans}
 use Rattle.cil_model.specs.declared.unit.Unit.{Unit as MethodUnit}
 use Rattle.check_driver.specs.Expected.{Answer, expected, command_answer, unit_file_answer, bytes_answer, unit_answer, word_at}

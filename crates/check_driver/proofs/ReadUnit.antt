@@ -12,7 +12,7 @@ use Rattle.check_driver.specs.declared.unit_fault.UnitFault.{UnitFault}
 use Rattle.check_driver.specs.declared.unit_fault.UnitRefusal.{UnitRefusal}
 use Rattle.check_driver.specs.declared.unit_fault.UnitRefusal.TheVariants as refusals
 use Rattle.check_driver.specs.declared.unit_fields.Fields.{Fields}
-use Rattle.check_driver.specs.declared.unit_instructions.TheConstants.{MAX_INSTRUCTIONS}
+use Rattle.check_driver.specs.UnitFile.{MAX_INSTRUCTIONS}
 use Rattle.check_driver.proofs.UnitTaken.{unit_taken}
 use Rattle.check_driver.proofs.UnitAgain.{unit_again}
 

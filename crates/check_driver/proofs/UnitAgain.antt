@@ -7,8 +7,8 @@ use Rattle.cil_model.specs.declared.place.Place.TheVariants as places
 use Rattle.cil_model.specs.declared.unit.Unit.{Unit as MethodUnit}
 use Rattle.check_driver.specs.UnitFile.{is_printable, arg_count, max_stack, name_of, code_at, code_of, field_fault, instructions_of, instructions_fault, or_none, first_unit_fault, unit_of}
 use Rattle.check_driver.specs.UnitSpelling.{place_code, unit_bytes, IsBuilt}
-use Rattle.check_driver.specs.declared.unit_fields.TheConstants.{MAX_VARIABLES, MAX_CODE}
-use Rattle.check_driver.specs.declared.unit_instructions.TheConstants.{MAX_INSTRUCTIONS}
+use Rattle.check_driver.specs.UnitFile.{MAX_VARIABLES, MAX_CODE}
+use Rattle.check_driver.specs.UnitFile.{MAX_INSTRUCTIONS}
 use Rattle.check_driver.proofs.Faultless.{none_otherwise}
 use Rattle.check_driver.proofs.Stands.{StandsAt}
 use Rattle.check_driver.proofs.Typed.{none_typing, none_limit}

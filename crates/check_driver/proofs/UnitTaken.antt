@@ -12,8 +12,8 @@ use Rattle.check_driver.specs.UnitFile.{arg_count, max_stack, name_of, code_at, 
 use Rattle.check_driver.specs.UnitSpelling.{place_code, unit_bytes, IsBuilt}
 use Rattle.check_driver.specs.Typing.{is_typed}
 use Rattle.check_driver.specs.declared.unit_fault.UnitFault.{UnitFault}
-use Rattle.check_driver.specs.declared.unit_fields.TheConstants.{MAX_VARIABLES}
-use Rattle.check_driver.specs.declared.unit_instructions.TheConstants.{MAX_INSTRUCTIONS}
+use Rattle.check_driver.specs.UnitFile.{MAX_VARIABLES}
+use Rattle.check_driver.specs.UnitFile.{MAX_INSTRUCTIONS}
 use Rattle.check_driver.proofs.Faultless.{otherwise_none}
 use Rattle.check_driver.proofs.Typed.{typing_none, limit_none}
 use Rattle.check_driver.proofs.Sequence.{CallsAssert, instructions_spell}

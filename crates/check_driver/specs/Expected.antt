@@ -2,8 +2,7 @@
 use Rattle.std.specs.Prelude.{◌≡◌, ℕ, Bool, List, [], ◌++◌, length, Option, Some, None, nat_le, if◌then◌else◌, codes, slice_index_or}
 use Rattle.std.specs.Option.{ForSome}
 use Rattle.cc_base.specs.Digits.{hex}
-use Rattle.cc_base.specs.Files.{Held}
-use Rattle.cc_base.specs.declared.files.TheConstants.{READ_LIMIT}
+use Rattle.cc_base.specs.Files.{Held, READ_LIMIT}
 use Rattle.check_driver.specs.Text.{escaped, unit_report}
 use Rattle.check_driver.specs.UnitFile.{first_unit_fault, unit_of}
 use Rattle.check_driver.specs.Verdicts.{verdicts, all_proved}

@@ -1,5 +1,5 @@
 -- The typing of a unit's code up to its first return: every operand is there, the stack stays within its
--- size, arguments are there, and the return finds the result alone (ECMA-335 III.1.7.2).
+-- size, arguments are there, and the return finds the result alone (ECMA-335 III.1.7.4 and III.1.8.1).
 use Rattle.std.specs.Prelude.{ℕ, ◌+◌, ◌-◌, Bool, true, false, not, ◌||◌, ◌&&◌, List, [], ◌∷◌, Option, Some, ◌==◌, nat_lt, if◌then◌else◌}
 use Rattle.cil_model.specs.declared.instruction.Instr.{Instr}
 use Rattle.cil_model.specs.declared.instruction.Op.{Op}

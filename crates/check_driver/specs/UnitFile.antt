@@ -15,10 +15,22 @@ use Rattle.il_decoder.specs.declared.fault.IlRefusal.TheVariants as il_refusals
 use Rattle.check_driver.specs.Faults.{◌otherwise◌, fails}
 use Rattle.check_driver.specs.Typing.{typing_fault}
 use Rattle.check_driver.specs.declared.unit_fields.Fields.{Fields}
-use Rattle.check_driver.specs.declared.unit_fields.TheConstants.{MAX_VARIABLES, MAX_CODE}
-use Rattle.check_driver.specs.declared.unit_instructions.TheConstants.{MAX_INSTRUCTIONS}
 use Rattle.check_driver.specs.declared.unit_fault.UnitFault.{UnitFault}
 use Rattle.check_driver.specs.declared.unit_fault.UnitFault.TheVariants.{Short, Form, Version, NotBuilt}
+
+-- ---- limits
+
+-- The most arguments, locals and stack slots of a method together.
+abbrev pub MAX_VARIABLES : ℕ
+MAX_VARIABLES = 128
+
+-- The most bytes of a method's code.
+abbrev pub MAX_CODE : ℕ
+MAX_CODE = 65_536
+
+-- The most instructions of a method.
+abbrev pub MAX_INSTRUCTIONS : ℕ
+MAX_INSTRUCTIONS = 4096
 
 -- ---- where the fields stand
 

@@ -9,9 +9,7 @@ use Rattle.cil_model.specs.declared.unit.Unit.{Unit as MethodUnit}
 use Rattle.check_driver.specs.Typing.{is_typed}
 use Rattle.check_driver.specs.declared.unit_fault.UnitRefusal.{UnitRefusal}
 use Rattle.check_driver.specs.declared.unit_fault.UnitRefusal.TheVariants as refusals
-use Rattle.check_driver.specs.UnitFile.{is_printable, is_other_call, first_unit_fault, unit_of}
-use Rattle.check_driver.specs.declared.unit_fields.TheConstants.{MAX_VARIABLES, MAX_CODE}
-use Rattle.check_driver.specs.declared.unit_instructions.TheConstants.{MAX_INSTRUCTIONS}
+use Rattle.check_driver.specs.UnitFile.{MAX_VARIABLES, MAX_CODE, MAX_INSTRUCTIONS, is_printable, is_other_call, first_unit_fault, unit_of}
 
 -- The byte that stands for a place.
 abbrev pub place_code : Place → ℕ

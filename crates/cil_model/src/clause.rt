@@ -19,7 +19,7 @@ pub struct Clause {
 
 /// The operators of one number.
 #[derive(Clone, Copy, Debug, PartialEq, Eq)]
-pub enum UnaryOp {
+pub enum UnOp {
     Neg,
     Not,
 }
@@ -36,7 +36,7 @@ pub enum Tree {
     /// Of an array of this place, at this index.
     Elem(Place, Box<Tree>, Box<Tree>),
     Bin(BinOp, Box<Tree>, Box<Tree>),
-    Un(UnaryOp, Box<Tree>),
+    Un(UnOp, Box<Tree>),
     /// The value that the tree had at entry.
     Old(Box<Tree>),
     /// The second tree where the first is true, else the third.

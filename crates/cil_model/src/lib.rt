@@ -9,7 +9,7 @@ mod machine;
 mod place;
 mod unit;
 
-pub use clause::{Clause, ClauseKind, Tree, UnaryOp};
+pub use clause::{Clause, ClauseKind, Tree, UnOp};
 pub use instruction::{BinOp, CmpOp, Instr, Op, Targets, Test};
 pub use list::List;
 pub use machine::{ArrayCell, Config, FaultKind, Frame, Obligation, Value, World};

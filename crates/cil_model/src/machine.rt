@@ -30,7 +30,7 @@ pub struct Frame {
     pub unit: u32,
     /// The IL offset of the next instruction.
     pub at: u32,
-    /// The last value is the top.
+    /// The first value is the top.
     pub stack: List<Value>,
     pub locals: List<Value>,
     pub args: List<Value>,

@@ -1,5 +1,5 @@
 use Rattle.std.proofs.lemmas.Result.{IfOk-weaker}
-use Rattle.cc_base.specs.declared.files.TheConstants.{READ_LIMIT}
+use Rattle.cc_base.specs.Files.{READ_LIMIT}
 use Rattle.cc_base.proofs.HeldLemmas.{take_cut}
 use Rattle.cc_base.proofs.map_files.first_bytes.Goals as goal
 
