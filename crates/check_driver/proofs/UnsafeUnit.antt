@@ -55,8 +55,15 @@ step3 : LocalStep unit (live 4 (values.Int (pos 0) ∷ [])) (configs.Fault Asser
 step3 = (instr 4 5 (ops.Call 5), refl, (Faults Assert, inl refl, refl))
 
 runs : LocalRuns unit (live 0 []) 4 (configs.Fault Assert 0 4)
-runs = (live 4 (values.Int (pos 0) ∷ []), (live 2 (values.Int (pos 1) ∷ values.Int (pos 0) ∷ []),
-    (live 1 (values.Int (pos 0) ∷ []), (live 0 [], refl, step0), step1), step2), step3)
+runs = (
+  live 4 (values.Int (pos 0) ∷ []),
+  (
+    live 2 (values.Int (pos 1) ∷ values.Int (pos 0) ∷ []),
+    (live 1 (values.Int (pos 0) ∷ []), (live 0 [], refl, step0), step1),
+    step2,
+  ),
+  step3,
+)
 
 pub unit_is_not_safe : LocalSafe unit → ⊥
 unit_is_not_safe safe = (safe [] (frame 0 []) tt entry 4 (configs.Fault Assert 0 4) runs).0
