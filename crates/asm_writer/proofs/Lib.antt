@@ -1,0 +1,4 @@
+pub mod Rounding
+pub mod Capped
+pub mod Loops
+pub mod Parts
