@@ -2,3 +2,4 @@ pub mod Rounding
 pub mod Capped
 pub mod Loops
 pub mod Parts
+pub mod Lengths

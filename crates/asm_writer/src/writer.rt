@@ -94,9 +94,10 @@ fn append_file(out: &mut Vec<u8>, layout: &Layout, plan: &AsmPlan) -> Result<(),
 
 /// The bytes of the plan's assembly. `TooLarge` comes exactly where the file would have more than
 /// `MAX_FILE` bytes or a method passes `MAX_CODE` or `MAX_VARIABLES`.
-#[tactic(auto, unfolding(crate::specs::Assembly::assembly_bytes, crate::specs::Sizes::fits))]
+#[tactic(auto, using(crate::proofs::Lengths::length_assembly), unfolding(crate::specs::Assembly::assembly_bytes, crate::specs::Sizes::fits))]
 pub fn write_assembly(alloc: Global, plan: &AsmPlan) -> Result<Vec<u8>, WriteRefusal>
     ensures written { IfOk result (λ file. file.items ≡ assembly_bytes plan.now) }
+    ensures size { IfOk result (λ file. length file.items ≡ file_size plan.now) }
     ensures fits { IfOk result (λ file. IsTrue (fits plan.now)) }
     ensures too_large { IsErrOf result WriteRefusal.TooLarge → IsFalse (fits plan.now) }
 {
