@@ -1,10 +1,9 @@
 -- How many bytes the parts have.
-use Rattle.std.proofs.Common.{◌≡◌, ℕ, zero, suc, ◌+◌, ◌-◌, ◌*◌, ◌<◌, ◌≤◌, List, [], ◌∷◌, ◌++◌, length, Bool, true, false, refl, sym, ap, if◌then◌else◌, ◌∙◌, arith, replicate, codes, ◌==◌}
+use Rattle.std.proofs.Common.{◌≡◌, ℕ, suc, ◌+◌, ◌-◌, ◌*◌, ◌≤◌, List, [], ◌∷◌, ◌++◌, length, Bool, true, false, refl, sym, if◌then◌else◌, ◌∙◌, arith, codes, ◌==◌}
 use Rattle.std.specs.List.{flat_map, sum_by, count_by}
 use Rattle.std.proofs.lemmas.List.{length-append, length-replicate}
 use Rattle.std.proofs.lemmas.List.Sums.{sum_by-cons}
-use Rattle.asm_writer.specs.declared.field.Field.{Field}
-use Rattle.asm_writer.specs.declared.field.Field.TheVariants.{Zeros, Two, Four}
+use Rattle.asm_writer.specs.declared.field.Field.TheVariants.{Zeros, Four}
 use Rattle.asm_writer.specs.declared.layout.Layout.{Layout}
 use Rattle.asm_writer.specs.declared.layout.Widths.{Widths}
 use Rattle.asm_writer.specs.declared.plan.AsmPlan.{AsmPlan}
@@ -14,9 +13,9 @@ use Rattle.asm_writer.specs.Bodies.{row_after, body, bodies_from}
 use Rattle.asm_writer.specs.Fields.{fields_bytes}
 use Rattle.asm_writer.specs.Headers.{dos_fields, file_fields, optional_fields, headers, cli_header}
 use Rattle.asm_writer.specs.Heaps.{zero_ended, common_names, method_name, strings_heap, user_strings, guids, common_blobs, blob_heap}
-use Rattle.asm_writer.specs.Rows.{module_at, namespace_at, first_rows, last_rows, method_row, method_rows, member_ref_rows, local_row, local_rows, rows, count, method_names_at, tables_fields, tables_header, tables}
-use Rattle.asm_writer.specs.Signatures.{method_blobs, signature_blob}
-use Rattle.asm_writer.specs.Sizes.{body_size, name_size, blobs_size, has_items, has_locals, layout_of, names_size, strings_size, blob_heap_size, widths_of, indexes, rows_size, count_size, tables_used, tables_size, metadata_size, section_used, section_size, size_of, file_size}
+use Rattle.asm_writer.specs.Rows.{first_rows, last_rows, method_row, method_rows, member_ref_rows, local_row, local_rows, rows, count, method_names_at, tables_fields, tables_header, tables}
+use Rattle.asm_writer.specs.Signatures.{method_blobs}
+use Rattle.asm_writer.specs.Sizes.{body_size, name_size, blobs_size, has_locals, layout_of, names_size, strings_size, blob_heap_size, widths_of, indexes, rows_size, count_size, tables_used, tables_size, metadata_size, section_used, section_size, size_of, file_size}
 use Rattle.asm_writer.proofs.Rounding.{round_up_above}
 
 two_parts : (a b : List ℕ) (m n : ℕ) → length a ≡ m → length b ≡ n → length (a ++ b) ≡ m + n

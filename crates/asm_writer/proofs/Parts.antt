@@ -1,5 +1,5 @@
 -- No part is larger than the file.
-use Rattle.std.proofs.Common.{◌≡◌, ℕ, ◌+◌, ◌*◌, ◌<◌, ◌≤◌, Option, Some, None, IfNone, IsTrue, true, nat_le, if◌then◌else◌, arith}
+use Rattle.std.proofs.Common.{◌≡◌, ℕ, ◌+◌, ◌<◌, ◌≤◌, Option, Some, None, IfNone, IsTrue, true, nat_le, if◌then◌else◌, arith}
 use Rattle.asm_writer.specs.declared.layout.Layout.{Layout}
 use Rattle.asm_writer.specs.declared.plan.AsmPlan.{AsmPlan}
 use Rattle.asm_writer.specs.declared.plan.TheConstants.{MAX_FILE}

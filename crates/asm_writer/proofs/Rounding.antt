@@ -1,5 +1,5 @@
 -- Rounding up.
-use Rattle.std.proofs.Common.{◌≡◌, ℕ, zero, ◌+◌, ◌-◌, ◌*◌, ◌<◌, ◌≤◌, ◌/◌, arith}
+use Rattle.std.proofs.Common.{ℕ, zero, ◌+◌, ◌-◌, ◌*◌, ◌<◌, ◌≤◌, ◌/◌, arith}
 use Rattle.std.proofs.Math.Nat.{div-mul-le_self, lt-div-mul-add}
 use Rattle.asm_writer.specs.Sizes.{round_up}
 

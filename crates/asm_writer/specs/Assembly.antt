@@ -1,6 +1,5 @@
 -- The metadata with its root (ECMA-335 II.24.2.1 and II.24.2.2), and the whole file.
 use Rattle.std.specs.Prelude.{ℕ, ◌+◌, ◌-◌, List, [], ◌∷◌, ◌++◌, replicate, codes}
-use Rattle.asm_writer.specs.declared.field.Field.{Field}
 use Rattle.asm_writer.specs.declared.field.Field.TheVariants.{Zeros, Two, Four}
 use Rattle.asm_writer.specs.declared.layout.Layout.{Layout}
 use Rattle.asm_writer.specs.declared.layout.Widths.{Widths}

@@ -1,5 +1,5 @@
 -- The headers before the section, and the CLI header at its start (ECMA-335 II.25).
-use Rattle.std.specs.Prelude.{ℕ, ◌+◌, ◌-◌, List, [], ◌∷◌, ◌++◌, Bool, codes, if◌then◌else◌}
+use Rattle.std.specs.Prelude.{ℕ, ◌+◌, List, [], ◌∷◌, ◌++◌, Bool, codes, if◌then◌else◌}
 use Rattle.asm_writer.specs.declared.field.Field.{Field}
 use Rattle.asm_writer.specs.declared.field.Field.TheVariants.{Zeros, Two, Four}
 use Rattle.asm_writer.specs.declared.layout.Layout.{Layout}

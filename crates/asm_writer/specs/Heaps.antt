@@ -3,7 +3,7 @@ use Rattle.std.specs.Prelude.{ℕ, ◌+◌, ◌-◌, List, [], ◌∷◌, ◌++�
 use Rattle.asm_writer.specs.declared.layout.Layout.{Layout}
 use Rattle.asm_writer.specs.declared.plan.AsmPlan.{AsmPlan}
 use Rattle.asm_writer.specs.declared.plan.MethodPlan.{MethodPlan}
-use Rattle.asm_writer.specs.Signatures.{blob, method_blobs}
+use Rattle.asm_writer.specs.Signatures.{method_blobs}
 use Rattle.asm_writer.specs.Sizes.{names_size, strings_size, blob_heap_size}
 
 unfoldable pub zero_ended : List ℕ → List ℕ

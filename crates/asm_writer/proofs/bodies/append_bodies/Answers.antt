@@ -1,4 +1,4 @@
-use Rattle.std.proofs.Common.{◌≡◌, arith}
+use Rattle.std.proofs.Common.{arith}
 use Rattle.asm_writer.proofs.Loops.{bodies_step, bodies_end}
 use Rattle.asm_writer.proofs.bodies.append_bodies.Goals as goal
 

@@ -1,4 +1,4 @@
-use Rattle.std.proofs.Common.{◌≡◌, ◌∙◌, sym, ap, true, arith}
+use Rattle.std.proofs.Common.{◌≡◌, ◌∙◌, sym, ap, true}
 use Rattle.std.specs.List.{list_all}
 use Rattle.asm_writer.specs.Sizes.{is_within, size_of, layout_of}
 use Rattle.asm_writer.proofs.Parts.{fits_so}

@@ -1,4 +1,4 @@
-use Rattle.std.proofs.Common.{◌≡◌, ◌+◌, take, get_or, ap, arith}
+use Rattle.std.proofs.Common.{ap, arith}
 use Rattle.std.proofs.lemmas.List.Sums.{sum_by_more}
 use Rattle.asm_writer.specs.Sizes.{blobs_size}
 use Rattle.asm_writer.proofs.Loops.{local_rows_step, local_rows_end}

@@ -1,5 +1,4 @@
-use Rattle.std.proofs.Common.{◌≡◌, ◌+◌, take, get_or, ap, arith}
-use Rattle.std.specs.List.{sum_by}
+use Rattle.std.proofs.Common.{ap, arith}
 use Rattle.std.proofs.lemmas.List.Sums.{sum_by_more}
 use Rattle.asm_writer.specs.Sizes.{body_size, name_size, blobs_size}
 use Rattle.asm_writer.proofs.Loops.{method_rows_step, method_rows_end}
