@@ -1,0 +1,5 @@
+pub mod Rounding
+pub mod Capped
+pub mod Loops
+pub mod Parts
+pub mod Lengths

@@ -1,0 +1,46 @@
+-- Signatures and their blobs (ECMA-335 II.23.2 and II.24.2.4).
+use Rattle.std.specs.Prelude.{ℕ, ◌+◌, ◌/◌, ◌%◌, List, [], ◌∷◌, ◌++◌, length, flat_map, nat_lt, if◌then◌else◌, Bool}
+use Rattle.cil_model.specs.declared.place.Place.{Place}
+use Rattle.cil_model.specs.declared.place.Place.TheVariants as places
+use Rattle.asm_writer.specs.declared.plan.MethodPlan.{MethodPlan}
+
+-- A number below 4000 in the shortest of its compressed forms (II.23.2).
+unfoldable pub compressed : ℕ → List ℕ
+compressed n = if nat_lt n 0x80 then n ∷ [] else (0x80 + n / 256) ∷ n % 256 ∷ []
+
+-- The bytes of a type (II.23.1.16): VOID, BOOLEAN, I4, and SZARRAY of the last two.
+abbrev pub type_bytes : Place → List ℕ
+type_bytes places.Void = 0x01 ∷ []
+type_bytes places.Bool = 0x02 ∷ []
+type_bytes places.Int = 0x08 ∷ []
+type_bytes places.Bools = 0x1d ∷ 0x02 ∷ []
+type_bytes places.Ints = 0x1d ∷ 0x08 ∷ []
+
+-- The calling convention (II.15.3): HASTHIS where the method is not static.
+abbrev pub convention : Bool → ℕ
+convention is_static = if is_static then 0x00 else 0x20
+
+-- MethodDefSig (II.23.2.1).
+unfoldable pub signature : MethodPlan → List ℕ
+signature m =
+    convention m.is_static ∷ compressed (length m.args.items) ++ type_bytes m.result ++ flat_map type_bytes m.args.items
+
+-- LocalVarSig (II.23.2.6).
+unfoldable pub local_signature : List Place → List ℕ
+local_signature locals = 0x07 ∷ compressed (length locals) ++ flat_map type_bytes locals
+
+-- A blob: its length, compressed, and its bytes.
+unfoldable pub blob : List ℕ → List ℕ
+blob bytes = compressed (length bytes) ++ bytes
+
+unfoldable pub signature_blob : MethodPlan → List ℕ
+signature_blob m = blob (signature m)
+
+-- The blob of a method's locals, where it has any.
+unfoldable pub local_blob : List Place → List ℕ
+local_blob [] = []
+local_blob (place ∷ places) = blob (local_signature (place ∷ places))
+
+-- The blobs of a method.
+unfoldable pub method_blobs : MethodPlan → List ℕ
+method_blobs m = signature_blob m ++ local_blob m.locals.items

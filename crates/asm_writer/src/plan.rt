@@ -1,0 +1,65 @@
+//! What is to be written, and why it is not.
+
+ghost use Rattle.std.specs.Prelude.{◌≡◌};
+ghost use Rattle.asm_writer.specs.declared.plan.WriteRefusal.TheVariants.{NoMemory};
+
+use cil_model::Place;
+use std::alloc::AllocError;
+
+/// The most bytes of a file.
+pub const MAX_FILE: u64 = 67_108_864;
+
+/// The most bytes of a method's code.
+pub const MAX_CODE: usize = 65_536;
+
+/// The most variables of a method: its arguments, its locals and its stack slots together.
+pub const MAX_VARIABLES: usize = 128;
+
+/// An assembly of one class. That its names read back, none of them has a zero byte.
+#[derive(Drop)]
+pub struct AsmPlan {
+    /// The namespace of the class, in UTF-8. It may be empty.
+    pub namespace: Vec<u8>,
+    /// The name of the class and of the assembly, in UTF-8.
+    pub class: Vec<u8>,
+    /// Whether the file is PE32+, for x64, in place of PE32.
+    pub wide: bool,
+    /// The methods of the class, in the order of their rows.
+    pub methods: Vec<MethodPlan>,
+}
+
+/// A method. That its signatures read back, none of its arguments and locals is `Void`.
+#[derive(Drop)]
+pub struct MethodPlan {
+    /// The name, in UTF-8.
+    pub name: Vec<u8>,
+    /// Whether it has no `this`.
+    pub is_static: bool,
+    /// What it returns.
+    pub result: Place,
+    /// Its arguments, without `this`.
+    pub args: Vec<Place>,
+    /// Its local variables.
+    pub locals: Vec<Place>,
+    /// How many stack slots its body has.
+    pub max_stack: u8,
+    /// The bytes of its instructions, with the tokens of the file that is written.
+    pub code: Vec<u8>,
+}
+
+/// Why nothing was written.
+#[derive(Clone, Copy, Debug, PartialEq, Eq)]
+pub enum WriteRefusal {
+    /// The file or a method would pass a limit.
+    TooLarge,
+    /// Memory ran out.
+    NoMemory,
+}
+
+impl From<AllocError> for WriteRefusal {
+    ghost from_gives = { λ _ e. e ≡ NoMemory };
+
+    fn from(_e: AllocError) -> WriteRefusal {
+        WriteRefusal::NoMemory
+    }
+}
