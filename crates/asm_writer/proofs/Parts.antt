@@ -2,9 +2,8 @@
 use Rattle.std.proofs.Common.{◌≡◌, ℕ, ◌+◌, ◌<◌, ◌≤◌, Option, Some, None, IfNone, IsTrue, true, nat_le, if◌then◌else◌, arith}
 use Rattle.asm_writer.specs.declared.layout.Layout.{Layout}
 use Rattle.asm_writer.specs.declared.plan.AsmPlan.{AsmPlan}
-use Rattle.asm_writer.specs.declared.plan.TheConstants.{MAX_FILE}
 use Rattle.std.specs.List.{list_all}
-use Rattle.asm_writer.specs.Sizes.{is_within, fits, kept, layout_of, file_size, names_size, strings_size, blob_heap_size, rows_size, tables_used, tables_size, metadata_size, section_used, section_size, size_of}
+use Rattle.asm_writer.specs.Sizes.{MAX_FILE, is_within, fits, kept, layout_of, file_size, names_size, strings_size, blob_heap_size, rows_size, tables_used, tables_size, metadata_size, section_used, section_size, size_of}
 use Rattle.asm_writer.proofs.Rounding.{round_up_above}
 
 pub record AreBelow (l : Layout) (size : ℕ) : Type 0 where

@@ -6,8 +6,19 @@ use Rattle.asm_writer.specs.declared.layout.Layout.{Layout}
 use Rattle.asm_writer.specs.declared.layout.Widths.{Widths}
 use Rattle.asm_writer.specs.declared.plan.AsmPlan.{AsmPlan}
 use Rattle.asm_writer.specs.declared.plan.MethodPlan.{MethodPlan}
-use Rattle.asm_writer.specs.declared.plan.TheConstants.{MAX_FILE, MAX_CODE, MAX_VARIABLES}
 use Rattle.asm_writer.specs.Signatures.{method_blobs}
+
+-- The most bytes of a file.
+abbrev pub MAX_FILE : ℕ
+MAX_FILE = 67_108_864
+
+-- The most bytes of a method's code.
+abbrev pub MAX_CODE : ℕ
+MAX_CODE = 65_536
+
+-- The most arguments, locals and stack slots of a method together.
+abbrev pub MAX_VARIABLES : ℕ
+MAX_VARIABLES = 128
 
 -- The least multiple of the unit that is not below n.
 unfoldable pub round_up : ℕ → ℕ → ℕ
