@@ -1,0 +1,5 @@
+pub mod CellLemmas
+pub mod FaultLemmas
+pub mod ReadLemmas
+pub mod RunLemmas
+pub mod TestLemmas

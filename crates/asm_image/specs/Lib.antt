@@ -1,0 +1,5 @@
+pub mod Cells
+pub mod Faults
+pub mod Names
+pub mod Reading
+pub mod Rows
