@@ -1,5 +1,5 @@
 -- The columns of the tables TypeDef and MethodDef.
-use Rattle.std.proofs.Common.{◌≡◌, ℕ, ◌<◌, ◌≤◌, length, refl, arith}
+use Rattle.std.proofs.Common.{◌≡◌, ℕ, ◌<◌, length, refl, arith}
 use Rattle.std.specs.Prelude.{slice_index_or}
 use Rattle.metadata_tables.specs.declared.schema.Column.TheVariants.{Two}
 use Rattle.metadata_tables.specs.Schema.{columns_of}

@@ -1,5 +1,5 @@
 -- The parts of a reading, one after another.
-use Rattle.std.proofs.Common.{◌≡◌, ℕ, ◌+◌, ◌≤◌, ◌<◌, List, [], ◌∷◌, ◌++◌, length, Option, Some, None, Bool, true, false, refl, sym, ap, ◌∙◌, arith}
+use Rattle.std.proofs.Common.{◌≡◌, ℕ, ◌+◌, ◌≤◌, ◌<◌, List, [], ◌∷◌, ◌++◌, length, Option, Some, None, refl, sym, ◌∙◌, arith}
 use Rattle.std.specs.Prelude.{option_map, map, Err}
 use Rattle.std.specs.List.{range_with_len}
 use Rattle.std.proofs.lemmas.Bool.{le-leb, lt-leb}
@@ -16,7 +16,7 @@ use Rattle.pe_reader.specs.Addresses.{metadata, metadata_at}
 use Rattle.pe_reader.specs.Faults.{first_of, first_pe_fault}
 use Rattle.pe_reader.specs.declared.fault.PeFault.{PeFault}
 use Rattle.pe_reader.proofs.FirstFault.{first_of-append_none, first_of-append_some}
-use Rattle.asm_image.specs.Faults.{most_bytes, large_test, pe_fault, table_fault, types_tests, methods_tests, file_tests, tables_tests, metadata_tests, assembly_tests, first_assembly_fault}
+use Rattle.asm_image.specs.Faults.{large_test, pe_fault, table_fault, types_tests, methods_tests, file_tests, tables_tests, metadata_tests, assembly_tests, first_assembly_fault}
 use Rattle.asm_image.specs.Reading.{Reads}
 use Rattle.asm_image.specs.declared.fault.AsmFault.{AsmFault}
 use Rattle.asm_image.specs.declared.fault.AsmRefusal.{AsmRefusal}

@@ -1,9 +1,9 @@
 -- Runs of methods, and the type that owns a method.
-use Rattle.std.proofs.Common.{◌≡◌, ℕ, zero, suc, ◌+◌, ◌-◌, ◌<◌, ◌≤◌, List, [], ◌∷◌, Bool, true, false, ◌&&◌, cond, eqb, leb, Option, Some, None, refl, sym, ap, subst, ◌∙◌, arith, inl, inr}
-use Rattle.std.proofs.lemmas.Bool.{cases_lt, le-leb, lt-leb, leb-true}
+use Rattle.std.proofs.Common.{◌≡◌, ℕ, zero, suc, ◌+◌, ◌-◌, ◌<◌, ◌≤◌, List, [], ◌∷◌, Bool, true, false, ◌&&◌, eqb, None, refl, sym, ap, subst, ◌∙◌, arith}
+use Rattle.std.proofs.lemmas.Bool.{le-leb, lt-leb, leb-true}
 use Rattle.std.proofs.lemmas.Bool.Decides.{nat_tests}
 use Rattle.pe_reader.specs.Faults.{first_of}
-use Rattle.asm_image.specs.Cells.{type_count, method_count, method_list, owner_among, owner, RunsRise}
+use Rattle.asm_image.specs.Cells.{type_count, method_list, owner_among, owner, RunsRise}
 use Rattle.asm_image.specs.Faults.{must, least_list, list_test, text_test, type_tests, types_tests}
 use Rattle.asm_image.specs.Reading.{Begins}
 use Rattle.asm_image.specs.declared.fault.AsmFault.{AsmFault}
@@ -77,8 +77,8 @@ unfolding owner
 owner-stop md row k rise begins lt past =
     let all : k + (type_count md - k) ≡ type_count md = omega arith in
     sym (subst (λ (n : ℕ). owner_among md row n ≡ k) all
-      (owner-more md row k (type_count md - k) begins
-        (λ j low high. let up = rise (k + 1) j (omega arith) (omega arith) (omega arith) in omega (arith, up, past))))
+    (owner-more md row k (type_count md - k) begins
+    (λ j low high. let up = rise (k + 1) j (omega arith) (omega arith) (omega arith) in omega (arith, up, past))))
 
 -- There is no later type.
 pub owner-done : (md : List ℕ) (row k : ℕ) → Begins md k row → k ≡ type_count md → k ≡ owner md row

@@ -1,5 +1,5 @@
 -- What the cells of types and methods say (ECMA-335 II.22.26 and II.22.37).
-use Rattle.std.specs.Prelude.{◌≡◌, ℕ, zero, suc, ◌≤◌, List, [], Result, Ok, Err, unwrap_or, nat_le, false, if◌then◌else◌}
+use Rattle.std.specs.Prelude.{ℕ, zero, suc, ◌≤◌, List, [], Result, Ok, Err, unwrap_or, nat_le, false, if◌then◌else◌}
 use Rattle.metadata_tables.specs.Heaps.{string_at, blob_at, blob_offset}
 use Rattle.metadata_tables.specs.Layout.{row_count, cell}
 use Rattle.signature_blobs.specs.Signatures.{method_signature}

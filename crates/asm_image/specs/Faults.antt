@@ -16,7 +16,6 @@ use Rattle.signature_blobs.specs.declared.fault.SigFault.TheVariants as sigs
 use Rattle.signature_blobs.specs.declared.method.MethodSig.{MethodSig}
 use Rattle.asm_image.specs.Cells.{method_count, type_count, method_list, signature_blob, signature_at}
 use Rattle.asm_image.specs.declared.fault.AsmFault.{AsmFault}
-use Rattle.asm_image.specs.declared.fault.Cause.{Cause}
 use Rattle.asm_image.specs.declared.fault.Cause.TheVariants as causes
 
 -- This is so, or else that is the fault.

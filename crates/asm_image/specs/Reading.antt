@@ -1,8 +1,7 @@
 -- What the steps of the reading promise.
-use Rattle.std.specs.Prelude.{◌≡◌, ◌≤◌, ◌+◌, ◌<◌, ℕ, List, length, Option, Some, None, Result, Ok, Err}
-use Rattle.metadata_tables.specs.TableTests.{first_table_fault}
+use Rattle.std.specs.Prelude.{◌≡◌, ◌≤◌, ℕ, List, Option, Some, None, Result, Ok, Err}
 use Rattle.pe_reader.specs.Addresses.{metadata}
-use Rattle.asm_image.specs.Cells.{type_count, method_list}
+use Rattle.asm_image.specs.Cells.{method_list}
 use Rattle.asm_image.specs.Faults.{first_assembly_fault}
 use Rattle.asm_image.specs.Rows.{methods_of}
 use Rattle.asm_image.specs.declared.assembly.Assembly.TheInside.{Inside}

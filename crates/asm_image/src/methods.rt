@@ -23,9 +23,13 @@ use std::alloc::Global;
 const METHOD_DEF_TOKENS: u32 = 0x0600_0000;
 
 const RVA: u8 = 0;
+
 const IMPL_FLAGS: u8 = 1;
+
 const FLAGS: u8 = 2;
+
 const NAME: u8 = 3;
+
 const SIGNATURE: u8 = 4;
 
 /// The byte of a signature that a fault names.
