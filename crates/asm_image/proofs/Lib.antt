@@ -1,3 +1,4 @@
+pub mod BlobLemmas
 pub mod CellLemmas
 pub mod FaultLemmas
 pub mod ReadLemmas

@@ -3,3 +3,4 @@ pub mod Faults
 pub mod Names
 pub mod Reading
 pub mod Rows
+pub mod Tokens

@@ -1,5 +1,5 @@
 -- What the steps of the reading promise.
-use Rattle.std.specs.Prelude.{◌≡◌, ◌≤◌, ℕ, List, Option, Some, None, Result, Ok, Err}
+use Rattle.std.specs.Prelude.{◌≡◌, ◌≤◌, ℕ, List, length, Option, Some, None, Result, Ok, Err}
 use Rattle.pe_reader.specs.Addresses.{metadata}
 use Rattle.asm_image.specs.Cells.{method_list}
 use Rattle.asm_image.specs.Faults.{first_assembly_fault}
@@ -28,4 +28,5 @@ Begins md type row = 1 ≤ type → method_list md type ≤ row
 pub record IsAssembly (inside : Inside) : Type 0 where
   pub accepted : first_assembly_fault inside.image ≡ None
   pub metadata_kept : inside.tables ≡ metadata inside.image
+  pub metadata_short : length inside.tables ≤ 2147483647
   pub methods_kept : inside.methods.items ≡ methods_of inside.image

@@ -6,14 +6,19 @@ ghost use Rattle.pe_reader.specs.Faults.{first_of, first_pe_fault};
 ghost use Rattle.asm_image.specs.Faults.{pe_place, table_place, file_tests, tables_tests, first_assembly_fault};
 ghost use Rattle.asm_image.specs.Reading.{Judges, Reads};
 ghost use Rattle.asm_image.specs.Rows.{methods_of, rows_of};
+ghost use Rattle.asm_image.specs.Tokens.{locals_of, element_of};
 ghost use Rattle.metadata_tables.specs.TableTests.{first_table_fault};
 
 use crate::fault::{AsmFault, AsmRefusal, Cause};
 use crate::method_row::MethodRow;
 use crate::methods::read_methods;
+use crate::tokens;
 use crate::types::test_types;
+use cc_base::Token;
+use cil_model::Place;
 use metadata_tables::{TableFault, Tables};
 use pe_reader::{Image, PeFault};
+use signature_blobs::LocalSig;
 use std::alloc::Global;
 use std::marker::Model;
 
@@ -128,5 +133,20 @@ impl<'a> Assembly<'a> {
         ensures { result.now ≡ self.now }
     {
         &self.image
+    }
+    /// The locals that the token of a method's body names: no locals for the token 0, else those of a row
+    /// of the table StandAloneSig. None where there is no such row, or where its signature does not read.
+    pub fn locals_of(&self, token: u32) -> Option<LocalSig>
+        ensures { result ≡ locals_of (metadata self.now) token }
+    {
+        tokens::locals_of(&self.tables, token)
+    }
+
+    /// The type of elements that a token names: an int32 or a bool, where it is the row of the table
+    /// TypeRef with that name, else none.
+    pub fn element_of(&self, token: Token) -> Option<Place>
+        ensures { result ≡ element_of (metadata self.now) token.0 }
+    {
+        tokens::element_of(&self.tables, token.0)
     }
 }

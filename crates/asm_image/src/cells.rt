@@ -51,3 +51,16 @@ pub fn text_of<'a>(
         None => Err(heap_end(tables, base, table, row, column)),
     }
 }
+
+/// The text that a cell names, empty where there is none.
+pub fn text_at<'a>(tables: &Tables<'a>, table: u8, row: u32, column: u8) -> &'a [u8]
+    requires first { 1 ≤ row }
+    requires last { row ≤ row_count tables.now table }
+    requires column { column < length (columns_of table) }
+    ensures { result.now ≡ text tables.now table row column }
+{
+    match tables.string_at(tables.cell(table, row, column)) {
+        Some(text) => text,
+        None => &[],
+    }
+}

@@ -9,6 +9,7 @@ mod methods;
 mod names;
 #[cfg(test)]
 mod tests;
+mod tokens;
 mod types;
 
 pub use assembly::Assembly;

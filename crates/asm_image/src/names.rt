@@ -6,7 +6,7 @@ ghost use Rattle.asm_image.specs.Cells.{type_count, text};
 ghost use Rattle.asm_image.specs.Names.{is_plain, escaped_byte, escaped, qualified, owner_text, place_text, next_parameter, parameters_text, types_text, printed};
 ghost use Rattle.metadata_tables.specs.Layout.{row_count};
 
-use crate::cells::TYPE_DEF;
+use crate::cells::{TYPE_DEF, text_at};
 use cc_base::put_hex;
 use cil_model::Place;
 use metadata_tables::Tables;
@@ -110,19 +110,6 @@ fn append_types(line: &mut Vec<u8>, types: &SigTypes) -> Result<(), AllocError>
     }
 }
 
-/// The text of a cell of the table TypeDef, empty where there is none.
-fn type_text<'a>(tables: &Tables<'a>, row: u32, column: u8) -> &'a [u8]
-    requires first { 1 ≤ row }
-    requires last { row ≤ type_count tables.now }
-    requires column { column ≤ 5 }
-    ensures { result.now ≡ text tables.now 0x02 row column }
-{
-    match tables.string_at(tables.cell(TYPE_DEF, row, column)) {
-        Some(text) => text,
-        None => &[],
-    }
-}
-
 /// Appends the name of the type of a row, nothing for row 0.
 fn append_owner(
     alloc: Global,
@@ -136,8 +123,9 @@ fn append_owner(
     if owner == 0 {
         return Ok(());
     }
-    let namespace = type_text(tables, owner, 2);
-    append_qualified(alloc, line, namespace, type_text(tables, owner, 1))
+    let namespace = text_at(tables, TYPE_DEF, owner, 2);
+    let name = text_at(tables, TYPE_DEF, owner, 1);
+    append_qualified(alloc, line, namespace, name)
 }
 
 /// The printed name of a method of the type of a row.

@@ -4,7 +4,9 @@ ghost use Rattle.std.specs.Prelude.{◌+◌, ◌≤◌, length};
 
 use super::*;
 use cc_base::Token;
+use cil_model::Place;
 use metadata_tables::TableFault;
+use signature_blobs::LocalSig;
 use std::test::Fail;
 
 /// The metadata of a library with one class `Calc`, whose methods are `Twice` and `Sum`.
@@ -86,6 +88,20 @@ fn reads_methods(rt: HostRuntime) -> Result<(), Fail> {
     assert_eq!(rt; sum.name.as_slice(), b"Calc::Sum(int32[])".as_slice());
     assert_eq!(rt; (sum.flags, sum.impl_flags, sum.rva), (0x91, 0, 0x2058));
     assert_eq!(rt; assembly.image().metadata_at(), 0x250);
+    Ok(())
+}
+
+#[test]
+fn reads_locals(rt: HostRuntime) -> Result<(), Fail> {
+    let file = small_file();
+    let assembly = Assembly::read(rt.alloc(), &file)?;
+    let Some(LocalSig::Known(places)) = assembly.locals_of(0x1100_0001) else {
+        panic!(rt; "no locals");
+    };
+    let types = [Place::Int, Place::Int, Place::Ints, Place::Int];
+    assert_eq!(rt; places.as_slice(), types.as_slice());
+    assert!(rt; assembly.locals_of(0x1100_0002).is_none());
+    assert_eq!(rt; assembly.element_of(Token(0x0100_0001)), None);
     Ok(())
 }
 

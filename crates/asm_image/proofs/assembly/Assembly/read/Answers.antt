@@ -1,4 +1,4 @@
-use Rattle.std.proofs.Common.{◌≡◌, None, ap, ◌∙◌}
+use Rattle.std.proofs.Common.{◌≡◌, None, length, ap, ◌∙◌, arith}
 use Rattle.std.proofs.lemmas.Result.{err_from_is_err_and}
 use Rattle.pe_reader.specs.Addresses.{metadata, metadata_at}
 use Rattle.pe_reader.specs.Faults.{first_of}
@@ -56,6 +56,7 @@ invariant_of-result c =
     record {
       accepted = rw c.in_ok-image.ensures.1 (whole ∙ c.in_ok-methods.ensures.0);
       metadata_kept = kept;
+      metadata_short = omega (arith, ap length c.in_ok-tables.ensures.1, c.metadata.ensures.len, c.metadata_at-base.ensures.within, c.metadata_at-base.ensures.small);
       methods_kept = c.in_ok-methods.ensures.1 ∙ ap rows_of kept;
     }
 
