@@ -4,6 +4,7 @@ use Rattle.std.specs.Prelude.{slice_index_or, codes}
 use Rattle.std.specs.List.{flat_map, range_with_len}
 use Rattle.std.proofs.lemmas.Bool.{cases_lt}
 use Rattle.std.proofs.lemmas.Bool.Decides.{nat_tests}
+use Rattle.std.proofs.Math.Nat.{mul-le-mul_left}
 use Rattle.std.proofs.lemmas.List.{get_or_past}
 use Rattle.std.proofs.lemmas.List.Sums.{sum_by_more_le}
 use Rattle.std.proofs.lemmas.List.Concat.{flat_map-cons}
@@ -147,6 +148,36 @@ width-least counts sizes Guid = cond-least-wide _
 width-least counts sizes Blob = cond-least-wide _
 width-least counts sizes (Row table) = cond-least _
 width-least counts sizes (Coded kind) = cond-least _
+
+-- The column of two bytes has two.
+pub width-two : (counts : List ℕ) (sizes : ℕ) (column : Column) → column ≡ Two → width counts sizes column ≡ 2
+unfolding width
+width-two counts sizes column is = rw is refl
+
+-- Where a row takes a byte at least, there are no more rows than bytes.
+count-few : (count w base end : ℕ) → 1 ≤ w → 1 ≤ count → base + (count - 1) * w + w ≤ end → count ≤ end
+count-few zero w base end wide some h = omega arith
+count-few (suc count) w base end wide some h =
+    let each : count * 1 ≤ count * w = mul-le-mul_left count wide in
+    let before : suc count - 1 ≡ count = omega arith in
+    let rows : base + count * w + w ≤ end = rw before at h in
+    omega (arith, each, rows)
+
+row-wide : (counts : List ℕ) (sizes : ℕ) (columns : List Column) → 0 < length columns → 1 ≤ total_width counts sizes columns
+row-wide counts sizes columns some =
+    omega (arith, sum_by_more_le (width counts sizes) columns 0 Two some, width-least counts sizes (slice_index_or columns 0 Two))
+
+-- There are no more rows than bytes.
+pub rows-few : (md : List ℕ) (table : ℕ) → first_table_fault md ≡ None → 0 < length (columns_of table) → row_count md table ≤ length md
+unfolding row_width
+rows-few md table e some =
+    elim (cases_lt 0 (row_count md table)) [
+      | inl lt ↦
+          let end = row-end md table (row_count md table) e lt (omega arith) in
+          let few = count-few (row_count md table) (row_width (row_counts md) (heap_sizes md) table) (base md table) (tables_end md) (row-wide (row_counts md) (heap_sizes md) (columns_of table) some) lt end in
+          omega (arith, few, tables_end-within md e)
+      | inr none ↦ omega (arith, none)
+    ]
 
 cell_at-place : (md : List ℕ) (table row column b w before : ℕ) → b ≡ base md table → w ≡ row_width (row_counts md) (heap_sizes md) table
     → before ≡ total_width (row_counts md) (heap_sizes md) (take column (columns_of table)) → b + (row - 1) * w + before ≡ cell_at md table row column

@@ -1,6 +1,6 @@
 //! Metadata as read: rows, cells and the items of heaps.
 
-ghost use Rattle.std.specs.Prelude.{◌≡◌, ℕ, ◌+◌, ◌<◌, ◌≤◌, ◌↔◌, List, length, None, Some, IsOk, IfOk, IfErr, IfSome, is_some, option_map, drop};
+ghost use Rattle.std.specs.Prelude.{◌≡◌, ℕ, ◌+◌, ◌^◌, ◌<◌, ◌≤◌, ◌↔◌, List, length, slice_index_or, None, Some, IsOk, IfOk, IfErr, IfSome, is_some, option_map, drop};
 ghost use Rattle.metadata_tables.specs.Heaps.{string_at, blob_at, blob_offset, user_string_at, StandsAt};
 ghost use Rattle.metadata_tables.specs.Layout.{row_count, cell_at, cell};
 ghost use Rattle.metadata_tables.specs.Root.{bytes_of};
@@ -11,7 +11,7 @@ use crate::fault::TableFault;
 use crate::heaps::{item_of, whole_prefix, zero_ended};
 use crate::layout::{Layout, read_layout};
 use crate::root::{Stream, read_streams};
-use crate::schema::columns;
+use crate::schema::{Column, columns};
 use crate::width::{column_width, columns_width, count_of};
 use cc_base::{u16_at, u32_at};
 use std::marker::Model;
@@ -88,7 +88,8 @@ impl<'a> Tables<'a> {
 
     /// How many rows a table has, 0 where there is no such table.
     pub fn row_count(&self, table: u8) -> u32
-        ensures { result ≡ row_count self.now table }
+        ensures count { result ≡ row_count self.now table }
+        ensures few { 0 < length (columns_of table) → result ≤ length self.now }
     {
         count_of(&self.layout.counts, table)
     }
@@ -113,7 +114,8 @@ impl<'a> Tables<'a> {
         requires first { 1 ≤ row }
         requires last { row ≤ row_count self.now table }
         requires column { column < length (columns_of table) }
-        ensures { result ≡ cell self.now table row column }
+        ensures number { result ≡ cell self.now table row column }
+        ensures two { slice_index_or (columns_of table) column Column.Two ≡ Column.Two → result < 2 ^ 16 }
     {
         let at = self.cell_at(table, row, column) as usize;
         let layout = &self.layout;

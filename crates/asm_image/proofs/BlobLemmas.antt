@@ -1,0 +1,46 @@
+-- A blob is no longer than the metadata, and what it says of locals.
+use Rattle.std.proofs.Common.{◌≡◌, ℕ, ◌+◌, ◌≤◌, List, [], length, take, drop, Option, Some, None, refl, sym, ap, ◌∙◌, arith, length-drop, length-take}
+use Rattle.std.specs.Prelude.{codes, option_map, Result, Ok, Err}
+use Rattle.std.specs.Option.{option_and_then}
+use Rattle.metadata_tables.specs.Heaps.{whole_prefix, item_of, blob_at}
+use Rattle.metadata_tables.specs.Layout.{cell}
+use Rattle.metadata_tables.specs.Root.{stream, bytes_of, heap}
+use Rattle.signature_blobs.specs.Signatures.{local_signature}
+use Rattle.signature_blobs.specs.declared.local.LocalSig.{LocalSig}
+use Rattle.asm_image.specs.Tokens.{faultless, locals_at}
+
+some-is : {X : Type 0} (x y : X) → Some x ≡ Some y → x ≡ y
+some-is x y e = cc
+
+mapped-within : {F : Type 0} (g : F → List ℕ) (front : Option F) (item : List ℕ) (n : ℕ) → Some item ≡ option_map g front → ((f : F) → length (g f) ≤ n) → length item ≤ n
+mapped-within {F} g None item n e within = absurd cc
+mapped-within {F} g (Some f) item n e within = let same = ap length (some-is item (g f) e) in omega (arith, same, within f)
+
+stream-short : (md name : List ℕ) → length (bytes_of md (stream md name)) ≤ length md
+stream-short md name =
+    elim (stream md name) as (λ o. length (bytes_of md o) ≤ length md) [
+      | None ↦ omega arith
+      | Some s ↦ omega (arith, length-take s.size (drop s.at md), length-drop s.at md)
+    ]
+
+item-short : (bytes item : List ℕ) → Some item ≡ item_of bytes → length item ≤ length bytes
+unfolding item_of
+item-short bytes item e =
+    mapped-within _ (whole_prefix bytes) item (length bytes) e
+    (λ f. omega (arith, length-take f.len (drop f.width bytes), length-drop f.width bytes))
+
+pub blob-short : (md item : List ℕ) (index : ℕ) → Some item ≡ blob_at md index → length item ≤ length md
+unfolding blob_at heap
+blob-short md item index e =
+    let all = bytes_of md (stream md (codes "#Blob")) in
+    omega (arith, item-short (drop index all) item e, length-drop index all, stream-short md (codes "#Blob"))
+
+-- No blob is there.
+pub locals-none : (md : List ℕ) (row index : ℕ) → index ≡ cell md 17 row 0 → None ≡ blob_at md index → None ≡ locals_at md row
+unfolding locals_at
+locals-none md row index is none = rw (← is, ← none) refl
+
+-- The blob is there.
+pub locals-read : (md blob : List ℕ) (row index : ℕ) → index ≡ cell md 17 row 0 → Some blob ≡ blob_at md index → faultless (local_signature blob) ≡ locals_at md row
+unfolding locals_at
+locals-read md blob row index is some = rw (← is, ← some) refl

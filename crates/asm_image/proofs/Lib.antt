@@ -1,0 +1,6 @@
+pub mod BlobLemmas
+pub mod CellLemmas
+pub mod FaultLemmas
+pub mod ReadLemmas
+pub mod RunLemmas
+pub mod TestLemmas

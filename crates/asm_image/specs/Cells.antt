@@ -1,0 +1,63 @@
+-- What the cells of types and methods say (ECMA-335 II.22.26 and II.22.37).
+use Rattle.std.specs.Prelude.{ℕ, zero, suc, ◌≤◌, List, [], Result, Ok, Err, unwrap_or, nat_le, false, if◌then◌else◌}
+use Rattle.metadata_tables.specs.Heaps.{string_at, blob_at, blob_offset}
+use Rattle.metadata_tables.specs.Layout.{row_count, cell}
+use Rattle.signature_blobs.specs.Signatures.{method_signature}
+use Rattle.signature_blobs.specs.declared.fault.SigFault.{SigFault}
+use Rattle.signature_blobs.specs.declared.method.MethodSig.{MethodSig}
+use Rattle.signature_blobs.specs.declared.method.SigTypes.TheVariants as types
+
+-- How many rows the table TypeDef has, and how many the table MethodDef.
+abbrev pub type_count : List ℕ → ℕ
+type_count md = row_count md 0x02
+
+abbrev pub method_count : List ℕ → ℕ
+method_count md = row_count md 0x06
+
+-- The text of a cell of either table, where there is one.
+abbrev pub text : List ℕ → ℕ → ℕ → ℕ → List ℕ
+text md table row column = unwrap_or (string_at md (cell md table row column)) []
+
+-- TypeName and TypeNamespace of a type.
+abbrev pub type_name : List ℕ → ℕ → List ℕ
+type_name md row = text md 0x02 row 1
+
+abbrev pub namespace : List ℕ → ℕ → List ℕ
+namespace md row = text md 0x02 row 2
+
+-- MethodList of a type: the method that its run of methods begins with.
+abbrev pub method_list : List ℕ → ℕ → ℕ
+method_list md row = cell md 0x02 row 5
+
+-- Name and Signature of a method, where they are there.
+abbrev pub method_name : List ℕ → ℕ → List ℕ
+method_name md row = text md 0x06 row 3
+
+abbrev pub signature_blob : List ℕ → ℕ → List ℕ
+signature_blob md row = unwrap_or (blob_at md (cell md 0x06 row 4)) []
+
+-- Where the bytes of a method's signature stand in the metadata.
+abbrev pub signature_at : List ℕ → ℕ → ℕ
+signature_at md row = unwrap_or (blob_offset md (cell md 0x06 row 4)) 0
+
+-- A signature that was read.
+abbrev pub read_signature : Result MethodSig SigFault → MethodSig
+read_signature (Ok sig) = sig
+read_signature (Err fault) = record { has_this = false; generic = false; types = types.Other }
+
+unfoldable pub signature : List ℕ → ℕ → MethodSig
+signature md row = read_signature (method_signature (signature_blob md row))
+
+-- The last of the first types whose run of methods begins at or before a method, 0 where there is none.
+unfoldable pub owner_among : List ℕ → ℕ → ℕ → ℕ
+owner_among md row zero = 0
+owner_among md row (suc types) = if nat_le (method_list md (suc types)) row then suc types else owner_among md row types
+
+-- The type that owns a method. A type's run ends where the next one begins, and the last run behind the
+-- last method.
+unfoldable pub owner : List ℕ → ℕ → ℕ
+owner md row = owner_among md row (type_count md)
+
+-- No run begins before that of an earlier type.
+abbrev pub RunsRise : List ℕ → Type 0
+RunsRise md = (i j : ℕ) → 1 ≤ i → i ≤ j → j ≤ type_count md → method_list md i ≤ method_list md j

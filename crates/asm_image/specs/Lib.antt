@@ -1,0 +1,6 @@
+pub mod Cells
+pub mod Faults
+pub mod Names
+pub mod Reading
+pub mod Rows
+pub mod Tokens

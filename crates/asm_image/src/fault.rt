@@ -1,0 +1,70 @@
+//! Why a file is no assembly.
+
+ghost use Rattle.std.specs.Prelude.{◌≡◌};
+ghost use Rattle.asm_image.specs.declared.fault.AsmRefusal.TheVariants.{Bad, NoMemory};
+
+use metadata_tables::TableFault;
+use pe_reader::PeFault;
+use signature_blobs::SigFault;
+use std::alloc::{AllocError, AllocFailed};
+use thiserror::Error;
+
+/// What is wrong with a file.
+#[derive(Clone, Copy, Debug, PartialEq, Eq, Error)]
+pub enum Cause {
+    /// The file has more than 67,108,864 bytes.
+    #[error("file too large")]
+    Large,
+    /// The file is no PE file with a CLI header.
+    #[error(transparent)]
+    Pe(PeFault),
+    /// The metadata is not in order.
+    #[error(transparent)]
+    Table(TableFault),
+    /// A method's signature is none.
+    #[error(transparent)]
+    Sig(SigFault),
+}
+
+/// The first fault of a file in the order of reading.
+#[derive(Clone, Copy, Debug, PartialEq, Eq, Error)]
+#[error("{cause}, in the file at {at:08x}")]
+pub struct AsmFault {
+    /// Where in the file it is. For an address that is not found it is the address (RVA).
+    pub at: u32,
+    pub cause: Cause,
+}
+
+/// Why an assembly was not read.
+#[derive(Clone, Copy, Debug, PartialEq, Eq, Error)]
+pub enum AsmRefusal {
+    #[error(transparent)]
+    Bad(AsmFault),
+    /// Memory ran out.
+    #[error("out of memory")]
+    NoMemory,
+}
+
+impl From<AsmFault> for AsmRefusal {
+    ghost from_gives = { λ fault e. e ≡ Bad fault };
+
+    fn from(fault: AsmFault) -> AsmRefusal {
+        AsmRefusal::Bad(fault)
+    }
+}
+
+impl From<AllocError> for AsmRefusal {
+    ghost from_gives = { λ _ e. e ≡ NoMemory };
+
+    fn from(_error: AllocError) -> AsmRefusal {
+        AsmRefusal::NoMemory
+    }
+}
+
+impl<T: Drop> From<AllocFailed<T>> for AsmRefusal {
+    ghost from_gives = { λ _ e. e ≡ NoMemory };
+
+    fn from(_error: AllocFailed<T>) -> AsmRefusal {
+        AsmRefusal::NoMemory
+    }
+}

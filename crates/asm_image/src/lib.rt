@@ -1,0 +1,17 @@
+//! .NET assemblies (ECMA-335, Partition II): a whole file with its types and methods.
+#![tactic(auto)]
+
+mod assembly;
+mod cells;
+mod fault;
+mod method_row;
+mod methods;
+mod names;
+#[cfg(test)]
+mod tests;
+mod tokens;
+mod types;
+
+pub use assembly::Assembly;
+pub use fault::{AsmFault, AsmRefusal, Cause};
+pub use method_row::MethodRow;
