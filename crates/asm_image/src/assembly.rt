@@ -134,6 +134,7 @@ impl<'a> Assembly<'a> {
     {
         &self.image
     }
+
     /// The locals that the token of a method's body names: no locals for the token 0, else those of a row
     /// of the table StandAloneSig. None where there is no such row, or where its signature does not read.
     pub fn locals_of(&self, token: u32) -> Option<LocalSig>
