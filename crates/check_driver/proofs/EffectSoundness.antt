@@ -18,8 +18,8 @@ use Rattle.cil_model.specs.declared.machine.Value.TheVariants as values
 use Rattle.cil_model.specs.declared.place.Place.{Place}
 use Rattle.cil_model.specs.declared.place.Place.TheVariants as places
 use Rattle.check_driver.specs.Ranges.{Has, one, full, is_zero}
-use Rattle.check_driver.specs.Typing.{operands, is_return, lacks_argument, height_after, breaks}
-use Rattle.check_driver.specs.UnitFile.{is_other_call}
+use Rattle.method_unit.specs.Typing.{operands, is_return, lacks_argument, height_after, breaks}
+use Rattle.method_unit.specs.UnitFile.{is_other_call}
 use Rattle.check_driver.specs.Verdicts.{combined, after_reached, is_assert, shows}
 use Rattle.check_driver.specs.declared.range.Range.{Range}
 use Rattle.check_driver.proofs.RangeSoundness.{Has-one, Has-full, Has-sum, Has-less, Has-equal, excludes_zero-true, is_zero-true}

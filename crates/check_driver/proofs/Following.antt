@@ -7,10 +7,10 @@ use Rattle.cil_model.specs.Spells.{CodeFrom, Spells}
 use Rattle.cil_model.specs.Step.{instr_at}
 use Rattle.cil_model.specs.declared.instruction.Instr.{Instr}
 use Rattle.cil_model.specs.declared.unit.Unit.{Unit as MethodUnit}
-use Rattle.check_driver.specs.UnitFile.{is_other_call}
-use Rattle.check_driver.specs.UnitSpelling.{IsBuilt}
+use Rattle.method_unit.specs.UnitFile.{is_other_call}
+use Rattle.method_unit.specs.UnitSpelling.{IsBuilt}
 use Rattle.check_driver.specs.Verdicts.{State, after, entry, is_assert, obligations, shows, state_at, verdict, verdicts, all_proved}
-use Rattle.check_driver.proofs.Decoded.{spelling_some}
+use Rattle.method_unit.proofs.Decoded.{spelling_some}
 
 -- If this instruction is an Assert, what is known before it shows that it holds.
 abbrev pub IsShown : List Instr → Instr → Type 0

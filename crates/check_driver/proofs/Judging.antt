@@ -8,7 +8,7 @@ use Rattle.cil_model.specs.Spells.{CodeFrom}
 use Rattle.cil_model.specs.declared.instruction.Instr.{Instr}
 use Rattle.check_driver.specs.Verdicts.{State, after, shows, state_at, is_assert, obligations, noted}
 use Rattle.check_driver.specs.declared.judge.Verdict.{Verdict}
-use Rattle.check_driver.proofs.Decoded.{spelling_some}
+use Rattle.method_unit.proofs.Decoded.{spelling_some}
 
 -- The offsets of instructions rise, from this one on.
 abbrev pub Rises : ℕ → List Instr → Type 0

@@ -10,11 +10,11 @@ use Rattle.cil_model.specs.declared.unit.Unit.{Unit as MethodUnit}
 use Rattle.check_driver.specs.Expected.{Answer, expected, command_answer, unit_file_answer, bytes_answer, unit_answer, word_at}
 use Rattle.check_driver.specs.SingleUnit.{AsksFor, PrintsProved, IsSafe}
 use Rattle.check_driver.specs.Text.{signature_text, proved_text, unit_line, verdict_line, unit_counts, summary_line, unit_report}
-use Rattle.check_driver.specs.UnitFile.{first_unit_fault, unit_of}
-use Rattle.check_driver.specs.UnitSpelling.{unit_bytes}
+use Rattle.method_unit.specs.UnitFile.{first_unit_fault, unit_of}
+use Rattle.method_unit.specs.UnitSpelling.{unit_bytes}
 use Rattle.check_driver.specs.Verdicts.{verdicts, all_proved}
 use Rattle.check_driver.proofs.Soundness.{local_safe, safe}
-use Rattle.check_driver.proofs.UnitAgain.{unit_again}
+use Rattle.method_unit.proofs.UnitAgain.{unit_again}
 
 -- ---- lists
 

@@ -6,9 +6,9 @@ use Rattle.std.proofs.lemmas.List.Elements.{All-from_recursion}
 use Rattle.cil_model.specs.Spells.{CodeFrom}
 use Rattle.cil_model.specs.declared.instruction.Instr.{Instr}
 use Rattle.cil_model.specs.declared.unit.Unit.{Unit as MethodUnit}
-use Rattle.check_driver.specs.UnitSpelling.{IsBuilt}
+use Rattle.method_unit.specs.UnitSpelling.{IsBuilt}
 use Rattle.check_driver.specs.Verdicts.{is_assert, obligations, verdict, verdicts}
-use Rattle.check_driver.proofs.Decoded.{spelling_some}
+use Rattle.method_unit.proofs.Decoded.{spelling_some}
 
 weaker : (a b : ℕ) (offsets : List ℕ) → a ≤ b → AllByRecursion (λ o. o < a) offsets → AllByRecursion (λ o. o < b) offsets
 weaker a b [] le h = tt

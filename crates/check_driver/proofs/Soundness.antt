@@ -10,7 +10,7 @@ use Rattle.cil_model.specs.declared.machine.Config.TheVariants as configs
 use Rattle.cil_model.specs.declared.machine.Frame.{Frame}
 use Rattle.cil_model.specs.declared.machine.World.{World}
 use Rattle.cil_model.specs.declared.unit.Unit.{Unit as MethodUnit}
-use Rattle.check_driver.specs.UnitSpelling.{IsBuilt}
+use Rattle.method_unit.specs.UnitSpelling.{IsBuilt}
 use Rattle.check_driver.specs.Verdicts.{verdicts, all_proved}
 use Rattle.check_driver.proofs.StepSoundness.{IsFine, IsFine-entry, IsFine-step, IsNoFault-fine, IsLocallyDefined-fine}
 

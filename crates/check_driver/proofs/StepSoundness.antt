@@ -17,8 +17,8 @@ use Rattle.cil_model.specs.declared.machine.Value.{Value}
 use Rattle.cil_model.specs.declared.place.Place.{Place}
 use Rattle.cil_model.specs.declared.place.Place.TheVariants as places
 use Rattle.cil_model.specs.declared.unit.Unit.{Unit as MethodUnit}
-use Rattle.check_driver.specs.Typing.{is_return, breaks, height_after, is_typed}
-use Rattle.check_driver.specs.UnitSpelling.{IsBuilt}
+use Rattle.method_unit.specs.Typing.{is_return, breaks, height_after, is_typed}
+use Rattle.method_unit.specs.UnitSpelling.{IsBuilt}
 use Rattle.check_driver.specs.Verdicts.{entry, verdicts, all_proved}
 use Rattle.check_driver.specs.declared.range.Range.{Range}
 use Rattle.check_driver.proofs.EffectSoundness.{AllInts, StackHolds, Goes, effects_go}

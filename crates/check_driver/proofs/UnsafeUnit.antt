@@ -15,7 +15,7 @@ use Rattle.cil_model.specs.declared.machine.Frame.{Frame}
 use Rattle.cil_model.specs.declared.machine.Value.{Value}
 use Rattle.cil_model.specs.declared.machine.Value.TheVariants as values
 use Rattle.cil_model.specs.declared.unit.Unit.{Unit as MethodUnit}
-use Rattle.check_driver.specs.UnitFile.{unit_with}
+use Rattle.method_unit.specs.UnitFile.{unit_with}
 
 abbrev instr : ℕ → ℕ → Op → Instr
 instr at size op = record { at = at; size = size; op = op }

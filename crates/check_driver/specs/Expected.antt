@@ -4,13 +4,13 @@ use Rattle.std.specs.Option.{ForSome}
 use Rattle.cc_base.specs.Digits.{hex}
 use Rattle.cc_base.specs.Files.{Held, READ_LIMIT}
 use Rattle.check_driver.specs.Text.{escaped, unit_report}
-use Rattle.check_driver.specs.UnitFile.{first_unit_fault, unit_of}
+use Rattle.method_unit.specs.UnitFile.{first_unit_fault, unit_of}
 use Rattle.check_driver.specs.Verdicts.{verdicts, all_proved}
 use Rattle.check_driver.specs.Words.{command_of, file_place}
 use Rattle.check_driver.specs.declared.command.Command.{Command}
 use Rattle.check_driver.specs.declared.command.Command.TheVariants as commands
-use Rattle.check_driver.specs.declared.unit_fault.UnitFault.{UnitFault}
-use Rattle.check_driver.specs.declared.unit_fault.UnitFault.TheVariants.{Short, Form, Version, NotBuilt}
+use Rattle.method_unit.specs.declared.unit_fault.UnitFault.{UnitFault}
+use Rattle.method_unit.specs.declared.unit_fault.UnitFault.TheVariants.{Short, Form, Version, NotBuilt}
 
 -- What is written to the two sinks, and the status.
 pub record Answer : Type 0 where

@@ -1,13 +1,8 @@
 pub mod Words
 pub mod Writing
 pub mod Ranges
-pub mod Faults
-pub mod Typing
-pub mod UnitFile
 pub mod Verdicts
 pub mod Text
 pub mod Expected
-pub mod Reach
-pub mod UnitSpelling
 pub mod Outcome
 pub mod SingleUnit

@@ -8,7 +8,7 @@ use Rattle.cil_model.specs.declared.machine.World.{World}
 use Rattle.cil_model.specs.declared.unit.Unit.{Unit as MethodUnit}
 use Rattle.check_driver.specs.Expected.{word_at}
 use Rattle.check_driver.specs.Text.{unit_line}
-use Rattle.check_driver.specs.UnitSpelling.{IsBuilt, unit_bytes}
+use Rattle.method_unit.specs.UnitSpelling.{IsBuilt, unit_bytes}
 use Rattle.check_driver.specs.Words.{command_of}
 use Rattle.check_driver.specs.declared.command.Command.TheVariants as commands
 

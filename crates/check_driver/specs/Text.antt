@@ -6,7 +6,7 @@ use Rattle.cc_base.specs.Digits.{hex}
 use Rattle.cil_model.specs.declared.place.Place.{Place}
 use Rattle.cil_model.specs.declared.place.Place.TheVariants as places
 use Rattle.cil_model.specs.declared.unit.Unit.{Unit as MethodUnit}
-use Rattle.check_driver.specs.UnitFile.{is_printable}
+use Rattle.method_unit.specs.UnitFile.{is_printable}
 use Rattle.check_driver.specs.Verdicts.{verdicts, all_proved, proved_count}
 use Rattle.check_driver.specs.declared.judge.Verdict.{Verdict}
 use Rattle.check_driver.specs.declared.lines.Counts.{Counts}

@@ -4,7 +4,7 @@ ghost use Rattle.std.specs.Prelude.{◌≡◌, ◌++◌, List, IfOk, codes};
 ghost use Rattle.check_driver.specs.Expected.{missing_line, unread_line, refused_line, fault_text, fault_at};
 
 use crate::lines::append_escaped;
-use crate::unit_fault::UnitFault;
+use method_unit::UnitFault;
 use cc_base::put_hex;
 use std::alloc::{AllocError, Global};
 

@@ -8,13 +8,13 @@ mod judge;
 mod lines;
 mod program;
 mod range;
-mod read_unit;
+
 mod report;
 mod stack;
-mod typing;
-mod unit_fault;
-mod unit_fields;
-mod unit_instructions;
+
+
+
+
 
 pub use command::{Command, parse_words};
 pub use program::run_words;

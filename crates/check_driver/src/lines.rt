@@ -7,7 +7,7 @@ ghost use Rattle.cc_base.specs.Digits.{hex};
 ghost use Rattle.check_driver.specs.Text.{escaped, escaped_byte, next_parameter, parameters_text, place_text, signature_text, unit_line, verdict_line, summary_line, proved_text};
 
 use crate::judge::Verdict;
-use crate::unit_fields::is_printable;
+use method_unit::is_printable;
 use cc_base::{put_hex, put_number};
 use cil_model::{Place, Unit};
 use std::alloc::{AllocError, Global};

@@ -11,8 +11,8 @@ ghost use Rattle.check_driver.specs.Expected.{AreTold, IsUnder, expected, unread
 ghost use Rattle.check_driver.specs.Outcome.{Gives, GivesOrUnread, Leaves};
 ghost use Rattle.check_driver.specs.SingleUnit.{AsksFor, PrintsProved, IsSafe};
 ghost use Rattle.check_driver.specs.Text.{unit_report};
-ghost use Rattle.check_driver.specs.UnitFile.{first_unit_fault};
-ghost use Rattle.check_driver.specs.UnitSpelling.{IsBuilt};
+ghost use Rattle.method_unit.specs.UnitFile.{first_unit_fault};
+ghost use Rattle.method_unit.specs.UnitSpelling.{IsBuilt};
 ghost use Rattle.check_driver.specs.Verdicts.{verdicts, all_proved};
 ghost use Rattle.check_driver.specs.Words.{command_of};
 ghost use Rattle.cil_model.specs.declared.unit.Unit.{Unit as MethodUnit};
@@ -24,9 +24,8 @@ use crate::errors::{
 };
 use crate::interrupt::Interrupt;
 use crate::judge::{all_proved, judge};
-use crate::read_unit::read_unit;
+use method_unit::{UnitRefusal, read_unit};
 use crate::report::report_lines;
-use crate::unit_fault::UnitRefusal;
 use cc_base::{Files, READ_LIMIT, ReadRefusal, Sink};
 use cil_model::Unit;
 use std::alloc::Global;

@@ -1,6 +1,6 @@
 use Rattle.std.proofs.Common.{◌≡◌, ◌∙◌, Some}
 use Rattle.check_driver.specs.Expected.{refused_line, fault_text, fault_at}
-use Rattle.check_driver.specs.UnitFile.{first_unit_fault}
+use Rattle.method_unit.specs.UnitFile.{first_unit_fault}
 use Rattle.check_driver.proofs.Writings.{gives_line}
 use Rattle.check_driver.proofs.program.answer_unit.Goals as goal
 

@@ -1,6 +1,0 @@
-use Rattle.std.proofs.Common.{◌≡◌, ◌+◌, ◌-◌}
-use Rattle.check_driver.specs.UnitFile.{arg_faults}
-use Rattle.check_driver.proofs.unit_fields.check_each_arg.Given as goal
-
-abbrev pub invariant-loop-i : goal.invariant-loop-i
-invariant-loop-i l = arg_faults l.bytes (l.count - l.i) (l.first + l.i) ≡ arg_faults l.bytes l.count l.first

@@ -1,6 +1,0 @@
-use Rattle.std.proofs.Common.{◌≡◌, ◌+◌, drop}
-use Rattle.check_driver.specs.UnitFile.{unprintable}
-use Rattle.check_driver.proofs.unit_fields.check_printable.Given as goal
-
-abbrev pub invariant-loop-i : goal.invariant-loop-i
-invariant-loop-i l = unprintable (l.at + l.i) (drop l.i l.text) ≡ unprintable l.at l.text

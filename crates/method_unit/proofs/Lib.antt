@@ -1,0 +1,14 @@
+pub mod Decoded
+pub mod Faultless
+pub mod Fields
+pub mod FieldsAgain
+pub mod FieldsTaken
+pub mod Instructions
+pub mod ReadUnit
+pub mod Same
+pub mod Sequence
+pub mod Stands
+pub mod Typed
+pub mod UnitAgain
+pub mod UnitBytes
+pub mod UnitTaken

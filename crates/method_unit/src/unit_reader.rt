@@ -1,0 +1,66 @@
+//! Units, read from their files.
+
+ghost use Rattle.std.specs.Prelude.{◌≡◌, ◌+◌, ◌<◌, ◌≤◌, ◌^◌, ⊤, List, [], length, take, drop, IfOk, Ok, Err, Some, None, replicate};
+ghost use Rattle.method_unit.specs.Faults.{Tells, Reads};
+ghost use Rattle.method_unit.specs.UnitFile.{unit_with};
+ghost use Rattle.method_unit.specs.UnitSpelling.{IsBuilt, unit_bytes, ReadsOnly, IsRead};
+ghost use Rattle.cil_model.specs.declared.unit.Unit.{Unit as MethodUnit};
+
+use crate::typing::check_typing;
+use crate::unit_fault::UnitRefusal;
+use crate::unit_fields::{Fields, read_fields};
+use crate::unit_instructions::{check_limit, read_instructions};
+use cil_model::{Instr, List, Place, Unit};
+use std::alloc::{AllocError, Global};
+
+/// The places of this many int32 arguments.
+fn int_places(alloc: Global, count: usize) -> Result<Vec<Place>, AllocError>
+    ensures { IfOk result (λ places. places.items ≡ replicate count Place.Int) }
+{
+    vec![in alloc; Place::Int; count]
+}
+
+/// The unit of a file, by the places of its fields.
+fn unit_at(alloc: Global, fields: &Fields<'_>, instrs: Vec<Instr>) -> Result<Unit, AllocError>
+    ensures { IfOk result (λ unit. unit ≡ unit_with fields.now.name.now fields.now.arg_count fields.now.max_stack fields.now.code.now instrs.items) }
+{
+    Ok(Unit {
+        name: List::from_vec(Vec::from_slice(alloc, fields.name)?),
+        result: Place::Int,
+        args: List::from_vec(int_places(alloc, fields.arg_count)?),
+        locals: List::from_vec(Vec::new(alloc)),
+        max_stack: fields.max_stack,
+        callees: List::from_vec(Vec::new(alloc)),
+        code: List::from_vec(Vec::from_slice(alloc, fields.code)?),
+        clauses: List::from_vec(Vec::new(alloc)),
+        body_start: 0,
+        instrs: List::from_vec(instrs),
+    })
+}
+
+/// The unit of a file, or the first fault of the file.
+fn read_first(alloc: Global, bytes: &[u8]) -> Result<Unit, UnitRefusal>
+    ensures { IsRead bytes.now result }
+{
+    let fields = read_fields(bytes)?;
+    let instrs = read_instructions(alloc, fields.code, fields.code_at)?;
+    check_limit(&instrs, fields.code_at)?;
+    let max_stack = usize::from(fields.max_stack);
+    check_typing(&instrs, fields.arg_count, max_stack, fields.code_at)?;
+    Ok(unit_at(alloc, &fields, instrs)?)
+}
+
+/// The built unit that the bytes of a file spell, or the first fault of the file.
+///
+/// Cost: linear in the length of the file.
+pub fn read_unit(alloc: Global, bytes: &[u8]) -> Result<Unit, UnitRefusal>
+    // What is read is the one built unit that the bytes spell.
+    ensures built { IfOk result IsBuilt }
+    ensures spelled { IfOk result (λ unit. unit_bytes unit ≡ bytes.now) }
+    // A built unit that is spelled so is read, unless memory runs out.
+    ensures only { (unit : MethodUnit) → IsBuilt unit → unit_bytes unit ≡ bytes.now → ReadsOnly unit result }
+    // Which unit it is, or which fault comes first.
+    ensures exact { IsRead bytes.now result }
+{
+    read_first(alloc, bytes)
+}
