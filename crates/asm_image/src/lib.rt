@@ -15,3 +15,4 @@ mod types;
 pub use assembly::Assembly;
 pub use fault::{AsmFault, AsmRefusal, Cause};
 pub use method_row::MethodRow;
+pub use names::{append_escaped, append_parameters};

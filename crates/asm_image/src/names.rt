@@ -33,7 +33,7 @@ fn append_escaped_byte(alloc: Global, line: &mut Vec<u8>, byte: u8) -> Result<()
 }
 
 /// Appends a name with its escapes.
-fn append_escaped(alloc: Global, line: &mut Vec<u8>, name: &[u8]) -> Result<(), AllocError>
+pub fn append_escaped(alloc: Global, line: &mut Vec<u8>, name: &[u8]) -> Result<(), AllocError>
     ensures { OnOk result (line.new.items ≡ line.old.items ++ escaped name.now) }
 {
     for byte in name {
@@ -83,7 +83,7 @@ fn append_next_parameters(line: &mut Vec<u8>, places: &[Place]) -> Result<(), Al
 }
 
 /// Appends parameters' types, with commas between.
-fn append_parameters(line: &mut Vec<u8>, places: &[Place]) -> Result<(), AllocError>
+pub fn append_parameters(line: &mut Vec<u8>, places: &[Place]) -> Result<(), AllocError>
     ensures { OnOk result (line.new.items ≡ line.old.items ++ parameters_text places.now) }
 {
     match places {

@@ -3,10 +3,13 @@ use Rattle.std.proofs.Common.{◌≡◌, ℕ, zero, suc, ◌<◌, ◌≤◌, Lis
 use Rattle.std.specs.Prelude.{codes}
 use Rattle.std.specs.String.{string_bytes}
 use Rattle.std.specs.Option.{ForSome}
-use Rattle.std.proofs.lemmas.Bool.{cases_lt, le-leb}
+use Rattle.std.proofs.lemmas.Bool.{cases_lt, le-leb, lt-leb}
 use Rattle.std.proofs.lemmas.List.{take_all}
+use Rattle.asm_image.specs.Faults.{first_assembly_fault, assembly_tests, file_tests, large_test, most_bytes}
+use Rattle.asm_image.specs.declared.fault.Cause.TheVariants as causes
+use Rattle.pe_reader.specs.Faults.{first_of}
 use Rattle.cc_base.specs.Files.{Held, IsRead, READ_LIMIT}
-use Rattle.check_driver.specs.Expected.{USAGE, error_answer, refused_line, AreTold, IsUnder, expected, unit_file_answer, bytes_answer, word_at, file_of}
+use Rattle.check_driver.specs.Expected.{USAGE, error_answer, refused_answer, AreTold, IsUnder, expected, unit_file_answer, bytes_answer, file_answer, word_at, file_of}
 use Rattle.check_driver.specs.Outcome.{GivesOrUnread}
 use Rattle.check_driver.specs.Words.{command_of, file_place}
 use Rattle.check_driver.specs.Writing.{Change}
@@ -14,30 +17,46 @@ use Rattle.check_driver.specs.declared.command.Command.{Command}
 use Rattle.check_driver.specs.declared.command.Command.TheVariants as commands
 use Rattle.check_driver.specs.declared.interrupt.Interrupt.{Interrupt}
 
+-- An assembly past the limit has that fault first.
+large_first : (bytes : List ℕ) → READ_LIMIT ≤ length bytes → first_assembly_fault bytes ≡ Some (record { at = most_bytes; cause = causes.Large })
+unfolding first_assembly_fault assembly_tests file_tests large_test first_of
+large_first bytes past = rw (lt-leb (length bytes) most_bytes (omega (arith, past))) refl
+
 -- Bytes that were cut off past the limit have the answer of the whole.
-cut_alike : (name bytes : List ℕ) (limit : ℕ) → limit ≡ READ_LIMIT → bytes_answer name bytes ≡ bytes_answer name (take limit bytes)
-cut_alike name bytes limit is =
+cut_alike : (command : Command) (name bytes : List ℕ) (limit : ℕ) → limit ≡ READ_LIMIT → READ_LIMIT ≤ length bytes
+    → bytes_answer command name bytes ≡ bytes_answer command name (take limit bytes)
+cut_alike (commands.Unit file) name bytes limit is past =
+    let whole = le-leb READ_LIMIT (length bytes) past in
+    let cut = le-leb READ_LIMIT (length (take limit bytes)) (omega (arith, length-take limit bytes)) in
+    rw (whole, cut) refl
+cut_alike (commands.List file) name bytes limit is past =
+    let whole = large_first bytes past in
+    let cut = large_first (take limit bytes) (omega (arith, length-take limit bytes)) in
+    rw (whole, cut) refl
+
+alike : (command : Command) (name bytes : List ℕ) (limit : ℕ) → limit ≡ READ_LIMIT
+    → bytes_answer command name bytes ≡ bytes_answer command name (take limit bytes)
+alike command name bytes limit is =
     elim (cases_lt (length bytes) limit) [
-      | inl lt ↦ ap (bytes_answer name) (sym (take_all limit bytes (omega arith)))
-      | inr ge ↦
-          let whole = le-leb READ_LIMIT (length bytes) (omega arith) in
-          let cut = le-leb READ_LIMIT (length (take limit bytes)) (omega (arith, length-take limit bytes)) in
-          rw (whole, cut) refl
+      | inl lt ↦ ap (bytes_answer command name) (sym (take_all limit bytes (omega arith)))
+      | inr ge ↦ cut_alike command name bytes limit is (omega arith)
     ]
 
 some_is : {X : Type 0} (x y : X) → Some x ≡ Some y → x ≡ y
 some_is x y e = cc
 
-read_alike : (name bytes : List ℕ) (under : Option (List ℕ)) → IsRead under bytes → unit_file_answer name under ≡ bytes_answer name bytes
-read_alike name bytes None h = absurd cc
-read_alike name bytes (Some whole) h = cut_alike name whole READ_LIMIT refl ∙ ap (bytes_answer name) (some_is (take READ_LIMIT whole) bytes h)
+read_alike : (command : Command) (name bytes : List ℕ) (under : Option (List ℕ)) → IsRead under bytes
+    → file_answer command name under ≡ bytes_answer command name bytes
+read_alike command name bytes None h = absurd cc
+read_alike command name bytes (Some whole) h =
+    alike command name whole READ_LIMIT refl ∙ ap (bytes_answer command name) (some_is (take READ_LIMIT whole) bytes h)
 
 -- What was read is held, as far as that is told, and has the answer of what was read.
-pub read_under : (told : Option Held) (name bytes : List ℕ) → ForSome told (λ h. IsRead (h name) bytes)
-    → (under : Option (List ℕ)) × IsUnder told name under × (unit_file_answer name under ≡ bytes_answer name bytes)
-read_under None name bytes h = (Some bytes, λ files e. absurd cc, refl)
-read_under (Some held) name bytes h =
-    (held name, λ files e. ap (λ (h : Held). h name) (sym (some_is held files e)), read_alike name bytes (held name) (h held refl))
+pub read_under : (command : Command) (told : Option Held) (name bytes : List ℕ) → ForSome told (λ h. IsRead (h name) bytes)
+    → (under : Option (List ℕ)) × IsUnder told name under × (file_answer command name under ≡ bytes_answer command name bytes)
+read_under command None name bytes h = (Some bytes, λ files e. absurd cc, refl)
+read_under command (Some held) name bytes h =
+    (held name, λ files e. ap (λ (h : Held). h name) (sym (some_is held files e)), read_alike command name bytes (held name) (h held refl))
 
 -- Something is held under each name, as far as that is told.
 pub any_under : (told : Option Held) (name : List ℕ) → (under : Option (List ℕ)) × IsUnder told name under
@@ -59,17 +78,17 @@ pub no_command_answer : (words : List (List ℕ)) (held : Held) → None ≡ com
 no_command_answer words held e = rw (← e) refl
 
 -- A file past the limit is refused.
-pub too_large : (name bytes : List ℕ) → READ_LIMIT ≤ length bytes → bytes_answer name bytes ≡ error_answer 5 (refused_line name (codes "file too large") 0x04000000)
+pub too_large : (name bytes : List ℕ) → READ_LIMIT ≤ length bytes → unit_file_answer name bytes ≡ refused_answer name (codes "file too large") 0x04000000
 too_large name bytes past = let test = le-leb READ_LIMIT (length bytes) past in rw test refl
 
 -- The answer for a name is that for the words.
 pub words_answer : (told : Option Held) (words : List (List ℕ)) (command : Command) (name : List ℕ) (under : Option (List ℕ)) (failed : Type 0) (r : Result ℕ Interrupt) (out err : Change)
     → Some command ≡ command_of words → word_at words (file_place command) ≡ name → IsUnder told name under
-    → GivesOrUnread (unit_file_answer name under) name failed r out err
+    → GivesOrUnread (file_answer command name under) name failed r out err
     → (held : Held) × AreTold told held × GivesOrUnread (expected words held) (file_of words) failed r out err
-words_answer told words (commands.Unit file) name under failed r out err command is under_is gives =
+words_answer told words command name under failed r out err asked is under_is gives =
     let h = held_under told name under under_is in
-    (h.0, h.1, rw (← command, is, h.2) gives)
+    (h.0, h.1, rw (← asked, is, h.2) gives)
 
 -- The word at a place, as bytes.
 pub word_is : (words : List (String Global)) (place : ℕ) (word : String Global) → place < length words → word ≡ get_or words place word

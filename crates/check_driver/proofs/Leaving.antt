@@ -1,5 +1,5 @@
 -- What a call of the program leaves, from what its answer gave.
-use Rattle.std.proofs.Common.{◌≡◌, ◌≢◌, ℕ, List, [], Option, Some, Result, Ok, Err, refl, sym, ap, subst, ◌∙◌, arith, inl, inr, ◌⊎◌}
+use Rattle.std.proofs.Common.{◌≡◌, ℕ, List, [], Option, Some, Result, Ok, Err, refl, sym, ap, subst, ◌∙◌, arith, inl, inr, ◌⊎◌}
 use Rattle.cc_base.specs.Counts.{Rose, Kept}
 use Rattle.cc_base.specs.Files.{Held}
 use Rattle.cc_base.specs.Sink.{appended, AppendsFront}
@@ -8,14 +8,9 @@ use Rattle.cc_base.proofs.SinkLemmas.{appended-appended, IsFront-nil, AppendsFro
 use Rattle.check_driver.specs.Expected.{Answer, AreTold, expected, unread_line, UNWRITTEN_LINE, NO_MEMORY_LINE}
 use Rattle.check_driver.specs.Outcome.{GivesOrUnread, Leaves, Interrupted}
 use Rattle.check_driver.specs.Writing.{Change, change}
+use Rattle.check_driver.proofs.Plain.{IsPlain}
 use Rattle.check_driver.specs.declared.interrupt.Interrupt.{Interrupt}
 use Rattle.check_driver.specs.declared.interrupt.Interrupt.TheVariants as interrupts
-
--- No answer has a status that tells an interruption.
-pub record IsPlain (status : ℕ) : Type 0 where
-  pub read : status ≢ 4
-  pub written : status ≢ 6
-  pub memory : status ≢ 7
 
 -- Nothing, where the answer writes nothing, is a front of what is expected.
 unwritten_front : (out : Change) (text : List ℕ) → AppendsFront out.old out.new [] → AppendsFront out.old out.new text

@@ -3,6 +3,7 @@ pub mod EffectSoundness
 pub mod Following
 pub mod Judging
 pub mod Leaving
+pub mod Plain
 pub mod PrintedSafe
 pub mod RangeSoundness
 pub mod RangeSums

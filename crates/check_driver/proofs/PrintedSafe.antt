@@ -7,7 +7,8 @@ use Rattle.cc_base.specs.Files.{Held, READ_LIMIT}
 use Rattle.cc_base.specs.Sink.{appended, IsFront, AppendsFront}
 use Rattle.cc_base.proofs.SinkLemmas.{IsFront-trans}
 use Rattle.cil_model.specs.declared.unit.Unit.{Unit as MethodUnit}
-use Rattle.check_driver.specs.Expected.{Answer, expected, command_answer, unit_file_answer, bytes_answer, unit_answer, word_at}
+use Rattle.check_driver.specs.Expected.{Answer, expected, command_answer, file_answer, unit_file_answer, unit_answer, word_at}
+use Rattle.check_driver.specs.declared.command.Command.TheVariants as commands
 use Rattle.check_driver.specs.SingleUnit.{AsksFor, PrintsProved, IsSafe}
 use Rattle.check_driver.specs.Text.{signature_text, proved_text, unit_line, verdict_line, unit_counts, summary_line, unit_report}
 use Rattle.method_unit.specs.UnitFile.{first_unit_fault, unit_of}
@@ -75,9 +76,9 @@ answer_report name bytes unit none same = rw none (ap unit_report same)
 
 -- The answer to the words is the answer for the bytes of the unit.
 asked_answer : (words : List (List ℕ)) (held : Held) (unit : MethodUnit) (asks : AsksFor words held unit)
-    → expected words held ≡ bytes_answer (word_at words asks.file) (unit_bytes unit)
+    → expected words held ≡ unit_file_answer (word_at words asks.file) (unit_bytes unit)
 asked_answer words held unit asks =
-    ap (command_answer words held) asks.command ∙ ap (unit_file_answer (word_at words asks.file)) asks.bytes
+    ap (command_answer words held) asks.command ∙ ap (file_answer (commands.Unit asks.file) (word_at words asks.file)) asks.bytes
 
 -- The line begins the report of the unit, if it begins what is printed at all.
 front_of_report : (words : List (List ℕ)) (held : Held) (unit : MethodUnit) → AsksFor words held unit
@@ -86,7 +87,7 @@ front_of_report words held unit asks front =
     let name = word_at words asks.file in
     let bytes = unit_bytes unit in
     let again = unit_again unit asks.built in
-    let begins : IsFront (unit_line unit true) (Answer.out (bytes_answer name bytes)) =
+    let begins : IsFront (unit_line unit true) (Answer.out (unit_file_answer name bytes)) =
     subst (λ (a : Answer). IsFront (unit_line unit true) a.out) (asked_answer words held unit asks) front in
     front_of_answer (nat_le READ_LIMIT (length bytes)) _ (unit_answer name bytes (first_unit_fault bytes)) unit refl (answer_report name bytes unit again.0 again.1) begins
 

@@ -1,9 +1,9 @@
 -- A unit that is not safe, so that safety says something: with the argument 0 its Assert fails.
-use Rattle.std.proofs.Common.{◌≡◌, ℕ, ℤ, pos, FitsSigned, List, [], ◌∷◌, codes, refl, w32, arith, inl, inr}
+use Rattle.std.proofs.Common.{ℕ, pos, FitsSigned, List, [], ◌∷◌, codes, refl, w32, arith, inl}
 use Rattle.std.proofs.lemmas.Int.{ints}
-use Rattle.cil_model.specs.Effects.{Effect, GoesOn, Faults}
+use Rattle.cil_model.specs.Effects.{GoesOn, Faults}
 use Rattle.cil_model.specs.LocalStep.{LocalStep, LocalRuns, LocalSafe}
-use Rattle.cil_model.specs.Machine.{Heap, IsEntryFrame}
+use Rattle.cil_model.specs.Machine.{IsEntryFrame}
 use Rattle.cil_model.specs.declared.instruction.BinOp.TheVariants as operators
 use Rattle.cil_model.specs.declared.instruction.Instr.{Instr}
 use Rattle.cil_model.specs.declared.instruction.Op.{Op}

@@ -1,15 +1,16 @@
 -- How texts that are written follow one another, and what answers they make.
-use Rattle.std.proofs.Common.{◌≡◌, ℕ, suc, ◌<◌, Bool, cond, List, [], ◌∷◌, ◌++◌, length, get_or, take, drop, Option, Result, Ok, Err, Vec, Global, refl, sym, ap, subst, ◌∙◌, append_assoc, take-append-drop, inl, inr}
+use Rattle.std.proofs.Common.{◌≡◌, ℕ, suc, ◌<◌, List, [], ◌∷◌, ◌++◌, length, get_or, take, drop, Option, Result, Ok, Err, refl, sym, ap, subst, ◌∙◌, append_assoc, take-append-drop, inl, inr}
 use Rattle.std.specs.Prelude.{IfOk, IsErrOf}
+use Rattle.std.specs.List.{flat_map}
 use Rattle.std.proofs.Math.Seq.{drop-cons}
 use Rattle.std.proofs.lemmas.List.Concat.{flat_map-append}
 use Rattle.cc_base.specs.Counts.{Kept}
 use Rattle.cc_base.specs.Sink.{appended, IsFront}
 use Rattle.cc_base.proofs.CountLemmas.{Kept-refl, Kept-trans, Kept-Rose}
 use Rattle.cc_base.proofs.SinkLemmas.{appended-nil, AppendsFront-none, AppendsFront-after, AppendsFront-front}
-use Rattle.check_driver.specs.Expected.{Answer, error_answer, report_answer}
+use Rattle.check_driver.specs.Expected.{Answer, error_answer, output_answer}
 use Rattle.check_driver.specs.Outcome.{Gives}
-use Rattle.check_driver.specs.Writing.{Change, change, Writes, joined}
+use Rattle.check_driver.specs.Writing.{Change, change, Writes}
 use Rattle.check_driver.specs.declared.interrupt.Interrupt.{Interrupt}
 use Rattle.check_driver.specs.declared.interrupt.Interrupt.TheVariants as interrupts
 
@@ -31,15 +32,15 @@ writes_stop {X} {Y} e old mid new f0 f1 f2 before text whole so_far kept w insid
   kept = Kept-trans f0 f1 f2 kept w.kept;
 }
 
--- The lines so far and the next are a front of all of them.
-pub joined_front : (lines : List (Vec ℕ Global)) (k : ℕ) (line : Vec ℕ Global) → k < length lines → line ≡ get_or lines k line
-    → IsFront (joined (take k lines) ++ line.items) (joined lines)
-joined_front lines k line lt at =
-    let split : drop k lines ≡ line ∷ drop (suc k) lines = drop-cons lines k line lt ∙ ap (λ (x : Vec ℕ Global). x ∷ drop (suc k) lines) (sym at) in
-    let whole : lines ≡ take k lines ++ (line ∷ drop (suc k) lines) = sym (take-append-drop k lines) ∙ ap (λ (r : List (Vec ℕ Global)). take k lines ++ r) split in
-    let text : joined lines ≡ joined (take k lines) ++ (line.items ++ joined (drop (suc k) lines)) =
-    ap joined whole ∙ flat_map-append (λ (l : Vec ℕ Global). l.items) (take k lines) (line ∷ drop (suc k) lines) in
-    (joined (drop (suc k) lines), text ∙ sym (append_assoc (joined (take k lines)) line.items (joined (drop (suc k) lines))))
+-- The texts of the first items and of the next are a front of the texts of all.
+pub texts_front : {X : Type 0} (text : X → List ℕ) (items : List X) (k : ℕ) (item : X) → k < length items → item ≡ get_or items k item
+    → IsFront (flat_map text (take k items) ++ text item) (flat_map text items)
+texts_front {X} text items k item lt at =
+    let split : drop k items ≡ item ∷ drop (suc k) items = drop-cons items k item lt ∙ ap (λ (x : X). x ∷ drop (suc k) items) (sym at) in
+    let whole : items ≡ take k items ++ (item ∷ drop (suc k) items) = sym (take-append-drop k items) ∙ ap (λ (r : List X). take k items ++ r) split in
+    let texts : flat_map text items ≡ flat_map text (take k items) ++ (text item ++ flat_map text (drop (suc k) items)) =
+    ap (flat_map text) whole ∙ flat_map-append text (take k items) (item ∷ drop (suc k) items) in
+    (flat_map text (drop (suc k) items), texts ∙ sym (append_assoc (flat_map text (take k items)) (text item) (flat_map text (drop (suc k) items))))
 
 -- Nothing was written.
 pub writes_nothing : {X : Type 0} (o : Option (List ℕ)) (f : ℕ) (text : List ℕ) → Writes {X = X} (Err interrupts.NoMemory) (change o o f f) text
@@ -88,10 +89,10 @@ gives_error status line (Err e) o f err is w = record {
   err_kept = w.kept;
 }
 
--- A report was interrupted.
-pub gives_report_stop : {X : Type 0} (text : List ℕ) (proved : Bool) (i : Interrupt) (out : Change) (e : Option (List ℕ)) (g : ℕ)
-    → Writes {X = X} (Err i) out text → Gives (report_answer text proved) (Err i) out (change e e g g)
-gives_report_stop {X} text proved i out e g w = record {
+-- A text on the sink of output was interrupted.
+pub gives_output_stop : {X : Type 0} (status : ℕ) (text : List ℕ) (i : Interrupt) (out : Change) (e : Option (List ℕ)) (g : ℕ)
+    → Writes {X = X} (Err i) out text → Gives (output_answer status text) (Err i) out (change e e g g)
+gives_output_stop {X} status text i out e g w = record {
   status = tt;
   out_all = tt;
   err_all = tt;
@@ -102,10 +103,10 @@ gives_report_stop {X} text proved i out e g w = record {
   err_kept = Kept-refl g;
 }
 
--- A report was written.
-pub gives_report : {X : Type 0} (text : List ℕ) (proved : Bool) (x : X) (status : ℕ) (out : Change) (e : Option (List ℕ)) (g : ℕ)
-    → status ≡ cond proved 0 1 → Writes (Ok x) out text → Gives (report_answer text proved) (Ok status) out (change e e g g)
-gives_report text proved x status out e g is w = record {
+-- A text on the sink of output is the answer.
+pub gives_output : {X : Type 0} (status : ℕ) (text : List ℕ) (x : X) (given : ℕ) (out : Change) (e : Option (List ℕ)) (g : ℕ)
+    → given ≡ status → Writes (Ok x) out text → Gives (output_answer status text) (Ok given) out (change e e g g)
+gives_output status text x given out e g is w = record {
   status = is;
   out_all = w.whole;
   err_all = sym (appended-nil e);

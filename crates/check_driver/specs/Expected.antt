@@ -1,16 +1,20 @@
 -- What a call of the program gives where nothing interrupts it.
-use Rattle.std.specs.Prelude.{◌≡◌, ℕ, Bool, List, [], ◌++◌, length, Option, Some, None, nat_le, if◌then◌else◌, codes, slice_index_or}
+use Rattle.std.specs.Prelude.{◌≡◌, ℕ, List, [], ◌++◌, length, Option, Some, None, nat_le, if◌then◌else◌, codes, slice_index_or}
 use Rattle.std.specs.Option.{ForSome}
 use Rattle.cc_base.specs.Digits.{hex}
 use Rattle.cc_base.specs.Files.{Held, READ_LIMIT}
-use Rattle.check_driver.specs.Text.{escaped, unit_report}
+use Rattle.asm_image.specs.Faults.{first_assembly_fault}
+use Rattle.asm_image.specs.Names.{escaped}
+use Rattle.asm_image.specs.declared.fault.AsmFault.{AsmFault}
+use Rattle.cil_model.specs.declared.unit.Unit.{Unit as MethodUnit}
+use Rattle.check_driver.specs.FaultText.{unit_fault_text, unit_fault_at, assembly_fault_text}
+use Rattle.check_driver.specs.Text.{unit_report, list_text}
 use Rattle.method_unit.specs.UnitFile.{first_unit_fault, unit_of}
 use Rattle.check_driver.specs.Verdicts.{verdicts, all_proved}
 use Rattle.check_driver.specs.Words.{command_of, file_place}
 use Rattle.check_driver.specs.declared.command.Command.{Command}
 use Rattle.check_driver.specs.declared.command.Command.TheVariants as commands
 use Rattle.method_unit.specs.declared.unit_fault.UnitFault.{UnitFault}
-use Rattle.method_unit.specs.declared.unit_fault.UnitFault.TheVariants.{Short, Form, Version, NotBuilt}
 
 -- What is written to the two sinks, and the status.
 pub record Answer : Type 0 where
@@ -39,39 +43,44 @@ UNWRITTEN_LINE = error_line (codes "cannot write")
 abbrev pub NO_MEMORY_LINE : List ℕ
 NO_MEMORY_LINE = error_line (codes "no memory")
 
-abbrev pub fault_text : UnitFault → List ℕ
-fault_text (Short at) = codes "unit short"
-fault_text (Form at) = codes "unit form"
-fault_text (Version at) = codes "unit version"
-fault_text (NotBuilt at) = codes "unit not built"
-
-abbrev pub fault_at : UnitFault → ℕ
-fault_at (Short at) = at
-fault_at (Form at) = at
-fault_at (Version at) = at
-fault_at (NotBuilt at) = at
-
 -- An answer on the sink of errors alone.
 abbrev pub error_answer : ℕ → List ℕ → Answer
 error_answer status line = record { out = []; err = line; status = status }
 
-abbrev pub report_answer : List ℕ → Bool → Answer
-report_answer text proved = record { out = text; err = []; status = if proved then 0 else 1 }
+-- A text on the sink of output alone.
+abbrev pub output_answer : ℕ → List ℕ → Answer
+output_answer status text = record { out = text; err = []; status = status }
+
+-- A file of this name is refused, with the words of its fault and the offset.
+abbrev pub refused_answer : List ℕ → List ℕ → ℕ → Answer
+refused_answer name fault at = error_answer 5 (refused_line name fault at)
+
+abbrev pub report_answer : MethodUnit → Answer
+report_answer unit = output_answer (if all_proved (verdicts unit) then 0 else 1) (unit_report unit)
 
 abbrev pub unit_answer : List ℕ → List ℕ → Option UnitFault → Answer
-unit_answer name bytes (Some fault) = error_answer 5 (refused_line name (fault_text fault) (fault_at fault))
-unit_answer name bytes None = report_answer (unit_report (unit_of bytes)) (all_proved (verdicts (unit_of bytes)))
+unit_answer name bytes (Some fault) = refused_answer name (unit_fault_text fault) (unit_fault_at fault)
+unit_answer name bytes None = report_answer (unit_of bytes)
 
 -- The answer to `unit FILE` for the bytes of the file.
-abbrev pub bytes_answer : List ℕ → List ℕ → Answer
-bytes_answer name bytes =
-    if nat_le READ_LIMIT (length bytes) then error_answer 5 (refused_line name (codes "file too large") 0x04000000)
+abbrev pub unit_file_answer : List ℕ → List ℕ → Answer
+unit_file_answer name bytes =
+    if nat_le READ_LIMIT (length bytes) then refused_answer name (codes "file too large") 0x04000000
     else unit_answer name bytes (first_unit_fault bytes)
 
--- The answer to `unit FILE`, by what is held under the name.
-abbrev pub unit_file_answer : List ℕ → Option (List ℕ) → Answer
-unit_file_answer name None = error_answer 3 (missing_line name)
-unit_file_answer name (Some bytes) = bytes_answer name bytes
+-- The answer to `list FILE` for the bytes of the file, which have this first fault or none.
+abbrev pub list_answer : List ℕ → List ℕ → Option AsmFault → Answer
+list_answer name bytes (Some fault) = refused_answer name (assembly_fault_text fault.cause) fault.at
+list_answer name bytes None = output_answer 0 (list_text bytes)
+
+abbrev pub bytes_answer : Command → List ℕ → List ℕ → Answer
+bytes_answer (commands.Unit file) name bytes = unit_file_answer name bytes
+bytes_answer (commands.List file) name bytes = list_answer name bytes (first_assembly_fault bytes)
+
+-- The answer to a command, by what is held under the name of its file.
+abbrev pub file_answer : Command → List ℕ → Option (List ℕ) → Answer
+file_answer command name None = error_answer 3 (missing_line name)
+file_answer command name (Some bytes) = bytes_answer command name bytes
 
 -- The word at a place.
 abbrev pub word_at : List (List ℕ) → ℕ → List ℕ
@@ -79,7 +88,8 @@ word_at words place = slice_index_or words place []
 
 abbrev pub command_answer : List (List ℕ) → Held → Option Command → Answer
 command_answer words held None = error_answer 2 USAGE
-command_answer words held (Some (commands.Unit file)) = unit_file_answer (word_at words file) (held (word_at words file))
+command_answer words held (Some command) =
+    let name = word_at words (file_place command) in file_answer command name (held name)
 
 -- The answer to the words, where these files are held.
 abbrev pub expected : List (List ℕ) → Held → Answer

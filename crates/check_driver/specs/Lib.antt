@@ -6,3 +6,4 @@ pub mod Text
 pub mod Expected
 pub mod Outcome
 pub mod SingleUnit
+pub mod FaultText

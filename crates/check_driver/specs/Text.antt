@@ -1,37 +1,15 @@
 -- The lines of reports.
-use Rattle.std.specs.Prelude.{ℕ, Bool, not, ◌&&◌, List, [], ◌∷◌, ◌++◌, length, ◌==◌, if◌then◌else◌, codes}
+use Rattle.std.specs.Prelude.{ℕ, Bool, List, ◌++◌, length, if◌then◌else◌, codes}
 use Rattle.std.specs.Fmt.{decimal}
 use Rattle.std.specs.List.{flat_map}
+use Rattle.asm_image.specs.Names.{parameters_text}
+use Rattle.asm_image.specs.Rows.{methods_of}
+use Rattle.asm_image.specs.declared.method_row.MethodRow.{MethodRow}
 use Rattle.cc_base.specs.Digits.{hex}
-use Rattle.cil_model.specs.declared.place.Place.{Place}
-use Rattle.cil_model.specs.declared.place.Place.TheVariants as places
 use Rattle.cil_model.specs.declared.unit.Unit.{Unit as MethodUnit}
-use Rattle.method_unit.specs.UnitFile.{is_printable}
 use Rattle.check_driver.specs.Verdicts.{verdicts, all_proved, proved_count}
 use Rattle.check_driver.specs.declared.judge.Verdict.{Verdict}
 use Rattle.check_driver.specs.declared.lines.Counts.{Counts}
-
--- A byte of a name that is printed raw, else a backslash and its two digits.
-abbrev pub escaped_byte : ℕ → List ℕ
-escaped_byte b = if is_printable b && not (b == 92) then b ∷ [] else 92 ∷ hex 2 b
-
-abbrev pub escaped : List ℕ → List ℕ
-escaped name = flat_map escaped_byte name
-
-abbrev pub place_text : Place → List ℕ
-place_text places.Void = codes "void"
-place_text places.Bool = codes "bool"
-place_text places.Int = codes "int32"
-place_text places.Bools = codes "bool[]"
-place_text places.Ints = codes "int32[]"
-
-abbrev pub next_parameter : Place → List ℕ
-next_parameter place = 44 ∷ place_text place
-
--- The types of parameters, with commas between.
-abbrev pub parameters_text : List Place → List ℕ
-parameters_text [] = []
-parameters_text (place ∷ places) = place_text place ++ flat_map next_parameter places
 
 -- A unit's name with its parameters' types.
 abbrev pub signature_text : MethodUnit → List ℕ
@@ -66,3 +44,11 @@ unit_counts vs = record {
 unfoldable pub unit_report : MethodUnit → List ℕ
 unit_report unit =
     unit_line unit (all_proved (verdicts unit)) ++ flat_map verdict_line (verdicts unit) ++ summary_line (unit_counts (verdicts unit))
+
+-- The line of a method in a list: its token, its name.
+abbrev pub method_line : MethodRow → List ℕ
+method_line method = hex 8 method.token.0 ++ codes " " ++ method.name ++ codes "\n"
+
+-- The methods of an assembly, one line for each.
+unfoldable pub list_text : List ℕ → List ℕ
+list_text bytes = flat_map method_line (methods_of bytes)

@@ -9,6 +9,8 @@ ghost use Rattle.check_driver.specs.Words.{command_of, command_of_two, file_plac
 pub enum Command {
     /// The report of the unit in a file.
     Unit(u32),
+    /// The methods of the assembly in a file.
+    List(u32),
 }
 
 impl Command {
@@ -17,7 +19,7 @@ impl Command {
         ensures { result ≡ file_place self }
     {
         match self {
-            Command::Unit(file) => file,
+            Command::Unit(file) | Command::List(file) => file,
         }
     }
 }
@@ -37,7 +39,14 @@ fn command_of_two(word: &str, file: &str) -> Option<Command>
     ensures inside { IfSome result (λ command. file_place command < 2) }
     ensures command { result ≡ command_of_two word.now file.now }
 {
-    (word == "unit" && is_file_word(file)).then_some(Command::Unit(1))
+    if !is_file_word(file) {
+        return None;
+    }
+    match word {
+        "unit" => Some(Command::Unit(1)),
+        "list" => Some(Command::List(1)),
+        _ => None,
+    }
 }
 
 /// The command that the words are, if they are one.

@@ -1,10 +1,9 @@
 //! The lines on the sink of errors.
 
 ghost use Rattle.std.specs.Prelude.{◌≡◌, ◌++◌, List, IfOk, codes};
-ghost use Rattle.check_driver.specs.Expected.{missing_line, unread_line, refused_line, fault_text, fault_at};
+ghost use Rattle.check_driver.specs.Expected.{missing_line, unread_line, refused_line};
 
-use crate::lines::append_escaped;
-use method_unit::UnitFault;
+use asm_image::append_escaped;
 use cc_base::put_hex;
 use std::alloc::{AllocError, Global};
 
@@ -55,28 +54,4 @@ pub fn refused_line(
     put_hex(alloc, &mut line, at, 8)?;
     line.extend_from_slice(b"\n")?;
     Ok(line)
-}
-
-/// A fault's words.
-pub fn fault_text(fault: UnitFault) -> &'static [u8]
-    ensures { result.now ≡ fault_text fault }
-{
-    match fault {
-        UnitFault::Short(_) => b"unit short",
-        UnitFault::Form(_) => b"unit form",
-        UnitFault::Version(_) => b"unit version",
-        UnitFault::NotBuilt(_) => b"unit not built",
-    }
-}
-
-/// A fault's offset in the file.
-pub fn fault_at(fault: UnitFault) -> u32
-    ensures { result ≡ fault_at fault }
-{
-    match fault {
-        UnitFault::Short(at)
-        | UnitFault::Form(at)
-        | UnitFault::Version(at)
-        | UnitFault::NotBuilt(at) => at,
-    }
 }

@@ -3,18 +3,17 @@
 
 mod command;
 mod errors;
+mod fault_text;
 mod interrupt;
 mod judge;
 mod lines;
+mod list_answer;
 mod program;
+mod puts;
 mod range;
-
 mod report;
 mod stack;
-
-
-
-
+mod unit_answer;
 
 pub use command::{Command, parse_words};
 pub use program::run_words;

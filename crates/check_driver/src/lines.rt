@@ -4,77 +4,19 @@ ghost use Rattle.std.specs.Prelude.{◌≡◌, ◌+◌, ◌<◌, ◌≤◌, ◌^
 ghost use Rattle.std.specs.Fmt.{decimal};
 ghost use Rattle.std.specs.List.{flat_map};
 ghost use Rattle.cc_base.specs.Digits.{hex};
-ghost use Rattle.check_driver.specs.Text.{escaped, escaped_byte, next_parameter, parameters_text, place_text, signature_text, unit_line, verdict_line, summary_line, proved_text};
+ghost use Rattle.asm_image.specs.Names.{parameters_text};
+ghost use Rattle.check_driver.specs.Text.{signature_text, unit_line, verdict_line, method_line, summary_line, proved_text};
 
 use crate::judge::Verdict;
-use method_unit::is_printable;
+use asm_image::{MethodRow, append_parameters};
 use cc_base::{put_hex, put_number};
-use cil_model::{Place, Unit};
+use cil_model::Unit;
 use std::alloc::{AllocError, Global};
-
-/// Appends a byte of a name, or a backslash and its two digits where it is not printed raw.
-fn append_escaped_byte(alloc: Global, line: &mut Vec<u8>, byte: u8) -> Result<(), AllocError>
-    ensures { OnOk result (line.new.items ≡ line.old.items ++ escaped_byte byte) }
-{
-    if is_printable(byte) && byte != b'\\' {
-        line.push(byte)?;
-        return Ok(());
-    }
-    line.push(b'\\')?;
-    put_hex(alloc, line, u32::from(byte), 2)
-}
-
-/// Appends a name with its escapes.
-pub fn append_escaped(alloc: Global, line: &mut Vec<u8>, name: &[u8]) -> Result<(), AllocError>
-    ensures { OnOk result (line.new.items ≡ line.old.items ++ escaped name.now) }
-{
-    for byte in name {
-        append_escaped_byte(alloc, line, *byte)?;
-    }
-    Ok(())
-}
-
-/// A place's name in a signature.
-fn place_text(place: Place) -> &'static [u8]
-    ensures { result.now ≡ place_text place }
-{
-    match place {
-        Place::Void => b"void",
-        Place::Bool => b"bool",
-        Place::Int => b"int32",
-        Place::Bools => b"bool[]",
-        Place::Ints => b"int32[]",
-    }
-}
 
 fn proved_text(proved: bool) -> &'static [u8]
     ensures { result.now ≡ proved_text proved }
 {
     if proved { b"proved" } else { b"unproved" }
-}
-
-/// Appends parameters' types, each behind a comma.
-fn append_next_parameters(line: &mut Vec<u8>, places: &[Place]) -> Result<(), AllocError>
-    ensures { OnOk result (line.new.items ≡ line.old.items ++ flat_map next_parameter places.now) }
-{
-    for place in places {
-        line.push(b',')?;
-        line.extend_from_slice(place_text(*place))?;
-    }
-    Ok(())
-}
-
-/// Appends parameters' types, with commas between.
-fn append_parameters(line: &mut Vec<u8>, places: &[Place]) -> Result<(), AllocError>
-    ensures { OnOk result (line.new.items ≡ line.old.items ++ parameters_text places.now) }
-{
-    match places {
-        [] => Ok(()),
-        [first, rest @ ..] => {
-            line.extend_from_slice(place_text(*first))?;
-            append_next_parameters(line, rest)
-        }
-    }
 }
 
 /// The first line of a unit's report.
@@ -100,6 +42,18 @@ pub fn verdict_line(alloc: Global, verdict: Verdict) -> Result<Vec<u8>, AllocErr
     put_hex(alloc, &mut line, verdict.at, 4)?;
     line.extend_from_slice(b" assert: ")?;
     line.extend_from_slice(proved_text(verdict.proved))?;
+    line.extend_from_slice(b"\n")?;
+    Ok(line)
+}
+
+/// The line of a method in a list: its token and its name.
+pub fn method_line(alloc: Global, method: &MethodRow) -> Result<Vec<u8>, AllocError>
+    ensures { IfOk result (λ line. line.items ≡ method_line method.now) }
+{
+    let mut line = Vec::new(alloc);
+    put_hex(alloc, &mut line, method.token.0, 8)?;
+    line.extend_from_slice(b" ")?;
+    line.extend_from_slice(method.name.as_slice())?;
     line.extend_from_slice(b"\n")?;
     Ok(line)
 }

@@ -7,138 +7,59 @@ ghost use Rattle.std.specs.String.{string_bytes};
 ghost use Rattle.cc_base.specs.Counts.{Rose, Kept};
 ghost use Rattle.cc_base.specs.Files.{Held};
 ghost use Rattle.cc_base.specs.Sink.{AppendsFront};
-ghost use Rattle.check_driver.specs.Expected.{AreTold, IsUnder, expected, unread_line, file_of, error_answer, unit_answer, bytes_answer, unit_file_answer};
+ghost use Rattle.check_driver.specs.Expected.{AreTold, IsUnder, expected, unread_line, file_of, bytes_answer, file_answer};
 ghost use Rattle.check_driver.specs.Outcome.{Gives, GivesOrUnread, Leaves};
 ghost use Rattle.check_driver.specs.SingleUnit.{AsksFor, PrintsProved, IsSafe};
-ghost use Rattle.check_driver.specs.Text.{unit_report};
-ghost use Rattle.method_unit.specs.UnitFile.{first_unit_fault};
-ghost use Rattle.method_unit.specs.UnitSpelling.{IsBuilt};
-ghost use Rattle.check_driver.specs.Verdicts.{verdicts, all_proved};
 ghost use Rattle.check_driver.specs.Words.{command_of};
 ghost use Rattle.cil_model.specs.declared.unit.Unit.{Unit as MethodUnit};
-ghost use Rattle.check_driver.specs.Writing.{Writes, change, joined};
+ghost use Rattle.check_driver.specs.Writing.{change};
 
-use crate::command::parse_words;
-use crate::errors::{
-    NO_MEMORY, UNWRITTEN, USAGE, fault_at, fault_text, missing_line, refused_line, unread_line,
-};
+use crate::command::{Command, parse_words};
+use crate::errors::{NO_MEMORY, UNWRITTEN, USAGE, missing_line, unread_line};
 use crate::interrupt::Interrupt;
-use crate::judge::{all_proved, judge};
-use method_unit::{UnitRefusal, read_unit};
-use crate::report::report_lines;
-use cc_base::{Files, READ_LIMIT, ReadRefusal, Sink};
-use cil_model::Unit;
+use crate::list_answer::answer_list;
+use crate::puts::answer_error;
+use crate::unit_answer::answer_unit_file;
+use cc_base::{Files, ReadRefusal, Sink};
 use std::alloc::Global;
 
-/// Where the fault of a file that is too large is named: at its first byte past the limit.
-const TOO_LARGE_AT: u32 = 67_108_864;
-
-/// Puts one line.
-fn put_line<S: Sink>(alloc: Global, sink: &mut S, line: &[u8]) -> Result<(), Interrupt>
-    ensures { Writes result (change (S.written sink.old) (S.written sink.new) (S.faults sink.old) (S.faults sink.new)) line.now }
-{
-    sink.put(alloc, line)?;
-    Ok(())
-}
-
-/// Puts lines, each at once.
-fn put_lines<S: Sink>(alloc: Global, sink: &mut S, lines: &[Vec<u8>]) -> Result<(), Interrupt>
-    ensures { Writes result (change (S.written sink.old) (S.written sink.new) (S.faults sink.old) (S.faults sink.new)) (joined lines.now) }
-{
-    for line in lines {
-        put_line(alloc, sink, line)?;
-    }
-    Ok(())
-}
-
-/// Puts the report of a unit, and tells whether the unit is proved.
-fn put_report<O: Sink>(alloc: Global, unit: &Unit, out: &mut O) -> Result<bool, Interrupt>
-    requires { IsBuilt unit.now }
-    ensures proved { IfOk result (λ proved. proved ≡ all_proved (verdicts unit.now)) }
-    ensures written { Writes result (change (O.written out.old) (O.written out.new) (O.faults out.old) (O.faults out.new)) (unit_report unit.now) }
-{
-    let found = judge(alloc, unit)?;
-    let lines = report_lines(alloc, unit, &found)?;
-    put_lines(alloc, out, &lines)?;
-    Ok(all_proved(&found))
-}
-
-/// Answers by one line on the sink of errors, and a status.
-fn answer_error<E: Sink>(
-    alloc: Global,
-    status: u8,
-    line: &[u8],
-    err: &mut E,
-) -> Result<u8, Interrupt>
-    ensures status { IfOk result (λ given. given ≡ status) }
-    ensures written { Writes result (change (E.written err.old) (E.written err.new) (E.faults err.old) (E.faults err.new)) line.now }
-{
-    put_line(alloc, err, line)?;
-    Ok(status)
-}
-
-/// Answers `unit FILE` for the bytes of the file.
-fn answer_unit<O: Sink, E: Sink>(
-    alloc: Global,
-    name: &[u8],
-    bytes: &[u8],
-    out: &mut O,
-    err: &mut E,
-) -> Result<u8, Interrupt>
-    requires { length bytes.now < READ_LIMIT }
-    ensures { Gives (unit_answer name.now bytes.now (first_unit_fault bytes.now)) result
-        (change (O.written out.old) (O.written out.new) (O.faults out.old) (O.faults out.new))
-        (change (E.written err.old) (E.written err.new) (E.faults err.old) (E.faults err.new)) }
-{
-    match read_unit(alloc, bytes) {
-        Err(UnitRefusal::NoMemory) => Err(Interrupt::NoMemory),
-        Err(UnitRefusal::Bad(fault)) => {
-            let line = refused_line(alloc, name, fault_text(fault), fault_at(fault))?;
-            answer_error(alloc, 5, &line, err)
-        }
-        Ok(unit) => {
-            let proved = put_report(alloc, &unit, out)?;
-            Ok(u8::from(!proved))
-        }
-    }
-}
-
-/// Answers `unit FILE` for what was read, at most `READ_LIMIT` bytes.
+/// Answers a command for what was read of its file, at most `READ_LIMIT` bytes.
 fn answer_bytes<O: Sink, E: Sink>(
     alloc: Global,
+    command: Command,
     name: &[u8],
     bytes: &[u8],
     out: &mut O,
     err: &mut E,
 ) -> Result<u8, Interrupt>
-    ensures { Gives (bytes_answer name.now bytes.now) result
+    ensures { Gives (bytes_answer command name.now bytes.now) result
         (change (O.written out.old) (O.written out.new) (O.faults out.old) (O.faults out.new))
         (change (E.written err.old) (E.written err.new) (E.faults err.old) (E.faults err.new)) }
 {
-    if bytes.len() >= READ_LIMIT {
-        let line = refused_line(alloc, name, b"file too large", TOO_LARGE_AT)?;
-        return answer_error(alloc, 5, &line, err);
+    match command {
+        Command::Unit(_) => answer_unit_file(alloc, name, bytes, out, err),
+        Command::List(_) => answer_list(alloc, name, bytes, out, err),
     }
-    answer_unit(alloc, name, bytes, out, err)
 }
 
-/// Answers `unit FILE`.
-fn answer_unit_file<F: Files, O: Sink, E: Sink>(
+/// Answers a command whose file has this name.
+fn answer_file<F: Files, O: Sink, E: Sink>(
     alloc: Global,
+    command: Command,
     name: &str,
     files: &mut F,
     out: &mut O,
     err: &mut E,
 ) -> Result<u8, Interrupt>
     ensures answer { (under : Option (List ℕ)) × IsUnder (F.held files.old) name.now under
-        × GivesOrUnread (unit_file_answer name.now under) name.now (Rose (F.faults files.old) (F.faults files.new)) result
+        × GivesOrUnread (file_answer command name.now under) name.now (Rose (F.faults files.old) (F.faults files.new)) result
         (change (O.written out.old) (O.written out.new) (O.faults out.old) (O.faults out.new))
         (change (E.written err.old) (E.written err.new) (E.faults err.old) (E.faults err.new)) }
     ensures missing { IfOk result (λ status. status ≡ 3 → Rose (F.missed files.old) (F.missed files.new)) }
     ensures files { F.held files.new ≡ F.held files.old }
 {
     match files.read(alloc, name) {
-        Ok(bytes) => answer_bytes(alloc, name.as_bytes(), &bytes, out, err),
+        Ok(bytes) => answer_bytes(alloc, command, name.as_bytes(), &bytes, out, err),
         Err(ReadRefusal::NoMemory) => Err(Interrupt::NoMemory),
         Err(ReadRefusal::Missing) => {
             let line = missing_line(alloc, name.as_bytes())?;
@@ -172,7 +93,7 @@ fn answer_words<F: Files, O: Sink, E: Sink>(
         None => answer_error(alloc, 2, USAGE, err),
         Some(command) => {
             let name = words[command.file() as usize].as_str();
-            answer_unit_file(alloc, name, files, out, err)
+            answer_file(alloc, command, name, files, out, err)
         }
     }
 }

@@ -17,7 +17,7 @@ returns-in-None-clause-answer g c =
 pub returns-in-Some-clause-answer : goal.returns-in-Some-clause-answer
 returns-in-Some-clause-answer g c =
     let words = map (λ (word : String Global). string_bytes word) c.args.words.now in
-    let answer = c.answer_unit_file.ensures.answer in
+    let answer = c.answer_file.ensures.answer in
     let at_file : word_at words c.file.result ≡ c.as_str-name.result.now =
     word_is c.args.words.now c.file.result c.index-words-file.result (omega (arith, c.file.ensures, c.in-Some.ensures.inside)) c.index-words-file.is ∙ sym c.as_str-name.ensures.value in
     words_answer (g.F.Files.held c.args.files.now) words c.in-Some.command c.as_str-name.result.now answer.0 _ _ _ _

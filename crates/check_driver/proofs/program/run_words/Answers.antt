@@ -3,12 +3,19 @@ use Rattle.std.specs.String.{string_bytes}
 use Rattle.cc_base.specs.Counts.{Rose}
 use Rattle.check_driver.specs.Expected.{expected, file_of}
 use Rattle.check_driver.specs.Writing.{change}
-use Rattle.check_driver.proofs.Leaving.{leaves_unwritten, leaves_no_memory, told_front}
+use Rattle.check_driver.proofs.Leaving.{leaves_answer, leaves_unwritten, leaves_no_memory, told_front}
+use Rattle.check_driver.proofs.Plain.{plain_expected}
 use Rattle.check_driver.proofs.PrintedSafe.{printed_safe}
 use Rattle.check_driver.proofs.program.run_words.Goals as goal
 
 pub returns-in-Ok-clause-no_command : goal.returns-in-Ok-clause-no_command
 returns-in-Ok-clause-no_command g c = λ e. inl (c.in-Ok.ensures.usage e)
+
+pub returns-in-Ok-clause-output : goal.returns-in-Ok-clause-output
+returns-in-Ok-clause-output g c =
+    let words = map (λ (word : String Global). string_bytes word) c.args.words.now in
+    let answer = c.in-Ok.ensures.answer in
+    (answer.0, answer.1, leaves_answer (expected words answer.0) (file_of words) _ _ _ _ (plain_expected words answer.0) answer.2)
 
 pub returns-in-Err-CannotWrite-clause-output : goal.returns-in-Err-CannotWrite-clause-output
 returns-in-Err-CannotWrite-clause-output g c =

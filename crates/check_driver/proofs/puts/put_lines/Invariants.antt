@@ -2,7 +2,7 @@ use Rattle.std.proofs.Common.{◌≡◌, take}
 use Rattle.cc_base.specs.Counts.{Kept}
 use Rattle.cc_base.specs.Sink.{appended}
 use Rattle.check_driver.specs.Writing.{joined}
-use Rattle.check_driver.proofs.program.put_lines.Given as goal
+use Rattle.check_driver.proofs.puts.put_lines.Given as goal
 
 abbrev pub invariant-loop-line : goal.invariant-loop-line
 invariant-loop-line g l =

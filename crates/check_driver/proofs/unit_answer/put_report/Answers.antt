@@ -1,5 +1,5 @@
 use Rattle.check_driver.proofs.Reporting.{verdicts_near, verdicts_few}
-use Rattle.check_driver.proofs.program.put_report.Goals as goal
+use Rattle.check_driver.proofs.unit_answer.put_report.Goals as goal
 
 pub report_lines-requires-clause-few : goal.report_lines-requires-clause-few
 report_lines-requires-clause-few g c = rw (c.deref.ensures.value, c.in_ok-found.ensures) (verdicts_few c.args.unit.now c.requires)

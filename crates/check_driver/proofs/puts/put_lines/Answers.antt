@@ -1,8 +1,8 @@
-use Rattle.std.proofs.Common.{take}
+use Rattle.std.proofs.Common.{ℕ, take, Vec, Global}
 use Rattle.std.proofs.lemmas.Result.{err_from_is_err_and}
 use Rattle.check_driver.specs.Writing.{joined}
-use Rattle.check_driver.proofs.Writings.{writes_stop, joined_front}
-use Rattle.check_driver.proofs.program.put_lines.Goals as goal
+use Rattle.check_driver.proofs.Writings.{writes_stop, texts_front}
+use Rattle.check_driver.proofs.puts.put_lines.Goals as goal
 
 pub returns-in_err-put_line : goal.returns-in_err-put_line
 returns-in_err-put_line g c =
@@ -16,4 +16,4 @@ returns-in_err-put_line g c =
     (faults c.args.sink.now) (faults c.loop-line.sink) (faults c.put_line.new.sink)
     (joined (take c.loop-line.line-index lines)) line.items (joined lines)
     c.loop-line.invariant.so_far c.loop-line.invariant.kept (rw c.deref.ensures.value at c.in_err-put_line.ensures)
-    (joined_front lines c.loop-line.line-index line c.loop-line-test.true c.line-item.is))
+    (texts_front (λ (l : Vec ℕ Global). l.items) lines c.loop-line.line-index line c.loop-line-test.true c.line-item.is))

@@ -1,7 +1,0 @@
-use Rattle.std.proofs.Common.{◌≡◌, ◌++◌, take}
-use Rattle.std.specs.List.{flat_map}
-use Rattle.check_driver.specs.Text.{escaped_byte}
-use Rattle.check_driver.proofs.lines.append_escaped.Given as goal
-
-abbrev pub invariant-loop-byte : goal.invariant-loop-byte
-invariant-loop-byte l = l.line.items ≡ l.initial.line.items ++ flat_map escaped_byte (take l.byte-index l.name)

@@ -1,0 +1,87 @@
+//! The answer to `unit FILE`.
+
+#![tactic(auto, using(cc_base::proofs::SinkLemmas::sinks, cc_base::proofs::CountLemmas::counts))]
+
+ghost use Rattle.std.specs.Prelude.{◌≡◌, ◌<◌, ◌≤◌, List, length, IfOk};
+ghost use Rattle.cc_base.specs.Counts.{Rose, Kept};
+ghost use Rattle.check_driver.specs.Expected.{unit_answer, unit_file_answer};
+ghost use Rattle.check_driver.specs.Outcome.{Gives};
+ghost use Rattle.check_driver.specs.Text.{unit_report};
+ghost use Rattle.check_driver.specs.Verdicts.{verdicts, all_proved};
+ghost use Rattle.check_driver.specs.Writing.{Writes, change, joined};
+ghost use Rattle.method_unit.specs.UnitFile.{first_unit_fault};
+ghost use Rattle.method_unit.specs.UnitSpelling.{IsBuilt};
+
+use crate::fault_text::{unit_fault_at, unit_fault_text};
+use crate::interrupt::Interrupt;
+use crate::judge::{all_proved, judge};
+use crate::puts::{answer_refused, put_lines};
+use crate::report::report_lines;
+use cc_base::{READ_LIMIT, Sink};
+use cil_model::Unit;
+use method_unit::{UnitRefusal, read_unit};
+use std::alloc::Global;
+
+/// Where the fault of a file that is too large is named: at its first byte past the limit.
+const TOO_LARGE_AT: u32 = 67_108_864;
+
+/// Puts the report of a unit, and tells whether the unit is proved.
+fn put_report<O: Sink>(alloc: Global, unit: &Unit, out: &mut O) -> Result<bool, Interrupt>
+    requires { IsBuilt unit.now }
+    ensures proved { IfOk result (λ proved. proved ≡ all_proved (verdicts unit.now)) }
+    ensures written { Writes result (change (O.written out.old) (O.written out.new) (O.faults out.old) (O.faults out.new)) (unit_report unit.now) }
+{
+    let found = judge(alloc, unit)?;
+    let lines = report_lines(alloc, unit, &found)?;
+    put_lines(alloc, out, &lines)?;
+    Ok(all_proved(&found))
+}
+
+/// Answers `unit FILE` for the bytes of a file that is not too large.
+fn answer_unit<O: Sink, E: Sink>(
+    alloc: Global,
+    name: &[u8],
+    bytes: &[u8],
+    out: &mut O,
+    err: &mut E,
+) -> Result<u8, Interrupt>
+    requires { length bytes.now < READ_LIMIT }
+    ensures { Gives (unit_answer name.now bytes.now (first_unit_fault bytes.now)) result
+        (change (O.written out.old) (O.written out.new) (O.faults out.old) (O.faults out.new))
+        (change (E.written err.old) (E.written err.new) (E.faults err.old) (E.faults err.new)) }
+{
+    match read_unit(alloc, bytes) {
+        Err(UnitRefusal::NoMemory) => Err(Interrupt::NoMemory),
+        Err(UnitRefusal::Bad(fault)) => {
+            answer_refused(
+                alloc,
+                name,
+                unit_fault_text(fault),
+                unit_fault_at(fault),
+                err,
+            )
+        }
+        Ok(unit) => {
+            let proved = put_report(alloc, &unit, out)?;
+            Ok(u8::from(!proved))
+        }
+    }
+}
+
+/// Answers `unit FILE` for what was read, at most `READ_LIMIT` bytes.
+pub fn answer_unit_file<O: Sink, E: Sink>(
+    alloc: Global,
+    name: &[u8],
+    bytes: &[u8],
+    out: &mut O,
+    err: &mut E,
+) -> Result<u8, Interrupt>
+    ensures { Gives (unit_file_answer name.now bytes.now) result
+        (change (O.written out.old) (O.written out.new) (O.faults out.old) (O.faults out.new))
+        (change (E.written err.old) (E.written err.new) (E.faults err.old) (E.faults err.new)) }
+{
+    if bytes.len() >= READ_LIMIT {
+        return answer_refused(alloc, name, b"file too large", TOO_LARGE_AT, err);
+    }
+    answer_unit(alloc, name, bytes, out, err)
+}
