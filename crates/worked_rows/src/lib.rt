@@ -1,9 +1,15 @@
-//! What the program answers, as tables of words, files and devices, and what is read of an assembly. There
+//! What the program answers, as tables of words, files and devices, and what is read of assemblies. There
 //! is nothing here but tests.
 #![tactic(auto)]
 
 #[cfg(test)]
 mod assembly;
+#[cfg(test)]
+mod assembly_faults;
+#[cfg(test)]
+mod assembly_methods;
+#[cfg(test)]
+mod demo_assembly;
 #[cfg(test)]
 mod devices;
 #[cfg(test)]
