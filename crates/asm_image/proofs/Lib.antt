@@ -1,6 +1,9 @@
 pub mod BlobLemmas
 pub mod CellLemmas
 pub mod FaultLemmas
+pub mod FindLemmas
+pub mod NameLemmas
+pub mod NameTableLemmas
 pub mod ReadLemmas
 pub mod RunLemmas
 pub mod TestLemmas

@@ -7,7 +7,7 @@ use Rattle.std.proofs.lemmas.List.FromFn.{map-range_with_len_more}
 use Rattle.metadata_tables.specs.Layout.{cell}
 use Rattle.signature_blobs.specs.declared.method.MethodSig.{MethodSig}
 use Rattle.asm_image.specs.Cells.{method_count, method_name, signature, owner}
-use Rattle.asm_image.specs.Names.{printed, printed_name}
+use Rattle.asm_image.specs.Names.{printed, short_name, printed_name}
 use Rattle.asm_image.specs.Rows.{method_token, method_row, rows_of}
 use Rattle.asm_image.specs.declared.method_row.MethodRow.{MethodRow}
 use Rattle.metadata_tables.specs.TableTests.{first_table_fault}
@@ -100,7 +100,7 @@ pub row-is : (md : List ℕ) (row type_row : ℕ) (name text : List ℕ) (flags 
     → type_row ≡ owner md row → name ≡ method_name md row → sig ≡ signature md row → text ≡ printed md type_row name sig.types
     → flags ≡ cell md 6 row 2 → impl_flags ≡ cell md 6 row 1 → rva ≡ cell md 6 row 0
     → made row text flags impl_flags rva sig ≡ method_row md row
-unfolding method_row printed_name
+unfolding method_row printed_name short_name
 row-is md row type_row name text flags impl_flags rva sig owned named signed printed_is flags_is impl_is rva_is =
     rw (printed_is, owned, named, signed, flags_is, impl_is, rva_is) refl
 

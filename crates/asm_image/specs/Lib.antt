@@ -1,5 +1,6 @@
 pub mod Cells
 pub mod Faults
+pub mod Find
 pub mod Names
 pub mod Reading
 pub mod Rows

@@ -48,9 +48,16 @@ abbrev pub types_text : SigTypes → List ℕ
 types_text (types.Known known) = codes "(" ++ parameters_text known.args ++ codes ")"
 types_text types.Other = codes "(?)"
 
--- The type, the method and its parameters.
+-- The type and the method.
+abbrev pub shortened : List ℕ → ℕ → List ℕ → List ℕ
+shortened md owner name = owner_text md owner ++ codes "::" ++ escaped name
+
+-- The same, and then the parameters.
 abbrev pub printed : List ℕ → ℕ → List ℕ → SigTypes → List ℕ
-printed md owner name types = owner_text md owner ++ codes "::" ++ escaped name ++ types_text types
+printed md owner name types = shortened md owner name ++ types_text types
+
+unfoldable pub short_name : List ℕ → ℕ → List ℕ
+short_name md row = shortened md (owner md row) (method_name md row)
 
 unfoldable pub printed_name : List ℕ → ℕ → List ℕ
-printed_name md row = printed md (owner md row) (method_name md row) (signature md row).types
+printed_name md row = short_name md row ++ types_text (signature md row).types

@@ -4,14 +4,17 @@ ghost use Rattle.std.specs.Prelude.{◌≡◌, ◌+◌, ◌≤◌, length, None}
 ghost use Rattle.pe_reader.specs.Addresses.{metadata, metadata_at};
 ghost use Rattle.pe_reader.specs.Faults.{first_of, first_pe_fault};
 ghost use Rattle.asm_image.specs.Faults.{pe_place, table_place, file_tests, tables_tests, first_assembly_fault};
+ghost use Rattle.asm_image.specs.Find.{find_of};
 ghost use Rattle.asm_image.specs.Reading.{Judges, Reads};
 ghost use Rattle.asm_image.specs.Rows.{methods_of, rows_of};
 ghost use Rattle.asm_image.specs.Tokens.{locals_of, element_of};
 ghost use Rattle.metadata_tables.specs.TableTests.{first_table_fault};
 
 use crate::fault::{AsmFault, AsmRefusal, Cause};
+use crate::found::Found;
 use crate::method_row::MethodRow;
 use crate::methods::read_methods;
+use crate::name_table::NameTable;
 use crate::tokens;
 use crate::types::test_types;
 use cc_base::Token;
@@ -31,6 +34,7 @@ pub struct Assembly<'a> {
     image: Image<'a>,
     tables: Tables<'a>,
     methods: Vec<MethodRow>,
+    names: NameTable,
 }
 
 impl<'a> Model for Assembly<'a> {
@@ -113,10 +117,12 @@ impl<'a> Assembly<'a> {
         let tables = read_tables(image.metadata(), base)?;
         test_types(&tables, base)?;
         let methods = read_methods(alloc, &tables, base)?;
+        let names = NameTable::of(alloc, &methods)?;
         Ok(Assembly {
             image,
             tables,
             methods,
+            names,
         })
     }
 
@@ -126,6 +132,16 @@ impl<'a> Assembly<'a> {
         ensures accepted { first_assembly_fault self.now ≡ None }
     {
         &self.methods
+    }
+
+    /// What a name means: the methods whose printed name it is, whole or up to the types of the parameters.
+    /// None where there is no such method.
+    ///
+    /// Cost: one look-up, which takes no memory.
+    pub fn find(&self, name: &[u8]) -> Option<Found>
+        ensures { result ≡ find_of self.now name.now }
+    {
+        self.names.get(name)
     }
 
     /// The PE file.

@@ -4,8 +4,10 @@
 mod assembly;
 mod cells;
 mod fault;
+mod found;
 mod method_row;
 mod methods;
+mod name_table;
 mod names;
 #[cfg(test)]
 mod tests;
@@ -14,5 +16,6 @@ mod types;
 
 pub use assembly::Assembly;
 pub use fault::{AsmFault, AsmRefusal, Cause};
+pub use found::Found;
 pub use method_row::MethodRow;
 pub use names::{append_escaped, append_parameters};

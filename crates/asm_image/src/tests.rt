@@ -105,6 +105,32 @@ fn reads_locals(rt: HostRuntime) -> Result<(), Fail> {
     Ok(())
 }
 
+/// Where the cell Name of the second method stands.
+const SECOND_NAME: usize = 0x250 + 0xf4;
+
+#[test]
+fn finds_methods_by_name(rt: HostRuntime) -> Result<(), Fail> {
+    let file = small_file();
+    let assembly = Assembly::read(rt.alloc(), &file)?;
+    let sum = Some(Found::One(Token(0x0600_0002)));
+    assert_eq!(rt; assembly.find(b"Calc::Sum(int32[])"), sum);
+    assert_eq!(rt; assembly.find(b"Calc::Sum"), sum);
+    assert_eq!(rt; assembly.find(b"Calc::Sum("), None);
+    assert_eq!(rt; assembly.find(b"Sum"), None);
+    Ok(())
+}
+
+#[test]
+fn finds_several_methods_of_a_name(rt: HostRuntime) -> Result<(), Fail> {
+    let mut file = small_file();
+    put(&mut file, SECOND_NAME, b"\x14\x00");
+    let assembly = Assembly::read(rt.alloc(), &file)?;
+    let twice = Some(Found::One(Token(0x0600_0001)));
+    assert_eq!(rt; assembly.find(b"Calc::Twice"), Some(Found::Several));
+    assert_eq!(rt; assembly.find(b"Calc::Twice(int32)"), twice);
+    Ok(())
+}
+
 #[test]
 fn refuses_a_list_that_is_out_of_range(rt: HostRuntime) {
     let mut file = small_file();

@@ -6,6 +6,7 @@ use Rattle.asm_image.specs.Faults.{tables_tests, methods_tests, first_assembly_f
 use Rattle.asm_image.specs.Rows.{rows_of}
 use Rattle.std.proofs.Common.{Vec, Global, List, ℕ}
 use Rattle.asm_image.specs.declared.method_row.MethodRow.{MethodRow}
+use Rattle.asm_image.proofs.FindLemmas.{table-kept}
 use Rattle.asm_image.proofs.ReadLemmas.{whole-file, whole-tables, whole-types, whole-methods, refused}
 use Rattle.asm_image.proofs.assembly.Assembly.read.Goals as goal
 
@@ -53,11 +54,13 @@ invariant_of-result c =
     let place : base ≡ metadata_at c.args.bytes.now = c.metadata_at-base.ensures.place ∙ ap metadata_at c.in_ok-image.ensures.1 in
     let sound : first_of (tables_tests md base) ≡ None = rw c.in_ok-tables.ensures.1 c.in_ok-tables.ensures.0 in
     let whole = whole-methods c.args.bytes.now md base is place c.in_ok-image.ensures.0 sound c.in_ok-test_types.ensures.judged.0 in
+    let rows : c.in_ok-methods.methods.items ≡ rows_of (metadata c.in_ok-image.image) = c.in_ok-methods.ensures.1 ∙ ap rows_of kept in
     record {
       accepted = rw c.in_ok-image.ensures.1 (whole ∙ c.in_ok-methods.ensures.0);
       metadata_kept = kept;
       metadata_short = omega (arith, ap length c.in_ok-tables.ensures.1, c.metadata.ensures.len, c.metadata_at-base.ensures.within, c.metadata_at-base.ensures.small);
-      methods_kept = c.in_ok-methods.ensures.1 ∙ ap rows_of kept;
+      methods_kept = rows;
+      names_kept = table-kept c.in_ok-image.image c.in_ok-names.names (c.in_ok-names.ensures (metadata c.in_ok-image.image) (c.deref.ensures.value ∙ rows));
     }
 
 pub returns : goal.returns
