@@ -1,12 +1,10 @@
 -- A blob is no longer than the metadata, and what it says of locals.
-use Rattle.std.proofs.Common.{◌≡◌, ℕ, ◌+◌, ◌≤◌, List, [], length, take, drop, Option, Some, None, refl, sym, ap, ◌∙◌, arith, length-drop, length-take}
-use Rattle.std.specs.Prelude.{codes, option_map, Result, Ok, Err}
-use Rattle.std.specs.Option.{option_and_then}
+use Rattle.std.proofs.Common.{◌≡◌, ℕ, ◌≤◌, List, length, drop, Option, Some, None, refl, ap, arith, length-drop, length-take}
+use Rattle.std.specs.Prelude.{codes, option_map}
 use Rattle.metadata_tables.specs.Heaps.{whole_prefix, item_of, blob_at}
 use Rattle.metadata_tables.specs.Layout.{cell}
 use Rattle.metadata_tables.specs.Root.{stream, bytes_of, heap}
 use Rattle.signature_blobs.specs.Signatures.{local_signature}
-use Rattle.signature_blobs.specs.declared.local.LocalSig.{LocalSig}
 use Rattle.asm_image.specs.Tokens.{faultless, locals_at}
 
 some-is : {X : Type 0} (x y : X) → Some x ≡ Some y → x ≡ y

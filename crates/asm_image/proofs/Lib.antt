@@ -1,4 +1,5 @@
 pub mod BlobLemmas
+pub mod CallLemmas
 pub mod CellLemmas
 pub mod FaultLemmas
 pub mod ReadLemmas

@@ -3,17 +3,19 @@
 ghost use Rattle.std.specs.Prelude.{◌≡◌, ◌+◌, ◌≤◌, length, None};
 ghost use Rattle.pe_reader.specs.Addresses.{metadata, metadata_at};
 ghost use Rattle.pe_reader.specs.Faults.{first_of, first_pe_fault};
+ghost use Rattle.asm_image.specs.Calls.{callee_of};
 ghost use Rattle.asm_image.specs.Faults.{pe_place, table_place, file_tests, tables_tests, first_assembly_fault};
 ghost use Rattle.asm_image.specs.Reading.{Judges, Reads};
 ghost use Rattle.asm_image.specs.Rows.{methods_of, rows_of};
 ghost use Rattle.asm_image.specs.Tokens.{locals_of, element_of};
 ghost use Rattle.metadata_tables.specs.TableTests.{first_table_fault};
 
+use crate::callee::Callee;
 use crate::fault::{AsmFault, AsmRefusal, Cause};
 use crate::method_row::MethodRow;
 use crate::methods::read_methods;
-use crate::tokens;
 use crate::types::test_types;
+use crate::{calls, tokens};
 use cc_base::Token;
 use cil_model::Place;
 use metadata_tables::{TableFault, Tables};
@@ -149,5 +151,13 @@ impl<'a> Assembly<'a> {
         ensures { result ≡ element_of (metadata self.now) token.0 }
     {
         tokens::element_of(&self.tables, token.0)
+    }
+
+    /// What a token of a call names: a method of the assembly, a method of the class `Contract`, or
+    /// anything else (III.3.19).
+    pub fn callee_of(&self, token: Token) -> Callee
+        ensures { result ≡ callee_of (metadata self.now) token.0 }
+    {
+        calls::callee_of(&self.tables, token)
     }
 }
