@@ -4,4 +4,6 @@ pub mod CellLemmas
 pub mod FaultLemmas
 pub mod ReadLemmas
 pub mod RunLemmas
+pub mod SigPlaceLemmas
+pub mod TablePlaceLemmas
 pub mod TestLemmas

@@ -59,12 +59,12 @@ fn pe_place(fault: PeFault) -> u32
 
 /// The place in the file that a fault of the tables names.
 fn table_place(base: u32, fault: TableFault) -> u32
+    requires { table_place base fault ≤ 2147483647 }
     ensures { result ≡ table_place base fault }
 {
     match fault {
-        TableFault::BadTables { bit: _, at } | TableFault::Short(at) | TableFault::HeapEnd(at) => {
-            base.wrapping_add(at)
-        }
+        TableFault::BadTables { bit: _, at } | TableFault::Short(at) | TableFault::HeapEnd(at) =>
+            base + at,
         TableFault::BadRoot | TableFault::MissingStream | TableFault::IndexOut { .. } => base,
     }
 }
@@ -90,7 +90,7 @@ fn read_image<'a>(bytes: &'a [u8]) -> Result<Image<'a>, AsmFault>
 
 /// Reads the tables of the metadata, which begins at the place `base` of the file.
 fn read_tables<'a>(md: &'a [u8], base: u32) -> Result<Tables<'a>, AsmFault>
-    requires { length md.now ≤ 2147483647 }
+    requires { base + length md.now ≤ 2147483647 }
     ensures { Judges result (first_of (tables_tests md.now base)) (λ tables. tables ≡ md.now) }
 {
     match Tables::read(md) {
