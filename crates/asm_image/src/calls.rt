@@ -1,8 +1,8 @@
 //! What the tokens of calls name (III.3.19).
 
-ghost use Rattle.std.specs.Prelude.{◌≡◌, ◌+◌, ◌≤◌, length, map, option_map, IfSome, IsTrue};
+ghost use Rattle.std.specs.Prelude.{◌≡◌, ◌≤◌, length, map, IfSome};
 ghost use Rattle.metadata_tables.specs.Layout.{row_count};
-ghost use Rattle.asm_image.specs.Calls.{tagged_row, class_row, member_row, is_contract_class, is_contract_method, listed, plain_methods, generic_methods, number_among, member_number, place_number, argument_number, instance_number, numbered, callee_of};
+ghost use Rattle.asm_image.specs.Calls.{tagged_row, is_contract_class, is_contract_method, listed, plain_methods, generic_methods, number_among, member_number, place_number, argument_number, instance_number, numbered, callee_of};
 
 use crate::callee::Callee;
 use crate::cells::{METHOD_DEF, blob_at, text_at};
@@ -19,14 +19,16 @@ const MEMBER_REF: u8 = 0x0a;
 /// The number of the table MethodSpec (II.22.29).
 const METHOD_SPEC: u8 = 0x2b;
 
-/// The tag of TypeRef among the parents of a MemberRef, and how many values the tag has (II.24.2.6).
+/// The tag of TypeRef in a MemberRefParent (II.24.2.6).
 const PARENT_TYPE_REF: u32 = 1;
 
+/// How many values the tag of a MemberRefParent has.
 const PARENT_TAGS: u32 = 8;
 
-/// The tag of MemberRef among the methods of a MethodSpec, and how many values the tag has.
+/// The tag of MemberRef in a MethodDefOrRef.
 const METHOD_MEMBER_REF: u32 = 1;
 
+/// How many values the tag of a MethodDefOrRef has.
 const METHOD_TAGS: u32 = 2;
 
 /// A method of the class `Contract`.
@@ -37,7 +39,7 @@ struct ContractMethod {
     number: u32,
 }
 
-/// `void (bool)`, as a signature.
+/// The signature `void (bool)` (II.23.2.1).
 const CONDITION: &[u8] = b"\x00\x01\x01\x02";
 
 /// `void (bool, string)`.
@@ -52,6 +54,7 @@ const GENERIC: &[u8] = b"\x10\x01\x00\x1e\x00";
 /// `T <T>(T)`.
 const GENERIC_OF_ONE: &[u8] = b"\x10\x01\x01\x1e\x00\x1e\x00";
 
+/// The methods that are not generic.
 const PLAIN_METHODS: [ContractMethod; 9] = [
     ContractMethod {
         name: b"Requires",
@@ -100,6 +103,7 @@ const PLAIN_METHODS: [ContractMethod; 9] = [
     },
 ];
 
+/// The generic ones. To their numbers that of the type argument is added.
 const GENERIC_METHODS: [ContractMethod; 2] = [
     ContractMethod {
         name: b"Result",
@@ -115,8 +119,7 @@ const GENERIC_METHODS: [ContractMethod; 2] = [
 
 /// The number of the first method with a name and a signature.
 fn number_among(methods: &[ContractMethod], name: &[u8], signature: &[u8]) -> Option<u32>
-    ensures { result ≡ number_among (map listed methods.now)
-        name.now signature.now }
+    ensures { result ≡ number_among (map listed methods.now) name.now signature.now }
 {
     for method in methods {
         if method.name == name && method.signature == signature {
