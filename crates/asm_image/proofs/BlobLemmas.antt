@@ -1,12 +1,10 @@
 -- A blob is no longer than the metadata, and what it says of locals.
-use Rattle.std.proofs.Common.{◌≡◌, ℕ, ◌+◌, ◌≤◌, List, [], length, take, drop, Option, Some, None, refl, sym, ap, ◌∙◌, arith, length-drop, length-take}
-use Rattle.std.specs.Prelude.{codes, option_map, Result, Ok, Err}
-use Rattle.std.specs.Option.{option_and_then}
-use Rattle.metadata_tables.specs.Heaps.{whole_prefix, item_of, blob_at}
+use Rattle.std.proofs.Common.{◌≡◌, ℕ, ◌+◌, ◌≤◌, List, length, take, drop, Option, Some, None, refl, ap, subst, arith, length-drop, length-take}
+use Rattle.std.specs.Prelude.{codes, IfSome, is_some, unwrap_or, option_map}
+use Rattle.metadata_tables.specs.Heaps.{StandsAt, whole_prefix, item_of, blob_at}
 use Rattle.metadata_tables.specs.Layout.{cell}
 use Rattle.metadata_tables.specs.Root.{stream, bytes_of, heap}
 use Rattle.signature_blobs.specs.Signatures.{local_signature}
-use Rattle.signature_blobs.specs.declared.local.LocalSig.{LocalSig}
 use Rattle.asm_image.specs.Tokens.{faultless, locals_at}
 
 some-is : {X : Type 0} (x y : X) → Some x ≡ Some y → x ≡ y
@@ -34,6 +32,25 @@ unfolding blob_at heap
 blob-short md item index e =
     let all = bytes_of md (stream md (codes "#Blob")) in
     omega (arith, item-short (drop index all) item e, length-drop index all, stream-short md (codes "#Blob"))
+
+length-same : (md item : List ℕ) (at : ℕ) → StandsAt md at item → at ≤ length md → at + length item ≤ length md
+length-same md item at stands within =
+    let same : length item ≡ length (take (length item) (drop at md)) = ap length stands in
+    omega (arith, same, length-take (length item) (drop at md), length-drop at md)
+
+ends : (md item : List ℕ) (found : Option (List ℕ)) (place : Option ℕ) → Some item ≡ found → is_some place ≡ is_some found
+    → IfSome place (λ at. IfSome found (λ bytes. StandsAt md at bytes)) → IfSome place (λ at. at ≤ length md) → unwrap_or place 0 + length item ≤ length md
+ends md item None place e lent stands within = absurd cc
+ends md item (Some found) None e lent stands within = absurd cc
+ends md item (Some found) (Some at) e lent stands within =
+    let same : found ≡ item = cc in
+    length-same md item at (subst (StandsAt md at) same stands) within
+
+-- A blob ends in the metadata.
+pub blob-end : (md item : List ℕ) (index : ℕ) (place : Option ℕ) → Some item ≡ blob_at md index → is_some place ≡ is_some (blob_at md index)
+    → IfSome place (λ at. IfSome (blob_at md index) (λ bytes. StandsAt md at bytes)) → IfSome place (λ at. at ≤ length md)
+    → unwrap_or place 0 + length item ≤ length md
+blob-end md item index place e lent stands within = ends md item (blob_at md index) place e lent stands within
 
 -- No blob is there.
 pub locals-none : (md : List ℕ) (row index : ℕ) → index ≡ cell md 17 row 0 → None ≡ blob_at md index → None ≡ locals_at md row

@@ -33,6 +33,21 @@ type_ref_column k h = omega (arith, type-refs-length)
 pub signature_column : 0 < length (columns_of 17)
 signature_column = omega (arith, signatures-length)
 
+-- The tables MemberRef and MethodSpec.
+member-refs-length : length (columns_of 10) ≡ 3
+unfolding columns_of
+member-refs-length = refl
+
+method-specs-length : length (columns_of 43) ≡ 2
+unfolding columns_of
+method-specs-length = refl
+
+pub member_ref_column : (k : ℕ) → k < 3 → k < length (columns_of 10)
+member_ref_column k h = omega (arith, member-refs-length)
+
+pub method_spec_column : (k : ℕ) → k < 2 → k < length (columns_of 43)
+method_spec_column k h = omega (arith, method-specs-length)
+
 -- ImplFlags and Flags have two bytes.
 pub impl_flags_two : slice_index_or (columns_of 6) 1 Two ≡ Two
 unfolding columns_of

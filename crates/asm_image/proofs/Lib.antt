@@ -1,4 +1,5 @@
 pub mod BlobLemmas
+pub mod CallLemmas
 pub mod CellLemmas
 pub mod FaultLemmas
 pub mod FindLemmas
@@ -6,4 +7,6 @@ pub mod NameLemmas
 pub mod NameTableLemmas
 pub mod ReadLemmas
 pub mod RunLemmas
+pub mod SigPlaceLemmas
+pub mod TablePlaceLemmas
 pub mod TestLemmas

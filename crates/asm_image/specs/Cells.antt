@@ -14,9 +14,13 @@ type_count md = row_count md 0x02
 abbrev pub method_count : List ℕ → ℕ
 method_count md = row_count md 0x06
 
--- The text of a cell of either table, where there is one.
+-- The text that a cell names, where there is one.
 abbrev pub text : List ℕ → ℕ → ℕ → ℕ → List ℕ
 text md table row column = unwrap_or (string_at md (cell md table row column)) []
+
+-- The item of the heap `#Blob` that a cell names, where there is one.
+abbrev pub blob : List ℕ → ℕ → ℕ → ℕ → List ℕ
+blob md table row column = unwrap_or (blob_at md (cell md table row column)) []
 
 -- TypeName and TypeNamespace of a type.
 abbrev pub type_name : List ℕ → ℕ → List ℕ
@@ -34,7 +38,7 @@ abbrev pub method_name : List ℕ → ℕ → List ℕ
 method_name md row = text md 0x06 row 3
 
 abbrev pub signature_blob : List ℕ → ℕ → List ℕ
-signature_blob md row = unwrap_or (blob_at md (cell md 0x06 row 4)) []
+signature_blob md row = blob md 0x06 row 4
 
 -- Where the bytes of a method's signature stand in the metadata.
 abbrev pub signature_at : List ℕ → ℕ → ℕ

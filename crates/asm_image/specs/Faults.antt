@@ -1,5 +1,5 @@
 -- The tests of an assembly in the order of reading, each with the fault that it gives where it fails.
-use Rattle.std.specs.Prelude.{ℕ, ◌+◌, ◌-◌, ◌^◌, ◌%◌, List, [], ◌∷◌, ◌++◌, length, Bool, ◌==◌, ◌&&◌, nat_le, is_some, Option, Some, None, option_map, Result, Ok, Err, if◌then◌else◌}
+use Rattle.std.specs.Prelude.{ℕ, ◌+◌, ◌-◌, List, [], ◌∷◌, ◌++◌, length, Bool, ◌==◌, ◌&&◌, nat_le, is_some, Option, Some, None, option_map, Result, Ok, Err, if◌then◌else◌}
 use Rattle.std.specs.List.{flat_map, range_with_len}
 use Rattle.metadata_tables.specs.Heaps.{string_at, blob_at}
 use Rattle.metadata_tables.specs.Layout.{cell, cell_at}
@@ -39,19 +39,15 @@ pe_place (pe.RvaOutside rva) = rva
 unfoldable pub pe_fault : PeFault → AsmFault
 pe_fault fault = record { at = pe_place fault; cause = causes.Pe fault }
 
--- A place as a number of 32 bits.
-abbrev pub from : ℕ → ℕ → ℕ
-from start at = (start + at) % 2 ^ 32
-
 -- The place in the file that a fault of the tables names, where the metadata begins at a place. One that
 -- names no place has the metadata's.
 abbrev pub table_place : ℕ → TableFault → ℕ
 table_place base tables.BadRoot = base
 table_place base tables.MissingStream = base
-table_place base (tables.BadTables bit at) = from base at
-table_place base (tables.Short at) = from base at
+table_place base (tables.BadTables bit at) = base + at
+table_place base (tables.Short at) = base + at
 table_place base (tables.IndexOut table row column) = base
-table_place base (tables.HeapEnd at) = from base at
+table_place base (tables.HeapEnd at) = base + at
 
 unfoldable pub table_fault : ℕ → TableFault → AsmFault
 table_fault base fault = record { at = table_place base fault; cause = causes.Table fault }
@@ -98,7 +94,7 @@ sig_place (sigs.Form at) = at
 -- The fault of a signature that begins at a place in the file.
 abbrev pub signature_fault : ℕ → Result MethodSig SigFault → Option AsmFault
 signature_fault start (Ok sig) = None
-signature_fault start (Err fault) = Some (record { at = from start (sig_place fault); cause = causes.Sig fault })
+signature_fault start (Err fault) = Some (record { at = start + sig_place fault; cause = causes.Sig fault })
 
 -- The signature of a method: its blob, and what the blob says.
 unfoldable pub signature_tests : List ℕ → ℕ → ℕ → List (Option AsmFault)

@@ -3,6 +3,7 @@
 ghost use Rattle.std.specs.Prelude.{◌≡◌, ◌+◌, ◌≤◌, length, None};
 ghost use Rattle.pe_reader.specs.Addresses.{metadata, metadata_at};
 ghost use Rattle.pe_reader.specs.Faults.{first_of, first_pe_fault};
+ghost use Rattle.asm_image.specs.Calls.{callee_of};
 ghost use Rattle.asm_image.specs.Faults.{pe_place, table_place, file_tests, tables_tests, first_assembly_fault};
 ghost use Rattle.asm_image.specs.Find.{find_of};
 ghost use Rattle.asm_image.specs.Reading.{Judges, Reads};
@@ -10,13 +11,14 @@ ghost use Rattle.asm_image.specs.Rows.{methods_of, rows_of};
 ghost use Rattle.asm_image.specs.Tokens.{locals_of, element_of};
 ghost use Rattle.metadata_tables.specs.TableTests.{first_table_fault};
 
+use crate::callee::Callee;
 use crate::fault::{AsmFault, AsmRefusal, Cause};
 use crate::found::Found;
 use crate::method_row::MethodRow;
 use crate::methods::read_methods;
 use crate::name_table::NameTable;
-use crate::tokens;
 use crate::types::test_types;
+use crate::{calls, tokens};
 use cc_base::Token;
 use cil_model::Place;
 use metadata_tables::{TableFault, Tables};
@@ -61,12 +63,12 @@ fn pe_place(fault: PeFault) -> u32
 
 /// The place in the file that a fault of the tables names.
 fn table_place(base: u32, fault: TableFault) -> u32
+    requires { table_place base fault ≤ 2147483647 }
     ensures { result ≡ table_place base fault }
 {
     match fault {
-        TableFault::BadTables { bit: _, at } | TableFault::Short(at) | TableFault::HeapEnd(at) => {
-            base.wrapping_add(at)
-        }
+        TableFault::BadTables { bit: _, at } | TableFault::Short(at) | TableFault::HeapEnd(at) =>
+            base + at,
         TableFault::BadRoot | TableFault::MissingStream | TableFault::IndexOut { .. } => base,
     }
 }
@@ -92,7 +94,7 @@ fn read_image<'a>(bytes: &'a [u8]) -> Result<Image<'a>, AsmFault>
 
 /// Reads the tables of the metadata, which begins at the place `base` of the file.
 fn read_tables<'a>(md: &'a [u8], base: u32) -> Result<Tables<'a>, AsmFault>
-    requires { length md.now ≤ 2147483647 }
+    requires { base + length md.now ≤ 2147483647 }
     ensures { Judges result (first_of (tables_tests md.now base)) (λ tables. tables ≡ md.now) }
 {
     match Tables::read(md) {
@@ -165,5 +167,13 @@ impl<'a> Assembly<'a> {
         ensures { result ≡ element_of (metadata self.now) token.0 }
     {
         tokens::element_of(&self.tables, token.0)
+    }
+
+    /// What a token of a call names: a method of the assembly, a method of the class `Contract`, or
+    /// anything else (III.3.19).
+    pub fn callee_of(&self, token: Token) -> Callee
+        ensures { result ≡ callee_of (metadata self.now) token.0 }
+    {
+        calls::callee_of(&self.tables, token)
     }
 }

@@ -3,7 +3,7 @@
 ghost use Rattle.std.specs.Prelude.{◌≡◌, ◌+◌, ◌<◌, ◌≤◌, length};
 ghost use Rattle.metadata_tables.specs.Layout.{row_count};
 ghost use Rattle.metadata_tables.specs.Schema.{columns_of};
-ghost use Rattle.asm_image.specs.Cells.{text};
+ghost use Rattle.asm_image.specs.Cells.{text, blob};
 ghost use Rattle.asm_image.specs.Faults.{heap_end, text_test};
 ghost use Rattle.asm_image.specs.Reading.{Judges};
 
@@ -61,6 +61,20 @@ pub fn text_at<'a>(tables: &Tables<'a>, table: u8, row: u32, column: u8) -> &'a 
 {
     match tables.string_at(tables.cell(table, row, column)) {
         Some(text) => text,
+        None => &[],
+    }
+}
+
+/// The bytes of the heap `#Blob` that a cell names, empty where there are none.
+pub fn blob_at<'a>(tables: &Tables<'a>, table: u8, row: u32, column: u8) -> &'a [u8]
+    requires first { 1 ≤ row }
+    requires last { row ≤ row_count tables.now table }
+    requires column { column < length (columns_of table) }
+    ensures blob { result.now ≡ blob tables.now table row column }
+    ensures short { length result.now ≤ length tables.now }
+{
+    match tables.blob_at(tables.cell(table, row, column)) {
+        Some(blob) => blob,
         None => &[],
     }
 }

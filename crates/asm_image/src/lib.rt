@@ -2,7 +2,10 @@
 #![tactic(auto)]
 
 mod assembly;
+mod callee;
+mod calls;
 mod cells;
+mod contract_op;
 mod fault;
 mod found;
 mod method_row;
@@ -15,6 +18,8 @@ mod tokens;
 mod types;
 
 pub use assembly::Assembly;
+pub use callee::Callee;
+pub use contract_op::ContractOp;
 pub use fault::{AsmFault, AsmRefusal, Cause};
 pub use found::Found;
 pub use method_row::MethodRow;

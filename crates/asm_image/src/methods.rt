@@ -43,14 +43,14 @@ fn sig_place(fault: SigFault) -> u32
 
 /// The signature that a blob says, which begins at a place of the file.
 fn signature_of(blob: &[u8], start: u32) -> Result<MethodSig, AsmFault>
-    requires { length blob.now ≤ 2147483647 }
+    requires { start + length blob.now ≤ 2147483647 }
     ensures { Judges result (signature_fault start (method_signature blob.now))
         (λ sig. method_signature blob.now ≡ Ok sig) }
 {
     match method_sig(blob) {
         Ok(sig) => Ok(sig),
         Err(fault) => Err(AsmFault {
-            at: start.wrapping_add(sig_place(fault)),
+            at: start + sig_place(fault),
             cause: Cause::Sig(fault),
         }),
     }

@@ -7,6 +7,8 @@ use cc_base::Token;
 use cil_model::Place;
 use metadata_tables::TableFault;
 use signature_blobs::LocalSig;
+use std::alloc::AllocGlobal;
+use std::process::Abort;
 use std::test::Fail;
 
 /// The metadata of a library with one class `Calc`, whose methods are `Twice` and `Sum`.
@@ -74,8 +76,40 @@ fn small_file() -> [u8; 0x600] {
     file
 }
 
-/// Where the cell MethodList of the second type stands.
+/// Where the heaps `#Strings` and `#Blob` stand.
+const STRINGS: usize = 0x250 + 0x140;
+
+const BLOBS: usize = 0x250 + 0x1d8;
+
+/// Where the name and the signature of `Sum` stand in their heaps, the signature behind its length.
+const SUM: usize = STRINGS + 0x1a;
+
+const SUM_SIGNATURE: usize = BLOBS + 0x07;
+
+/// Where the cells MethodList of the two types stand, and TypeNamespace of the second.
+const FIRST_LIST: usize = 0x250 + 0xce;
+
 const SECOND_LIST: usize = 0x250 + 0xdc;
+
+const SECOND_NAMESPACE: usize = 0x250 + 0xd6;
+
+/// Where the cell Name of the second method stands.
+const SECOND_NAME: usize = 0x250 + 0xf4;
+
+/// Asserts that the methods of a file are printed with these names.
+fn assert_names(
+    rt: &(impl Abort + AllocGlobal),
+    file: &[u8],
+    first: &[u8],
+    second: &[u8],
+) -> Result<(), Fail> {
+    let assembly = Assembly::read(rt.alloc(), file)?;
+    let methods = assembly.methods();
+    assert!(rt; methods.len() == 2);
+    assert_eq!(rt; methods[0].name.as_slice(), first);
+    assert_eq!(rt; methods[1].name.as_slice(), second);
+    Ok(())
+}
 
 #[test]
 fn reads_methods(rt: HostRuntime) -> Result<(), Fail> {
@@ -143,5 +177,85 @@ fn refuses_a_list_that_is_out_of_range(rt: HostRuntime) {
     assert_eq!(rt;
         Assembly::read(rt.alloc(), &file).err(),
         Some(AsmRefusal::Bad(AsmFault { at: 0x32c, cause }))
+    );
+}
+
+#[test]
+fn names_callees(rt: HostRuntime) -> Result<(), Fail> {
+    let file = small_file();
+    let assembly = Assembly::read(rt.alloc(), &file)?;
+    let sum = Token(0x0600_0002);
+    assert_eq!(rt; assembly.callee_of(sum), Callee::Method(sum));
+    assert_eq!(rt; assembly.callee_of(Token(0x0600_0003)), Callee::Outside);
+    // the constructor of RuntimeCompatibilityAttribute
+    assert_eq!(rt; assembly.callee_of(Token(0x0a00_0001)), Callee::Outside);
+    assert_eq!(rt; assembly.callee_of(Token(0)), Callee::Outside);
+    Ok(())
+}
+
+#[test]
+fn names_contract_calls(rt: HostRuntime) -> Result<(), Fail> {
+    let mut file = small_file();
+    put(&mut file, STRINGS + 0x2c, b"Contract\0");
+    put(&mut file, STRINGS + 0x4a, b"System.Diagnostics.Contracts\0");
+    put(&mut file, STRINGS + 0x6a, b"Assert\0");
+    put(&mut file, BLOBS + 0x14, b"\x04\x00\x01\x01\x02");
+    let assembly = Assembly::read(rt.alloc(), &file)?;
+    let assert_call = Callee::ContractCall(ContractOp(5));
+    assert_eq!(rt; assembly.callee_of(Token(0x0a00_0001)), assert_call);
+    Ok(())
+}
+
+#[test]
+fn escapes_bytes_of_names(rt: HostRuntime) -> Result<(), Fail> {
+    let mut file = small_file();
+    put(&mut file, SUM, b"\x20\\\x7f");
+    assert_names(
+        &rt,
+        &file,
+        b"Calc::Twice(int32)",
+        b"Calc::\\20\\5c\\7f(int32[])",
+    )
+}
+
+#[test]
+fn hides_types_outside_the_profile(rt: HostRuntime) -> Result<(), Fail> {
+    let mut file = small_file();
+    // int32 (string)
+    put(&mut file, SUM_SIGNATURE, b"\x00\x01\x08\x0e");
+    assert_names(&rt, &file, b"Calc::Twice(int32)", b"Calc::Sum(?)")
+}
+
+#[test]
+fn names_begin_with_the_namespace(rt: HostRuntime) -> Result<(), Fail> {
+    let mut file = small_file();
+    // the place of `System`
+    file[SECOND_NAMESPACE] = 0x25;
+    assert_names(
+        &rt,
+        &file,
+        b"System.Calc::Twice(int32)",
+        b"System.Calc::Sum(int32[])",
+    )
+}
+
+#[test]
+fn names_methods_of_no_type(rt: HostRuntime) -> Result<(), Fail> {
+    let mut file = small_file();
+    // both runs begin at the second method
+    file[FIRST_LIST] = 2;
+    file[SECOND_LIST] = 2;
+    assert_names(&rt, &file, b"::Twice(int32)", b"Calc::Sum(int32[])")
+}
+
+#[test]
+fn refuses_a_name_past_its_heap(rt: HostRuntime) {
+    let mut file = small_file();
+    // the heap has 0x80 bytes
+    file[SECOND_NAME] = 0x80;
+    let cause = Cause::Table(TableFault::HeapEnd(0xf4));
+    assert_eq!(rt;
+        Assembly::read(rt.alloc(), &file).err(),
+        Some(AsmRefusal::Bad(AsmFault { at: 0x344, cause }))
     );
 }

@@ -10,7 +10,7 @@ use metadata_tables::Tables;
 use signature_blobs::{LocalSig, Places, local_sig};
 
 /// The number of the table TypeRef (II.22.38).
-const TYPE_REF: u8 = 0x01;
+pub const TYPE_REF: u8 = 0x01;
 
 /// The number of the table StandAloneSig (II.22.36).
 const STAND_ALONE_SIG: u8 = 0x11;
@@ -20,7 +20,7 @@ const ROWS: u32 = 0x0100_0000;
 
 /// The row of a table that a token names, none where it names no row of it.
 #[tactic(auto, unfolding(crate::specs::Tokens::row_in))]
-fn row_in(tables: &Tables<'_>, table: u8, token: u32) -> Option<u32>
+pub fn row_in(tables: &Tables<'_>, table: u8, token: u32) -> Option<u32>
     ensures row { result ≡ row_in tables.now table token }
     ensures first { IfSome result (λ row. 1 ≤ row) }
     ensures last { IfSome result (λ row. row ≤ row_count tables.now table) }
