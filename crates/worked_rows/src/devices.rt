@@ -31,11 +31,16 @@ impl Devices {
         }
     }
 
+    /// Devices with the bytes under a name.
+    pub fn with_file(alloc: Global, name: &str, bytes: &[u8]) -> Result<Devices, AllocError> {
+        let mut devices = Devices::new(alloc);
+        devices.files.hold(alloc, name, bytes)?;
+        Ok(devices)
+    }
+
     /// Devices with the bytes under the name `u.bin`.
     pub fn with_unit(alloc: Global, bytes: &[u8]) -> Result<Devices, AllocError> {
-        let mut devices = Devices::new(alloc);
-        devices.files.hold(alloc, "u.bin", bytes)?;
-        Ok(devices)
+        Devices::with_file(alloc, "u.bin", bytes)
     }
 
     /// Calls the program with these words, and asserts its answer.

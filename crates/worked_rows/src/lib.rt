@@ -5,6 +5,8 @@
 #[cfg(test)]
 mod assembly;
 #[cfg(test)]
+mod assembly_calls;
+#[cfg(test)]
 mod assembly_faults;
 #[cfg(test)]
 mod assembly_methods;
@@ -16,6 +18,8 @@ mod devices;
 mod failing_devices;
 #[cfg(test)]
 mod limits;
+#[cfg(test)]
+mod list_answers;
 #[cfg(test)]
 mod unit_refusals;
 #[cfg(test)]

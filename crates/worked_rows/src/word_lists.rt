@@ -8,19 +8,26 @@ const USAGE: &[u8] =
     b"cccheck: usage: check FILE.. [--cache F] [--show] | run FILE METHOD ARG.. [--steps N] | list FILE | il FILE METHOD | unit FILE | gen SEED COUNT\n";
 
 /// Word lists that are no command.
-const NO_COMMANDS: [&[&str]; 11] = [
+const NO_COMMANDS: [&[&str]; 15] = [
     &[],
     &["unit"],
     &["unit", "a", "b"],
     &["unit", "-x"],
     &["unit", ""],
     &["Unit", "u.bin"],
+    &["list"],
+    &["list", "a.dll", "b.dll"],
+    &["list", "-x"],
+    &["list", ""],
     &["check"],
     &["check", "a.dll", "--show", "--show"],
     &["check", "--cache", "F"],
     &["gen", "7", "0"],
     &["run", "a.dll", "M", "--steps", "03"],
 ];
+
+/// The commands that name one file.
+const FILE_COMMANDS: [&str; 2] = ["unit", "list"];
 
 /// Names of missing files, and what is written of each.
 const MISSING: [(&str, &[u8]); 4] = [
@@ -53,7 +60,9 @@ fn a_missing_file_is_named(rt: HostRuntime) -> Result<(), Fail> {
             out: b"",
             err: line,
         };
-        Devices::new(alloc).assert_answer(&rt, alloc, &["unit", name], want)?;
+        for command in FILE_COMMANDS {
+            Devices::new(alloc).assert_answer(&rt, alloc, &[command, name], want)?;
+        }
     }
     Ok(())
 }
@@ -61,10 +70,12 @@ fn a_missing_file_is_named(rt: HostRuntime) -> Result<(), Fail> {
 #[test]
 fn a_command_names_its_file_by_place(rt: HostRuntime) -> Result<(), Fail> {
     let alloc = rt.alloc();
-    let words = vec![in alloc;
-        String::from_str(alloc, "unit")?,
-        String::from_str(alloc, "u.bin")?,
-    ]?;
-    assert_eq!(rt; parse_words(&words), Some(Command::Unit(1)));
+    for (word, command) in [("unit", Command::Unit(1)), ("list", Command::List(1))] {
+        let words = vec![in alloc;
+            String::from_str(alloc, word)?,
+            String::from_str(alloc, "a.bin")?,
+        ]?;
+        assert_eq!(rt; parse_words(&words), Some(command));
+    }
     Ok(())
 }
