@@ -11,7 +11,7 @@ use Rattle.asm_writer.specs.declared.plan.MethodPlan.{MethodPlan}
 use Rattle.asm_writer.specs.Assembly.{root, stream_headers, metadata, file_bytes, assembly_bytes}
 use Rattle.asm_writer.specs.Bodies.{row_after, body, bodies_from}
 use Rattle.asm_writer.specs.Fields.{fields_bytes}
-use Rattle.asm_writer.specs.Headers.{dos_fields, file_fields, optional_fields, headers, cli_header}
+use Rattle.asm_writer.specs.Headers.{section_header, dos_fields, file_fields, optional_fields, headers, cli_header}
 use Rattle.asm_writer.specs.Heaps.{zero_ended, common_names, method_name, strings_heap, user_strings, guids, common_blobs, blob_heap}
 use Rattle.asm_writer.specs.Rows.{first_rows, last_rows, method_row, method_rows, member_ref_rows, local_row, local_rows, rows, count, method_names_at, tables_fields, tables_header, tables}
 use Rattle.asm_writer.specs.Signatures.{method_blobs}
@@ -25,13 +25,13 @@ length_is : (a : List ℕ) → length a ≡ length a
 length_is a = refl
 
 -- The headers.
-headers_so : (w : Widths) (size : ℕ) (wide : Bool) → length (fields_bytes w dos_fields ++ fields_bytes w (file_fields wide) ++ fields_bytes w (optional_fields wide) ++ codes ".text" ++ fields_bytes w (Zeros 3 ∷ []) ++ fields_bytes w (Four 0 ∷ Four 0x2000 ∷ Four size ∷ Four 0x200 ∷ Zeros 16 ∷ Zeros (if wide then 80 else 96) ∷ [])) ≡ 512
+headers_so : (w : Widths) (size : ℕ) (wide : Bool) → length (fields_bytes w dos_fields ++ fields_bytes w (file_fields wide) ++ fields_bytes w (optional_fields wide) ++ (codes ".text" ++ fields_bytes w (Zeros 3 ∷ []) ++ fields_bytes w (Four 0 ∷ Four 0x2000 ∷ Four size ∷ Four 0x200 ∷ Zeros 16 ∷ Zeros (if wide then 80 else 96) ∷ []))) ≡ 512
 unfolding fields_bytes
 headers_so w size true = refl
 headers_so w size false = refl
 
 length_headers : (l : Layout) → length (headers l) ≡ 512
-unfolding headers
+unfolding headers section_header
 length_headers l = headers_so (widths_of l) (section_size l) l.wide
 
 length_cli_header : (l : Layout) → length (cli_header l) ≡ 72

@@ -25,15 +25,17 @@ abbrev pub section_fields : Layout → List Field
 section_fields l =
     Four 0 ∷ Four 0x2000 ∷ Four (section_size l) ∷ Four 0x200 ∷ Zeros 16 ∷ Zeros (if l.wide then 80 else 96) ∷ []
 
+-- The section header.
+unfoldable pub section_header : Layout → List ℕ
+section_header l = codes ".text" ++ fields_bytes (widths_of l) (Zeros 3 ∷ []) ++ fields_bytes (widths_of l) (section_fields l)
+
 -- All before the section.
 unfoldable pub headers : Layout → List ℕ
 headers l =
     fields_bytes (widths_of l) dos_fields
     ++ fields_bytes (widths_of l) (file_fields l.wide)
     ++ fields_bytes (widths_of l) (optional_fields l.wide)
-    ++ codes ".text"
-    ++ fields_bytes (widths_of l) (Zeros 3 ∷ [])
-    ++ fields_bytes (widths_of l) (section_fields l)
+    ++ section_header l
 
 -- The CLI header (II.25.3.3): its size, and where the metadata stands, behind it and the bodies.
 unfoldable pub cli_header : Layout → List ℕ

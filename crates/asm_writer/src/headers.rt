@@ -1,29 +1,31 @@
 //! The headers before the section, and the CLI header at its start (ECMA-335 II.25).
 
 ghost use Rattle.std.specs.Prelude.{◌≡◌, ◌++◌, OnOk};
-ghost use Rattle.asm_writer.specs.Headers.{headers, cli_header};
+ghost use Rattle.asm_writer.specs.Fields.{fields_bytes};
+ghost use Rattle.asm_writer.specs.Headers.{dos_fields, file_fields, optional_fields, section_header, headers, cli_header};
 
 use crate::field::Field::{Four, Two, Zeros};
 use crate::field::append_fields;
-use crate::layout::Layout;
+use crate::layout::{Layout, Widths};
 use std::alloc::AllocError;
 
-/// Appends all before the section.
-#[tactic(auto, unfolding(crate::specs::Headers::headers))]
-pub fn append_headers(out: &mut Vec<u8>, layout: &Layout) -> Result<(), AllocError>
-    ensures { OnOk result (out.new.items ≡ out.old.items ++ headers layout.now) }
+/// Appends the MS-DOS header.
+fn append_dos_header(out: &mut Vec<u8>, widths: Widths) -> Result<(), AllocError>
+    ensures { OnOk result (out.new.items ≡ out.old.items ++ fields_bytes widths dos_fields) }
 {
-    let widths = layout.widths();
-    let machine = if layout.wide { 0x8664 } else { 0x14c };
-    let optional_size = if layout.wide { 0xf0 } else { 0xe0 };
-    let magic = if layout.wide { 0x20b } else { 0x10b };
-    let before_directory = if layout.wide { 222 } else { 206 };
-    let before_section = if layout.wide { 80 } else { 96 };
     append_fields(
         out,
         widths,
         &[Two(0x5a4d), Zeros(58), Four(0x80), Zeros(64)],
-    )?;
+    )
+}
+
+/// Appends the PE signature and the PE file header.
+fn append_file_header(out: &mut Vec<u8>, widths: Widths, wide: bool) -> Result<(), AllocError>
+    ensures { OnOk result (out.new.items ≡ out.old.items ++ fields_bytes widths (file_fields wide)) }
+{
+    let machine = if wide { 0x8664 } else { 0x14c };
+    let optional_size = if wide { 0xf0 } else { 0xe0 };
     append_fields(
         out,
         widths,
@@ -35,7 +37,15 @@ pub fn append_headers(out: &mut Vec<u8>, layout: &Layout) -> Result<(), AllocErr
             Two(optional_size),
             Two(0),
         ],
-    )?;
+    )
+}
+
+/// Appends the optional header.
+fn append_optional_header(out: &mut Vec<u8>, widths: Widths, wide: bool) -> Result<(), AllocError>
+    ensures { OnOk result (out.new.items ≡ out.old.items ++ fields_bytes widths (optional_fields wide)) }
+{
+    let magic = if wide { 0x20b } else { 0x10b };
+    let before_directory = if wide { 222 } else { 206 };
     append_fields(
         out,
         widths,
@@ -46,7 +56,16 @@ pub fn append_headers(out: &mut Vec<u8>, layout: &Layout) -> Result<(), AllocErr
             Four(72),
             Zeros(8),
         ],
-    )?;
+    )
+}
+
+/// Appends the header of the section, and zeros up to the section.
+#[tactic(auto, unfolding(crate::specs::Headers::section_header))]
+fn append_section_header(out: &mut Vec<u8>, layout: &Layout) -> Result<(), AllocError>
+    ensures { OnOk result (out.new.items ≡ out.old.items ++ section_header layout.now) }
+{
+    let widths = layout.widths();
+    let before_section = if layout.wide { 80 } else { 96 };
     out.extend_from_slice(b".text")?;
     append_fields(out, widths, &[Zeros(3)])?;
     append_fields(
@@ -61,6 +80,18 @@ pub fn append_headers(out: &mut Vec<u8>, layout: &Layout) -> Result<(), AllocErr
             Zeros(before_section),
         ],
     )
+}
+
+/// Appends all before the section.
+#[tactic(auto, unfolding(crate::specs::Headers::headers))]
+pub fn append_headers(out: &mut Vec<u8>, layout: &Layout) -> Result<(), AllocError>
+    ensures { OnOk result (out.new.items ≡ out.old.items ++ headers layout.now) }
+{
+    let widths = layout.widths();
+    append_dos_header(out, widths)?;
+    append_file_header(out, widths, layout.wide)?;
+    append_optional_header(out, widths, layout.wide)?;
+    append_section_header(out, layout)
 }
 
 /// Appends the CLI header.

@@ -10,7 +10,7 @@ use crate::bodies::body_size;
 use crate::field::Field::{
     Blob, Eight, Four, MemberParent, Method, MethodOrMember, Strings, Two, Zeros,
 };
-use crate::field::append_fields;
+use crate::field::{Field, append_fields};
 use crate::heaps::name_size;
 use crate::layout::{Layout, Widths};
 use crate::plan::MethodPlan;
@@ -191,49 +191,48 @@ fn append_method_rows(
     Ok(())
 }
 
+/// The rows of the table MemberRef (II.22.25): the methods of the class `Contract`.
+const MEMBER_REFS: [Field; 33] = [
+    MemberParent(0x21),
+    Strings(76),
+    Blob(1),
+    MemberParent(0x21),
+    Strings(76),
+    Blob(6),
+    MemberParent(0x21),
+    Strings(85),
+    Blob(1),
+    MemberParent(0x21),
+    Strings(85),
+    Blob(6),
+    MemberParent(0x21),
+    Strings(93),
+    Blob(1),
+    MemberParent(0x21),
+    Strings(93),
+    Blob(6),
+    MemberParent(0x21),
+    Strings(100),
+    Blob(1),
+    MemberParent(0x21),
+    Strings(100),
+    Blob(6),
+    MemberParent(0x21),
+    Strings(107),
+    Blob(12),
+    MemberParent(0x21),
+    Strings(124),
+    Blob(16),
+    MemberParent(0x21),
+    Strings(131),
+    Blob(22),
+];
+
 /// Appends the rows of MemberRef.
 fn append_member_refs(out: &mut Vec<u8>, widths: Widths) -> Result<(), AllocError>
     ensures { OnOk result (out.new.items ≡ out.old.items ++ fields_bytes widths member_ref_rows) }
 {
-    append_fields(
-        out,
-        widths,
-        &[
-            MemberParent(0x21),
-            Strings(76),
-            Blob(1),
-            MemberParent(0x21),
-            Strings(76),
-            Blob(6),
-            MemberParent(0x21),
-            Strings(85),
-            Blob(1),
-            MemberParent(0x21),
-            Strings(85),
-            Blob(6),
-            MemberParent(0x21),
-            Strings(93),
-            Blob(1),
-            MemberParent(0x21),
-            Strings(93),
-            Blob(6),
-            MemberParent(0x21),
-            Strings(100),
-            Blob(1),
-            MemberParent(0x21),
-            Strings(100),
-            Blob(6),
-            MemberParent(0x21),
-            Strings(107),
-            Blob(12),
-            MemberParent(0x21),
-            Strings(124),
-            Blob(16),
-            MemberParent(0x21),
-            Strings(131),
-            Blob(22),
-        ],
-    )
+    append_fields(out, widths, &MEMBER_REFS)
 }
 
 /// Appends the row of StandAloneSig of a method, where it has locals, whose blobs stand at a place.
@@ -273,6 +272,26 @@ fn append_local_rows(
     Ok(())
 }
 
+/// The rows of the table MethodSpec (II.22.29): Result and OldValue of each type.
+const METHOD_SPECS: [Field; 16] = [
+    MethodOrMember(0x15),
+    Blob(30),
+    MethodOrMember(0x15),
+    Blob(34),
+    MethodOrMember(0x15),
+    Blob(38),
+    MethodOrMember(0x15),
+    Blob(43),
+    MethodOrMember(0x17),
+    Blob(30),
+    MethodOrMember(0x17),
+    Blob(34),
+    MethodOrMember(0x17),
+    Blob(38),
+    MethodOrMember(0x17),
+    Blob(43),
+];
+
 /// Appends the rows of Assembly, AssemblyRef and MethodSpec.
 #[tactic(auto, unfolding(crate::specs::Rows::last_rows))]
 fn append_last_rows(out: &mut Vec<u8>, widths: Widths) -> Result<(), AllocError>
@@ -293,28 +312,7 @@ fn append_last_rows(out: &mut Vec<u8>, widths: Widths) -> Result<(), AllocError>
             Blob(0),
         ],
     )?;
-    append_fields(
-        out,
-        widths,
-        &[
-            MethodOrMember(0x15),
-            Blob(30),
-            MethodOrMember(0x15),
-            Blob(34),
-            MethodOrMember(0x15),
-            Blob(38),
-            MethodOrMember(0x15),
-            Blob(43),
-            MethodOrMember(0x17),
-            Blob(30),
-            MethodOrMember(0x17),
-            Blob(34),
-            MethodOrMember(0x17),
-            Blob(38),
-            MethodOrMember(0x17),
-            Blob(43),
-        ],
-    )
+    append_fields(out, widths, &METHOD_SPECS)
 }
 
 /// Appends the stream `#~`.
