@@ -49,7 +49,7 @@ struct ContractMethod {
     number: u32,
 }
 
-/// The signature `void (bool)` (II.23.2.1).
+/// The signature `void (bool)` of a row of MemberRef (II.23.2.2).
 const CONDITION: &[u8] = b"\x00\x01\x01\x02";
 
 /// `void (bool, string)`.
