@@ -3,6 +3,7 @@ pub mod CallLemmas
 pub mod CellLemmas
 pub mod FaultLemmas
 pub mod FindLemmas
+pub mod FrontLemmas
 pub mod NameLemmas
 pub mod NameTableLemmas
 pub mod ReadLemmas

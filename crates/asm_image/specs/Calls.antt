@@ -40,7 +40,7 @@ is_contract_class md row =
 unfoldable pub is_contract_method : List ℕ → ℕ → Bool
 is_contract_method md row = unwrap_or (option_map (is_contract_class md) (class_row md row)) false
 
--- Signatures of methods (II.23.2.1): `void (bool)`, `void (bool, string)` and `void ()`; `T <T>()` and
+-- Signatures in MemberRef (II.23.2.2): `void (bool)`, `void (bool, string)` and `void ()`; `T <T>()` and
 -- `T <T>(T)`.
 abbrev pub condition : List ℕ
 condition = 0x00 ∷ 0x01 ∷ 0x01 ∷ 0x02 ∷ []

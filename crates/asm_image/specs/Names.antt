@@ -1,5 +1,5 @@
 -- The printed names of methods.
-use Rattle.std.specs.Prelude.{ℕ, zero, suc, List, [], ◌∷◌, ◌++◌, ◌==◌, not, ◌&&◌, Bool, nat_le, if◌then◌else◌, codes}
+use Rattle.std.specs.Prelude.{◌≡◌, ℕ, zero, suc, List, [], ◌∷◌, ◌++◌, length, take, ◌==◌, not, ◌&&◌, Bool, nat_le, if◌then◌else◌, codes}
 use Rattle.std.specs.List.{flat_map}
 use Rattle.cc_base.specs.Digits.{hex}
 use Rattle.cil_model.specs.declared.place.Place.{Place}
@@ -7,6 +7,10 @@ use Rattle.cil_model.specs.declared.place.Place.TheVariants as places
 use Rattle.signature_blobs.specs.declared.method.SigTypes.{SigTypes}
 use Rattle.signature_blobs.specs.declared.method.SigTypes.TheVariants as types
 use Rattle.asm_image.specs.Cells.{type_name, namespace, method_name, signature, owner}
+
+-- A line begins with a text.
+abbrev pub BeginsWith : List ℕ → List ℕ → Type 0
+BeginsWith text line = take (length text) line ≡ text
 
 -- A graphic character of ASCII that is no backslash.
 abbrev pub is_plain : ℕ → Bool

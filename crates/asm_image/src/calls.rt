@@ -5,7 +5,7 @@ ghost use Rattle.metadata_tables.specs.Layout.{row_count};
 ghost use Rattle.asm_image.specs.Calls.{tagged_row, is_contract_class, is_contract_method, listed, plain_methods, generic_methods, number_among, member_number, place_number, argument_number, instance_number, numbered, callee_of};
 
 use crate::callee::Callee;
-use crate::cells::{METHOD_DEF, blob_at, text_at};
+use crate::cells::{METHOD_DEF, TYPE_NAME, TYPE_NAMESPACE, blob_at, text_at};
 use crate::contract_op::ContractOp;
 use crate::tokens::{TYPE_REF, row_in};
 use cc_base::Token;
@@ -16,8 +16,18 @@ use signature_blobs::spec_sig;
 /// The number of the table MemberRef (II.22.25).
 const MEMBER_REF: u8 = 0x0a;
 
+const CLASS: u8 = 0;
+
+const MEMBER_NAME: u8 = 1;
+
+const MEMBER_SIGNATURE: u8 = 2;
+
 /// The number of the table MethodSpec (II.22.29).
 const METHOD_SPEC: u8 = 0x2b;
+
+const METHOD: u8 = 0;
+
+const INSTANTIATION: u8 = 1;
 
 /// The tag of TypeRef in a MemberRefParent (II.24.2.6).
 const PARENT_TYPE_REF: u32 = 1;
@@ -39,7 +49,7 @@ struct ContractMethod {
     number: u32,
 }
 
-/// The signature `void (bool)` (II.23.2.1).
+/// The signature `void (bool)` of a row of MemberRef (II.23.2.2).
 const CONDITION: &[u8] = b"\x00\x01\x01\x02";
 
 /// `void (bool, string)`.
@@ -136,8 +146,9 @@ fn is_contract_class(tables: &Tables<'_>, row: u32) -> bool
     requires last { row ≤ row_count tables.now 0x01 }
     ensures { result ≡ is_contract_class tables.now row }
 {
-    text_at(tables, TYPE_REF, row, 1) == b"Contract".as_slice()
-        && text_at(tables, TYPE_REF, row, 2) == b"System.Diagnostics.Contracts".as_slice()
+    text_at(tables, TYPE_REF, row, TYPE_NAME) == b"Contract".as_slice()
+        && text_at(tables, TYPE_REF, row, TYPE_NAMESPACE)
+            == b"System.Diagnostics.Contracts".as_slice()
 }
 
 /// The row of a table that a coded index names.
@@ -162,7 +173,7 @@ fn is_contract_method(tables: &Tables<'_>, row: u32) -> bool
     requires last { row ≤ row_count tables.now 0x0a }
     ensures { result ≡ is_contract_method tables.now row }
 {
-    let class = tables.cell(MEMBER_REF, row, 0);
+    let class = tables.cell(MEMBER_REF, row, CLASS);
     match tagged_row(tables, TYPE_REF, PARENT_TYPE_REF, PARENT_TAGS, class) {
         Some(class) => is_contract_class(tables, class),
         None => false,
@@ -180,8 +191,12 @@ fn member_number(tables: &Tables<'_>, methods: &[ContractMethod], row: u32) -> O
     if !is_contract_method(tables, row) {
         return None;
     }
-    let name = text_at(tables, MEMBER_REF, row, 1);
-    number_among(methods, name, blob_at(tables, MEMBER_REF, row, 2))
+    let name = text_at(tables, MEMBER_REF, row, MEMBER_NAME);
+    number_among(
+        methods,
+        name,
+        blob_at(tables, MEMBER_REF, row, MEMBER_SIGNATURE),
+    )
 }
 
 /// The number of a method that is not generic.
@@ -225,7 +240,7 @@ fn argument_number(tables: &Tables<'_>, row: u32) -> Option<u32>
     ensures number { result ≡ argument_number tables.now row }
     ensures few { IfSome result (λ number. number ≤ 4) }
 {
-    match spec_sig(blob_at(tables, METHOD_SPEC, row, 1)) {
+    match spec_sig(blob_at(tables, METHOD_SPEC, row, INSTANTIATION)) {
         Ok(Some(place)) => Some(place_number(place)),
         Ok(None) | Err(_) => None,
     }
@@ -239,7 +254,7 @@ fn instance_number(tables: &Tables<'_>, row: u32) -> Option<u32>
     requires short { length tables.now ≤ 2147483647 }
     ensures { result ≡ instance_number tables.now row }
 {
-    let method = tables.cell(METHOD_SPEC, row, 0);
+    let method = tables.cell(METHOD_SPEC, row, METHOD);
     let member = tagged_row(tables, MEMBER_REF, METHOD_MEMBER_REF, METHOD_TAGS, method)?;
     let number = generic_number(tables, member)?;
     let argument = argument_number(tables, row)?;

@@ -16,6 +16,12 @@ pub const TYPE_DEF: u8 = 0x02;
 /// The number of the table MethodDef (II.22.26).
 pub const METHOD_DEF: u8 = 0x06;
 
+/// The column TypeName, of the table TypeRef as of TypeDef.
+pub const TYPE_NAME: u8 = 1;
+
+/// The column TypeNamespace of the same two.
+pub const TYPE_NAMESPACE: u8 = 2;
+
 /// The fault of a cell that names no item of its heap.
 pub fn heap_end(tables: &Tables<'_>, base: u32, table: u8, row: u32, column: u8) -> AsmFault
     requires first { 1 ≤ row }

@@ -32,12 +32,14 @@ pub enum Cause {
 pub struct AsmFault {
     /// Where in the file it is. For an address that is not found it is the address (RVA).
     pub at: u32,
+    /// What is wrong. Its own place counts from the start of the file, of the metadata or of the signature.
     pub cause: Cause,
 }
 
 /// Why an assembly was not read.
 #[derive(Clone, Copy, Debug, PartialEq, Eq, Error)]
 pub enum AsmRefusal {
+    /// The file is no assembly.
     #[error(transparent)]
     Bad(AsmFault),
     /// Memory ran out.

@@ -17,5 +17,6 @@ pub struct MethodRow {
     pub impl_flags: u16,
     /// The address of the body, 0 where there is none.
     pub rva: u32,
+    /// What the column Signature says (II.23.2.1).
     pub sig: MethodSig,
 }

@@ -1,12 +1,12 @@
 //! The printed names of methods.
 
-ghost use Rattle.std.specs.Prelude.{◌≡◌, ◌≤◌, ◌++◌, OnOk, IfOk};
+ghost use Rattle.std.specs.Prelude.{◌≡◌, ◌≤◌, ◌++◌, OnOk, OnErr, IfOk};
 ghost use Rattle.std.specs.List.{flat_map};
 ghost use Rattle.asm_image.specs.Cells.{type_count, text};
-ghost use Rattle.asm_image.specs.Names.{is_plain, escaped_byte, escaped, qualified, owner_text, place_text, next_parameter, parameters_text, types_text, printed};
+ghost use Rattle.asm_image.specs.Names.{BeginsWith, is_plain, escaped_byte, escaped, qualified, owner_text, place_text, next_parameter, parameters_text, types_text, printed};
 ghost use Rattle.metadata_tables.specs.Layout.{row_count};
 
-use crate::cells::{TYPE_DEF, text_at};
+use crate::cells::{TYPE_DEF, TYPE_NAME, TYPE_NAMESPACE, text_at};
 use cc_base::put_hex;
 use cil_model::Place;
 use metadata_tables::Tables;
@@ -22,7 +22,8 @@ fn is_plain(byte: u8) -> bool
 
 /// Appends a byte of a name.
 fn append_escaped_byte(alloc: Global, line: &mut Vec<u8>, byte: u8) -> Result<(), AllocError>
-    ensures { OnOk result (line.new.items ≡ line.old.items ++ escaped_byte byte) }
+    ensures ok { OnOk result (line.new.items ≡ line.old.items ++ escaped_byte byte) }
+    ensures front { BeginsWith line.old.items line.new.items }
 {
     if is_plain(byte) {
         line.push(byte)?;
@@ -32,14 +33,28 @@ fn append_escaped_byte(alloc: Global, line: &mut Vec<u8>, byte: u8) -> Result<()
     put_hex(alloc, line, u32::from(byte), 2)
 }
 
-/// Appends a name with its escapes.
-pub fn append_escaped(alloc: Global, line: &mut Vec<u8>, name: &[u8]) -> Result<(), AllocError>
-    ensures { OnOk result (line.new.items ≡ line.old.items ++ escaped name.now) }
+/// Appends the bytes of a name. An error may leave some of them.
+fn append_escaped_bytes(alloc: Global, line: &mut Vec<u8>, name: &[u8]) -> Result<(), AllocError>
+    ensures ok { OnOk result (line.new.items ≡ line.old.items ++ escaped name.now) }
+    ensures front { BeginsWith line.old.items line.new.items }
 {
     for byte in name {
         append_escaped_byte(alloc, line, *byte)?;
     }
     Ok(())
+}
+
+/// Appends a name with its escapes. An error leaves the line as it was.
+pub fn append_escaped(alloc: Global, line: &mut Vec<u8>, name: &[u8]) -> Result<(), AllocError>
+    ensures ok { OnOk result (line.new.items ≡ line.old.items ++ escaped name.now) }
+    ensures err { OnErr result (line.new.items ≡ line.old.items) }
+{
+    let start = line.len();
+    let appended = append_escaped_bytes(alloc, line, name);
+    if appended.is_err() {
+        line.truncate(start);
+    }
+    appended
 }
 
 /// Appends the name of a type behind its namespace.
@@ -73,7 +88,8 @@ fn place_text(place: Place) -> &'static [u8]
 
 /// Appends parameters' types, each behind a comma.
 fn append_next_parameters(line: &mut Vec<u8>, places: &[Place]) -> Result<(), AllocError>
-    ensures { OnOk result (line.new.items ≡ line.old.items ++ flat_map next_parameter places.now) }
+    ensures ok { OnOk result (line.new.items ≡ line.old.items ++ flat_map next_parameter places.now) }
+    ensures front { BeginsWith line.old.items line.new.items }
 {
     for place in places {
         line.push(b',')?;
@@ -82,9 +98,10 @@ fn append_next_parameters(line: &mut Vec<u8>, places: &[Place]) -> Result<(), Al
     Ok(())
 }
 
-/// Appends parameters' types, with commas between.
-pub fn append_parameters(line: &mut Vec<u8>, places: &[Place]) -> Result<(), AllocError>
-    ensures { OnOk result (line.new.items ≡ line.old.items ++ parameters_text places.now) }
+/// Appends parameters' types, with commas between. An error may leave some of them.
+fn append_places(line: &mut Vec<u8>, places: &[Place]) -> Result<(), AllocError>
+    ensures ok { OnOk result (line.new.items ≡ line.old.items ++ parameters_text places.now) }
+    ensures front { BeginsWith line.old.items line.new.items }
 {
     match places {
         [] => Ok(()),
@@ -93,6 +110,19 @@ pub fn append_parameters(line: &mut Vec<u8>, places: &[Place]) -> Result<(), All
             append_next_parameters(line, rest)
         }
     }
+}
+
+/// Appends parameters' types, with commas between. An error leaves the line as it was.
+pub fn append_parameters(line: &mut Vec<u8>, places: &[Place]) -> Result<(), AllocError>
+    ensures ok { OnOk result (line.new.items ≡ line.old.items ++ parameters_text places.now) }
+    ensures err { OnErr result (line.new.items ≡ line.old.items) }
+{
+    let start = line.len();
+    let appended = append_places(line, places);
+    if appended.is_err() {
+        line.truncate(start);
+    }
+    appended
 }
 
 /// Appends the types of a method's parameters in parentheses.
@@ -123,8 +153,8 @@ fn append_owner(
     if owner == 0 {
         return Ok(());
     }
-    let namespace = text_at(tables, TYPE_DEF, owner, 2);
-    let name = text_at(tables, TYPE_DEF, owner, 1);
+    let namespace = text_at(tables, TYPE_DEF, owner, TYPE_NAMESPACE);
+    let name = text_at(tables, TYPE_DEF, owner, TYPE_NAME);
     append_qualified(alloc, line, namespace, name)
 }
 

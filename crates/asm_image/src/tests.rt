@@ -135,12 +135,14 @@ fn reads_locals(rt: HostRuntime) -> Result<(), Fail> {
     let types = [Place::Int, Place::Int, Place::Ints, Place::Int];
     assert_eq!(rt; places.as_slice(), types.as_slice());
     assert!(rt; assembly.locals_of(0x1100_0002).is_none());
+    assert!(rt; assembly.locals_of(0x1100_0000).is_none());
+    let Some(LocalSig::Known(none)) = assembly.locals_of(0) else {
+        panic!(rt; "the token 0 names no locals");
+    };
+    assert!(rt; none.as_slice().is_empty());
     assert_eq!(rt; assembly.element_of(Token(0x0100_0001)), None);
     Ok(())
 }
-
-/// Where the cell Name of the second method stands.
-const SECOND_NAME: usize = 0x250 + 0xf4;
 
 #[test]
 fn finds_methods_by_name(rt: HostRuntime) -> Result<(), Fail> {
@@ -162,6 +164,18 @@ fn finds_several_methods_of_a_name(rt: HostRuntime) -> Result<(), Fail> {
     let twice = Some(Found::One(Token(0x0600_0001)));
     assert_eq!(rt; assembly.find(b"Calc::Twice"), Some(Found::Several));
     assert_eq!(rt; assembly.find(b"Calc::Twice(int32)"), twice);
+    Ok(())
+}
+
+#[test]
+fn finds_a_method_whose_name_has_a_parenthesis(rt: HostRuntime) -> Result<(), Fail> {
+    let mut file = small_file();
+    put(&mut file, SUM, b"S(m");
+    let assembly = Assembly::read(rt.alloc(), &file)?;
+    let sum = Some(Found::One(Token(0x0600_0002)));
+    assert_eq!(rt; assembly.find(b"Calc::S(m"), sum);
+    assert_eq!(rt; assembly.find(b"Calc::S(m(int32[])"), sum);
+    assert_eq!(rt; assembly.find(b"Calc::S"), None);
     Ok(())
 }
 

@@ -4,7 +4,7 @@ ghost use Rattle.std.specs.Prelude.{◌≡◌, ◌≤◌, length, IfSome};
 ghost use Rattle.metadata_tables.specs.Layout.{row_count};
 ghost use Rattle.asm_image.specs.Tokens.{row_in, locals_at, locals_of, element_at, element_of};
 
-use crate::cells::text_at;
+use crate::cells::{TYPE_NAME, TYPE_NAMESPACE, text_at};
 use cil_model::Place;
 use metadata_tables::Tables;
 use signature_blobs::{LocalSig, Places, local_sig};
@@ -14,6 +14,9 @@ pub const TYPE_REF: u8 = 0x01;
 
 /// The number of the table StandAloneSig (II.22.36).
 const STAND_ALONE_SIG: u8 = 0x11;
+
+/// Its one column, Signature.
+const LOCAL_SIGNATURE: u8 = 0;
 
 /// A token's row is its remainder by this number, and its table the quotient.
 const ROWS: u32 = 0x0100_0000;
@@ -39,7 +42,7 @@ fn locals_at(tables: &Tables<'_>, row: u32) -> Option<LocalSig>
     requires short { length tables.now ≤ 2147483647 }
     ensures { result ≡ locals_at tables.now row }
 {
-    let index = tables.cell(STAND_ALONE_SIG, row, 0);
+    let index = tables.cell(STAND_ALONE_SIG, row, LOCAL_SIGNATURE);
     let Some(blob) = tables.blob_at(index) else {
         return None;
     };
@@ -69,10 +72,10 @@ fn element_at(tables: &Tables<'_>, row: u32) -> Option<Place>
     requires last { row ≤ row_count tables.now 0x01 }
     ensures { result ≡ element_at tables.now row }
 {
-    if text_at(tables, TYPE_REF, row, 2) != b"System".as_slice() {
+    if text_at(tables, TYPE_REF, row, TYPE_NAMESPACE) != b"System".as_slice() {
         return None;
     }
-    let name = text_at(tables, TYPE_REF, row, 1);
+    let name = text_at(tables, TYPE_REF, row, TYPE_NAME);
     if name == b"Int32".as_slice() {
         Some(Place::Int)
     } else if name == b"Boolean".as_slice() {

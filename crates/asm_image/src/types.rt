@@ -6,7 +6,7 @@ ghost use Rattle.asm_image.specs.Cells.{type_count, method_count, method_list, o
 ghost use Rattle.asm_image.specs.Faults.{index_out, least_list, list_test, type_tests, types_tests};
 ghost use Rattle.asm_image.specs.Reading.{Judges, Begins};
 
-use crate::cells::{METHOD_DEF, TYPE_DEF, text_of};
+use crate::cells::{METHOD_DEF, TYPE_DEF, TYPE_NAME, TYPE_NAMESPACE, text_of};
 use crate::fault::{AsmFault, Cause};
 use metadata_tables::{TableFault, Tables};
 
@@ -43,8 +43,8 @@ fn test_type(tables: &Tables<'_>, base: u32, row: u32, least: u32) -> Result<u32
     requires within { base + length tables.now ≤ 2147483647 }
     ensures { Judges result (first_of (type_tests tables.now base row)) (λ list. list ≡ method_list tables.now row) }
 {
-    text_of(tables, base, TYPE_DEF, row, 1)?;
-    text_of(tables, base, TYPE_DEF, row, 2)?;
+    text_of(tables, base, TYPE_DEF, row, TYPE_NAME)?;
+    text_of(tables, base, TYPE_DEF, row, TYPE_NAMESPACE)?;
     method_list(tables, base, row, least)
 }
 
