@@ -1,9 +1,7 @@
 -- What a call of the program leaves, from what its answer gave.
 use Rattle.std.proofs.Common.{◌≡◌, ℕ, List, [], Option, Some, Result, Ok, Err, refl, sym, ap, subst, ◌∙◌, arith, inl, inr, ◌⊎◌}
-use Rattle.cc_base.specs.Counts.{Rose, Kept}
 use Rattle.cc_base.specs.Files.{Held}
 use Rattle.cc_base.specs.Sink.{appended, AppendsFront}
-use Rattle.cc_base.proofs.CountLemmas.{Rose-Kept}
 use Rattle.cc_base.proofs.SinkLemmas.{appended-appended, IsFront-nil, AppendsFront-all, AppendsFront-front}
 use Rattle.check_driver.specs.Expected.{Answer, AreTold, expected, unread_line, UNWRITTEN_LINE, NO_MEMORY_LINE}
 use Rattle.check_driver.specs.Outcome.{GivesOrUnread, Leaves, Interrupted}
@@ -23,17 +21,17 @@ leaves_answer x name failed status out err plain (inl g) = record {
   answered = λ a b c. (g.status, g.out_all, g.err_all);
   front = AppendsFront-all out.old out.new x.out g.out_all;
   unread_line = λ e. absurd (plain.read (sym g.status ∙ e));
+  unread_out = λ e. absurd (plain.read (sym g.status ∙ e));
   unwritten = λ e. absurd (plain.written (sym g.status ∙ e));
   no_memory = λ e. absurd (plain.memory (sym g.status ∙ e));
-  unwritten_cause = λ e. absurd (plain.written (sym g.status ∙ e));
 }
 leaves_answer x name failed status out err plain (inr (f, g)) = record {
   answered = λ a b c. absurd (a g.status);
   front = unwritten_front out x.out (AppendsFront-all out.old out.new [] g.out_all);
   unread_line = λ e. (f, g.err_all);
+  unread_out = λ e. g.out_all;
   unwritten = λ e. absurd (omega (arith, g.status));
   no_memory = λ e. absurd (omega (arith, g.status));
-  unwritten_cause = λ e. absurd (omega (arith, g.status));
 }
 
 -- A front of a text, and behind it a front of a line.
@@ -52,30 +50,17 @@ out_begun : (x : Answer) (name : List ℕ) (failed : Type 0) (i : Interrupt) (ou
 out_begun x name failed i out err (inl g) = g.out_front
 out_begun x name failed i out err (inr (f, g)) = unwritten_front out x.out g.out_front
 
-caused : (x : Answer) (name : List ℕ) (failed : Type 0) (out err : Change) → GivesOrUnread x name failed (Err interrupts.CannotWrite) out err
-    → Rose out.faults_before out.faults_after ⊎ Rose err.faults_before err.faults_after
-caused x name failed out err (inl g) = g.cause refl
-caused x name failed out err (inr (f, g)) = g.cause refl
-
-err_kept : (x : Answer) (name : List ℕ) (failed : Type 0) (i : Interrupt) (out err : Change) → GivesOrUnread x name failed (Err i) out err → Kept err.faults_before err.faults_after
-err_kept x name failed i out err (inl g) = g.err_kept
-err_kept x name failed i out err (inr (f, g)) = g.err_kept
-
-rose_on : (A : Type 0) (a b c : ℕ) → Kept a b → Kept b c → A ⊎ Rose a b → A ⊎ Rose a c
-rose_on A a b c ab bc (inl h) = inl h
-rose_on A a b c ab bc (inr h) = inr (Rose-Kept a b c ab h bc)
-
 -- A sink refused.
 pub leaves_unwritten : (x : Answer) (name : List ℕ) (failed : Type 0) (out : Change) (old mid new : Option (List ℕ)) (g0 g1 g2 : ℕ)
-    → GivesOrUnread x name failed (Err interrupts.CannotWrite) out (change old mid g0 g1) → AppendsFront mid new UNWRITTEN_LINE → Kept g1 g2
+    → GivesOrUnread x name failed (Err interrupts.CannotWrite) out (change old mid g0 g1) → AppendsFront mid new UNWRITTEN_LINE
     → Leaves x (unread_line name) failed 6 out (change old new g0 g2)
-leaves_unwritten x name failed out old mid new g0 g1 g2 gives tried kept = record {
+leaves_unwritten x name failed out old mid new g0 g1 g2 gives tried = record {
   answered = λ a b c. absurd (b refl);
   front = out_begun x name failed interrupts.CannotWrite out (change old mid g0 g1) gives;
   unread_line = λ e. absurd (omega (arith, e));
+  unread_out = λ e. absurd (omega (arith, e));
   unwritten = λ e. begun x name failed interrupts.CannotWrite out old mid new g0 g1 g2 UNWRITTEN_LINE gives tried;
   no_memory = λ e. absurd (omega (arith, e));
-  unwritten_cause = λ e. rose_on (Rose out.faults_before out.faults_after) g0 g1 g2 (err_kept x name failed interrupts.CannotWrite out (change old mid g0 g1) gives) kept (caused x name failed out (change old mid g0 g1) gives);
 }
 
 -- Memory ran out.
@@ -86,9 +71,9 @@ leaves_no_memory x name failed out old mid new g0 g1 g2 gives tried = record {
   answered = λ a b c. absurd (c refl);
   front = out_begun x name failed interrupts.NoMemory out (change old mid g0 g1) gives;
   unread_line = λ e. absurd (omega (arith, e));
+  unread_out = λ e. absurd (omega (arith, e));
   unwritten = λ e. absurd (omega (arith, e));
   no_memory = λ e. begun x name failed interrupts.NoMemory out old mid new g0 g1 g2 NO_MEMORY_LINE gives tried;
-  unwritten_cause = λ e. absurd (omega (arith, e));
 }
 
 -- What was written is a front of what is expected, whatever came of it.

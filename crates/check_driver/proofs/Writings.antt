@@ -42,14 +42,6 @@ texts_front {X} text items k item lt at =
     ap (flat_map text) whole ∙ flat_map-append text (take k items) (item ∷ drop (suc k) items) in
     (flat_map text (drop (suc k) items), texts ∙ sym (append_assoc (flat_map text (take k items)) (text item) (flat_map text (drop (suc k) items))))
 
--- Nothing was written.
-pub writes_nothing : {X : Type 0} (o : Option (List ℕ)) (f : ℕ) (text : List ℕ) → Writes {X = X} (Err interrupts.NoMemory) (change o o f f) text
-writes_nothing o f text = record { whole = tt; front = AppendsFront-none o o text refl; cause = λ is. absurd cc; kept = Kept-refl f }
-
--- The same interruption, where a call hands it on as it came.
-pub writes_on : {X Y : Type 0} (e : Interrupt) (sink : Change) (text : List ℕ) → Writes {X = X} (Err e) sink text → Writes {X = Y} (Err e) sink text
-writes_on {X} {Y} e sink text w = record { whole = tt; front = w.front; cause = λ is. w.cause (retold {X = Y} {Y = X} e interrupts.CannotWrite is); kept = w.kept }
-
 -- ---- answers
 
 -- Memory ran out before anything was written.
@@ -99,20 +91,6 @@ gives_output_stop {X} status text i out e g w = record {
   out_front = w.front;
   err_front = AppendsFront-none e e [] refl;
   cause = λ is. inl (w.cause (retold {X = ℕ} {Y = X} i interrupts.CannotWrite is));
-  out_kept = w.kept;
-  err_kept = Kept-refl g;
-}
-
--- A text on the sink of output is the answer.
-pub gives_output : {X : Type 0} (status : ℕ) (text : List ℕ) (x : X) (given : ℕ) (out : Change) (e : Option (List ℕ)) (g : ℕ)
-    → given ≡ status → Writes (Ok x) out text → Gives (output_answer status text) (Ok given) out (change e e g g)
-gives_output status text x given out e g is w = record {
-  status = is;
-  out_all = w.whole;
-  err_all = sym (appended-nil e);
-  out_front = tt;
-  err_front = tt;
-  cause = λ i. absurd cc;
   out_kept = w.kept;
   err_kept = Kept-refl g;
 }

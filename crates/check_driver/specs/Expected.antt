@@ -58,6 +58,7 @@ refused_answer name fault at = error_answer 5 (refused_line name fault at)
 abbrev pub report_answer : MethodUnit → Answer
 report_answer unit = output_answer (if all_proved (verdicts unit) then 0 else 1) (unit_report unit)
 
+-- The answer for the bytes of a unit file that is not too large, which have this first fault or none.
 abbrev pub unit_answer : List ℕ → List ℕ → Option UnitFault → Answer
 unit_answer name bytes (Some fault) = refused_answer name (unit_fault_text fault) (unit_fault_at fault)
 unit_answer name bytes None = report_answer (unit_of bytes)

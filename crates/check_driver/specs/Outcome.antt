@@ -1,5 +1,5 @@
 -- What a call of the program leaves, however it ends.
-use Rattle.std.specs.Prelude.{◌≡◌, ◌≢◌, ◌⊎◌, ℕ, List, ◌++◌, Result, IfOk, OnErr, IsErrOf}
+use Rattle.std.specs.Prelude.{◌≡◌, ◌≢◌, ◌⊎◌, ℕ, List, [], ◌++◌, Result, IfOk, OnErr, IsErrOf}
 use Rattle.cc_base.specs.Counts.{Rose, Kept}
 use Rattle.cc_base.specs.Sink.{appended, AppendsFront, IsFront}
 use Rattle.check_driver.specs.Expected.{Answer, error_answer, unread_line, UNWRITTEN_LINE, NO_MEMORY_LINE}
@@ -46,9 +46,9 @@ pub record Leaves (expected : Answer) (unread : List ℕ) (failed : Type 0) (sta
       → (status ≡ expected.status) × WritesAll out expected.out × WritesAll err expected.err
   -- What was written is a front of what is expected, whatever happens.
   pub front : AppendsFront out.old out.new expected.out
-  -- Status 4 comes with its own line alone.
+  -- Status 4 comes with its own line alone, and nothing on the sink of output.
   pub unread_line : status ≡ 4 → failed × WritesAll err unread
+  pub unread_out : status ≡ 4 → WritesAll out []
   -- Statuses 6 and 7 come behind a front of what would have been written, and with a front of their line.
   pub unwritten : status ≡ 6 → Interrupted expected.err UNWRITTEN_LINE err ⊎ (failed × Interrupted unread UNWRITTEN_LINE err)
   pub no_memory : status ≡ 7 → Interrupted expected.err NO_MEMORY_LINE err ⊎ (failed × Interrupted unread NO_MEMORY_LINE err)
-  pub unwritten_cause : status ≡ 6 → Rose out.faults_before out.faults_after ⊎ Rose err.faults_before err.faults_after

@@ -1,4 +1,4 @@
--- The lines of reports.
+-- The lines that are printed: those of reports and of lists.
 use Rattle.std.specs.Prelude.{ℕ, Bool, List, ◌++◌, length, if◌then◌else◌, codes}
 use Rattle.std.specs.Fmt.{decimal}
 use Rattle.std.specs.List.{flat_map}

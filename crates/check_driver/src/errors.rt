@@ -1,6 +1,6 @@
 //! The lines on the sink of errors.
 
-ghost use Rattle.std.specs.Prelude.{◌≡◌, ◌++◌, List, IfOk, codes};
+ghost use Rattle.std.specs.Prelude.{◌≡◌, IfOk};
 ghost use Rattle.check_driver.specs.Expected.{missing_line, unread_line, refused_line};
 
 use asm_image::append_escaped;

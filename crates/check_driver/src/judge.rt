@@ -1,8 +1,8 @@
 //! The verdicts on a unit's obligations.
 
-ghost use Rattle.std.specs.Prelude.{◌≡◌, ◌++◌, IfOk, OnOk, Option, Some, List};
+ghost use Rattle.std.specs.Prelude.{◌≡◌, ◌++◌, IfOk, OnOk, Option, Some};
 ghost use Rattle.cil_model.specs.Spells.{CodeOf};
-ghost use Rattle.check_driver.specs.Verdicts.{State, combined, after, after_reached, verdicts, noted, is_assert, shows, all_proved, proved_count};
+ghost use Rattle.check_driver.specs.Verdicts.{combined, after, after_reached, verdicts, noted, is_assert, shows, all_proved, proved_count};
 
 use crate::range::Range;
 use crate::stack::Stack;

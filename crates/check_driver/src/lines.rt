@@ -1,11 +1,8 @@
 //! The lines that are written, each made in memory and put at once.
 
-ghost use Rattle.std.specs.Prelude.{◌≡◌, ◌+◌, ◌<◌, ◌≤◌, ◌^◌, ◌++◌, List, length, map, OnOk, IfOk, codes};
+ghost use Rattle.std.specs.Prelude.{◌≡◌, ◌+◌, ◌<◌, ◌++◌, OnOk, IfOk};
 ghost use Rattle.std.specs.Fmt.{decimal};
-ghost use Rattle.std.specs.List.{flat_map};
-ghost use Rattle.cc_base.specs.Digits.{hex};
-ghost use Rattle.asm_image.specs.Names.{parameters_text};
-ghost use Rattle.check_driver.specs.Text.{signature_text, unit_line, verdict_line, method_line, summary_line, proved_text};
+ghost use Rattle.check_driver.specs.Text.{unit_line, verdict_line, method_line, summary_line, proved_text};
 
 use crate::judge::Verdict;
 use asm_image::{MethodRow, append_parameters};

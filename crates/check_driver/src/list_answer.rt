@@ -2,11 +2,9 @@
 
 #![tactic(auto, using(cc_base::proofs::SinkLemmas::sinks, cc_base::proofs::CountLemmas::counts))]
 
-ghost use Rattle.std.specs.Prelude.{◌≡◌, List, length, IfOk};
+ghost use Rattle.std.specs.Prelude.{length};
 ghost use Rattle.std.specs.List.{flat_map};
 ghost use Rattle.asm_image.specs.Faults.{first_assembly_fault};
-ghost use Rattle.asm_image.specs.Rows.{methods_of};
-ghost use Rattle.cc_base.specs.Counts.{Rose, Kept};
 ghost use Rattle.check_driver.specs.Expected.{list_answer};
 ghost use Rattle.check_driver.specs.Outcome.{Gives};
 ghost use Rattle.check_driver.specs.Text.{method_line, list_text};

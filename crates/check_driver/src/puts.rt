@@ -2,8 +2,7 @@
 
 #![tactic(auto, using(cc_base::proofs::SinkLemmas::sinks, cc_base::proofs::CountLemmas::counts))]
 
-ghost use Rattle.std.specs.Prelude.{◌≡◌, List, length, IfOk};
-ghost use Rattle.cc_base.specs.Counts.{Rose, Kept};
+ghost use Rattle.std.specs.Prelude.{◌≡◌, IfOk};
 ghost use Rattle.check_driver.specs.Expected.{refused_line};
 ghost use Rattle.check_driver.specs.Writing.{Writes, change, joined};
 

@@ -13,7 +13,7 @@ pub struct Range {
 
 impl Range {
     ghost use Rattle.std.specs.Prelude.{◌+ℤ◌, ◌≤ℤ◌};
-    ghost use Rattle.check_driver.specs.Ranges.{one, full, between, sum, less, equal, wrapped, LEAST, GREATEST, excludes_zero, is_zero};
+    ghost use Rattle.check_driver.specs.Ranges.{one, sum, less, equal, wrapped, LEAST, GREATEST, excludes_zero, is_zero};
 
     /// Every int32.
     pub const FULL: Range = Range {

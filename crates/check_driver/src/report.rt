@@ -1,8 +1,7 @@
 //! Reports, as lists of lines.
 
-ghost use Rattle.std.specs.Prelude.{◌≡◌, ◌++◌, ◌<◌, ◌≤◌, List, map, length, All, IfOk, OnOk};
-ghost use Rattle.std.specs.List.{flat_map, concat};
-ghost use Rattle.cil_model.specs.Spells.{CodeOf};
+ghost use Rattle.std.specs.Prelude.{◌≡◌, ◌++◌, ◌<◌, ◌≤◌, length, All, IfOk, OnOk};
+ghost use Rattle.std.specs.List.{flat_map};
 ghost use Rattle.check_driver.specs.Text.{unit_report, verdict_line};
 ghost use Rattle.check_driver.specs.Verdicts.{verdicts};
 ghost use Rattle.check_driver.specs.Writing.{joined};

@@ -1,6 +1,6 @@
 //! Stacks that contracts see from the top.
 
-ghost use Rattle.std.specs.Prelude.{◌≡◌, [], ◌∷◌, List, length, Option, Some, None, OnOk, OnErr, MatchOption, slice_get};
+ghost use Rattle.std.specs.Prelude.{◌≡◌, [], ◌∷◌, List, Option, OnOk, OnErr, MatchOption, slice_get};
 ghost use Rattle.std.specs.Option.{option_copied};
 
 use std::alloc::{AllocError, Global};

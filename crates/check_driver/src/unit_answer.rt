@@ -2,13 +2,12 @@
 
 #![tactic(auto, using(cc_base::proofs::SinkLemmas::sinks, cc_base::proofs::CountLemmas::counts))]
 
-ghost use Rattle.std.specs.Prelude.{◌≡◌, ◌<◌, ◌≤◌, List, length, IfOk};
-ghost use Rattle.cc_base.specs.Counts.{Rose, Kept};
+ghost use Rattle.std.specs.Prelude.{◌≡◌, ◌<◌, length, IfOk};
 ghost use Rattle.check_driver.specs.Expected.{unit_answer, unit_file_answer};
 ghost use Rattle.check_driver.specs.Outcome.{Gives};
 ghost use Rattle.check_driver.specs.Text.{unit_report};
 ghost use Rattle.check_driver.specs.Verdicts.{verdicts, all_proved};
-ghost use Rattle.check_driver.specs.Writing.{Writes, change, joined};
+ghost use Rattle.check_driver.specs.Writing.{Writes, change};
 ghost use Rattle.method_unit.specs.UnitFile.{first_unit_fault};
 ghost use Rattle.method_unit.specs.UnitSpelling.{IsBuilt};
 

@@ -1,7 +1,6 @@
 -- The arguments of a unit file, one after another.
-use Rattle.std.proofs.Common.{◌≡◌, ℕ, suc, ◌+◌, ◌-◌, ◌<◌, List, Some, None, refl, arith}
+use Rattle.std.proofs.Common.{◌≡◌, ℕ, suc, ◌+◌, ◌-◌, ◌<◌, List, None, refl, arith}
 use Rattle.method_unit.specs.UnitFile.{arg_fault, arg_faults}
-use Rattle.method_unit.specs.declared.unit_fault.UnitFault.{UnitFault}
 
 -- Behind an argument without a fault, the faults of the others are those that are left.
 pub arg_faults-step : (bytes : List ℕ) (count i first : ℕ) → i < count → arg_fault bytes (first + i) ≡ None
@@ -11,11 +10,3 @@ arg_faults-step bytes count i first lt none =
     let k : count - i ≡ suc (count - (i + 1)) = omega arith in
     let place : first + i + 1 ≡ first + (i + 1) = omega arith in
     rw (k, none, place) refl
-
--- An argument's fault is the first of those that are left.
-pub arg_faults-stop : (bytes : List ℕ) (count i first : ℕ) (fault : UnitFault) → i < count → arg_fault bytes (first + i) ≡ Some fault
-    → arg_faults bytes (count - i) (first + i) ≡ Some fault
-unfolding arg_faults
-arg_faults-stop bytes count i first fault lt some =
-    let k : count - i ≡ suc (count - (i + 1)) = omega arith in
-    rw (k, some) refl

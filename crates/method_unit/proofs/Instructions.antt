@@ -1,14 +1,12 @@
 -- Instructions that are read one after another are those that were sought.
-use Rattle.std.proofs.Common.{◌≡◌, ℕ, zero, suc, ◌+◌, ◌-◌, ◌<◌, ◌≤◌, List, [], ◌∷◌, ◌++◌, length, get_or, drop, Some, None, Result, Ok, Err, refl, sym, ap, ◌∙◌, append_assoc, append-nil, arith}
+use Rattle.std.proofs.Common.{◌≡◌, ℕ, zero, suc, ◌+◌, ◌-◌, ◌<◌, ◌≤◌, List, [], ◌∷◌, ◌++◌, length, drop, None, Result, Ok, Err, refl, sym, ap, ◌∙◌, append_assoc, append-nil, arith}
 use Rattle.std.proofs.Math.ListN.{drop_of_length-le}
-use Rattle.std.proofs.Math.Seq.{drop-cons}
 use Rattle.std.proofs.lemmas.Bool.{le-leb, lt-leb}
 use Rattle.cil_model.specs.declared.instruction.Instr.{Instr}
 use Rattle.il_decoder.specs.Decoding.{decoded}
 use Rattle.method_unit.specs.Faults.{Reads}
 use Rattle.method_unit.specs.UnitFile.{built, followed_by, instructions, limit_fault}
 use Rattle.method_unit.specs.declared.unit_fault.UnitFault.{UnitFault}
-use Rattle.method_unit.specs.declared.unit_fault.UnitFault.TheVariants.{Form}
 use Rattle.method_unit.specs.declared.unit_fault.UnitRefusal.{UnitRefusal}
 use Rattle.method_unit.specs.declared.unit_fault.UnitRefusal.TheVariants as refusals
 
@@ -21,10 +19,6 @@ with_front-followed_by : (front : List Instr) (i : Instr) (rest : Result (List I
     → with_front front (followed_by i rest) ≡ with_front (front ++ i ∷ []) rest
 with_front-followed_by front i (Ok is) = ap Ok (sym (append_assoc front (i ∷ []) is))
 with_front-followed_by front i (Err fault) = refl
-
-pub with_front-nil : (rest : Result (List Instr) UnitFault) → with_front [] rest ≡ rest
-with_front-nil (Ok is) = refl
-with_front-nil (Err fault) = refl
 
 -- One more is read.
 pub instructions-step : (front : List Instr) (base most k at : ℕ) (code : List ℕ) (i : Instr) (total : Result (List Instr) UnitFault)
@@ -73,6 +67,3 @@ instructions-end front base (suc n) at code total past so_far =
 
 pub limit_fault-few : (base n : ℕ) (is : List Instr) → length is ≤ n → limit_fault base (drop n is) ≡ None
 limit_fault-few base n is few = rw (drop_of_length-le is few) refl
-
-pub limit_fault-many : (base n : ℕ) (is : List Instr) (d : Instr) → n < length is → limit_fault base (drop n is) ≡ Some (Form (base + (get_or is n d).at))
-limit_fault-many base n is d many = rw (drop-cons is n d many) refl

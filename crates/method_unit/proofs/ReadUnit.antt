@@ -1,12 +1,13 @@
 -- What reading a unit finds, step after step.
-use Rattle.std.proofs.Common.{◌≡◌, ℕ, ◌+◌, ◌^◌, ◌<◌, ◌≤◌, List, length, drop, All, Some, None, Result, Ok, Err, refl, sym, ◌∙◌, arith}
+use Rattle.std.proofs.Common.{◌≡◌, ℕ, List, length, drop, Some, None, Result, Ok, Err, refl, sym, ◌∙◌}
 use Rattle.std.specs.Prelude.{IfOk}
 use Rattle.cc_base.specs.LittleEndian.{IsBytes}
 use Rattle.cil_model.specs.declared.instruction.Instr.{Instr}
 use Rattle.cil_model.specs.declared.unit.Unit.{Unit as MethodUnit}
 use Rattle.method_unit.specs.Faults.{◌otherwise◌, Reads}
 use Rattle.method_unit.specs.Typing.{typing_fault}
-use Rattle.method_unit.specs.UnitFile.{HasFields, field_fault, first_unit_fault, instructions, instructions_of, limit_fault, unit_with, unit_of, arg_count, max_stack, code_at}
+use Rattle.method_unit.specs.Fields.{HasFields}
+use Rattle.method_unit.specs.UnitFile.{field_fault, first_unit_fault, instructions, instructions_of, limit_fault, unit_with, unit_of, arg_count, max_stack, code_at}
 use Rattle.method_unit.specs.UnitSpelling.{IsBuilt, IsRead, ReadsOnly, unit_bytes}
 use Rattle.method_unit.specs.declared.unit_fault.UnitFault.{UnitFault}
 use Rattle.method_unit.specs.declared.unit_fault.UnitRefusal.{UnitRefusal}
@@ -84,10 +85,6 @@ unit_found bytes fields is seen typed limit unit h none read same alike size few
     let found : typing_fault (arg_count bytes) (max_stack bytes) (code_at bytes) 0 (code_at bytes) is ≡ None = rw (← alike, ← h.args, ← h.stack, ← size, ← h.place) well in
     let whole : instructions_of bytes ≡ Ok is = sym (code_is bytes fields h) ∙ read in
     (checks_passed bytes is none whole (rw (passed, found) refl), made ∙ unit_is bytes fields is h whole)
-
--- Instructions within code stand within the file.
-pub places_fit : (base n : ℕ) (is : List Instr) → base < 2 ^ 17 → n ≤ 65536 → All (λ i. i.at < n) is → All (λ i. base + i.at < 2 ^ 32) is
-places_fit base n is near short h = λ k d lt. omega (arith, h k d lt)
 
 -- ---- what was read, in the words of spellings
 

@@ -3,3 +3,4 @@ pub mod Typing
 pub mod UnitFile
 pub mod Reach
 pub mod UnitSpelling
+pub mod Fields

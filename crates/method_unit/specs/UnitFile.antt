@@ -1,6 +1,6 @@
 -- A unit file: where its fields stand, and the tests that tell a built unit, in order. The first test
 -- that fails names the fault.
-use Rattle.std.specs.Prelude.{◌≡◌, ℕ, zero, suc, ◌+◌, ◌^◌, ◌<◌, ◌≤◌, Bool, false, not, ◌&&◌, List, [], ◌∷◌, length, take, drop, replicate, Option, Some, None, Result, Ok, Err, ◌==◌, nat_lt, nat_le, if◌then◌else◌, slice_index}
+use Rattle.std.specs.Prelude.{ℕ, zero, suc, ◌+◌, Bool, false, not, ◌&&◌, List, [], ◌∷◌, length, take, drop, replicate, Option, Some, None, Result, Ok, Err, ◌==◌, nat_lt, nat_le, if◌then◌else◌, slice_index}
 use Rattle.cc_base.specs.LittleEndian.{u16_at, u32_at}
 use Rattle.cil_model.specs.Effects.{ASSERT_CALL}
 use Rattle.cil_model.specs.declared.instruction.Instr.{Instr}
@@ -14,7 +14,6 @@ use Rattle.il_decoder.specs.declared.fault.IlRefusal.{IlRefusal}
 use Rattle.il_decoder.specs.declared.fault.IlRefusal.TheVariants as il_refusals
 use Rattle.method_unit.specs.Faults.{◌otherwise◌, fails}
 use Rattle.method_unit.specs.Typing.{typing_fault}
-use Rattle.method_unit.specs.declared.unit_fields.Fields.{Fields}
 use Rattle.method_unit.specs.declared.unit_fault.UnitFault.{UnitFault}
 use Rattle.method_unit.specs.declared.unit_fault.UnitFault.TheVariants.{Short, Form, Version, NotBuilt}
 
@@ -197,12 +196,12 @@ abbrev pub limit_fault : ℕ → List Instr → Option UnitFault
 limit_fault base [] = None
 limit_fault base (i ∷ is) = Some (Form (base + i.at))
 
-abbrev pub code_is_typed : List ℕ → List Instr → Option UnitFault
-code_is_typed bytes is = typing_fault (arg_count bytes) (max_stack bytes) (code_at bytes) 0 (code_at bytes) is
+abbrev pub first_typing_fault : List ℕ → List Instr → Option UnitFault
+first_typing_fault bytes is = typing_fault (arg_count bytes) (max_stack bytes) (code_at bytes) 0 (code_at bytes) is
 
 abbrev pub instructions_fault : List ℕ → Result (List Instr) UnitFault → Option UnitFault
 instructions_fault bytes (Err fault) = Some fault
-instructions_fault bytes (Ok is) = limit_fault (code_at bytes) (drop MAX_INSTRUCTIONS is) otherwise code_is_typed bytes is
+instructions_fault bytes (Ok is) = limit_fault (code_at bytes) (drop MAX_INSTRUCTIONS is) otherwise first_typing_fault bytes is
 
 -- ---- the file
 
@@ -211,17 +210,6 @@ unfoldable pub field_fault : List ℕ → Option UnitFault
 field_fault bytes =
     magic_fault bytes otherwise name_fault bytes otherwise result_fault bytes otherwise args_fault bytes
     otherwise locals_fault bytes otherwise max_stack_fault bytes otherwise callees_fault bytes otherwise code_fault bytes
-
--- The fields are those of the file.
-pub record HasFields (bytes : List ℕ) (fields : Fields) : Type 0 where
-  pub name : fields.name.now ≡ name_of bytes
-  pub args : fields.arg_count ≡ arg_count bytes
-  pub stack : fields.max_stack ≡ max_stack bytes
-  pub code : fields.code.now ≡ code_of bytes
-  pub place : fields.code_at ≡ code_at bytes
-  pub few : fields.arg_count ≤ MAX_VARIABLES
-  pub short : length fields.code.now ≤ MAX_CODE
-  pub near : fields.code_at < 2 ^ 17
 
 -- The first fault of a unit file, or none where it has a built unit.
 unfoldable pub first_unit_fault : List ℕ → Option UnitFault

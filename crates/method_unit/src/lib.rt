@@ -8,5 +8,4 @@ mod unit_instructions;
 mod unit_reader;
 
 pub use unit_fault::{UnitFault, UnitRefusal};
-pub use unit_fields::is_printable;
 pub use unit_reader::read_unit;

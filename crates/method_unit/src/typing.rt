@@ -1,6 +1,6 @@
 //! The typing of a unit's code.
 
-ghost use Rattle.std.specs.Prelude.{◌≡◌, ◌+◌, ◌<◌, ◌≤◌, ◌^◌, ⊤, List, length, All};
+ghost use Rattle.std.specs.Prelude.{◌≡◌, ◌+◌, ◌<◌, ◌≤◌, ◌^◌, ⊤, All};
 ghost use Rattle.method_unit.specs.Faults.{Tells};
 ghost use Rattle.method_unit.specs.Typing.{operands, results, is_return, lacks_argument, height_after, step_fault, return_fault, typing_fault};
 

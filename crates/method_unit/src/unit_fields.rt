@@ -1,17 +1,18 @@
 //! The fields of a unit file, in the order in which they are tested.
 
-ghost use Rattle.std.specs.Prelude.{◌≡◌, ◌+◌, ◌<◌, ◌≤◌, ◌^◌, ⊤, List, length, take, drop};
+ghost use Rattle.std.specs.Prelude.{◌≡◌, ◌+◌, ◌<◌, ◌≤◌, ◌^◌, ⊤, length};
 ghost use Rattle.method_unit.specs.Faults.{Tells};
-ghost use Rattle.method_unit.specs.UnitFile.{short, is_printable, wrong_letter, magic_fault, unprintable, name_fault, name_of, place_fault, result_fault, result_at, arg_fault, arg_faults, args_fault, args_at, arg_count, locals_fault, locals_at, max_stack_fault, max_stack_at, max_stack, callees_fault, callees_at, code_fault, code_length_at, code_at, code_of, field_fault, HasFields};
+ghost use Rattle.method_unit.specs.Fields.{HasFields};
+ghost use Rattle.method_unit.specs.UnitFile.{short, is_printable, wrong_letter, magic_fault, unprintable, name_fault, name_of, place_fault, result_fault, result_at, arg_fault, arg_faults, args_fault, args_at, arg_count, locals_fault, locals_at, max_stack_fault, max_stack_at, max_stack, callees_fault, callees_at, code_fault, code_length_at, code_at, code_of, field_fault};
 
 use crate::unit_fault::UnitFault;
 use cc_base::{u16_at, u32_at};
 
 /// The most arguments, locals and stack slots of a method together.
-pub const MAX_VARIABLES: usize = 128;
+const MAX_VARIABLES: usize = 128;
 
 /// The most bytes of a method's code.
-pub const MAX_CODE: usize = 65_536;
+const MAX_CODE: usize = 65_536;
 
 /// Where the bytes of the name begin.
 const NAME_AT: usize = 6;
@@ -72,7 +73,7 @@ fn check_magic(bytes: &[u8]) -> Result<(), UnitFault>
 }
 
 /// Whether a byte may stand in a name.
-pub fn is_printable(byte: u8) -> bool
+fn is_printable(byte: u8) -> bool
     ensures { result ≡ is_printable byte }
 {
     byte >= 0x21 && byte <= 0x7e

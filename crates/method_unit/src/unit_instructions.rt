@@ -1,6 +1,6 @@
 //! The instructions of a unit file.
 
-ghost use Rattle.std.specs.Prelude.{◌≡◌, ◌+◌, ◌<◌, ◌≤◌, ◌^◌, ⊤, List, length, drop, All, IfOk};
+ghost use Rattle.std.specs.Prelude.{◌≡◌, ◌+◌, ◌<◌, ◌≤◌, ◌^◌, ⊤, length, drop, All, IfOk};
 ghost use Rattle.il_decoder.specs.Decoding.{decoded};
 ghost use Rattle.method_unit.specs.Faults.{Tells, Reads};
 ghost use Rattle.method_unit.specs.Reach.{Reaches};

@@ -21,7 +21,7 @@ pub returns-in-Err-CannotWrite-clause-output : goal.returns-in-Err-CannotWrite-c
 returns-in-Err-CannotWrite-clause-output g c =
     let words = map (λ (word : String Global). string_bytes word) c.args.words.now in
     let answer = rw c.in-Err-CannotWrite.field-0-is at c.in-Err-CannotWrite.ensures.answer in
-    (answer.0, answer.1, leaves_unwritten (expected words answer.0) (file_of words) _ _ _ _ _ _ _ _ answer.2 c.try_line.ensures.front c.try_line.ensures.kept)
+    (answer.0, answer.1, leaves_unwritten (expected words answer.0) (file_of words) _ _ _ _ _ _ _ _ answer.2 c.try_line.ensures.front)
 
 pub returns-in-Err-NoMemory-clause-output : goal.returns-in-Err-NoMemory-clause-output
 returns-in-Err-NoMemory-clause-output g c =
