@@ -2,7 +2,6 @@
 
 #![tactic(auto, using(cc_base::proofs::SinkLemmas::sinks, cc_base::proofs::CountLemmas::counts))]
 
-ghost use Rattle.std.specs.Prelude.{length};
 ghost use Rattle.std.specs.List.{flat_map};
 ghost use Rattle.asm_image.specs.Faults.{first_assembly_fault};
 ghost use Rattle.check_driver.specs.Expected.{list_answer};

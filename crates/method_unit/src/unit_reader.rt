@@ -1,6 +1,6 @@
 //! Units, read from their files.
 
-ghost use Rattle.std.specs.Prelude.{◌≡◌, ◌<◌, List, length, IfOk, Ok, replicate};
+ghost use Rattle.std.specs.Prelude.{◌≡◌, ◌<◌, List, IfOk, Ok, replicate};
 ghost use Rattle.method_unit.specs.UnitFile.{unit_with};
 ghost use Rattle.method_unit.specs.UnitSpelling.{IsBuilt, unit_bytes, ReadsOnly, IsRead};
 ghost use Rattle.cil_model.specs.declared.unit.Unit.{Unit as MethodUnit};
