@@ -7,8 +7,9 @@ use Rattle.asm_image.specs.Faults.{first_assembly_fault}
 use Rattle.asm_image.specs.Names.{escaped}
 use Rattle.asm_image.specs.declared.fault.AsmFault.{AsmFault}
 use Rattle.cil_model.specs.declared.unit.Unit.{Unit as MethodUnit}
-use Rattle.check_driver.specs.FaultText.{unit_fault_text, unit_fault_at, assembly_fault_text}
+use Rattle.check_driver.specs.FaultText.{unit_fault_text, assembly_fault_text}
 use Rattle.check_driver.specs.Text.{unit_report, list_text}
+use Rattle.method_unit.specs.Faults.{fault_at}
 use Rattle.method_unit.specs.UnitFile.{first_unit_fault, unit_of}
 use Rattle.check_driver.specs.Verdicts.{verdicts, all_proved}
 use Rattle.check_driver.specs.Words.{command_of, file_place}
@@ -60,7 +61,7 @@ report_answer unit = output_answer (if all_proved (verdicts unit) then 0 else 1)
 
 -- The answer for the bytes of a unit file that is not too large, which have this first fault or none.
 abbrev pub unit_answer : List ℕ → List ℕ → Option UnitFault → Answer
-unit_answer name bytes (Some fault) = refused_answer name (unit_fault_text fault) (unit_fault_at fault)
+unit_answer name bytes (Some fault) = refused_answer name (unit_fault_text fault) (fault_at fault)
 unit_answer name bytes None = report_answer (unit_of bytes)
 
 -- The answer to `unit FILE` for the bytes of the file.

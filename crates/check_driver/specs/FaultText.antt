@@ -17,13 +17,6 @@ unit_fault_text (units.Form at) = codes "unit form"
 unit_fault_text (units.Version at) = codes "unit version"
 unit_fault_text (units.NotBuilt at) = codes "unit not built"
 
--- The offset that a unit's fault names.
-abbrev pub unit_fault_at : UnitFault → ℕ
-unit_fault_at (units.Short at) = at
-unit_fault_at (units.Form at) = at
-unit_fault_at (units.Version at) = at
-unit_fault_at (units.NotBuilt at) = at
-
 abbrev pub pe_fault_text : PeFault → List ℕ
 pe_fault_text (pe.TooShort at) = codes "file too short"
 pe_fault_text (pe.NotPe at) = codes "not a PE file"

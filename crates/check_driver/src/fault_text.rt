@@ -1,7 +1,7 @@
 //! The words of each fault of a file.
 
 ghost use Rattle.std.specs.Prelude.{◌≡◌};
-ghost use Rattle.check_driver.specs.FaultText.{unit_fault_text, unit_fault_at, pe_fault_text, table_fault_text, signature_fault_text, assembly_fault_text};
+ghost use Rattle.check_driver.specs.FaultText.{unit_fault_text, pe_fault_text, table_fault_text, signature_fault_text, assembly_fault_text};
 
 use asm_image::Cause;
 use metadata_tables::TableFault;
@@ -18,18 +18,6 @@ pub fn unit_fault_text(fault: UnitFault) -> &'static [u8]
         UnitFault::Form(_) => b"unit form",
         UnitFault::Version(_) => b"unit version",
         UnitFault::NotBuilt(_) => b"unit not built",
-    }
-}
-
-/// The offset in the file that a unit's fault names.
-pub fn unit_fault_at(fault: UnitFault) -> u32
-    ensures { result ≡ unit_fault_at fault }
-{
-    match fault {
-        UnitFault::Short(at)
-        | UnitFault::Form(at)
-        | UnitFault::Version(at)
-        | UnitFault::NotBuilt(at) => at,
     }
 }
 

@@ -6,7 +6,7 @@ ghost use Rattle.check_driver.specs.Verdicts.{combined, after, after_reached, ve
 
 use crate::range::Range;
 use crate::stack::Stack;
-use cil_model::{BinOp, Instr, Op, Unit};
+use cil_model::{ASSERT_CALL, BinOp, Instr, Op, Unit};
 use std::alloc::{AllocError, Global};
 
 /// Whether the obligation at an IL offset is proved.
@@ -15,9 +15,6 @@ pub struct Verdict {
     pub at: u32,
     pub proved: bool,
 }
-
-/// The number by which a unit's code calls Contract.Assert.
-const ASSERT_CALL: u32 = 5;
 
 /// The range of what an operator gives.
 fn combined(operator: BinOp, a: Range, b: Range) -> Range

@@ -11,7 +11,7 @@ ghost use Rattle.check_driver.specs.Writing.{Writes, change};
 ghost use Rattle.method_unit.specs.UnitFile.{first_unit_fault};
 ghost use Rattle.method_unit.specs.UnitSpelling.{IsBuilt};
 
-use crate::fault_text::{unit_fault_at, unit_fault_text};
+use crate::fault_text::unit_fault_text;
 use crate::interrupt::Interrupt;
 use crate::judge::{all_proved, judge};
 use crate::puts::{answer_refused, put_lines};
@@ -56,7 +56,7 @@ fn answer_unit<O: Sink, E: Sink>(
                 alloc,
                 name,
                 unit_fault_text(fault),
-                unit_fault_at(fault),
+                fault.at(),
                 err,
             )
         }

@@ -10,7 +10,7 @@ mod place;
 mod unit;
 
 pub use clause::{Clause, ClauseKind, Tree, UnOp};
-pub use instruction::{BinOp, CmpOp, Instr, Op, Targets, Test};
+pub use instruction::{ASSERT_CALL, BinOp, CmpOp, Instr, Op, Targets, Test};
 pub use list::List;
 pub use machine::{ArrayCell, Config, FaultKind, Frame, Obligation, Value, World};
 pub use place::{Kind, Place};

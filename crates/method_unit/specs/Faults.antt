@@ -1,8 +1,16 @@
 -- Tests that give their fault, or none, one after another.
-use Rattle.std.specs.Prelude.{◌≡◌, Bool, Option, Some, None, Result, Ok, Err, if◌then◌else◌}
+use Rattle.std.specs.Prelude.{◌≡◌, ℕ, Bool, Option, Some, None, Result, Ok, Err, if◌then◌else◌}
 use Rattle.method_unit.specs.declared.unit_fault.UnitFault.{UnitFault}
+use Rattle.method_unit.specs.declared.unit_fault.UnitFault.TheVariants.{Short, Form, Version, NotBuilt}
 use Rattle.method_unit.specs.declared.unit_fault.UnitRefusal.{UnitRefusal}
 use Rattle.method_unit.specs.declared.unit_fault.UnitRefusal.TheVariants as refusals
+
+-- The offset in the file that a fault names.
+abbrev pub fault_at : UnitFault → ℕ
+fault_at (Short at) = at
+fault_at (Form at) = at
+fault_at (Version at) = at
+fault_at (NotBuilt at) = at
 
 -- The fault of the first test, else that of the next.
 infixr 10 ◌otherwise◌

@@ -1,6 +1,7 @@
 //! Why a file is no built unit.
 
 ghost use Rattle.std.specs.Prelude.{◌≡◌};
+ghost use Rattle.method_unit.specs.Faults.{fault_at};
 ghost use Rattle.method_unit.specs.declared.unit_fault.UnitRefusal.TheVariants.{Bad, NoMemory};
 
 use std::alloc::{AllocError, AllocFailed};
@@ -21,6 +22,20 @@ pub enum UnitFault {
     /// A field or an instruction whose analysis is not built.
     #[error("unit not built at {0:08x}")]
     NotBuilt(u32),
+}
+
+impl UnitFault {
+    /// The offset in the file.
+    pub fn at(self) -> u32
+        ensures { result ≡ fault_at self }
+    {
+        match self {
+            UnitFault::Short(at)
+            | UnitFault::Form(at)
+            | UnitFault::Version(at)
+            | UnitFault::NotBuilt(at) => at,
+        }
+    }
 }
 
 /// Why a unit was not read.

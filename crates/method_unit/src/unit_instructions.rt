@@ -7,15 +7,12 @@ ghost use Rattle.method_unit.specs.Reach.{Reaches};
 ghost use Rattle.method_unit.specs.UnitFile.{built, is_other_call, instructions, limit_fault};
 
 use crate::unit_fault::{UnitFault, UnitRefusal};
-use cil_model::{Instr, Op};
+use cil_model::{ASSERT_CALL, Instr, Op};
 use il_decoder::{IlFault, IlRefusal, decode_one};
 use std::alloc::Global;
 
 /// The most instructions of a method.
 pub const MAX_INSTRUCTIONS: usize = 4_096;
-
-/// The number by which a unit's code calls Contract.Assert.
-const ASSERT_CALL: u32 = 5;
 
 /// Whether the operation is a call of something else than Assert.
 fn is_other_call(op: &Op) -> bool

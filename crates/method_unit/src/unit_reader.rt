@@ -1,6 +1,7 @@
 //! Units, read from their files.
 
 ghost use Rattle.std.specs.Prelude.{◌≡◌, ◌<◌, List, IfOk, Ok, replicate};
+ghost use Rattle.cc_base.specs.LittleEndian.{IsBytes};
 ghost use Rattle.method_unit.specs.UnitFile.{unit_with};
 ghost use Rattle.method_unit.specs.UnitSpelling.{IsBuilt, unit_bytes, ReadsOnly, IsRead};
 ghost use Rattle.cil_model.specs.declared.unit.Unit.{Unit as MethodUnit};
@@ -58,6 +59,9 @@ pub fn read_unit(alloc: Global, bytes: &[u8]) -> Result<Unit, UnitRefusal>
     ensures spelled { IfOk result (λ unit. unit_bytes unit ≡ bytes.now) }
     // A built unit that is spelled so is read, unless memory runs out.
     ensures only { (unit : MethodUnit) → IsBuilt unit → unit_bytes unit ≡ bytes.now → ReadsOnly unit result }
+    // The spelling of a built unit is a list of bytes, and that of no other one.
+    ensures bytes { (unit : MethodUnit) → IsBuilt unit → IsBytes (unit_bytes unit) }
+    ensures one { (a b : MethodUnit) → IsBuilt a → IsBuilt b → unit_bytes a ≡ unit_bytes b → a ≡ b }
     // Which unit it is, or which fault comes first.
     ensures exact { IsRead bytes.now result }
 {

@@ -1,5 +1,6 @@
 use Rattle.std.proofs.Common.{arith}
 use Rattle.method_unit.proofs.ReadUnit.{read_built, read_spelled, read_only}
+use Rattle.method_unit.proofs.UnitBytes.{built_bytes, one_unit}
 use Rattle.method_unit.proofs.unit_reader.read_unit.Goals as goal
 
 pub returns-clause-built : goal.returns-clause-built
@@ -10,3 +11,9 @@ returns-clause-spelled c = read_spelled c.args.bytes.now c.read_first.result (λ
 
 pub returns-clause-only : goal.returns-clause-only
 returns-clause-only c = λ unit built spelled. read_only c.args.bytes.now c.read_first.result unit c.read_first.ensures built spelled
+
+pub returns-clause-bytes : goal.returns-clause-bytes
+returns-clause-bytes c = built_bytes
+
+pub returns-clause-one : goal.returns-clause-one
+returns-clause-one c = one_unit
