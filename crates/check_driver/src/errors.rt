@@ -14,7 +14,7 @@ pub const USAGE: &[u8] =
 /// What is written where a sink refused.
 pub const UNWRITTEN: &[u8] = b"cccheck: cannot write\n";
 
-/// What is written where memory ran out.
+/// The line that tells that memory ran out.
 pub const NO_MEMORY: &[u8] = b"cccheck: no memory\n";
 
 /// The line of a file that is not there.

@@ -16,4 +16,5 @@ mod stack;
 mod unit_answer;
 
 pub use command::{Command, parse_words};
+pub use errors::NO_MEMORY;
 pub use program::run_words;
