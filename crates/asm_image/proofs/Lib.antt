@@ -10,4 +10,3 @@ pub mod ReadLemmas
 pub mod RunLemmas
 pub mod SigPlaceLemmas
 pub mod TablePlaceLemmas
-pub mod TestLemmas

@@ -6,6 +6,8 @@ use Rattle.std.proofs.lemmas.Bool.{le-leb, lt-leb}
 use Rattle.std.proofs.lemmas.List.FromFn.{map-range_with_len_more}
 use Rattle.metadata_tables.specs.Layout.{cell}
 use Rattle.signature_blobs.specs.declared.method.MethodSig.{MethodSig}
+use Rattle.cc_base.specs.Tests.{first_of}
+use Rattle.cc_base.proofs.TestLemmas.{first_of-one, must-passed, must-failed, first_of-append_none, first_of-append_some}
 use Rattle.asm_image.specs.Cells.{method_count, method_name, signature, owner}
 use Rattle.asm_image.specs.Names.{printed, short_name, printed_name}
 use Rattle.asm_image.specs.Rows.{method_token, method_row, rows_of}
@@ -13,30 +15,25 @@ use Rattle.asm_image.specs.declared.method_row.MethodRow.{MethodRow}
 use Rattle.metadata_tables.specs.TableTests.{first_table_fault}
 use Rattle.metadata_tables.specs.declared.fault.TableFault.{TableFault}
 use Rattle.pe_reader.specs.Addresses.{metadata, metadata_at}
-use Rattle.pe_reader.specs.Faults.{first_of, first_pe_fault}
+use Rattle.pe_reader.specs.Faults.{first_pe_fault}
 use Rattle.pe_reader.specs.declared.fault.PeFault.{PeFault}
-use Rattle.pe_reader.proofs.FirstFault.{first_of-append_none, first_of-append_some}
 use Rattle.asm_image.specs.Faults.{large_test, pe_fault, table_fault, types_tests, methods_tests, file_tests, tables_tests, metadata_tests, assembly_tests, first_assembly_fault}
 use Rattle.asm_image.specs.Reading.{Reads}
 use Rattle.asm_image.specs.declared.fault.AsmFault.{AsmFault}
 use Rattle.asm_image.specs.declared.fault.AsmRefusal.{AsmRefusal}
 use Rattle.asm_image.specs.declared.fault.AsmRefusal.TheVariants as refusals
 use Rattle.asm_image.specs.declared.fault.Cause.TheVariants as causes
-use Rattle.asm_image.proofs.TestLemmas.{one-is, pass, fail}
-
-large-test-passed : (bytes : List ℕ) → length bytes ≤ 67108864 → large_test bytes ≡ None
-unfolding large_test
-large-test-passed bytes h = let test = le-leb (length bytes) 67108864 h in rw test refl
 
 pub file-large : (bytes : List ℕ) → 67108864 < length bytes → first_of (file_tests bytes) ≡ Some (record { at = 67108864; cause = causes.Large })
 unfolding file_tests large_test
 file-large bytes h =
-    let test = lt-leb (length bytes) 67108864 h in
-    fail (large_test bytes) (option_map pe_fault (first_pe_fault bytes) ∷ []) (record { at = 67108864; cause = causes.Large }) (rw test refl)
+    must-failed _ (record { at = 67108864; cause = causes.Large }) (option_map pe_fault (first_pe_fault bytes) ∷ []) (lt-leb (length bytes) 67108864 h)
 
 file-is : (bytes : List ℕ) → length bytes ≤ 67108864 → first_of (file_tests bytes) ≡ option_map pe_fault (first_pe_fault bytes)
-unfolding file_tests
-file-is bytes h = pass (large_test bytes) (option_map pe_fault (first_pe_fault bytes) ∷ []) (large-test-passed bytes h) ∙ one-is (option_map pe_fault (first_pe_fault bytes))
+unfolding file_tests large_test
+file-is bytes h =
+    must-passed _ (record { at = 67108864; cause = causes.Large }) (option_map pe_fault (first_pe_fault bytes) ∷ []) (le-leb (length bytes) 67108864 h)
+    ∙ first_of-one (option_map pe_fault (first_pe_fault bytes))
 
 pub file-passed : (bytes : List ℕ) → length bytes ≤ 67108864 → first_pe_fault bytes ≡ None → first_of (file_tests bytes) ≡ None
 file-passed bytes h none = file-is bytes h ∙ rw none refl
@@ -46,11 +43,11 @@ file-fault bytes fault h some = file-is bytes h ∙ rw some refl
 
 pub tables-passed : (md : List ℕ) (base : ℕ) → first_table_fault md ≡ None → first_of (tables_tests md base) ≡ None
 unfolding tables_tests
-tables-passed md base none = one-is (option_map (table_fault base) (first_table_fault md)) ∙ rw none refl
+tables-passed md base none = first_of-one (option_map (table_fault base) (first_table_fault md)) ∙ rw none refl
 
 pub tables-fault : (md : List ℕ) (base : ℕ) (fault : TableFault) → first_table_fault md ≡ Some fault → first_of (tables_tests md base) ≡ Some (table_fault base fault)
 unfolding tables_tests
-tables-fault md base fault some = one-is (option_map (table_fault base) (first_table_fault md)) ∙ rw some refl
+tables-fault md base fault some = first_of-one (option_map (table_fault base) (first_table_fault md)) ∙ rw some refl
 
 -- ---- the whole
 

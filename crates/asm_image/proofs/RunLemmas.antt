@@ -2,12 +2,12 @@
 use Rattle.std.proofs.Common.{◌≡◌, ℕ, zero, suc, ◌+◌, ◌-◌, ◌<◌, ◌≤◌, List, [], ◌∷◌, Bool, true, false, ◌&&◌, eqb, None, refl, sym, ap, subst, ◌∙◌, arith}
 use Rattle.std.proofs.lemmas.Bool.{le-leb, lt-leb, leb-true}
 use Rattle.std.proofs.lemmas.Bool.Decides.{nat_tests}
-use Rattle.pe_reader.specs.Faults.{first_of}
+use Rattle.cc_base.specs.Tests.{first_of, must}
+use Rattle.cc_base.proofs.TestLemmas.{none_behind, none_here, each-passed}
 use Rattle.asm_image.specs.Cells.{type_count, method_list, owner_among, owner, RunsRise}
-use Rattle.asm_image.specs.Faults.{must, least_list, list_test, text_test, type_tests, types_tests}
+use Rattle.asm_image.specs.Faults.{least_list, list_test, text_test, type_tests, types_tests}
 use Rattle.asm_image.specs.Reading.{Begins}
 use Rattle.asm_image.specs.declared.fault.AsmFault.{AsmFault}
-use Rattle.asm_image.proofs.TestLemmas.{head-passed, tail-passed, each-passed}
 
 pub least-next : (md : List ℕ) (i : ℕ) → least_list md (i + 1 + 1) ≡ method_list md (i + 1)
 least-next md i =
@@ -15,18 +15,18 @@ least-next md i =
     let before : i + 1 + 1 - 1 ≡ i + 1 = omega arith in
     rw other (ap (method_list md) before)
 
-must-passed : (a b : Bool) (fault : AsmFault) → must (a && b) fault ≡ None → a ≡ true
-must-passed true b fault e = refl
-must-passed false b fault e = absurd cc
+must-both : (a b : Bool) (fault : AsmFault) → must (a && b) fault ≡ None → a ≡ true
+must-both true b fault e = refl
+must-both false b fault e = absurd cc
 
 -- A type whose tests are passed begins its run where the one before does, or behind it.
 step-rises : (md : List ℕ) (base k : ℕ) → first_of (type_tests md base (k + 1 + 1)) ≡ None → method_list md (k + 1) ≤ method_list md (k + 1 + 1)
 unfolding type_tests
 step-rises md base k e =
     let row : ℕ = k + 1 + 1 in
-    let last = tail-passed (text_test md base 2 row 2) (list_test md base row ∷ []) (tail-passed (text_test md base 2 row 1) (text_test md base 2 row 2 ∷ list_test md base row ∷ []) e) in
-    let here = head-passed (list_test md base row) [] last in
-    let holds = leb-true (least_list md row) (method_list md row) (must-passed _ _ _ here) in
+    let last = none_behind (text_test md base 2 row 1 ∷ text_test md base 2 row 2 ∷ []) (list_test md base row ∷ []) e in
+    let here = none_here (list_test md base row) [] last in
+    let holds = leb-true (least_list md row) (method_list md row) (must-both _ _ _ here) in
     omega (arith, holds, least-next md k)
 
 rises : (md : List ℕ) (base i d : ℕ) → first_of (types_tests md base) ≡ None → 1 ≤ i → i + d ≤ type_count md → method_list md i ≤ method_list md (i + d)

@@ -3,18 +3,20 @@ use Rattle.std.proofs.Common.{◌≡◌, ℕ, zero, suc, ◌+◌, ◌*◌, ◌�
 use Rattle.std.specs.Prelude.{codes, is_some, not, ◌&&◌, ◌==◌}
 use Rattle.std.specs.Int.{bit_at}
 use Rattle.cc_base.specs.LittleEndian.{u32_at}
+use Rattle.cc_base.specs.Tests.{first_of, must}
+use Rattle.cc_base.proofs.TestLemmas.{none_before, none_behind}
 use Rattle.metadata_tables.specs.Schema.{columns_of}
 use Rattle.std.specs.List.{flat_map, range_with_len}
 use Rattle.std.proofs.lemmas.Bool.{cases_lt}
 use Rattle.std.proofs.lemmas.List.Concat.{flat_map-cons}
 use Rattle.metadata_tables.specs.declared.fault.TableFault.{TableFault}
 use Rattle.metadata_tables.specs.declared.fault.TableFault.TheVariants.{BadRoot, MissingStream, BadTables, Short, IndexOut, HeapEnd}
-use Rattle.metadata_tables.specs.Tests.{first_of, test, fields}
+use Rattle.metadata_tables.specs.Tests.{fields}
 use Rattle.metadata_tables.specs.Root.{root_tests, header_tests, headers_tests, presence_of, presence_tests, streams_tests, stream, stream_count, headers_at, next_header, name_of, name_width, stream_of, version_width, signature}
 use Rattle.metadata_tables.specs.Layout.{start_of, end_of, tables_at, tables_end, counts_at, rows_at, valid, present_below, row_counts, heap_sizes, row_width, bytes_below}
 use Rattle.metadata_tables.specs.TableTests.{bit_test, bits_tests, rows_tests, all_rows_tests, tables_tests, table_tests, first_table_fault}
 use Rattle.asm_image.specs.Faults.{table_place}
-use Rattle.metadata_tables.proofs.TestLemmas.{fields-none, fields-fits, fields-short, first_of-front, first_of-back, run-end}
+use Rattle.metadata_tables.proofs.FieldLemmas.{fields-none, fields-fits, fields-short, run-end}
 use Rattle.metadata_tables.proofs.HeaderLemmas.{stream-within}
 use Rattle.metadata_tables.proofs.LayoutLemmas.{bytes_below-zero, bytes_below-more}
 
@@ -32,14 +34,17 @@ abbrev FirstLies : ℕ → List (Option TableFault) → Type 0
 FirstLies n tests = (fault : TableFault) → first_of tests ≡ Some fault → Lies n fault
 
 lies-none : (n : ℕ) → FirstLies n []
+unfolding first_of
 lies-none n fault e = absurd cc
 
 lies-append : (n : ℕ) (a b : List (Option TableFault)) → FirstLies n a → (first_of a ≡ None → FirstLies n b) → FirstLies n (a ++ b)
+unfolding first_of
 lies-append n [] b la lb fault e = lb refl fault e
 lies-append n (None ∷ a) b la lb fault e = lies-append n a b la lb fault e
 lies-append n (Some other ∷ a) b la lb fault e = la fault e
 
-lies-cons : (n : ℕ) (passed : Bool) (other : TableFault) (rest : List (Option TableFault)) → Lies n other → FirstLies n rest → FirstLies n (test passed other ∷ rest)
+lies-cons : (n : ℕ) (passed : Bool) (other : TableFault) (rest : List (Option TableFault)) → Lies n other → FirstLies n rest → FirstLies n (must passed other ∷ rest)
+unfolding first_of
 lies-cons n true other rest lies others fault e = others fault e
 lies-cons n false other rest lies others fault e = let same : other ≡ fault = cc in subst (Lies n) same lies
 
@@ -87,7 +92,7 @@ unfolding root_tests
 lies-root n md =
     let others : List ℕ = 2 ∷ 2 ∷ 4 ∷ 4 ∷ version_width md ∷ 2 ∷ 2 ∷ [] in
     let known = u32_at md 0 == signature in
-    lies-append n (roots md 0 (4 ∷ [])) (test known BadRoot ∷ roots md 4 others) (lies-roots n md 0 (4 ∷ []))
+    lies-append n (roots md 0 (4 ∷ [])) (must known BadRoot ∷ roots md 4 others) (lies-roots n md 0 (4 ∷ []))
     (λ passed. lies-cons n known BadRoot (roots md 4 others) tt (lies-roots n md 4 others))
 
 lies-header : (n : ℕ) (md : List ℕ) (at : ℕ) → FirstLies n (header_tests md at)
@@ -97,8 +102,8 @@ lies-header n md at =
     let named = is_some (name_of md at) in
     let name = roots md (at + 8) (name_width md at ∷ []) in
     let size : List ℕ = (stream_of md at).size ∷ [] in
-    lies-append n (roots md at numbers ++ test named BadRoot ∷ name) (roots md (stream_of md at).at size)
-    (lies-append n (roots md at numbers) (test named BadRoot ∷ name) (lies-roots n md at numbers)
+    lies-append n (roots md at numbers ++ must named BadRoot ∷ name) (roots md (stream_of md at).at size)
+    (lies-append n (roots md at numbers) (must named BadRoot ∷ name) (lies-roots n md at numbers)
     (λ passed. lies-cons n named BadRoot name tt (lies-roots n md (at + 8) (name_width md at ∷ []))))
     (λ passed. lies-roots n md (stream_of md at).at size)
 
@@ -113,8 +118,8 @@ lies-presence n md =
     let tables = is_some (stream md (codes "#~")) in
     let strings = is_some (stream md (codes "#Strings")) in
     let blob = is_some (stream md (codes "#Blob")) in
-    lies-cons n tables MissingStream (test strings MissingStream ∷ test blob MissingStream ∷ []) tt
-    (lies-cons n strings MissingStream (test blob MissingStream ∷ []) tt (lies-cons n blob MissingStream [] tt (lies-none n)))
+    lies-cons n tables MissingStream (must strings MissingStream ∷ must blob MissingStream ∷ []) tt
+    (lies-cons n strings MissingStream (must blob MissingStream ∷ []) tt (lies-cons n blob MissingStream [] tt (lies-none n)))
 
 lies-streams : (n : ℕ) (md : List ℕ) → FirstLies n (streams_tests md)
 unfolding streams_tests
@@ -180,15 +185,15 @@ lies-tables md within =
     (lies-append n (header ++ bits ++ sorted) counts
     (lies-append n (header ++ bits) sorted
     (lies-append n header bits (lies-fields n end (tables_at md) (4 ∷ 1 ∷ 1 ∷ 1 ∷ 1 ∷ 8 ∷ []) start within) (λ passed. lies-bits n (valid md) (tables_at md + 8) (range_with_len 0 64) (omega (arith, first passed))))
-    (λ passed. lies-fields n end (tables_at md + 16) (8 ∷ []) (first (first_of-front header bits passed)) within))
+    (λ passed. lies-fields n end (tables_at md + 16) (8 ∷ []) (first (none_before header bits passed)) within))
     (λ passed.
-    let before = first_of-front header bits (first_of-front (header ++ bits) sorted passed) in
-    let h = behind-within end (tables_at md + 16) (λ at. Short at) (8 ∷ []) (first before) (first_of-back (header ++ bits) sorted passed) in
+    let before = none_before header bits (none_before (header ++ bits) sorted passed) in
+    let h = behind-within end (tables_at md + 16) (λ at. Short at) (8 ∷ []) (first before) (none_behind (header ++ bits) sorted passed) in
     lies-fields n end (counts_at md) (replicate (present_below (valid md) 64) 4) (omega (arith, h)) within))
     (λ passed.
-    let before = first_of-front (header ++ bits ++ sorted) counts passed in
-    let h = behind-within end (tables_at md + 16) (λ at. Short at) (8 ∷ []) (first (first_of-front header bits (first_of-front (header ++ bits) sorted before))) (first_of-back (header ++ bits) sorted before) in
-    let fit = run-end (present_below (valid md) 64) end (λ at. Short at) (counts_at md) 4 (omega (arith, h)) (first_of-back (header ++ bits ++ sorted) counts passed) in
+    let before = none_before (header ++ bits ++ sorted) counts passed in
+    let h = behind-within end (tables_at md + 16) (λ at. Short at) (8 ∷ []) (first (none_before header bits (none_before (header ++ bits) sorted before))) (none_behind (header ++ bits) sorted before) in
+    let fit = run-end (present_below (valid md) 64) end (λ at. Short at) (counts_at md) 4 (omega (arith, h)) (none_behind (header ++ bits ++ sorted) counts passed) in
     lies-rows n end (row_counts md) (heap_sizes md) (rows_at md) 0 45 within (omega (arith, bytes_below-zero (row_counts md) (heap_sizes md), fit)))
 
 fault-lies : (md : List ℕ) (fault : TableFault) → first_table_fault md ≡ Some fault → Lies (length md) fault

@@ -1,13 +1,14 @@
 -- The tests of an assembly in the order of reading, each with the fault that it gives where it fails.
-use Rattle.std.specs.Prelude.{ℕ, ◌+◌, ◌-◌, List, [], ◌∷◌, ◌++◌, length, Bool, ◌==◌, ◌&&◌, nat_le, is_some, Option, Some, None, option_map, Result, Ok, Err, if◌then◌else◌}
+use Rattle.std.specs.Prelude.{ℕ, ◌+◌, ◌-◌, List, [], ◌∷◌, ◌++◌, length, ◌==◌, ◌&&◌, nat_le, is_some, Option, Some, None, option_map, Result, Ok, Err, if◌then◌else◌}
 use Rattle.std.specs.List.{flat_map, range_with_len}
+use Rattle.cc_base.specs.Tests.{first_of, must}
 use Rattle.metadata_tables.specs.Heaps.{string_at, blob_at}
 use Rattle.metadata_tables.specs.Layout.{cell, cell_at}
 use Rattle.metadata_tables.specs.TableTests.{first_table_fault}
 use Rattle.metadata_tables.specs.declared.fault.TableFault.{TableFault}
 use Rattle.metadata_tables.specs.declared.fault.TableFault.TheVariants as tables
 use Rattle.pe_reader.specs.Addresses.{metadata, metadata_at}
-use Rattle.pe_reader.specs.Faults.{first_of, first_pe_fault}
+use Rattle.pe_reader.specs.Faults.{first_pe_fault}
 use Rattle.pe_reader.specs.declared.fault.PeFault.{PeFault}
 use Rattle.pe_reader.specs.declared.fault.PeFault.TheVariants as pe
 use Rattle.signature_blobs.specs.Signatures.{method_signature}
@@ -17,10 +18,6 @@ use Rattle.signature_blobs.specs.declared.method.MethodSig.{MethodSig}
 use Rattle.asm_image.specs.Cells.{method_count, type_count, method_list, signature_blob, signature_at}
 use Rattle.asm_image.specs.declared.fault.AsmFault.{AsmFault}
 use Rattle.asm_image.specs.declared.fault.Cause.TheVariants as causes
-
--- This is so, or else that is the fault.
-abbrev pub must : Bool → AsmFault → Option AsmFault
-must holds fault = if holds then None else Some fault
 
 -- The most bytes of a file.
 abbrev pub most_bytes : ℕ

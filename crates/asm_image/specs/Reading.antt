@@ -10,12 +10,7 @@ use Rattle.asm_image.specs.declared.fault.AsmFault.{AsmFault}
 use Rattle.asm_image.specs.declared.fault.AsmRefusal.{AsmRefusal}
 use Rattle.asm_image.specs.declared.fault.AsmRefusal.TheVariants as refusals
 
--- Ok where no test failed, and then a value of which P holds; else the first fault.
-abbrev pub Judges : {X : Type 0} → Result X AsmFault → Option AsmFault → (X → Type 0) → Type 0
-Judges (Ok x) first P = (first ≡ None) × P x
-Judges (Err fault) first P = first ≡ Some fault
-
--- The same, unless memory ran out.
+-- Ok where no test failed, and then a value of which P holds; else the first fault, unless memory ran out.
 abbrev pub Reads : {X : Type 0} → Result X AsmRefusal → Option AsmFault → (X → Type 0) → Type 0
 Reads (Ok x) first P = (first ≡ None) × P x
 Reads (Err (refusals.Bad fault)) first P = first ≡ Some fault

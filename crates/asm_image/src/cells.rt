@@ -1,11 +1,11 @@
 //! Cells and the items that they name.
 
 ghost use Rattle.std.specs.Prelude.{◌≡◌, ◌+◌, ◌<◌, ◌≤◌, length};
+ghost use Rattle.cc_base.specs.Tests.{Judges};
 ghost use Rattle.metadata_tables.specs.Layout.{row_count};
 ghost use Rattle.metadata_tables.specs.Schema.{columns_of};
 ghost use Rattle.asm_image.specs.Cells.{text, blob};
 ghost use Rattle.asm_image.specs.Faults.{heap_end, text_test};
-ghost use Rattle.asm_image.specs.Reading.{Judges};
 
 use crate::fault::{AsmFault, Cause};
 use metadata_tables::{TableFault, Tables};

@@ -5,3 +5,4 @@ pub mod NumberLemmas
 pub mod DigitLemmas
 pub mod ListedLemmas
 pub mod HeldLemmas
+pub mod TestLemmas

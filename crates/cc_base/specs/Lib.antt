@@ -5,3 +5,4 @@ pub mod Sink
 pub mod Wrap
 pub mod Digits
 pub mod LittleEndian
+pub mod Tests

@@ -7,7 +7,7 @@ use Rattle.std.proofs.lemmas.Bool.{cases_lt, le-leb, lt-leb}
 use Rattle.std.proofs.lemmas.List.{take_all}
 use Rattle.asm_image.specs.Faults.{first_assembly_fault, assembly_tests, file_tests, large_test, most_bytes}
 use Rattle.asm_image.specs.declared.fault.Cause.TheVariants as causes
-use Rattle.pe_reader.specs.Faults.{first_of}
+use Rattle.cc_base.specs.Tests.{first_of}
 use Rattle.cc_base.specs.Files.{Held, IsRead, READ_LIMIT}
 use Rattle.check_driver.specs.Expected.{USAGE, error_answer, refused_answer, AreTold, IsUnder, expected, unit_file_answer, bytes_answer, file_answer, word_at, file_of}
 use Rattle.check_driver.specs.Outcome.{GivesOrUnread}

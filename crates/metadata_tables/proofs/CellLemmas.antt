@@ -1,30 +1,30 @@
 -- Where cells stand, and that they lie in the metadata.
-use Rattle.std.proofs.Common.{◌≡◌, ◌≢◌, ℕ, zero, suc, ◌+◌, ◌-◌, ◌*◌, ◌≤◌, ◌<◌, List, [], ◌∷◌, length, ◌++◌, get_or, take, replicate, Option, Some, None, Bool, true, false, cond, eqb, refl, sym, ap, subst, ◌∙◌, arith, inl, inr}
+use Rattle.std.proofs.Common.{◌≡◌, ◌≢◌, ℕ, zero, suc, ◌+◌, ◌-◌, ◌*◌, ◌≤◌, ◌<◌, List, [], ◌∷◌, length, ◌++◌, get_or, take, replicate, Option, Some, None, Bool, true, false, cond, eqb, refl, sym, ap, ◌∙◌, arith, inl, inr}
 use Rattle.std.specs.Prelude.{slice_index_or, codes}
-use Rattle.std.specs.List.{flat_map, range_with_len}
 use Rattle.std.proofs.lemmas.Bool.{cases_lt}
 use Rattle.std.proofs.lemmas.Bool.Decides.{nat_tests}
 use Rattle.std.proofs.Math.Nat.{mul-le-mul_left}
 use Rattle.std.proofs.lemmas.List.{get_or_past}
 use Rattle.std.proofs.lemmas.List.Sums.{sum_by_more_le}
-use Rattle.std.proofs.lemmas.List.Concat.{flat_map-cons}
 use Rattle.std.proofs.lemmas.List.FromFn.{get_or-map-range_with_len, length-map-range_with_len}
 use Rattle.cc_base.specs.LittleEndian.{u16_at, u32_at}
+use Rattle.cc_base.specs.Tests.{first_of}
+use Rattle.cc_base.proofs.TestLemmas.{none_behind, each-passed}
 use Rattle.metadata_tables.specs.declared.fault.TableFault.{TableFault}
 use Rattle.metadata_tables.specs.declared.fault.TableFault.TheVariants.{Short}
 use Rattle.metadata_tables.specs.declared.layout.Layout.{Layout}
 use Rattle.metadata_tables.specs.declared.root.Stream.{Stream}
 use Rattle.metadata_tables.specs.declared.schema.Column.{Column}
 use Rattle.metadata_tables.specs.declared.schema.Column.TheVariants.{Two, Four, Strings, Guid, Blob, Row, Coded}
-use Rattle.metadata_tables.specs.Tests.{first_of, fields}
+use Rattle.metadata_tables.specs.Tests.{fields}
 use Rattle.metadata_tables.specs.Root.{stream}
 use Rattle.metadata_tables.specs.Schema.{columns_of, width, total_width}
 use Rattle.metadata_tables.specs.Layout.{end_of, tables_at, tables_end, heap_sizes, valid, counts_at, present_below, stored_count, row_counts, row_count, rows_at, row_width, bytes_below, row_widths, bases, base, cell_at, cell}
 use Rattle.metadata_tables.specs.Placed.{IsLayoutOf}
 use Rattle.metadata_tables.specs.TableTests.{rows_tests, all_rows_tests, tables_tests, first_table_fault, bits_tests}
-use Rattle.metadata_tables.proofs.TestLemmas.{first_of-front, first_of-back, fields-fits, fields-short}
 use Rattle.metadata_tables.proofs.HeaderLemmas.{stream-within}
 use Rattle.metadata_tables.proofs.HeapLemmas.{streams-sound, tables-sound}
+use Rattle.metadata_tables.proofs.FieldLemmas.{fields-fits, fields-short}
 
 -- Of fields that all fit, the first does.
 front-fits : (end : ℕ) (fault : ℕ → TableFault) (at w : ℕ) (widths : List ℕ) → first_of (fields end fault at (w ∷ widths)) ≡ None → at + w ≤ end
@@ -46,27 +46,12 @@ run-row (suc count) end fault at w (suc row) h e =
     let later = run-row count end fault (at + w) w row (omega arith) (sym (fields-fits end fault at w (replicate count w) fit) ∙ e) in
     omega arith
 
--- All tests of several lists are passed, so those of each are.
-flat-each : (tests : ℕ → List (Option TableFault)) (i n k : ℕ) → i ≤ k → k < i + n
-    → first_of (flat_map tests (range_with_len i n)) ≡ None → first_of (tests k) ≡ None
-flat-each tests i zero k low high e = absurd (omega arith)
-flat-each tests i (suc n) k low high e =
-    let split : first_of (flat_map tests (range_with_len i (suc n))) ≡ first_of (tests i ++ flat_map tests (range_with_len (i + 1) n)) =
-    ap first_of (flat_map-cons tests i (range_with_len (i + 1) n)) in
-    let whole = sym split ∙ e in
-    elim (cases_lt i k) [
-      | inl lt ↦ flat-each tests (i + 1) n k (omega arith) (omega arith) (first_of-back (tests i) (flat_map tests (range_with_len (i + 1) n)) whole)
-      | inr le ↦
-          let same : i ≡ k = omega arith in
-          subst (λ (j : ℕ). first_of (tests j) ≡ None) same (first_of-front (tests i) (flat_map tests (range_with_len (i + 1) n)) whole)
-    ]
-
 -- ---- the rows
 
 all-rows : (md : List ℕ) → first_table_fault md ≡ None → first_of (all_rows_tests (tables_end md) (row_counts md) (heap_sizes md) (rows_at md)) ≡ None
 unfolding tables_tests
 all-rows md e =
-    first_of-back
+    none_behind
     (fields (tables_end md) (λ at. Short at) (tables_at md) (4 ∷ 1 ∷ 1 ∷ 1 ∷ 1 ∷ 8 ∷ [])
     ++ bits_tests (valid md) (tables_at md + 8)
     ++ fields (tables_end md) (λ at. Short at) (tables_at md + 16) (8 ∷ [])
@@ -93,7 +78,7 @@ unfolding all_rows_tests rows_tests base
 row-end md table row e first last =
     run-row (row_count md table) (tables_end md) (λ at. Short at) (rows_at md + bytes_below (row_counts md) (heap_sizes md) table) (row_width (row_counts md) (heap_sizes md) table)
     (row - 1) (omega arith)
-    (flat-each (rows_tests (tables_end md) (row_counts md) (heap_sizes md) (rows_at md)) 0 45 table (omega arith) (table-known md table row first last) (all-rows md e))
+    (each-passed (rows_tests (tables_end md) (row_counts md) (heap_sizes md) (rows_at md)) 0 45 table (omega arith) (table-known md table row first last) (all-rows md e))
 
 end-within : (md : List ℕ) (o : Option Stream) → ((s : Stream) → o ≡ Some s → s.at + s.size ≤ length md) → end_of o ≤ length md
 end-within md None h = omega arith

@@ -2,14 +2,16 @@
 use Rattle.std.proofs.Common.{◌≡◌, ℕ, zero, suc, ◌+◌, ◌-◌, ◌≤◌, ◌<◌, List, [], ◌∷◌, ◌++◌, length, Bool, true, false, cond, Option, Some, None, refl, sym, ap, subst, ◌∙◌, arith, ◌⊎◌, inl, inr}
 use Rattle.std.specs.Prelude.{unwrap_or, is_some, codes}
 use Rattle.cc_base.specs.LittleEndian.{u16_at}
+use Rattle.cc_base.specs.Tests.{first_of, must}
+use Rattle.cc_base.proofs.TestLemmas.{first_of-append, first_of-append_none, first_of-append_some, none_before, none_behind}
 use Rattle.std.specs.Option.{option_or}
 use Rattle.std.specs.Str.{bytes_eq}
 use Rattle.metadata_tables.specs.declared.fault.TableFault.{TableFault}
 use Rattle.metadata_tables.specs.declared.root.Stream.{Stream}
 use Rattle.metadata_tables.specs.declared.fault.TableFault.TheVariants.{BadRoot}
-use Rattle.metadata_tables.specs.Tests.{first_of, test, fields}
+use Rattle.metadata_tables.specs.Tests.{fields}
 use Rattle.metadata_tables.specs.Root.{version_width, name_width, stream_count, headers_at, root_tests, name_of, next_header, stream_of, header_tests, headers_tests, stream_among, stream, presence_of, presence_tests, streams_tests}
-use Rattle.metadata_tables.proofs.TestLemmas.{first_of-append, first_of-passed, first_of-failed, first_of-front, first_of-back, field-fits}
+use Rattle.metadata_tables.proofs.FieldLemmas.{field-fits}
 
 -- Which way a choice went.
 chosen : (b : Bool) (here : Stream) (behind : Option Stream) (s : Stream) → cond b (Some here) behind ≡ Some s → (here ≡ s) ⊎ (behind ≡ Some s)
@@ -22,7 +24,7 @@ unfolding headers_tests
 headers-next md at n i next all h passed after so_far =
     let k : n - i ≡ suc (n - (i + 1)) = omega arith in
     let one : first_of (headers_tests md (suc (n - (i + 1))) at) ≡ first_of (headers_tests md (n - (i + 1)) (next_header md at)) =
-    first_of-passed (header_tests md at) (headers_tests md (n - (i + 1)) (next_header md at)) passed in
+    first_of-append_none (header_tests md at) (headers_tests md (n - (i + 1)) (next_header md at)) passed in
     ap (λ (place : ℕ). first_of (headers_tests md (n - (i + 1)) place)) after
     ∙ sym one ∙ ap (λ (count : ℕ). first_of (headers_tests md count at)) (sym k) ∙ so_far
 
@@ -32,11 +34,11 @@ unfolding headers_tests
 headers-stop md at n i fault all h failed so_far =
     let k : n - i ≡ suc (n - (i + 1)) = omega arith in
     let one : first_of (headers_tests md (suc (n - (i + 1))) at) ≡ Some fault =
-    first_of-failed (header_tests md at) (headers_tests md (n - (i + 1)) (next_header md at)) fault failed in
+    first_of-append_some (header_tests md at) (headers_tests md (n - (i + 1)) (next_header md at)) fault failed in
     sym so_far ∙ ap (λ (count : ℕ). first_of (headers_tests md count at)) k ∙ one
 
 pub headers-done : (md : List ℕ) (at n i : ℕ) (all : Option TableFault) → n ≤ i → first_of (headers_tests md (n - i) at) ≡ all → all ≡ None
-unfolding headers_tests
+unfolding headers_tests first_of
 headers-done md at n i all h so_far =
     let k : n - i ≡ 0 = omega arith in
     sym so_far ∙ ap (λ (count : ℕ). first_of (headers_tests md count at)) k
@@ -104,8 +106,8 @@ header-within : (md : List ℕ) (at : ℕ) → first_of (header_tests md at) ≡
 unfolding header_tests
 header-within md at e =
     field-fits (length md) (λ _. BadRoot) (stream_of md at).at (stream_of md at).size
-    (first_of-back
-    (fields (length md) (λ _. BadRoot) at (4 ∷ 4 ∷ []) ++ test (is_some (name_of md at)) BadRoot ∷ fields (length md) (λ _. BadRoot) (at + 8) (name_width md at ∷ []))
+    (none_behind
+    (fields (length md) (λ _. BadRoot) at (4 ∷ 4 ∷ []) ++ must (is_some (name_of md at)) BadRoot ∷ fields (length md) (λ _. BadRoot) (at + 8) (name_width md at ∷ []))
     (fields (length md) (λ _. BadRoot) (stream_of md at).at ((stream_of md at).size ∷ [])) e)
 
 pub among-within : (md name : List ℕ) (count at : ℕ) (s : Stream) → first_of (headers_tests md count at) ≡ None
@@ -114,13 +116,13 @@ unfolding headers_tests stream_among
 among-within md name zero at s e found = absurd cc
 among-within md name (suc count) at s e found =
     elim (chosen (bytes_eq (unwrap_or (name_of md at) []) name) (stream_of md at) (stream_among md name count (next_header md at)) s found) [
-      | inl here ↦ subst (λ (x : Stream). x.at + x.size ≤ length md) here (header-within md at (first_of-front (header_tests md at) (headers_tests md count (next_header md at)) e))
-      | inr behind ↦ among-within md name count (next_header md at) s (first_of-back (header_tests md at) (headers_tests md count (next_header md at)) e) behind
+      | inl here ↦ subst (λ (x : Stream). x.at + x.size ≤ length md) here (header-within md at (none_before (header_tests md at) (headers_tests md count (next_header md at)) e))
+      | inr behind ↦ among-within md name count (next_header md at) s (none_behind (header_tests md at) (headers_tests md count (next_header md at)) e) behind
     ]
 
 pub stream-within : (md name : List ℕ) (s : Stream) → first_of (streams_tests md) ≡ None → stream md name ≡ Some s → s.at + s.size ≤ length md
 unfolding streams_tests stream
 stream-within md name s e found =
     among-within md name (stream_count md) (headers_at md) s
-    (first_of-back (root_tests md) (headers_tests md (stream_count md) (headers_at md)) (first_of-front (root_tests md ++ headers_tests md (stream_count md) (headers_at md)) (presence_tests md) e))
+    (none_behind (root_tests md) (headers_tests md (stream_count md) (headers_at md)) (none_before (root_tests md ++ headers_tests md (stream_count md) (headers_at md)) (presence_tests md) e))
     found

@@ -1,17 +1,17 @@
 -- What is kept of a heap, and its items.
 use Rattle.std.proofs.Common.{length-drop, subst, ◌≡◌, ℕ, ◌+◌, ◌-◌, ◌≤◌, List, [], length, take, drop, Option, Some, None, refl, sym, ap, ◌∙◌, arith}
-use Rattle.std.specs.Prelude.{option_map, Result, Ok, Err, IsOk, IfErr, ◌↔◌, codes, is_some, IfSome}
+use Rattle.std.specs.Prelude.{option_map, codes, is_some, IfSome}
+use Rattle.cc_base.specs.Tests.{first_of}
+use Rattle.cc_base.proofs.TestLemmas.{first_of-append_none, first_of-append_some, none_before, none_behind}
 use Rattle.metadata_tables.specs.declared.fault.TableFault.{TableFault}
 use Rattle.std.proofs.lemmas.List.{length-take, length-take-le, drop-drop, drop-take, take-take}
 use Rattle.std.proofs.Math.ListN.{drop_of_length-le}
 use Rattle.metadata_tables.specs.declared.root.Stream.{Stream}
 use Rattle.metadata_tables.specs.declared.heaps.Prefix.{Prefix}
-use Rattle.metadata_tables.specs.Tests.{first_of, Judges}
 use Rattle.metadata_tables.specs.Root.{zero_ended, stream, streams_tests, bytes_of, heap}
 use Rattle.metadata_tables.specs.Layout.{start_of}
 use Rattle.metadata_tables.specs.Heaps.{whole_prefix, item_of, string_at, blob_at, blob_offset, user_string_at, StandsAt}
 use Rattle.metadata_tables.specs.TableTests.{table_tests, tables_tests, first_table_fault}
-use Rattle.metadata_tables.proofs.TestLemmas.{first_of-passed, first_of-failed, first_of-front, first_of-back}
 use Rattle.metadata_tables.proofs.HeaderLemmas.{stream-within}
 use Rattle.metadata_tables.proofs.RootLemmas.{rest-is}
 
@@ -32,11 +32,11 @@ heap-is md name s bytes e f = f ∙ ap (bytes_of md) (sym e)
 -- The streams are in order where all is.
 pub streams-sound : (md : List ℕ) → first_table_fault md ≡ None → first_of (streams_tests md) ≡ None
 unfolding first_table_fault table_tests
-streams-sound md e = first_of-front (streams_tests md) (tables_tests md) e
+streams-sound md e = none_before (streams_tests md) (tables_tests md) e
 
 pub tables-sound : (md : List ℕ) → first_table_fault md ≡ None → first_of (tables_tests md) ≡ None
 unfolding first_table_fault table_tests
-tables-sound md e = first_of-back (streams_tests md) (tables_tests md) e
+tables-sound md e = none_behind (streams_tests md) (tables_tests md) e
 
 bytes-end : (md : List ℕ) (o : Option Stream) → ((s : Stream) → o ≡ Some s → s.at + s.size ≤ length md) → start_of o + length (bytes_of md o) ≤ length md
 bytes-end md None h = omega arith
@@ -72,20 +72,11 @@ blob_offset-is md blob rest index begin o kept start from is =
 -- The first fault of all.
 pub fault-streams : (md : List ℕ) (fault : TableFault) → first_of (streams_tests md) ≡ Some fault → first_table_fault md ≡ Some fault
 unfolding first_table_fault table_tests
-fault-streams md fault e = first_of-failed (streams_tests md) (tables_tests md) fault e
+fault-streams md fault e = first_of-append_some (streams_tests md) (tables_tests md) fault e
 
 pub fault-tables : (md : List ℕ) (o : Option TableFault) → first_of (streams_tests md) ≡ None → first_of (tables_tests md) ≡ o → first_table_fault md ≡ o
 unfolding first_table_fault table_tests
-fault-tables md o e f = first_of-passed (streams_tests md) (tables_tests md) e ∙ f
-
--- An answer that has the first fault is there exactly where there is no fault.
-pub judged-ok : {A : Type 0} (r : Result A TableFault) (o : Option TableFault) → Judges r o → IsOk r ↔ (o ≡ None)
-judged-ok (Ok x) o e = (λ _. e, λ _. refl)
-judged-ok (Err fault) o e = (λ h. absurd cc, λ h. absurd cc)
-
-pub judged-err : {A : Type 0} (r : Result A TableFault) (o : Option TableFault) → Judges r o → IfErr r (λ fault. o ≡ Some fault)
-judged-err (Ok x) o e = tt
-judged-err (Err fault) o e = e
+fault-tables md o e f = first_of-append_none (streams_tests md) (tables_tests md) e ∙ f
 
 pub start-is : (md name : List ℕ) (s : Stream) → stream md name ≡ Some s → s.at ≡ start_of (stream md name)
 start-is md name s e = rw e refl

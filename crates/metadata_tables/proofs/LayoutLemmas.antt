@@ -1,87 +1,21 @@
--- Numbered tests one after another, and what they say of Valid, the row counts and the rows.
-use Rattle.std.proofs.Common.{◌≡◌, ◌≢◌, ℕ, zero, suc, ◌+◌, ◌-◌, ◌*◌, ◌≤◌, ◌<◌, List, [], ◌∷◌, ◌++◌, length, get_or, map, replicate, Bool, true, false, eqb, not, ◌&&◌, Option, Some, None, refl, sym, ap, ◌∙◌, arith, add-one, inl, inr, set, get_or-set_other, get_or-set_same, below_more}
+-- What tests by number say of Valid, the row counts and the rows.
+use Rattle.std.proofs.Common.{◌≡◌, ◌≢◌, ℕ, zero, suc, ◌+◌, ◌*◌, ◌≤◌, ◌<◌, List, [], ◌∷◌, ◌++◌, length, get_or, replicate, Bool, true, false, eqb, not, ◌&&◌, Some, None, refl, ap, ◌∙◌, arith, add-one, inl, inr, set, get_or-set_other, get_or-set_same, below_more}
 use Rattle.std.specs.Prelude.{sum_by}
-use Rattle.std.specs.List.{flat_map, range_with_len}
+use Rattle.std.specs.List.{range_with_len}
 use Rattle.std.specs.Int.{bit_at}
 use Rattle.std.proofs.lemmas.List.Sums.{sum_by-append}
 use Rattle.std.proofs.lemmas.List.FromFn.{fill_by_all}
 use Rattle.cc_base.specs.LittleEndian.{u32_at}
-use Rattle.std.proofs.lemmas.List.Concat.{flat_map-cons}
+use Rattle.cc_base.specs.Tests.{first_of, must}
+use Rattle.cc_base.proofs.TestLemmas.{from_on, singles_on}
 use Rattle.std.proofs.lemmas.Bool.{cases_lt}
 use Rattle.std.proofs.lemmas.Bool.Decides.{nat_tests}
-use Rattle.metadata_tables.specs.declared.fault.TableFault.{TableFault}
 use Rattle.metadata_tables.specs.declared.fault.TableFault.TheVariants.{BadTables, Short}
 use Rattle.metadata_tables.specs.declared.schema.Column.{Column}
-use Rattle.metadata_tables.specs.Tests.{first_of, test, fields}
+use Rattle.metadata_tables.specs.Tests.{fields}
 use Rattle.metadata_tables.specs.Schema.{columns_of, total_width}
 use Rattle.metadata_tables.specs.Layout.{valid, counts_at, present_below, stored_count, row_counts, row_width, bytes_below, row_widths, bases}
 use Rattle.metadata_tables.specs.TableTests.{bit_test, bits_tests, rows_tests, all_rows_tests}
-use Rattle.metadata_tables.proofs.TestLemmas.{first_of-passed, first_of-failed}
-
--- The numbers from i on.
-range-from : (i n : ℕ) → i < n → range_with_len i (n - i) ≡ i ∷ range_with_len (i + 1) (n - (i + 1))
-range-from i n h =
-    let k : n - i ≡ suc (n - (i + 1)) = omega arith in
-    rw k refl
-
-range-end : (i n : ℕ) → n ≤ i → range_with_len i (n - i) ≡ []
-range-end i n h =
-    let k : n - i ≡ 0 = omega arith in
-    rw k refl
-
--- The tests with numbers from i on, each a list.
-abbrev pub from_on : (ℕ → List (Option TableFault)) → ℕ → ℕ → Option TableFault
-from_on tests i n = first_of (flat_map tests (range_with_len i (n - i)))
-
-from_on-is : (tests : ℕ → List (Option TableFault)) (i n : ℕ) → i < n
-    → from_on tests i n ≡ first_of (tests i ++ flat_map tests (range_with_len (i + 1) (n - (i + 1))))
-from_on-is tests i n h =
-    ap (λ (numbers : List ℕ). first_of (flat_map tests numbers)) (range-from i n h)
-    ∙ ap first_of (flat_map-cons tests i (range_with_len (i + 1) (n - (i + 1))))
-
-pub from_on-next : (tests : ℕ → List (Option TableFault)) (i n : ℕ) (all : Option TableFault) → i < n
-    → first_of (tests i) ≡ None → from_on tests i n ≡ all → from_on tests (i + 1) n ≡ all
-from_on-next tests i n all h passed so_far =
-    sym (first_of-passed (tests i) (flat_map tests (range_with_len (i + 1) (n - (i + 1)))) passed)
-    ∙ sym (from_on-is tests i n h) ∙ so_far
-
-pub from_on-stop : (tests : ℕ → List (Option TableFault)) (i n : ℕ) (all : Option TableFault) (fault : TableFault) → i < n
-    → first_of (tests i) ≡ Some fault → from_on tests i n ≡ all → all ≡ Some fault
-from_on-stop tests i n all fault h failed so_far =
-    sym so_far ∙ from_on-is tests i n h
-    ∙ first_of-failed (tests i) (flat_map tests (range_with_len (i + 1) (n - (i + 1)))) fault failed
-
-pub from_on-done : (tests : ℕ → List (Option TableFault)) (i n : ℕ) (all : Option TableFault) → n ≤ i
-    → from_on tests i n ≡ all → all ≡ None
-from_on-done tests i n all h so_far =
-    sym so_far ∙ ap (λ (numbers : List ℕ). first_of (flat_map tests numbers)) (range-end i n h)
-
--- The tests with numbers from i on, each alone.
-abbrev pub singles_on : (ℕ → Option TableFault) → ℕ → ℕ → Option TableFault
-singles_on tests i n = first_of (map tests (range_with_len i (n - i)))
-
-singles_on-is : (tests : ℕ → Option TableFault) (i n : ℕ) → i < n
-    → singles_on tests i n ≡ first_of (tests i ∷ map tests (range_with_len (i + 1) (n - (i + 1))))
-singles_on-is tests i n h = ap (λ (numbers : List ℕ). first_of (map tests numbers)) (range-from i n h)
-
-pub singles_on-next : (tests : ℕ → Option TableFault) (i n : ℕ) (all : Option TableFault) → i < n
-    → tests i ≡ None → singles_on tests i n ≡ all → singles_on tests (i + 1) n ≡ all
-singles_on-next tests i n all h passed so_far =
-    let rest : List (Option TableFault) = map tests (range_with_len (i + 1) (n - (i + 1))) in
-    let one : first_of (tests i ∷ rest) ≡ first_of rest = rw passed refl in
-    sym one ∙ sym (singles_on-is tests i n h) ∙ so_far
-
-pub singles_on-stop : (tests : ℕ → Option TableFault) (i n : ℕ) (all : Option TableFault) (fault : TableFault) → i < n
-    → tests i ≡ Some fault → singles_on tests i n ≡ all → all ≡ Some fault
-singles_on-stop tests i n all fault h failed so_far =
-    let rest : List (Option TableFault) = map tests (range_with_len (i + 1) (n - (i + 1))) in
-    let one : first_of (tests i ∷ rest) ≡ Some fault = rw failed refl in
-    sym so_far ∙ singles_on-is tests i n h ∙ one
-
-pub singles_on-done : (tests : ℕ → Option TableFault) (i n : ℕ) (all : Option TableFault) → n ≤ i
-    → singles_on tests i n ≡ all → all ≡ None
-singles_on-done tests i n all h so_far =
-    sym so_far ∙ ap (λ (numbers : List ℕ). first_of (map tests numbers)) (range-end i n h)
 
 -- ---- the bits of Valid
 
@@ -92,7 +26,7 @@ bit_test-unset bits at bit e = rw e refl
 pub bit_test-known : (bits at bit : ℕ) → eqb (length (columns_of bit)) 0 ≡ false → bit_test bits at bit ≡ None
 unfolding bit_test
 bit_test-known bits at bit e =
-    elim (eqb (bit_at bits bit) 1) as (λ (set : Bool). test (not (set && eqb (length (columns_of bit)) 0)) (BadTables bit at) ≡ None) [
+    elim (eqb (bit_at bits bit) 1) as (λ (set : Bool). must (not (set && eqb (length (columns_of bit)) 0)) (BadTables bit at) ≡ None) [
       | true ↦ rw e refl
       | false ↦ refl
     ]

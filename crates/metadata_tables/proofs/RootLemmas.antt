@@ -6,12 +6,14 @@ use Rattle.std.proofs.lemmas.List.Sums.{sum_by-cons}
 use Rattle.std.proofs.lemmas.Bool.{cases_lt}
 use Rattle.std.proofs.lemmas.Bool.Decides.{nat_tests}
 use Rattle.cc_base.specs.LittleEndian.{u32_at}
+use Rattle.cc_base.specs.Tests.{first_of, must}
+use Rattle.cc_base.proofs.TestLemmas.{must-passed, must-failed, first_of-append, first_of-append_none, first_of-append_some}
 use Rattle.metadata_tables.specs.declared.fault.TableFault.{TableFault}
 use Rattle.metadata_tables.specs.declared.fault.TableFault.TheVariants.{BadRoot}
-use Rattle.metadata_tables.specs.Tests.{first_of, test, fields}
+use Rattle.metadata_tables.specs.Tests.{fields}
 use Rattle.metadata_tables.specs.Root.{zero_ended, signature, version_width, headers_at, root_tests, name_of, padded, name_width, next_header, stream_of, header_tests}
+use Rattle.metadata_tables.proofs.FieldLemmas.{fields-fits, fields-short, fields-none}
 use Rattle.std.specs.Option.{option_or}
-use Rattle.metadata_tables.proofs.TestLemmas.{first_of-append, first_of-passed, first_of-failed, fields-fits, fields-short, fields-none}
 
 -- Fields of one fault that end before the end.
 pub fields-all : (end : ℕ) (fault : TableFault) (at : ℕ) (widths : List ℕ) → at + sum widths ≤ end
@@ -33,15 +35,6 @@ fields-some end fault at (width ∷ widths) h past =
       | inr fit ↦ fields-fits end (λ _. fault) at width widths fit ∙ fields-some end fault (at + width) widths fit (omega arith)
     ]
 
--- A test that is passed, and one that is not.
-pub test-passed : (b : Bool) (fault : TableFault) (tests : List (Option TableFault)) → b ≡ true
-    → first_of (test b fault ∷ tests) ≡ first_of tests
-test-passed b fault tests e = rw e refl
-
-pub test-failed : (b : Bool) (fault : TableFault) (tests : List (Option TableFault)) → b ≡ false
-    → first_of (test b fault ∷ tests) ≡ Some fault
-test-failed b fault tests e = rw e refl
-
 bool_cases : (b : Bool) → (b ≡ true) ⊎ (b ≡ false)
 bool_cases true = inl refl
 bool_cases false = inr refl
@@ -51,36 +44,36 @@ root_fields md = fields (length md) (λ _. BadRoot) 4 (2 ∷ 2 ∷ 4 ∷ 4 ∷ v
 
 -- The root where its first field fits.
 root-first : (md : List ℕ) → 4 ≤ length md
-    → first_of (root_tests md) ≡ first_of (test (eqb (u32_at md 0) signature) BadRoot ∷ root_fields md)
+    → first_of (root_tests md) ≡ first_of (must (eqb (u32_at md 0) signature) BadRoot ∷ root_fields md)
 unfolding root_tests root_fields
 root-first md h =
-    first_of-passed (fields (length md) (λ _. BadRoot) 0 (4 ∷ [])) (test (eqb (u32_at md 0) signature) BadRoot ∷ root_fields md)
+    first_of-append_none (fields (length md) (λ _. BadRoot) 0 (4 ∷ [])) (must (eqb (u32_at md 0) signature) BadRoot ∷ root_fields md)
     (fields-all (length md) BadRoot 0 (4 ∷ []) (omega arith))
 
 pub root-good : (md : List ℕ) → 20 + version_width md ≤ length md → u32_at md 0 ≡ signature → first_of (root_tests md) ≡ None
 unfolding root_fields
 root-good md h same =
     let equal : eqb (u32_at md 0) signature ≡ true = grind (arith, nat_tests) in
-    root-first md (omega arith) ∙ test-passed _ BadRoot (root_fields md) equal
+    root-first md (omega arith) ∙ must-passed _ BadRoot (root_fields md) equal
     ∙ fields-all (length md) BadRoot 4 (2 ∷ 2 ∷ 4 ∷ 4 ∷ version_width md ∷ 2 ∷ 2 ∷ []) (omega arith)
 
 pub root-other : (md : List ℕ) → 4 ≤ length md → u32_at md 0 ≢ signature → first_of (root_tests md) ≡ Some BadRoot
 root-other md h other =
     let differs : eqb (u32_at md 0) signature ≡ false = grind (arith, nat_tests) in
-    root-first md h ∙ test-failed _ BadRoot (root_fields md) differs
+    root-first md h ∙ must-failed _ BadRoot (root_fields md) differs
 
 pub root-short : (md : List ℕ) → length md < 20 + version_width md → first_of (root_tests md) ≡ Some BadRoot
 unfolding root_tests root_fields
 root-short md h =
     elim (cases_lt (length md) 4) [
       | inl short ↦
-          first_of-failed (fields (length md) (λ _. BadRoot) 0 (4 ∷ [])) (test (eqb (u32_at md 0) signature) BadRoot ∷ root_fields md) BadRoot
+          first_of-append_some (fields (length md) (λ _. BadRoot) 0 (4 ∷ [])) (must (eqb (u32_at md 0) signature) BadRoot ∷ root_fields md) BadRoot
           (fields-some (length md) BadRoot 0 (4 ∷ []) (omega arith) (omega arith))
       | inr enough ↦
           elim (bool_cases (eqb (u32_at md 0) signature)) [
-            | inl same ↦ root-first md enough ∙ test-passed _ BadRoot (root_fields md) same
+            | inl same ↦ root-first md enough ∙ must-passed _ BadRoot (root_fields md) same
                 ∙ fields-some (length md) BadRoot 4 (2 ∷ 2 ∷ 4 ∷ 4 ∷ version_width md ∷ 2 ∷ 2 ∷ []) enough (omega arith)
-            | inr other ↦ root-first md enough ∙ test-failed _ BadRoot (root_fields md) other
+            | inr other ↦ root-first md enough ∙ must-failed _ BadRoot (root_fields md) other
           ]
     ]
 
@@ -110,7 +103,7 @@ header_numbers : List ℕ → ℕ → List (Option TableFault)
 header_numbers md at = fields (length md) (λ _. BadRoot) at (4 ∷ 4 ∷ [])
 
 header_name : List ℕ → ℕ → List (Option TableFault)
-header_name md at = test (is_some (name_of md at)) BadRoot ∷ fields (length md) (λ _. BadRoot) (at + 8) (name_width md at ∷ [])
+header_name md at = must (is_some (name_of md at)) BadRoot ∷ fields (length md) (λ _. BadRoot) (at + 8) (name_width md at ∷ [])
 
 header_stream : List ℕ → ℕ → List (Option TableFault)
 header_stream md at = fields (length md) (λ _. BadRoot) (stream_of md at).at ((stream_of md at).size ∷ [])
@@ -130,7 +123,7 @@ name-good : (md : List ℕ) (at : ℕ) (name : List ℕ) → name_of md at ≡ S
 unfolding header_name
 name-good md at name e h =
     let there : is_some (name_of md at) ≡ true = rw e refl in
-    test-passed _ BadRoot (fields (length md) (λ _. BadRoot) (at + 8) (name_width md at ∷ [])) there
+    must-passed _ BadRoot (fields (length md) (λ _. BadRoot) (at + 8) (name_width md at ∷ [])) there
     ∙ fields-all (length md) BadRoot (at + 8) (name_width md at ∷ []) (omega arith)
 
 pub header-short : (md : List ℕ) (at : ℕ) → at ≤ length md → length md < at + 8 → first_of (header_tests md at) ≡ Some BadRoot
@@ -143,7 +136,7 @@ pub header-endless : (md : List ℕ) (at : ℕ) → at + 8 ≤ length md → nam
 unfolding header_name
 header-endless md at h e =
     let missing : is_some (name_of md at) ≡ false = rw e refl in
-    let bad : first_of (header_name md at) ≡ Some BadRoot = test-failed _ BadRoot (fields (length md) (λ _. BadRoot) (at + 8) (name_width md at ∷ [])) missing in
+    let bad : first_of (header_name md at) ≡ Some BadRoot = must-failed _ BadRoot (fields (length md) (λ _. BadRoot) (at + 8) (name_width md at ∷ [])) missing in
     header-parts md at ∙ rw (numbers-good md at h, bad) refl
 
 pub header-long : (md : List ℕ) (at : ℕ) (name : List ℕ) → at + 8 ≤ length md → name_of md at ≡ Some name → length md < at + 8 + padded (length name)
@@ -153,7 +146,7 @@ header-long md at name h e long =
     let next = next_header-is md at name e in
     let there : is_some (name_of md at) ≡ true = rw e refl in
     let bad : first_of (header_name md at) ≡ Some BadRoot =
-    test-passed _ BadRoot (fields (length md) (λ _. BadRoot) (at + 8) (name_width md at ∷ [])) there
+    must-passed _ BadRoot (fields (length md) (λ _. BadRoot) (at + 8) (name_width md at ∷ [])) there
     ∙ fields-some (length md) BadRoot (at + 8) (name_width md at ∷ []) h (omega arith) in
     header-parts md at ∙ rw (numbers-good md at h, bad) refl
 

@@ -5,13 +5,14 @@ use Rattle.metadata_tables.specs.declared.layout.Layout.{Layout}
 use Rattle.metadata_tables.specs.Placed.{IsPlaced, IsLayoutOf}
 use Rattle.std.specs.Option.{option_or}
 use Rattle.cc_base.specs.LittleEndian.{u64_at}
+use Rattle.cc_base.specs.Tests.{first_of}
+use Rattle.cc_base.proofs.TestLemmas.{first_of-append}
 use Rattle.metadata_tables.specs.declared.root.Stream.{Stream}
 use Rattle.metadata_tables.specs.declared.fault.TableFault.{TableFault}
 use Rattle.metadata_tables.specs.declared.fault.TableFault.TheVariants.{Short}
-use Rattle.metadata_tables.specs.Tests.{first_of, fields}
+use Rattle.metadata_tables.specs.Tests.{fields}
 use Rattle.metadata_tables.specs.Root.{stream}
 use Rattle.metadata_tables.specs.Layout.{tables_at, tables_end, heap_sizes, valid, counts_at, present_below, row_counts, rows_at}
-use Rattle.metadata_tables.proofs.TestLemmas.{first_of-append}
 use Rattle.metadata_tables.specs.TableTests.{bits_tests, all_rows_tests, tables_tests}
 
 -- The first of five faults.

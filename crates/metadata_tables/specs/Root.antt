@@ -2,10 +2,11 @@
 use Rattle.std.specs.Prelude.{ℕ, zero, suc, ◌+◌, ◌*◌, ◌/◌, List, [], ◌∷◌, ◌++◌, length, take, drop, Option, Some, None, option_map, unwrap_or, is_some, ◌==◌, if◌then◌else◌, position, codes}
 use Rattle.std.specs.Str.{bytes_eq}
 use Rattle.cc_base.specs.LittleEndian.{u16_at, u32_at}
+use Rattle.cc_base.specs.Tests.{must}
 use Rattle.metadata_tables.specs.declared.root.Stream.{Stream}
 use Rattle.metadata_tables.specs.declared.fault.TableFault.{TableFault}
 use Rattle.metadata_tables.specs.declared.fault.TableFault.TheVariants.{BadRoot, MissingStream}
-use Rattle.metadata_tables.specs.Tests.{test, fields}
+use Rattle.metadata_tables.specs.Tests.{fields}
 
 -- The bytes before the first zero, none where there is no zero.
 unfoldable pub zero_ended : List ℕ → Option (List ℕ)
@@ -31,7 +32,7 @@ headers_at md = 20 + version_width md
 unfoldable pub root_tests : List ℕ → List (Option TableFault)
 root_tests md =
     fields (length md) (λ at. BadRoot) 0 (4 ∷ [])
-    ++ test (u32_at md 0 == signature) BadRoot
+    ++ must (u32_at md 0 == signature) BadRoot
     ∷ fields (length md) (λ at. BadRoot) 4 (2 ∷ 2 ∷ 4 ∷ 4 ∷ version_width md ∷ 2 ∷ 2 ∷ [])
 
 -- The name of the stream header at a place, behind its fields Offset and Size.
@@ -57,7 +58,7 @@ stream_of md at = record { at = u32_at md at; size = u32_at md (at + 4) }
 unfoldable pub header_tests : List ℕ → ℕ → List (Option TableFault)
 header_tests md at =
     fields (length md) (λ at. BadRoot) at (4 ∷ 4 ∷ [])
-    ++ test (is_some (name_of md at)) BadRoot
+    ++ must (is_some (name_of md at)) BadRoot
     ∷ fields (length md) (λ at. BadRoot) (at + 8) (name_width md at ∷ [])
     ++ fields (length md) (λ at. BadRoot) (stream_of md at).at ((stream_of md at).size ∷ [])
 
@@ -80,7 +81,7 @@ stream md name = stream_among md name (stream_count md) (headers_at md)
 -- Three streams are there (II.24.2.2).
 unfoldable pub presence_of : Option Stream → Option Stream → Option Stream → List (Option TableFault)
 presence_of tables strings blob =
-    test (is_some tables) MissingStream ∷ test (is_some strings) MissingStream ∷ test (is_some blob) MissingStream ∷ []
+    must (is_some tables) MissingStream ∷ must (is_some strings) MissingStream ∷ must (is_some blob) MissingStream ∷ []
 
 -- The streams that have to be there. The others are empty where they are missing.
 unfoldable pub presence_tests : List ℕ → List (Option TableFault)

@@ -2,16 +2,17 @@
 use Rattle.std.specs.Prelude.{ℕ, ◌+◌, List, [], ◌∷◌, ◌++◌, length, map, replicate, slice_index, Option, ◌==◌, ◌&&◌, not}
 use Rattle.std.specs.List.{flat_map, range_with_len}
 use Rattle.std.specs.Int.{bit_at}
+use Rattle.cc_base.specs.Tests.{first_of, must}
 use Rattle.metadata_tables.specs.declared.fault.TableFault.{TableFault}
 use Rattle.metadata_tables.specs.declared.fault.TableFault.TheVariants.{BadTables, Short}
-use Rattle.metadata_tables.specs.Tests.{first_of, test, fields}
+use Rattle.metadata_tables.specs.Tests.{fields}
 use Rattle.metadata_tables.specs.Root.{streams_tests}
 use Rattle.metadata_tables.specs.Schema.{columns_of}
 use Rattle.metadata_tables.specs.Layout.{tables_at, tables_end, valid, counts_at, present_below, rows_at, row_counts, heap_sizes, row_width, bytes_below}
 
 -- A set bit of Valid, which stands at a place, is that of a table that there is.
 unfoldable pub bit_test : ℕ → ℕ → ℕ → Option TableFault
-bit_test bits at bit = test (not (bit_at bits bit == 1 && length (columns_of bit) == 0)) (BadTables bit at)
+bit_test bits at bit = must (not (bit_at bits bit == 1 && length (columns_of bit) == 0)) (BadTables bit at)
 
 -- Each bit of Valid, from the lowest on.
 unfoldable pub bits_tests : ℕ → ℕ → List (Option TableFault)

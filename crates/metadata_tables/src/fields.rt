@@ -1,7 +1,8 @@
 //! Fields that stand one after another up to an end.
 
-ghost use Rattle.std.specs.Prelude.{◌≡◌, ◌+◌, ◌*◌, ◌^◌, ◌<◌, ◌≤◌, sum, replicate, IfOk};
-ghost use Rattle.metadata_tables.specs.Tests.{first_of, fields, Judges};
+ghost use Rattle.std.specs.Prelude.{◌≡◌, ◌+◌, ◌*◌, ◌^◌, ◌<◌, ◌≤◌, ⊤, sum, replicate, IfOk};
+ghost use Rattle.cc_base.specs.Tests.{first_of, Judges};
+ghost use Rattle.metadata_tables.specs.Tests.{fields};
 
 use crate::fault::TableFault;
 
@@ -9,7 +10,7 @@ use crate::fault::TableFault;
 pub(crate) fn after_fields(start: usize, widths: &[u8], end: usize) -> Result<usize, TableFault>
     requires start { start ≤ end }
     requires end { end < 2 ^ 31 }
-    ensures judged { Judges result (first_of (fields end (λ at. TableFault.Short at) start widths.now)) }
+    ensures judged { Judges result (first_of (fields end (λ at. TableFault.Short at) start widths.now)) (λ _. ⊤) }
     ensures place { IfOk result (λ after. after ≡ start + sum widths.now) }
     ensures within { IfOk result (λ after. after ≤ end) }
 {
@@ -34,7 +35,7 @@ pub(crate) fn after_run(
     requires start { start ≤ end }
     requires end { end < 2 ^ 31 }
     ensures judged { Judges result
-        (first_of (fields end (λ at. TableFault.Short at) start (replicate count width))) }
+        (first_of (fields end (λ at. TableFault.Short at) start (replicate count width))) (λ _. ⊤) }
     ensures place { IfOk result (λ after. after ≡ start + count * width) }
     ensures within { IfOk result (λ after. after ≤ end) }
 {

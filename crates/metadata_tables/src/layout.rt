@@ -1,7 +1,7 @@
 //! The stream `#~`: which tables are present, and where their rows stand (ECMA-335 II.24.2.6).
 
-ghost use Rattle.std.specs.Prelude.{◌≡◌, ◌+◌, ◌*◌, ◌^◌, ◌<◌, ◌≤◌, length, map, Some, IfOk, codes};
-ghost use Rattle.metadata_tables.specs.Tests.{first_of, Judges};
+ghost use Rattle.std.specs.Prelude.{◌≡◌, ◌+◌, ◌*◌, ◌^◌, ◌<◌, ◌≤◌, ⊤, length, map, Some, IfOk, codes};
+ghost use Rattle.cc_base.specs.Tests.{first_of, Judges};
 ghost use Rattle.metadata_tables.specs.Root.{stream};
 ghost use Rattle.metadata_tables.specs.Layout.{valid, counts_at, present_below, row_counts};
 ghost use Rattle.metadata_tables.specs.TableTests.{bits_tests, all_rows_tests, tables_tests};
@@ -29,7 +29,7 @@ pub(crate) struct Layout {
 
 /// How many tables the bits of Valid, which stands at a place, name.
 fn present_tables(bits: u64, at: u32) -> Result<u32, TableFault>
-    ensures judged { Judges result (first_of (bits_tests bits at)) }
+    ensures judged { Judges result (first_of (bits_tests bits at)) (λ _. ⊤) }
     ensures present { IfOk result (λ present. present ≡ present_below bits 64) }
 {
     let mut present = 0;
@@ -72,7 +72,7 @@ fn place_rows(
 ) -> Result<Layout, TableFault>
     requires start { start ≤ end }
     requires end { end < 2 ^ 31 }
-    ensures judged { Judges result (first_of (all_rows_tests end counts heap_sizes start)) }
+    ensures judged { Judges result (first_of (all_rows_tests end counts heap_sizes start)) (λ _. ⊤) }
     ensures placed { IfOk result (IsPlaced counts heap_sizes start) }
 {
     let mut bases = [0; TABLES];
@@ -97,7 +97,7 @@ pub(crate) fn read_layout(md: &[u8], tables: Stream) -> Result<Layout, TableFaul
     requires length { length md.now < 2 ^ 31 }
     requires tables { stream md.now (codes "#~") ≡ Some tables }
     requires within { tables.at + tables.size ≤ length md.now }
-    ensures judged { Judges result (first_of (tables_tests md.now)) }
+    ensures judged { Judges result (first_of (tables_tests md.now)) (λ _. ⊤) }
     ensures placed { IfOk result (IsLayoutOf md.now) }
 {
     let start = tables.at as usize;

@@ -1,10 +1,11 @@
 -- What is found lies in the file.
 use Rattle.std.proofs.Common.{◌≡◌, ℕ, ◌+◌, ◌≤◌, List, length, Option, Some, None, arith}
 use Rattle.std.specs.Option.{option_and_then}
+use Rattle.cc_base.specs.Tests.{first_of}
+use Rattle.cc_base.proofs.TestLemmas.{none_before, none_behind}
 use Rattle.pe_reader.specs.Places.{section_count}
 use Rattle.pe_reader.specs.Addresses.{section_of, place_in, place_of}
-use Rattle.pe_reader.specs.Faults.{first_of, header_tests, sections_tests, pe_tests, first_pe_fault}
-use Rattle.pe_reader.proofs.FirstFault.{none_before, none_behind}
+use Rattle.pe_reader.specs.Faults.{header_tests, sections_tests, pe_tests, first_pe_fault}
 
 place_in-lies : (bytes : List ℕ) (rva len i at : ℕ) → place_in bytes rva len i ≡ Some at → at + len ≤ length bytes
 unfolding place_in

@@ -1,11 +1,12 @@
 -- The section headers, one after another.
 use Rattle.std.proofs.Common.{◌≡◌, ℕ, zero, suc, ◌+◌, ◌-◌, ◌<◌, ◌≤◌, List, [], ◌∷◌, length, true, false, Some, None, refl, arith, inl, inr, ◌∙◌, add-one}
 use Rattle.std.proofs.lemmas.Bool.{cases_lt}
+use Rattle.cc_base.specs.Tests.{first_of}
+use Rattle.cc_base.proofs.TestLemmas.{first_of-append_none, first_of-append_some, none_before, none_behind, none_here}
 use Rattle.pe_reader.specs.declared.fault.PeFault.{PeFault}
 use Rattle.pe_reader.specs.Places.{section_at}
 use Rattle.pe_reader.specs.Addresses.{section_contains, section_from}
-use Rattle.pe_reader.specs.Faults.{first_of, field, section_tests, sections_tests}
-use Rattle.pe_reader.proofs.FirstFault.{first_of-append_none, first_of-append_some, none_before, none_behind, none_here, field_lies}
+use Rattle.pe_reader.specs.Faults.{field, section_tests, sections_tests}
 
 -- ---- the tests of the headers
 
@@ -28,6 +29,10 @@ sections_tests-fault bytes i (suc n) fault within before here =
     ]
 
 pub ruleset each_section = (sections_tests-zero, sections_tests-next, sections_tests-fault)
+
+field_lies : (bytes : List ℕ) (at size : ℕ) → field bytes at size ≡ None → at + size ≤ length bytes
+unfolding field
+field_lies bytes at size none = grind arith
 
 section_tests-lies : (bytes : List ℕ) (i : ℕ) → first_of (section_tests bytes i) ≡ None → section_at bytes i + 24 ≤ length bytes
 unfolding section_tests

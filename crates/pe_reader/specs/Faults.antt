@@ -1,24 +1,15 @@
 -- The tests of a PE file (II.25) in reading order, each with the fault that it gives where it fails.
-use Rattle.std.specs.Prelude.{ℕ, zero, suc, ◌+◌, ◌*◌, List, [], ◌∷◌, ◌++◌, length, Bool, ◌==◌, ◌||◌, not, nat_le, is_some, Option, Some, None, if◌then◌else◌}
+use Rattle.std.specs.Prelude.{ℕ, zero, suc, ◌+◌, ◌*◌, List, [], ◌∷◌, ◌++◌, length, ◌==◌, ◌||◌, not, nat_le, is_some, Option, Some, None, if◌then◌else◌}
 use Rattle.cc_base.specs.LittleEndian.{u16_at, u32_at}
+use Rattle.cc_base.specs.Tests.{first_of, must}
 use Rattle.pe_reader.specs.declared.fault.PeFault.{PeFault}
 use Rattle.pe_reader.specs.declared.fault.PeFault.TheVariants.{TooShort, NotPe, NoCli, RvaOutside}
 use Rattle.pe_reader.specs.Places.{signature_at, file_header_at, section_count, optional_size, optional_at, magic, directories_offset, cli_directory_at, cli_rva, section_at}
 use Rattle.pe_reader.specs.Addresses.{cli_place, metadata_rva, metadata_place}
 
--- The first fault of a list of tests.
-unfoldable pub first_of : {F : Type 0} → List (Option F) → Option F
-first_of [] = None
-first_of (None ∷ tests) = first_of tests
-first_of (Some fault ∷ tests) = Some fault
-
 -- A field of so many bytes lies in the file.
 unfoldable pub field : List ℕ → ℕ → ℕ → Option PeFault
 field bytes at size = if nat_le (at + size) (length bytes) then None else Some (TooShort at)
-
--- This is so, or else that is the fault.
-unfoldable pub must : Bool → PeFault → Option PeFault
-must holds fault = if holds then None else Some fault
 
 -- `MZ` at the file's start, and `PE` with two zeros at the place that the MS-DOS header names.
 unfoldable pub signature_tests : List ℕ → List (Option PeFault)

@@ -1,14 +1,8 @@
 -- What the steps of the reader promise.
-use Rattle.std.specs.Prelude.{◌≡◌, ℕ, List, Option, Some, None, Result, Ok, Err}
-use Rattle.pe_reader.specs.declared.fault.PeFault.{PeFault}
+use Rattle.std.specs.Prelude.{◌≡◌, ℕ, List}
 use Rattle.pe_reader.specs.declared.sections.Section.{Section}
 use Rattle.pe_reader.specs.declared.sections.Sections.{Sections}
 use Rattle.pe_reader.specs.Places.{sections_at, section_count, virtual_address, raw_size, raw_at}
-
--- Ok where no test failed, and then a value of which P holds; else the first fault.
-abbrev pub Judges : {X : Type 0} → Result X PeFault → Option PeFault → (X → Type 0) → Type 0
-Judges (Ok x) first P = (first ≡ None) × P x
-Judges (Err fault) first P = first ≡ Some fault
 
 -- These are the section headers of the file.
 pub record AreSections (bytes : List ℕ) (sections : Sections) : Type 0 where

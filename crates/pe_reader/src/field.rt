@@ -2,8 +2,8 @@
 
 ghost use Rattle.std.specs.Prelude.{◌≡◌, ◌+◌, ◌≤◌, length};
 ghost use Rattle.cc_base.specs.LittleEndian.{u16_at, u32_at};
+ghost use Rattle.cc_base.specs.Tests.{Judges};
 ghost use Rattle.pe_reader.specs.Faults.{field};
-ghost use Rattle.pe_reader.specs.Reading.{Judges};
 
 use crate::fault::PeFault;
 

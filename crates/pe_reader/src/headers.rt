@@ -1,9 +1,9 @@
 //! The headers before the sections.
 
 ghost use Rattle.std.specs.Prelude.{◌≡◌, ◌+◌, ◌≤◌, length};
-ghost use Rattle.pe_reader.specs.Faults.{first_of, signature_tests, file_header_tests, optional_tests};
+ghost use Rattle.cc_base.specs.Tests.{first_of, Judges};
+ghost use Rattle.pe_reader.specs.Faults.{signature_tests, file_header_tests, optional_tests};
 ghost use Rattle.pe_reader.specs.Places.{file_header_at, section_count, optional_size, optional_at, cli_rva};
-ghost use Rattle.pe_reader.specs.Reading.{Judges};
 
 use crate::fault::PeFault;
 use crate::field::{skip_field, u16_field, u32_field};
@@ -21,7 +21,7 @@ const PE32: u16 = 0x10b;
 const PE32_PLUS: u16 = 0x20b;
 
 /// Where the PE file header stands: behind the signature that the MS-DOS header names.
-#[tactic(auto, using(crate::proofs::FirstFault::first_tests), unfolding(crate::specs::Faults::signature_tests, crate::specs::Places::signature_at, crate::specs::Places::file_header_at))]
+#[tactic(auto, using(cc_base::proofs::TestLemmas::first_tests), unfolding(crate::specs::Faults::signature_tests, crate::specs::Places::signature_at, crate::specs::Places::file_header_at))]
 pub fn file_header_place(bytes: &[u8]) -> Result<u32, PeFault>
     requires { length bytes.now ≤ 2147483647 }
     ensures { Judges result (first_of (signature_tests bytes.now))
@@ -47,7 +47,7 @@ pub struct FileHeader {
 }
 
 /// Reads the PE file header (II.25.2.2). Any machine is accepted.
-#[tactic(auto, using(crate::proofs::FirstFault::first_tests), unfolding(crate::specs::Faults::file_header_tests, crate::specs::Places::section_count, crate::specs::Places::optional_size))]
+#[tactic(auto, using(cc_base::proofs::TestLemmas::first_tests), unfolding(crate::specs::Faults::file_header_tests, crate::specs::Places::section_count, crate::specs::Places::optional_size))]
 pub fn file_header(bytes: &[u8], at: u32) -> Result<FileHeader, PeFault>
     requires place { at ≡ file_header_at bytes.now }
     requires room { at ≤ 2147483647 }
@@ -70,7 +70,7 @@ pub fn file_header(bytes: &[u8], at: u32) -> Result<FileHeader, PeFault>
 }
 
 /// Reads the address of the CLI header from the optional header (II.25.2.3).
-#[tactic(auto, using(crate::proofs::FirstFault::first_tests), unfolding(crate::specs::Faults::optional_tests, crate::specs::Places::magic, crate::specs::Places::directories_offset, crate::specs::Places::cli_directory_at, crate::specs::Places::cli_rva))]
+#[tactic(auto, using(cc_base::proofs::TestLemmas::first_tests), unfolding(crate::specs::Faults::optional_tests, crate::specs::Places::magic, crate::specs::Places::directories_offset, crate::specs::Places::cli_directory_at, crate::specs::Places::cli_rva))]
 pub fn cli_address(bytes: &[u8], at: u32, len: u16) -> Result<u32, PeFault>
     requires place { at ≡ optional_at bytes.now }
     requires size { len ≡ optional_size bytes.now }

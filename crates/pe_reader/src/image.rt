@@ -2,10 +2,11 @@
 
 ghost use Rattle.std.specs.Prelude.{◌≡◌, ◌↔◌, ◌+◌, ◌≤◌, length, IsOk, IfOk, IfErr, IfSome, OnSome};
 ghost use Rattle.std.specs.Option.{option_copied};
+ghost use Rattle.cc_base.specs.Tests.{first_of, Judges};
 ghost use Rattle.pe_reader.specs.Addresses.{bytes_at, metadata, metadata_at, metadata_place, metadata_size};
-ghost use Rattle.pe_reader.specs.Faults.{first_of, header_tests, sections_tests, cli_tests, first_pe_fault};
+ghost use Rattle.pe_reader.specs.Faults.{header_tests, sections_tests, cli_tests, first_pe_fault};
 ghost use Rattle.pe_reader.specs.Places.{section_count, cli_rva};
-ghost use Rattle.pe_reader.specs.Reading.{Judges, AreSections};
+ghost use Rattle.pe_reader.specs.Reading.{AreSections};
 
 use crate::fault::PeFault;
 use crate::headers::{cli_address, file_header, file_header_place};
@@ -36,7 +37,7 @@ impl<'a> Model for Image<'a> {
 
 impl<'a> Image<'a> {
     /// Reads the headers of a PE file and finds its metadata. Nothing is copied.
-    #[tactic(auto, using(crate::proofs::FirstFault::appended, crate::proofs::Found::whole), unfolding(crate::specs::Faults::first_pe_fault, crate::specs::Faults::pe_tests))]
+    #[tactic(auto, using(cc_base::proofs::TestLemmas::appended, crate::proofs::Found::whole), unfolding(crate::specs::Faults::first_pe_fault, crate::specs::Faults::pe_tests))]
     pub fn read(bytes: &'a [u8]) -> Result<Image<'a>, PeFault>
         requires { length bytes.now ≤ 2147483647 }
         ensures image { IfOk result (λ image. image ≡ bytes.now) }
@@ -97,7 +98,7 @@ struct Headers {
 }
 
 /// Reads the headers up to the last section's.
-#[tactic(auto, using(crate::proofs::FirstFault::appended), unfolding(crate::specs::Faults::header_tests, crate::specs::Places::optional_at, crate::specs::Places::sections_at))]
+#[tactic(auto, using(cc_base::proofs::TestLemmas::appended), unfolding(crate::specs::Faults::header_tests, crate::specs::Places::optional_at, crate::specs::Places::sections_at))]
 fn read_headers(bytes: &[u8]) -> Result<Headers, PeFault>
     requires { length bytes.now ≤ 2147483647 }
     ensures { Judges result (first_of (header_tests bytes.now))
@@ -123,7 +124,7 @@ struct Metadata {
 }
 
 /// Finds the CLI header (II.25.3.3), and by it the metadata.
-#[tactic(auto, using(crate::proofs::FirstFault::first_tests, crate::proofs::Found::place_lies), unfolding(crate::specs::Faults::cli_tests, crate::specs::Addresses::cli_place, crate::specs::Addresses::cli_header_at, crate::specs::Addresses::metadata_rva, crate::specs::Addresses::metadata_size, crate::specs::Addresses::metadata_place))]
+#[tactic(auto, using(cc_base::proofs::TestLemmas::first_tests, crate::proofs::Found::place_lies), unfolding(crate::specs::Faults::cli_tests, crate::specs::Addresses::cli_place, crate::specs::Addresses::cli_header_at, crate::specs::Addresses::metadata_rva, crate::specs::Addresses::metadata_size, crate::specs::Addresses::metadata_place))]
 fn find_metadata(bytes: &[u8], headers: Headers) -> Result<Metadata, PeFault>
     requires sections { AreSections bytes.now headers.sections }
     requires address { headers.cli_rva ≡ cli_rva bytes.now }

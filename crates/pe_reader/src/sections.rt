@@ -1,10 +1,11 @@
 //! The section headers (II.25.3), and the place of an address in the file.
 
 ghost use Rattle.std.specs.Prelude.{◌≡◌, ℕ, ◌+◌, ◌*◌, ◌^◌, ◌<◌, ◌≤◌, IsTrue, length};
+ghost use Rattle.cc_base.specs.Tests.{first_of, Judges};
 ghost use Rattle.pe_reader.specs.Addresses.{covers, place_in, place_of};
-ghost use Rattle.pe_reader.specs.Faults.{first_of, section_tests, sections_tests};
+ghost use Rattle.pe_reader.specs.Faults.{section_tests, sections_tests};
 ghost use Rattle.pe_reader.specs.Places.{section_count};
-ghost use Rattle.pe_reader.specs.Reading.{Judges, AreSections, IsSection};
+ghost use Rattle.pe_reader.specs.Reading.{AreSections, IsSection};
 
 use crate::fault::PeFault;
 use crate::field::skip_field;
@@ -44,7 +45,7 @@ impl Sections {
         Ok(())
     }
 
-    #[tactic(auto, using(crate::proofs::FirstFault::first_tests), unfolding(crate::specs::Faults::section_tests, crate::specs::Places::section_at))]
+    #[tactic(auto, using(cc_base::proofs::TestLemmas::first_tests), unfolding(crate::specs::Faults::section_tests, crate::specs::Places::section_at))]
     fn test_header(self, bytes: &[u8], index: u16) -> Result<(), PeFault>
         requires sections { AreSections bytes.now self }
         requires within { index < self.count }

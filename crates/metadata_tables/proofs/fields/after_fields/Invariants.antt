@@ -1,7 +1,8 @@
 use Rattle.std.proofs.Common.{◌≡◌, ◌+◌, ◌≤◌, take, drop}
 use Rattle.std.specs.Prelude.{sum}
+use Rattle.cc_base.specs.Tests.{first_of}
 use Rattle.metadata_tables.specs.declared.fault.TableFault.TheVariants.{Short}
-use Rattle.metadata_tables.specs.Tests.{first_of, fields}
+use Rattle.metadata_tables.specs.Tests.{fields}
 use Rattle.metadata_tables.proofs.fields.after_fields.Given as goal
 
 abbrev pub invariant-loop-width : goal.invariant-loop-width

@@ -1,9 +1,10 @@
 use Rattle.std.proofs.Common.{◌+◌, get_or, refl, sym, ◌∙◌, arith}
 use Rattle.std.proofs.lemmas.List.{length-set}
 use Rattle.std.proofs.lemmas.Result.{err_from_is_err_and}
+use Rattle.cc_base.proofs.TestLemmas.{from_on-next, from_on-stop, from_on-done}
 use Rattle.metadata_tables.specs.Layout.{row_width, bytes_below}
 use Rattle.metadata_tables.specs.TableTests.{rows_tests}
-use Rattle.metadata_tables.proofs.LayoutLemmas.{from_on-next, from_on-stop, from_on-done, filled-more, row_width-is, bytes_below-zero, place-next, all_rows_tests-start, rows_tests-is, row_widths-filled, bases-filled}
+use Rattle.metadata_tables.proofs.LayoutLemmas.{filled-more, row_width-is, bytes_below-zero, place-next, all_rows_tests-start, rows_tests-is, row_widths-filled, bases-filled}
 use Rattle.metadata_tables.proofs.layout.place_rows.Goals as goal
 
 pub loop-table-init : goal.loop-table-init
@@ -38,11 +39,11 @@ loop-table-preserved c =
       long_widths = length-set _ _ _ ∙ before.long_widths;
       filled_bases = filled-more (λ k. c.args.start + bytes_below c.args.counts c.args.heap_sizes k) c.loop-table.bases table c.loop-table.at (omega arith) before.place before.filled_bases;
       filled_widths = filled-more (row_width c.args.counts c.args.heap_sizes) c.loop-table.widths table _ (omega arith) wide before.filled_widths;
-      tests = from_on-next (rows_tests c.args.end c.args.counts c.args.heap_sizes c.args.start) table 45 _ (omega arith) (sym same ∙ c.in_ok-at.ensures.judged) before.tests;
+      tests = from_on-next (rows_tests c.args.end c.args.counts c.args.heap_sizes c.args.start) table 45 _ (omega arith) (sym same ∙ c.in_ok-at.ensures.judged.0) before.tests;
     }
 
 pub returns-clause-judged : goal.returns-clause-judged
-returns-clause-judged c = from_on-done (rows_tests c.args.end c.args.counts c.args.heap_sizes c.args.start) c.loop-table.table 45 _ (omega arith) c.loop-table.invariant.tests
+returns-clause-judged c = (from_on-done (rows_tests c.args.end c.args.counts c.args.heap_sizes c.args.start) c.loop-table.table 45 _ (omega arith) c.loop-table.invariant.tests, tt)
 
 pub returns-clause-placed : goal.returns-clause-placed
 returns-clause-placed c =

@@ -1,8 +1,8 @@
 use Rattle.std.proofs.Common.{◌≡◌, ◌+◌, ◌<◌, ◌≤◌, ℕ, length, get_or}
-use Rattle.metadata_tables.specs.Tests.{first_of}
+use Rattle.cc_base.specs.Tests.{first_of}
+use Rattle.cc_base.proofs.TestLemmas.{from_on}
 use Rattle.metadata_tables.specs.Layout.{row_width, bytes_below}
 use Rattle.metadata_tables.specs.TableTests.{rows_tests, all_rows_tests}
-use Rattle.metadata_tables.proofs.LayoutLemmas.{from_on}
 use Rattle.metadata_tables.proofs.layout.place_rows.Given as goal
 
 abbrev pub invariant-loop-table : goal.invariant-loop-table

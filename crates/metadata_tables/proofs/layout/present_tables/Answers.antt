@@ -1,9 +1,10 @@
 use Rattle.std.proofs.Common.{◌≡◌, sym, ◌∙◌, arith, eqb, true, false, length}
 use Rattle.std.specs.Int.{bit_at}
 use Rattle.std.proofs.lemmas.Bool.{eqb-true}
+use Rattle.cc_base.proofs.TestLemmas.{singles_on-next, singles_on-stop, singles_on-done}
 use Rattle.metadata_tables.specs.Schema.{columns_of}
 use Rattle.metadata_tables.specs.TableTests.{bit_test}
-use Rattle.metadata_tables.proofs.LayoutLemmas.{singles_on-next, singles_on-stop, singles_on-done, bits_tests-start, bit_test-unset, bit_test-known, bit_test-bad, present_below-zero, present_below-more, bit_at-unset}
+use Rattle.metadata_tables.proofs.LayoutLemmas.{bits_tests-start, bit_test-unset, bit_test-known, bit_test-bad, present_below-zero, present_below-more, bit_at-unset}
 use Rattle.metadata_tables.proofs.layout.present_tables.Goals as goal
 use Rattle.metadata_tables.proofs.layout.present_tables.Goals.{then-has_bit+else-is_empty, else-has_bit}
 
@@ -38,4 +39,4 @@ loop-bit-preserved c =
     ]
 
 pub returns-clause-judged : goal.returns-clause-judged
-returns-clause-judged c = singles_on-done (bit_test c.args.bits c.args.at) c.loop-bit.bit 64 _ (omega arith) c.loop-bit.invariant.2
+returns-clause-judged c = (singles_on-done (bit_test c.args.bits c.args.at) c.loop-bit.bit 64 _ (omega arith) c.loop-bit.invariant.2, tt)

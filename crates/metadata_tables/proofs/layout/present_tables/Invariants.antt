@@ -1,8 +1,8 @@
 use Rattle.std.proofs.Common.{◌≡◌, ◌≤◌}
-use Rattle.metadata_tables.specs.Tests.{first_of}
+use Rattle.cc_base.specs.Tests.{first_of}
+use Rattle.cc_base.proofs.TestLemmas.{singles_on}
 use Rattle.metadata_tables.specs.Layout.{present_below}
 use Rattle.metadata_tables.specs.TableTests.{bit_test, bits_tests}
-use Rattle.metadata_tables.proofs.LayoutLemmas.{singles_on}
 use Rattle.metadata_tables.proofs.layout.present_tables.Given as goal
 
 abbrev pub invariant-loop-bit : goal.invariant-loop-bit

@@ -21,14 +21,14 @@ pub returns-in_err-present-clause-judged : goal.returns-in_err-present-clause-ju
 returns-in_err-present-clause-judged c =
     let tests = tables_tests-is c.args.md.now c.args.tables c.u64_at-valid.result _ _ _ c.requires.tables c.u64_at-valid.ensures refl refl refl in
     let p = err_from_is_err_and c.from_residual-in_err-present.result c.from_residual-in_err-present.ensures.1 in
-    rw (p.1, p.2) (tests ∙ rw (c.in_ok-sorted_at.ensures.judged, c.in_err-present.ensures.judged) refl)
+    rw (p.1, p.2) (tests ∙ rw (c.in_ok-sorted_at.ensures.judged.0, c.in_err-present.ensures.judged) refl)
 
 pub returns-in_err-counts_at-clause-judged : goal.returns-in_err-counts_at-clause-judged
 returns-in_err-counts_at-clause-judged c =
     let sorted : c.in_ok-sorted_at.sorted_at ≡ c.args.tables.at + 16 = omega (arith, c.in_ok-sorted_at.ensures.place) in
     let tests = tables_tests-is c.args.md.now c.args.tables c.u64_at-valid.result c.in_ok-sorted_at.sorted_at _ _ c.requires.tables c.u64_at-valid.ensures sorted refl refl in
     let p = err_from_is_err_and c.from_residual-in_err-counts_at.result c.from_residual-in_err-counts_at.ensures.1 in
-    rw (p.1, p.2) (tests ∙ rw (c.in_ok-sorted_at.ensures.judged, c.in_ok-present.ensures.judged, c.in_err-counts_at.ensures.judged) refl)
+    rw (p.1, p.2) (tests ∙ rw (c.in_ok-sorted_at.ensures.judged.0, c.in_ok-present.ensures.judged.0, c.in_err-counts_at.ensures.judged) refl)
 
 pub returns-in_err-rows_at-clause-judged : goal.returns-in_err-rows_at-clause-judged
 returns-in_err-rows_at-clause-judged c =
@@ -37,7 +37,7 @@ returns-in_err-rows_at-clause-judged c =
     let tests = tables_tests-is c.args.md.now c.args.tables c.u64_at-valid.result c.in_ok-sorted_at.sorted_at c.in_ok-counts_at.counts_at _ c.requires.tables c.u64_at-valid.ensures sorted counts refl in
     let p = err_from_is_err_and c.from_residual-in_err-rows_at.result c.from_residual-in_err-rows_at.ensures.1 in
     rw (p.1, p.2)
-    (tests ∙ rw (c.in_ok-sorted_at.ensures.judged, c.in_ok-present.ensures.judged, c.in_ok-counts_at.ensures.judged, rw (c.in_ok-present.ensures.present) at c.in_err-rows_at.ensures.judged) refl)
+    (tests ∙ rw (c.in_ok-sorted_at.ensures.judged.0, c.in_ok-present.ensures.judged.0, c.in_ok-counts_at.ensures.judged.0, rw (c.in_ok-present.ensures.present) at c.in_err-rows_at.ensures.judged) refl)
 
 pub returns-clause-judged : goal.returns-clause-judged
 returns-clause-judged c =
@@ -48,7 +48,7 @@ returns-clause-judged c =
     let many = c.in_ok-present.ensures.present in
     let rows : c.in_ok-rows_at.rows_at ≡ c.in_ok-counts_at.counts_at + present_below c.u64_at-valid.result 64 * 4 = rw (← many) (c.in_ok-rows_at.ensures.place) in
     let tests = tables_tests-is md s c.u64_at-valid.result c.in_ok-sorted_at.sorted_at c.in_ok-counts_at.counts_at c.in_ok-rows_at.rows_at c.requires.tables c.u64_at-valid.ensures sorted counts rows in
-    let last = tests ∙ rw (c.in_ok-sorted_at.ensures.judged, c.in_ok-present.ensures.judged, c.in_ok-counts_at.ensures.judged, rw many at c.in_ok-rows_at.ensures.judged, ← c.row_counts-counts.ensures) refl in
+    let last = tests ∙ rw (c.in_ok-sorted_at.ensures.judged.0, c.in_ok-present.ensures.judged.0, c.in_ok-counts_at.ensures.judged.0, rw many at c.in_ok-rows_at.ensures.judged.0, ← c.row_counts-counts.ensures) refl in
     rw last c.place_rows.ensures.judged
 
 pub returns-clause-placed : goal.returns-clause-placed

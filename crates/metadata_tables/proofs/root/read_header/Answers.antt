@@ -24,7 +24,7 @@ pub returns-clause-judged : goal.returns-clause-judged
 returns-clause-judged c =
     let md = c.args.md.now in
     let named : name_of md c.args.at ≡ Some c.in-Some.name.now = name_of-is md c.args.at (Some c.in-Some.name.now) c.in-Some.ensures in
-    header-good md c.args.at c.in-Some.name.now (omega arith) named (omega arith) (omega (arith, c.u32_at.ensures, c.u32_at-2.ensures))
+    (header-good md c.args.at c.in-Some.name.now (omega arith) named (omega arith) (omega (arith, c.u32_at.ensures, c.u32_at-2.ensures)), tt)
 
 pub returns-clause-name : goal.returns-clause-name
 returns-clause-name c = name_of-is c.args.md.now c.args.at (Some c.in-Some.name.now) c.in-Some.ensures

@@ -20,7 +20,7 @@ loop-preserved c =
     let before = c.loop.invariant in
     record {
       within = read.within;
-      tests = headers-next md at n i header.next _ (omega arith) read.judged read.next before.tests;
+      tests = headers-next md at n i header.next _ (omega arith) read.judged.0 read.next before.tests;
       tables = among-next md (codes "#~") at n i header.next c.loop.found.tables c.first_named.result header.name.now header.stream _ (omega arith) read.name read.stream read.next c.first_named.ensures before.tables;
       strings = among-next md (codes "#Strings") at n i header.next c.loop.found.strings c.first_named-in-loop.result header.name.now header.stream _ (omega arith) read.name read.stream read.next c.first_named-in-loop.ensures before.strings;
       blob = among-next md (codes "#Blob") at n i header.next c.loop.found.blob c.first_named-in-loop-2.result header.name.now header.stream _ (omega arith) read.name read.stream read.next c.first_named-in-loop-2.ensures before.blob;
@@ -28,7 +28,7 @@ loop-preserved c =
     }
 
 pub returns-clause-judged : goal.returns-clause-judged
-returns-clause-judged c = headers-done c.args.md.now c.loop.at c.args.count c.loop.counter _ (omega arith) c.loop.invariant.tests
+returns-clause-judged c = (headers-done c.args.md.now c.loop.at c.args.count c.loop.counter _ (omega arith) c.loop.invariant.tests, tt)
 
 pub returns-clause-tables : goal.returns-clause-tables
 returns-clause-tables c = among-done c.args.md.now (codes "#~") c.loop.at c.args.count c.loop.counter c.loop.found.tables _ (omega arith) c.loop.invariant.tables

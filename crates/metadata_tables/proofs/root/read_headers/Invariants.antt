@@ -1,7 +1,7 @@
 use Rattle.std.proofs.Common.{◌≡◌, ◌-◌, ◌≤◌, length}
 use Rattle.std.specs.Option.{option_or}
 use Rattle.std.specs.Prelude.{codes}
-use Rattle.metadata_tables.specs.Tests.{first_of}
+use Rattle.cc_base.specs.Tests.{first_of}
 use Rattle.metadata_tables.specs.Root.{headers_tests, stream_among}
 use Rattle.metadata_tables.proofs.root.read_headers.Given as goal
 

@@ -19,7 +19,7 @@ returns-then-md-first-clause-judged c = root-short c.args.md.now (omega (arith, 
 
 pub returns-clause-judged : goal.returns-clause-judged
 returns-clause-judged c =
-    root-good c.args.md.now (omega (arith, version-is c.args.md.now, c.u32_at-2.ensures)) (sym c.u32_at.ensures ∙ c.if-u32_at-ne-SIGNATURE.false)
+    (root-good c.args.md.now (omega (arith, version-is c.args.md.now, c.u32_at-2.ensures)) (sym c.u32_at.ensures ∙ c.if-u32_at-ne-SIGNATURE.false), tt)
 
 pub returns-clause-place : goal.returns-clause-place
 returns-clause-place c = omega (arith, headers_at-is c.args.md.now, version-is c.args.md.now, c.u32_at-2.ensures)

@@ -1,7 +1,7 @@
 use Rattle.std.proofs.Common.{◌≡◌, None, length, ap, ◌∙◌, arith}
 use Rattle.std.proofs.lemmas.Result.{err_from_is_err_and}
 use Rattle.pe_reader.specs.Addresses.{metadata, metadata_at}
-use Rattle.pe_reader.specs.Faults.{first_of}
+use Rattle.cc_base.specs.Tests.{first_of}
 use Rattle.asm_image.specs.Faults.{tables_tests, methods_tests, first_assembly_fault}
 use Rattle.asm_image.specs.Rows.{rows_of}
 use Rattle.std.proofs.Common.{Vec, Global, List, ℕ}

@@ -1,5 +1,6 @@
 use Rattle.std.proofs.Common.{◌≡◌, None}
-use Rattle.pe_reader.specs.Faults.{first_of, sections_tests}
+use Rattle.cc_base.specs.Tests.{first_of}
+use Rattle.pe_reader.specs.Faults.{sections_tests}
 use Rattle.pe_reader.proofs.sections.Sections.test.Given as goal
 
 abbrev pub invariant-loop-index : goal.invariant-loop-index

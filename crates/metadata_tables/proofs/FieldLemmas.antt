@@ -1,53 +1,27 @@
--- The first fault of tests that stand behind others, and of fields.
-use Rattle.std.proofs.Common.{◌≡◌, ℕ, zero, suc, ◌+◌, ◌-◌, ◌*◌, ◌/◌, ◌≤◌, ◌<◌, List, [], ◌∷◌, ◌++◌, length, get_or, drop, replicate, Option, Some, None, refl, sym, ap, ◌∙◌, arith, add-one, drop-cons, inl, inr, length-drop}
-use Rattle.std.specs.Option.{option_or}
+-- The first fault of fields.
+use Rattle.std.proofs.Common.{◌≡◌, ℕ, zero, suc, ◌+◌, ◌-◌, ◌*◌, ◌/◌, ◌≤◌, ◌<◌, List, [], ◌∷◌, length, get_or, drop, replicate, Option, Some, None, refl, sym, ap, ◌∙◌, arith, add-one, drop-cons, inl, inr, length-drop}
 use Rattle.std.proofs.Math.Nat.{div-mul-le_self, lt-div-mul-add, lt_of_mul-lt-mul_right}
 use Rattle.std.proofs.lemmas.Bool.{cases_lt, le-leb, lt-leb}
 use Rattle.std.proofs.lemmas.List.{nil_from_length}
+use Rattle.cc_base.specs.Tests.{first_of}
 use Rattle.metadata_tables.specs.declared.fault.TableFault.{TableFault}
-use Rattle.metadata_tables.specs.Tests.{first_of, fields}
-
-pub first_of-append : (a b : List (Option TableFault)) → first_of (a ++ b) ≡ option_or (first_of a) (first_of b)
-first_of-append [] b = refl
-first_of-append (None ∷ a) b = first_of-append a b
-first_of-append (Some fault ∷ a) b = refl
-
--- Tests behind others that are all passed.
-pub first_of-passed : (a b : List (Option TableFault)) → first_of a ≡ None → first_of (a ++ b) ≡ first_of b
-first_of-passed [] b e = refl
-first_of-passed (None ∷ a) b e = first_of-passed a b e
-first_of-passed (Some fault ∷ a) b e = absurd cc
-
--- Tests before others, of which one is not passed.
-pub first_of-failed : (a b : List (Option TableFault)) (fault : TableFault) → first_of a ≡ Some fault → first_of (a ++ b) ≡ Some fault
-first_of-failed [] b fault e = absurd cc
-first_of-failed (None ∷ a) b fault e = first_of-failed a b fault e
-first_of-failed (Some other ∷ a) b fault e = e
-
--- All tests are passed, so those in front are.
-pub first_of-front : (a b : List (Option TableFault)) → first_of (a ++ b) ≡ None → first_of a ≡ None
-first_of-front [] b e = refl
-first_of-front (None ∷ a) b e = first_of-front a b e
-first_of-front (Some other ∷ a) b e = e
-
-pub first_of-back : (a b : List (Option TableFault)) → first_of (a ++ b) ≡ None → first_of b ≡ None
-first_of-back a b e = sym (first_of-passed a b (first_of-front a b e)) ∙ e
+use Rattle.metadata_tables.specs.Tests.{fields}
 
 -- A field that does not pass the end.
 pub fields-fits : (end : ℕ) (fault : ℕ → TableFault) (at width : ℕ) (widths : List ℕ) → at + width ≤ end
     → first_of (fields end fault at (width ∷ widths)) ≡ first_of (fields end fault (at + width) widths)
-unfolding fields
+unfolding fields first_of
 fields-fits end fault at width widths h = rw (le-leb (at + width) end h) refl
 
 -- A field that passes the end.
 pub fields-short : (end : ℕ) (fault : ℕ → TableFault) (at width : ℕ) (widths : List ℕ) → end < at + width
     → first_of (fields end fault at (width ∷ widths)) ≡ Some (fault at)
-unfolding fields
+unfolding fields first_of
 fields-short end fault at width widths h = rw (lt-leb (at + width) end h) refl
 
 -- No field.
 pub fields-none : (end : ℕ) (fault : ℕ → TableFault) (at : ℕ) → first_of (fields end fault at []) ≡ None
-unfolding fields
+unfolding fields first_of
 fields-none end fault at = refl
 
 -- A field whose test is passed.
