@@ -52,13 +52,7 @@ fn answer_unit<O: Sink, E: Sink>(
     match read_unit(alloc, bytes) {
         Err(UnitRefusal::NoMemory) => Err(Interrupt::NoMemory),
         Err(UnitRefusal::Bad(fault)) => {
-            answer_refused(
-                alloc,
-                name,
-                unit_fault_text(fault),
-                fault.at(),
-                err,
-            )
+            answer_refused(alloc, name, unit_fault_text(fault), fault.at(), err)
         }
         Ok(unit) => {
             let proved = put_report(alloc, &unit, out)?;
