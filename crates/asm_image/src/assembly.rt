@@ -2,15 +2,13 @@
 
 ghost use Rattle.std.specs.Prelude.{◌≡◌, ◌+◌, ◌≤◌, length, None};
 ghost use Rattle.cc_base.specs.Tests.{first_of, Judges};
-ghost use Rattle.pe_reader.specs.Addresses.{metadata, metadata_at};
-ghost use Rattle.pe_reader.specs.Faults.{first_pe_fault};
+ghost use Rattle.pe_reader.specs.Addresses.{metadata};
 ghost use Rattle.asm_image.specs.Calls.{callee_of};
 ghost use Rattle.asm_image.specs.Faults.{pe_place, table_place, file_tests, tables_tests, first_assembly_fault};
 ghost use Rattle.asm_image.specs.Find.{find_of};
 ghost use Rattle.asm_image.specs.Reading.{Reads};
-ghost use Rattle.asm_image.specs.Rows.{methods_of, rows_of};
+ghost use Rattle.asm_image.specs.Rows.{methods_of};
 ghost use Rattle.asm_image.specs.Tokens.{locals_of, element_of};
-ghost use Rattle.metadata_tables.specs.TableTests.{first_table_fault};
 
 use crate::callee::Callee;
 use crate::fault::{AsmFault, AsmRefusal, Cause};

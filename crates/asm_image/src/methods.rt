@@ -2,7 +2,7 @@
 
 ghost use Rattle.std.specs.Prelude.{◌≡◌, ◌+◌, ◌<◌, ◌≤◌, length, Ok};
 ghost use Rattle.cc_base.specs.Tests.{first_of, Judges};
-ghost use Rattle.asm_image.specs.Cells.{method_count, type_count, method_name, signature, signature_blob, signature_at, owner, RunsRise};
+ghost use Rattle.asm_image.specs.Cells.{method_count, type_count, method_name, signature, owner, RunsRise};
 ghost use Rattle.asm_image.specs.Faults.{signature_fault, sig_place, signature_tests, method_tests, methods_tests};
 ghost use Rattle.asm_image.specs.Reading.{Reads};
 ghost use Rattle.asm_image.specs.Rows.{method_row, rows_of};

@@ -2,9 +2,8 @@
 
 ghost use Rattle.std.specs.Prelude.{◌≡◌, ◌≤◌, ◌++◌, OnOk, OnErr, IfOk};
 ghost use Rattle.std.specs.List.{flat_map};
-ghost use Rattle.asm_image.specs.Cells.{type_count, text};
+ghost use Rattle.asm_image.specs.Cells.{type_count};
 ghost use Rattle.asm_image.specs.Names.{BeginsWith, is_plain, escaped_byte, escaped, qualified, owner_text, place_text, next_parameter, parameters_text, types_text, printed};
-ghost use Rattle.metadata_tables.specs.Layout.{row_count};
 
 use crate::cells::{TYPE_DEF, TYPE_NAME, TYPE_NAMESPACE, text_at};
 use cc_base::put_hex;

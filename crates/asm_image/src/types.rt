@@ -2,8 +2,8 @@
 
 ghost use Rattle.std.specs.Prelude.{◌≡◌, ◌+◌, ◌<◌, ◌≤◌, ⊤, length, OnOk};
 ghost use Rattle.cc_base.specs.Tests.{first_of, Judges};
-ghost use Rattle.asm_image.specs.Cells.{type_count, method_count, method_list, owner, RunsRise};
-ghost use Rattle.asm_image.specs.Faults.{index_out, least_list, list_test, type_tests, types_tests};
+ghost use Rattle.asm_image.specs.Cells.{type_count, method_list, owner, RunsRise};
+ghost use Rattle.asm_image.specs.Faults.{least_list, list_test, type_tests, types_tests};
 ghost use Rattle.asm_image.specs.Reading.{Begins};
 
 use crate::cells::{METHOD_DEF, TYPE_DEF, TYPE_NAME, TYPE_NAMESPACE, text_of};

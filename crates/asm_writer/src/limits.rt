@@ -1,8 +1,8 @@
 //! The limits of files and methods, and the layout of a plan that keeps them.
 
-ghost use Rattle.std.specs.Prelude.{◌≡◌, ◌↔◌, ◌<◌, ◌≤◌, All, sum_by, count_by, OnSome, IfSome, IfNone, IsTrue, IsFalse, min, length};
+ghost use Rattle.std.specs.Prelude.{◌≡◌, ◌<◌, ◌≤◌, All, sum_by, count_by, IfSome, IfNone, IsTrue, IsFalse, length};
 ghost use Rattle.std.specs.List.{list_all};
-ghost use Rattle.asm_writer.specs.Sizes.{is_within, body_size, name_size, blobs_size, has_locals, layout_of, size_of, file_size, fits, kept};
+ghost use Rattle.asm_writer.specs.Sizes.{is_within, body_size, name_size, blobs_size, has_locals, layout_of, file_size, fits, kept};
 
 use crate::bodies::body_size;
 use crate::heaps::name_size;

@@ -1,9 +1,9 @@
 //! The stream `#~` (ECMA-335 II.24.2.6) and the rows of its tables (II.22).
 
 ghost use Rattle.std.specs.Prelude.{◌≡◌, ◌++◌, ◌+◌, ◌<◌, ◌^◌, sum_by, All, OnOk, IsTrue};
-ghost use Rattle.asm_writer.specs.Rows.{valid, heap_sizes, count, tables_header, method_names_at, method_rows, local_rows, member_ref_rows, assembly_rows, method_spec_rows, type_ref_rows, type_def_rows, first_rows, last_rows, method_row, local_row, rows, tables};
+ghost use Rattle.asm_writer.specs.Rows.{valid, heap_sizes, count, tables_header, method_rows, local_rows, member_ref_rows, type_ref_rows, first_rows, last_rows, method_row, local_row, rows, tables};
 ghost use Rattle.asm_writer.specs.Fields.{fields_bytes};
-ghost use Rattle.asm_writer.specs.Sizes.{is_within, widths_of, body_size, name_size, blobs_size};
+ghost use Rattle.asm_writer.specs.Sizes.{is_within, body_size, name_size, blobs_size};
 
 use crate::append::append_zeros;
 use crate::bodies::body_size;

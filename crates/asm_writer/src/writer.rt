@@ -1,6 +1,6 @@
 //! The metadata root (ECMA-335 II.24.2.1 and II.24.2.2), and the whole file.
 
-ghost use Rattle.std.specs.Prelude.{◌≡◌, ◌++◌, ◌≤◌, All, OnOk, IfOk, IsErrOf, IsTrue, IsFalse, length};
+ghost use Rattle.std.specs.Prelude.{◌≡◌, ◌++◌, All, OnOk, IfOk, IsErrOf, IsTrue, IsFalse, length};
 ghost use Rattle.asm_writer.specs.Assembly.{stream_header, stream_headers, root, metadata, file_bytes, assembly_bytes};
 ghost use Rattle.asm_writer.specs.Sizes.{is_within, layout_of, fits, file_size};
 

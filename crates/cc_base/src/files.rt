@@ -1,6 +1,6 @@
 //! The files that a program reads and replaces.
 
-ghost use Rattle.std.specs.Prelude.{◌≡◌, ℕ, List, Option, Some, None, IsSome, IsErrOf, IfOk, OnOk, ◌⊎◌};
+ghost use Rattle.std.specs.Prelude.{◌≡◌, ℕ, Option, None, IsSome, IsErrOf, IfOk, OnOk, ◌⊎◌};
 ghost use Rattle.std.specs.Option.{ForSome};
 ghost use Rattle.cc_base.specs.Counts.{Rose, Kept};
 ghost use Rattle.cc_base.specs.Files.{Held, IsRead, ToldReplaced};

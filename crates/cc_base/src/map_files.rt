@@ -1,8 +1,8 @@
 //! Files in memory, for tests: they hold what they were given, and fail where they are told to.
 
-ghost use Rattle.std.specs.Prelude.{◌≡◌, ◌↔◌, ℕ, [], Option, Some, IsTrue, Contains, OnOk, OnErr, IfOk, position, take, option_copied};
+ghost use Rattle.std.specs.Prelude.{◌≡◌, ◌↔◌, [], Option, Some, IsTrue, Contains, OnOk, OnErr, IfOk, position, take, option_copied};
 ghost use Rattle.cc_base.specs.Counts.{count_up};
-ghost use Rattle.cc_base.specs.Files.{Held, Replaces};
+ghost use Rattle.cc_base.specs.Files.{Replaces};
 ghost use Rattle.cc_base.specs.MapFiles.{held_in, is_named};
 
 use crate::NoMemory;

@@ -1,6 +1,6 @@
 //! Lists inside the types of this crate.
 
-ghost use Rattle.std.specs.Prelude.{◌≡◌, ℕ, ◌<◌, List, length, slice_get};
+ghost use Rattle.std.specs.Prelude.{◌≡◌, ◌<◌, List};
 
 use std::marker::Model;
 

@@ -1,6 +1,6 @@
 //! The stream `#~`: which tables are present, and where their rows stand (ECMA-335 II.24.2.6).
 
-ghost use Rattle.std.specs.Prelude.{◌≡◌, ◌+◌, ◌*◌, ◌^◌, ◌<◌, ◌≤◌, ⊤, length, map, Some, IfOk, codes};
+ghost use Rattle.std.specs.Prelude.{◌≡◌, ◌+◌, ◌*◌, ◌^◌, ◌<◌, ◌≤◌, ⊤, length, Some, IfOk, codes};
 ghost use Rattle.cc_base.specs.Tests.{first_of, Judges};
 ghost use Rattle.metadata_tables.specs.Root.{stream};
 ghost use Rattle.metadata_tables.specs.Layout.{valid, counts_at, present_below, row_counts};

@@ -1,10 +1,10 @@
 //! The metadata root and its streams (ECMA-335 II.24.2.1 and II.24.2.2).
 
-ghost use Rattle.std.specs.Prelude.{◌≡◌, ◌+◌, ◌^◌, ◌<◌, ◌≤◌, ◌++◌, ⊤, length, IfOk, Some, None, if◌then◌else◌, codes};
+ghost use Rattle.std.specs.Prelude.{◌≡◌, ◌+◌, ◌^◌, ◌<◌, ◌≤◌, ⊤, length, IfOk, Some, None, if◌then◌else◌, codes};
 ghost use Rattle.std.specs.Option.{option_or};
 ghost use Rattle.std.specs.Str.{bytes_eq};
 ghost use Rattle.cc_base.specs.Tests.{first_of, Judges};
-ghost use Rattle.metadata_tables.specs.Root.{stream_count, headers_at, root_tests, name_of, next_header, stream_of, header_tests, headers_tests, stream_among, stream, presence_of, streams_tests};
+ghost use Rattle.metadata_tables.specs.Root.{headers_at, root_tests, name_of, next_header, stream_of, header_tests, headers_tests, stream_among, stream, presence_of, streams_tests};
 
 use crate::fault::TableFault;
 use crate::heaps::zero_ended;

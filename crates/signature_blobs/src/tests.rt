@@ -1,5 +1,3 @@
-ghost use Rattle.std.specs.Prelude.{◌≤◌, length};
-
 use super::*;
 use cil_model::Place::{self, Bool, Bools, Int, Ints, Void};
 use std::test::*;
