@@ -1,6 +1,6 @@
 //! Whole assemblies.
 
-ghost use Rattle.std.specs.Prelude.{◌≡◌, ◌+◌, ◌≤◌, length, None};
+ghost use Rattle.std.specs.Prelude.{◌≡◌, ◌+◌, ◌≤◌, length, None, Some, Err, IfOk};
 ghost use Rattle.cc_base.specs.Tests.{first_of, Judges};
 ghost use Rattle.pe_reader.specs.Addresses.{metadata};
 ghost use Rattle.asm_image.specs.Calls.{callee_of};
@@ -8,6 +8,8 @@ ghost use Rattle.asm_image.specs.Faults.{pe_place, table_place, file_tests, tabl
 ghost use Rattle.asm_image.specs.Find.{find_of};
 ghost use Rattle.asm_image.specs.Reading.{Reads};
 ghost use Rattle.asm_image.specs.Rows.{methods_of};
+ghost use Rattle.asm_image.specs.declared.fault.AsmFault.{AsmFault};
+ghost use Rattle.asm_image.specs.declared.fault.AsmRefusal.TheVariants.{Bad};
 ghost use Rattle.asm_image.specs.Tokens.{locals_of, element_of};
 
 use crate::callee::Callee;
@@ -105,26 +107,37 @@ fn read_tables<'a>(md: &'a [u8], base: u32) -> Result<Tables<'a>, AsmFault>
     }
 }
 
+/// Reads an assembly.
+fn read_assembly<'a>(alloc: Global, bytes: &'a [u8]) -> Result<Assembly<'a>, AsmRefusal>
+    ensures { Reads result (first_assembly_fault bytes.now) (λ assembly. assembly ≡ bytes.now) }
+{
+    let image = read_image(bytes)?;
+    let base = image.metadata_at();
+    let tables = read_tables(image.metadata(), base)?;
+    test_types(&tables, base)?;
+    let methods = read_methods(alloc, &tables, base)?;
+    let names = NameTable::of(alloc, &methods)?;
+    Ok(Assembly {
+        image,
+        tables,
+        methods,
+        names,
+    })
+}
+
 impl<'a> Assembly<'a> {
     /// Reads an assembly: its headers, its metadata, and the names and signatures of its types and
     /// methods. An error is the first fault in the order of reading, or that memory ran out.
     ///
     /// Cost: each type and each method is visited once.
     pub fn read(alloc: Global, bytes: &'a [u8]) -> Result<Assembly<'a>, AsmRefusal>
-        ensures { Reads result (first_assembly_fault bytes.now) (λ assembly. assembly ≡ bytes.now) }
+        // What is read is the file, and no test of the list fails.
+        ensures value { IfOk result (λ assembly. assembly ≡ bytes.now) }
+        ensures accepted { IfOk result (λ _. first_assembly_fault bytes.now ≡ None) }
+        // A fault is that of the first test that fails.
+        ensures refused { (fault : AsmFault) → result ≡ Err (Bad fault) → first_assembly_fault bytes.now ≡ Some fault }
     {
-        let image = read_image(bytes)?;
-        let base = image.metadata_at();
-        let tables = read_tables(image.metadata(), base)?;
-        test_types(&tables, base)?;
-        let methods = read_methods(alloc, &tables, base)?;
-        let names = NameTable::of(alloc, &methods)?;
-        Ok(Assembly {
-            image,
-            tables,
-            methods,
-            names,
-        })
+        read_assembly(alloc, bytes)
     }
 
     /// The methods, in the order of the table MethodDef.

@@ -8,7 +8,7 @@ use Rattle.method_unit.specs.Faults.{◌otherwise◌, Reads}
 use Rattle.method_unit.specs.Typing.{typing_fault}
 use Rattle.method_unit.specs.Fields.{HasFields}
 use Rattle.method_unit.specs.UnitFile.{field_fault, first_unit_fault, instructions, instructions_of, limit_fault, unit_with, unit_of, arg_count, max_stack, code_at}
-use Rattle.method_unit.specs.UnitSpelling.{IsBuilt, IsRead, ReadsOnly, unit_bytes}
+use Rattle.method_unit.specs.UnitSpelling.{IsBuilt, ReadsUnit, ReadsOnly, unit_bytes}
 use Rattle.method_unit.specs.declared.unit_fault.UnitFault.{UnitFault}
 use Rattle.method_unit.specs.declared.unit_fault.UnitRefusal.{UnitRefusal}
 use Rattle.method_unit.specs.declared.unit_fault.UnitRefusal.TheVariants as refusals
@@ -33,7 +33,7 @@ unfolding first_unit_fault
 code_refused bytes fault none e = rw (none, e) refl
 
 pub instructions_unread : {X : Type 0} (view : X → List Instr) (bytes : List ℕ) (fields : Fields) (e : UnitRefusal) → HasFields bytes fields → field_fault bytes ≡ None
-    → Reads view (instructions (length fields.code.now) fields.code_at fields.code.now 0) (Err e) → IsRead bytes (Err e)
+    → Reads view (instructions (length fields.code.now) fields.code_at fields.code.now 0) (Err e) → ReadsUnit bytes (Err e)
 instructions_unread view bytes fields (refusals.Bad fault) h none read = code_refused bytes fault none (sym (code_is bytes fields h) ∙ read)
 instructions_unread view bytes fields refusals.NoMemory h none read = tt
 
@@ -88,18 +88,18 @@ unit_found bytes fields is seen typed limit unit h none read same alike size few
 
 -- ---- what was read, in the words of spellings
 
-pub read_built : (bytes : List ℕ) (r : Result MethodUnit UnitRefusal) → IsBytes bytes → IsRead bytes r → IfOk r IsBuilt
+pub read_built : (bytes : List ℕ) (r : Result MethodUnit UnitRefusal) → IsBytes bytes → ReadsUnit bytes r → IfOk r IsBuilt
 read_built bytes (Ok unit) fits (none, is) = rw is ((unit_taken bytes fits none).0)
 read_built bytes (Err e) fits h = tt
 
-pub read_spelled : (bytes : List ℕ) (r : Result MethodUnit UnitRefusal) → IsBytes bytes → IsRead bytes r → IfOk r (λ unit. unit_bytes unit ≡ bytes)
+pub read_spelled : (bytes : List ℕ) (r : Result MethodUnit UnitRefusal) → IsBytes bytes → ReadsUnit bytes r → IfOk r (λ unit. unit_bytes unit ≡ bytes)
 read_spelled bytes (Ok unit) fits (none, is) = rw is ((unit_taken bytes fits none).1)
 read_spelled bytes (Err e) fits h = tt
 
-only_this : (unit : MethodUnit) (r : Result MethodUnit UnitRefusal) → IsBuilt unit → IsRead (unit_bytes unit) r → ReadsOnly unit r
+only_this : (unit : MethodUnit) (r : Result MethodUnit UnitRefusal) → IsBuilt unit → ReadsUnit (unit_bytes unit) r → ReadsOnly unit r
 only_this unit (Ok found) built (none, is) = is ∙ (unit_again unit built).1
 only_this unit (Err (refusals.Bad fault)) built e = let none = (unit_again unit built).0 in cc
 only_this unit (Err refusals.NoMemory) built e = tt
 
-pub read_only : (bytes : List ℕ) (r : Result MethodUnit UnitRefusal) (unit : MethodUnit) → IsRead bytes r → IsBuilt unit → unit_bytes unit ≡ bytes → ReadsOnly unit r
+pub read_only : (bytes : List ℕ) (r : Result MethodUnit UnitRefusal) (unit : MethodUnit) → ReadsUnit bytes r → IsBuilt unit → unit_bytes unit ≡ bytes → ReadsOnly unit r
 read_only bytes r unit read built spelled = only_this unit r built (rw spelled read)

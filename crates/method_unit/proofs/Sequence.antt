@@ -70,8 +70,8 @@ stands_some : (code : List ℕ) (i : Instr) → StandsIn i code → 0 < i.size
 stands_some code i there = omega (arith, spelling_some i.op there.0 there.2.0, there.2.1)
 
 -- What is so read, this many instructions at most, is spelled.
-abbrev IsRead : ℕ → List ℕ → ℕ → Type 0
-IsRead base code n = (at : ℕ) (is : List Instr) → length code ≤ at + n → instructions n base code at ≡ Ok is → CodeFrom at is (drop at code) × CallsAssert is
+abbrev ReadsInstructions : ℕ → List ℕ → ℕ → Type 0
+ReadsInstructions base code n = (at : ℕ) (is : List Instr) → length code ≤ at + n → instructions n base code at ≡ Ok is → CodeFrom at is (drop at code) × CallsAssert is
 
 end_read : (code : List ℕ) (at : ℕ) (is : List Instr) → length code ≤ at → [] ≡ is → CodeFrom at is (drop at code) × CallsAssert is
 end_read code at [] past e = (drop_all at code past, tt)
@@ -80,7 +80,7 @@ end_read code at (i ∷ is) past e = absurd cc
 nothing_is : (is : List Instr) (r : Result (List Instr) UnitFault) → r ≡ Ok [] → r ≡ Ok is → [] ≡ is
 nothing_is is r e f = cc
 
-next_read : (n base : ℕ) (code : List ℕ) (at : ℕ) (is : List Instr) → IsBytes code → IsRead base code n → length code ≤ at + suc n
+next_read : (n base : ℕ) (code : List ℕ) (at : ℕ) (is : List Instr) → IsBytes code → ReadsInstructions base code n → length code ≤ at + suc n
     → then_instructions (built (base + at) (decoded code at)) (λ size. instructions n base code (at + size)) ≡ Ok is → CodeFrom at is (drop at code) × CallsAssert is
 next_read n base code at is fits later enough e =
     let s = sequence_of (built (base + at) (decoded code at)) (λ size. instructions n base code (at + size)) is e in
@@ -90,7 +90,7 @@ next_read n base code at is fits later enough e =
     let behind = later (at + s.i.size) s.others (omega arith) s.are_rest in
     rw (← s.whole) (one_more code at s.i s.others found.0 found.1 behind.0, (b.1, behind.1))
 
-step_read : (n base : ℕ) (code : List ℕ) (at : ℕ) (is : List Instr) → IsBytes code → IsRead base code n → length code ≤ at + suc n
+step_read : (n base : ℕ) (code : List ℕ) (at : ℕ) (is : List Instr) → IsBytes code → ReadsInstructions base code n → length code ≤ at + suc n
     → instructions (suc n) base code at ≡ Ok is → CodeFrom at is (drop at code) × CallsAssert is
 unfolding instructions
 step_read n base code at is fits later enough e =

@@ -56,7 +56,7 @@ ReadsOnly unit (Err (refusals.Bad fault)) = ⊥
 ReadsOnly unit (Err refusals.NoMemory) = Unit {0}
 
 -- What was returned is the unit of the file, or its first fault, unless memory ran out.
-abbrev pub IsRead : List ℕ → Result MethodUnit UnitRefusal → Type 0
-IsRead bytes (Ok unit) = (first_unit_fault bytes ≡ None) × (unit ≡ unit_of bytes)
-IsRead bytes (Err (refusals.Bad fault)) = first_unit_fault bytes ≡ Some fault
-IsRead bytes (Err refusals.NoMemory) = Unit {0}
+abbrev pub ReadsUnit : List ℕ → Result MethodUnit UnitRefusal → Type 0
+ReadsUnit bytes (Ok unit) = (first_unit_fault bytes ≡ None) × (unit ≡ unit_of bytes)
+ReadsUnit bytes (Err (refusals.Bad fault)) = first_unit_fault bytes ≡ Some fault
+ReadsUnit bytes (Err refusals.NoMemory) = Unit {0}

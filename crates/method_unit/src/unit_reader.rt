@@ -1,9 +1,11 @@
 //! Units, read from their files.
 
-ghost use Rattle.std.specs.Prelude.{◌≡◌, ◌<◌, List, IfOk, Ok, replicate};
+ghost use Rattle.std.specs.Prelude.{◌≡◌, ◌<◌, List, IfOk, Ok, Err, Some, None, replicate};
 ghost use Rattle.cc_base.specs.LittleEndian.{IsBytes};
-ghost use Rattle.method_unit.specs.UnitFile.{unit_with};
-ghost use Rattle.method_unit.specs.UnitSpelling.{IsBuilt, unit_bytes, ReadsOnly, IsRead};
+ghost use Rattle.method_unit.specs.UnitFile.{unit_with, unit_of, first_unit_fault};
+ghost use Rattle.method_unit.specs.declared.unit_fault.UnitFault.{UnitFault};
+ghost use Rattle.method_unit.specs.declared.unit_fault.UnitRefusal.TheVariants.{Bad};
+ghost use Rattle.method_unit.specs.UnitSpelling.{IsBuilt, unit_bytes, ReadsOnly, ReadsUnit};
 ghost use Rattle.cil_model.specs.declared.unit.Unit.{Unit as MethodUnit};
 
 use crate::typing::check_typing;
@@ -40,7 +42,7 @@ fn unit_at(alloc: Global, fields: &Fields<'_>, instrs: Vec<Instr>) -> Result<Uni
 
 /// The unit of a file, or the first fault of the file.
 fn read_first(alloc: Global, bytes: &[u8]) -> Result<Unit, UnitRefusal>
-    ensures { IsRead bytes.now result }
+    ensures { ReadsUnit bytes.now result }
 {
     let fields = read_fields(bytes)?;
     let instrs = read_instructions(alloc, fields.code, fields.code_at)?;
@@ -62,8 +64,10 @@ pub fn read_unit(alloc: Global, bytes: &[u8]) -> Result<Unit, UnitRefusal>
     // The spelling of a built unit is a list of bytes, and that of no other one.
     ensures bytes { (unit : MethodUnit) → IsBuilt unit → IsBytes (unit_bytes unit) }
     ensures one { (a b : MethodUnit) → IsBuilt a → IsBuilt b → unit_bytes a ≡ unit_bytes b → a ≡ b }
-    // Which unit it is, or which fault comes first.
-    ensures exact { IsRead bytes.now result }
+    // It is read where no test of the list fails; a fault is that of the first test that does.
+    ensures value { IfOk result (λ unit. unit ≡ unit_of bytes.now) }
+    ensures accepted { IfOk result (λ _. first_unit_fault bytes.now ≡ None) }
+    ensures refused { (fault : UnitFault) → result ≡ Err (Bad fault) → first_unit_fault bytes.now ≡ Some fault }
 {
     read_first(alloc, bytes)
 }

@@ -8,7 +8,7 @@ use Rattle.std.proofs.Common.{Vec, Global, List, ℕ}
 use Rattle.asm_image.specs.declared.method_row.MethodRow.{MethodRow}
 use Rattle.asm_image.proofs.FindLemmas.{table-kept}
 use Rattle.asm_image.proofs.ReadLemmas.{whole-file, whole-tables, whole-types, whole-methods, refused}
-use Rattle.asm_image.proofs.assembly.Assembly.read.Goals as goal
+use Rattle.asm_image.proofs.assembly.read_assembly.Goals as goal
 
 pub returns-in_err-image : goal.returns-in_err-image
 returns-in_err-image c =
