@@ -5,7 +5,9 @@ use Rattle.std.specs.List.{flat_map, range_with_len}
 use Rattle.std.specs.Option.{option_or}
 use Rattle.std.proofs.lemmas.Bool.{cases_lt}
 use Rattle.std.proofs.lemmas.List.Concat.{flat_map-cons}
-use Rattle.cc_base.specs.Tests.{first_of, must, Judges}
+use Rattle.cc_base.specs.Tests.{first_of, must, Judges, JudgesOrNoMemory}
+use Rattle.cc_base.specs.declared.refusal.Refusal.{Refusal}
+use Rattle.cc_base.specs.declared.refusal.Refusal.TheVariants.{Bad, NoMemory}
 
 -- ---- test by test
 
@@ -151,3 +153,13 @@ judged-ok (Err fault) first P judged = (λ h. absurd cc, λ h. absurd cc)
 pub judged-err : {X F : Type 0} (r : Result X F) (first : Option F) (P : X → Type 0) → Judges r first P → IfErr r (λ fault. first ≡ Some fault)
 judged-err (Ok x) first P judged = tt
 judged-err (Err fault) first P judged = judged
+
+-- ---- answers that tests judge, unless memory ran out
+
+-- An answer of the first part is one of the whole, where the whole has the first part's fault or, where there is none, the rest's.
+
+pub no_memory-bad : {X Y F : Type 0} (refusal : Refusal F) (here all : Option F) (P : X → Type 0) (Q : Y → Type 0)
+    → ((fault : F) → here ≡ Some fault → all ≡ Some fault)
+    → JudgesOrNoMemory {X = X} (Err refusal) here P → JudgesOrNoMemory {X = Y} (Err refusal) all Q
+no_memory-bad (Bad fault) here all P Q carried refused = carried fault refused
+no_memory-bad NoMemory here all P Q carried refused = tt
