@@ -1,6 +1,6 @@
 -- The first fault of tests: test by test, list behind list, and by number.
 use Rattle.std.proofs.Common.{◌≡◌, ℕ, zero, suc, ◌+◌, ◌-◌, ◌<◌, ◌≤◌, List, [], ◌∷◌, ◌++◌, map, Bool, true, false, Option, Some, None, refl, sym, ap, subst, ◌∙◌, arith, inl, inr}
-use Rattle.std.specs.Prelude.{Result, Ok, Err, IsOk, IfErr, ◌↔◌}
+use Rattle.std.specs.Prelude.{Result, Ok, Err, IsOk, IfErr, IsErrAnd, ◌↔◌}
 use Rattle.std.specs.List.{flat_map, range_with_len}
 use Rattle.std.specs.Option.{option_or}
 use Rattle.std.proofs.lemmas.Bool.{cases_lt}
@@ -154,12 +154,25 @@ pub judged-err : {X F : Type 0} (r : Result X F) (first : Option F) (P : X → T
 judged-err (Ok x) first P judged = tt
 judged-err (Err fault) first P judged = judged
 
--- ---- answers that tests judge, unless memory ran out
+-- ---- answers that tests judge, unless memory ran out: what `?` carries up
 
--- An answer of the first part is one of the whole, where the whole has the first part's fault or, where there is none, the rest's.
+-- The fault of a part is the first of the whole.
+pub fault-carried : {X F : Type 0} (r : Result X (Refusal F)) (fault : F) (first : Option F) (P : X → Type 0)
+    → IsErrAnd r (λ refusal. refusal ≡ Bad fault) → first ≡ Some fault → JudgesOrNoMemory r first P
+fault-carried (Ok x) fault first P is some = elim is [ ]
+fault-carried (Err refusal) fault first P is some = rw is some
 
-pub no_memory-bad : {X Y F : Type 0} (refusal : Refusal F) (here all : Option F) (P : X → Type 0) (Q : Y → Type 0)
-    → ((fault : F) → here ≡ Some fault → all ≡ Some fault)
-    → JudgesOrNoMemory {X = X} (Err refusal) here P → JudgesOrNoMemory {X = Y} (Err refusal) all Q
-no_memory-bad (Bad fault) here all P Q carried refused = carried fault refused
-no_memory-bad NoMemory here all P Q carried refused = tt
+-- The refusal of a part whose fault is the first of the whole.
+pub refusal-carried : {X Y F : Type 0} (r : Result Y (Refusal F)) (refusal : Refusal F) (part first : Option F) (P : X → Type 0) (Q : Y → Type 0)
+    → IsErrAnd r (λ same. same ≡ refusal) → JudgesOrNoMemory {X = X} (Err refusal) part P → ((fault : F) → part ≡ Some fault → first ≡ Some fault)
+    → JudgesOrNoMemory r first Q
+refusal-carried (Ok y) refusal part first P Q is judged carried = elim is [ ]
+refusal-carried (Err same) (Bad fault) part first P Q is judged carried = rw is (carried fault judged)
+refusal-carried (Err same) NoMemory part first P Q is judged carried = rw is tt
+
+-- The answer of the last part is that of the whole.
+pub last-carried : {X F : Type 0} (r : Result X (Refusal F)) (part first : Option F) (P : X → Type 0)
+    → JudgesOrNoMemory r part P → first ≡ part → JudgesOrNoMemory r first P
+last-carried r part first P judged same = rw same judged
+
+pub ruleset carried = (fault-carried, refusal-carried, last-carried)
