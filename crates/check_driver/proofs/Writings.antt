@@ -10,9 +10,13 @@ use Rattle.cc_base.proofs.CountLemmas.{Kept-refl, Kept-trans, Kept-Rose}
 use Rattle.cc_base.proofs.SinkLemmas.{appended-nil, AppendsFront-none, AppendsFront-after, AppendsFront-front}
 use Rattle.check_driver.specs.Expected.{Answer, error_answer, output_answer}
 use Rattle.check_driver.specs.Outcome.{Gives}
-use Rattle.check_driver.specs.Writing.{Change, change, Writes}
+use Rattle.check_driver.specs.Writing.{Change, Writes}
 use Rattle.check_driver.specs.declared.interrupt.Interrupt.{Interrupt}
 use Rattle.check_driver.specs.declared.interrupt.Interrupt.TheVariants as interrupts
+
+-- A change of a sink, by its parts.
+abbrev pub change : Option (List ℕ) → Option (List ℕ) → ℕ → ℕ → Change
+change old new before after = record { old = old; new = new; faults_before = before; faults_after = after }
 
 -- A call that was interrupted as another one gives the same error.
 retold : {X Y : Type 0} (e f : Interrupt) → IsErrOf {T = X} (Err e) f → IsErrOf {T = Y} (Err e) f

@@ -1,7 +1,7 @@
 use Rattle.std.proofs.Common.{take}
 use Rattle.std.specs.List.{flat_map}
 use Rattle.std.proofs.lemmas.Result.{err_from_is_err_and}
-use Rattle.check_driver.specs.Text.{method_line}
+use Rattle.check_driver.specs.ListText.{method_line}
 use Rattle.check_driver.proofs.Writings.{writes_stop, texts_front}
 use Rattle.check_driver.proofs.list_answer.put_methods.Goals as goal
 
