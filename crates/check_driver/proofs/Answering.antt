@@ -9,7 +9,7 @@ use Rattle.cc_base.specs.Tests.{first_of}
 use Rattle.cc_base.specs.Files.{READ_LIMIT}
 use Rattle.cil_model.specs.Limits.{MAX_FILE_BYTES}
 use Rattle.check_driver.specs.Expected.{Answer, USAGE, error_answer, refused_answer, missing_line, missing_or, expected, unit_file_answer, list_answer, bytes_answer, files_answer, file_at}
-use Rattle.check_driver.specs.Met.{AreOf, first_missing, contents, bytes_read}
+use Rattle.check_driver.specs.Met.{AreContents, first_missing, contents, bytes_read}
 use Rattle.check_driver.specs.Outcome.{Gives, GivesOrUnread, unread_answer}
 use Rattle.check_driver.specs.Words.{command_of, file_names, file_places, word_at, words_at}
 use Rattle.check_driver.specs.Writing.{Change}
@@ -57,7 +57,7 @@ some_is x y e = cc
 
 -- What was read of the first file has the answer of what is met.
 first_alike : (answer : List ℕ → Answer) (met : List (Option (List ℕ))) (read : List (Vec ℕ Global))
-    → ((bytes : List ℕ) → READ_LIMIT ≤ length bytes → answer bytes ≡ answer (take READ_LIMIT bytes)) → AreOf met read
+    → ((bytes : List ℕ) → READ_LIMIT ≤ length bytes → answer bytes ≡ answer (take READ_LIMIT bytes)) → AreContents met read
     → answer (file_at (contents met) 0) ≡ answer (file_at (bytes_read read) 0)
 first_alike answer [] [] past h = refl
 first_alike answer (Some whole ∷ met) (bytes ∷ read) past (inl is, h) = ap answer (some_is whole bytes.items is)
@@ -68,7 +68,7 @@ first_alike answer (None ∷ met) (bytes ∷ read) past (inr is, h) = absurd cc
 first_alike answer [] (bytes ∷ read) past h = absurd h
 first_alike answer (under ∷ met) [] past h = absurd h
 
-bytes_alike : (command : Command) (words : List (List ℕ)) (met : List (Option (List ℕ))) (read : List (Vec ℕ Global)) → AreOf met read
+bytes_alike : (command : Command) (words : List (List ℕ)) (met : List (Option (List ℕ))) (read : List (Vec ℕ Global)) → AreContents met read
     → bytes_answer command words (contents met) ≡ bytes_answer command words (bytes_read read)
 bytes_alike (commands.Unit file) words met read h = first_alike (unit_file_answer (word_at words file)) met read (λ bytes past. unit_cut (word_at words file) bytes READ_LIMIT refl past) h
 bytes_alike (commands.List file) words met read h = first_alike (list_file_answer (word_at words file)) met read (λ bytes past. list_cut (word_at words file) bytes READ_LIMIT refl past) h
@@ -76,7 +76,7 @@ bytes_alike (commands.List file) words met read h = first_alike (list_file_answe
 -- ---- answers to a command
 
 -- Files that were read have the answer for what was read.
-pub read_answer : (command : Command) (words : List (List ℕ)) (met : List (Option (List ℕ))) (read : List (Vec ℕ Global)) → AreOf met read
+pub read_answer : (command : Command) (words : List (List ℕ)) (met : List (Option (List ℕ))) (read : List (Vec ℕ Global)) → AreContents met read
     → files_answer command words met ≡ bytes_answer command words (bytes_read read)
 read_answer command words met read h =
     let none = none_missing (words_at words (file_places command)) met read h in

@@ -6,7 +6,7 @@ use Rattle.std.proofs.lemmas.List.{map-append, take_more, get_or_default}
 use Rattle.cc_base.specs.Counts.{Rose, Kept}
 use Rattle.cc_base.specs.Files.{Held, IsRead}
 use Rattle.cc_base.proofs.CountLemmas.{Kept-Rose}
-use Rattle.check_driver.specs.Met.{IsUnder, AreUnder, IsOf, AreOf, first_missing, Reads, ReadsOne}
+use Rattle.check_driver.specs.Met.{IsUnder, AreUnder, IsContent, AreContents, first_missing, Reads, ReadsOne}
 use Rattle.check_driver.specs.Words.{word_at, words_at}
 use Rattle.check_driver.specs.declared.reading.Unread.{Unread}
 use Rattle.check_driver.specs.declared.reading.Unread.TheVariants as unread
@@ -23,7 +23,7 @@ any_under (Some held) name = (held name, λ files e. ap (λ (h : Held). h name) 
 
 -- What was read is held.
 pub read_under : (told : Option Held) (name bytes : List ℕ) → ForSome told (λ h. IsRead (h name) bytes)
-    → (under : Option (List ℕ)) × IsUnder told name under × IsOf under bytes
+    → (under : Option (List ℕ)) × IsUnder told name under × IsContent under bytes
 read_under None name bytes h = (Some bytes, λ files e. absurd cc, inl refl)
 read_under (Some held) name bytes h = (held name, λ files e. ap (λ (h : Held). h name) (sym (some_is held files e)), inr (h held refl))
 
@@ -45,15 +45,15 @@ AreUnder-append told (name ∷ names) others (under ∷ met) rest h r = (h.0, Ar
 AreUnder-append told [] others (under ∷ met) rest h r = absurd h
 AreUnder-append told (name ∷ names) others [] rest h r = absurd h
 
-AreOf-push : (met : List (Option (List ℕ))) (read : List (Vec ℕ Global)) (under : Option (List ℕ)) (bytes : Vec ℕ Global)
-    → AreOf met read → IsOf under bytes.items → AreOf (met ++ under ∷ []) (read ++ bytes ∷ [])
-AreOf-push [] [] under bytes h is = (is, tt)
-AreOf-push (first ∷ met) (b ∷ read) under bytes h is = (h.0, AreOf-push met read under bytes h.1 is)
-AreOf-push [] (b ∷ read) under bytes h is = absurd h
-AreOf-push (first ∷ met) [] under bytes h is = absurd h
+AreContents-push : (met : List (Option (List ℕ))) (read : List (Vec ℕ Global)) (under : Option (List ℕ)) (bytes : Vec ℕ Global)
+    → AreContents met read → IsContent under bytes.items → AreContents (met ++ under ∷ []) (read ++ bytes ∷ [])
+AreContents-push [] [] under bytes h is = (is, tt)
+AreContents-push (first ∷ met) (b ∷ read) under bytes h is = (h.0, AreContents-push met read under bytes h.1 is)
+AreContents-push [] (b ∷ read) under bytes h is = absurd h
+AreContents-push (first ∷ met) [] under bytes h is = absurd h
 
 -- Files that were read are not missing.
-pub none_missing : (names : List (List ℕ)) (met : List (Option (List ℕ))) (read : List (Vec ℕ Global)) → AreOf met read → first_missing names met ≡ None
+pub none_missing : (names : List (List ℕ)) (met : List (Option (List ℕ))) (read : List (Vec ℕ Global)) → AreContents met read → first_missing names met ≡ None
 none_missing [] met read h = refl
 none_missing (name ∷ names) [] read h = refl
 none_missing (name ∷ names) (Some bytes ∷ met) (b ∷ read) h = none_missing names met read h.1
@@ -64,7 +64,7 @@ none_missing (name ∷ names) (None ∷ met) [] h = absurd h
 
 -- A name under which nothing is met, behind files that were read, is the first that is missing.
 missing_behind : (told : Option Held) (names : List (List ℕ)) (name : List ℕ) (others : List (List ℕ)) (met rest : List (Option (List ℕ))) (read : List (Vec ℕ Global))
-    → AreUnder told names met → AreOf met read → first_missing (names ++ name ∷ others) (met ++ None ∷ rest) ≡ Some name
+    → AreUnder told names met → AreContents met read → first_missing (names ++ name ∷ others) (met ++ None ∷ rest) ≡ Some name
 missing_behind told [] name others [] rest read h of = refl
 missing_behind told (first ∷ names) name others (Some bytes ∷ met) rest (b ∷ read) h of = missing_behind told names name others met rest read h.1 of.1
 missing_behind told (first ∷ names) name others (None ∷ met) rest (b ∷ read) h (inl is, of) = absurd cc
@@ -77,7 +77,7 @@ missing_behind told (first ∷ names) name others [] rest read h of = absurd h
 
 -- The files of these places were read, and these were met.
 abbrev pub ReadSoFar : Option Held → List (List ℕ) → List ℕ → List (Vec ℕ Global) → Type 0
-ReadSoFar told words places read = (met : List (Option (List ℕ))) × AreUnder told (words_at words places) met × AreOf met read
+ReadSoFar told words places read = (met : List (Option (List ℕ))) × AreUnder told (words_at words places) met × AreContents met read
 
 -- What is met, and what the reads tell of it.
 abbrev ReadsAll : Option Held → List (List ℕ) → List ℕ → Type 0 → Type 0 → Unread → Type 0
@@ -97,7 +97,7 @@ words_split words places k place lt is =
 -- One more file was read.
 pub read_more : (told now : Option Held) (words : List (List ℕ)) (places : List ℕ) (k place : ℕ) (read : List (Vec ℕ Global)) (under : Option (List ℕ)) (bytes : Vec ℕ Global)
     → now ≡ told → k < length places → get_or places k 0 ≡ place → ReadSoFar told words (take k places) read
-    → IsUnder now (word_at words place) under → IsOf under bytes.items → ReadSoFar told words (take (k + 1) places) (read ++ bytes ∷ [])
+    → IsUnder now (word_at words place) under → IsContent under bytes.items → ReadSoFar told words (take (k + 1) places) (read ++ bytes ∷ [])
 read_more told now words places k place read under bytes same lt is so_far held of =
     let more : take (k + 1) places ≡ take k places ++ place ∷ [] = take_more places k 0 lt ∙ ap (λ (p : ℕ). take k places ++ p ∷ []) is in
     let names : words_at words (take (k + 1) places) ≡ words_at words (take k places) ++ word_at words place ∷ [] =
@@ -105,7 +105,7 @@ read_more told now words places k place read under bytes same lt is so_far held 
     let here : IsUnder told (word_at words place) under = subst (λ (t : Option Held). IsUnder t (word_at words place) under) same held in (
       so_far.0 ++ under ∷ [],
       subst (λ (ns : List (List ℕ)). AreUnder told ns (so_far.0 ++ under ∷ [])) (sym names) (AreUnder-append told _ _ so_far.0 (under ∷ []) so_far.1 (here, tt)),
-      AreOf-push so_far.0 read under bytes so_far.2 of,
+      AreContents-push so_far.0 read under bytes so_far.2 of,
     )
 
 -- The next file is missing.

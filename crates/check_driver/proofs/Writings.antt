@@ -26,7 +26,7 @@ retold interrupts.CannotWrite interrupts.NoMemory h = absurd cc
 retold interrupts.NoMemory interrupts.CannotWrite h = absurd cc
 
 -- A text that is interrupted behind another one is a front of all that begins with both.
-pub writes_stop : {X Y : Type 0} (e : Interrupt) (old mid new : Option (List ℕ)) (f0 f1 f2 : ℕ) (before text whole : List ℕ)
+writes_stop : {X Y : Type 0} (e : Interrupt) (old mid new : Option (List ℕ)) (f0 f1 f2 : ℕ) (before text whole : List ℕ)
     → mid ≡ appended old before → Kept f0 f1 → Writes {X = X} (Err e) (change mid new f1 f2) text → IsFront (before ++ text) whole
     → Writes {X = Y} (Err e) (change old new f0 f2) whole
 writes_stop {X} {Y} e old mid new f0 f1 f2 before text whole so_far kept w inside = record {
@@ -37,7 +37,7 @@ writes_stop {X} {Y} e old mid new f0 f1 f2 before text whole so_far kept w insid
 }
 
 -- The texts of the first items and of the next are a front of the texts of all.
-pub texts_front : {X : Type 0} (text : X → List ℕ) (items : List X) (k : ℕ) (item : X) → k < length items → item ≡ get_or items k item
+texts_front : {X : Type 0} (text : X → List ℕ) (items : List X) (k : ℕ) (item : X) → k < length items → item ≡ get_or items k item
     → IsFront (flat_map text (take k items) ++ text item) (flat_map text items)
 texts_front {X} text items k item lt at =
     let split : drop k items ≡ item ∷ drop (suc k) items = drop-cons items k item lt ∙ ap (λ (x : X). x ∷ drop (suc k) items) (sym at) in
@@ -45,6 +45,13 @@ texts_front {X} text items k item lt at =
     let texts : flat_map text items ≡ flat_map text (take k items) ++ (text item ++ flat_map text (drop (suc k) items)) =
     ap (flat_map text) whole ∙ flat_map-append text (take k items) (item ∷ drop (suc k) items) in
     (flat_map text (drop (suc k) items), texts ∙ sym (append_assoc (flat_map text (take k items)) (text item) (flat_map text (drop (suc k) items))))
+
+-- The texts of items, one after another, are interrupted at the next.
+pub texts_stop : {X A : Type 0} (text : X → List ℕ) (items : List X) (k : ℕ) (item : X) (e : Interrupt) (old mid new : Option (List ℕ)) (f0 f1 f2 : ℕ)
+    → k < length items → item ≡ get_or items k item → mid ≡ appended old (flat_map text (take k items)) → Kept f0 f1
+    → Writes {X = A} (Err e) (change mid new f1 f2) (text item) → Writes {X = A} (Err e) (change old new f0 f2) (flat_map text items)
+texts_stop {X} {A} text items k item e old mid new f0 f1 f2 lt at so_far kept w =
+    writes_stop {X = A} {Y = A} e old mid new f0 f1 f2 (flat_map text (take k items)) (text item) (flat_map text items) so_far kept w (texts_front text items k item lt at)
 
 -- ---- answers
 

@@ -33,26 +33,26 @@ abbrev pub bytes_read : List (Vec ℕ Global) → List (List ℕ)
 bytes_read read = map (λ bytes. bytes.items) read
 
 -- These bytes are what is met, whole or as a read cuts it.
-abbrev pub IsOf : Option (List ℕ) → List ℕ → Type 0
-IsOf under bytes = (under ≡ Some bytes) ⊎ IsRead under bytes
+abbrev pub IsContent : Option (List ℕ) → List ℕ → Type 0
+IsContent under bytes = (under ≡ Some bytes) ⊎ IsRead under bytes
 
 -- Each of these is what is met.
-abbrev pub AreOf : List (Option (List ℕ)) → List (Vec ℕ Global) → Type 0
-AreOf [] [] = Unit {0}
-AreOf (under ∷ met) (bytes ∷ read) = IsOf under bytes.items × AreOf met read
-AreOf _ _ = ⊥
+abbrev pub AreContents : List (Option (List ℕ)) → List (Vec ℕ Global) → Type 0
+AreContents [] [] = Unit {0}
+AreContents (under ∷ met) (bytes ∷ read) = IsContent under bytes.items × AreContents met read
+AreContents _ _ = ⊥
 
 -- A read of the file that the word at this place names, which met this: `missed` says that a name was
 -- missing in this call, and `failed` that a device refused a read.
 abbrev pub ReadsOne : ℕ → Option (List ℕ) → Type 0 → Type 0 → Result (Vec ℕ Global) Unread → Type 0
-ReadsOne place under missed failed (Ok bytes) = IsOf under bytes.items
+ReadsOne place under missed failed (Ok bytes) = IsContent under bytes.items
 ReadsOne place under missed failed (Err (unread.Missing at)) = missed × (at ≡ place) × (under ≡ None)
 ReadsOne place under missed failed (Err (unread.Failed at)) = failed × (at ≡ place)
 ReadsOne place under missed failed (Err unread.NoMemory) = Unit {0}
 
 -- The reads of the files that the words at these places name, in order, which met these.
 abbrev pub Reads : List (List ℕ) → List ℕ → List (Option (List ℕ)) → Type 0 → Type 0 → Result (Vec (Vec ℕ Global) Global) Unread → Type 0
-Reads words places met missed failed (Ok read) = AreOf met read.items
+Reads words places met missed failed (Ok read) = AreContents met read.items
 Reads words places met missed failed (Err (unread.Missing place)) =
     missed × Contains places place × (first_missing (words_at words places) met ≡ Some (word_at words place))
 Reads words places met missed failed (Err (unread.Failed place)) = failed × Contains places place
