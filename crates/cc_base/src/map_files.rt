@@ -114,7 +114,8 @@ impl Files for MapFiles {
     ghost faults = { λ m. m.faults };
 
     fn read(&mut self, alloc: Global, name: &str) -> Result<Vec<u8>, ReadRefusal>
-        ensures found { IfOk result (λ bytes. ForSome (Some (held_in self.old.files.items)) (λ h. IsRead (h name.now) bytes.items)) }
+        ensures found { IfOk result (λ bytes.
+            ForSome (Some (held_in self.old.files.items)) (λ h. IsRead (h name.now) bytes.items)) }
         ensures missing_cause { IsErrOf result ReadRefusal.Missing → Rose self.old.missed self.new.missed }
         ensures failed_cause { IsErrOf result ReadRefusal.Failed → Rose self.old.faults self.new.faults }
         ensures missed_kept { Kept self.old.missed self.new.missed }
@@ -123,7 +124,8 @@ impl Files for MapFiles {
         // A name that is not held is missing, and of the others the listed reads fail and no others.
         ensures not_held { IsErrOf result ReadRefusal.Missing ↔ IsNone (held_in self.old.files.items name.now) }
         ensures listed { IsErrOf result ReadRefusal.Failed ↔
-            (IsSome (held_in self.old.files.items name.now) × Contains self.old.fail_reads.items (count_up self.old.reads)) }
+            (IsSome (held_in self.old.files.items name.now)
+            × Contains self.old.fail_reads.items (count_up self.old.reads)) }
         ensures counted { self.new ≡ record self.old {
           reads = count_up self.old.reads;
           missed = missed_after result self.old.missed;
@@ -145,12 +147,14 @@ impl Files for MapFiles {
     fn replace(&mut self, alloc: Global, name: &str, bytes: &[u8]) -> Result<(), ReplaceRefusal>
         ensures ok { OnOk result
             (Replaces (held_in self.old.files.items) (held_in self.new.files.items) name.now bytes.now) }
-        ensures no_memory { IsErrOf result ReplaceRefusal.NoMemory → held_in self.new.files.items ≡ held_in self.old.files.items }
+        ensures no_memory { IsErrOf result ReplaceRefusal.NoMemory →
+            held_in self.new.files.items ≡ held_in self.old.files.items }
         ensures failed_cause { IsErrOf result ReplaceRefusal.Failed → Rose self.old.faults self.new.faults }
         ensures faults_kept { Kept self.old.faults self.new.faults }
 
         // The listed replacements fail and no others, and they change no file.
-        ensures listed { IsErrOf result ReplaceRefusal.Failed ↔ Contains self.old.fail_replaces.items (count_up self.old.replaces) }
+        ensures listed { IsErrOf result ReplaceRefusal.Failed ↔
+            Contains self.old.fail_replaces.items (count_up self.old.replaces) }
         ensures none_changed { IsErrOf result ReplaceRefusal.Failed → self.new.files ≡ self.old.files }
         ensures counted { self.new ≡ record self.old {
           files = self.new.files;

@@ -58,7 +58,8 @@ impl Sink for VecSink {
         ensures faults_kept { Kept self.old.faults self.new.faults }
 
         // The listed puts fail and no others, and they write nothing.
-        ensures listed { IsErrOf result PutRefusal.Failed ↔ Contains self.old.fail_puts.items (count_up self.old.puts) }
+        ensures listed { IsErrOf result PutRefusal.Failed ↔
+            Contains self.old.fail_puts.items (count_up self.old.puts) }
         ensures none_written { IsErrOf result PutRefusal.Failed → self.new.bytes.items ≡ self.old.bytes.items }
         ensures counted { self.new ≡ record self.old {
           bytes = self.new.bytes;
