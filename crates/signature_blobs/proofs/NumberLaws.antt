@@ -1,5 +1,5 @@
 -- A compressed number is read where one of its spellings stands, and only there.
-use Rattle.std.proofs.Common.{◌≡◌, ℕ, ◌+◌, List, ◌++◌, length, drop, Bool, true, false, cond, Result, Ok, Err, refl, sym, ap, ap₂, subst, ◌∙◌, inl, inr, ◌⊎◌}
+use Rattle.std.proofs.Common.{◌≡◌, ℕ, ◌+◌, List, ◌++◌, length, drop, Result, Ok, Err, refl, sym, ap, ap₂, subst, ◌∙◌}
 use Rattle.std.specs.Prelude.{IfOk}
 use Rattle.std.proofs.lemmas.List.{drop_at, drop-drop}
 use Rattle.cc_base.specs.LittleEndian.{IsBytes}
@@ -11,16 +11,11 @@ use Rattle.cc_base.proofs.ByteLemmas.{IsBytes-drop}
 use Rattle.cc_base.proofs.CompressedLemmas.{compressed_spelled, compressed_only}
 use Rattle.signature_blobs.specs.declared.fault.SigFault.{SigFault}
 use Rattle.signature_blobs.specs.Numbers.{placed, compressed_at}
-use Rattle.signature_blobs.specs.Spelling.{Stands}
-
--- which way a test went
-pub chosen : {A : Type 0} (b : Bool) (x y z : A) → cond b x y ≡ z → ((b ≡ true) × (x ≡ z)) ⊎ ((b ≡ false) × (y ≡ z))
-chosen true x y z e = inl (refl, e)
-chosen false x y z e = inr (refl, e)
+use Rattle.signature_blobs.specs.Spelling.{Stands, SomeStand}
 
 -- the spelling that stands between two offsets, with its number
 abbrev Found : List ℕ → ℕ → ℕ × ℕ → Type 0
-Found blob at found = (bytes : List ℕ) × SpellsNumber found.0 bytes × Stands bytes blob at found.1
+Found blob at found = SomeStand (SpellsNumber found.0) blob at found.1
 
 placed_found : (blob : List ℕ) (at : ℕ) (read : Result Compressed CompressedFault) (number : ℕ × ℕ) → IsBytes blob → compressed (drop at blob) ≡ read
     → placed blob at read ≡ Ok number → Found blob at number
@@ -31,18 +26,14 @@ placed_found blob at (Ok found) number fits is e =
     let same : (found.number, at + found.width) ≡ number = cc in
     let after : drop (at + found.width) blob ≡ s.rest =
     sym (drop-drop found.width at blob) ∙ ap₂ (λ (n : ℕ) (xs : List ℕ). drop n xs) s.wide s.parts ∙ drop_at s.spelling s.rest (length s.spelling) refl in
-    subst (Found blob at) same (
-      s.spelling,
-      s.spells,
-      record {
+    subst (Found blob at) same (record {
+      bytes = s.spelling;
+      holds = s.spells;
+      stand = record {
         place = ap (λ (n : ℕ). at + n) s.wide;
         parts = s.parts ∙ ap (λ (rest : List ℕ). s.spelling ++ rest) (sym after);
-      },
-    )
-
-pub number_found : (blob : List ℕ) (at n after : ℕ) → IsBytes blob → compressed_at blob at ≡ Ok (n, after) → (bytes : List ℕ) × SpellsNumber n bytes × Stands bytes blob at after
-unfolding compressed_at
-number_found blob at n after fits e = placed_found blob at (compressed (drop at blob)) (n, after) fits refl e
+      };
+    })
 
 pub number_read : (blob bytes : List ℕ) (at n after : ℕ) → SpellsNumber n bytes → Stands bytes blob at after → compressed_at blob at ≡ Ok (n, after)
 unfolding compressed_at
@@ -51,7 +42,8 @@ number_read blob bytes at n after spells stands =
     ∙ ap (λ (k : ℕ). Ok (n, k)) (sym stands.place)
 
 -- what a call answered
-pub number_answer : (blob : List ℕ) (at : ℕ) (result : Result (ℕ × ℕ) SigFault) → IsBytes blob → result ≡ compressed_at blob at
-    → IfOk result (λ number. (bytes : List ℕ) × SpellsNumber number.0 bytes × Stands bytes blob at number.1)
-number_answer blob at (Ok number) fits e = number_found blob at number.0 number.1 fits (sym e)
-number_answer blob at (Err fault) fits e = tt
+pub number_found : (blob : List ℕ) (at : ℕ) (result : Result (ℕ × ℕ) SigFault) → IsBytes blob → result ≡ compressed_at blob at
+    → IfOk result (λ number. SomeStand (SpellsNumber number.0) blob at number.1)
+unfolding compressed_at
+number_found blob at (Ok number) fits e = placed_found blob at (compressed (drop at blob)) number fits refl (sym e)
+number_found blob at (Err fault) fits e = tt

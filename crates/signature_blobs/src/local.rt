@@ -1,10 +1,10 @@
 //! Signatures of local variables (II.23.2.6).
 
-ghost use Rattle.std.specs.Prelude.{◌≡◌, ◌≤◌, List, length, IfOk, IfErr};
+ghost use Rattle.std.specs.Prelude.{◌≡◌, ℕ, IfSome, ◌≤◌, List, length, IfOk, IfErr};
 ghost use Rattle.cc_base.specs.Slices.{IsShort};
 ghost use Rattle.signature_blobs.specs.Faults.{offset_of};
 ghost use Rattle.cil_model.specs.declared.place.Place.{Place};
-ghost use Rattle.signature_blobs.specs.Spelling.{Begins, SpellsLocals, IfKnownLocals};
+ghost use Rattle.signature_blobs.specs.Spelling.{StandFrom, Begins, SpellsList, SpellsLocals, IfKnownLocals};
 ghost use Rattle.signature_blobs.specs.Signatures.{locals_at, local_signature};
 
 use crate::fault::SigFault;
@@ -25,11 +25,13 @@ pub enum LocalSig {
 }
 
 /// The number of locals and their types.
-#[tactic(auto, unfolding(crate::specs::Signatures::locals_at))]
+#[tactic(auto, using(crate::proofs::SignatureLaws::stand), unfolding(crate::specs::Signatures::locals_at))]
 fn locals_at(blob: &[u8]) -> Result<Option<Places>, SigFault>
     requires { IsShort blob.now }
     ensures exact { result ≡ locals_at blob.now }
     ensures within { IfErr result (λ fault. offset_of fault ≤ length blob.now) }
+    ensures found { IfOk result (λ found. IfSome found (λ places.
+        StandFrom (SpellsList places) blob.now 1)) }
 {
     match count_at(blob, 1)? {
         Some((count, at)) => types_at(blob, at, count),
@@ -38,11 +40,12 @@ fn locals_at(blob: &[u8]) -> Result<Option<Places>, SigFault>
 }
 
 /// The first byte and the locals.
-#[tactic(auto, unfolding(crate::specs::Signatures::local_signature))]
+#[tactic(auto, using(crate::proofs::SignatureLaws::stand), unfolding(crate::specs::Signatures::local_signature))]
 fn locals_of(blob: &[u8]) -> Result<LocalSig, SigFault>
     requires { IsShort blob.now }
     ensures exact { result ≡ local_signature blob.now }
     ensures within { IfErr result (λ fault. offset_of fault ≤ length blob.now) }
+    ensures found { IfOk result (λ local. IfKnownLocals local (λ places. Begins (SpellsLocals places) blob.now)) }
 {
     match blob {
         [] => Err(SigFault::Short(0)),
