@@ -58,7 +58,7 @@ IsBytes-little_bytes n x = IsBytes-bytes_low_first 0 n x
 pub length-little_bytes : (n x : ℕ) → length (little_bytes n x) ≡ n
 length-little_bytes n x = length-bytes_low_first 0 n x
 
--- A byte of a number, by its place.
+-- A byte of a number, by its index.
 byte_at-pow : (k x : ℕ) → byte_at k x ≡ x / 256 ^ k % 256
 byte_at-pow zero x = ap (λ (y : ℕ). y % 256) (sym (div-one x))
 byte_at-pow (suc k) x = refl

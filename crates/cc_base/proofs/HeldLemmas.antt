@@ -1,4 +1,4 @@
--- What files in memory hold, by the place of the first file of a name.
+-- What files in memory hold, by the index of the first file of a name.
 use Rattle.std.proofs.Common.{◌≡◌, ◌≢◌, ℕ, zero, suc, ◌<◌, Bool, true, false, cond, ltb, List, [], ◌∷◌, ◌++◌, length, get_or, set, Option, Some, None, option_map, min, take, position, string_bytes, refl, sym, ap, ◌∙◌, inl, inr, arith, lt-ltb, length-set, get_or-set_same, get_or-set_other}
 use Rattle.std.proofs.lemmas.Bool.{cases_lt, cases_Bool}
 use Rattle.std.proofs.lemmas.List.Quantifiers.{position-Some}
@@ -82,7 +82,7 @@ held-push_other name (file ∷ files) new is =
     ap (λ (rest : Option (List ℕ)). cond (is_named name file) (Some file.bytes.items) rest)
     (held-push_other name files new is)
 
--- Where no place passes, no element does.
+-- Where no element is found that passes, none does.
 none_pass : (p : NamedFile → Bool) (files : List NamedFile) (d : NamedFile) → position p files ≡ None
     → (k : ℕ) → k < length files → p (get_or files k d) ≡ false
 none_pass p files d none k lt =

@@ -1,4 +1,4 @@
--- Little endian numbers at a place, and their bytes.
+-- Little endian numbers at an offset, and their bytes.
 use Rattle.std.proofs.Common.{◌≡◌, ℕ, ◌+◌, ◌^◌, ◌<◌, ◌≤◌, List, length, take, drop, arith, length-drop}
 use Rattle.byteorder.specs.Endian.{little_number, little_bytes}
 use Rattle.cc_base.specs.LittleEndian.{IsBytes, u16_at, u32_at}

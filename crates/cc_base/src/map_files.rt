@@ -67,8 +67,8 @@ impl MapFiles {
         ensures rest { self.new ≡ record self.old { files = self.new.files } }
     {
         let bytes = Vec::from_slice(alloc, bytes)?;
-        match place_of(&self.files, name) {
-            Some(place) => self.files[place].bytes = bytes,
+        match index_of(&self.files, name) {
+            Some(index) => self.files[index].bytes = bytes,
             None => {
                 let name = String::from_str(alloc, name)?;
                 self.files.push(NamedFile { name, bytes })?;
@@ -81,8 +81,8 @@ impl MapFiles {
     pub fn get(&self, name: &str) -> Option<&[u8]>
         ensures { option_copied result ≡ held_in self.now.files.items name.now }
     {
-        match place_of(&self.files, name) {
-            Some(place) => Some(&self.files[place].bytes),
+        match index_of(&self.files, name) {
+            Some(index) => Some(&self.files[index].bytes),
             None => None,
         }
     }
@@ -178,8 +178,8 @@ fn first_bytes(alloc: Global, bytes: &[u8]) -> Result<Vec<u8>, NoMemory>
     Vec::from_slice(alloc, &bytes[..bytes.len().min(READ_LIMIT)])
 }
 
-/// The place of the first file of the name.
-fn place_of(files: &[NamedFile], name: &str) -> Option<usize>
+/// The index of the first file of the name.
+fn index_of(files: &[NamedFile], name: &str) -> Option<usize>
     ensures { result ≡ position (is_named name.now) files.now }
 {
     files.iter().position(|file| file.name.as_str() == name)

@@ -1,4 +1,4 @@
-//! A place that bytes are written to.
+//! What bytes are written to.
 
 ghost use Rattle.std.specs.Prelude.{◌≡◌, ℕ, List, Option, OnOk, IsErrOf};
 ghost use Rattle.cc_base.specs.declared.sink.PutRefusal.TheVariants.{NoMemory};
@@ -24,7 +24,7 @@ impl From<AllocError> for PutRefusal {
     }
 }
 
-/// A place that bytes are written to, one after another.
+/// What bytes are written to, one after another.
 pub trait Sink {
     /// All that was written, where the object tells it.
     ghost written: { Self → Option (List ℕ) };

@@ -30,7 +30,7 @@ placed_found blob at (Ok found) number fits is e =
       bytes = s.spelling;
       holds = s.spells;
       stand = record {
-        place = ap (λ (n : ℕ). at + n) s.wide;
+        ends = ap (λ (n : ℕ). at + n) s.wide;
         parts = s.parts ∙ ap (λ (rest : List ℕ). s.spelling ++ rest) (sym after);
       };
     })
@@ -39,7 +39,7 @@ pub number_read : (blob bytes : List ℕ) (at n after : ℕ) → SpellsNumber n 
 unfolding compressed_at
 number_read blob bytes at n after spells stands =
     ap (placed blob at) (ap compressed stands.parts ∙ compressed_only n bytes (drop after blob) spells)
-    ∙ ap (λ (k : ℕ). Ok (n, k)) (sym stands.place)
+    ∙ ap (λ (k : ℕ). Ok (n, k)) (sym stands.ends)
 
 -- what a call answered
 pub number_found : (blob : List ℕ) (at : ℕ) (result : Result (ℕ × ℕ) SigFault) → IsBytes blob → result ≡ compressed_at blob at

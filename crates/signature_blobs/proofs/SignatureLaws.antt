@@ -100,7 +100,7 @@ unfolding parameters_at
 parameters_read blob bytes true at spells stands = rw (number_read blob bytes 1 spells.0 at spells.1 stands) refl
 parameters_read blob bytes false at spells stands =
     let none : Stands [] blob 1 at = subst (λ (t : List ℕ). Stands t blob 1 at) spells stands in
-    ap (λ (k : ℕ). Ok k) (omega (arith, none.place))
+    ap (λ (k : ℕ). Ok k) (omega (arith, none.ends))
 
 signature_read : (blob bytes : List ℕ) (generic : Bool) (signature : Signature) (after : ℕ) → SpellsTypes generic signature bytes → Stands bytes blob 1 after
     → signature_at blob generic ≡ Ok (Some signature)

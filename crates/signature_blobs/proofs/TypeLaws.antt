@@ -42,16 +42,16 @@ byte_read blob bytes at after b stands =
 pub type_read : (blob : List ℕ) (at after : ℕ) (place : Place) → place ≢ Void → Stands (type_bytes place) blob at after → type_at blob at ≡ Ok (Some (place, after))
 unfolding type_at
 type_read blob at after Void value stands = absurd (value refl)
-type_read blob at after OfBool value stands = let h = byte_read blob [] at after 0x02 stands in rw (h, stands.place) refl
-type_read blob at after Int value stands = let h = byte_read blob [] at after 0x08 stands in rw (h, stands.place) refl
+type_read blob at after OfBool value stands = let h = byte_read blob [] at after 0x02 stands in rw (h, stands.ends) refl
+type_read blob at after Int value stands = let h = byte_read blob [] at after 0x08 stands in rw (h, stands.ends) refl
 type_read blob at after Bools value stands =
     let h = byte_read blob (0x02 ∷ []) at after 0x1D stands in
     let k = byte_read blob [] (at + 1) after 0x02 (back_stands (0x1D ∷ []) (0x02 ∷ []) blob at after stands) in
-    rw (h, k, stands.place) refl
+    rw (h, k, stands.ends) refl
 type_read blob at after Ints value stands =
     let h = byte_read blob (0x08 ∷ []) at after 0x1D stands in
     let k = byte_read blob [] (at + 1) after 0x08 (back_stands (0x1D ∷ []) (0x08 ∷ []) blob at after stands) in
-    rw (h, k, stands.place) refl
+    rw (h, k, stands.ends) refl
 
 -- a type that is not void begins with another byte than VOID
 other_result : (blob bytes : List ℕ) (at after b : ℕ) → Stands (b ∷ bytes) blob at after → eqb b 0x01 ≡ false → result_at blob at ≡ type_at blob at
@@ -60,7 +60,7 @@ other_result blob bytes at after b stands other = rw (byte_read blob bytes at af
 
 pub result_read : (blob : List ℕ) (at after : ℕ) (place : Place) → Stands (type_bytes place) blob at after → result_at blob at ≡ Ok (Some (place, after))
 unfolding result_at
-result_read blob at after Void stands = let h = byte_read blob [] at after 0x01 stands in rw (h, stands.place) refl
+result_read blob at after Void stands = let h = byte_read blob [] at after 0x01 stands in rw (h, stands.ends) refl
 result_read blob at after OfBool stands = other_result blob [] at after 0x02 stands refl ∙ type_read blob at after OfBool (λ h. absurd cc) stands
 result_read blob at after Int stands = other_result blob [] at after 0x08 stands refl ∙ type_read blob at after Int (λ h. absurd cc) stands
 result_read blob at after Bools stands = other_result blob (0x02 ∷ []) at after 0x1D stands refl ∙ type_read blob at after Bools (λ h. absurd cc) stands

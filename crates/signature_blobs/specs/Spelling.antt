@@ -11,18 +11,18 @@ use Rattle.signature_blobs.specs.declared.method.SigTypes.TheVariants as types
 use Rattle.signature_blobs.specs.declared.local.LocalSig.{LocalSig}
 use Rattle.signature_blobs.specs.declared.local.LocalSig.TheVariants as locals
 
--- These bytes stand in the blob from one place up to another.
+-- These bytes stand in the blob from one offset up to another.
 pub record Stands (bytes blob : List ℕ) (at after : ℕ) : Type 0 where
-  pub place : after ≡ at + length bytes
+  pub ends : after ≡ at + length bytes
   pub parts : drop at blob ≡ bytes ++ drop after blob
 
--- Bytes of which this holds stand in the blob from one place up to another.
+-- Bytes of which this holds stand in the blob from one offset up to another.
 pub record SomeStand (P : List ℕ → Type 0) (blob : List ℕ) (at after : ℕ) : Type 0 where
   pub bytes : List ℕ
   pub holds : P bytes
   pub stand : Stands bytes blob at after
 
--- The same, up to whatever place.
+-- The same, up to whatever offset.
 pub record StandFrom (P : List ℕ → Type 0) (blob : List ℕ) (at : ℕ) : Type 0 where
   pub after : ℕ
   pub some : SomeStand P blob at after

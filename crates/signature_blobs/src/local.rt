@@ -15,7 +15,7 @@ use crate::types::types_at;
 /// The first byte of a signature of locals.
 const LOCAL_SIG: u8 = 0x07;
 
-/// The locals of a method, as far as the profile has them. It takes 130 bytes.
+/// The locals of a method, as far as the profile has them.
 #[derive(Drop)]
 pub enum LocalSig {
     /// The types of the locals, in order.

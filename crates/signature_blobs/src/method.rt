@@ -28,7 +28,7 @@ const DEFAULT: u8 = 0;
 /// The greatest number of a convention.
 const LAST_CONVENTION: u8 = 5;
 
-/// What a method takes and gives. It takes 130 bytes.
+/// What a method takes and gives.
 #[derive(Drop)]
 pub struct Signature {
     /// The type of the result.
@@ -46,7 +46,7 @@ pub enum SigTypes {
     Other,
 }
 
-/// The signature of a method. It takes 133 bytes.
+/// The signature of a method.
 #[derive(Drop)]
 pub struct MethodSig {
     /// The method has a `this`.
@@ -57,7 +57,7 @@ pub struct MethodSig {
     pub types: SigTypes,
 }
 
-/// The place after the convention byte and, of a generic method, the number of its type parameters.
+/// The offset after the convention byte and, of a generic method, the number of its type parameters.
 #[tactic(auto, using(crate::proofs::SignatureLaws::stand), unfolding(crate::specs::Signatures::parameters_at))]
 fn parameters_at(blob: &[u8], generic: bool) -> Result<u32, SigFault>
     requires { IsShort blob.now }

@@ -26,7 +26,7 @@ const I4: u8 = 0x08;
 /// ELEMENT_TYPE_SZARRAY.
 const SZARRAY: u8 = 0x1d;
 
-/// The type of a parameter or local at a place, and the place after it.
+/// The type of a parameter or local at an offset, and the offset after it.
 #[tactic(auto, using(crate::proofs::Standing::pair_stands), unfolding(crate::specs::Types::type_at))]
 pub fn type_at(blob: &[u8], at: u32) -> Result<Option<(Place, u32)>, SigFault>
     requires { IsShort blob.now }
@@ -48,7 +48,7 @@ pub fn type_at(blob: &[u8], at: u32) -> Result<Option<(Place, u32)>, SigFault>
     }
 }
 
-/// The type of a result at a place, and the place after it.
+/// The type of a result at an offset, and the offset after it.
 #[tactic(auto, unfolding(crate::specs::Types::result_at))]
 pub fn result_at(blob: &[u8], at: u32) -> Result<Option<(Place, u32)>, SigFault>
     requires { IsShort blob.now }
@@ -63,7 +63,7 @@ pub fn result_at(blob: &[u8], at: u32) -> Result<Option<(Place, u32)>, SigFault>
     }
 }
 
-/// So many types from a place on, one after another.
+/// So many types from an offset on, one after another.
 #[tactic(auto, using(crate::proofs::Loop::goes_on, crate::proofs::Loop::fails, crate::proofs::Loop::leaves, crate::proofs::Loop::is_done, crate::proofs::TypeLaws::types))]
 pub fn types_at(blob: &[u8], at: u32, count: u32) -> Result<Option<Places>, SigFault>
     requires blob { IsShort blob.now }
