@@ -104,11 +104,3 @@ no_command_answer words met e = rw (← e) refl
 -- They name no file.
 pub no_command_files : (words : List (List ℕ)) → None ≡ command_of words → file_names words ≡ []
 no_command_files words e = rw (← e) refl
-
--- The answer for a command is that for its words.
-pub words_answer : (words : List (List ℕ)) (command : Command) (met : List (Option (List ℕ))) → Some command ≡ command_of words
-    → expected words met ≡ files_answer command words met
-words_answer words command met asked = rw (← asked) refl
-
-pub words_files : (words : List (List ℕ)) (command : Command) → Some command ≡ command_of words → file_names words ≡ words_at words (file_places command)
-words_files words command asked = rw (← asked) refl
