@@ -11,7 +11,7 @@ use Rattle.cil_model.specs.Limits.{MAX_FILE_BYTES}
 use Rattle.check_driver.specs.Expected.{Answer, USAGE, error_answer, refused_answer, missing_line, missing_or, expected, unit_file_answer, list_answer, bytes_answer, files_answer, file_at}
 use Rattle.check_driver.specs.Met.{AreContents, first_missing, contents, bytes_read}
 use Rattle.check_driver.specs.Outcome.{Gives, GivesOrUnread, unread_answer}
-use Rattle.check_driver.specs.Words.{command_of, file_names, file_places, word_at, words_at}
+use Rattle.check_driver.specs.Words.{command_of, file_names, file_indexes, word_at, words_at}
 use Rattle.check_driver.specs.Writing.{Change}
 use Rattle.check_driver.specs.declared.command.Command.{Command}
 use Rattle.check_driver.specs.declared.command.Command.TheVariants as commands
@@ -79,21 +79,21 @@ bytes_alike (commands.List file) words met read h = first_alike (list_file_answe
 pub read_answer : (command : Command) (words : List (List ℕ)) (met : List (Option (List ℕ))) (read : List (Vec ℕ Global)) → AreContents met read
     → files_answer command words met ≡ bytes_answer command words (bytes_read read)
 read_answer command words met read h =
-    let none = none_missing (words_at words (file_places command)) met read h in
+    let none = none_missing (words_at words (file_indexes command)) met read h in
     ap (λ (missing : Option (List ℕ)). missing_or missing (bytes_answer command words (contents met))) none ∙ bytes_alike command words met read h
 
 -- A file that is missing has its answer.
 pub missing_answer : (command : Command) (words : List (List ℕ)) (met : List (Option (List ℕ))) (name : List ℕ)
-    → first_missing (words_at words (file_places command)) met ≡ Some name → files_answer command words met ≡ error_answer 3 (missing_line name)
+    → first_missing (words_at words (file_indexes command)) met ≡ Some name → files_answer command words met ≡ error_answer 3 (missing_line name)
 missing_answer command words met name first =
     ap (λ (missing : Option (List ℕ)). missing_or missing (bytes_answer command words (contents met))) first
 
 -- The answer of one of the files, which was not read.
-pub gives_unread : (expected : Answer) (words : List (List ℕ)) (places : List ℕ) (place : ℕ) (failed : Type 0) (r : Result ℕ Interrupt) (out err : Change)
-    → failed → Contains places place → Gives (unread_answer (word_at words place)) r out err → GivesOrUnread expected (words_at words places) failed r out err
-gives_unread expected words places place failed r out err f (k, lt, at) gives =
+pub gives_unread : (expected : Answer) (words : List (List ℕ)) (indexes : List ℕ) (index : ℕ) (failed : Type 0) (r : Result ℕ Interrupt) (out err : Change)
+    → failed → Contains indexes index → Gives (unread_answer (word_at words index)) r out err → GivesOrUnread expected (words_at words indexes) failed r out err
+gives_unread expected words indexes index failed r out err f (k, lt, at) gives =
     let there = ap (word_at words) at in
-    inr (f, (k, word_at words place, simp length-map lt, get_or-map (word_at words) places k place (word_at words place) lt ∙ there, gives))
+    inr (f, (k, word_at words index, simp length-map lt, get_or-map (word_at words) indexes k index (word_at words index) lt ∙ there, gives))
 
 -- ---- answers to words
 
@@ -104,11 +104,3 @@ no_command_answer words met e = rw (← e) refl
 -- They name no file.
 pub no_command_files : (words : List (List ℕ)) → None ≡ command_of words → file_names words ≡ []
 no_command_files words e = rw (← e) refl
-
--- The answer for a command is that for its words.
-pub words_answer : (words : List (List ℕ)) (command : Command) (met : List (Option (List ℕ))) → Some command ≡ command_of words
-    → expected words met ≡ files_answer command words met
-words_answer words command met asked = rw (← asked) refl
-
-pub words_files : (words : List (List ℕ)) (command : Command) → Some command ≡ command_of words → file_names words ≡ words_at words (file_places command)
-words_files words command asked = rw (← asked) refl

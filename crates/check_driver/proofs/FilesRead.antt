@@ -73,66 +73,66 @@ missing_behind told (first ∷ names) name others (under ∷ met) rest [] h of =
 missing_behind told [] name others (under ∷ met) rest read h of = absurd h
 missing_behind told (first ∷ names) name others [] rest read h of = absurd h
 
--- ---- the walk over the places
+-- ---- the walk over the indexes
 
--- The files of these places were read, and these were met.
+-- The files of these indexes were read, and these were met.
 abbrev pub ReadSoFar : Option Held → List (List ℕ) → List ℕ → List (Vec ℕ Global) → Type 0
-ReadSoFar told words places read = (met : List (Option (List ℕ))) × AreUnder told (words_at words places) met × AreContents met read
+ReadSoFar told words indexes read = (met : List (Option (List ℕ))) × AreUnder told (words_at words indexes) met × AreContents met read
 
 -- What is met, and what the reads tell of it.
 abbrev ReadsAll : Option Held → List (List ℕ) → List ℕ → Type 0 → Type 0 → Unread → Type 0
-ReadsAll told words places missed failed e =
-    (met : List (Option (List ℕ))) × AreUnder told (words_at words places) met × Reads words places met missed failed (Err e)
+ReadsAll told words indexes missed failed e =
+    (met : List (Option (List ℕ))) × AreUnder told (words_at words indexes) met × Reads words indexes met missed failed (Err e)
 
-next_place : (places : List ℕ) (k place : ℕ) → k < length places → get_or places k 0 ≡ place → places ≡ take k places ++ place ∷ drop (suc k) places
-next_place places k place lt is =
-    sym (take-append-drop k places)
-    ∙ ap (λ (rest : List ℕ). take k places ++ rest) (drop-cons places k 0 lt ∙ ap (λ (p : ℕ). p ∷ drop (suc k) places) is)
+next_index : (indexes : List ℕ) (k index : ℕ) → k < length indexes → get_or indexes k 0 ≡ index → indexes ≡ take k indexes ++ index ∷ drop (suc k) indexes
+next_index indexes k index lt is =
+    sym (take-append-drop k indexes)
+    ∙ ap (λ (rest : List ℕ). take k indexes ++ rest) (drop-cons indexes k 0 lt ∙ ap (λ (p : ℕ). p ∷ drop (suc k) indexes) is)
 
-words_split : (words : List (List ℕ)) (places : List ℕ) (k place : ℕ) → k < length places → get_or places k 0 ≡ place
-    → words_at words places ≡ words_at words (take k places) ++ (word_at words place ∷ words_at words (drop (suc k) places))
-words_split words places k place lt is =
-    ap (words_at words) (next_place places k place lt is) ∙ map-append (word_at words) (take k places) (place ∷ drop (suc k) places)
+words_split : (words : List (List ℕ)) (indexes : List ℕ) (k index : ℕ) → k < length indexes → get_or indexes k 0 ≡ index
+    → words_at words indexes ≡ words_at words (take k indexes) ++ (word_at words index ∷ words_at words (drop (suc k) indexes))
+words_split words indexes k index lt is =
+    ap (words_at words) (next_index indexes k index lt is) ∙ map-append (word_at words) (take k indexes) (index ∷ drop (suc k) indexes)
 
 -- One more file was read.
-pub read_more : (told now : Option Held) (words : List (List ℕ)) (places : List ℕ) (k place : ℕ) (read : List (Vec ℕ Global)) (under : Option (List ℕ)) (bytes : Vec ℕ Global)
-    → now ≡ told → k < length places → get_or places k 0 ≡ place → ReadSoFar told words (take k places) read
-    → IsUnder now (word_at words place) under → IsContent under bytes.items → ReadSoFar told words (take (k + 1) places) (read ++ bytes ∷ [])
-read_more told now words places k place read under bytes same lt is so_far held of =
-    let more : take (k + 1) places ≡ take k places ++ place ∷ [] = take_more places k 0 lt ∙ ap (λ (p : ℕ). take k places ++ p ∷ []) is in
-    let names : words_at words (take (k + 1) places) ≡ words_at words (take k places) ++ word_at words place ∷ [] =
-    ap (words_at words) more ∙ map-append (word_at words) (take k places) (place ∷ []) in
-    let here : IsUnder told (word_at words place) under = subst (λ (t : Option Held). IsUnder t (word_at words place) under) same held in (
+pub read_more : (told now : Option Held) (words : List (List ℕ)) (indexes : List ℕ) (k index : ℕ) (read : List (Vec ℕ Global)) (under : Option (List ℕ)) (bytes : Vec ℕ Global)
+    → now ≡ told → k < length indexes → get_or indexes k 0 ≡ index → ReadSoFar told words (take k indexes) read
+    → IsUnder now (word_at words index) under → IsContent under bytes.items → ReadSoFar told words (take (k + 1) indexes) (read ++ bytes ∷ [])
+read_more told now words indexes k index read under bytes same lt is so_far held of =
+    let more : take (k + 1) indexes ≡ take k indexes ++ index ∷ [] = take_more indexes k 0 lt ∙ ap (λ (p : ℕ). take k indexes ++ p ∷ []) is in
+    let names : words_at words (take (k + 1) indexes) ≡ words_at words (take k indexes) ++ word_at words index ∷ [] =
+    ap (words_at words) more ∙ map-append (word_at words) (take k indexes) (index ∷ []) in
+    let here : IsUnder told (word_at words index) under = subst (λ (t : Option Held). IsUnder t (word_at words index) under) same held in (
       so_far.0 ++ under ∷ [],
       subst (λ (ns : List (List ℕ)). AreUnder told ns (so_far.0 ++ under ∷ [])) (sym names) (AreUnder-append told _ _ so_far.0 (under ∷ []) so_far.1 (here, tt)),
       AreContents-push so_far.0 read under bytes so_far.2 of,
     )
 
 -- The next file is missing.
-read_missing : (told : Option Held) (words : List (List ℕ)) (places : List ℕ) (k place : ℕ) (read : List (Vec ℕ Global)) (missed failed : Type 0)
-    → k < length places → get_or places k 0 ≡ place → ReadSoFar told words (take k places) read → IsUnder told (word_at words place) None → missed
-    → ReadsAll told words places missed failed (unread.Missing place)
-read_missing told words places k place read missed failed lt is so_far held m =
-    let names = words_split words places k place lt is in
-    let rest = all_under told (words_at words (drop (suc k) places)) in
+read_missing : (told : Option Held) (words : List (List ℕ)) (indexes : List ℕ) (k index : ℕ) (read : List (Vec ℕ Global)) (missed failed : Type 0)
+    → k < length indexes → get_or indexes k 0 ≡ index → ReadSoFar told words (take k indexes) read → IsUnder told (word_at words index) None → missed
+    → ReadsAll told words indexes missed failed (unread.Missing index)
+read_missing told words indexes k index read missed failed lt is so_far held m =
+    let names = words_split words indexes k index lt is in
+    let rest = all_under told (words_at words (drop (suc k) indexes)) in
     let met = so_far.0 ++ None ∷ rest.0 in
-    let first = subst (λ (ns : List (List ℕ)). first_missing ns met ≡ Some (word_at words place)) (sym names) (missing_behind told _ _ _ so_far.0 rest.0 read so_far.1 so_far.2) in (
+    let first = subst (λ (ns : List (List ℕ)). first_missing ns met ≡ Some (word_at words index)) (sym names) (missing_behind told _ _ _ so_far.0 rest.0 read so_far.1 so_far.2) in (
       met,
       subst (λ (ns : List (List ℕ)). AreUnder told ns met) (sym names) (AreUnder-append told _ _ so_far.0 (None ∷ rest.0) so_far.1 (held, rest.1)),
-      (m, (k, lt, get_or_default places k place 0 lt ∙ is), first),
+      (m, (k, lt, get_or_default indexes k index 0 lt ∙ is), first),
     )
 
 -- The next file was not read.
-pub read_stop : (told now : Option Held) (words : List (List ℕ)) (places : List ℕ) (k place : ℕ) (read : List (Vec ℕ Global)) (under : Option (List ℕ)) (m0 m1 m2 f0 f1 f2 : ℕ) (e : Unread)
-    → now ≡ told → k < length places → get_or places k 0 ≡ place → ReadSoFar told words (take k places) read → Kept m0 m1 → Kept f0 f1
-    → IsUnder now (word_at words place) under → ReadsOne place under (Rose m1 m2) (Rose f1 f2) (Err e)
-    → ReadsAll told words places (Rose m0 m2) (Rose f0 f2) e
-read_stop told now words places k place read under m0 m1 m2 f0 f1 f2 (unread.Missing at) same lt is so_far km kf held (m, at_is, none) =
-    let here : IsUnder told (word_at words place) None = subst (λ (t : Option Held). IsUnder t (word_at words place) None) same (subst (IsUnder now (word_at words place)) none held) in
-    subst (λ (p : ℕ). ReadsAll told words places (Rose m0 m2) (Rose f0 f2) (unread.Missing p)) (sym at_is)
-    (read_missing told words places k place read (Rose m0 m2) (Rose f0 f2) lt is so_far here (Kept-Rose m0 m1 m2 km m))
-read_stop told now words places k place read under m0 m1 m2 f0 f1 f2 (unread.Failed at) same lt is so_far km kf held (f, at_is) =
-    let any = all_under told (words_at words places) in
-    (any.0, any.1, (Kept-Rose f0 f1 f2 kf f, (k, lt, get_or_default places k at 0 lt ∙ is ∙ sym at_is)))
-read_stop told now words places k place read under m0 m1 m2 f0 f1 f2 unread.NoMemory same lt is so_far km kf held none =
-    let any = all_under told (words_at words places) in (any.0, any.1, tt)
+pub read_stop : (told now : Option Held) (words : List (List ℕ)) (indexes : List ℕ) (k index : ℕ) (read : List (Vec ℕ Global)) (under : Option (List ℕ)) (m0 m1 m2 f0 f1 f2 : ℕ) (e : Unread)
+    → now ≡ told → k < length indexes → get_or indexes k 0 ≡ index → ReadSoFar told words (take k indexes) read → Kept m0 m1 → Kept f0 f1
+    → IsUnder now (word_at words index) under → ReadsOne index under (Rose m1 m2) (Rose f1 f2) (Err e)
+    → ReadsAll told words indexes (Rose m0 m2) (Rose f0 f2) e
+read_stop told now words indexes k index read under m0 m1 m2 f0 f1 f2 (unread.Missing at) same lt is so_far km kf held (m, at_is, none) =
+    let here : IsUnder told (word_at words index) None = subst (λ (t : Option Held). IsUnder t (word_at words index) None) same (subst (IsUnder now (word_at words index)) none held) in
+    subst (λ (p : ℕ). ReadsAll told words indexes (Rose m0 m2) (Rose f0 f2) (unread.Missing p)) (sym at_is)
+    (read_missing told words indexes k index read (Rose m0 m2) (Rose f0 f2) lt is so_far here (Kept-Rose m0 m1 m2 km m))
+read_stop told now words indexes k index read under m0 m1 m2 f0 f1 f2 (unread.Failed at) same lt is so_far km kf held (f, at_is) =
+    let any = all_under told (words_at words indexes) in
+    (any.0, any.1, (Kept-Rose f0 f1 f2 kf f, (k, lt, get_or_default indexes k at 0 lt ∙ is ∙ sym at_is)))
+read_stop told now words indexes k index read under m0 m1 m2 f0 f1 f2 unread.NoMemory same lt is so_far km kf held none =
+    let any = all_under told (words_at words indexes) in (any.0, any.1, tt)

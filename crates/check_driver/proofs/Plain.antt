@@ -6,7 +6,7 @@ use Rattle.cc_base.specs.Files.{READ_LIMIT}
 use Rattle.check_driver.specs.Expected.{Answer, expected, command_answer, missing_or, bytes_answer, list_answer, unit_answer, unit_file_answer, file_at}
 use Rattle.check_driver.specs.Met.{first_missing, contents}
 use Rattle.range_verdicts.specs.Verdicts.{verdicts, all_proved}
-use Rattle.check_driver.specs.Words.{command_of, file_places, word_at, words_at}
+use Rattle.check_driver.specs.Words.{command_of, file_indexes, word_at, words_at}
 use Rattle.check_driver.specs.declared.command.Command.{Command}
 use Rattle.check_driver.specs.declared.command.Command.TheVariants as commands
 use Rattle.method_unit.specs.UnitFile.{first_unit_fault, unit_of}
@@ -55,7 +55,7 @@ plain_missing (Some name) answer plain = plain_below 3 (omega arith)
 plain_command : (words : List (List ℕ)) (met : List (Option (List ℕ))) (command : Option Command) → IsPlain (command_answer words met command).status
 plain_command words met None = plain_below 2 (omega arith)
 plain_command words met (Some command) =
-    plain_missing (first_missing (words_at words (file_places command)) met) (bytes_answer command words (contents met)) (plain_bytes command words (contents met))
+    plain_missing (first_missing (words_at words (file_indexes command)) met) (bytes_answer command words (contents met)) (plain_bytes command words (contents met))
 
 pub plain_expected : (words : List (List ℕ)) (met : List (Option (List ℕ))) → IsPlain (expected words met).status
 plain_expected words met = plain_command words met (command_of words)

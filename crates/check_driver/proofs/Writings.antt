@@ -1,5 +1,5 @@
 -- How texts that are written follow one another, and what answers they make.
-use Rattle.std.proofs.Common.{◌≡◌, ℕ, suc, ◌<◌, List, [], ◌∷◌, ◌++◌, length, get_or, take, drop, Option, Result, Ok, Err, refl, sym, ap, subst, ◌∙◌, append_assoc, take-append-drop, inl, inr}
+use Rattle.std.proofs.Common.{◌≡◌, ℕ, suc, ◌<◌, List, [], ◌∷◌, ◌++◌, length, get_or, take, drop, Option, Result, Ok, Err, refl, sym, ap, ◌∙◌, append_assoc, take-append-drop, inl, inr}
 use Rattle.std.specs.Prelude.{IfOk, IsErrOf}
 use Rattle.std.specs.List.{flat_map}
 use Rattle.std.proofs.Math.Seq.{drop-cons}
@@ -8,7 +8,7 @@ use Rattle.cc_base.specs.Counts.{Kept}
 use Rattle.cc_base.specs.Sink.{appended, IsFront}
 use Rattle.cc_base.proofs.CountLemmas.{Kept-refl, Kept-trans, Kept-Rose}
 use Rattle.cc_base.proofs.SinkLemmas.{appended-nil, AppendsFront-none, AppendsFront-after, AppendsFront-front}
-use Rattle.check_driver.specs.Expected.{Answer, error_answer, output_answer}
+use Rattle.check_driver.specs.Expected.{error_answer, output_answer}
 use Rattle.check_driver.specs.Outcome.{Gives}
 use Rattle.check_driver.specs.Writing.{Change, Writes}
 use Rattle.check_driver.specs.declared.interrupt.Interrupt.{Interrupt}
@@ -55,19 +55,6 @@ texts_stop {X} {A} text items k item e old mid new f0 f1 f2 lt at so_far kept w 
 
 -- ---- answers
 
--- Memory ran out before anything was written.
-pub gives_no_memory : (x : Answer) (o : Option (List ℕ)) (f : ℕ) (e : Option (List ℕ)) (g : ℕ) → Gives x (Err interrupts.NoMemory) (change o o f f) (change e e g g)
-gives_no_memory x o f e g = record {
-  status = tt;
-  out_all = tt;
-  err_all = tt;
-  out_front = AppendsFront-none o o x.out refl;
-  err_front = AppendsFront-none e e x.err refl;
-  cause = λ is. absurd cc;
-  out_kept = Kept-refl f;
-  err_kept = Kept-refl g;
-}
-
 -- A line on the sink of errors is the answer.
 pub gives_error : (status : ℕ) (line : List ℕ) (r : Result ℕ Interrupt) (o : Option (List ℕ)) (f : ℕ) (err : Change)
     → IfOk r (λ given. given ≡ status) → Writes r err line → Gives (error_answer status line) r (change o o f f) err
@@ -105,8 +92,3 @@ gives_output_stop {X} status text i out e g w = record {
   out_kept = w.kept;
   err_kept = Kept-refl g;
 }
-
--- The same for a line that was made as it had to be.
-pub gives_line : (status : ℕ) (made line : List ℕ) (r : Result ℕ Interrupt) (o : Option (List ℕ)) (f : ℕ) (err : Change)
-    → made ≡ line → IfOk r (λ given. given ≡ status) → Writes r err made → Gives (error_answer status line) r (change o o f f) err
-gives_line status made line r o f err e is w = gives_error status line r o f err is (subst (λ (t : List ℕ). Writes r err t) e w)

@@ -15,7 +15,7 @@ use Rattle.check_driver.specs.FaultText.{unit_fault_text, assembly_fault_text}
 use Rattle.check_driver.specs.ListText.{list_text}
 use Rattle.check_driver.specs.Met.{first_missing, contents}
 use Rattle.check_driver.specs.ReportText.{unit_report}
-use Rattle.check_driver.specs.Words.{command_of, file_places, word_at, words_at}
+use Rattle.check_driver.specs.Words.{command_of, file_indexes, word_at, words_at}
 use Rattle.check_driver.specs.declared.command.Command.{Command}
 use Rattle.check_driver.specs.declared.command.Command.TheVariants as commands
 
@@ -86,7 +86,7 @@ abbrev pub bytes_answer : Command → List (List ℕ) → List (List ℕ) → An
 bytes_answer (commands.Unit file) words files = unit_file_answer (word_at words file) (file_at files 0)
 bytes_answer (commands.List file) words files = list_answer (word_at words file) (file_at files 0) (first_assembly_fault (file_at files 0))
 
--- The answer to a command, of whose files this one is the first that is missing, or else that one.
+-- The answer where the first file that is missing has this name, or where none is.
 abbrev pub missing_or : Option (List ℕ) → Answer → Answer
 missing_or (Some name) answer = error_answer 3 (missing_line name)
 missing_or None answer = answer
@@ -94,7 +94,7 @@ missing_or None answer = answer
 -- The answer to a command, by what is met under the names of its files.
 abbrev pub files_answer : Command → List (List ℕ) → List (Option (List ℕ)) → Answer
 files_answer command words met =
-    missing_or (first_missing (words_at words (file_places command)) met) (bytes_answer command words (contents met))
+    missing_or (first_missing (words_at words (file_indexes command)) met) (bytes_answer command words (contents met))
 
 abbrev pub command_answer : List (List ℕ) → List (Option (List ℕ)) → Option Command → Answer
 command_answer words met None = error_answer 2 USAGE

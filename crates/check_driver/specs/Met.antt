@@ -42,18 +42,18 @@ AreContents [] [] = Unit {0}
 AreContents (under ∷ met) (bytes ∷ read) = IsContent under bytes.items × AreContents met read
 AreContents _ _ = ⊥
 
--- A read of the file that the word at this place names, which met this: `missed` says that a name was
+-- A read of the file that the word at this index names, which met this: `missed` says that a name was
 -- missing in this call, and `failed` that a device refused a read.
 abbrev pub ReadsOne : ℕ → Option (List ℕ) → Type 0 → Type 0 → Result (Vec ℕ Global) Unread → Type 0
-ReadsOne place under missed failed (Ok bytes) = IsContent under bytes.items
-ReadsOne place under missed failed (Err (unread.Missing at)) = missed × (at ≡ place) × (under ≡ None)
-ReadsOne place under missed failed (Err (unread.Failed at)) = failed × (at ≡ place)
-ReadsOne place under missed failed (Err unread.NoMemory) = Unit {0}
+ReadsOne index under missed failed (Ok bytes) = IsContent under bytes.items
+ReadsOne index under missed failed (Err (unread.Missing at)) = missed × (at ≡ index) × (under ≡ None)
+ReadsOne index under missed failed (Err (unread.Failed at)) = failed × (at ≡ index)
+ReadsOne index under missed failed (Err unread.NoMemory) = Unit {0}
 
--- The reads of the files that the words at these places name, in order, which met these.
+-- The reads of the files that the words at these indexes name, in order, which met these.
 abbrev pub Reads : List (List ℕ) → List ℕ → List (Option (List ℕ)) → Type 0 → Type 0 → Result (Vec (Vec ℕ Global) Global) Unread → Type 0
-Reads words places met missed failed (Ok read) = AreContents met read.items
-Reads words places met missed failed (Err (unread.Missing place)) =
-    missed × Contains places place × (first_missing (words_at words places) met ≡ Some (word_at words place))
-Reads words places met missed failed (Err (unread.Failed place)) = failed × Contains places place
-Reads words places met missed failed (Err unread.NoMemory) = Unit {0}
+Reads words indexes met missed failed (Ok read) = AreContents met read.items
+Reads words indexes met missed failed (Err (unread.Missing index)) =
+    missed × Contains indexes index × (first_missing (words_at words indexes) met ≡ Some (word_at words index))
+Reads words indexes met missed failed (Err (unread.Failed index)) = failed × Contains indexes index
+Reads words indexes met missed failed (Err unread.NoMemory) = Unit {0}

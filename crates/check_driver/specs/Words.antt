@@ -16,11 +16,11 @@ abbrev pub is_file_word : List ℕ → Bool
 is_file_word [] = false
 is_file_word (c ∷ cs) = not (c == 45)
 
--- The command that a word tells, whose file is named by the word at a place.
+-- The command that a word tells, whose file is named by the word at an index.
 abbrev pub file_command : List ℕ → ℕ → Option Command
-file_command word place =
-    if bytes_eq word (codes "unit") then Some (commands.Unit place)
-    else if bytes_eq word (codes "list") then Some (commands.List place)
+file_command word index =
+    if bytes_eq word (codes "unit") then Some (commands.Unit index)
+    else if bytes_eq word (codes "list") then Some (commands.List index)
     else None
 
 -- The command of two words: `unit FILE` or `list FILE`.
@@ -32,22 +32,22 @@ abbrev pub command_of : List (List ℕ) → Option Command
 command_of (word ∷ file ∷ []) = command_of_two word file
 command_of _ = None
 
--- The places of the words that name the command's files, in the order in which the files are read.
-abbrev pub file_places : Command → List ℕ
-file_places (commands.Unit file) = file ∷ []
-file_places (commands.List file) = file ∷ []
+-- The indexes of the words that name the command's files, in the order in which the files are read.
+abbrev pub file_indexes : Command → List ℕ
+file_indexes (commands.Unit file) = file ∷ []
+file_indexes (commands.List file) = file ∷ []
 
--- The word at a place.
+-- The word at an index.
 abbrev pub word_at : List (List ℕ) → ℕ → List ℕ
-word_at words place = slice_index_or words place []
+word_at words index = slice_index_or words index []
 
--- The words at these places.
+-- The words at these indexes.
 abbrev pub words_at : List (List ℕ) → List ℕ → List (List ℕ)
-words_at words places = map (word_at words) places
+words_at words indexes = map (word_at words) indexes
 
 abbrev pub command_files : List (List ℕ) → Option Command → List (List ℕ)
 command_files words None = []
-command_files words (Some command) = words_at words (file_places command)
+command_files words (Some command) = words_at words (file_indexes command)
 
 -- The names of the files of these words, in order. Words that are no command have none.
 abbrev pub file_names : List (List ℕ) → List (List ℕ)

@@ -1,11 +1,11 @@
 //! The words that the program is given.
 
 ghost use Rattle.std.specs.Prelude.{◌≡◌, ◌<◌, All, IfSome, length};
-ghost use Rattle.check_driver.specs.Words.{command_of, command_of_two, file_places, is_file_word, word_at, words_bytes};
+ghost use Rattle.check_driver.specs.Words.{command_of, command_of_two, file_indexes, is_file_word, word_at, words_bytes};
 
 use std::slice;
 
-/// What the program is asked for. Files are places of words, counted from 0.
+/// What the program is asked for. A file is told by the index of the word that names it, counted from 0.
 #[derive(Clone, Copy, Debug, PartialEq, Eq)]
 pub enum Command {
     /// The report of the unit in a file.
@@ -15,9 +15,9 @@ pub enum Command {
 }
 
 impl Command {
-    /// The places of the words that name its files, in the order in which the files are read.
+    /// The indexes of the words that name its files, in the order in which the files are read.
     pub fn files(&self) -> &[u32]
-        ensures { result.now ≡ file_places self.now }
+        ensures { result.now ≡ file_indexes self.now }
     {
         match self {
             Command::Unit(file) | Command::List(file) => slice::from_ref(file),
@@ -37,7 +37,7 @@ fn is_file_word(word: &str) -> bool
 
 /// The command of two words.
 fn command_of_two(word: &str, file: &str) -> Option<Command>
-    ensures inside { IfSome result (λ command. All (λ place. place < 2) (file_places command)) }
+    ensures inside { IfSome result (λ command. All (λ index. index < 2) (file_indexes command)) }
     ensures command { result ≡ command_of_two word.now file.now }
 {
     if !is_file_word(file) {
@@ -52,7 +52,7 @@ fn command_of_two(word: &str, file: &str) -> Option<Command>
 
 /// The command that the words are, if they are one.
 pub fn parse_words(words: &[String]) -> Option<Command>
-    ensures inside { IfSome result (λ command. All (λ place. place < length words.now) (file_places command)) }
+    ensures inside { IfSome result (λ command. All (λ index. index < length words.now) (file_indexes command)) }
     ensures command { result ≡ command_of (words_bytes words.now) }
 {
     match words {
@@ -61,10 +61,10 @@ pub fn parse_words(words: &[String]) -> Option<Command>
     }
 }
 
-/// The word at a place.
-pub fn word_at(words: &[String], place: u32) -> &str
-    requires { place < length words.now }
-    ensures { result.now ≡ word_at (words_bytes words.now) place }
+/// The word at an index.
+pub fn word_at(words: &[String], index: u32) -> &str
+    requires { index < length words.now }
+    ensures { result.now ≡ word_at (words_bytes words.now) index }
 {
-    words[place as usize].as_str()
+    words[index as usize].as_str()
 }

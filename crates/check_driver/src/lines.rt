@@ -58,11 +58,17 @@ fn append_count(
 /// How many methods and obligations a report has, and how they were found.
 #[derive(Clone, Copy)]
 pub struct Counts {
+    /// All methods.
     pub methods: u32,
+    /// Methods of which every obligation is proved.
     pub proved: u32,
+    /// Methods of which an obligation is not proved.
     pub unproved: u32,
+    /// Methods that were not analysed.
     pub skipped: u32,
+    /// The obligations of all methods that were analysed.
     pub obligations: u32,
+    /// Those of them that are proved.
     pub proved_obligations: u32,
 }
 

@@ -12,7 +12,7 @@ ghost use Rattle.check_driver.specs.Expected.{bytes_answer, expected, files_answ
 ghost use Rattle.check_driver.specs.Met.{AreUnder, bytes_read};
 ghost use Rattle.check_driver.specs.Outcome.{Gives, GivesOrUnread, Leaves, last_line, status_of};
 ghost use Rattle.check_driver.specs.SingleUnit.{AsksFor, PrintsProved};
-ghost use Rattle.check_driver.specs.Words.{command_of, file_names, file_places, words_at, words_bytes};
+ghost use Rattle.check_driver.specs.Words.{command_of, file_indexes, file_names, words_at, words_bytes};
 ghost use Rattle.check_driver.specs.Writing.{change_of};
 
 use crate::command::{Command, parse_words, word_at};
@@ -34,8 +34,8 @@ fn answer_bytes<O: Sink, E: Sink>(
     out: &mut O,
     err: &mut E,
 ) -> Result<u8, Interrupt>
-    requires words { All (λ place. place < length words.now) (file_places command) }
-    requires read { length read.now ≡ length (file_places command) }
+    requires words { All (λ index. index < length words.now) (file_indexes command) }
+    requires read { length read.now ≡ length (file_indexes command) }
     ensures { Gives (bytes_answer command (words_bytes words.now) (bytes_read read.now)) result
         (change_of O.written O.faults out.old out.new) (change_of E.written E.faults err.old err.new) }
 {
@@ -58,9 +58,9 @@ fn answer_command<F: Files, O: Sink, E: Sink>(
     out: &mut O,
     err: &mut E,
 ) -> Result<u8, Interrupt>
-    requires { All (λ place. place < length words.now) (file_places command) }
+    requires { All (λ index. index < length words.now) (file_indexes command) }
     ensures answer { let given = words_bytes words.now in
-        let names = words_at given (file_places command) in
+        let names = words_at given (file_indexes command) in
         (met : List (Option (List ℕ))) × AreUnder (F.held files.old) names met
         × GivesOrUnread (files_answer command given met) names (Rose (F.faults files.old) (F.faults files.new)) result
         (change_of O.written O.faults out.old out.new) (change_of E.written E.faults err.old err.new) }

@@ -14,7 +14,9 @@ use std::alloc::{AllocError, Global};
 /// Whether the obligation of the instruction at an IL offset is proved.
 #[derive(Clone, Copy)]
 pub struct Verdict {
+    /// The IL offset.
     pub at: u32,
+    /// Whether the obligation is proved.
     pub proved: bool,
 }
 

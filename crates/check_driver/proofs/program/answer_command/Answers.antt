@@ -1,6 +1,6 @@
 use Rattle.std.proofs.Common.{inl}
 use Rattle.check_driver.specs.Expected.{files_answer, missing_line, unread_line}
-use Rattle.check_driver.specs.Words.{file_places, word_at, words_bytes}
+use Rattle.check_driver.specs.Words.{file_indexes, word_at, words_bytes}
 use Rattle.check_driver.proofs.Answering.{read_answer, missing_answer, gives_unread}
 use Rattle.check_driver.proofs.Writings.{gives_error}
 use Rattle.check_driver.proofs.program.answer_command.Goals as goal
@@ -31,6 +31,6 @@ returns-in-Err-Failed-clause-answer g c =
     let written = rw (c.as_bytes-in-Err-Failed.ensures.value, c.word_at-in-Err-Failed.ensures, c.in-Err-Failed.file-is) at c.answer_unread.ensures.written in (
       met.0,
       met.1,
-      gives_unread (files_answer c.args.command words met.0) words (file_places c.args.command) c.in-Err-Failed.file _ c.answer_unread.result _ _ met.2.0 met.2.1
+      gives_unread (files_answer c.args.command words met.0) words (file_indexes c.args.command) c.in-Err-Failed.file _ c.answer_unread.result _ _ met.2.0 met.2.1
           (gives_error 4 (unread_line name) c.answer_unread.result (g.O.Sink.written c.args.out.now) (g.O.Sink.faults c.args.out.now) _ c.answer_unread.ensures.status written),
     )
