@@ -1,8 +1,9 @@
-pub mod CellLemmas
-pub mod FieldLemmas
-pub mod HeaderLemmas
-pub mod HeapLemmas
-pub mod LayoutLemmas
-pub mod RootLemmas
-pub mod SchemaLemmas
-pub mod StreamLemmas
+mod CellLemmas
+mod FieldLemmas
+mod HeaderLemmas
+mod HeapLemmas
+mod LayoutLemmas
+mod RootLemmas
+mod SchemaLemmas
+mod StreamLemmas
+mod TextLemmas

@@ -1,9 +1,9 @@
 -- The items of the heaps (ECMA-335 II.24.2.3 and II.24.2.4).
-use Rattle.std.specs.Prelude.{◌≡◌, ℕ, ◌+◌, ◌^◌, ◌%◌, List, length, take, drop, slice_index, Option, Some, None, option_map, option_and_then, nat_le, nat_lt, if◌then◌else◌, codes}
+use Rattle.std.specs.Prelude.{◌≡◌, ℕ, ◌+◌, ◌^◌, ◌%◌, List, length, take, drop, slice_index, Option, Some, None, is_some, Bool, option_map, option_and_then, nat_le, nat_lt, if◌then◌else◌, codes}
 use Rattle.byteorder.specs.Endian.{big_number}
 use Rattle.metadata_tables.specs.declared.heaps.Prefix.{Prefix}
 use Rattle.metadata_tables.specs.Layout.{start_of}
-use Rattle.metadata_tables.specs.Root.{stream, heap, zero_ended}
+use Rattle.metadata_tables.specs.Root.{stream, heap, zero_ended, is_text}
 
 -- A length that is written in the first bytes, this many, and has this many bits.
 abbrev pub prefix : List ℕ → ℕ → ℕ → Option Prefix
@@ -31,6 +31,14 @@ item_of bytes = option_map (λ front. take front.len (drop front.width bytes)) (
 -- The text at a place of `#Strings`.
 unfoldable pub string_at : List ℕ → ℕ → Option (List ℕ)
 string_at md index = zero_ended (drop index (heap md (codes "#Strings")))
+
+-- Whether the text at a place of `#Strings` is this one.
+unfoldable pub string_is : List ℕ → ℕ → List ℕ → Bool
+string_is md index text = is_text (drop index (heap md (codes "#Strings"))) text
+
+-- A text stands at each place before this one, and at none from it on.
+abbrev pub EndsTexts : List ℕ → ℕ → Type 0
+EndsTexts bytes end = (index : ℕ) → nat_lt index end ≡ is_some (zero_ended (drop index bytes))
 
 -- The item at a place of `#Blob`.
 unfoldable pub blob_at : List ℕ → ℕ → Option (List ℕ)

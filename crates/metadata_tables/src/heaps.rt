@@ -1,8 +1,8 @@
 //! The items of the heaps (ECMA-335 II.24.2.3 and II.24.2.4).
 
 ghost use Rattle.std.specs.Prelude.{◌≡◌, ◌==◌, ◌+◌, ◌<◌, ◌≤◌, length, position, option_map, IfSome};
-ghost use Rattle.metadata_tables.specs.Root.{zero_ended};
-ghost use Rattle.metadata_tables.specs.Heaps.{prefix_of, whole_prefix, item_of};
+ghost use Rattle.metadata_tables.specs.Root.{zero_ended, is_text};
+ghost use Rattle.metadata_tables.specs.Heaps.{prefix_of, whole_prefix, item_of, EndsTexts};
 
 use byteorder::{BigEndian, ByteOrder};
 
@@ -23,6 +23,30 @@ pub(crate) fn zero_ended(bytes: &[u8]) -> Option<&[u8]>
         Some(len) => Some(&bytes[..len]),
         None => None,
     }
+}
+
+/// Whether the bytes before the first zero are this text. Of the bytes at most one more is read than
+/// the text has.
+
+pub(crate) fn is_text(bytes: &[u8], text: &[u8]) -> bool
+    ensures { result ≡ is_text bytes.now text.now }
+{
+    let front = bytes.len().min(text.len() + 1);
+    match zero_ended(&bytes[..front]) {
+        Some(found) => found == text,
+        None => false,
+    }
+}
+
+/// The place behind the last zero, 0 where there is none.
+pub(crate) fn behind_last_zero(bytes: &[u8]) -> usize
+    ensures { EndsTexts bytes.now result }
+{
+    let mut end = bytes.len();
+    while end > 0 && bytes[end - 1] != 0 {
+        end -= 1;
+    }
+    end
 }
 
 /// A length of an item: its number, and how many bytes it is written in.

@@ -10,8 +10,8 @@ ghost use Rattle.metadata_tables.specs.Placed.{IsPlaced, IsLayoutOf};
 use crate::fault::TableFault;
 use crate::fields::{after_fields, after_run};
 use crate::root::Stream;
-use crate::schema::{TABLES, columns};
-use crate::width::{columns_width, has_bit};
+use crate::schema::{MOST_COLUMNS, TABLES, columns};
+use crate::width::{OFFSETS, column_offsets, has_bit};
 use cc_base::{u32_at, u64_at};
 
 /// Where the rows of all tables stand.
@@ -21,10 +21,8 @@ pub(crate) struct Layout {
     pub(crate) counts: [u32; TABLES],
     /// Where the first row of each table stands.
     pub(crate) bases: [u32; TABLES],
-    /// The bytes of a row of each table.
-    pub(crate) widths: [u32; TABLES],
-    /// The field HeapSizes.
-    pub(crate) heap_sizes: u8,
+    /// Where in a row of each table each column begins, and behind the last one where the row ends.
+    pub(crate) offsets: [[u8; OFFSETS]; TABLES],
 }
 
 /// How many tables the bits of Valid, which stands at a place, name.
@@ -36,7 +34,7 @@ fn present_tables(bits: u64, at: u32) -> Result<u32, TableFault>
     for bit in 0..64u8 {
         if has_bit(bits, bit) {
             if columns(bit).is_empty() {
-                return Err(TableFault::BadTables { bit, at });
+                return Err(TableFault::BadTables(bit, at));
             }
             present += 1;
         }
@@ -76,19 +74,18 @@ fn place_rows(
     ensures placed { IfOk result (IsPlaced counts heap_sizes start) }
 {
     let mut bases = [0; TABLES];
-    let mut widths = [0; TABLES];
+    let mut offsets = [[0; OFFSETS]; TABLES];
     let mut at = start;
     for table in 0..TABLES {
-        let width = columns_width(&counts, heap_sizes, columns(table as u8));
+        let row = column_offsets(&counts, heap_sizes, columns(table as u8));
         bases[table] = at as u32;
-        widths[table] = width;
-        at = after_run(at, counts[table], width, end)?;
+        offsets[table] = row;
+        at = after_run(at, counts[table], u32::from(row[MOST_COLUMNS]), end)?;
     }
     Ok(Layout {
         counts,
         bases,
-        widths,
-        heap_sizes,
+        offsets,
     })
 }
 
