@@ -1,3 +1,5 @@
+pub mod Limits
+pub mod Places
 pub mod Spells
 pub mod Machine
 pub mod Effects
