@@ -1,13 +1,11 @@
 -- Where cells stand, and that they lie in the metadata.
-use Rattle.std.proofs.Common.{◌≡◌, ◌≢◌, ℕ, zero, suc, ◌+◌, ◌-◌, ◌*◌, ◌≤◌, ◌<◌, List, [], ◌∷◌, length, ◌++◌, get_or, take, replicate, Option, Some, None, Bool, true, false, cond, eqb, refl, sym, ap, ◌∙◌, arith, inl, inr}
+use Rattle.std.proofs.Common.{◌≡◌, ℕ, zero, suc, ◌+◌, ◌-◌, ◌*◌, ◌≤◌, ◌<◌, List, [], ◌∷◌, length, ◌++◌, get_or, take, replicate, Option, Some, None, Bool, true, false, cond, refl, sym, ap, ◌∙◌, arith, inl, inr}
 use Rattle.std.specs.Prelude.{slice_index_or, codes}
 use Rattle.std.proofs.lemmas.Bool.{cases_lt}
-use Rattle.std.proofs.lemmas.Bool.Decides.{nat_tests}
 use Rattle.std.proofs.Math.Nat.{mul-le-mul_left}
 use Rattle.std.proofs.lemmas.List.{get_or_past, take_all}
 use Rattle.std.proofs.lemmas.List.Sums.{sum_by_more, sum_by_more_le}
 use Rattle.std.proofs.lemmas.List.FromFn.{get_or-map-range_with_len, length-map-range_with_len}
-use Rattle.cc_base.specs.LittleEndian.{u16_at, u32_at}
 use Rattle.cc_base.specs.Tests.{first_of}
 use Rattle.cc_base.proofs.TestLemmas.{none_behind, each-passed}
 use Rattle.metadata_tables.specs.declared.fault.TableFault.{TableFault}
@@ -19,7 +17,7 @@ use Rattle.metadata_tables.specs.declared.schema.Column.TheVariants.{Two, Four, 
 use Rattle.metadata_tables.specs.Tests.{fields}
 use Rattle.metadata_tables.specs.Root.{stream}
 use Rattle.metadata_tables.specs.Schema.{columns_of, width, total_width}
-use Rattle.metadata_tables.specs.Layout.{end_of, tables_at, tables_end, heap_sizes, valid, counts_at, present_below, stored_count, row_counts, row_count, rows_at, row_width, bytes_below, column_offsets, offsets, bases, base, column_offset, column_width, cell_at, cell}
+use Rattle.metadata_tables.specs.Layout.{end_of, tables_at, tables_end, heap_sizes, valid, counts_at, present_below, stored_count, row_counts, row_count, rows_at, row_width, bytes_below, column_offsets, offsets, bases, base, column_offset, column_width, cell_at}
 use Rattle.metadata_tables.specs.Placed.{IsLayoutOf}
 use Rattle.metadata_tables.specs.TableTests.{rows_tests, all_rows_tests, tables_tests, first_table_fault, bits_tests}
 use Rattle.metadata_tables.proofs.SchemaLemmas.{columns_few, table_known}

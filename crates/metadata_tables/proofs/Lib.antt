@@ -1,9 +1,10 @@
-mod CellLemmas
-mod FieldLemmas
-mod HeaderLemmas
-mod HeapLemmas
-mod LayoutLemmas
-mod RootLemmas
-mod SchemaLemmas
-mod StreamLemmas
-mod TextLemmas
+pub mod CellLemmas
+pub mod ColumnLemmas
+pub mod FieldLemmas
+pub mod HeaderLemmas
+pub mod HeapLemmas
+pub mod LayoutLemmas
+pub mod RootLemmas
+pub mod SchemaLemmas
+pub mod StreamLemmas
+pub mod TextLemmas

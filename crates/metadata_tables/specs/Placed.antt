@@ -1,5 +1,6 @@
 -- What is kept of metadata that was read.
-use Rattle.std.specs.Prelude.{◌≡◌, ◌≤◌, ℕ, List, length, None, codes}
+use Rattle.std.specs.Prelude.{◌≡◌, ℕ, List, None, codes}
+use Rattle.cc_base.specs.Slices.{IsShort}
 use Rattle.metadata_tables.specs.declared.layout.Layout.{Layout}
 use Rattle.metadata_tables.specs.Heaps.{EndsTexts}
 use Rattle.metadata_tables.specs.Layout.{start_of, row_counts, heap_sizes, rows_at, offsets, bases}
@@ -18,7 +19,7 @@ IsLayoutOf md layout = IsPlaced (row_counts md) (heap_sizes md) (rows_at md) lay
 
 -- These are the parts of metadata without a fault.
 pub record ArePartsOf (md strings : List ℕ) (strings_end : ℕ) (blob : List ℕ) (blob_at : ℕ) (user_strings : List ℕ) (layout : Layout) : Type 0 where
-  pub short : length md ≤ 2147483647
+  pub short : IsShort md
   pub sound : first_table_fault md ≡ None
   pub strings_kept : strings ≡ heap md (codes "#Strings")
   pub texts_end : EndsTexts strings strings_end

@@ -1,10 +1,11 @@
 //! The stream `#~`: which tables are present, and where their rows stand (ECMA-335 II.24.2.6).
 
-ghost use Rattle.std.specs.Prelude.{◌≡◌, ◌+◌, ◌*◌, ◌^◌, ◌<◌, ◌≤◌, ⊤, length, Some, IfOk, codes};
+ghost use Rattle.std.specs.Prelude.{◌≡◌, ◌+◌, ◌*◌, ◌^◌, ◌<◌, ◌≤◌, ⊤, length, Some, IfOk, IfErr, codes};
 ghost use Rattle.cc_base.specs.Tests.{first_of, Judges};
 ghost use Rattle.metadata_tables.specs.Root.{stream};
 ghost use Rattle.metadata_tables.specs.Layout.{valid, counts_at, present_below, row_counts};
 ghost use Rattle.metadata_tables.specs.TableTests.{bits_tests, all_rows_tests, tables_tests};
+ghost use Rattle.metadata_tables.specs.Tests.{offset_of};
 ghost use Rattle.metadata_tables.specs.Placed.{IsPlaced, IsLayoutOf};
 
 use crate::fault::TableFault;
@@ -29,6 +30,7 @@ pub(crate) struct Layout {
 fn present_tables(bits: u64, at: u32) -> Result<u32, TableFault>
     ensures judged { Judges result (first_of (bits_tests bits at)) (λ _. ⊤) }
     ensures present { IfOk result (λ present. present ≡ present_below bits 64) }
+    ensures fault_within { IfErr result (λ fault. offset_of fault ≡ at) }
 {
     let mut present = 0;
     for bit in 0..64u8 {
@@ -72,6 +74,7 @@ fn place_rows(
     requires end { end < 2 ^ 31 }
     ensures judged { Judges result (first_of (all_rows_tests end counts heap_sizes start)) (λ _. ⊤) }
     ensures placed { IfOk result (IsPlaced counts heap_sizes start) }
+    ensures fault_within { IfErr result (λ fault. offset_of fault ≤ end) }
 {
     let mut bases = [0; TABLES];
     let mut offsets = [[0; OFFSETS]; TABLES];
@@ -96,6 +99,7 @@ pub(crate) fn read_layout(md: &[u8], tables: Stream) -> Result<Layout, TableFaul
     requires within { tables.at + tables.size ≤ length md.now }
     ensures judged { Judges result (first_of (tables_tests md.now)) (λ _. ⊤) }
     ensures placed { IfOk result (IsLayoutOf md.now) }
+    ensures fault_within { IfErr result (λ fault. offset_of fault ≤ length md.now) }
 {
     let start = tables.at as usize;
     let end = start + tables.size as usize;

@@ -1,6 +1,7 @@
 //! Metadata as read: rows, cells and the items of heaps.
 
 ghost use Rattle.std.specs.Prelude.{◌≡◌, ℕ, ◌+◌, ◌^◌, ◌<◌, ◌≤◌, ◌↔◌, List, length, slice_index_or, None, Some, IsOk, IfOk, IfErr, IfSome, is_some, option_map, drop};
+ghost use Rattle.cc_base.specs.Slices.{IsShort};
 ghost use Rattle.metadata_tables.specs.Heaps.{string_at, string_is, blob_at, blob_offset, user_string_at, StandsAt};
 ghost use Rattle.metadata_tables.specs.Layout.{row_count, column_offset, column_width, cell_at, cell};
 ghost use Rattle.metadata_tables.specs.Root.{bytes_of};
@@ -9,7 +10,7 @@ ghost use Rattle.metadata_tables.specs.TableTests.{first_table_fault};
 ghost use Rattle.metadata_tables.specs.Tests.{offset_of};
 
 use crate::fault::TableFault;
-use crate::heaps::{behind_last_zero, is_text, item_of, whole_prefix, zero_ended};
+use crate::heaps::{behind_last_zero, is_text, item_of, whole_length, zero_ended};
 use crate::layout::{Layout, read_layout};
 use crate::root::{Stream, read_streams};
 use crate::schema::{Column, MOST_COLUMNS};
@@ -68,7 +69,7 @@ impl<'a> Tables<'a> {
     /// Reads metadata: its root and streams, and where the rows of its tables stand. An error is the
     /// first fault in the order of reading.
     pub fn read(md: &'a [u8]) -> Result<Tables<'a>, TableFault>
-        requires { length md.now ≤ 2147483647 }
+        requires { IsShort md.now }
         ensures value { IfOk result (λ tables. tables ≡ md.now) }
         ensures accepted { IsOk result ↔ (first_table_fault md.now ≡ None) }
         ensures refused { IfErr result (λ fault. first_table_fault md.now ≡ Some fault) }
@@ -192,8 +193,8 @@ impl<'a> Tables<'a> {
             (λ at. IfSome (blob_at self.now index) (λ item. StandsAt self.now at item)) }
         ensures within { IfSome result (λ at. at ≤ length self.now) }
     {
-        let front = whole_prefix(rest_from(self.blob, index))?;
-        Some(self.blob_at + index + front.width as u32)
+        let front = whole_length(rest_from(self.blob, index))?;
+        Some(self.blob_at + index + front.width)
     }
 
     /// The item at a place of the heap `#US`, none where it is not there as a whole.

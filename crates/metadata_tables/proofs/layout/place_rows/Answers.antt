@@ -51,6 +51,6 @@ returns-clause-placed c =
     let last = c.loop-table.invariant in
     record {
       counts_kept = refl;
-          offsets_kept = offsets-filled c.args.counts c.args.heap_sizes c.loop-table.offsets last.long_offsets (λ k h. last.filled_offsets k (omega arith));
+      offsets_kept = offsets-filled c.args.counts c.args.heap_sizes c.loop-table.offsets last.long_offsets (λ k h. last.filled_offsets k (omega arith));
       bases_kept = bases-filled c.args.counts c.args.heap_sizes c.args.start c.loop-table.bases last.long_bases (λ k h. last.filled_bases k (omega arith));
     }

@@ -1,4 +1,4 @@
-use Rattle.std.proofs.Common.{◌≡◌, ◌≤◌, arith, take}
+use Rattle.std.proofs.Common.{arith, take}
 use Rattle.std.proofs.lemmas.List.FromFn.{fill_by_all}
 use Rattle.metadata_tables.specs.Layout.{column_offsets}
 use Rattle.metadata_tables.specs.Schema.{total_width}

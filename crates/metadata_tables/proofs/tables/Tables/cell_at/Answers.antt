@@ -1,4 +1,4 @@
-use Rattle.std.proofs.Common.{◌≡◌, ◌≤◌, length, refl, ap, arith}
+use Rattle.std.proofs.Common.{length, refl, ap, arith}
 use Rattle.metadata_tables.specs.Layout.{column_offset}
 use Rattle.metadata_tables.proofs.CellLemmas.{cell_place}
 use Rattle.metadata_tables.proofs.tables.Tables.cell_at.Goals as goal

@@ -42,18 +42,19 @@ pub bytes_of-user_strings-requires : goal.bytes_of-user_strings-requires
 bytes_of-user_strings-requires c =
     stream-within c.args.md.now (codes "#US") c.in-Some.stream c.in_ok-streams.ensures.judged.0 (c.in_ok-streams.ensures.user_strings ∙ c.in-Some.is)
 
-pub bytes_of-requires : goal.bytes_of-requires
-bytes_of-requires c = stream-within c.args.md.now (codes "#Strings") c.in_ok-streams.streams.strings c.in_ok-streams.ensures.judged.0 c.in_ok-streams.ensures.strings
+pub bytes_of-strings-requires : goal.bytes_of-strings-requires
+bytes_of-strings-requires c = stream-within c.args.md.now (codes "#Strings") c.in_ok-streams.streams.strings c.in_ok-streams.ensures.judged.0 c.in_ok-streams.ensures.strings
 
-pub bytes_of-requires-2 : goal.bytes_of-requires-2
-bytes_of-requires-2 c = stream-within c.args.md.now (codes "#Blob") c.in_ok-streams.streams.blob c.in_ok-streams.ensures.judged.0 c.in_ok-streams.ensures.blob
+pub bytes_of-requires : goal.bytes_of-requires
+bytes_of-requires c = stream-within c.args.md.now (codes "#Blob") c.in_ok-streams.streams.blob c.in_ok-streams.ensures.judged.0 c.in_ok-streams.ensures.blob
 
 pub invariant_of-result : goal.invariant_of-result
 invariant_of-result c = record {
   short = c.requires;
   sound = fault-tables c.args.md.now _ c.in_ok-streams.ensures.judged.0 c.in_ok-layout.ensures.judged.0;
-  strings_kept = heap-is c.args.md.now (codes "#Strings") _ _ c.in_ok-streams.ensures.strings c.bytes_of.ensures;
-  blob_kept = heap-is c.args.md.now (codes "#Blob") _ _ c.in_ok-streams.ensures.blob c.bytes_of-2.ensures;
+  strings_kept = heap-is c.args.md.now (codes "#Strings") _ _ c.in_ok-streams.ensures.strings c.bytes_of-strings.ensures;
+  texts_end = c.behind_last_zero.ensures;
+  blob_kept = heap-is c.args.md.now (codes "#Blob") _ _ c.in_ok-streams.ensures.blob c.bytes_of.ensures;
   blob_begin = start-is c.args.md.now (codes "#Blob") c.in_ok-streams.streams.blob c.in_ok-streams.ensures.blob;
   user_strings_kept =
       elim c.match-streams.branch [
