@@ -6,3 +6,4 @@ pub mod DigitLemmas
 pub mod ListedLemmas
 pub mod HeldLemmas
 pub mod TestLemmas
+pub mod CompressedLemmas

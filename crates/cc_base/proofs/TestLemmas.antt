@@ -1,11 +1,13 @@
 -- The first fault of tests: test by test, list behind list, and by number.
 use Rattle.std.proofs.Common.{◌≡◌, ℕ, zero, suc, ◌+◌, ◌-◌, ◌<◌, ◌≤◌, List, [], ◌∷◌, ◌++◌, map, Bool, true, false, Option, Some, None, refl, sym, ap, subst, ◌∙◌, arith, inl, inr}
-use Rattle.std.specs.Prelude.{Result, Ok, Err, IsOk, IfErr, ◌↔◌}
+use Rattle.std.specs.Prelude.{Result, Ok, Err, IsOk, IfErr, IsErrAnd, ◌↔◌}
 use Rattle.std.specs.List.{flat_map, range_with_len}
 use Rattle.std.specs.Option.{option_or}
 use Rattle.std.proofs.lemmas.Bool.{cases_lt}
 use Rattle.std.proofs.lemmas.List.Concat.{flat_map-cons}
-use Rattle.cc_base.specs.Tests.{first_of, must, Judges}
+use Rattle.cc_base.specs.Tests.{first_of, must, Judges, JudgesOrNoMemory}
+use Rattle.cc_base.specs.declared.refusal.Refusal.{Refusal}
+use Rattle.cc_base.specs.declared.refusal.Refusal.TheVariants.{Bad, NoMemory}
 
 -- ---- test by test
 
@@ -151,3 +153,26 @@ judged-ok (Err fault) first P judged = (λ h. absurd cc, λ h. absurd cc)
 pub judged-err : {X F : Type 0} (r : Result X F) (first : Option F) (P : X → Type 0) → Judges r first P → IfErr r (λ fault. first ≡ Some fault)
 judged-err (Ok x) first P judged = tt
 judged-err (Err fault) first P judged = judged
+
+-- ---- answers that tests judge, unless memory ran out: what `?` carries up
+
+-- The fault of a part is the first of the whole.
+pub fault-carried : {X F : Type 0} (r : Result X (Refusal F)) (fault : F) (first : Option F) (P : X → Type 0)
+    → IsErrAnd r (λ refusal. refusal ≡ Bad fault) → first ≡ Some fault → JudgesOrNoMemory r first P
+fault-carried (Ok x) fault first P is some = elim is [ ]
+fault-carried (Err refusal) fault first P is some = rw is some
+
+-- The refusal of a part whose fault is the first of the whole.
+pub refusal-carried : {X Y F : Type 0} (r : Result Y (Refusal F)) (refusal : Refusal F) (part first : Option F) (P : X → Type 0) (Q : Y → Type 0)
+    → IsErrAnd r (λ same. same ≡ refusal) → JudgesOrNoMemory {X = X} (Err refusal) part P → ((fault : F) → part ≡ Some fault → first ≡ Some fault)
+    → JudgesOrNoMemory r first Q
+refusal-carried (Ok y) refusal part first P Q is judged carried = elim is [ ]
+refusal-carried (Err same) (Bad fault) part first P Q is judged carried = rw is (carried fault judged)
+refusal-carried (Err same) NoMemory part first P Q is judged carried = rw is tt
+
+-- The answer of the last part is that of the whole.
+pub last-carried : {X F : Type 0} (r : Result X (Refusal F)) (part first : Option F) (P : X → Type 0)
+    → JudgesOrNoMemory r part P → first ≡ part → JudgesOrNoMemory r first P
+last-carried r part first P judged same = rw same judged
+
+pub ruleset carried = (fault-carried, refusal-carried, last-carried)

@@ -6,3 +6,7 @@ pub mod Wrap
 pub mod Digits
 pub mod LittleEndian
 pub mod Tests
+pub mod Slices
+pub mod Tokens
+pub mod Escapes
+pub mod Compressed

@@ -1,5 +1,7 @@
 -- Tests in their order. A test gives a fault, or none where it is passed.
 use Rattle.std.specs.Prelude.{◌≡◌, List, [], ◌∷◌, Bool, Option, Some, None, Result, Ok, Err, if◌then◌else◌}
+use Rattle.cc_base.specs.declared.refusal.Refusal.{Refusal}
+use Rattle.cc_base.specs.declared.refusal.Refusal.TheVariants.{Bad, NoMemory}
 
 -- The first fault of some tests.
 unfoldable pub first_of : {F : Type 0} → List (Option F) → Option F
@@ -15,3 +17,9 @@ must holds fault = if holds then None else Some fault
 abbrev pub Judges : {X F : Type 0} → Result X F → Option F → (X → Type 0) → Type 0
 Judges (Ok x) first P = (first ≡ None) × P x
 Judges (Err fault) first P = first ≡ Some fault
+
+-- The same, unless memory ran out.
+abbrev pub JudgesOrNoMemory : {X F : Type 0} → Result X (Refusal F) → Option F → (X → Type 0) → Type 0
+JudgesOrNoMemory (Ok x) first P = (first ≡ None) × P x
+JudgesOrNoMemory (Err (Bad fault)) first P = first ≡ Some fault
+JudgesOrNoMemory (Err NoMemory) first P = Unit {0}
