@@ -1,14 +1,5 @@
 pub mod Answering
-pub mod EffectSoundness
-pub mod Following
-pub mod Judging
 pub mod Leaving
 pub mod Plain
 pub mod PrintedSafe
-pub mod RangeSoundness
-pub mod RangeSums
-pub mod Reporting
-pub mod Soundness
-pub mod StepSoundness
-pub mod UnsafeUnit
 pub mod Writings

@@ -4,7 +4,7 @@ use Rattle.asm_image.specs.Faults.{first_assembly_fault}
 use Rattle.asm_image.specs.declared.fault.AsmFault.{AsmFault}
 use Rattle.cc_base.specs.Files.{Held, READ_LIMIT}
 use Rattle.check_driver.specs.Expected.{Answer, expected, command_answer, file_answer, bytes_answer, list_answer, unit_answer, word_at}
-use Rattle.check_driver.specs.Verdicts.{verdicts, all_proved}
+use Rattle.range_verdicts.specs.Verdicts.{verdicts, all_proved}
 use Rattle.check_driver.specs.Words.{command_of, file_place}
 use Rattle.check_driver.specs.declared.command.Command.{Command}
 use Rattle.check_driver.specs.declared.command.Command.TheVariants as commands

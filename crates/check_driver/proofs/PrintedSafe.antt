@@ -9,12 +9,13 @@ use Rattle.cc_base.proofs.SinkLemmas.{IsFront-trans}
 use Rattle.cil_model.specs.declared.unit.Unit.{Unit as MethodUnit}
 use Rattle.check_driver.specs.Expected.{Answer, expected, command_answer, file_answer, unit_file_answer, unit_answer, word_at}
 use Rattle.check_driver.specs.declared.command.Command.TheVariants as commands
-use Rattle.check_driver.specs.SingleUnit.{AsksFor, PrintsProved, IsSafe}
+use Rattle.check_driver.specs.SingleUnit.{AsksFor, PrintsProved}
+use Rattle.range_verdicts.specs.Safety.{IsSafe}
 use Rattle.check_driver.specs.Text.{signature_text, proved_text, unit_line, verdict_line, unit_counts, summary_line, unit_report}
 use Rattle.method_unit.specs.UnitFile.{first_unit_fault, unit_of}
 use Rattle.method_unit.specs.UnitSpelling.{unit_bytes}
-use Rattle.check_driver.specs.Verdicts.{verdicts, all_proved}
-use Rattle.check_driver.proofs.Soundness.{local_safe, safe}
+use Rattle.range_verdicts.specs.Verdicts.{verdicts, all_proved}
+use Rattle.range_verdicts.proofs.Soundness.{proved_is_safe}
 use Rattle.method_unit.proofs.UnitAgain.{unit_again}
 
 -- ---- lists
@@ -106,7 +107,4 @@ pub printed_safe : (words : List (List ℕ)) (held : Held) (unit : MethodUnit) (
     → AsksFor words held unit → AppendsFront old new (expected words held).out → PrintsProved old new unit → IsSafe unit
 printed_safe words held unit old new asks appends prints =
     let proved = report_proved unit (front_of_report words held unit asks (front_of_expected old new unit (expected words held).out appends prints)) in
-    record {
-      local = local_safe unit asks.built proved;
-      worlds = λ w m of. safe w m unit of asks.built proved;
-    }
+    proved_is_safe unit asks.built proved

@@ -11,7 +11,7 @@ use Rattle.check_driver.specs.FaultText.{unit_fault_text, assembly_fault_text}
 use Rattle.check_driver.specs.Text.{unit_report, list_text}
 use Rattle.method_unit.specs.Faults.{fault_at}
 use Rattle.method_unit.specs.UnitFile.{first_unit_fault, unit_of}
-use Rattle.check_driver.specs.Verdicts.{verdicts, all_proved}
+use Rattle.range_verdicts.specs.Verdicts.{verdicts, all_proved}
 use Rattle.check_driver.specs.Words.{command_of, file_place}
 use Rattle.check_driver.specs.declared.command.Command.{Command}
 use Rattle.check_driver.specs.declared.command.Command.TheVariants as commands

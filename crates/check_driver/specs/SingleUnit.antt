@@ -1,10 +1,7 @@
 -- What a printed `proved` means for the unit of a file.
-use Rattle.std.specs.Prelude.{◌≡◌, ℕ, true, List, ◌++◌, Option, Some, slice_get}
+use Rattle.std.specs.Prelude.{◌≡◌, ℕ, true, List, ◌++◌, Option, Some}
 use Rattle.cc_base.specs.Files.{Held}
 use Rattle.cc_base.specs.Sink.{IsFront}
-use Rattle.cil_model.specs.LocalStep.{LocalSafe}
-use Rattle.cil_model.specs.Step.{Safe}
-use Rattle.cil_model.specs.declared.machine.World.{World}
 use Rattle.cil_model.specs.declared.unit.Unit.{Unit as MethodUnit}
 use Rattle.check_driver.specs.Expected.{word_at}
 use Rattle.check_driver.specs.Text.{unit_line}
@@ -26,9 +23,3 @@ pub record PrintsProved (old new : Option (List ℕ)) (unit : MethodUnit) : Type
   pub was : old ≡ Some before
   pub is : new ≡ Some (before ++ text)
   pub line : IsFront (unit_line unit true) text
-
--- The unit is safe: by itself, and wherever it stands in a world, no run of it ends in a fault or where
--- nothing is defined.
-pub record IsSafe (unit : MethodUnit) : Type 0 where
-  pub local : LocalSafe unit
-  pub worlds : (w : World) (m : ℕ) → slice_get w.units m ≡ Some unit → Safe w m

@@ -7,8 +7,8 @@ use Rattle.asm_image.specs.Rows.{methods_of}
 use Rattle.asm_image.specs.declared.method_row.MethodRow.{MethodRow}
 use Rattle.cc_base.specs.Digits.{hex}
 use Rattle.cil_model.specs.declared.unit.Unit.{Unit as MethodUnit}
-use Rattle.check_driver.specs.Verdicts.{verdicts, all_proved, proved_count}
-use Rattle.check_driver.specs.declared.judge.Verdict.{Verdict}
+use Rattle.range_verdicts.specs.Verdicts.{verdicts, all_proved, proved_count}
+use Rattle.range_verdicts.specs.declared.verdict.Verdict.{Verdict}
 use Rattle.check_driver.specs.declared.lines.Counts.{Counts}
 
 -- A unit's name with its parameters' types.

@@ -5,14 +5,11 @@ mod command;
 mod errors;
 mod fault_text;
 mod interrupt;
-mod judge;
 mod lines;
 mod list_answer;
 mod program;
 mod puts;
-mod range;
 mod report;
-mod stack;
 mod unit_answer;
 
 pub use command::{Command, parse_words};

@@ -4,10 +4,10 @@ ghost use Rattle.std.specs.Prelude.{◌≡◌, ◌+◌, ◌<◌, ◌++◌, OnOk,
 ghost use Rattle.std.specs.Fmt.{decimal};
 ghost use Rattle.check_driver.specs.Text.{unit_line, verdict_line, method_line, summary_line, proved_text};
 
-use crate::judge::Verdict;
 use asm_image::{MethodRow, append_parameters};
 use cc_base::{put_hex, put_number};
 use cil_model::Unit;
+use range_verdicts::Verdict;
 use std::alloc::{AllocError, Global};
 
 fn proved_text(proved: bool) -> &'static [u8]

@@ -3,12 +3,12 @@
 ghost use Rattle.std.specs.Prelude.{◌≡◌, ◌++◌, ◌<◌, ◌≤◌, length, All, IfOk, OnOk};
 ghost use Rattle.std.specs.List.{flat_map};
 ghost use Rattle.check_driver.specs.Text.{unit_report, verdict_line};
-ghost use Rattle.check_driver.specs.Verdicts.{verdicts};
+ghost use Rattle.range_verdicts.specs.Verdicts.{verdicts};
 ghost use Rattle.check_driver.specs.Writing.{joined};
 
-use crate::judge::{Verdict, all_proved, proved_count};
 use crate::lines::{Counts, summary_line, unit_line, verdict_line};
 use cil_model::Unit;
+use range_verdicts::{Verdict, all_proved, proved_count};
 use std::alloc::{AllocError, Global};
 
 /// Appends the lines of obligations.

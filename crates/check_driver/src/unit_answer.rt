@@ -6,19 +6,19 @@ ghost use Rattle.std.specs.Prelude.{◌≡◌, ◌<◌, length, IfOk};
 ghost use Rattle.check_driver.specs.Expected.{unit_answer, unit_file_answer};
 ghost use Rattle.check_driver.specs.Outcome.{Gives};
 ghost use Rattle.check_driver.specs.Text.{unit_report};
-ghost use Rattle.check_driver.specs.Verdicts.{verdicts, all_proved};
+ghost use Rattle.range_verdicts.specs.Verdicts.{verdicts, all_proved};
 ghost use Rattle.check_driver.specs.Writing.{Writes, change};
 ghost use Rattle.method_unit.specs.UnitFile.{first_unit_fault};
 ghost use Rattle.method_unit.specs.UnitSpelling.{IsBuilt};
 
 use crate::fault_text::unit_fault_text;
 use crate::interrupt::Interrupt;
-use crate::judge::{all_proved, judge};
 use crate::puts::{answer_refused, put_lines};
 use crate::report::report_lines;
 use cc_base::{READ_LIMIT, Sink};
 use cil_model::Unit;
 use method_unit::{UnitRefusal, read_unit};
+use range_verdicts::{all_proved, judge};
 use std::alloc::Global;
 
 /// Where the fault of a file that is too large is named: at its first byte past the limit.

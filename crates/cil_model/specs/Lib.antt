@@ -1,6 +1,7 @@
 pub mod Limits
 pub mod Places
 pub mod Spells
+pub mod Opcodes
 pub mod Machine
 pub mod Effects
 pub mod Step

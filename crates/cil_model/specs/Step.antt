@@ -1,5 +1,5 @@
 -- The machine over frames and heaps, one step at a time, its runs, and when they are safe.
-use Rattle.std.specs.Prelude.{◌≡◌, ℕ, zero, suc, List, [], ◌∷◌, ◌++◌, Option, Some, None, ◌==◌, if◌then◌else◌, slice_get, ◌⊎◌}
+use Rattle.std.specs.Prelude.{◌≡◌, ℕ, zero, suc, Bool, true, false, List, [], ◌∷◌, ◌++◌, Option, Some, None, ◌==◌, if◌then◌else◌, slice_get, ◌⊎◌}
 use Rattle.cil_model.specs.Effects.{Effect, GoesOn, Faults, Assumes, FindsNoRoom, effects, HasEffect}
 use Rattle.cil_model.specs.Machine.{Heap, IsHeap, put, IsEntryFrame}
 use Rattle.cil_model.specs.declared.instruction.Instr.{Instr}
@@ -9,6 +9,7 @@ use Rattle.cil_model.specs.declared.machine.Config.{Config}
 use Rattle.cil_model.specs.declared.machine.Config.TheVariants as configs
 use Rattle.cil_model.specs.declared.machine.Frame.{Frame}
 use Rattle.cil_model.specs.declared.machine.Value.{Value}
+use Rattle.cil_model.specs.declared.machine.Value.TheVariants as values
 use Rattle.cil_model.specs.declared.machine.World.{World}
 use Rattle.cil_model.specs.declared.place.Place.{Place}
 use Rattle.cil_model.specs.declared.place.Place.TheVariants as places
@@ -26,11 +27,21 @@ config_after callers f i (Faults kind) = configs.Fault kind f.unit i.at
 config_after callers f i Assumes = configs.Assumed f.unit i.at
 config_after callers f i FindsNoRoom = configs.NoRoom
 
--- What a return takes from the stack, as it is put into the result: that and nothing else stands there.
+-- The value has the form of those of this place: a number, or null or an array.
+abbrev pub has_form : Place → Value → Bool
+has_form places.Bool (values.Int n) = true
+has_form places.Int (values.Int n) = true
+has_form places.Bools values.Null = true
+has_form places.Bools (values.Array i) = true
+has_form places.Ints values.Null = true
+has_form places.Ints (values.Array i) = true
+has_form _ _ = false
+
+-- What a return takes from the stack, as it is put into the result: a value of its form, or none where the
+-- result is void, and nothing else stands there.
 abbrev pub result_of : Place → List Value → Option (Option Value)
 result_of places.Void [] = Some None
-result_of places.Void _ = None
-result_of place (value ∷ []) = Some (Some (put place value))
+result_of place (value ∷ []) = if has_form place value then Some (Some (put place value)) else None
 result_of place _ = None
 
 abbrev pub with_result : Frame → Option Value → Frame

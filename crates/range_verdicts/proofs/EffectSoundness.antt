@@ -1,0 +1,189 @@
+-- What a typed instruction does to values that are within the known ranges.
+use Rattle.std.proofs.Common.{◌≡◌, ℕ, zero, suc, ◌<◌, ◌≤◌, ◌==◌, ℤ, pos, ◌+ℤ◌, int_lt, int_eq, FitsSigned, Bool, true, false, ◌||◌, nat_lt, List, [], ◌∷◌, length, slice_get, Some, Ok, refl, ap, subst, arith, w32, true≢false, ltb-false, ltb-true}
+use Rattle.std.specs.List.{AllByRecursion}
+use Rattle.std.proofs.lemmas.Bool.{or_parts, false_from_ne_true, not-false}
+use Rattle.std.proofs.lemmas.Bool.Decides.{Decides-int_eq, not_from_Decides}
+use Rattle.cc_base.specs.Wrap.{wrap32}
+use Rattle.cil_model.specs.Effects.{ASSERT_CALL, Effect, goes_on, operated, binary, asserts, effects_of, truth}
+use Rattle.cil_model.specs.Machine.{Heap, FitPlaces, FitsPlace}
+use Rattle.cil_model.specs.Spells.{SpellsOp, SpellsBin}
+use Rattle.cil_model.specs.declared.instruction.BinOp.{BinOp}
+use Rattle.cil_model.specs.declared.instruction.BinOp.TheVariants as operators
+use Rattle.cil_model.specs.declared.instruction.Instr.{Instr}
+use Rattle.cil_model.specs.declared.instruction.Op.{Op}
+use Rattle.cil_model.specs.declared.instruction.Op.TheVariants as ops
+use Rattle.cil_model.specs.declared.machine.Frame.{Frame}
+use Rattle.cil_model.specs.declared.machine.Value.{Value}
+use Rattle.cil_model.specs.declared.machine.Value.TheVariants as values
+use Rattle.cil_model.specs.declared.place.Place.{Place}
+use Rattle.cil_model.specs.declared.place.Place.TheVariants as places
+use Rattle.range_verdicts.specs.Ranges.{Has, one, full, sum, less, equal, is_zero}
+use Rattle.method_unit.specs.Typing.{operands, is_return, lacks_argument, height_after, breaks}
+use Rattle.method_unit.specs.UnitFile.{is_other_call}
+use Rattle.range_verdicts.specs.States.{combined, after_known, shows_assert}
+use Rattle.range_verdicts.specs.Verdicts.{has_obligation}
+use Rattle.range_verdicts.specs.declared.range.Range.{Range}
+use Rattle.range_verdicts.specs.declared.state.State.TheVariants.{Known}
+use Rattle.range_verdicts.proofs.RangeSoundness.{Has-one, Has-full, Has-sum, Has-less, Has-equal, excludes_zero-true, is_zero-true}
+
+-- The value is a number of the range.
+abbrev pub Holds : Range → Value → Type 0
+Holds r (values.Int n) = Has r n
+Holds r _ = ⊥
+
+-- The values are numbers of the ranges, in order.
+abbrev pub StackHolds : List Range → List Value → Type 0
+StackHolds [] [] = Unit {0}
+StackHolds (r ∷ rs) (v ∷ vs) = Holds r v × StackHolds rs vs
+StackHolds _ _ = ⊥
+
+-- There are as many values as ranges.
+same_height : (known : List Range) (stack : List Value) → StackHolds known stack → length known ≡ length stack
+same_height [] [] holds = refl
+same_height (r ∷ known) (v ∷ stack) holds = ap suc (same_height known stack holds.1)
+same_height [] (v ∷ stack) holds = absurd holds
+same_height (r ∷ known) [] holds = absurd holds
+
+-- The effects are that the frame goes on with a stack that is within what is known behind the operation.
+pub record Goes (op : Op) (i : Instr) (f : Frame) (heap : Heap) (effects : List Effect) (known : List Range) (before : List Value) : Type 0 where
+  pub stack : List Value
+  pub ranges : List Range
+  pub goes : effects ≡ goes_on i f heap stack
+  pub behind : after_known op known ≡ Known ranges
+  pub holds : StackHolds ranges stack
+  pub height : length stack ≡ height_after op (length before)
+
+-- ---- arguments
+
+-- Each place is int32.
+abbrev pub AllInts : List Place → Type 0
+AllInts args = AllByRecursion (λ place. place ≡ places.Int) args
+
+-- The value is an int32.
+abbrev IsInt : Value → Type 0
+IsInt v = (n : ℤ) × (v ≡ values.Int n) × FitsSigned w32 n
+
+int_of : (heap : Heap) (v : Value) → FitsPlace heap places.Int v → IsInt v
+int_of heap (values.Int n) fits = (n, refl, fits)
+int_of heap _ fits = absurd fits
+
+int_value : (heap : Heap) (place : Place) (v : Value) → place ≡ places.Int → FitsPlace heap place v → IsInt v
+int_value heap place v e fits = int_of heap v (subst (λ (p : Place). FitsPlace heap p v) e fits)
+
+-- An argument below the count is an int32.
+argument_there : (heap : Heap) (args : List Place) (vs : List Value) (n : ℕ) → AllInts args → FitPlaces heap args vs → n < length args
+    → (k : ℤ) × (slice_get vs n ≡ Some (values.Int k)) × FitsSigned w32 k
+argument_there heap [] vs n ints fit lt = absurd (omega arith)
+argument_there heap (place ∷ args) [] n ints fit lt = absurd fit
+argument_there heap (place ∷ args) (v ∷ vs) zero ints fit lt =
+    let is = int_value heap place v ints.0 fit.0 in (is.0, ap Some is.1, is.2)
+argument_there heap (place ∷ args) (v ∷ vs) (suc n) ints fit lt = argument_there heap args vs n ints.1 fit.1 (omega arith)
+
+-- ---- operators
+
+-- The operator gives a number, of the range that is known of it.
+abbrev Gives : BinOp → Range → Range → ℤ → ℤ → Type 0
+Gives operator a b m n = (k : ℤ) × (r : Range) × (operated operator m n ≡ Some (Ok k)) × (combined operator a b ≡ Some r) × Has r k
+
+operator_gives : (operator : BinOp) (bytes : List ℕ) (a b : Range) (m n : ℤ) → SpellsBin operator bytes → Has a m → Has b n → Gives operator a b m n
+operator_gives operators.Add bytes a b m n spelled hasM hasN = (wrap32 (m +ℤ n), sum a b, refl, refl, Has-sum a b m n hasM hasN)
+operator_gives operators.Ceq bytes a b m n spelled hasM hasN = (truth (int_eq m n), equal a b, refl, refl, Has-equal a b m n hasM hasN)
+operator_gives operators.Cgt bytes a b m n spelled hasM hasN = (truth (int_lt n m), less b a, refl, refl, Has-less b a n m hasN hasM)
+operator_gives operators.Clt bytes a b m n spelled hasM hasN = (truth (int_lt m n), less a b, refl, refl, Has-less a b m n hasM hasN)
+operator_gives _ bytes a b m n spelled hasM hasN = absurd spelled
+
+binary_goes : (operator : BinOp) (bytes : List ℕ) (i : Instr) (f : Frame) (heap : Heap) (known : List Range) (stack : List Value)
+    → SpellsBin operator bytes → StackHolds known stack → 2 ≤ length stack → Goes (ops.Bin operator) i f heap (binary operator i f heap stack) known stack
+binary_goes operator bytes i f heap (b ∷ a ∷ known) (values.Int n ∷ values.Int m ∷ stack) spelled holds tall =
+    let given = operator_gives operator bytes a b m n spelled holds.1.0 holds.0 in
+    record {
+      stack = values.Int given.0 ∷ stack;
+      ranges = given.1 ∷ known;
+      goes = rw given.2 refl;
+      behind = rw given.3 refl;
+      holds = (given.4, holds.1.1);
+      height = omega arith;
+    }
+binary_goes operator bytes i f heap known stack spelled holds tall = absurd (grind (arith, same_height known stack holds))
+
+-- ---- Contract.Assert
+
+-- A range of a number that is not 0 has more than 0.
+more_than_zero : (r : Range) (n : ℤ) → Has r n → int_eq n (pos 0) ≡ false → is_zero r ≡ false
+more_than_zero r n has other =
+    false_from_ne_true (is_zero r) (λ zero_alone. not_from_Decides (int_eq n (pos 0)) (Decides-int_eq n (pos 0)) other (is_zero-true r n has zero_alone))
+
+asserts_goes : (number : ℕ) (i : Instr) (f : Frame) (heap : Heap) (known : List Range) (stack : List Value)
+    → (number == ASSERT_CALL) ≡ true → StackHolds known stack → 1 ≤ length stack → shows_assert (Known known) ≡ true → Goes (ops.Call number) i f heap (asserts i f heap stack) known stack
+asserts_goes number i f heap (r ∷ known) (values.Int n ∷ stack) assert holds tall shown =
+    let other : int_eq n (pos 0) ≡ false = excludes_zero-true r n holds.0 shown in
+    let open_range : is_zero r ≡ false = more_than_zero r n holds.0 other in
+    record {
+      stack = stack;
+      ranges = known;
+      goes = rw other refl;
+      behind = rw (assert, open_range) refl;
+      holds = holds.1;
+      height = omega arith;
+    }
+asserts_goes number i f heap known stack assert holds tall shown = absurd (grind (arith, same_height known stack holds))
+
+-- ---- all instructions
+
+unbroken : (x y z : Bool) → (x || y || z) ≡ false → (x ≡ false) × (y ≡ false)
+unbroken x y z h = or_parts x y (or_parts (x || y) z h).0
+
+operands_there : (args limit : ℕ) (op : Op) (height : ℕ) → breaks args limit height op ≡ false → operands op ≤ height
+operands_there args limit op height typed =
+    ltb-false height (operands op) (unbroken (nat_lt height (operands op)) (lacks_argument args op) (nat_lt limit (height_after op height)) typed).0
+
+argument_named : (args limit n height : ℕ) → breaks args limit height (ops.LoadArg n) ≡ false → n < args
+argument_named args limit n height typed =
+    let op = ops.LoadArg n in
+    let named = unbroken (nat_lt height (operands op)) (lacks_argument args op) (nat_lt limit (height_after op height)) typed in
+    ltb-true n args (not-false (nat_lt n args) named.1)
+
+calls_assert : (number : ℕ) → is_other_call (ops.Call number) ≡ false → (number == ASSERT_CALL) ≡ true
+calls_assert number h = not-false (number == ASSERT_CALL) h
+
+-- A typed instruction that is no return lets the frame go on, within what is then known.
+pub effects_go : (op : Op) (bytes : List ℕ) (i : Instr) (f : Frame) (heap : Heap) (args : List Place) (limit : ℕ) (known : List Range)
+    → SpellsOp op bytes → is_return op ≡ false → is_other_call op ≡ false → breaks (length args) limit (length f.stack) op ≡ false
+    → (has_obligation op ≡ true → shows_assert (Known known) ≡ true) → AllInts args → FitPlaces heap args f.args → StackHolds known f.stack
+    → Goes op i f heap (effects_of op i f heap) known f.stack
+effects_go ops.Nop bytes i f heap args limit known spelled passes calls typed shown ints fit holds =
+    record {
+      stack = f.stack;
+      ranges = known;
+      goes = refl;
+      behind = refl;
+      holds = holds;
+      height = omega arith;
+    }
+effects_go (ops.LoadArg n) bytes i f heap args limit known spelled passes calls typed shown ints fit holds =
+    let there = argument_there heap args f.args n ints fit (argument_named (length args) limit n (length f.stack) typed) in
+    record {
+      stack = values.Int there.0 ∷ f.stack;
+      ranges = full ∷ known;
+      goes = rw there.1 refl;
+      behind = refl;
+      holds = (Has-full there.0 there.2, holds);
+      height = omega arith;
+    }
+effects_go (ops.Const n) bytes i f heap args limit known spelled passes calls typed shown ints fit holds =
+    record {
+      stack = values.Int n ∷ f.stack;
+      ranges = one n ∷ known;
+      goes = refl;
+      behind = refl;
+      holds = (Has-one n, holds);
+      height = omega arith;
+    }
+effects_go (ops.Bin operator) bytes i f heap args limit known spelled passes calls typed shown ints fit holds =
+    binary_goes operator bytes i f heap known f.stack spelled holds (operands_there (length args) limit (ops.Bin operator) (length f.stack) typed)
+effects_go (ops.Call number) bytes i f heap args limit known spelled passes calls typed shown ints fit holds =
+    let assert = calls_assert number calls in
+    rw assert
+    (asserts_goes number i f heap known f.stack assert holds (operands_there (length args) limit (ops.Call number) (length f.stack) typed) (shown assert))
+effects_go ops.Return bytes i f heap args limit known spelled passes calls typed shown ints fit holds = absurd (true≢false passes)
+effects_go _ bytes i f heap args limit known spelled passes calls typed shown ints fit holds = absurd spelled

@@ -1,0 +1,90 @@
+-- The instructions of a unit from an IL offset on: which one is found there, what is known before it, and
+-- that its obligation is shown.
+use Rattle.std.proofs.Common.{◌≡◌, ℕ, ◌+◌, ◌<◌, ◌≤◌, ◌==◌, Bool, true, false, List, [], ◌∷◌, map, Some, if◌then◌else◌, refl, sym, ap, subst, ◌∙◌, arith}
+use Rattle.std.specs.List.{AllByRecursion, list_all}
+use Rattle.std.proofs.lemmas.Bool.{false≢true, and_parts, ne_eqb, eq-eqb}
+use Rattle.cil_model.specs.Spells.{CodeFrom, Spells}
+use Rattle.cil_model.specs.Step.{instr_at}
+use Rattle.cil_model.specs.declared.instruction.Instr.{Instr}
+use Rattle.cil_model.specs.declared.unit.Unit.{Unit as MethodUnit}
+use Rattle.method_unit.specs.UnitFile.{is_other_call}
+use Rattle.method_unit.specs.UnitSpelling.{IsBuilt}
+use Rattle.range_verdicts.specs.States.{after, shows_assert}
+use Rattle.range_verdicts.specs.Verdicts.{entry, has_obligation, obligations, state_at, verdict, verdicts, all_proved}
+use Rattle.range_verdicts.specs.declared.state.State.{State}
+use Rattle.method_unit.proofs.Decoded.{spelling_some}
+
+-- If this instruction has an obligation, what is known before it shows that it holds.
+abbrev pub IsShown : List Instr → Instr → Type 0
+IsShown instrs i = has_obligation i.op ≡ true → shows_assert (state_at entry instrs i.at) ≡ true
+
+shown_first : (instrs is : List Instr) (i : Instr) (test : Bool) → has_obligation i.op ≡ test
+    → list_all (λ v. v.proved) (map (verdict instrs) (if test then i.at ∷ obligations is else obligations is)) ≡ true
+    → IsShown instrs i × (list_all (λ v. v.proved) (map (verdict instrs) (obligations is)) ≡ true)
+shown_first instrs is i true e proved = let both = and_parts _ _ proved in (λ _. both.0, both.1)
+shown_first instrs is i false e proved = (λ assert. absurd (false≢true (sym e ∙ assert)), proved)
+
+-- Where all verdicts are proved, each obligation is shown.
+shown_all : (instrs is : List Instr) → list_all (λ v. v.proved) (map (verdict instrs) (obligations is)) ≡ true → AllByRecursion (IsShown instrs) is
+shown_all instrs [] proved = tt
+shown_all instrs (i ∷ is) proved =
+    let both = shown_first instrs is i (has_obligation i.op) refl proved in (both.0, shown_all instrs is both.1)
+
+-- From this IL offset on, the unit's code is these instructions, and this is known before the first.
+pub record Follows (unit : MethodUnit) (is : List Instr) (at : ℕ) (s : State) : Type 0 where
+  pub bytes : List ℕ
+  pub code : CodeFrom at is bytes
+  pub found : (k : ℕ) → at ≤ k → instr_at unit.instrs k ≡ instr_at is k
+  pub known : (k : ℕ) → at ≤ k → state_at entry unit.instrs k ≡ state_at s is k
+  pub calls : AllByRecursion (λ i. is_other_call i.op ≡ false) is
+  pub shown : AllByRecursion (IsShown unit.instrs) is
+
+-- All instructions follow from 0 on.
+pub Follows-first : (unit : MethodUnit) → IsBuilt unit → all_proved (verdicts unit) ≡ true → Follows unit unit.instrs 0 entry
+Follows-first unit built proved =
+    record {
+      bytes = unit.code;
+      code = built.code;
+      found = λ k above. refl;
+      known = λ k above. refl;
+      calls = built.calls;
+      shown = shown_all unit.instrs unit.instrs proved;
+    }
+
+module _ (unit : MethodUnit) (i : Instr) (is : List Instr) (at : ℕ) (s : State) (follows : Follows unit (i ∷ is) at s) where
+  starts : i.at ≡ at
+  starts = follows.code.0
+
+  -- The first of the instructions is the one that is found.
+  pub Follows-found : instr_at unit.instrs at ≡ Some i
+  Follows-found = follows.found at (omega arith) ∙ rw (eq-eqb i.at at starts) refl
+
+  knows : state_at entry unit.instrs i.at ≡ s
+  knows = ap (state_at entry unit.instrs) starts ∙ follows.known at (omega arith) ∙ rw (eq-eqb i.at at starts) refl
+
+  pub Follows-shown : has_obligation i.op ≡ true → shows_assert s ≡ true
+  Follows-shown assert = sym (ap shows_assert knows) ∙ follows.shown.0 assert
+
+  pub Follows-spelled : (bytes : List ℕ) × Spells i bytes
+  Follows-spelled = let (spelling, rest, spelled, whole, code) = follows.code.1 in (spelling, spelled)
+
+  some_size : 0 < i.size
+  some_size = let spelled = Follows-spelled.1 in let some = spelling_some i.op Follows-spelled.0 spelled.0 in let size = spelled.1 in omega arith
+
+  -- A later place is not that of the first.
+  passed : (k : ℕ) → i.at + i.size ≤ k → (i.at == k) ≡ false
+  passed k above = let some = some_size in ne_eqb i.at k (λ e. omega arith)
+
+  -- Behind the first follow the others.
+  pub Follows-next : Follows unit is (i.at + i.size) (after i.op s)
+  Follows-next =
+      let (spelling, rest, spelled, whole, code) = follows.code.1 in
+      let first = starts in
+      record {
+        bytes = rest;
+        code = subst (λ (place : ℕ). CodeFrom (place + i.size) is rest) (sym first) code;
+        found = λ k above. follows.found k (omega arith) ∙ rw (passed k above) refl;
+        known = λ k above. follows.known k (omega arith) ∙ rw (passed k above) refl;
+        calls = follows.calls.1;
+        shown = follows.shown.1;
+      }

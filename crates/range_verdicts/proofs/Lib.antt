@@ -1,0 +1,9 @@
+pub mod EffectSoundness
+pub mod Following
+pub mod Judging
+pub mod RangeSoundness
+pub mod RangeSums
+pub mod Counting
+pub mod Soundness
+pub mod StepSoundness
+pub mod UnsafeUnit

@@ -1,0 +1,4 @@
+pub mod Ranges
+pub mod Safety
+pub mod States
+pub mod Verdicts

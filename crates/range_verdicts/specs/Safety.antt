@@ -1,0 +1,12 @@
+-- When a unit is safe.
+use Rattle.std.specs.Prelude.{◌≡◌, ℕ, Some, slice_get}
+use Rattle.cil_model.specs.LocalStep.{LocalSafe}
+use Rattle.cil_model.specs.Step.{Safe}
+use Rattle.cil_model.specs.declared.machine.World.{World}
+use Rattle.cil_model.specs.declared.unit.Unit.{Unit as MethodUnit}
+
+-- By itself, and wherever it stands in a world, no run of the unit ends in a fault or where nothing is
+-- defined.
+pub record IsSafe (unit : MethodUnit) : Type 0 where
+  pub local : LocalSafe unit
+  pub worlds : (w : World) (m : ℕ) → slice_get w.units m ≡ Some unit → Safe w m
