@@ -16,7 +16,8 @@ use Rattle.signature_blobs.specs.declared.local.LocalSig.TheVariants as locals
 use Rattle.signature_blobs.specs.Reading.{Reading, known, ◌>>=◌, made}
 use Rattle.signature_blobs.specs.Numbers.{compressed_at, count_at}
 use Rattle.signature_blobs.specs.Types.{type_at, result_at, types_at}
-use Rattle.signature_blobs.specs.Spelling.{Stands, Begins, AreValues, SpellsNumber, SpellsTypeCount, SpellsCount, SpellsMethod, SpellsLocals, SpellsInstance, IfKnown, IfKnownLocals, type_bytes, has_this, is_generic}
+use Rattle.cc_base.specs.Compressed.{SpellsNumber}
+use Rattle.signature_blobs.specs.Spelling.{Stands, Begins, AreValues, SpellsTypeCount, SpellsCount, SpellsMethod, SpellsLocals, SpellsInstance, IfKnown, IfKnownLocals, type_bytes, has_this, is_generic}
 use Rattle.signature_blobs.specs.Signatures.{by_first, parameters_at, signature_at, as_types, types_of, method_signature, locals_at, as_locals, local_signature, argument_at, spec_signature}
 use Rattle.signature_blobs.proofs.Standing.{nothing_stands, join_stands, front_stands, back_stands, first_stands, whole_stands}
 use Rattle.signature_blobs.proofs.NumberLaws.{chosen, number_found, number_read}

@@ -1,7 +1,8 @@
 -- How signatures are spelled (II.23.2).
 use Rattle.std.specs.Prelude.{◌≡◌, ◌≢◌, ℕ, ◌+◌, ◌%◌, ◌^◌, ◌<◌, ◌≤◌, ◌⊎◌, List, [], ◌∷◌, ◌++◌, length, drop, Bool, true, false, not, ◌==◌, bit_and}
 use Rattle.std.specs.List.{flat_map, AllByRecursion}
-use Rattle.byteorder.specs.Endian.{big_bytes}
+use Rattle.cc_base.specs.Compressed.{SpellsNumber}
+use Rattle.cil_model.specs.Limits.{MAX_VARIABLES}
 use Rattle.cil_model.specs.declared.place.Place.{Place}
 use Rattle.cil_model.specs.declared.place.Place.TheVariants.{Void, Bool as OfBool, Int, Bools, Ints}
 use Rattle.signature_blobs.specs.declared.method.Signature.{Signature}
@@ -18,14 +19,6 @@ pub record Stands (bytes blob : List ℕ) (at after : ℕ) : Type 0 where
 -- The blob begins with bytes of which this holds.
 abbrev pub Begins : (List ℕ → Type 0) → List ℕ → Type 0
 Begins P blob = (front rest : List ℕ) × P front × (blob ≡ front ++ rest)
-
--- The number in one byte, in two behind the bits 10, or in four behind the bits 110. It may stand in
--- more bytes than it needs.
-abbrev pub SpellsNumber : ℕ → List ℕ → Type 0
-SpellsNumber n bytes =
-    ((n < 2 ^ 7) × (bytes ≡ n ∷ []))
-    ⊎ (((n < 2 ^ 14) × (bytes ≡ big_bytes 2 (0x8000 + n)))
-    ⊎ ((n < 2 ^ 29) × (bytes ≡ big_bytes 4 (0xC000_0000 + n))))
 
 -- VOID, BOOLEAN, I4, and SZARRAY with its element type (II.23.1.16).
 abbrev pub type_bytes : Place → List ℕ
@@ -55,7 +48,7 @@ SpellsTypeCount false bytes = bytes ≡ []
 -- A number of places and the places, of which the profile has at most 128.
 pub record SpellsCount (places : List Place) (bytes : List ℕ) : Type 0 where
   pub number : SpellsNumber (length places) bytes
-  pub few : length places ≤ 128
+  pub few : length places ≤ MAX_VARIABLES
   pub values : AreValues places
 
 -- The signature of a method with these flags (II.23.2.1). Its convention is 0, in the low four bits

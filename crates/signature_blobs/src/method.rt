@@ -1,6 +1,8 @@
 //! Signatures of methods (II.23.2.1).
 
-ghost use Rattle.std.specs.Prelude.{◌≡◌, ◌≤◌, Bool, length, IfOk};
+ghost use Rattle.std.specs.Prelude.{◌≡◌, ◌≤◌, Bool, length, IfOk, IfErr};
+ghost use Rattle.cc_base.specs.Slices.{IsShort};
+ghost use Rattle.signature_blobs.specs.Faults.{offset_of};
 ghost use Rattle.signature_blobs.specs.Spelling.{Begins, SpellsMethod, IfKnown};
 ghost use Rattle.signature_blobs.specs.declared.method.Signature.{Signature};
 ghost use Rattle.signature_blobs.specs.Signatures.{parameters_at, signature_at, types_of, method_signature};
@@ -58,8 +60,9 @@ pub struct MethodSig {
 /// The place after the convention byte and, of a generic method, the number of its type parameters.
 #[tactic(auto, unfolding(crate::specs::Signatures::parameters_at))]
 fn parameters_at(blob: &[u8], generic: bool) -> Result<u32, SigFault>
-    requires { length blob.now ≤ 2147483647 }
-    ensures { result ≡ parameters_at blob.now generic }
+    requires { IsShort blob.now }
+    ensures exact { result ≡ parameters_at blob.now generic }
+    ensures within { IfErr result (λ fault. offset_of fault ≤ length blob.now) }
 {
     if !generic {
         return Ok(1);
@@ -71,8 +74,9 @@ fn parameters_at(blob: &[u8], generic: bool) -> Result<u32, SigFault>
 /// The number of parameters, the result and the parameters.
 #[tactic(auto, unfolding(crate::specs::Signatures::signature_at))]
 fn signature_at(blob: &[u8], generic: bool) -> Result<Option<Signature>, SigFault>
-    requires { length blob.now ≤ 2147483647 }
-    ensures { result ≡ signature_at blob.now generic }
+    requires { IsShort blob.now }
+    ensures exact { result ≡ signature_at blob.now generic }
+    ensures within { IfErr result (λ fault. offset_of fault ≤ length blob.now) }
 {
     let at = parameters_at(blob, generic)?;
     let Some((count, at)) = count_at(blob, at)? else {
@@ -90,8 +94,9 @@ fn signature_at(blob: &[u8], generic: bool) -> Result<Option<Signature>, SigFaul
 /// The types of a method with this convention byte.
 #[tactic(auto, unfolding(crate::specs::Signatures::types_of))]
 fn types_of(blob: &[u8], convention: u8) -> Result<SigTypes, SigFault>
-    requires { length blob.now ≤ 2147483647 }
-    ensures { result ≡ types_of blob.now convention }
+    requires { IsShort blob.now }
+    ensures exact { result ≡ types_of blob.now convention }
+    ensures within { IfErr result (λ fault. offset_of fault ≤ length blob.now) }
 {
     if convention & CONVENTION_MASK != DEFAULT {
         return Ok(SigTypes::Other);
@@ -105,8 +110,9 @@ fn types_of(blob: &[u8], convention: u8) -> Result<SigTypes, SigFault>
 /// The convention byte and the types.
 #[tactic(auto, unfolding(crate::specs::Signatures::method_signature))]
 fn method_of(blob: &[u8]) -> Result<MethodSig, SigFault>
-    requires { length blob.now ≤ 2147483647 }
-    ensures { result ≡ method_signature blob.now }
+    requires { IsShort blob.now }
+    ensures exact { result ≡ method_signature blob.now }
+    ensures within { IfErr result (λ fault. offset_of fault ≤ length blob.now) }
 {
     let [convention, ..] = blob else {
         return Err(SigFault::Short(0));
@@ -127,7 +133,7 @@ fn method_of(blob: &[u8]) -> Result<MethodSig, SigFault>
 /// bytes behind the last type are not read. A convention byte that names no convention is `Form` at 0,
 /// a blob that ends too early `Short` at its end.
 pub fn method_sig(blob: &[u8]) -> Result<MethodSig, SigFault>
-    requires { length blob.now ≤ 2147483647 }
+    requires { IsShort blob.now }
     // What the blob says, or the first fault.
     ensures exact { result ≡ method_signature blob.now }
     // The blob begins with a spelling of the types that are known.
@@ -136,6 +142,8 @@ pub fn method_sig(blob: &[u8]) -> Result<MethodSig, SigFault>
     // A signature whose spelling begins the blob is known.
     ensures only { (this generic : Bool) (signature : Signature) → Begins (SpellsMethod this generic signature) blob.now →
         result ≡ Ok (record { has_this = this; generic = generic; types = SigTypes.Known signature }) }
+    // The first fault is in the blob or at its end.
+    ensures within { IfErr result (λ fault. offset_of fault ≤ length blob.now) }
 {
     method_of(blob)
 }

@@ -2,7 +2,10 @@
 //!
 //! Each reader answers None at a type outside the profile.
 
-ghost use Rattle.std.specs.Prelude.{◌≡◌, ◌≤◌, length};
+ghost use Rattle.std.specs.Prelude.{◌≡◌, ◌≤◌, length, IfErr, IfOk, IfSome, ◌≢◌};
+ghost use Rattle.cil_model.specs.declared.place.Place.TheVariants.{Void};
+ghost use Rattle.cc_base.specs.Slices.{IsShort};
+ghost use Rattle.signature_blobs.specs.Faults.{offset_of};
 ghost use Rattle.signature_blobs.specs.Types.{element_at, type_at, result_at, types_at};
 
 use crate::fault::SigFault;
@@ -25,8 +28,10 @@ const SZARRAY: u8 = 0x1d;
 /// The array whose element type stands at a place behind SZARRAY, and the place after it.
 #[tactic(auto, unfolding(crate::specs::Types::element_at))]
 fn element_at(blob: &[u8], at: u32) -> Result<Option<(Place, u32)>, SigFault>
-    requires { length blob.now ≤ 2147483647 }
-    ensures { result ≡ element_at blob.now at }
+    requires { IsShort blob.now }
+    ensures exact { result ≡ element_at blob.now at }
+    ensures within { IfErr result (λ fault. offset_of fault ≤ length blob.now) }
+    ensures value { IfOk result (λ found. IfSome found (λ read. read.0 ≢ Void)) }
 {
     match byte_at(blob, at)? {
         BOOLEAN => Ok(Some((Place::Bools, at + 1))),
@@ -38,8 +43,10 @@ fn element_at(blob: &[u8], at: u32) -> Result<Option<(Place, u32)>, SigFault>
 /// The type of a parameter or local at a place, and the place after it.
 #[tactic(auto, unfolding(crate::specs::Types::type_at))]
 pub fn type_at(blob: &[u8], at: u32) -> Result<Option<(Place, u32)>, SigFault>
-    requires { length blob.now ≤ 2147483647 }
-    ensures { result ≡ type_at blob.now at }
+    requires { IsShort blob.now }
+    ensures exact { result ≡ type_at blob.now at }
+    ensures within { IfErr result (λ fault. offset_of fault ≤ length blob.now) }
+    ensures value { IfOk result (λ found. IfSome found (λ read. read.0 ≢ Void)) }
 {
     match byte_at(blob, at)? {
         BOOLEAN => Ok(Some((Place::Bool, at + 1))),
@@ -52,8 +59,9 @@ pub fn type_at(blob: &[u8], at: u32) -> Result<Option<(Place, u32)>, SigFault>
 /// The type of a result at a place, and the place after it.
 #[tactic(auto, unfolding(crate::specs::Types::result_at))]
 pub fn result_at(blob: &[u8], at: u32) -> Result<Option<(Place, u32)>, SigFault>
-    requires { length blob.now ≤ 2147483647 }
-    ensures { result ≡ result_at blob.now at }
+    requires { IsShort blob.now }
+    ensures exact { result ≡ result_at blob.now at }
+    ensures within { IfErr result (λ fault. offset_of fault ≤ length blob.now) }
 {
     match byte_at(blob, at)? {
         VOID => Ok(Some((Place::Void, at + 1))),
@@ -64,9 +72,10 @@ pub fn result_at(blob: &[u8], at: u32) -> Result<Option<(Place, u32)>, SigFault>
 /// So many types from a place on, one after another.
 #[tactic(auto, using(crate::proofs::Loop::goes_on, crate::proofs::Loop::fails, crate::proofs::Loop::leaves, crate::proofs::Loop::is_done))]
 pub fn types_at(blob: &[u8], at: u32, count: u32) -> Result<Option<Places>, SigFault>
-    requires blob { length blob.now ≤ 2147483647 }
+    requires blob { IsShort blob.now }
     requires room { count ≤ 128 }
-    ensures { result ≡ types_at blob.now at count }
+    ensures exact { result ≡ types_at blob.now at count }
+    ensures within { IfErr result (λ fault. offset_of fault ≤ length blob.now) }
 {
     let mut places = Places::new();
     let mut next = at;
