@@ -4,7 +4,7 @@ use Rattle.std.specs.Prelude.{slice_index_or, codes}
 use Rattle.std.proofs.lemmas.Bool.{cases_lt}
 use Rattle.std.proofs.Math.Nat.{mul-le-mul_left}
 use Rattle.std.proofs.lemmas.List.{get_or_past, take_all}
-use Rattle.std.proofs.lemmas.List.Sums.{sum_by_more, sum_by_more_le}
+use Rattle.std.proofs.lemmas.List.Sums.{sum_by-cons, sum_by_more, sum_by_more_le}
 use Rattle.std.proofs.lemmas.List.FromFn.{get_or-map-range_with_len, length-map-range_with_len}
 use Rattle.cc_base.specs.Tests.{first_of}
 use Rattle.cc_base.proofs.TestLemmas.{none_behind, each-passed}
@@ -149,29 +149,36 @@ pub width-two : (counts : List ℕ) (sizes : ℕ) (column : Column) → column �
 unfolding width
 width-two counts sizes column is = rw is refl
 
--- Where a row takes a byte at least, there are no more rows than bytes.
-count-few : (count w base end : ℕ) → 1 ≤ w → 1 ≤ count → base + (count - 1) * w + w ≤ end → count ≤ end
-count-few zero w base end wide some h = omega arith
-count-few (suc count) w base end wide some h =
-    let each : count * 1 ≤ count * w = mul-le-mul_left count wide in
+-- A row has two bytes at least for each of its columns.
+row-wide : (counts : List ℕ) (sizes : ℕ) (columns : List Column) → 2 * length columns ≤ total_width counts sizes columns
+row-wide counts sizes [] = omega arith
+row-wide counts sizes (column ∷ columns) = omega (arith, row-wide counts sizes columns, width-least counts sizes column, sum_by-cons (width counts sizes) column columns)
+
+-- So many rows of so many bytes end before an end.
+rows-end : (count w base end : ℕ) → 1 ≤ count → base + (count - 1) * w + w ≤ end → count * w ≤ end
+rows-end zero w base end some h = omega arith
+rows-end (suc count) w base end some h =
     let before : suc count - 1 ≡ count = omega arith in
     let rows : base + count * w + w ≤ end = rw before at h in
-    omega (arith, each, rows)
+    omega (arith, rows)
 
-row-wide : (counts : List ℕ) (sizes : ℕ) (columns : List Column) → 0 < length columns → 1 ≤ total_width counts sizes columns
-row-wide counts sizes columns some =
-    omega (arith, sum_by_more_le (width counts sizes) columns 0 Two some, width-least counts sizes (slice_index_or columns 0 Two))
+few-cells : (count wide w end : ℕ) → 2 * wide ≤ w → count * w ≤ end → 2 * count * wide ≤ end
+few-cells count wide w end wider h =
+    let each : count * (2 * wide) ≤ count * w = mul-le-mul_left count wider in
+    let same : 2 * count * wide ≡ count * (2 * wide) = omega arith in
+    omega (arith, each, same, h)
 
--- There are no more rows than bytes.
-pub rows_few : (md : List ℕ) (table : ℕ) → first_table_fault md ≡ None → 0 < length (columns_of table) → row_count md table ≤ length md
+-- There are no more pairs of bytes in cells than in the metadata.
+pub rows_few : (md : List ℕ) (table : ℕ) → first_table_fault md ≡ None → 2 * row_count md table * length (columns_of table) ≤ length md
 unfolding row_width
-rows_few md table e some =
+rows_few md table e =
     elim (cases_lt 0 (row_count md table)) [
       | inl lt ↦
           let end = row-end md table (row_count md table) e lt (omega arith) in
-          let few = count-few (row_count md table) (row_width (row_counts md) (heap_sizes md) table) (base md table) (tables_end md) (row-wide (row_counts md) (heap_sizes md) (columns_of table) some) lt end in
+          let rows = rows-end (row_count md table) (row_width (row_counts md) (heap_sizes md) table) (base md table) (tables_end md) lt end in
+          let few = few-cells (row_count md table) (length (columns_of table)) (row_width (row_counts md) (heap_sizes md) table) (tables_end md) (row-wide (row_counts md) (heap_sizes md) (columns_of table)) rows in
           omega (arith, few, tables_end-within md e)
-      | inr none ↦ omega (arith, none)
+      | inr none ↦ let zero_rows : row_count md table ≡ 0 = omega arith in rw zero_rows (omega arith)
     ]
 
 -- No cell is narrower than two bytes.

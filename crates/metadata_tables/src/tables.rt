@@ -1,6 +1,6 @@
 //! Metadata as read: rows, cells and the items of heaps.
 
-ghost use Rattle.std.specs.Prelude.{◌≡◌, ℕ, ◌+◌, ◌^◌, ◌<◌, ◌≤◌, ◌↔◌, List, length, slice_index_or, None, Some, IsOk, IfOk, IfErr, IfSome, is_some, option_map, drop};
+ghost use Rattle.std.specs.Prelude.{◌≡◌, ℕ, ◌+◌, ◌*◌, ◌^◌, ◌<◌, ◌≤◌, ◌↔◌, List, length, slice_index_or, None, Some, IsOk, IfOk, IfErr, IfSome, is_some, option_map, drop};
 ghost use Rattle.cc_base.specs.Slices.{IsShort};
 ghost use Rattle.metadata_tables.specs.Heaps.{string_at, string_is, blob_at, blob_offset, user_string_at, StandsAt};
 ghost use Rattle.metadata_tables.specs.Layout.{row_count, column_offset, column_width, cell_at, cell};
@@ -96,7 +96,8 @@ impl<'a> Tables<'a> {
     /// How many rows a table has, 0 where there is no such table.
     pub fn row_count(&self, table: u8) -> u32
         ensures count { result ≡ row_count self.now table }
-        ensures few { 0 < length (columns_of table) → result ≤ length self.now }
+        // Each cell has two bytes at least.
+        ensures few { 2 * result * length (columns_of table) ≤ length self.now }
     {
         count_of(&self.layout.counts, table)
     }
