@@ -1,5 +1,5 @@
 -- A blob is no longer than the metadata.
-use Rattle.std.proofs.Common.{◌≡◌, ℕ, ◌+◌, ◌≤◌, List, length, take, drop, Option, Some, None, refl, ap, subst, arith, length-drop, length-take}
+use Rattle.std.proofs.Common.{◌≡◌, ℕ, ◌+◌, ◌≤◌, List, length, take, drop, Option, Some, None, ap, subst, arith, length-drop, length-take}
 use Rattle.std.specs.Prelude.{codes, IfSome, is_some, unwrap_or, option_map}
 use Rattle.metadata_tables.specs.Heaps.{StandsAt, whole_length, item_of, blob_at}
 use Rattle.metadata_tables.specs.Root.{stream, bytes_of, heap}

@@ -1,5 +1,8 @@
 pub mod BlobLemmas
 pub mod FaultLemmas
+pub mod FindLemmas
+pub mod NameLemmas
+pub mod NameTableLemmas
 pub mod RunLemmas
 pub mod TextLemmas
 pub mod WalkLemmas

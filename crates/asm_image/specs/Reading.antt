@@ -3,8 +3,10 @@ use Rattle.std.specs.Prelude.{◌≡◌, ◌+◌, ◌≤◌, ℕ, List, None}
 use Rattle.pe_reader.specs.Addresses.{metadata, metadata_at}
 use Rattle.asm_image.specs.Cells.{type_count, method_count, RunsRise, Begins}
 use Rattle.asm_image.specs.Faults.{FirstBroken}
+use Rattle.asm_image.specs.Find.{NamesFirst}
 use Rattle.asm_image.specs.Names.{owner_text}
 use Rattle.asm_image.specs.Rows.{methods_of}
+use Rattle.asm_image.specs.declared.assembly.Assembly.TheInside as assembly
 use Rattle.asm_image.specs.declared.assembly_file.AssemblyFile.TheInside as file
 
 -- An assembly is read from the bytes of a file: they have no fault, and it is seen as these bytes.
@@ -28,3 +30,8 @@ pub record IsWalk (md : List ℕ) (row owner : ℕ) (owner_name : List ℕ) : Ty
   pub begins : Begins md owner row
   pub name_kept : owner_name ≡ owner_text md owner
 
+-- The rows are those of the methods, and the table says what their names mean.
+pub record IsAssembly (inside : assembly.Inside) : Type 0 where
+  pub accepted : FirstBroken inside.file ≡ None
+  pub methods_kept : inside.methods.items ≡ methods_of inside.file
+  pub names_kept : NamesFirst inside.names.last inside.names.earlier.items (metadata inside.file) (method_count (metadata inside.file))

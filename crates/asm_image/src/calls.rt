@@ -136,7 +136,12 @@ fn is_contract_class(metadata: &Metadata<'_>, row: u32) -> bool
     ensures { result ≡ is_contract_class metadata.now.bytes row }
 {
     metadata.text_is(TYPE_REF, row, TYPE_REF_NAME, b"Contract")
-        && metadata.text_is(TYPE_REF, row, TYPE_REF_NAMESPACE, b"System.Diagnostics.Contracts")
+        && metadata.text_is(
+            TYPE_REF,
+            row,
+            TYPE_REF_NAMESPACE,
+            b"System.Diagnostics.Contracts",
+        )
 }
 
 /// The row of a table that a coded index names.

@@ -1,6 +1,7 @@
 //! .NET assemblies (ECMA-335, Partition II): a whole file with its types and methods.
 #![tactic(auto)]
 
+mod assembly;
 mod assembly_file;
 mod callee;
 mod calls;
@@ -11,10 +12,12 @@ mod metadata;
 mod method_row;
 mod method_walk;
 mod methods;
+mod name_table;
 mod names;
 mod tokens;
 mod types;
 
+pub use assembly::Assembly;
 pub use assembly_file::AssemblyFile;
 pub use callee::Callee;
 pub use contract_op::ContractOp;

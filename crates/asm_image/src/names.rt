@@ -31,11 +31,7 @@ fn append_qualified(
 }
 
 /// Appends the types of a method's parameters in parentheses.
-pub fn append_types(
-    alloc: Global,
-    line: &mut Vec<u8>,
-    types: &SigTypes,
-) -> Result<(), AllocError>
+pub fn append_types(alloc: Global, line: &mut Vec<u8>, types: &SigTypes) -> Result<(), AllocError>
     ensures { OnOk result (line.new.items ≡ line.old.items ++ types_text types.now) }
 {
     match types {

@@ -1,0 +1,89 @@
+-- Printed names with their types and without.
+use Rattle.std.proofs.Common.{◌≡◌, ◌≢◌, ℕ, suc, ◌+◌, ◌-◌, ◌<◌, ◌≤◌, List, [], ◌∷◌, ◌++◌, length, take, get_or, Bool, true, false, true≢false, length-append, refl, sym, ap, ◌∙◌, arith, inl, inr}
+use Rattle.std.specs.Prelude.{not, ◌==◌, codes}
+use Rattle.std.specs.List.{All, flat_map, list_all}
+use Rattle.std.proofs.lemmas.Bool.{cases_order}
+use Rattle.std.proofs.Math.Seq.{take-append_seam}
+use Rattle.std.proofs.lemmas.List.{get_or_at, get_or-append_right}
+use Rattle.std.proofs.lemmas.List.Concat.{flat_map-cons}
+use Rattle.std.proofs.lemmas.List.Elements.{All-get_or}
+use Rattle.std.proofs.lemmas.List.Folds.{list_all-append, list_all_at}
+use Rattle.cil_model.specs.declared.place.Place.{Place}
+use Rattle.cil_model.specs.declared.place.Place.TheVariants as places
+use Rattle.signature_blobs.specs.declared.method.SigTypes.{SigTypes}
+use Rattle.signature_blobs.specs.declared.method.SigTypes.TheVariants as types
+use Rattle.cil_model.specs.Places.{place_text, next_parameter, parameters_text}
+use Rattle.asm_image.specs.Names.{types_text}
+
+-- No parenthesis opens.
+abbrev pub opens_none : List ℕ → Bool
+opens_none text = list_all (λ byte. not (byte == 0x28)) text
+
+both : (a b : List ℕ) → opens_none a ≡ true → opens_none b ≡ true → opens_none (a ++ b) ≡ true
+both a b first second = list_all-append (λ byte. not (byte == 0x28)) a b ∙ rw (first, second) refl
+
+place-opens_none : (place : Place) → opens_none (place_text place) ≡ true
+place-opens_none places.Void = refl
+place-opens_none places.Bool = refl
+place-opens_none places.Int = refl
+place-opens_none places.Bools = refl
+place-opens_none places.Ints = refl
+
+next-opens_none : (others : List Place) → opens_none (flat_map next_parameter others) ≡ true
+next-opens_none [] = refl
+next-opens_none (place ∷ others) =
+    ap opens_none (flat_map-cons next_parameter place others)
+    ∙ both (next_parameter place) (flat_map next_parameter others) (place-opens_none place) (next-opens_none others)
+
+parameters-opens_none : (others : List Place) → opens_none (parameters_text others) ≡ true
+parameters-opens_none [] = refl
+parameters-opens_none (place ∷ others) = both (place_text place) (flat_map next_parameter others) (place-opens_none place) (next-opens_none others)
+
+-- What stands behind the parenthesis that opens.
+abbrev pub behind : SigTypes → List ℕ
+behind (types.Known known) = parameters_text known.args ++ codes ")"
+behind types.Other = codes "?)"
+
+pub types-open : (said : SigTypes) → types_text said ≡ 0x28 ∷ behind said
+types-open (types.Known known) = refl
+types-open types.Other = refl
+
+pub behind-opens_none : (said : SigTypes) → opens_none (behind said) ≡ true
+behind-opens_none (types.Known known) = both (parameters_text known.args) (codes ")") (parameters-opens_none known.args) refl
+behind-opens_none types.Other = refl
+
+-- A byte that opens a parenthesis is none of a text in which none opens.
+opens-nowhere : (text : List ℕ) (k : ℕ) → opens_none text ≡ true → k < length text → get_or text k 0 ≢ 0x28
+opens-nowhere text k none h e =
+    let fails : not (get_or text k 0 == 0x28) ≡ false = rw e refl in
+    true≢false (sym none ∙ list_all_at (λ byte. not (byte == 0x28)) text k 0 h fails)
+
+-- Where the last parenthesis opens, a printed name goes over to its types.
+last-opens : (front rest : List ℕ) (i : ℕ) → opens_none rest ≡ true → i < length (front ++ 0x28 ∷ rest) → get_or (front ++ 0x28 ∷ rest) i 0 ≡ 0x28
+    → ((k : ℕ) → i + 1 ≤ k → k < length (front ++ 0x28 ∷ rest) → get_or (front ++ 0x28 ∷ rest) k 0 ≢ 0x28) → i ≡ length front
+last-opens front rest i none h here later =
+    let whole : length (front ++ 0x28 ∷ rest) ≡ length front + suc (length rest) = length-append front (0x28 ∷ rest) in
+    elim (cases_order i (length front)) [
+      | inl same ↦ same
+      | inr (inl before) ↦ absurd (later (length front) (omega arith) (omega (arith, whole)) (get_or_at front 0x28 rest 0 (length front) refl))
+      | inr (inr beyond) ↦
+          let k = i - suc (length front) in
+          let place : i - length front ≡ suc k = omega arith in
+          let there : get_or (front ++ 0x28 ∷ rest) i 0 ≡ get_or rest k 0 =
+          get_or-append_right front (0x28 ∷ rest) (length front) i 0 refl (omega arith) ∙ rw place refl in
+          absurd (opens-nowhere rest k none (omega (arith, whole)) (sym there ∙ here))
+    ]
+
+pub front-taken : (name front : List ℕ) (said : SigTypes) (i : ℕ) → name ≡ front ++ types_text said → i < length name → get_or name i 0 ≡ 0x28
+    → ((k : ℕ) → i + 1 ≤ k → k < length name → get_or name k 0 ≢ 0x28) → take i name ≡ front
+front-taken name front said i is h here later =
+    let whole : name ≡ front ++ 0x28 ∷ behind said = is ∙ ap (λ text. front ++ text) (types-open said) in
+    let place : i ≡ length front =
+    last-opens front (behind said) i (behind-opens_none said) (rw (← whole) h) (rw (← whole) here) (rw (← whole) later) in
+    rw (whole, place) (take-append_seam front (0x28 ∷ behind said))
+
+pub opens-somewhere : (name front : List ℕ) (said : SigTypes) → name ≡ front ++ types_text said → All (λ byte. byte ≢ 0x28) name → ⊥
+opens-somewhere name front said is none =
+    let whole : name ≡ front ++ 0x28 ∷ behind said = is ∙ ap (λ text. front ++ text) (types-open said) in
+    let long : length name ≡ length front + suc (length (behind said)) = ap length whole ∙ length-append front (0x28 ∷ behind said) in
+    All-get_or (λ byte. byte ≢ 0x28) name (length front) 0 (omega (arith, long)) none (rw whole (get_or_at front 0x28 (behind said) 0 (length front) refl))
