@@ -1,11 +1,8 @@
--- A blob is no longer than the metadata, and what it says of locals.
-use Rattle.std.proofs.Common.{◌≡◌, ℕ, ◌+◌, ◌≤◌, List, length, take, drop, Option, Some, None, refl, ap, subst, arith, length-drop, length-take}
+-- A blob is no longer than the metadata.
+use Rattle.std.proofs.Common.{◌≡◌, ℕ, ◌+◌, ◌≤◌, List, length, take, drop, Option, Some, None, ap, subst, arith, length-drop, length-take}
 use Rattle.std.specs.Prelude.{codes, IfSome, is_some, unwrap_or, option_map}
-use Rattle.metadata_tables.specs.Heaps.{StandsAt, whole_prefix, item_of, blob_at}
-use Rattle.metadata_tables.specs.Layout.{cell}
+use Rattle.metadata_tables.specs.Heaps.{StandsAt, whole_length, item_of, blob_at}
 use Rattle.metadata_tables.specs.Root.{stream, bytes_of, heap}
-use Rattle.signature_blobs.specs.Signatures.{local_signature}
-use Rattle.asm_image.specs.Tokens.{faultless, locals_at}
 
 some-is : {X : Type 0} (x y : X) → Some x ≡ Some y → x ≡ y
 some-is x y e = cc
@@ -24,12 +21,12 @@ stream-short md name =
 item-short : (bytes item : List ℕ) → Some item ≡ item_of bytes → length item ≤ length bytes
 unfolding item_of
 item-short bytes item e =
-    mapped-within _ (whole_prefix bytes) item (length bytes) e
-    (λ f. omega (arith, length-take f.len (drop f.width bytes), length-drop f.width bytes))
+    mapped-within _ (whole_length bytes) item (length bytes) e
+    (λ f. omega (arith, length-take f.number (drop f.width bytes), length-drop f.width bytes))
 
-pub blob-short : (md item : List ℕ) (index : ℕ) → Some item ≡ blob_at md index → length item ≤ length md
+pub blob_short : (md item : List ℕ) (index : ℕ) → Some item ≡ blob_at md index → length item ≤ length md
 unfolding blob_at heap
-blob-short md item index e =
+blob_short md item index e =
     let all = bytes_of md (stream md (codes "#Blob")) in
     omega (arith, item-short (drop index all) item e, length-drop index all, stream-short md (codes "#Blob"))
 
@@ -47,17 +44,7 @@ ends md item (Some found) (Some at) e lent stands within =
     length-same md item at (subst (StandsAt md at) same stands) within
 
 -- A blob ends in the metadata.
-pub blob-end : (md item : List ℕ) (index : ℕ) (place : Option ℕ) → Some item ≡ blob_at md index → is_some place ≡ is_some (blob_at md index)
+pub blob_end : (md item : List ℕ) (index : ℕ) (place : Option ℕ) → Some item ≡ blob_at md index → is_some place ≡ is_some (blob_at md index)
     → IfSome place (λ at. IfSome (blob_at md index) (λ bytes. StandsAt md at bytes)) → IfSome place (λ at. at ≤ length md)
     → unwrap_or place 0 + length item ≤ length md
-blob-end md item index place e lent stands within = ends md item (blob_at md index) place e lent stands within
-
--- No blob is there.
-pub locals-none : (md : List ℕ) (row index : ℕ) → index ≡ cell md 17 row 0 → None ≡ blob_at md index → None ≡ locals_at md row
-unfolding locals_at
-locals-none md row index is none = rw (← is, ← none) refl
-
--- The blob is there.
-pub locals-read : (md blob : List ℕ) (row index : ℕ) → index ≡ cell md 17 row 0 → Some blob ≡ blob_at md index → faultless (local_signature blob) ≡ locals_at md row
-unfolding locals_at
-locals-read md blob row index is some = rw (← is, ← some) refl
+blob_end md item index place e lent stands within = ends md item (blob_at md index) place e lent stands within

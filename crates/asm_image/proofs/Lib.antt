@@ -1,12 +1,8 @@
 pub mod BlobLemmas
-pub mod CallLemmas
-pub mod CellLemmas
 pub mod FaultLemmas
 pub mod FindLemmas
-pub mod FrontLemmas
 pub mod NameLemmas
 pub mod NameTableLemmas
-pub mod ReadLemmas
 pub mod RunLemmas
-pub mod SigPlaceLemmas
-pub mod TablePlaceLemmas
+pub mod TextLemmas
+pub mod WalkLemmas

@@ -12,7 +12,8 @@ use Rattle.cil_model.specs.declared.place.Place.{Place}
 use Rattle.cil_model.specs.declared.place.Place.TheVariants as places
 use Rattle.signature_blobs.specs.declared.method.SigTypes.{SigTypes}
 use Rattle.signature_blobs.specs.declared.method.SigTypes.TheVariants as types
-use Rattle.asm_image.specs.Names.{place_text, next_parameter, parameters_text, types_text}
+use Rattle.cil_model.specs.Places.{place_text, next_parameter, parameters_text}
+use Rattle.asm_image.specs.Names.{types_text}
 
 -- No parenthesis opens.
 abbrev pub opens_none : List ℕ → Bool

@@ -3,10 +3,9 @@ use Rattle.std.proofs.Common.{◌≡◌, ℕ, List, [], ◌∷◌, map, Bool, tr
 use Rattle.std.specs.Map.{lookup}
 use Rattle.std.specs.Str.{bytes_eq}
 use Rattle.std.proofs.lemmas.Slice.Eq.{bytes_eq-Decides}
-use Rattle.cc_base.specs.declared.token.Token.{Token}
+use Rattle.std.specs.Prelude.{unwrap_or}
 use Rattle.indexmap.specs.IndexMap.{insert_entry}
-use Rattle.asm_image.specs.Find.{meaning, one_more, Notes}
-use Rattle.asm_image.specs.declared.found.Found.{Found}
+use Rattle.asm_image.specs.Find.{Notes}
 
 twice : {A : Type 0} (b : Bool) (x y z : A) → cond b x z ≡ cond b x (cond b y z)
 twice true x y z = refl
@@ -64,10 +63,18 @@ module _ {K X : Type 0} (f : K → List ℕ) (name : List ℕ) (key : K) (x : X)
   lookup-insert (entry ∷ entries) =
       insert-one entry entries (insert_entry (keys_eq f) entries key x) (keys_eq f key entry.0) refl (lookup-insert entries)
 
-pub noted : {K : Type 0} (f : K → List ℕ) (old new : List (K × Found)) (table : List (List ℕ × Found)) (key : K) (x : Found) (token : Token)
-    → seen f old ≡ table → new ≡ insert_entry (keys_eq f) old key x → x ≡ one_more (meaning table (f key)) token → Notes table (f key) token (seen f new)
-noted f old new table key x token view is said other =
-    let before : lookup (λ k. bytes_eq other (f k)) old ≡ meaning table other = sym (lookup-seen f (bytes_eq other) old) ∙ ap (λ t. meaning t other) view in
-    let after : lookup (λ k. bytes_eq other (f k)) new ≡ cond (bytes_eq other (f key)) (Some x) (lookup (λ k. bytes_eq other (f k)) old) =
-    rw is (lookup-insert f other key x old) in
-    lookup-seen f (bytes_eq other) new ∙ after ∙ rw (before, said) refl
+-- What is noted for a name.
+pub noted : {K : Type 0} (f : K → List ℕ) (old new : List (K × ℕ)) (table : List (List ℕ × ℕ)) (key : K) (row : ℕ)
+    → seen f old ≡ table → new ≡ insert_entry (keys_eq f) old key row → Notes table (f key) row (seen f new)
+noted f old new table key row view is other =
+    let before : lookup (λ k. bytes_eq other (f k)) old ≡ lookup (bytes_eq other) table = sym (lookup-seen f (bytes_eq other) old) ∙ ap (lookup (bytes_eq other)) view in
+    let after : lookup (λ k. bytes_eq other (f k)) new ≡ cond (bytes_eq other (f key)) (Some row) (lookup (λ k. bytes_eq other (f k)) old) =
+    rw is (lookup-insert f other key row old) in
+    let found : lookup (bytes_eq other) (seen f new) ≡ cond (bytes_eq other (f key)) (Some row) (lookup (bytes_eq other) table) =
+    lookup-seen f (bytes_eq other) new ∙ after ∙ rw before refl in
+    ap (λ (o : Option ℕ). unwrap_or o 0) found
+    ∙ either_way (bytes_eq other (f key)) row (lookup (bytes_eq other) table)
+  where
+    either_way : (b : Bool) (row : ℕ) (found : Option ℕ) → unwrap_or (cond b (Some row) found) 0 ≡ cond b row (unwrap_or found 0)
+    either_way true row found = refl
+    either_way false row found = refl

@@ -4,13 +4,12 @@ use Rattle.std.proofs.lemmas.Bool.{le-leb, lt-leb, leb-true}
 use Rattle.std.proofs.lemmas.Bool.Decides.{nat_tests}
 use Rattle.cc_base.specs.Tests.{first_of, must}
 use Rattle.cc_base.proofs.TestLemmas.{none_behind, none_here, each-passed}
-use Rattle.asm_image.specs.Cells.{type_count, method_list, owner_among, owner, RunsRise}
+use Rattle.asm_image.specs.Cells.{type_count, method_list, owner_among, owner, RunsRise, Begins}
 use Rattle.asm_image.specs.Faults.{least_list, list_test, text_test, type_tests, types_tests}
-use Rattle.asm_image.specs.Reading.{Begins}
 use Rattle.asm_image.specs.declared.fault.AsmFault.{AsmFault}
 
-pub least-next : (md : List ℕ) (i : ℕ) → least_list md (i + 1 + 1) ≡ method_list md (i + 1)
-least-next md i =
+pub least_next : (md : List ℕ) (i : ℕ) → least_list md (i + 1 + 1) ≡ method_list md (i + 1)
+least_next md i =
     let other : eqb (i + 1 + 1) 1 ≡ false = grind (arith, nat_tests) in
     let before : i + 1 + 1 - 1 ≡ i + 1 = omega arith in
     rw other (ap (method_list md) before)
@@ -27,7 +26,7 @@ step-rises md base k e =
     let last = none_behind (text_test md base 2 row 1 ∷ text_test md base 2 row 2 ∷ []) (list_test md base row ∷ []) e in
     let here = none_here (list_test md base row) [] last in
     let holds = leb-true (least_list md row) (method_list md row) (must-both _ _ _ here) in
-    omega (arith, holds, least-next md k)
+    omega (arith, holds, least_next md k)
 
 rises : (md : List ℕ) (base i d : ℕ) → first_of (types_tests md base) ≡ None → 1 ≤ i → i + d ≤ type_count md → method_list md i ≤ method_list md (i + d)
 unfolding types_tests
@@ -45,8 +44,8 @@ rises md base i (suc d) e low high =
     omega (arith, before, step, low_end, high_end)
 
 -- Where all types pass, the runs rise.
-pub runs-rise : (md : List ℕ) (base : ℕ) → first_of (types_tests md base) ≡ None → RunsRise md
-runs-rise md base e i j low le high =
+pub runs_rise : (md : List ℕ) (base : ℕ) → first_of (types_tests md base) ≡ None → RunsRise md
+runs_rise md base e i j low le high =
     let there : i + (j - i) ≡ j = omega arith in
     subst (λ (k : ℕ). method_list md i ≤ method_list md k) there (rises md base i (j - i) e low (omega arith))
 
@@ -72,15 +71,15 @@ owner-more md row k (suc n) begins later =
     rw more (one ∙ owner-more md row k n begins (λ j low high. later j low (omega arith)))
 
 -- The next type's run begins behind the method.
-pub owner-stop : (md : List ℕ) (row k : ℕ) → RunsRise md → Begins md k row → k < type_count md → row < method_list md (k + 1) → k ≡ owner md row
+pub owner_stop : (md : List ℕ) (row k : ℕ) → RunsRise md → Begins md k row → k < type_count md → row < method_list md (k + 1) → k ≡ owner md row
 unfolding owner
-owner-stop md row k rise begins lt past =
+owner_stop md row k rise begins lt past =
     let all : k + (type_count md - k) ≡ type_count md = omega arith in
     sym (subst (λ (n : ℕ). owner_among md row n ≡ k) all
     (owner-more md row k (type_count md - k) begins
     (λ j low high. let up = rise (k + 1) j (omega arith) (omega arith) (omega arith) in omega (arith, up, past))))
 
 -- There is no later type.
-pub owner-done : (md : List ℕ) (row k : ℕ) → Begins md k row → k ≡ type_count md → k ≡ owner md row
+pub owner_done : (md : List ℕ) (row k : ℕ) → Begins md k row → k ≡ type_count md → k ≡ owner md row
 unfolding owner
-owner-done md row k begins is = sym (rw (← is) (owner-here md row k begins))
+owner_done md row k begins is = sym (rw (← is) (owner-here md row k begins))

@@ -3,8 +3,9 @@ use Rattle.std.specs.Prelude.{ℕ, ◌+◌, ◌/◌, ◌%◌, List, [], ◌∷�
 use Rattle.std.specs.Option.{option_and_then}
 use Rattle.std.specs.Str.{bytes_eq}
 use Rattle.cil_model.specs.declared.place.Place.{Place}
-use Rattle.cil_model.specs.declared.place.Place.TheVariants as places
+use Rattle.cil_model.specs.Places.{place_number}
 use Rattle.metadata_tables.specs.Layout.{row_count, cell}
+use Rattle.metadata_tables.specs.Numbers.{type_ref, type_ref_name, type_ref_namespace, method_def, member_ref, member_ref_class, member_ref_name, member_ref_signature, method_spec, method_spec_method, method_spec_instantiation}
 use Rattle.signature_blobs.specs.Signatures.{spec_signature}
 use Rattle.signature_blobs.specs.declared.fault.SigFault.{SigFault}
 use Rattle.asm_image.specs.Cells.{text, blob}
@@ -23,18 +24,18 @@ tagged_row md table tag values index =
 -- The row of TypeRef that the column Class of a MemberRef names. It is a MemberRefParent, whose tag 1 of 3
 -- bits is TypeRef.
 abbrev pub class_row : List ℕ → ℕ → Option ℕ
-class_row md row = tagged_row md 0x01 1 8 (cell md 0x0a row 0)
+class_row md row = tagged_row md type_ref 1 8 (cell md member_ref row member_ref_class)
 
 -- The row of MemberRef that the column Method of a MethodSpec names. It is a MethodDefOrRef, whose tag 1 of
 -- one bit is MemberRef.
 abbrev pub member_row : List ℕ → ℕ → Option ℕ
-member_row md row = tagged_row md 0x0a 1 2 (cell md 0x2b row 0)
+member_row md row = tagged_row md member_ref 1 2 (cell md method_spec row method_spec_method)
 
 -- A row of TypeRef is the class of contracts, in whatever assembly.
 unfoldable pub is_contract_class : List ℕ → ℕ → Bool
 is_contract_class md row =
-    bytes_eq (text md 0x01 row 1) (codes "Contract")
-    && bytes_eq (text md 0x01 row 2) (codes "System.Diagnostics.Contracts")
+    bytes_eq (text md type_ref row type_ref_name) (codes "Contract")
+    && bytes_eq (text md type_ref row type_ref_namespace) (codes "System.Diagnostics.Contracts")
 
 -- A row of MemberRef is a method of that class.
 unfoldable pub is_contract_method : List ℕ → ℕ → Bool
@@ -92,15 +93,7 @@ number_among (method ∷ methods) name signature =
 -- The number of the listed method that a row of MemberRef names.
 unfoldable pub member_number : List ℕ → List Listed → ℕ → Option ℕ
 member_number md methods row =
-    if is_contract_method md row then number_among methods (text md 0x0a row 1) (blob md 0x0a row 2) else None
-
--- The number of a type argument.
-abbrev pub place_number : Place → ℕ
-place_number places.Void = 0
-place_number places.Bool = 1
-place_number places.Int = 2
-place_number places.Bools = 3
-place_number places.Ints = 4
+    if is_contract_method md row then number_among methods (text md member_ref row member_ref_name) (blob md member_ref row member_ref_signature) else None
 
 -- The place that was read, where there is one.
 abbrev pub read_place : Result (Option Place) SigFault → Option Place
@@ -109,7 +102,7 @@ read_place (Err fault) = None
 
 -- The number of the type argument that a row of MethodSpec gives, where it is in the profile.
 abbrev pub argument_number : List ℕ → ℕ → Option ℕ
-argument_number md row = option_map place_number (read_place (spec_signature (blob md 0x2b row 1)))
+argument_number md row = option_map place_number (read_place (spec_signature (blob md method_spec row method_spec_instantiation)))
 
 -- The number of the generic method that a row of MethodSpec names, with its type argument.
 unfoldable pub instance_number : List ℕ → ℕ → Option ℕ
@@ -132,4 +125,4 @@ callee_by md token None None None = Outside
 
 -- What a token calls.
 unfoldable pub callee_of : List ℕ → ℕ → Callee
-callee_of md token = callee_by md token (row_in md 0x06 token) (row_in md 0x0a token) (row_in md 0x2b token)
+callee_of md token = callee_by md token (row_in md method_def token) (row_in md member_ref token) (row_in md method_spec token)

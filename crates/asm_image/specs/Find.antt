@@ -1,5 +1,5 @@
 -- What a name means among the methods of an assembly.
-use Rattle.std.specs.Prelude.{◌≡◌, ℕ, List, [], ◌∷◌, Bool, ◌||◌, Option, Some, None, filter, if◌then◌else◌}
+use Rattle.std.specs.Prelude.{◌≡◌, ℕ, zero, suc, ◌+◌, ◌<◌, List, [], ◌∷◌, length, Bool, ◌||◌, Option, Some, None, unwrap_or, slice_index, filter, if◌then◌else◌}
 use Rattle.std.specs.List.{range_with_len}
 use Rattle.std.specs.Map.{lookup}
 use Rattle.std.specs.Str.{bytes_eq}
@@ -29,26 +29,46 @@ found (row ∷ other ∷ others) = Some Several
 unfoldable pub find_of : List ℕ → List ℕ → Option Found
 find_of bytes name = let md = metadata bytes in found (meant_among md name (method_count md))
 
--- ---- the table of names
+-- Among those whose whole printed name it is, and among those whose printed name it is up to the types.
+abbrev pub whole_of : List ℕ → List ℕ → Option Found
+whole_of bytes name =
+    let md = metadata bytes in
+    found (filter (λ row. bytes_eq name (printed_name md row)) (range_with_len 1 (method_count md)))
 
--- What stands beside a name in a table of names.
-abbrev pub meaning : List (List ℕ × Found) → List ℕ → Option Found
-meaning table name = lookup (bytes_eq name) table
+abbrev pub short_of : List ℕ → List ℕ → Option Found
+short_of bytes name =
+    let md = metadata bytes in
+    found (filter (λ row. bytes_eq name (short_name md row)) (range_with_len 1 (method_count md)))
 
--- What a name means when it is noted for one method more.
+-- What two sets of methods without a common one mean together.
+abbrev pub either : Option Found → Option Found → Option Found
+either None second = second
+either (Some first) None = Some first
+either (Some first) (Some second) = Some Several
+
+-- What is meant once one method more is.
 abbrev pub one_more : Option Found → Token → Found
 one_more None token = One token
 one_more (Some before) token = Several
 
--- A table after a name is noted for a method. No other name changes.
-abbrev pub Notes : List (List ℕ × Found) → List ℕ → Token → List (List ℕ × Found) → Type 0
-Notes old name token new = (other : List ℕ) →
-    meaning new other ≡ (if bytes_eq other name then Some (one_more (meaning old name) token) else meaning old other)
+-- ---- the table of names
 
--- A table says what each name means among the first so many methods.
-abbrev pub NamesFirst : List (List ℕ × Found) → List ℕ → ℕ → Type 0
-NamesFirst table md count = (name : List ℕ) → meaning table name ≡ found (meant_among md name count)
+-- The last row that stands beside a name in a table of names, 0 where the name is not there.
+abbrev pub last_of : List (List ℕ × ℕ) → List ℕ → ℕ
+last_of table name = unwrap_or (lookup (bytes_eq name) table) 0
 
--- Or among all methods.
-abbrev pub NamesAll : List (List ℕ × Found) → List ℕ → Type 0
-NamesAll table md = NamesFirst table md (method_count md)
+-- A table after a name is noted for a row. No other name changes.
+abbrev pub Notes : List (List ℕ × ℕ) → List ℕ → ℕ → List (List ℕ × ℕ) → Type 0
+Notes old name row new = (other : List ℕ) → last_of new other ≡ (if bytes_eq other name then row else last_of old other)
+
+-- The last of the first so many methods that has a name up to the types of its parameters, 0 where none has.
+abbrev pub last_named : List ℕ → List ℕ → ℕ → ℕ
+last_named md name zero = 0
+last_named md name (suc n) = if bytes_eq name (short_name md (suc n)) then suc n else last_named md name n
+
+-- A table of names tells the last of the first so many methods that has a name, and for each method the one
+-- before it that has the same name.
+pub record NamesFirst (last : List (List ℕ × ℕ)) (earlier md : List ℕ) (count : ℕ) : Type 0 where
+  pub lasts : (name : List ℕ) → last_of last name ≡ last_named md name count
+  pub long : length earlier ≡ count
+  pub befores : (k : ℕ) → k < count → slice_index earlier k ≡ last_named md (short_name md (k + 1)) k

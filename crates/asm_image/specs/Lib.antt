@@ -2,6 +2,7 @@ pub mod Calls
 pub mod Cells
 pub mod Faults
 pub mod Find
+pub mod Metadata
 pub mod Names
 pub mod Reading
 pub mod Rows

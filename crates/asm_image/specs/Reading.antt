@@ -1,30 +1,37 @@
--- What the steps of the reading promise.
-use Rattle.std.specs.Prelude.{◌≡◌, ◌≤◌, ℕ, List, length, Option, Some, None, Result, Ok, Err}
-use Rattle.pe_reader.specs.Addresses.{metadata}
-use Rattle.asm_image.specs.Cells.{method_list}
-use Rattle.asm_image.specs.Faults.{first_assembly_fault}
-use Rattle.asm_image.specs.Find.{meaning, find_of}
+-- What is kept of an assembly's file, of a walk over its methods, and of an assembly.
+use Rattle.std.specs.Prelude.{◌≡◌, ◌+◌, ◌≤◌, ℕ, List, None}
+use Rattle.pe_reader.specs.Addresses.{metadata, metadata_at}
+use Rattle.asm_image.specs.Cells.{type_count, method_count, RunsRise, Begins}
+use Rattle.asm_image.specs.Faults.{FirstBroken}
+use Rattle.asm_image.specs.Find.{NamesFirst}
+use Rattle.asm_image.specs.Names.{owner_text}
 use Rattle.asm_image.specs.Rows.{methods_of}
-use Rattle.asm_image.specs.declared.assembly.Assembly.TheInside.{Inside}
-use Rattle.asm_image.specs.declared.fault.AsmFault.{AsmFault}
-use Rattle.asm_image.specs.declared.fault.AsmRefusal.{AsmRefusal}
-use Rattle.asm_image.specs.declared.fault.AsmRefusal.TheVariants as refusals
+use Rattle.asm_image.specs.declared.assembly.Assembly.TheInside as assembly
+use Rattle.asm_image.specs.declared.assembly_file.AssemblyFile.TheInside as file
 
--- Ok where no test failed, and then a value of which P holds; else the first fault, unless memory ran out.
-abbrev pub Reads : {X : Type 0} → Result X AsmRefusal → Option AsmFault → (X → Type 0) → Type 0
-Reads (Ok x) first P = (first ≡ None) × P x
-Reads (Err (refusals.Bad fault)) first P = first ≡ Some fault
-Reads (Err refusals.NoMemory) first P = Unit {0}
+-- An assembly is read from the bytes of a file: they have no fault, and it is seen as these bytes.
+pub record Reads (bytes assembly : List ℕ) : Type 0 where
+  pub whole : FirstBroken bytes ≡ None
+  pub same : assembly ≡ bytes
 
--- A type's run begins at or before a method. Row 0 is no type.
-abbrev pub Begins : List ℕ → ℕ → ℕ → Type 0
-Begins md type row = 1 ≤ type → method_list md type ≤ row
+-- The file has no fault, and the metadata is that of the file.
+pub record IsFile (inside : file.Inside) : Type 0 where
+  pub accepted : FirstBroken inside.image ≡ None
+  pub metadata_kept : inside.metadata.bytes ≡ metadata inside.image
+  pub offset_kept : inside.metadata.offset ≡ metadata_at inside.image
+  pub rise : RunsRise inside.metadata.bytes
 
--- What is kept of an assembly: the file, its metadata, its methods and what their names mean, of a file
--- without a fault.
-pub record IsAssembly (inside : Inside) : Type 0 where
-  pub accepted : first_assembly_fault inside.image ≡ None
-  pub metadata_kept : inside.tables ≡ metadata inside.image
-  pub metadata_short : length inside.tables ≤ 2147483647
-  pub methods_kept : inside.methods.items ≡ methods_of inside.image
-  pub names_kept : (name : List ℕ) → meaning inside.names name ≡ find_of inside.image name
+-- A walk is at a method or behind the last, and the type is one whose run begins at or before that method.
+pub record IsWalk (md : List ℕ) (row owner : ℕ) (owner_name : List ℕ) : Type 0 where
+  pub first : 1 ≤ row
+  pub last : row ≤ method_count md + 1
+  pub rise : RunsRise md
+  pub type_there : owner ≤ type_count md
+  pub begins : Begins md owner row
+  pub name_kept : owner_name ≡ owner_text md owner
+
+-- The rows are those of the methods, and the table says what their names mean.
+pub record IsAssembly (inside : assembly.Inside) : Type 0 where
+  pub accepted : FirstBroken inside.file ≡ None
+  pub methods_kept : inside.methods.items ≡ methods_of inside.file
+  pub names_kept : NamesFirst inside.names.last inside.names.earlier.items (metadata inside.file) (method_count (metadata inside.file))

@@ -1,41 +1,35 @@
 //! Whole assemblies.
 
-ghost use Rattle.std.specs.Prelude.{◌≡◌, ◌+◌, ◌≤◌, length, None, Some, Err, IfOk};
-ghost use Rattle.cc_base.specs.Tests.{first_of, Judges};
+ghost use Rattle.std.specs.Prelude.{◌≡◌, ◌++◌, None, Some, Err, IfOk};
+ghost use Rattle.cc_base.specs.Tests.{JudgesOrNoMemory};
+ghost use Rattle.cc_base.specs.declared.refusal.Refusal.TheVariants.{Bad};
 ghost use Rattle.pe_reader.specs.Addresses.{metadata};
 ghost use Rattle.asm_image.specs.Calls.{callee_of};
-ghost use Rattle.asm_image.specs.Faults.{pe_place, table_place, file_tests, tables_tests, first_assembly_fault};
-ghost use Rattle.asm_image.specs.Find.{find_of};
+ghost use Rattle.asm_image.specs.Faults.{FirstBroken};
+ghost use Rattle.asm_image.specs.Find.{either, one_more, find_of, whole_of, short_of};
 ghost use Rattle.asm_image.specs.Reading.{Reads};
-ghost use Rattle.asm_image.specs.Rows.{methods_of};
+ghost use Rattle.asm_image.specs.Rows.{methods_of, named};
 ghost use Rattle.asm_image.specs.declared.fault.AsmFault.{AsmFault};
-ghost use Rattle.asm_image.specs.declared.fault.AsmRefusal.TheVariants.{Bad};
 ghost use Rattle.asm_image.specs.Tokens.{locals_of, element_of};
 
+use crate::assembly_file::AssemblyFile;
 use crate::callee::Callee;
-use crate::fault::{AsmFault, AsmRefusal, Cause};
+use crate::fault::AsmRefusal;
 use crate::found::Found;
-use crate::method_row::MethodRow;
-use crate::methods::read_methods;
-use crate::name_table::NameTable;
-use crate::types::test_types;
+use crate::method_row::{Method, MethodRow};
+use crate::name_table::{NameTable, short_name};
 use crate::{calls, tokens};
 use cc_base::Token;
-use cil_model::Place;
-use metadata_tables::{TableFault, Tables};
-use pe_reader::{Image, PeFault};
+use cil_model::{List, Place};
+use pe_reader::Image;
 use signature_blobs::LocalSig;
-use std::alloc::Global;
+use std::alloc::{AllocError, Global};
 use std::marker::Model;
 
-/// The most bytes of a file.
-const MOST_BYTES: u32 = 67_108_864;
-
-/// An assembly without a fault. Contracts see it as the file's bytes.
+/// An assembly without a fault, with its methods by their names. Contracts see it as the file's bytes.
 #[derive(Drop)]
 pub struct Assembly<'a> {
-    image: Image<'a>,
-    tables: Tables<'a>,
+    file: AssemblyFile<'a>,
     methods: Vec<MethodRow>,
     names: NameTable,
 }
@@ -45,81 +39,72 @@ impl<'a> Model for Assembly<'a> {
 
     ghost Value = { List ℕ };
 
-    ghost view = { λ assembly. assembly.image };
+    ghost view = { λ assembly. assembly.file };
 
     ghost use Rattle.asm_image.specs.Reading.{IsAssembly};
 
     ghost invariant = { IsAssembly };
 }
 
-/// The place, or for an address outside the address, that a fault of a PE file names.
-fn pe_place(fault: PeFault) -> u32
-    ensures { result ≡ pe_place fault }
+/// A method with its printed name.
+fn named(method: Method, name: Vec<u8>) -> MethodRow
+    ensures { result ≡ named method name.items }
 {
-    match fault {
-        PeFault::TooShort(at) | PeFault::NotPe(at) | PeFault::NoCli(at) => at,
-        PeFault::RvaOutside(rva) => rva,
+    MethodRow {
+        token: method.token,
+        name: List::from_vec(name),
+        flags: method.flags,
+        impl_flags: method.impl_flags,
+        rva: method.rva,
+        sig: method.sig,
     }
 }
 
-/// The place in the file that a fault of the tables names.
-fn table_place(base: u32, fault: TableFault) -> u32
-    requires { table_place base fault ≤ 2147483647 }
-    ensures { result ≡ table_place base fault }
+/// The rows of all methods.
+#[tactic(auto, using(crate::proofs::WalkLemmas::collected))]
+fn read_methods(alloc: Global, file: &AssemblyFile<'_>) -> Result<Vec<MethodRow>, AllocError>
+    ensures { IfOk result (λ methods. methods.items ≡ methods_of file.now) }
 {
-    match fault {
-        TableFault::BadTables { bit: _, at } | TableFault::Short(at) | TableFault::HeapEnd(at) =>
-            base + at,
-        TableFault::BadRoot | TableFault::MissingStream | TableFault::IndexOut { .. } => base,
+    let mut methods = Vec::new(alloc);
+    let mut walk = file.methods(alloc);
+    while let Some(method) = walk.current() {
+        let mut name = Vec::new(alloc);
+        walk.append_name(alloc, &mut name)?;
+        methods.push(named(method, name))?;
+        walk.advance();
+    }
+    Ok(methods)
+}
+
+/// What two sets of methods without a common one mean together.
+fn either(first: Option<Found>, second: Option<Found>) -> Option<Found>
+    ensures { result ≡ either first second }
+{
+    match (first, second) {
+        (None, found) | (found, None) => found,
+        (Some(_), Some(_)) => Some(Found::Several),
     }
 }
 
-/// Reads the PE file.
-fn read_image<'a>(bytes: &'a [u8]) -> Result<Image<'a>, AsmFault>
-    ensures { Judges result (first_of (file_tests bytes.now)) (λ image. image ≡ bytes.now) }
+/// What is meant once one method more is.
+fn one_more(before: Option<Found>, token: Token) -> Found
+    ensures { result ≡ one_more before token }
 {
-    if bytes.len() > MOST_BYTES as usize {
-        return Err(AsmFault {
-            at: MOST_BYTES,
-            cause: Cause::Large,
-        });
-    }
-    match Image::read(bytes) {
-        Ok(image) => Ok(image),
-        Err(fault) => Err(AsmFault {
-            at: pe_place(fault),
-            cause: Cause::Pe(fault),
-        }),
-    }
-}
-
-/// Reads the tables of the metadata, which begins at the place `base` of the file.
-fn read_tables<'a>(md: &'a [u8], base: u32) -> Result<Tables<'a>, AsmFault>
-    requires { base + length md.now ≤ 2147483647 }
-    ensures { Judges result (first_of (tables_tests md.now base)) (λ tables. tables ≡ md.now) }
-{
-    match Tables::read(md) {
-        Ok(tables) => Ok(tables),
-        Err(fault) => Err(AsmFault {
-            at: table_place(base, fault),
-            cause: Cause::Table(fault),
-        }),
+    match before {
+        None => Found::One(token),
+        Some(_) => Found::Several,
     }
 }
 
 /// Reads an assembly.
 fn read_assembly<'a>(alloc: Global, bytes: &'a [u8]) -> Result<Assembly<'a>, AsmRefusal>
-    ensures { Reads result (first_assembly_fault bytes.now) (λ assembly. assembly ≡ bytes.now) }
+    ensures { JudgesOrNoMemory result (FirstBroken bytes.now) (λ assembly. assembly ≡ bytes.now) }
 {
-    let image = read_image(bytes)?;
-    let base = image.metadata_at();
-    let tables = read_tables(image.metadata(), base)?;
-    test_types(&tables, base)?;
-    let methods = read_methods(alloc, &tables, base)?;
+    let file = AssemblyFile::read(bytes)?;
+    let methods = read_methods(alloc, &file)?;
     let names = NameTable::of(alloc, &methods)?;
     Ok(Assembly {
-        image,
-        tables,
+        file,
         methods,
         names,
     })
@@ -132,10 +117,10 @@ impl<'a> Assembly<'a> {
     /// Cost: each type and each method is visited once.
     pub fn read(alloc: Global, bytes: &'a [u8]) -> Result<Assembly<'a>, AsmRefusal>
         // What is read is the file, and no test of the list fails.
-        ensures value { IfOk result (λ assembly. assembly ≡ bytes.now) }
-        ensures accepted { IfOk result (λ _. first_assembly_fault bytes.now ≡ None) }
+        ensures value { IfOk result (Reads bytes.now) }
+        ensures accepted { IfOk result (λ _. FirstBroken bytes.now ≡ None) }
         // A fault is that of the first test that fails.
-        ensures refused { (fault : AsmFault) → result ≡ Err (Bad fault) → first_assembly_fault bytes.now ≡ Some fault }
+        ensures refused { (fault : AsmFault) → result ≡ Err (Bad fault) → FirstBroken bytes.now ≡ Some fault }
     {
         read_assembly(alloc, bytes)
     }
@@ -143,7 +128,7 @@ impl<'a> Assembly<'a> {
     /// The methods, in the order of the table MethodDef.
     pub fn methods(&self) -> &[MethodRow]
         ensures methods { result.now ≡ methods_of self.now }
-        ensures accepted { first_assembly_fault self.now ≡ None }
+        ensures accepted { FirstBroken self.now ≡ None }
     {
         &self.methods
     }
@@ -151,18 +136,51 @@ impl<'a> Assembly<'a> {
     /// What a name means: the methods whose printed name it is, whole or up to the types of the parameters.
     /// None where there is no such method.
     ///
-    /// Cost: one look-up, which takes no memory.
+    /// Cost: two look-ups, and one comparison for each method that has the name up to the types. It takes
+    /// no memory.
     pub fn find(&self, name: &[u8]) -> Option<Found>
         ensures { result ≡ find_of self.now name.now }
     {
-        self.names.get(name)
+        either(self.find_whole(name), self.find_short(name))
+    }
+
+    /// The methods whose whole printed name this is.
+    fn find_whole(&self, name: &[u8]) -> Option<Found>
+        ensures { result ≡ whole_of self.now name.now }
+    {
+        let mut found = None;
+        let short = short_name(name);
+        let mut row = self.names.last_of(short);
+        while row > 0 {
+            let method = &self.methods[row - 1];
+            if name == method.name.as_slice() {
+                found = Some(one_more(found, method.token));
+            }
+            row = self.names.before(row);
+        }
+        found
+    }
+
+    /// The methods whose printed name this is up to the types of the parameters.
+    fn find_short(&self, name: &[u8]) -> Option<Found>
+        ensures { result ≡ short_of self.now name.now }
+    {
+        let row = self.names.last_of(name);
+        if row == 0 {
+            return None;
+        }
+        if self.names.before(row) == 0 {
+            Some(Found::One(self.methods[row - 1].token))
+        } else {
+            Some(Found::Several)
+        }
     }
 
     /// The PE file.
     pub fn image(&self) -> &Image<'a>
         ensures { result.now ≡ self.now }
     {
-        &self.image
+        self.file.image()
     }
 
     /// The locals that the token of a method's body names: no locals for the token 0, else those of a row
@@ -170,7 +188,7 @@ impl<'a> Assembly<'a> {
     pub fn locals_of(&self, token: u32) -> Option<LocalSig>
         ensures { result ≡ locals_of (metadata self.now) token }
     {
-        tokens::locals_of(&self.tables, token)
+        tokens::locals_of(self.file.metadata(), Token(token))
     }
 
     /// The type of elements that a token names: an int32 or a bool, where it is the row of the table
@@ -178,7 +196,7 @@ impl<'a> Assembly<'a> {
     pub fn element_of(&self, token: Token) -> Option<Place>
         ensures { result ≡ element_of (metadata self.now) token.0 }
     {
-        tokens::element_of(&self.tables, token.0)
+        tokens::element_of(self.file.metadata(), token)
     }
 
     /// What a token of a call names: a method of the assembly, a method of the class `Contract`, or
@@ -186,6 +204,6 @@ impl<'a> Assembly<'a> {
     pub fn callee_of(&self, token: Token) -> Callee
         ensures { result ≡ callee_of (metadata self.now) token.0 }
     {
-        calls::callee_of(&self.tables, token)
+        calls::callee_of(self.file.metadata(), token)
     }
 }

@@ -1,33 +1,23 @@
 //! What the tokens of calls name (III.3.19).
 
-ghost use Rattle.std.specs.Prelude.{◌≡◌, ◌≤◌, length, map, IfSome};
-ghost use Rattle.metadata_tables.specs.Layout.{row_count};
-ghost use Rattle.asm_image.specs.Calls.{tagged_row, is_contract_class, is_contract_method, listed, plain_methods, generic_methods, number_among, member_number, place_number, argument_number, instance_number, numbered, callee_of};
+#![tactic(auto, using(metadata_tables::proofs::ColumnLemmas::known_columns))]
+
+ghost use Rattle.std.specs.Prelude.{◌≡◌, ◌≤◌, map, IfSome};
+ghost use Rattle.metadata_tables.specs.Numbers.{type_ref, member_ref, method_spec};
+ghost use Rattle.asm_image.specs.Calls.{tagged_row, is_contract_class, is_contract_method, listed, plain_methods, generic_methods, number_among, member_number, argument_number, instance_number, numbered, callee_of};
+ghost use Rattle.asm_image.specs.Cells.{HasRow};
 
 use crate::callee::Callee;
-use crate::cells::{METHOD_DEF, TYPE_NAME, TYPE_NAMESPACE, blob_at, text_at};
 use crate::contract_op::ContractOp;
-use crate::tokens::{TYPE_REF, row_in};
+use crate::metadata::Metadata;
+use crate::tokens::row_in;
 use cc_base::Token;
-use cil_model::Place;
-use metadata_tables::Tables;
+use metadata_tables::column::{
+    MEMBER_REF_CLASS, MEMBER_REF_NAME, MEMBER_REF_SIGNATURE, METHOD_SPEC_INSTANTIATION,
+    METHOD_SPEC_METHOD, TYPE_REF_NAME, TYPE_REF_NAMESPACE,
+};
+use metadata_tables::table::{MEMBER_REF, METHOD_DEF, METHOD_SPEC, TYPE_REF};
 use signature_blobs::spec_sig;
-
-/// The number of the table MemberRef (II.22.25).
-const MEMBER_REF: u8 = 0x0a;
-
-const CLASS: u8 = 0;
-
-const MEMBER_NAME: u8 = 1;
-
-const MEMBER_SIGNATURE: u8 = 2;
-
-/// The number of the table MethodSpec (II.22.29).
-const METHOD_SPEC: u8 = 0x2b;
-
-const METHOD: u8 = 0;
-
-const INSTANTIATION: u8 = 1;
 
 /// The tag of TypeRef in a MemberRefParent (II.24.2.6).
 const PARENT_TYPE_REF: u32 = 1;
@@ -46,7 +36,7 @@ struct ContractMethod {
     name: &'static [u8],
     signature: &'static [u8],
     /// The number of a call of it.
-    number: u32,
+    number: u8,
 }
 
 /// The signature `void (bool)` of a row of MemberRef (II.23.2.2).
@@ -128,7 +118,7 @@ const GENERIC_METHODS: [ContractMethod; 2] = [
 ];
 
 /// The number of the first method with a name and a signature.
-fn number_among(methods: &[ContractMethod], name: &[u8], signature: &[u8]) -> Option<u32>
+fn number_among(methods: &[ContractMethod], name: &[u8], signature: &[u8]) -> Option<u8>
     ensures { result ≡ number_among (map listed methods.now) name.now signature.now }
 {
     for method in methods {
@@ -140,125 +130,101 @@ fn number_among(methods: &[ContractMethod], name: &[u8], signature: &[u8]) -> Op
 }
 
 /// Whether a row of the table TypeRef is the class `Contract`.
-#[tactic(auto, unfolding(crate::specs::Calls::is_contract_class))]
-fn is_contract_class(tables: &Tables<'_>, row: u32) -> bool
-    requires first { 1 ≤ row }
-    requires last { row ≤ row_count tables.now 0x01 }
-    ensures { result ≡ is_contract_class tables.now row }
+#[tactic(auto, using(metadata_tables::proofs::ColumnLemmas::known_columns), unfolding(crate::specs::Calls::is_contract_class))]
+fn is_contract_class(metadata: &Metadata<'_>, row: u32) -> bool
+    requires { HasRow metadata.now.bytes type_ref row }
+    ensures { result ≡ is_contract_class metadata.now.bytes row }
 {
-    text_at(tables, TYPE_REF, row, TYPE_NAME) == b"Contract".as_slice()
-        && text_at(tables, TYPE_REF, row, TYPE_NAMESPACE)
-            == b"System.Diagnostics.Contracts".as_slice()
+    metadata.text_is(TYPE_REF, row, TYPE_REF_NAME, b"Contract")
+        && metadata.text_is(
+            TYPE_REF,
+            row,
+            TYPE_REF_NAMESPACE,
+            b"System.Diagnostics.Contracts",
+        )
 }
 
 /// The row of a table that a coded index names.
 #[tactic(auto, unfolding(crate::specs::Calls::tagged_row))]
-fn tagged_row(tables: &Tables<'_>, table: u8, tag: u32, tags: u32, index: u32) -> Option<u32>
+fn tagged_row(metadata: &Metadata<'_>, table: u8, tag: u32, tags: u32, index: u32) -> Option<u32>
     requires { 1 ≤ tags }
-    ensures row { result ≡ tagged_row tables.now table tag tags index }
-    ensures first { IfSome result (λ row. 1 ≤ row) }
-    ensures last { IfSome result (λ row. row ≤ row_count tables.now table) }
+    ensures row { result ≡ tagged_row metadata.now.bytes table tag tags index }
+    ensures there { IfSome result (λ row. HasRow metadata.now.bytes table row) }
 {
     let row = index / tags;
-    if index % tags == tag && row >= 1 && row <= tables.row_count(table) {
-        return Some(row);
+    if index % tags == tag && row >= 1 && row <= metadata.row_count(table) {
+        Some(row)
+    } else {
+        None
     }
-    None
 }
 
 /// Whether a row of the table MemberRef is a method of the class `Contract`.
-#[tactic(auto, unfolding(crate::specs::Calls::is_contract_method))]
-fn is_contract_method(tables: &Tables<'_>, row: u32) -> bool
-    requires first { 1 ≤ row }
-    requires last { row ≤ row_count tables.now 0x0a }
-    ensures { result ≡ is_contract_method tables.now row }
+#[tactic(auto, using(metadata_tables::proofs::ColumnLemmas::known_columns), unfolding(crate::specs::Calls::is_contract_method))]
+fn is_contract_method(metadata: &Metadata<'_>, row: u32) -> bool
+    requires { HasRow metadata.now.bytes member_ref row }
+    ensures { result ≡ is_contract_method metadata.now.bytes row }
 {
-    let class = tables.cell(MEMBER_REF, row, CLASS);
-    match tagged_row(tables, TYPE_REF, PARENT_TYPE_REF, PARENT_TAGS, class) {
-        Some(class) => is_contract_class(tables, class),
+    let class = metadata.cell(MEMBER_REF, row, MEMBER_REF_CLASS);
+    match tagged_row(metadata, TYPE_REF, PARENT_TYPE_REF, PARENT_TAGS, class) {
+        Some(class) => is_contract_class(metadata, class),
         None => false,
     }
 }
 
 /// The number of the method of the class `Contract` that a row of the table MemberRef names, if it is
 /// one of some methods.
-#[tactic(auto, unfolding(crate::specs::Calls::member_number))]
-fn member_number(tables: &Tables<'_>, methods: &[ContractMethod], row: u32) -> Option<u32>
-    requires first { 1 ≤ row }
-    requires last { row ≤ row_count tables.now 0x0a }
-    ensures { result ≡ member_number tables.now (map listed methods.now) row }
+#[tactic(auto, using(metadata_tables::proofs::ColumnLemmas::known_columns), unfolding(crate::specs::Calls::member_number))]
+fn member_number(metadata: &Metadata<'_>, methods: &[ContractMethod], row: u32) -> Option<u8>
+    requires { HasRow metadata.now.bytes member_ref row }
+    ensures { result ≡ member_number metadata.now.bytes (map listed methods.now) row }
 {
-    if !is_contract_method(tables, row) {
+    if !is_contract_method(metadata, row) {
         return None;
     }
-    let name = text_at(tables, MEMBER_REF, row, MEMBER_NAME);
-    number_among(
-        methods,
-        name,
-        blob_at(tables, MEMBER_REF, row, MEMBER_SIGNATURE),
-    )
+    let name = metadata.text(MEMBER_REF, row, MEMBER_REF_NAME);
+    let signature = metadata.blob(MEMBER_REF, row, MEMBER_REF_SIGNATURE);
+    number_among(methods, name, signature)
 }
 
 /// The number of a method that is not generic.
-fn plain_number(tables: &Tables<'_>, row: u32) -> Option<u32>
-    requires first { 1 ≤ row }
-    requires last { row ≤ row_count tables.now 0x0a }
-    ensures { result ≡ member_number tables.now plain_methods row }
+fn plain_number(metadata: &Metadata<'_>, row: u32) -> Option<u8>
+    requires { HasRow metadata.now.bytes member_ref row }
+    ensures { result ≡ member_number metadata.now.bytes plain_methods row }
 {
-    member_number(tables, &PLAIN_METHODS, row)
+    member_number(metadata, &PLAIN_METHODS, row)
 }
 
 /// The number of a generic method.
-fn generic_number(tables: &Tables<'_>, row: u32) -> Option<u32>
-    requires first { 1 ≤ row }
-    requires last { row ≤ row_count tables.now 0x0a }
-    ensures number { result ≡ member_number tables.now generic_methods row }
-    ensures few { IfSome result (λ number. number ≤ 20) }
+fn generic_number(metadata: &Metadata<'_>, row: u32) -> Option<u8>
+    requires { HasRow metadata.now.bytes member_ref row }
+    ensures { result ≡ member_number metadata.now.bytes generic_methods row }
 {
-    member_number(tables, &GENERIC_METHODS, row)
-}
-
-/// The number of a type argument.
-fn place_number(place: Place) -> u32
-    ensures number { result ≡ place_number place }
-    ensures few { result ≤ 4 }
-{
-    match place {
-        Place::Void => 0,
-        Place::Bool => 1,
-        Place::Int => 2,
-        Place::Bools => 3,
-        Place::Ints => 4,
-    }
+    member_number(metadata, &GENERIC_METHODS, row)
 }
 
 /// The number of the type argument that a row of the table MethodSpec gives.
-fn argument_number(tables: &Tables<'_>, row: u32) -> Option<u32>
-    requires first { 1 ≤ row }
-    requires last { row ≤ row_count tables.now 0x2b }
-    requires short { length tables.now ≤ 2147483647 }
-    ensures number { result ≡ argument_number tables.now row }
-    ensures few { IfSome result (λ number. number ≤ 4) }
+fn argument_number(metadata: &Metadata<'_>, row: u32) -> Option<u8>
+    requires { HasRow metadata.now.bytes method_spec row }
+    ensures { result ≡ argument_number metadata.now.bytes row }
 {
-    match spec_sig(blob_at(tables, METHOD_SPEC, row, INSTANTIATION)) {
-        Ok(Some(place)) => Some(place_number(place)),
+    match spec_sig(metadata.blob(METHOD_SPEC, row, METHOD_SPEC_INSTANTIATION)) {
+        Ok(Some(place)) => Some(place.number()),
         Ok(None) | Err(_) => None,
     }
 }
 
 /// The number of the generic method that a row of the table MethodSpec names, with its type argument.
-#[tactic(auto, unfolding(crate::specs::Calls::instance_number))]
-fn instance_number(tables: &Tables<'_>, row: u32) -> Option<u32>
-    requires first { 1 ≤ row }
-    requires last { row ≤ row_count tables.now 0x2b }
-    requires short { length tables.now ≤ 2147483647 }
-    ensures { result ≡ instance_number tables.now row }
+#[tactic(auto, using(metadata_tables::proofs::ColumnLemmas::known_columns), unfolding(crate::specs::Calls::instance_number))]
+fn instance_number(metadata: &Metadata<'_>, row: u32) -> Option<u32>
+    requires { HasRow metadata.now.bytes method_spec row }
+    ensures { result ≡ instance_number metadata.now.bytes row }
 {
-    let method = tables.cell(METHOD_SPEC, row, METHOD);
-    let member = tagged_row(tables, MEMBER_REF, METHOD_MEMBER_REF, METHOD_TAGS, method)?;
-    let number = generic_number(tables, member)?;
-    let argument = argument_number(tables, row)?;
-    Some(number + argument)
+    let method = metadata.cell(METHOD_SPEC, row, METHOD_SPEC_METHOD);
+    let member = tagged_row(metadata, MEMBER_REF, METHOD_MEMBER_REF, METHOD_TAGS, method)?;
+    let number = generic_number(metadata, member)?;
+    let argument = argument_number(metadata, row)?;
+    Some(u32::from(number) + u32::from(argument))
 }
 
 /// The call of a number.
@@ -271,20 +237,30 @@ fn numbered(number: Option<u32>) -> Callee
     }
 }
 
+/// What a row of the table MemberRef calls.
+fn plain_callee(metadata: &Metadata<'_>, row: u32) -> Callee
+    requires { HasRow metadata.now.bytes member_ref row }
+    ensures { result ≡ numbered (member_number metadata.now.bytes plain_methods row) }
+{
+    match plain_number(metadata, row) {
+        Some(number) => numbered(Some(u32::from(number))),
+        None => Callee::Outside,
+    }
+}
+
 /// What a token calls.
 #[tactic(auto, unfolding(crate::specs::Calls::callee_of))]
-pub fn callee_of(tables: &Tables<'_>, token: Token) -> Callee
-    requires short { length tables.now ≤ 2147483647 }
-    ensures { result ≡ callee_of tables.now token.0 }
+pub fn callee_of(metadata: &Metadata<'_>, token: Token) -> Callee
+    ensures { result ≡ callee_of metadata.now.bytes token.0 }
 {
-    if row_in(tables, METHOD_DEF, token.0).is_some() {
+    if row_in(metadata, METHOD_DEF, token).is_some() {
         return Callee::Method(token);
     }
-    if let Some(row) = row_in(tables, MEMBER_REF, token.0) {
-        return numbered(plain_number(tables, row));
+    if let Some(row) = row_in(metadata, MEMBER_REF, token) {
+        return plain_callee(metadata, row);
     }
-    match row_in(tables, METHOD_SPEC, token.0) {
-        Some(row) => numbered(instance_number(tables, row)),
+    match row_in(metadata, METHOD_SPEC, token) {
+        Some(row) => numbered(instance_number(metadata, row)),
         None => Callee::Outside,
     }
 }

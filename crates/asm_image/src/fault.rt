@@ -1,12 +1,12 @@
 //! Why a file is no assembly.
 
 ghost use Rattle.std.specs.Prelude.{◌≡◌};
-ghost use Rattle.asm_image.specs.declared.fault.AsmRefusal.TheVariants.{Bad, NoMemory};
+ghost use Rattle.cc_base.specs.declared.refusal.Refusal.TheVariants.{Bad};
 
+use cc_base::Refusal;
 use metadata_tables::TableFault;
 use pe_reader::PeFault;
 use signature_blobs::SigFault;
-use std::alloc::{AllocError, AllocFailed};
 use thiserror::Error;
 
 /// What is wrong with a file.
@@ -32,41 +32,17 @@ pub enum Cause {
 pub struct AsmFault {
     /// Where in the file it is. For an address that is not found it is the address (RVA).
     pub at: u32,
-    /// What is wrong. Its own place counts from the start of the file, of the metadata or of the signature.
+    /// What is wrong. Its own offset counts from the start of the file, of the metadata or of the signature.
     pub cause: Cause,
 }
 
 /// Why an assembly was not read.
-#[derive(Clone, Copy, Debug, PartialEq, Eq, Error)]
-pub enum AsmRefusal {
-    /// The file is no assembly.
-    #[error(transparent)]
-    Bad(AsmFault),
-    /// Memory ran out.
-    #[error("out of memory")]
-    NoMemory,
-}
+pub type AsmRefusal = Refusal<AsmFault>;
 
-impl From<AsmFault> for AsmRefusal {
+impl From<AsmFault> for Refusal<AsmFault> {
     ghost from_gives = { λ fault e. e ≡ Bad fault };
 
-    fn from(fault: AsmFault) -> AsmRefusal {
-        AsmRefusal::Bad(fault)
-    }
-}
-
-impl From<AllocError> for AsmRefusal {
-    ghost from_gives = { λ _ e. e ≡ NoMemory };
-
-    fn from(_error: AllocError) -> AsmRefusal {
-        AsmRefusal::NoMemory
-    }
-}
-
-impl<T: Drop> From<AllocFailed<T>> for AsmRefusal {
-    ghost from_gives = { λ _ e. e ≡ NoMemory };
-
-    fn from(_error: AllocFailed<T>) -> AsmRefusal {
-        AsmRefusal::NoMemory
+    fn from(fault: AsmFault) -> Refusal<AsmFault> {
+        Refusal::Bad(fault)
     }
 }

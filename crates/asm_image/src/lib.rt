@@ -2,25 +2,26 @@
 #![tactic(auto)]
 
 mod assembly;
+mod assembly_file;
 mod callee;
 mod calls;
-mod cells;
 mod contract_op;
 mod fault;
 mod found;
+mod metadata;
 mod method_row;
+mod method_walk;
 mod methods;
 mod name_table;
 mod names;
-#[cfg(test)]
-mod tests;
 mod tokens;
 mod types;
 
 pub use assembly::Assembly;
+pub use assembly_file::AssemblyFile;
 pub use callee::Callee;
 pub use contract_op::ContractOp;
 pub use fault::{AsmFault, AsmRefusal, Cause};
 pub use found::Found;
-pub use method_row::MethodRow;
-pub use names::{append_escaped, append_parameters};
+pub use method_row::{Method, MethodRow};
+pub use method_walk::MethodWalk;

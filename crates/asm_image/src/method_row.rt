@@ -20,3 +20,18 @@ pub struct MethodRow {
     /// What the column Signature says (II.23.2.1).
     pub sig: MethodSig,
 }
+
+/// The same without the printed name, which takes memory.
+#[derive(Drop)]
+pub struct Method {
+    /// The table in the high byte, and the row, counted from 1.
+    pub token: Token,
+    /// The column Flags (II.23.1.10).
+    pub flags: u16,
+    /// The column ImplFlags (II.23.1.11).
+    pub impl_flags: u16,
+    /// The address of the body, 0 where there is none.
+    pub rva: u32,
+    /// What the column Signature says (II.23.2.1).
+    pub sig: MethodSig,
+}

@@ -1,35 +1,59 @@
 //! Methods by their names.
 
-ghost use Rattle.std.specs.Prelude.{◌≡◌, ◌++◌, ℕ, List, OnOk, IfOk};
-ghost use Rattle.asm_image.specs.Find.{meaning, one_more, Notes, NamesAll};
+ghost use Rattle.std.specs.Prelude.{◌≡◌, ◌++◌, ◌-◌, ◌≤◌, ℕ, List, length, slice_index, OnOk, IfOk};
+ghost use Rattle.asm_image.specs.Cells.{method_count};
+ghost use Rattle.asm_image.specs.Find.{last_of, Notes, NamesFirst};
 ghost use Rattle.asm_image.specs.Names.{types_text};
 ghost use Rattle.asm_image.specs.Rows.{rows_of};
 ghost use Rattle.signature_blobs.specs.declared.method.SigTypes.{SigTypes};
 
-use crate::found::Found;
 use crate::method_row::MethodRow;
-use cc_base::Token;
 use indexmap::IndexMap;
 use std::alloc::{AllocError, Global};
 use std::marker::Model;
 
-/// What names mean. Contracts see the names in the order of their first notes, each with what it means.
+/// Names, each with the last row that has it. Contracts see both, in the order of the names' first notes.
 #[derive(Drop)]
-pub struct NameTable {
-    names: IndexMap<Vec<u8>, Found>,
+pub struct LastRows {
+    rows: IndexMap<Vec<u8>, usize>,
 }
 
-impl Model for NameTable {
+impl Model for LastRows {
     ghost use Rattle.std.specs.Prelude.{ℕ, List, map};
-    ghost use Rattle.asm_image.specs.declared.found.Found.{Found};
 
-    ghost Value = { List (List ℕ × Found) };
+    ghost Value = { List (List ℕ × ℕ) };
 
-    ghost view = { λ table. map (λ entry. (entry.0.items, entry.1)) table.names.entries };
+    ghost view = { λ last. map (λ entry. (entry.0.items, entry.1)) last.rows.entries };
+}
+
+impl LastRows {
+    /// Notes a name for a row.
+    fn note(&mut self, name: Vec<u8>, row: usize) -> Result<(), AllocError>
+        ensures { OnOk result (Notes self.old name.items row self.new) }
+    {
+        self.rows.insert(name, row)?;
+        Ok(())
+    }
+
+    /// The last row that has a name, 0 where none has.
+    fn get(&self, name: &[u8]) -> usize
+        ensures { result ≡ last_of self.now name.now }
+    {
+        self.rows.get(name).copied().unwrap_or(0)
+    }
+}
+
+/// The rows of methods by their names up to the types of the parameters.
+#[derive(Drop)]
+pub struct NameTable {
+    /// The last row that has a name.
+    last: LastRows,
+    /// For each row the one before it that has the same name, 0 where there is none.
+    earlier: Vec<usize>,
 }
 
 /// A printed name up to the types of its parameters.
-fn short_name(name: &[u8]) -> &[u8]
+pub fn short_name(name: &[u8]) -> &[u8]
     ensures { (front : List ℕ) (types : SigTypes) → name.now ≡ front ++ types_text types → result.now ≡ front }
 {
     match name.iter().rposition(|&byte| byte == b'(') {
@@ -38,47 +62,39 @@ fn short_name(name: &[u8]) -> &[u8]
     }
 }
 
-/// What a name means once it is noted for one method more.
-fn one_more(before: Option<Found>, token: Token) -> Found
-    ensures { result ≡ one_more before token }
-{
-    match before {
-        None => Found::One(token),
-        Some(_) => Found::Several,
-    }
-}
-
 impl NameTable {
-    /// The names of methods: each name whole, and up to the types of the parameters.
+    /// The names of methods.
     ///
     /// Cost: each method is visited once.
     pub fn of(alloc: Global, methods: &[MethodRow]) -> Result<NameTable, AllocError>
-        ensures { IfOk result (λ table. (md : List ℕ) → methods.now ≡ rows_of md → NamesAll table md) }
+        ensures { IfOk result (λ names. (md : List ℕ) → methods.now ≡ rows_of md →
+            NamesFirst names.last names.earlier.items md (method_count md)) }
     {
-        let mut table = NameTable {
-            names: IndexMap::new(alloc),
+        let mut last = LastRows {
+            rows: IndexMap::new(alloc),
         };
+        let mut earlier = Vec::new(alloc);
         for method in methods {
-            let name = method.name.as_slice();
-            table.note(name.to_vec(alloc)?, method.token)?;
-            table.note(short_name(name).to_vec(alloc)?, method.token)?;
+            let short = short_name(method.name.as_slice());
+            earlier.push(last.get(short))?;
+            last.note(short.to_vec(alloc)?, earlier.len())?;
         }
-        Ok(table)
+        Ok(NameTable { last, earlier })
     }
 
-    /// Notes a name for one method more.
-    fn note(&mut self, name: Vec<u8>, token: Token) -> Result<(), AllocError>
-        ensures { OnOk result (Notes self.old name.items token self.new) }
+    /// The last row that has a name up to the types of its parameters, 0 where none has.
+    pub fn last_of(&self, name: &[u8]) -> usize
+        ensures { result ≡ last_of self.now.last name.now }
     {
-        let found = one_more(self.get(name.as_slice()), token);
-        self.names.insert(name, found)?;
-        Ok(())
+        self.last.get(name)
     }
 
-    /// What a name means.
-    pub fn get(&self, name: &[u8]) -> Option<Found>
-        ensures { result ≡ meaning self.now name.now }
+    /// The row before this one that has the same name up to the types of its parameters, 0 where none has.
+    pub fn before(&self, row: usize) -> usize
+        requires first { 1 ≤ row }
+        requires last { row ≤ length self.now.earlier.items }
+        ensures { result ≡ slice_index self.now.earlier.items (row - 1) }
     {
-        self.names.get(name).copied()
+        self.earlier[row - 1]
     }
 }

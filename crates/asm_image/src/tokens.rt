@@ -1,84 +1,68 @@
 //! What tokens name (III.1.9).
 
-ghost use Rattle.std.specs.Prelude.{◌≡◌, ◌≤◌, length, IfSome};
-ghost use Rattle.metadata_tables.specs.Layout.{row_count};
+#![tactic(auto, using(metadata_tables::proofs::ColumnLemmas::known_columns))]
+
+ghost use Rattle.std.specs.Prelude.{◌≡◌, IfSome};
+ghost use Rattle.metadata_tables.specs.Numbers.{stand_alone_sig, type_ref};
+ghost use Rattle.asm_image.specs.Cells.{HasRow};
 ghost use Rattle.asm_image.specs.Tokens.{row_in, locals_at, locals_of, element_at, element_of};
 
-use crate::cells::{TYPE_NAME, TYPE_NAMESPACE, text_at};
+use crate::metadata::Metadata;
+use cc_base::Token;
 use cil_model::Place;
-use metadata_tables::Tables;
+use metadata_tables::column::{STAND_ALONE_SIG_SIGNATURE, TYPE_REF_NAME, TYPE_REF_NAMESPACE};
+use metadata_tables::table::{STAND_ALONE_SIG, TYPE_REF};
 use signature_blobs::{LocalSig, Places, local_sig};
-
-/// The number of the table TypeRef (II.22.38).
-pub const TYPE_REF: u8 = 0x01;
-
-/// The number of the table StandAloneSig (II.22.36).
-const STAND_ALONE_SIG: u8 = 0x11;
-
-/// Its one column, Signature.
-const LOCAL_SIGNATURE: u8 = 0;
-
-/// A token's row is its remainder by this number, and its table the quotient.
-const ROWS: u32 = 0x0100_0000;
 
 /// The row of a table that a token names, none where it names no row of it.
 #[tactic(auto, unfolding(crate::specs::Tokens::row_in))]
-pub fn row_in(tables: &Tables<'_>, table: u8, token: u32) -> Option<u32>
-    ensures row { result ≡ row_in tables.now table token }
-    ensures first { IfSome result (λ row. 1 ≤ row) }
-    ensures last { IfSome result (λ row. row ≤ row_count tables.now table) }
+pub fn row_in(metadata: &Metadata<'_>, table: u8, token: Token) -> Option<u32>
+    ensures row { result ≡ row_in metadata.now.bytes table token.0 }
+    ensures there { IfSome result (λ row. HasRow metadata.now.bytes table row) }
 {
-    let row = token % ROWS;
-    if token / ROWS == u32::from(table) && row >= 1 && row <= tables.row_count(table) {
-        return Some(row);
+    let row = token.row();
+    if token.table() == table && row >= 1 && row <= metadata.row_count(table) {
+        Some(row)
+    } else {
+        None
     }
-    None
 }
 
 /// The locals that a row of the table StandAloneSig says.
-fn locals_at(tables: &Tables<'_>, row: u32) -> Option<LocalSig>
-    requires first { 1 ≤ row }
-    requires last { row ≤ row_count tables.now 0x11 }
-    requires short { length tables.now ≤ 2147483647 }
-    ensures { result ≡ locals_at tables.now row }
+#[tactic(auto, using(metadata_tables::proofs::ColumnLemmas::known_columns, crate::proofs::BlobLemmas::blob_short), unfolding(crate::specs::Tokens::locals_at))]
+fn locals_at(metadata: &Metadata<'_>, row: u32) -> Option<LocalSig>
+    requires { HasRow metadata.now.bytes stand_alone_sig row }
+    ensures { result ≡ locals_at metadata.now.bytes row }
 {
-    let index = tables.cell(STAND_ALONE_SIG, row, LOCAL_SIGNATURE);
-    let Some(blob) = tables.blob_at(index) else {
-        return None;
-    };
-    match local_sig(blob) {
-        Ok(sig) => Some(sig),
-        Err(_) => None,
-    }
+    let tables = metadata.tables();
+    let index = metadata.cell(STAND_ALONE_SIG, row, STAND_ALONE_SIG_SIGNATURE);
+    let blob = tables.blob_at(index)?;
+    local_sig(blob).ok()
 }
 
 /// The locals that a token names.
 #[tactic(auto, unfolding(crate::specs::Tokens::locals_of))]
-pub fn locals_of(tables: &Tables<'_>, token: u32) -> Option<LocalSig>
-    requires short { length tables.now ≤ 2147483647 }
-    ensures { result ≡ locals_of tables.now token }
+pub fn locals_of(metadata: &Metadata<'_>, token: Token) -> Option<LocalSig>
+    ensures { result ≡ locals_of metadata.now.bytes token.0 }
 {
-    if token == 0 {
+    if token.0 == 0 {
         return Some(LocalSig::Known(Places::new()));
     }
-    let row = row_in(tables, STAND_ALONE_SIG, token)?;
-    locals_at(tables, row)
+    locals_at(metadata, row_in(metadata, STAND_ALONE_SIG, token)?)
 }
 
 /// The type that a row of the table TypeRef names.
-#[tactic(auto, unfolding(crate::specs::Tokens::element_at))]
-fn element_at(tables: &Tables<'_>, row: u32) -> Option<Place>
-    requires first { 1 ≤ row }
-    requires last { row ≤ row_count tables.now 0x01 }
-    ensures { result ≡ element_at tables.now row }
+#[tactic(auto, using(metadata_tables::proofs::ColumnLemmas::known_columns), unfolding(crate::specs::Tokens::element_at))]
+fn element_at(metadata: &Metadata<'_>, row: u32) -> Option<Place>
+    requires { HasRow metadata.now.bytes type_ref row }
+    ensures { result ≡ element_at metadata.now.bytes row }
 {
-    if text_at(tables, TYPE_REF, row, TYPE_NAMESPACE) != b"System".as_slice() {
+    if !metadata.text_is(TYPE_REF, row, TYPE_REF_NAMESPACE, b"System") {
         return None;
     }
-    let name = text_at(tables, TYPE_REF, row, TYPE_NAME);
-    if name == b"Int32".as_slice() {
+    if metadata.text_is(TYPE_REF, row, TYPE_REF_NAME, b"Int32") {
         Some(Place::Int)
-    } else if name == b"Boolean".as_slice() {
+    } else if metadata.text_is(TYPE_REF, row, TYPE_REF_NAME, b"Boolean") {
         Some(Place::Bool)
     } else {
         None
@@ -87,9 +71,8 @@ fn element_at(tables: &Tables<'_>, row: u32) -> Option<Place>
 
 /// The type of an array's elements, which a token names.
 #[tactic(auto, unfolding(crate::specs::Tokens::element_of))]
-pub fn element_of(tables: &Tables<'_>, token: u32) -> Option<Place>
-    ensures { result ≡ element_of tables.now token }
+pub fn element_of(metadata: &Metadata<'_>, token: Token) -> Option<Place>
+    ensures { result ≡ element_of metadata.now.bytes token.0 }
 {
-    let row = row_in(tables, TYPE_REF, token)?;
-    element_at(tables, row)
+    element_at(metadata, row_in(metadata, TYPE_REF, token)?)
 }

@@ -1,13 +1,11 @@
 -- Where cells stand, and that they lie in the metadata.
-use Rattle.std.proofs.Common.{◌≡◌, ◌≢◌, ℕ, zero, suc, ◌+◌, ◌-◌, ◌*◌, ◌≤◌, ◌<◌, List, [], ◌∷◌, length, ◌++◌, get_or, take, replicate, Option, Some, None, Bool, true, false, cond, eqb, refl, sym, ap, ◌∙◌, arith, inl, inr}
+use Rattle.std.proofs.Common.{◌≡◌, ℕ, zero, suc, ◌+◌, ◌-◌, ◌*◌, ◌≤◌, ◌<◌, List, [], ◌∷◌, length, ◌++◌, get_or, take, replicate, Option, Some, None, Bool, true, false, cond, refl, sym, ap, ◌∙◌, arith, inl, inr}
 use Rattle.std.specs.Prelude.{slice_index_or, codes}
 use Rattle.std.proofs.lemmas.Bool.{cases_lt}
-use Rattle.std.proofs.lemmas.Bool.Decides.{nat_tests}
 use Rattle.std.proofs.Math.Nat.{mul-le-mul_left}
-use Rattle.std.proofs.lemmas.List.{get_or_past}
-use Rattle.std.proofs.lemmas.List.Sums.{sum_by_more_le}
+use Rattle.std.proofs.lemmas.List.{get_or_past, take_all}
+use Rattle.std.proofs.lemmas.List.Sums.{sum_by-cons, sum_by_more, sum_by_more_le}
 use Rattle.std.proofs.lemmas.List.FromFn.{get_or-map-range_with_len, length-map-range_with_len}
-use Rattle.cc_base.specs.LittleEndian.{u16_at, u32_at}
 use Rattle.cc_base.specs.Tests.{first_of}
 use Rattle.cc_base.proofs.TestLemmas.{none_behind, each-passed}
 use Rattle.metadata_tables.specs.declared.fault.TableFault.{TableFault}
@@ -19,9 +17,10 @@ use Rattle.metadata_tables.specs.declared.schema.Column.TheVariants.{Two, Four, 
 use Rattle.metadata_tables.specs.Tests.{fields}
 use Rattle.metadata_tables.specs.Root.{stream}
 use Rattle.metadata_tables.specs.Schema.{columns_of, width, total_width}
-use Rattle.metadata_tables.specs.Layout.{end_of, tables_at, tables_end, heap_sizes, valid, counts_at, present_below, stored_count, row_counts, row_count, rows_at, row_width, bytes_below, row_widths, bases, base, cell_at, cell}
+use Rattle.metadata_tables.specs.Layout.{end_of, tables_at, tables_end, heap_sizes, valid, counts_at, present_below, stored_count, row_counts, row_count, rows_at, row_width, bytes_below, column_offsets, offsets, bases, base, column_offset, column_width, cell_at}
 use Rattle.metadata_tables.specs.Placed.{IsLayoutOf}
 use Rattle.metadata_tables.specs.TableTests.{rows_tests, all_rows_tests, tables_tests, first_table_fault, bits_tests}
+use Rattle.metadata_tables.proofs.SchemaLemmas.{columns_few, table_known}
 use Rattle.metadata_tables.proofs.HeaderLemmas.{stream-within}
 use Rattle.metadata_tables.proofs.HeapLemmas.{streams-sound, tables-sound}
 use Rattle.metadata_tables.proofs.FieldLemmas.{fields-fits, fields-short}
@@ -89,10 +88,10 @@ unfolding tables_end
 tables_end-within md e = end-within md (stream md (codes "#~")) (λ s found. stream-within md (codes "#~") s (streams-sound md e) found)
 
 -- A cell ends before its row does.
-pub cell-end : (md : List ℕ) (table row column : ℕ) → first_table_fault md ≡ None → 1 ≤ row → row ≤ row_count md table → column < length (columns_of table)
-    → cell_at md table row column + width (row_counts md) (heap_sizes md) (slice_index_or (columns_of table) column Two) ≤ length md
-unfolding cell_at row_width
-cell-end md table row column e first last known =
+pub cell_end : (md : List ℕ) (table row column : ℕ) → first_table_fault md ≡ None → 1 ≤ row → row ≤ row_count md table → column < length (columns_of table)
+    → cell_at md table row column + column_width md table column ≤ length md
+unfolding cell_at row_width column_offset column_width
+cell_end md table row column e first last known =
     omega (
       arith,
       row-end md table row e first last,
@@ -102,18 +101,29 @@ cell-end md table row column e first last known =
 
 -- ---- what is kept of the layout
 
-base-is : (md : List ℕ) (layout : Layout) (table : ℕ) → IsLayoutOf md layout → table < 45 → get_or layout.bases table 0 ≡ base md table
+pub base_kept : (md : List ℕ) (layout : Layout) (table : ℕ) → IsLayoutOf md layout → table < 45 → get_or layout.bases table 0 ≡ base md table
 unfolding bases base
-base-is md layout table kept known =
+base_kept md layout table kept known =
     ap (λ (xs : List ℕ). get_or xs table 0) kept.bases_kept
     ∙ get_or-map-range_with_len (λ k. rows_at md + bytes_below (row_counts md) (heap_sizes md) k) 0 45 table table 0 known (omega arith)
 
-row_width-kept : (md : List ℕ) (layout : Layout) (table : ℕ) → IsLayoutOf md layout → table < 45
-    → get_or layout.widths table 0 ≡ row_width (row_counts md) (heap_sizes md) table
-unfolding row_widths
-row_width-kept md layout table kept known =
-    ap (λ (xs : List ℕ). get_or xs table 0) kept.widths_kept
-    ∙ get_or-map-range_with_len (row_width (row_counts md) (heap_sizes md)) 0 45 table table 0 known (omega arith)
+pub offset_kept : (md : List ℕ) (layout : Layout) (table column : ℕ) → IsLayoutOf md layout → table < 45 → column < 10
+    → get_or (get_or layout.offsets table []) column 0 ≡ column_offset md table column
+unfolding offsets column_offsets column_offset
+offset_kept md layout table column kept known few =
+    ap (λ (xs : List (List ℕ)). get_or (get_or xs table []) column 0) kept.offsets_kept
+    ∙ ap (λ (xs : List ℕ). get_or xs column 0) (get_or-map-range_with_len (λ k. column_offsets (row_counts md) (heap_sizes md) (columns_of k)) 0 45 table table [] known (omega arith))
+    ∙ get_or-map-range_with_len (λ k. total_width (row_counts md) (heap_sizes md) (take k (columns_of table))) 0 10 column column 0 few (omega arith)
+
+-- A row ends behind its last column.
+pub row_width-is_offset : (md : List ℕ) (table : ℕ) → row_width (row_counts md) (heap_sizes md) table ≡ column_offset md table 9
+unfolding row_width column_offset
+row_width-is_offset md table = ap (total_width (row_counts md) (heap_sizes md)) (sym (take_all 9 (columns_of table) (columns_few table)))
+
+-- A column ends where the next one begins.
+pub offset_next : (md : List ℕ) (table column : ℕ) → column < length (columns_of table) → column_offset md table (column + 1) ≡ column_offset md table column + column_width md table column
+unfolding column_offset column_width
+offset_next md table column known = sum_by_more (width (row_counts md) (heap_sizes md)) (columns_of table) column Two known
 
 cond-least : (b : Bool) → 2 ≤ cond b 2 4
 cond-least true = omega arith
@@ -139,75 +149,63 @@ pub width-two : (counts : List ℕ) (sizes : ℕ) (column : Column) → column �
 unfolding width
 width-two counts sizes column is = rw is refl
 
--- Where a row takes a byte at least, there are no more rows than bytes.
-count-few : (count w base end : ℕ) → 1 ≤ w → 1 ≤ count → base + (count - 1) * w + w ≤ end → count ≤ end
-count-few zero w base end wide some h = omega arith
-count-few (suc count) w base end wide some h =
-    let each : count * 1 ≤ count * w = mul-le-mul_left count wide in
+-- A row has two bytes at least for each of its columns.
+row-wide : (counts : List ℕ) (sizes : ℕ) (columns : List Column) → 2 * length columns ≤ total_width counts sizes columns
+row-wide counts sizes [] = omega arith
+row-wide counts sizes (column ∷ columns) = omega (arith, row-wide counts sizes columns, width-least counts sizes column, sum_by-cons (width counts sizes) column columns)
+
+-- So many rows of so many bytes end before an end.
+rows-end : (count w base end : ℕ) → 1 ≤ count → base + (count - 1) * w + w ≤ end → count * w ≤ end
+rows-end zero w base end some h = omega arith
+rows-end (suc count) w base end some h =
     let before : suc count - 1 ≡ count = omega arith in
     let rows : base + count * w + w ≤ end = rw before at h in
-    omega (arith, each, rows)
+    omega (arith, rows)
 
-row-wide : (counts : List ℕ) (sizes : ℕ) (columns : List Column) → 0 < length columns → 1 ≤ total_width counts sizes columns
-row-wide counts sizes columns some =
-    omega (arith, sum_by_more_le (width counts sizes) columns 0 Two some, width-least counts sizes (slice_index_or columns 0 Two))
+few-cells : (count wide w end : ℕ) → 2 * wide ≤ w → count * w ≤ end → 2 * count * wide ≤ end
+few-cells count wide w end wider h =
+    let each : count * (2 * wide) ≤ count * w = mul-le-mul_left count wider in
+    let same : 2 * count * wide ≡ count * (2 * wide) = omega arith in
+    omega (arith, each, same, h)
 
--- There are no more rows than bytes.
-pub rows-few : (md : List ℕ) (table : ℕ) → first_table_fault md ≡ None → 0 < length (columns_of table) → row_count md table ≤ length md
+-- There are no more pairs of bytes in cells than in the metadata.
+pub rows_few : (md : List ℕ) (table : ℕ) → first_table_fault md ≡ None → 2 * row_count md table * length (columns_of table) ≤ length md
 unfolding row_width
-rows-few md table e some =
+rows_few md table e =
     elim (cases_lt 0 (row_count md table)) [
       | inl lt ↦
           let end = row-end md table (row_count md table) e lt (omega arith) in
-          let few = count-few (row_count md table) (row_width (row_counts md) (heap_sizes md) table) (base md table) (tables_end md) (row-wide (row_counts md) (heap_sizes md) (columns_of table) some) lt end in
+          let rows = rows-end (row_count md table) (row_width (row_counts md) (heap_sizes md) table) (base md table) (tables_end md) lt end in
+          let few = few-cells (row_count md table) (length (columns_of table)) (row_width (row_counts md) (heap_sizes md) table) (tables_end md) (row-wide (row_counts md) (heap_sizes md) (columns_of table)) rows in
           omega (arith, few, tables_end-within md e)
-      | inr none ↦ omega (arith, none)
+      | inr none ↦ let zero_rows : row_count md table ≡ 0 = omega arith in rw zero_rows (omega arith)
     ]
 
-cell_at-place : (md : List ℕ) (table row column b w before : ℕ) → b ≡ base md table → w ≡ row_width (row_counts md) (heap_sizes md) table
-    → before ≡ total_width (row_counts md) (heap_sizes md) (take column (columns_of table)) → b + (row - 1) * w + before ≡ cell_at md table row column
-unfolding cell_at
-cell_at-place md table row column b w before e f g = rw (e, f, g) refl
+-- No cell is narrower than two bytes.
+pub column_width_least : (md : List ℕ) (table column : ℕ) → 2 ≤ column_width md table column
+unfolding column_width
+column_width_least md table column = width-least (row_counts md) (heap_sizes md) (slice_index_or (columns_of table) column Two)
 
--- The place that the code computes is that of the cell, and the cell's two bytes at least lie before the end.
+pub column_width_two : (md : List ℕ) (table column : ℕ) → slice_index_or (columns_of table) column Two ≡ Two → column_width md table column ≡ 2
+unfolding column_width
+column_width_two md table column two = width-two (row_counts md) (heap_sizes md) (slice_index_or (columns_of table) column Two) two
+
+-- Two bytes at least of a cell lie before the end.
+pub cell_within : (md : List ℕ) (table row column : ℕ) → first_table_fault md ≡ None → 1 ≤ row → row ≤ row_count md table → column < length (columns_of table)
+    → cell_at md table row column + 2 ≤ length md
+cell_within md table row column sound first last known =
+    omega (arith, cell_end md table row column sound first last known, column_width_least md table column)
+
+-- The sum that the code computes is the place of the cell, of which two bytes at least lie before the end.
 pub record IsCellPlace (md : List ℕ) (table row column place : ℕ) : Type 0 where
   pub is : place ≡ cell_at md table row column
   pub within : place + 2 ≤ length md
 
-pub cell_at-is : (md : List ℕ) (layout : Layout) (table row column b w before : ℕ) → IsLayoutOf md layout → first_table_fault md ≡ None
+pub cell_place : (md : List ℕ) (layout : Layout) (table row column b w before : ℕ) → IsLayoutOf md layout → first_table_fault md ≡ None
     → 1 ≤ row → row ≤ row_count md table → column < length (columns_of table)
-    → b ≡ get_or layout.bases table 0 → w ≡ get_or layout.widths table 0
-    → before ≡ total_width layout.counts layout.heap_sizes (take column (columns_of table))
-    → IsCellPlace md table row column (b + (row - 1) * w + before)
-cell_at-is md layout table row column b w before kept sound first last known b_is w_is before_is =
-    let lt = table-known md table row first last in
-    let place = cell_at-place md table row column b w before (b_is ∙ base-is md layout table kept lt) (w_is ∙ row_width-kept md layout table kept lt)
-    (before_is ∙ ap (λ (k : List ℕ). total_width k layout.heap_sizes (take column (columns_of table))) kept.counts_kept
-    ∙ ap (λ (k : ℕ). total_width (row_counts md) k (take column (columns_of table))) kept.heap_sizes_kept) in
-    record {
-      is = place;
-      within = omega (arith, place, cell-end md table row column sound first last known, width-least (row_counts md) (heap_sizes md) (slice_index_or (columns_of table) column Two));
-    }
-
--- The number in a cell, over the width that the code computes.
-pub column_width-is : (md : List ℕ) (layout : Layout) (table column w : ℕ) → IsLayoutOf md layout
-    → w ≡ width layout.counts layout.heap_sizes (slice_index_or (columns_of table) column Two)
-    → w ≡ width (row_counts md) (heap_sizes md) (slice_index_or (columns_of table) column Two)
-column_width-is md layout table column w kept is =
-    is ∙ ap (λ (k : List ℕ). width k layout.heap_sizes (slice_index_or (columns_of table) column Two)) kept.counts_kept
-    ∙ ap (λ (k : ℕ). width (row_counts md) k (slice_index_or (columns_of table) column Two)) kept.heap_sizes_kept
-
-pub cell-wide : (md : List ℕ) (table row column w at v : ℕ) → w ≡ width (row_counts md) (heap_sizes md) (slice_index_or (columns_of table) column Two)
-    → w ≡ 4 → at ≡ cell_at md table row column → v ≡ u32_at md at → v ≡ cell md table row column
-unfolding cell
-cell-wide md table row column w at v is four place read =
-    let test : eqb (width (row_counts md) (heap_sizes md) (slice_index_or (columns_of table) column Two)) 4 ≡ true = rw (← is, four) refl in
-    rw test (read ∙ ap (u32_at md) place)
-
-pub cell-narrow : (md : List ℕ) (table row column w at v : ℕ) → w ≡ width (row_counts md) (heap_sizes md) (slice_index_or (columns_of table) column Two)
-    → w ≢ 4 → at ≡ cell_at md table row column → v ≡ u16_at md at → v ≡ cell md table row column
-unfolding cell
-cell-narrow md table row column w at v is other place read =
-    let differs : eqb w 4 ≡ false = grind (arith, nat_tests) in
-    let test : eqb (width (row_counts md) (heap_sizes md) (slice_index_or (columns_of table) column Two)) 4 ≡ false = rw (← is) differs in
-    rw test (read ∙ ap (u16_at md) place)
+    → b ≡ get_or layout.bases table 0 → w ≡ column_offset md table 9 → before ≡ column_offset md table column → IsCellPlace md table row column (b + (row - 1) * w + before)
+unfolding cell_at
+cell_place md layout table row column b w before kept sound first last known b_is w_is before_is =
+    let place : b + (row - 1) * w + before ≡ cell_at md table row column =
+    rw (b_is ∙ base_kept md layout table kept (table_known table (omega arith)), w_is, before_is, ← row_width-is_offset md table) refl in
+    record { is = place; within = omega (arith, place, cell_within md table row column sound first last known) }

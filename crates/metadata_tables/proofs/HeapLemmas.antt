@@ -7,10 +7,10 @@ use Rattle.metadata_tables.specs.declared.fault.TableFault.{TableFault}
 use Rattle.std.proofs.lemmas.List.{length-take, length-take-le, drop-drop, drop-take, take-take}
 use Rattle.std.proofs.Math.ListN.{drop_of_length-le}
 use Rattle.metadata_tables.specs.declared.root.Stream.{Stream}
-use Rattle.metadata_tables.specs.declared.heaps.Prefix.{Prefix}
+use Rattle.cc_base.specs.declared.compressed.Compressed.{Compressed}
 use Rattle.metadata_tables.specs.Root.{zero_ended, stream, streams_tests, bytes_of, heap}
 use Rattle.metadata_tables.specs.Layout.{start_of}
-use Rattle.metadata_tables.specs.Heaps.{whole_prefix, item_of, string_at, blob_at, blob_offset, user_string_at, StandsAt}
+use Rattle.metadata_tables.specs.Heaps.{whole_length, item_of, string_at, blob_at, blob_offset, user_string_at, StandsAt}
 use Rattle.metadata_tables.specs.TableTests.{table_tests, tables_tests, first_table_fault}
 use Rattle.metadata_tables.proofs.HeaderLemmas.{stream-within}
 use Rattle.metadata_tables.proofs.RootLemmas.{rest-is}
@@ -62,11 +62,11 @@ pub user_string_at-is : (md strings rest : List ℕ) (index : ℕ) (r : Option (
 unfolding user_string_at
 user_string_at-is md strings rest index r kept from is = is ∙ ap item_of (from ∙ ap (drop index) kept)
 
-pub blob_offset-is : (md blob rest : List ℕ) (index begin : ℕ) (o : Option Prefix) → blob ≡ heap md (codes "#Blob") → begin ≡ start_of (stream md (codes "#Blob"))
-    → rest ≡ drop index blob → o ≡ whole_prefix rest → option_map (λ front. begin + index + front.width) o ≡ blob_offset md index
+pub blob_offset-is : (md blob rest : List ℕ) (index begin : ℕ) (o : Option Compressed) → blob ≡ heap md (codes "#Blob") → begin ≡ start_of (stream md (codes "#Blob"))
+    → rest ≡ drop index blob → o ≡ whole_length rest → option_map (λ front. begin + index + front.width) o ≡ blob_offset md index
 unfolding blob_offset
 blob_offset-is md blob rest index begin o kept start from is =
-    let front : o ≡ whole_prefix (drop index (heap md (codes "#Blob"))) = is ∙ ap whole_prefix (from ∙ ap (drop index) kept) in
+    let front : o ≡ whole_length (drop index (heap md (codes "#Blob"))) = is ∙ ap whole_length (from ∙ ap (drop index) kept) in
     rw (front, start) refl
 
 -- The first fault of all.
@@ -104,40 +104,40 @@ take-own xs item len h e =
     let same : length item ≡ len = ap length e ∙ length-take-le len xs h in
     e ∙ ap (λ (k : ℕ). take k xs) (sym same)
 
-stands-in : (md : List ℕ) (o : Option Stream) (index : ℕ) (front : Prefix) → 1 ≤ front.width
-    → front.width + front.len ≤ length (drop index (bytes_of md o)) → start_of o + length (bytes_of md o) ≤ length md
-    → StandsAt md (start_of o + index + front.width) (take front.len (drop front.width (drop index (bytes_of md o))))
+stands-in : (md : List ℕ) (o : Option Stream) (index : ℕ) (front : Compressed) → 1 ≤ front.width
+    → front.width + front.number ≤ length (drop index (bytes_of md o)) → start_of o + length (bytes_of md o) ≤ length md
+    → StandsAt md (start_of o + index + front.width) (take front.number (drop front.width (drop index (bytes_of md o))))
 stands-in md None index front written whole within = absurd (omega (arith, length-drop index (bytes_of md None)))
 stands-in md (Some s) index front written whole within =
     let long = length-drop index (bytes_of md (Some s)) in
     let size = length-take s.size (drop s.at md) in
     let behind = length-drop (s.at + index + front.width) md in
-    take-own (drop (s.at + index + front.width) md) (take front.len (drop front.width (drop index (bytes_of md (Some s))))) front.len (omega arith)
-    (part-of md s.at s.size index front.width front.len (omega arith))
+    take-own (drop (s.at + index + front.width) md) (take front.number (drop front.width (drop index (bytes_of md (Some s))))) front.number (omega arith)
+    (part-of md s.at s.size index front.width front.number (omega arith))
 
-blob_at-found : (md : List ℕ) (index : ℕ) (front : Prefix) → whole_prefix (drop index (heap md (codes "#Blob"))) ≡ Some front
-    → blob_at md index ≡ Some (take front.len (drop front.width (drop index (heap md (codes "#Blob")))))
+blob_at-found : (md : List ℕ) (index : ℕ) (front : Compressed) → whole_length (drop index (heap md (codes "#Blob"))) ≡ Some front
+    → blob_at md index ≡ Some (take front.number (drop front.width (drop index (heap md (codes "#Blob")))))
 unfolding blob_at item_of
 blob_at-found md index front e = rw e refl
 
 -- The item stands at the place that is told.
-pub stands-is : (md blob rest : List ℕ) (index begin : ℕ) (front : Prefix) → first_table_fault md ≡ None → blob ≡ heap md (codes "#Blob")
-    → begin ≡ start_of (stream md (codes "#Blob")) → rest ≡ drop index blob → Some front ≡ whole_prefix rest → 1 ≤ front.width
-    → front.width + front.len ≤ length rest → IfSome (blob_at md index) (λ item. StandsAt md (begin + index + front.width) item)
+pub stands-is : (md blob rest : List ℕ) (index begin : ℕ) (front : Compressed) → first_table_fault md ≡ None → blob ≡ heap md (codes "#Blob")
+    → begin ≡ start_of (stream md (codes "#Blob")) → rest ≡ drop index blob → Some front ≡ whole_length rest → 1 ≤ front.width
+    → front.width + front.number ≤ length rest → IfSome (blob_at md index) (λ item. StandsAt md (begin + index + front.width) item)
 unfolding heap
 stands-is md blob rest index begin front sound kept start from is written whole =
     let same : rest ≡ drop index (heap md (codes "#Blob")) = from ∙ ap (drop index) kept in
-    let found = blob_at-found md index front (sym (is ∙ ap whole_prefix same)) in
-    rw (found, start) (stands-in md (stream md (codes "#Blob")) index front written (subst (λ (xs : List ℕ). front.width + front.len ≤ length xs) same whole) (heap-end md (codes "#Blob") sound))
+    let found = blob_at-found md index front (sym (is ∙ ap whole_length same)) in
+    rw (found, start) (stands-in md (stream md (codes "#Blob")) index front written (subst (λ (xs : List ℕ). front.width + front.number ≤ length xs) same whole) (heap-end md (codes "#Blob") sound))
 
-is_some-map : (f : Prefix → List ℕ) (o : Option Prefix) → is_some o ≡ is_some (option_map f o)
+is_some-map : (f : Compressed → List ℕ) (o : Option Compressed) → is_some o ≡ is_some (option_map f o)
 is_some-map f None = refl
 is_some-map f (Some front) = refl
 
-pub lent-is : (md blob rest : List ℕ) (index : ℕ) (o : Option Prefix) → blob ≡ heap md (codes "#Blob") → rest ≡ drop index blob → o ≡ whole_prefix rest
+pub lent-is : (md blob rest : List ℕ) (index : ℕ) (o : Option Compressed) → blob ≡ heap md (codes "#Blob") → rest ≡ drop index blob → o ≡ whole_length rest
     → is_some o ≡ is_some (blob_at md index)
 unfolding blob_at item_of
 lent-is md blob rest index o kept from is =
     let same : rest ≡ drop index (heap md (codes "#Blob")) = from ∙ ap (drop index) kept in
-    is_some-map (λ front. take front.len (drop front.width (drop index (heap md (codes "#Blob"))))) o
-    ∙ ap (λ (p : Option Prefix). is_some (option_map (λ front. take front.len (drop front.width (drop index (heap md (codes "#Blob"))))) p)) (is ∙ ap whole_prefix same)
+    is_some-map (λ front. take front.number (drop front.width (drop index (heap md (codes "#Blob"))))) o
+    ∙ ap (λ (p : Option Compressed). is_some (option_map (λ front. take front.number (drop front.width (drop index (heap md (codes "#Blob"))))) p)) (is ∙ ap whole_length same)

@@ -14,7 +14,7 @@ use Rattle.metadata_tables.specs.declared.fault.TableFault.TheVariants.{BadTable
 use Rattle.metadata_tables.specs.declared.schema.Column.{Column}
 use Rattle.metadata_tables.specs.Tests.{fields}
 use Rattle.metadata_tables.specs.Schema.{columns_of, total_width}
-use Rattle.metadata_tables.specs.Layout.{valid, counts_at, present_below, stored_count, row_counts, row_width, bytes_below, row_widths, bases}
+use Rattle.metadata_tables.specs.Layout.{valid, counts_at, present_below, stored_count, row_counts, row_width, bytes_below, column_offsets, offsets, bases}
 use Rattle.metadata_tables.specs.TableTests.{bit_test, bits_tests, rows_tests, all_rows_tests}
 
 -- ---- the bits of Valid
@@ -95,9 +95,9 @@ unfolding row_counts
 row_counts-filled md counts long each = fill_by_all (stored_count md) counts 45 0 long each
 
 -- What a write at a place leaves, and what it puts there.
-pub filled-more : (f : ℕ → ℕ) (xs : List ℕ) (i v : ℕ) → i < length xs → v ≡ f i → ((k : ℕ) → k < i → get_or xs k 0 ≡ f k)
-    → (k : ℕ) → k < i + 1 → get_or (set xs i v) k 0 ≡ f k
-filled-more f xs i v within same before =
+pub filled-more : {X : Type 0} (f : ℕ → X) (xs : List X) (i : ℕ) (v d : X) → i < length xs → v ≡ f i → ((k : ℕ) → k < i → get_or xs k d ≡ f k)
+    → (k : ℕ) → k < i + 1 → get_or (set xs i v) k d ≡ f k
+filled-more f xs i v d within same before =
     below_more _ _
     (λ k h. let other : k ≢ i = omega arith in rw get_or-set_other (before k h))
     (rw (get_or-set_same, same) refl)
@@ -144,10 +144,10 @@ pub rows_tests-is : (end : ℕ) (counts : List ℕ) (sizes start table at count 
 unfolding rows_tests
 rows_tests-is end counts sizes start table at count w place many wide = rw (place, many, wide) refl
 
-pub row_widths-filled : (counts : List ℕ) (sizes : ℕ) (xs : List ℕ) → length xs ≡ 45
-    → ((k : ℕ) → k < 45 → get_or xs k 0 ≡ row_width counts sizes k) → xs ≡ row_widths counts sizes
-unfolding row_widths
-row_widths-filled counts sizes xs long each = fill_by_all (row_width counts sizes) xs 45 0 long each
+pub offsets-filled : (counts : List ℕ) (sizes : ℕ) (xs : List (List ℕ)) → length xs ≡ 45
+    → ((k : ℕ) → k < 45 → get_or xs k [] ≡ column_offsets counts sizes (columns_of k)) → xs ≡ offsets counts sizes
+unfolding offsets
+offsets-filled counts sizes xs long each = fill_by_all (λ table. column_offsets counts sizes (columns_of table)) xs 45 [] long each
 
 pub bases-filled : (counts : List ℕ) (sizes start : ℕ) (xs : List ℕ) → length xs ≡ 45
     → ((k : ℕ) → k < 45 → get_or xs k 0 ≡ start + bytes_below counts sizes k) → xs ≡ bases counts sizes start

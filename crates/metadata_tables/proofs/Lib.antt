@@ -1,4 +1,5 @@
 pub mod CellLemmas
+pub mod ColumnLemmas
 pub mod FieldLemmas
 pub mod HeaderLemmas
 pub mod HeapLemmas
@@ -6,3 +7,4 @@ pub mod LayoutLemmas
 pub mod RootLemmas
 pub mod SchemaLemmas
 pub mod StreamLemmas
+pub mod TextLemmas

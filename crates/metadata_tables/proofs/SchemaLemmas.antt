@@ -1,8 +1,8 @@
 -- The table of schemas.
-use Rattle.std.proofs.Common.{Bor, zero, suc, ◌∷◌, leb, Bool, true, false, ◌&&◌, refl, ◌≡◌, ℕ, ◌≤◌, ◌<◌, List, [], map, length, get_or, sym, arith}
+use Rattle.std.proofs.Common.{Bor, zero, suc, ◌∷◌, leb, Bool, true, false, ◌&&◌, refl, ◌≡◌, ℕ, ◌≤◌, ◌<◌, List, [], map, length, get_or, sym, ap, arith, inl, inr}
 use Rattle.std.proofs.lemmas.List.{get_or_past, get_or-map, length-map}
 use Rattle.std.specs.List.{list_all}
-use Rattle.std.proofs.lemmas.Bool.{leb-true}
+use Rattle.std.proofs.lemmas.Bool.{leb-true, cases_lt}
 use Rattle.metadata_tables.specs.declared.schema.Column.{Column}
 use Rattle.metadata_tables.specs.Schema.{schemas, columns_of}
 
@@ -36,3 +36,12 @@ few_at (columns ∷ lists) n (suc i) e = few_at lists n i (and-back _ _ e)
 pub columns_few : (table : ℕ) → length (columns_of table) ≤ 9
 unfolding columns_of
 columns_few table = few_at schemas 9 table refl
+
+-- A table with columns is one of them.
+pub table_known : (table : ℕ) → 0 < length (columns_of table) → table < 45
+unfolding columns_of
+table_known table some =
+    elim (cases_lt table 45) [
+      | inl lt ↦ lt
+      | inr past ↦ let none : length (get_or schemas table []) ≡ 0 = ap length (get_or_past schemas table [] past) in absurd (omega arith)
+    ]

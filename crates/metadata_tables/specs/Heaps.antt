@@ -1,36 +1,31 @@
 -- The items of the heaps (ECMA-335 II.24.2.3 and II.24.2.4).
-use Rattle.std.specs.Prelude.{◌≡◌, ℕ, ◌+◌, ◌^◌, ◌%◌, List, length, take, drop, slice_index, Option, Some, None, option_map, option_and_then, nat_le, nat_lt, if◌then◌else◌, codes}
-use Rattle.byteorder.specs.Endian.{big_number}
-use Rattle.metadata_tables.specs.declared.heaps.Prefix.{Prefix}
+use Rattle.std.specs.Prelude.{◌≡◌, ℕ, ◌+◌, List, length, take, drop, Option, Some, None, is_some, Bool, option_map, option_and_then, nat_le, nat_lt, if◌then◌else◌, codes}
+use Rattle.std.specs.Result.{result_ok}
+use Rattle.cc_base.specs.Compressed.{compressed}
+use Rattle.cc_base.specs.declared.compressed.Compressed.{Compressed}
 use Rattle.metadata_tables.specs.Layout.{start_of}
-use Rattle.metadata_tables.specs.Root.{stream, heap, zero_ended}
+use Rattle.metadata_tables.specs.Root.{stream, heap, zero_ended, is_text}
 
--- A length that is written in the first bytes, this many, and has this many bits.
-abbrev pub prefix : List ℕ → ℕ → ℕ → Option Prefix
-prefix bytes width bits =
-    if nat_le width (length bytes) then Some (record { len = big_number width bytes % 2 ^ bits; width = width }) else None
-
--- The compressed length at the front (II.23.2). The bits 0, 10 and 110 at its head tell that it has one,
--- two or four bytes, the highest first; nothing begins with 111.
-unfoldable pub prefix_of : List ℕ → Option Prefix
-prefix_of bytes =
-    if nat_lt (slice_index bytes 0) 0x80 then prefix bytes 1 7
-    else (if nat_lt (slice_index bytes 0) 0xc0 then prefix bytes 2 14
-    else (if nat_lt (slice_index bytes 0) 0xe0 then prefix bytes 4 29
-    else None))
-
--- The length at the front of an item that is there as a whole.
-unfoldable pub whole_prefix : List ℕ → Option Prefix
-whole_prefix bytes =
-    option_and_then (λ front. if nat_le (front.width + front.len) (length bytes) then Some front else None) (prefix_of bytes)
+-- The compressed length at the front of an item that is there as a whole (II.23.2).
+unfoldable pub whole_length : List ℕ → Option Compressed
+whole_length bytes =
+    option_and_then (λ front. if nat_le (front.width + front.number) (length bytes) then Some front else None) (result_ok (compressed bytes))
 
 -- The item at the front: as many bytes as its length says.
 unfoldable pub item_of : List ℕ → Option (List ℕ)
-item_of bytes = option_map (λ front. take front.len (drop front.width bytes)) (whole_prefix bytes)
+item_of bytes = option_map (λ front. take front.number (drop front.width bytes)) (whole_length bytes)
 
 -- The text at a place of `#Strings`.
 unfoldable pub string_at : List ℕ → ℕ → Option (List ℕ)
 string_at md index = zero_ended (drop index (heap md (codes "#Strings")))
+
+-- Whether the text at a place of `#Strings` is this one.
+unfoldable pub string_is : List ℕ → ℕ → List ℕ → Bool
+string_is md index text = is_text (drop index (heap md (codes "#Strings"))) text
+
+-- A text stands at each place before this one, and at none from it on.
+abbrev pub EndsTexts : List ℕ → ℕ → Type 0
+EndsTexts bytes end = (index : ℕ) → nat_lt index end ≡ is_some (zero_ended (drop index bytes))
 
 -- The item at a place of `#Blob`.
 unfoldable pub blob_at : List ℕ → ℕ → Option (List ℕ)
@@ -39,7 +34,7 @@ blob_at md index = item_of (drop index (heap md (codes "#Blob")))
 -- Where the bytes of that item stand in the metadata.
 unfoldable pub blob_offset : List ℕ → ℕ → Option ℕ
 blob_offset md index =
-    option_map (λ front. start_of (stream md (codes "#Blob")) + index + front.width) (whole_prefix (drop index (heap md (codes "#Blob"))))
+    option_map (λ front. start_of (stream md (codes "#Blob")) + index + front.width) (whole_length (drop index (heap md (codes "#Blob"))))
 
 -- The item at a place of `#US`.
 unfoldable pub user_string_at : List ℕ → ℕ → Option (List ℕ)

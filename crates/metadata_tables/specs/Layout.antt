@@ -4,6 +4,7 @@ use Rattle.std.specs.List.{range_with_len}
 use Rattle.std.specs.Int.{bit_at}
 use Rattle.cc_base.specs.LittleEndian.{u16_at, u32_at, u64_at}
 use Rattle.metadata_tables.specs.declared.root.Stream.{Stream}
+use Rattle.metadata_tables.specs.declared.schema.Column.{Column}
 use Rattle.metadata_tables.specs.declared.schema.Column.TheVariants.{Two}
 use Rattle.metadata_tables.specs.Root.{stream}
 use Rattle.metadata_tables.specs.Schema.{columns_of, width, total_width}
@@ -65,10 +66,15 @@ unfoldable pub bytes_below : List ℕ → ℕ → ℕ → ℕ
 bytes_below counts heap_sizes table =
     sum_by (λ lower. slice_index counts lower * row_width counts heap_sizes lower) (range_with_len 0 table)
 
--- The bytes of a row of each table, and where its first row stands where those of the first table begin at a place.
-unfoldable pub row_widths : List ℕ → ℕ → List ℕ
-row_widths counts heap_sizes = map (row_width counts heap_sizes) (range_with_len 0 45)
+-- Where each of some columns begins in a row, and behind the last one where the row ends. No table has more than nine.
+unfoldable pub column_offsets : List ℕ → ℕ → List Column → List ℕ
+column_offsets counts heap_sizes columns = map (λ column. total_width counts heap_sizes (take column columns)) (range_with_len 0 10)
 
+-- Those of each table.
+unfoldable pub offsets : List ℕ → ℕ → List (List ℕ)
+offsets counts heap_sizes = map (λ table. column_offsets counts heap_sizes (columns_of table)) (range_with_len 0 45)
+
+-- Where the first row of each table stands, where those of the first table begin at a place.
 unfoldable pub bases : List ℕ → ℕ → ℕ → List ℕ
 bases counts heap_sizes rows_at = map (λ table. rows_at + bytes_below counts heap_sizes table) (range_with_len 0 45)
 
@@ -76,14 +82,20 @@ bases counts heap_sizes rows_at = map (λ table. rows_at + bytes_below counts he
 unfoldable pub base : List ℕ → ℕ → ℕ
 base md table = rows_at md + bytes_below (row_counts md) (heap_sizes md) table
 
--- Where the cell of a table, a row counted from 1 and a column counted from 0 stands.
+-- Where a column, counted from 0, begins in each row of a table, and behind the last column where a row ends.
+unfoldable pub column_offset : List ℕ → ℕ → ℕ → ℕ
+column_offset md table column = total_width (row_counts md) (heap_sizes md) (take column (columns_of table))
+
+-- The bytes of each cell of a column.
+unfoldable pub column_width : List ℕ → ℕ → ℕ → ℕ
+column_width md table column = width (row_counts md) (heap_sizes md) (slice_index_or (columns_of table) column Two)
+
+-- Where the cell of a table, a row counted from 1 and a column stands.
 unfoldable pub cell_at : List ℕ → ℕ → ℕ → ℕ → ℕ
 cell_at md table row column =
-    base md table + (row - 1) * row_width (row_counts md) (heap_sizes md) table
-    + total_width (row_counts md) (heap_sizes md) (take column (columns_of table))
+    base md table + (row - 1) * row_width (row_counts md) (heap_sizes md) table + column_offset md table column
 
 -- The number in that cell.
 unfoldable pub cell : List ℕ → ℕ → ℕ → ℕ → ℕ
 cell md table row column =
-    if width (row_counts md) (heap_sizes md) (slice_index_or (columns_of table) column Two) == 4
-    then u32_at md (cell_at md table row column) else u16_at md (cell_at md table row column)
+    if column_width md table column == 4 then u32_at md (cell_at md table row column) else u16_at md (cell_at md table row column)

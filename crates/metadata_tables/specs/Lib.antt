@@ -1,5 +1,6 @@
 pub mod Heaps
 pub mod Layout
+pub mod Numbers
 pub mod Placed
 pub mod Root
 pub mod Schema

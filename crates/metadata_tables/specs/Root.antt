@@ -1,5 +1,5 @@
 -- The metadata root and the streams (ECMA-335 II.24.2.1 and II.24.2.2).
-use Rattle.std.specs.Prelude.{ℕ, zero, suc, ◌+◌, ◌*◌, ◌/◌, List, [], ◌∷◌, ◌++◌, length, take, drop, Option, Some, None, option_map, unwrap_or, is_some, ◌==◌, if◌then◌else◌, position, codes}
+use Rattle.std.specs.Prelude.{ℕ, zero, suc, ◌+◌, ◌*◌, ◌/◌, List, [], ◌∷◌, ◌++◌, length, take, drop, Option, Some, None, option_map, unwrap_or, is_some, ◌==◌, if◌then◌else◌, position, codes, Bool, false}
 use Rattle.std.specs.Str.{bytes_eq}
 use Rattle.cc_base.specs.LittleEndian.{u16_at, u32_at}
 use Rattle.cc_base.specs.Tests.{must}
@@ -11,6 +11,10 @@ use Rattle.metadata_tables.specs.Tests.{fields}
 -- The bytes before the first zero, none where there is no zero.
 unfoldable pub zero_ended : List ℕ → Option (List ℕ)
 zero_ended bytes = option_map (λ len. take len bytes) (position (λ byte. byte == 0) bytes)
+
+-- Whether those bytes are this text.
+unfoldable pub is_text : List ℕ → List ℕ → Bool
+is_text bytes text = unwrap_or (option_map (λ found. bytes_eq found text) (zero_ended bytes)) false
 
 -- The bytes `BSJB`.
 abbrev pub signature : ℕ

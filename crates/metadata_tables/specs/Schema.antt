@@ -2,6 +2,7 @@
 use Rattle.std.specs.Prelude.{ℕ, ◌-◌, ◌^◌, List, [], ◌∷◌, ◌==◌, nat_lt, sum_by, slice_index, slice_index_or, if◌then◌else◌}
 use Rattle.std.specs.List.{list_all}
 use Rattle.std.specs.Int.{bit_at}
+use Rattle.metadata_tables.specs.Numbers.{assembly, assembly_ref, decl_security, event, exported_type, field, file, generic_param, generic_param_constraint, interface_impl, manifest_resource, member_ref, method_def, method_spec, «module», module_ref, param, property, stand_alone_sig, type_def, type_ref, type_spec}
 use Rattle.metadata_tables.specs.declared.schema.CodedIndex.{CodedIndex}
 use Rattle.metadata_tables.specs.declared.schema.CodedIndex.TheVariants.{TypeDefOrRef, HasConstant, HasCustomAttribute, HasFieldMarshal, HasDeclSecurity, MemberRefParent, HasSemantics, MethodDefOrRef, MemberForwarded, Implementation, CustomAttributeType, ResolutionScope, TypeOrMethodDef}
 use Rattle.metadata_tables.specs.declared.schema.Column.{Column}
@@ -15,7 +16,7 @@ schemas =
     -- 01 TypeRef
     ((Coded ResolutionScope) ∷ Strings ∷ Strings ∷ []) ∷
     -- 02 TypeDef
-    (Four ∷ Strings ∷ Strings ∷ (Coded TypeDefOrRef) ∷ (Row 0x04) ∷ (Row 0x06) ∷ []) ∷
+    (Four ∷ Strings ∷ Strings ∷ (Coded TypeDefOrRef) ∷ (Row field) ∷ (Row method_def) ∷ []) ∷
     -- 03 none
     [] ∷
     -- 04 Field
@@ -23,13 +24,13 @@ schemas =
     -- 05 none
     [] ∷
     -- 06 MethodDef
-    (Four ∷ Two ∷ Two ∷ Strings ∷ Blob ∷ (Row 0x08) ∷ []) ∷
+    (Four ∷ Two ∷ Two ∷ Strings ∷ Blob ∷ (Row param) ∷ []) ∷
     -- 07 none
     [] ∷
     -- 08 Param
     (Two ∷ Two ∷ Strings ∷ []) ∷
     -- 09 InterfaceImpl
-    ((Row 0x02) ∷ (Coded TypeDefOrRef) ∷ []) ∷
+    ((Row type_def) ∷ (Coded TypeDefOrRef) ∷ []) ∷
     -- 0a MemberRef
     ((Coded MemberRefParent) ∷ Strings ∷ Blob ∷ []) ∷
     -- 0b Constant
@@ -41,35 +42,35 @@ schemas =
     -- 0e DeclSecurity
     (Two ∷ (Coded HasDeclSecurity) ∷ Blob ∷ []) ∷
     -- 0f ClassLayout
-    (Two ∷ Four ∷ (Row 0x02) ∷ []) ∷
+    (Two ∷ Four ∷ (Row type_def) ∷ []) ∷
     -- 10 FieldLayout
-    (Four ∷ (Row 0x04) ∷ []) ∷
+    (Four ∷ (Row field) ∷ []) ∷
     -- 11 StandAloneSig
     (Blob ∷ []) ∷
     -- 12 EventMap
-    ((Row 0x02) ∷ (Row 0x14) ∷ []) ∷
+    ((Row type_def) ∷ (Row event) ∷ []) ∷
     -- 13 none
     [] ∷
     -- 14 Event
     (Two ∷ Strings ∷ (Coded TypeDefOrRef) ∷ []) ∷
     -- 15 PropertyMap
-    ((Row 0x02) ∷ (Row 0x17) ∷ []) ∷
+    ((Row type_def) ∷ (Row property) ∷ []) ∷
     -- 16 none
     [] ∷
     -- 17 Property
     (Two ∷ Strings ∷ Blob ∷ []) ∷
     -- 18 MethodSemantics
-    (Two ∷ (Row 0x06) ∷ (Coded HasSemantics) ∷ []) ∷
+    (Two ∷ (Row method_def) ∷ (Coded HasSemantics) ∷ []) ∷
     -- 19 MethodImpl
-    ((Row 0x02) ∷ (Coded MethodDefOrRef) ∷ (Coded MethodDefOrRef) ∷ []) ∷
+    ((Row type_def) ∷ (Coded MethodDefOrRef) ∷ (Coded MethodDefOrRef) ∷ []) ∷
     -- 1a ModuleRef
     (Strings ∷ []) ∷
     -- 1b TypeSpec
     (Blob ∷ []) ∷
     -- 1c ImplMap
-    (Two ∷ (Coded MemberForwarded) ∷ Strings ∷ (Row 0x1a) ∷ []) ∷
+    (Two ∷ (Coded MemberForwarded) ∷ Strings ∷ (Row module_ref) ∷ []) ∷
     -- 1d FieldRVA
-    (Four ∷ (Row 0x04) ∷ []) ∷
+    (Four ∷ (Row field) ∷ []) ∷
     -- 1e none
     [] ∷
     -- 1f none
@@ -83,9 +84,9 @@ schemas =
     -- 23 AssemblyRef
     (Two ∷ Two ∷ Two ∷ Two ∷ Four ∷ Blob ∷ Strings ∷ Strings ∷ Blob ∷ []) ∷
     -- 24 AssemblyRefProcessor
-    (Four ∷ (Row 0x23) ∷ []) ∷
+    (Four ∷ (Row assembly_ref) ∷ []) ∷
     -- 25 AssemblyRefOS
-    (Four ∷ Four ∷ Four ∷ (Row 0x23) ∷ []) ∷
+    (Four ∷ Four ∷ Four ∷ (Row assembly_ref) ∷ []) ∷
     -- 26 File
     (Four ∷ Strings ∷ Blob ∷ []) ∷
     -- 27 ExportedType
@@ -93,13 +94,13 @@ schemas =
     -- 28 ManifestResource
     (Four ∷ Four ∷ Strings ∷ (Coded Implementation) ∷ []) ∷
     -- 29 NestedClass
-    ((Row 0x02) ∷ (Row 0x02) ∷ []) ∷
+    ((Row type_def) ∷ (Row type_def) ∷ []) ∷
     -- 2a GenericParam
     (Two ∷ Two ∷ (Coded TypeOrMethodDef) ∷ Strings ∷ []) ∷
     -- 2b MethodSpec
     ((Coded MethodDefOrRef) ∷ Blob ∷ []) ∷
     -- 2c GenericParamConstraint
-    ((Row 0x2a) ∷ (Coded TypeDefOrRef) ∷ []) ∷
+    ((Row generic_param) ∷ (Coded TypeDefOrRef) ∷ []) ∷
     []
 
 -- The columns of the table of a number, none where there is no such table.
@@ -108,20 +109,20 @@ columns_of table = slice_index_or schemas table []
 
 -- The tables that a coded index names, in the order of their tags (II.24.2.6).
 abbrev pub tables_of : CodedIndex → List ℕ
-tables_of TypeDefOrRef = 0x02 ∷ 0x01 ∷ 0x1b ∷ []
-tables_of HasConstant = 0x04 ∷ 0x08 ∷ 0x17 ∷ []
-tables_of HasCustomAttribute = 0x06 ∷ 0x04 ∷ 0x01 ∷ 0x02 ∷ 0x08 ∷ 0x09 ∷ 0x0a ∷ 0x00 ∷ 0x0e ∷ 0x17 ∷ 0x14 ∷ 0x11 ∷ 0x1a ∷ 0x1b ∷ 0x20 ∷ 0x23 ∷ 0x26 ∷ 0x27 ∷ 0x28 ∷ 0x2a ∷ 0x2c ∷ 0x2b ∷ []
-tables_of HasFieldMarshal = 0x04 ∷ 0x08 ∷ []
-tables_of HasDeclSecurity = 0x02 ∷ 0x06 ∷ 0x20 ∷ []
-tables_of MemberRefParent = 0x02 ∷ 0x01 ∷ 0x1a ∷ 0x06 ∷ 0x1b ∷ []
-tables_of HasSemantics = 0x14 ∷ 0x17 ∷ []
-tables_of MethodDefOrRef = 0x06 ∷ 0x0a ∷ []
-tables_of MemberForwarded = 0x04 ∷ 0x06 ∷ []
-tables_of Implementation = 0x26 ∷ 0x23 ∷ 0x27 ∷ []
+tables_of TypeDefOrRef = type_def ∷ type_ref ∷ type_spec ∷ []
+tables_of HasConstant = field ∷ param ∷ property ∷ []
+tables_of HasCustomAttribute = method_def ∷ field ∷ type_ref ∷ type_def ∷ param ∷ interface_impl ∷ member_ref ∷ «module» ∷ decl_security ∷ property ∷ event ∷ stand_alone_sig ∷ module_ref ∷ type_spec ∷ assembly ∷ assembly_ref ∷ file ∷ exported_type ∷ manifest_resource ∷ generic_param ∷ generic_param_constraint ∷ method_spec ∷ []
+tables_of HasFieldMarshal = field ∷ param ∷ []
+tables_of HasDeclSecurity = type_def ∷ method_def ∷ assembly ∷ []
+tables_of MemberRefParent = type_def ∷ type_ref ∷ module_ref ∷ method_def ∷ type_spec ∷ []
+tables_of HasSemantics = event ∷ property ∷ []
+tables_of MethodDefOrRef = method_def ∷ member_ref ∷ []
+tables_of MemberForwarded = field ∷ method_def ∷ []
+tables_of Implementation = file ∷ assembly_ref ∷ exported_type ∷ []
 -- of the tags 2 and 3; the others are not used
-tables_of CustomAttributeType = 0x06 ∷ 0x0a ∷ []
-tables_of ResolutionScope = 0x00 ∷ 0x1a ∷ 0x23 ∷ 0x01 ∷ []
-tables_of TypeOrMethodDef = 0x02 ∷ 0x06 ∷ []
+tables_of CustomAttributeType = method_def ∷ member_ref ∷ []
+tables_of ResolutionScope = «module» ∷ module_ref ∷ assembly_ref ∷ type_ref ∷ []
+tables_of TypeOrMethodDef = type_def ∷ method_def ∷ []
 
 -- How many of its lowest bits are the tag.
 abbrev pub tag_bits_of : CodedIndex → ℕ

@@ -1,8 +1,8 @@
 //! Fields that stand one after another up to an end.
 
-ghost use Rattle.std.specs.Prelude.{◌≡◌, ◌+◌, ◌*◌, ◌^◌, ◌<◌, ◌≤◌, ⊤, sum, replicate, IfOk};
+ghost use Rattle.std.specs.Prelude.{◌≡◌, ◌+◌, ◌*◌, ◌^◌, ◌<◌, ◌≤◌, ⊤, sum, replicate, IfOk, IfErr};
 ghost use Rattle.cc_base.specs.Tests.{first_of, Judges};
-ghost use Rattle.metadata_tables.specs.Tests.{fields};
+ghost use Rattle.metadata_tables.specs.Tests.{fields, offset_of};
 
 use crate::fault::TableFault;
 
@@ -13,6 +13,7 @@ pub(crate) fn after_fields(start: usize, widths: &[u8], end: usize) -> Result<us
     ensures judged { Judges result (first_of (fields end (λ at. TableFault.Short at) start widths.now)) (λ _. ⊤) }
     ensures place { IfOk result (λ after. after ≡ start + sum widths.now) }
     ensures within { IfOk result (λ after. after ≤ end) }
+    ensures fault_within { IfErr result (λ fault. offset_of fault ≤ end) }
 {
     let mut at = start;
     for width in widths {
@@ -38,6 +39,7 @@ pub(crate) fn after_run(
         (first_of (fields end (λ at. TableFault.Short at) start (replicate count width))) (λ _. ⊤) }
     ensures place { IfOk result (λ after. after ≡ start + count * width) }
     ensures within { IfOk result (λ after. after ≤ end) }
+    ensures fault_within { IfErr result (λ fault. offset_of fault ≤ end) }
 {
     let room = end - start;
     let width = width as usize;

@@ -1,10 +1,10 @@
 //! The items of the heaps (ECMA-335 II.24.2.3 and II.24.2.4).
 
 ghost use Rattle.std.specs.Prelude.{◌≡◌, ◌==◌, ◌+◌, ◌<◌, ◌≤◌, length, position, option_map, IfSome};
-ghost use Rattle.metadata_tables.specs.Root.{zero_ended};
-ghost use Rattle.metadata_tables.specs.Heaps.{prefix_of, whole_prefix, item_of};
+ghost use Rattle.metadata_tables.specs.Root.{zero_ended, is_text};
+ghost use Rattle.metadata_tables.specs.Heaps.{whole_length, item_of, EndsTexts};
 
-use byteorder::{BigEndian, ByteOrder};
+use cc_base::{Compressed, compressed_number};
 
 /// Where the first zero stands.
 fn first_zero(bytes: &[u8]) -> Option<usize>
@@ -25,52 +25,39 @@ pub(crate) fn zero_ended(bytes: &[u8]) -> Option<&[u8]>
     }
 }
 
-/// A length of an item: its number, and how many bytes it is written in.
-#[derive(Clone, Copy)]
-pub(crate) struct Prefix {
-    pub(crate) len: u32,
-    pub(crate) width: usize,
+/// Whether the bytes before the first zero are this text. Of the bytes at most one more is read than
+/// the text has.
+
+pub(crate) fn is_text(bytes: &[u8], text: &[u8]) -> bool
+    ensures { result ≡ is_text bytes.now text.now }
+{
+    let front = bytes.len().min(text.len() + 1);
+    match zero_ended(&bytes[..front]) {
+        Some(found) => found == text,
+        None => false,
+    }
 }
 
-/// The compressed length at the front (II.23.2).
-#[tactic(auto, unfolding(crate::specs::Heaps::prefix_of))]
-fn prefix_of(bytes: &[u8]) -> Option<Prefix>
-    ensures value { result ≡ prefix_of bytes.now }
-    ensures written { IfSome result (λ front. 1 ≤ front.width) }
-    ensures short { IfSome result (λ front. front.width ≤ 4) }
+/// The place behind the last zero, 0 where there is none.
+pub(crate) fn behind_last_zero(bytes: &[u8]) -> usize
+    ensures { EndsTexts bytes.now result }
 {
-    let first = *bytes.first()?;
-    if first < 0x80 {
-        let len = u32::from(first);
-        return Some(Prefix { len, width: 1 });
+    let mut end = bytes.len();
+    while end > 0 && bytes[end - 1] != 0 {
+        end -= 1;
     }
-    if first < 0xc0 {
-        if bytes.len() < 2 {
-            return None;
-        }
-        let len = u32::from(BigEndian::read_u16(bytes) & 0x3fff);
-        return Some(Prefix { len, width: 2 });
-    }
-    if first < 0xe0 {
-        if bytes.len() < 4 {
-            return None;
-        }
-        let len = BigEndian::read_u32(bytes) & 0x1fff_ffff;
-        return Some(Prefix { len, width: 4 });
-    }
-    None
+    end
 }
 
-/// The length at the front of an item that is there as a whole.
-#[tactic(auto, unfolding(crate::specs::Heaps::whole_prefix))]
-pub(crate) fn whole_prefix(bytes: &[u8]) -> Option<Prefix>
-    ensures value { result ≡ whole_prefix bytes.now }
-    ensures whole { IfSome result (λ front. front.width + front.len ≤ length bytes.now) }
-    ensures written { IfSome result (λ front. 1 ≤ front.width) }
-    ensures short { IfSome result (λ front. front.width ≤ 4) }
+/// The length at the front of an item that is there as a whole (II.23.2).
+#[tactic(auto, unfolding(crate::specs::Heaps::whole_length))]
+pub(crate) fn whole_length(bytes: &[u8]) -> Option<Compressed>
+    ensures value { result ≡ whole_length bytes.now }
+    ensures whole { IfSome result (λ front. front.width + front.number ≤ length bytes.now) }
+    ensures some { IfSome result (λ front. 1 ≤ front.width) }
 {
-    let front = prefix_of(bytes)?;
-    if front.width + front.len as usize <= bytes.len() {
+    let front = compressed_number(bytes).ok()?;
+    if front.width as usize + front.number as usize <= bytes.len() {
         Some(front)
     } else {
         None
@@ -82,6 +69,7 @@ pub(crate) fn whole_prefix(bytes: &[u8]) -> Option<Prefix>
 pub(crate) fn item_of(bytes: &[u8]) -> Option<&[u8]>
     ensures { option_map (λ item. item.now) result ≡ item_of bytes.now }
 {
-    let front = whole_prefix(bytes)?;
-    Some(&bytes[front.width..front.width + front.len as usize])
+    let front = whole_length(bytes)?;
+    let start = front.width as usize;
+    Some(&bytes[start..start + front.number as usize])
 }

@@ -1,17 +1,18 @@
 //! The stream `#~`: which tables are present, and where their rows stand (ECMA-335 II.24.2.6).
 
-ghost use Rattle.std.specs.Prelude.{◌≡◌, ◌+◌, ◌*◌, ◌^◌, ◌<◌, ◌≤◌, ⊤, length, Some, IfOk, codes};
+ghost use Rattle.std.specs.Prelude.{◌≡◌, ◌+◌, ◌*◌, ◌^◌, ◌<◌, ◌≤◌, ⊤, length, Some, IfOk, IfErr, codes};
 ghost use Rattle.cc_base.specs.Tests.{first_of, Judges};
 ghost use Rattle.metadata_tables.specs.Root.{stream};
 ghost use Rattle.metadata_tables.specs.Layout.{valid, counts_at, present_below, row_counts};
 ghost use Rattle.metadata_tables.specs.TableTests.{bits_tests, all_rows_tests, tables_tests};
+ghost use Rattle.metadata_tables.specs.Tests.{offset_of};
 ghost use Rattle.metadata_tables.specs.Placed.{IsPlaced, IsLayoutOf};
 
 use crate::fault::TableFault;
 use crate::fields::{after_fields, after_run};
 use crate::root::Stream;
-use crate::schema::{TABLES, columns};
-use crate::width::{columns_width, has_bit};
+use crate::schema::{MOST_COLUMNS, TABLES, columns};
+use crate::width::{OFFSETS, column_offsets, has_bit};
 use cc_base::{u32_at, u64_at};
 
 /// Where the rows of all tables stand.
@@ -21,22 +22,21 @@ pub(crate) struct Layout {
     pub(crate) counts: [u32; TABLES],
     /// Where the first row of each table stands.
     pub(crate) bases: [u32; TABLES],
-    /// The bytes of a row of each table.
-    pub(crate) widths: [u32; TABLES],
-    /// The field HeapSizes.
-    pub(crate) heap_sizes: u8,
+    /// Where in a row of each table each column begins, and behind the last one where the row ends.
+    pub(crate) offsets: [[u8; OFFSETS]; TABLES],
 }
 
 /// How many tables the bits of Valid, which stands at a place, name.
 fn present_tables(bits: u64, at: u32) -> Result<u32, TableFault>
     ensures judged { Judges result (first_of (bits_tests bits at)) (λ _. ⊤) }
     ensures present { IfOk result (λ present. present ≡ present_below bits 64) }
+    ensures fault_within { IfErr result (λ fault. offset_of fault ≡ at) }
 {
     let mut present = 0;
     for bit in 0..64u8 {
         if has_bit(bits, bit) {
             if columns(bit).is_empty() {
-                return Err(TableFault::BadTables { bit, at });
+                return Err(TableFault::BadTables(bit, at));
             }
             present += 1;
         }
@@ -74,21 +74,21 @@ fn place_rows(
     requires end { end < 2 ^ 31 }
     ensures judged { Judges result (first_of (all_rows_tests end counts heap_sizes start)) (λ _. ⊤) }
     ensures placed { IfOk result (IsPlaced counts heap_sizes start) }
+    ensures fault_within { IfErr result (λ fault. offset_of fault ≤ end) }
 {
     let mut bases = [0; TABLES];
-    let mut widths = [0; TABLES];
+    let mut offsets = [[0; OFFSETS]; TABLES];
     let mut at = start;
     for table in 0..TABLES {
-        let width = columns_width(&counts, heap_sizes, columns(table as u8));
+        let row = column_offsets(&counts, heap_sizes, columns(table as u8));
         bases[table] = at as u32;
-        widths[table] = width;
-        at = after_run(at, counts[table], width, end)?;
+        offsets[table] = row;
+        at = after_run(at, counts[table], u32::from(row[MOST_COLUMNS]), end)?;
     }
     Ok(Layout {
         counts,
         bases,
-        widths,
-        heap_sizes,
+        offsets,
     })
 }
 
@@ -99,6 +99,7 @@ pub(crate) fn read_layout(md: &[u8], tables: Stream) -> Result<Layout, TableFaul
     requires within { tables.at + tables.size ≤ length md.now }
     ensures judged { Judges result (first_of (tables_tests md.now)) (λ _. ⊤) }
     ensures placed { IfOk result (IsLayoutOf md.now) }
+    ensures fault_within { IfErr result (λ fault. offset_of fault ≤ length md.now) }
 {
     let start = tables.at as usize;
     let end = start + tables.size as usize;

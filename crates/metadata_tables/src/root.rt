@@ -1,10 +1,11 @@
 //! The metadata root and its streams (ECMA-335 II.24.2.1 and II.24.2.2).
 
-ghost use Rattle.std.specs.Prelude.{◌≡◌, ◌+◌, ◌^◌, ◌<◌, ◌≤◌, ⊤, length, IfOk, Some, None, if◌then◌else◌, codes};
+ghost use Rattle.std.specs.Prelude.{◌≡◌, ◌+◌, ◌^◌, ◌<◌, ◌≤◌, ⊤, length, IfOk, IfErr, Some, None, if◌then◌else◌, codes};
 ghost use Rattle.std.specs.Option.{option_or};
 ghost use Rattle.std.specs.Str.{bytes_eq};
 ghost use Rattle.cc_base.specs.Tests.{first_of, Judges};
 ghost use Rattle.metadata_tables.specs.Root.{headers_at, root_tests, name_of, next_header, stream_of, header_tests, headers_tests, stream_among, stream, presence_of, streams_tests};
+ghost use Rattle.metadata_tables.specs.Tests.{offset_of};
 
 use crate::fault::TableFault;
 use crate::heaps::zero_ended;
@@ -50,6 +51,7 @@ struct Header<'a> {
 /// Where the first stream header stands.
 fn read_root(md: &[u8]) -> Result<usize, TableFault>
     requires { length md.now < 2 ^ 31 }
+    ensures fault_at_front { IfErr result (λ fault. offset_of fault ≡ 0) }
     ensures judged { Judges result (first_of (root_tests md.now)) (λ _. ⊤) }
     ensures place { IfOk result (λ at. at ≡ headers_at md.now) }
     ensures within { IfOk result (λ at. at ≤ length md.now) }
@@ -70,6 +72,7 @@ fn read_root(md: &[u8]) -> Result<usize, TableFault>
 fn read_header(md: &[u8], at: usize) -> Result<Header<'_>, TableFault>
     requires length { length md.now < 2 ^ 31 }
     requires place { at ≤ length md.now }
+    ensures fault_at_front { IfErr result (λ fault. offset_of fault ≡ 0) }
     ensures judged { Judges result (first_of (header_tests md.now at)) (λ _. ⊤) }
     ensures stream { IfOk result (λ header. header.stream ≡ stream_of md.now at) }
     ensures name { IfOk result (λ header. name_of md.now at ≡ Some header.name.now) }
@@ -108,6 +111,7 @@ fn first_named(found: Option<Stream>, wanted: &[u8], name: &[u8], stream: Stream
 fn read_headers(md: &[u8], first: usize, count: u16) -> Result<Found, TableFault>
     requires length { length md.now < 2 ^ 31 }
     requires place { first ≤ length md.now }
+    ensures fault_at_front { IfErr result (λ fault. offset_of fault ≡ 0) }
     ensures judged { Judges result (first_of (headers_tests md.now count first)) (λ _. ⊤) }
     ensures tables { IfOk result (λ found. found.tables ≡ stream_among md.now (codes "#~") count first) }
     ensures strings { IfOk result
@@ -139,6 +143,7 @@ fn read_headers(md: &[u8], first: usize, count: u16) -> Result<Found, TableFault
 /// The streams that have to be there, and `#US` where it is.
 #[tactic(auto, unfolding(crate::specs::Root::presence_of, cc_base::specs::Tests::first_of))]
 fn all_present(found: Found) -> Result<Streams, TableFault>
+    ensures fault_at_front { IfErr result (λ fault. offset_of fault ≡ 0) }
     ensures judged { Judges result (first_of (presence_of found.tables found.strings found.blob)) (λ _. ⊤) }
     ensures tables { IfOk result (λ streams. found.tables ≡ Some streams.tables) }
     ensures strings { IfOk result (λ streams. found.strings ≡ Some streams.strings) }
@@ -166,6 +171,7 @@ fn all_present(found: Found) -> Result<Streams, TableFault>
 /// The streams of metadata.
 pub(crate) fn read_streams(md: &[u8]) -> Result<Streams, TableFault>
     requires { length md.now < 2 ^ 31 }
+    ensures fault_at_front { IfErr result (λ fault. offset_of fault ≡ 0) }
     ensures judged { Judges result (first_of (streams_tests md.now)) (λ _. ⊤) }
     ensures tables { IfOk result (λ streams. stream md.now (codes "#~") ≡ Some streams.tables) }
     ensures strings { IfOk result (λ streams. stream md.now (codes "#Strings") ≡ Some streams.strings) }

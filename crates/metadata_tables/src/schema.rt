@@ -6,6 +6,9 @@ ghost use Rattle.metadata_tables.specs.Schema.{columns_of, tables_of, tag_bits_o
 /// A number of tables: each table of the schemas has a number below it.
 pub const TABLES: usize = 45;
 
+/// The most columns of a table.
+pub(crate) const MOST_COLUMNS: usize = 9;
+
 /// The kinds of coded index (II.24.2.6).
 #[derive(Clone, Copy, Debug, PartialEq, Eq)]
 pub enum CodedIndex {
@@ -43,6 +46,7 @@ pub enum Column {
     Coded(CodedIndex),
 }
 
+use crate::table;
 use CodedIndex::*;
 use Column::*;
 
@@ -55,51 +59,55 @@ const SCHEMAS: [&[Column]; TABLES] = [
         Strings,
         Strings,
         Coded(TypeDefOrRef),
-        Row(0x04),
-        Row(0x06),
+        Row(table::FIELD),
+        Row(table::METHOD_DEF),
     ],
     &[],
     &[Two, Strings, Blob],
     &[],
-    &[Four, Two, Two, Strings, Blob, Row(0x08)],
+    &[Four, Two, Two, Strings, Blob, Row(table::PARAM)],
     &[],
     &[Two, Two, Strings],
-    &[Row(0x02), Coded(TypeDefOrRef)],
+    &[Row(table::TYPE_DEF), Coded(TypeDefOrRef)],
     &[Coded(MemberRefParent), Strings, Blob],
     &[Two, Coded(HasConstant), Blob],
     &[Coded(HasCustomAttribute), Coded(CustomAttributeType), Blob],
     &[Coded(HasFieldMarshal), Blob],
     &[Two, Coded(HasDeclSecurity), Blob],
-    &[Two, Four, Row(0x02)],
-    &[Four, Row(0x04)],
+    &[Two, Four, Row(table::TYPE_DEF)],
+    &[Four, Row(table::FIELD)],
     &[Blob],
-    &[Row(0x02), Row(0x14)],
+    &[Row(table::TYPE_DEF), Row(table::EVENT)],
     &[],
     &[Two, Strings, Coded(TypeDefOrRef)],
-    &[Row(0x02), Row(0x17)],
+    &[Row(table::TYPE_DEF), Row(table::PROPERTY)],
     &[],
     &[Two, Strings, Blob],
-    &[Two, Row(0x06), Coded(HasSemantics)],
-    &[Row(0x02), Coded(MethodDefOrRef), Coded(MethodDefOrRef)],
+    &[Two, Row(table::METHOD_DEF), Coded(HasSemantics)],
+    &[
+        Row(table::TYPE_DEF),
+        Coded(MethodDefOrRef),
+        Coded(MethodDefOrRef),
+    ],
     &[Strings],
     &[Blob],
-    &[Two, Coded(MemberForwarded), Strings, Row(0x1a)],
-    &[Four, Row(0x04)],
+    &[Two, Coded(MemberForwarded), Strings, Row(table::MODULE_REF)],
+    &[Four, Row(table::FIELD)],
     &[],
     &[],
     &[Four, Two, Two, Two, Two, Four, Blob, Strings, Strings],
     &[Four],
     &[Four, Four, Four],
     &[Two, Two, Two, Two, Four, Blob, Strings, Strings, Blob],
-    &[Four, Row(0x23)],
-    &[Four, Four, Four, Row(0x23)],
+    &[Four, Row(table::ASSEMBLY_REF)],
+    &[Four, Four, Four, Row(table::ASSEMBLY_REF)],
     &[Four, Strings, Blob],
     &[Four, Four, Strings, Strings, Coded(Implementation)],
     &[Four, Four, Strings, Coded(Implementation)],
-    &[Row(0x02), Row(0x02)],
+    &[Row(table::TYPE_DEF), Row(table::TYPE_DEF)],
     &[Two, Two, Coded(TypeOrMethodDef), Strings],
     &[Coded(MethodDefOrRef), Blob],
-    &[Row(0x2a), Coded(TypeDefOrRef)],
+    &[Row(table::GENERIC_PARAM), Coded(TypeDefOrRef)],
 ];
 
 /// The columns of the table of a number, none where there is no such table.
@@ -142,22 +150,53 @@ impl CodedIndex {
         ensures { result.now ≡ tables_of self }
     {
         match self {
-            TypeDefOrRef => &[0x02, 0x01, 0x1b],
-            HasConstant => &[0x04, 0x08, 0x17],
+            TypeDefOrRef => &[table::TYPE_DEF, table::TYPE_REF, table::TYPE_SPEC],
+            HasConstant => &[table::FIELD, table::PARAM, table::PROPERTY],
             HasCustomAttribute => &[
-                0x06, 0x04, 0x01, 0x02, 0x08, 0x09, 0x0a, 0x00, 0x0e, 0x17, 0x14, 0x11, 0x1a, 0x1b,
-                0x20, 0x23, 0x26, 0x27, 0x28, 0x2a, 0x2c, 0x2b,
+                table::METHOD_DEF,
+                table::FIELD,
+                table::TYPE_REF,
+                table::TYPE_DEF,
+                table::PARAM,
+                table::INTERFACE_IMPL,
+                table::MEMBER_REF,
+                table::MODULE,
+                table::DECL_SECURITY,
+                table::PROPERTY,
+                table::EVENT,
+                table::STAND_ALONE_SIG,
+                table::MODULE_REF,
+                table::TYPE_SPEC,
+                table::ASSEMBLY,
+                table::ASSEMBLY_REF,
+                table::FILE,
+                table::EXPORTED_TYPE,
+                table::MANIFEST_RESOURCE,
+                table::GENERIC_PARAM,
+                table::GENERIC_PARAM_CONSTRAINT,
+                table::METHOD_SPEC,
             ],
-            HasFieldMarshal => &[0x04, 0x08],
-            HasDeclSecurity => &[0x02, 0x06, 0x20],
-            MemberRefParent => &[0x02, 0x01, 0x1a, 0x06, 0x1b],
-            HasSemantics => &[0x14, 0x17],
-            MethodDefOrRef => &[0x06, 0x0a],
-            MemberForwarded => &[0x04, 0x06],
-            Implementation => &[0x26, 0x23, 0x27],
-            CustomAttributeType => &[0x06, 0x0a],
-            ResolutionScope => &[0x00, 0x1a, 0x23, 0x01],
-            TypeOrMethodDef => &[0x02, 0x06],
+            HasFieldMarshal => &[table::FIELD, table::PARAM],
+            HasDeclSecurity => &[table::TYPE_DEF, table::METHOD_DEF, table::ASSEMBLY],
+            MemberRefParent => &[
+                table::TYPE_DEF,
+                table::TYPE_REF,
+                table::MODULE_REF,
+                table::METHOD_DEF,
+                table::TYPE_SPEC,
+            ],
+            HasSemantics => &[table::EVENT, table::PROPERTY],
+            MethodDefOrRef => &[table::METHOD_DEF, table::MEMBER_REF],
+            MemberForwarded => &[table::FIELD, table::METHOD_DEF],
+            Implementation => &[table::FILE, table::ASSEMBLY_REF, table::EXPORTED_TYPE],
+            CustomAttributeType => &[table::METHOD_DEF, table::MEMBER_REF],
+            ResolutionScope => &[
+                table::MODULE,
+                table::MODULE_REF,
+                table::ASSEMBLY_REF,
+                table::TYPE_REF,
+            ],
+            TypeOrMethodDef => &[table::TYPE_DEF, table::METHOD_DEF],
         }
     }
 }

@@ -3,9 +3,10 @@
 ghost use Rattle.std.specs.Prelude.{◌≡◌, ◌+◌, ◌*◌, ◌-◌, ◌<◌, ◌≤◌, ◌==◌, length, slice_index, nat_lt};
 ghost use Rattle.std.specs.List.{list_all};
 ghost use Rattle.std.specs.Int.{bit_at};
+ghost use Rattle.metadata_tables.specs.Layout.{column_offsets};
 ghost use Rattle.metadata_tables.specs.Schema.{row_index_width, heap_index_width, width, total_width};
 
-use crate::schema::{Column, TABLES};
+use crate::schema::{Column, MOST_COLUMNS, TABLES};
 
 /// The row count of a table, 0 where there is no such table.
 pub(crate) fn count_of(counts: &[u32; TABLES], table: u8) -> u32
@@ -24,7 +25,7 @@ pub(crate) fn has_bit(bits: u64, bit: u8) -> bool
 }
 
 /// The bytes of an index into a heap, whose bit of HeapSizes this is.
-fn heap_index_width(heap_sizes: u8, bit: u8) -> u32
+fn heap_index_width(heap_sizes: u8, bit: u8) -> u8
     requires { bit < 8 }
     ensures { result ≡ heap_index_width heap_sizes bit }
 {
@@ -43,7 +44,7 @@ fn are_below(counts: &[u32; TABLES], tables: &[u8], limit: u32) -> bool
 }
 
 /// The bytes of an index into these tables that has this many bits for the row.
-fn row_index_width(counts: &[u32; TABLES], tables: &[u8], bits: u8) -> u32
+fn row_index_width(counts: &[u32; TABLES], tables: &[u8], bits: u8) -> u8
     requires { bits ≤ 16 }
     ensures { result ≡ row_index_width counts.now tables.now bits }
 {
@@ -57,7 +58,7 @@ fn row_index_width(counts: &[u32; TABLES], tables: &[u8], bits: u8) -> u32
 
 /// The bytes of a column.
 #[tactic(auto, unfolding(crate::specs::Schema::width))]
-pub(crate) fn column_width(counts: &[u32; TABLES], heap_sizes: u8, column: Column) -> u32
+pub(crate) fn column_width(counts: &[u32; TABLES], heap_sizes: u8, column: Column) -> u8
     ensures value { result ≡ width counts.now heap_sizes column }
     ensures small { result ≤ 4 }
 {
@@ -72,14 +73,26 @@ pub(crate) fn column_width(counts: &[u32; TABLES], heap_sizes: u8, column: Colum
     }
 }
 
-/// The bytes of some columns side by side.
-pub(crate) fn columns_width(counts: &[u32; TABLES], heap_sizes: u8, columns: &[Column]) -> u32
-    requires { length columns.now < 16 }
-    ensures value { result ≡ total_width counts.now heap_sizes columns.now }
+/// How many numbers tell where the columns of a row begin and end.
+pub(crate) const OFFSETS: usize = MOST_COLUMNS + 1;
+
+/// Where each of some columns side by side begins, and behind the last one where all of them end.
+pub(crate) fn column_offsets(
+    counts: &[u32; TABLES],
+    heap_sizes: u8,
+    columns: &[Column],
+) -> [u8; OFFSETS]
+    requires { length columns.now ≤ 9 }
+    ensures offsets { result ≡ column_offsets counts.now heap_sizes columns.now }
+    ensures end { slice_index result 9 ≡ total_width counts.now heap_sizes columns.now }
 {
-    let mut total = 0;
-    for column in columns {
-        total += column_width(counts, heap_sizes, *column);
+    let mut offsets = [0; OFFSETS];
+    let mut end = 0;
+    for i in 0..OFFSETS {
+        offsets[i] = end;
+        if i < columns.len() {
+            end += column_width(counts, heap_sizes, columns[i]);
+        }
     }
-    total
+    offsets
 }

@@ -1,5 +1,5 @@
 -- The bytes at an address (RVA), and the two things that are found so.
-use Rattle.std.specs.Prelude.{ℕ, zero, suc, ◌+◌, ◌-◌, List, length, slice_range, Bool, ◌&&◌, nat_lt, nat_le, Option, Some, None, option_map, unwrap_or, if◌then◌else◌}
+use Rattle.std.specs.Prelude.{ℕ, zero, suc, ◌+◌, ◌-◌, List, length, take, drop, slice_range, Bool, ◌&&◌, nat_lt, nat_le, Option, Some, None, option_map, unwrap_or, if◌then◌else◌}
 use Rattle.std.specs.Option.{option_and_then}
 use Rattle.cc_base.specs.LittleEndian.{u32_at}
 use Rattle.pe_reader.specs.Places.{section_count, virtual_address, raw_size, raw_at, cli_rva}
@@ -36,6 +36,21 @@ place_of bytes rva len = option_and_then (place_in bytes rva len) (section_of by
 -- The bytes at an address.
 unfoldable pub bytes_at : List ℕ → ℕ → ℕ → Option (List ℕ)
 bytes_at bytes rva len = option_map (λ at. slice_range bytes at (at + len)) (place_of bytes rva len)
+
+-- The bytes from an address of section i on, up to the end of the section or of the file, whichever comes
+-- first. None where their place lies beyond the file's end.
+unfoldable pub rest_in : List ℕ → ℕ → ℕ → Option (List ℕ)
+rest_in bytes rva i =
+    let at = raw_at bytes i + (rva - virtual_address bytes i) in
+    if nat_le at (length bytes) then Some (take (virtual_address bytes i + raw_size bytes i - rva) (drop at bytes)) else None
+
+-- The bytes from an address on. None where no section contains it.
+unfoldable pub rest_at : List ℕ → ℕ → Option (List ℕ)
+rest_at bytes rva = option_and_then (rest_in bytes rva) (section_of bytes rva)
+
+-- The first bytes of some, none where they are fewer.
+abbrev pub first_bytes : ℕ → Option (List ℕ) → Option (List ℕ)
+first_bytes len rest = option_and_then (λ found. if nat_le len (length found) then Some (take len found) else None) rest
 
 -- The place of the CLI header (II.25.3.3), by its first 24 bytes.
 unfoldable pub cli_place : List ℕ → Option ℕ

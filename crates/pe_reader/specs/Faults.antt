@@ -81,3 +81,10 @@ pe_tests bytes = header_tests bytes ++ cli_tests bytes
 -- The first fault of a file, if it has one.
 unfoldable pub first_pe_fault : List ℕ → Option PeFault
 first_pe_fault bytes = first_of (pe_tests bytes)
+
+-- The offset in the file that a fault names, and for an address outside the address.
+abbrev pub offset_of : PeFault → ℕ
+offset_of (TooShort at) = at
+offset_of (NotPe at) = at
+offset_of (NoCli at) = at
+offset_of (RvaOutside rva) = rva

@@ -1,5 +1,8 @@
 //! Why a file is refused.
 
+ghost use Rattle.std.specs.Prelude.{◌≡◌};
+ghost use Rattle.pe_reader.specs.Faults.{offset_of};
+
 use thiserror::Error;
 
 /// What is wrong with a file: the first fault in reading order.
@@ -17,4 +20,16 @@ pub enum PeFault {
     /// What stands at this address (RVA) is not found in the file.
     #[error("address outside at {0:08x}")]
     RvaOutside(u32),
+}
+
+impl PeFault {
+    /// The offset in the file that the fault names; for an address outside it is the address (RVA).
+    pub fn at(self) -> u32
+        ensures { result ≡ offset_of self }
+    {
+        match self {
+            PeFault::TooShort(at) | PeFault::NotPe(at) | PeFault::NoCli(at) => at,
+            PeFault::RvaOutside(rva) => rva,
+        }
+    }
 }

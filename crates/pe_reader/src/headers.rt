@@ -1,6 +1,7 @@
 //! The headers before the sections.
 
 ghost use Rattle.std.specs.Prelude.{◌≡◌, ◌+◌, ◌≤◌, length};
+ghost use Rattle.cc_base.specs.Slices.{IsShort};
 ghost use Rattle.cc_base.specs.Tests.{first_of, Judges};
 ghost use Rattle.pe_reader.specs.Faults.{signature_tests, file_header_tests, optional_tests};
 ghost use Rattle.pe_reader.specs.Places.{file_header_at, section_count, optional_size, optional_at, cli_rva};
@@ -23,7 +24,7 @@ const PE32_PLUS: u16 = 0x20b;
 /// Where the PE file header stands: behind the signature that the MS-DOS header names.
 #[tactic(auto, using(cc_base::proofs::TestLemmas::first_tests), unfolding(crate::specs::Faults::signature_tests, crate::specs::Places::signature_at, crate::specs::Places::file_header_at))]
 pub fn file_header_place(bytes: &[u8]) -> Result<u32, PeFault>
-    requires { length bytes.now ≤ 2147483647 }
+    requires { IsShort bytes.now }
     ensures { Judges result (first_of (signature_tests bytes.now))
         (λ at. (at ≡ file_header_at bytes.now) × (at ≤ length bytes.now)) }
 {

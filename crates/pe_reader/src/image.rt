@@ -1,9 +1,10 @@
 //! A PE file that was read: the bytes at its addresses, and its metadata.
 
-ghost use Rattle.std.specs.Prelude.{◌≡◌, ◌↔◌, ◌+◌, ◌≤◌, length, IsOk, IfOk, IfErr, IfSome, OnSome};
+ghost use Rattle.std.specs.Prelude.{◌≡◌, ℕ, ◌↔◌, ◌+◌, ◌≤◌, length, IsOk, IfOk, IfErr, IfSome, OnSome};
 ghost use Rattle.std.specs.Option.{option_copied};
+ghost use Rattle.cc_base.specs.Slices.{IsShort};
 ghost use Rattle.cc_base.specs.Tests.{first_of, Judges};
-ghost use Rattle.pe_reader.specs.Addresses.{bytes_at, metadata, metadata_at, metadata_place, metadata_size};
+ghost use Rattle.pe_reader.specs.Addresses.{bytes_at, rest_at, first_bytes, metadata, metadata_at, metadata_place, metadata_size};
 ghost use Rattle.pe_reader.specs.Faults.{header_tests, sections_tests, cli_tests, first_pe_fault};
 ghost use Rattle.pe_reader.specs.Places.{section_count, cli_rva};
 ghost use Rattle.pe_reader.specs.Reading.{AreSections};
@@ -39,8 +40,8 @@ impl<'a> Image<'a> {
     /// Reads the headers of a PE file and finds its metadata. Nothing is copied.
     #[tactic(auto, using(cc_base::proofs::TestLemmas::appended, crate::proofs::Found::whole), unfolding(crate::specs::Faults::first_pe_fault, crate::specs::Faults::pe_tests))]
     pub fn read(bytes: &'a [u8]) -> Result<Image<'a>, PeFault>
-        requires { length bytes.now ≤ 2147483647 }
-        ensures image { IfOk result (λ image. image ≡ bytes.now) }
+        requires { IsShort bytes.now }
+        ensures value { IfOk result (λ image. image ≡ bytes.now) }
         ensures accepted { IsOk result ↔ (first_pe_fault bytes.now ≡ None) }
         ensures refused { IfErr result (λ fault. first_pe_fault bytes.now ≡ Some fault) }
     {
@@ -66,6 +67,17 @@ impl<'a> Image<'a> {
         Some(&self.bytes[place..place + len as usize])
     }
 
+    /// The bytes from an address (RVA) on, up to the end of its section or of the file, whichever comes
+    /// first. None where no section contains the address, or its place lies beyond the file's end.
+    #[tactic(auto, using(crate::proofs::Found::whole, crate::proofs::Rest::any_length))]
+    pub fn rest_at(&self, rva: u32) -> Option<&'a [u8]>
+        ensures bytes { option_copied result ≡ rest_at self.now rva }
+        // So many bytes at the address are the first of these.
+        ensures any_length { (len : ℕ) → bytes_at self.now rva len ≡ first_bytes len (rest_at self.now rva) }
+    {
+        self.sections.rest_at(self.bytes, rva)
+    }
+
     /// The metadata (II.24.2).
     #[tactic(auto, using(crate::proofs::Found::place_lies), unfolding(crate::specs::Addresses::metadata, crate::specs::Addresses::metadata_at, crate::specs::Addresses::metadata_place))]
     pub fn metadata(&self) -> &'a [u8]
@@ -83,7 +95,7 @@ impl<'a> Image<'a> {
         ensures place { result ≡ metadata_at self.now }
         ensures found { metadata_place self.now ≡ Some result }
         ensures within { result + metadata_size self.now ≤ length self.now }
-        ensures small { length self.now ≤ 2147483647 }
+        ensures small { IsShort self.now }
     {
         self.metadata_at
     }
@@ -100,7 +112,7 @@ struct Headers {
 /// Reads the headers up to the last section's.
 #[tactic(auto, using(cc_base::proofs::TestLemmas::appended), unfolding(crate::specs::Faults::header_tests, crate::specs::Places::optional_at, crate::specs::Places::sections_at))]
 fn read_headers(bytes: &[u8]) -> Result<Headers, PeFault>
-    requires { length bytes.now ≤ 2147483647 }
+    requires { IsShort bytes.now }
     ensures { Judges result (first_of (header_tests bytes.now))
         (λ headers. AreSections bytes.now headers.sections × (headers.cli_rva ≡ cli_rva bytes.now)) }
 {
@@ -129,7 +141,7 @@ fn find_metadata(bytes: &[u8], headers: Headers) -> Result<Metadata, PeFault>
     requires sections { AreSections bytes.now headers.sections }
     requires address { headers.cli_rva ≡ cli_rva bytes.now }
     requires whole { first_of (sections_tests bytes.now (section_count bytes.now)) ≡ None }
-    requires small { length bytes.now ≤ 2147483647 }
+    requires small { IsShort bytes.now }
     ensures { Judges result (first_of (cli_tests bytes.now))
         (λ found. (metadata_place bytes.now ≡ Some found.at) × (found.len ≡ metadata_size bytes.now)) }
 {

@@ -9,6 +9,3 @@ mod sections;
 
 pub use fault::PeFault;
 pub use image::Image;
-
-#[cfg(test)]
-mod tests;

@@ -1,8 +1,10 @@
 //! The section headers (II.25.3), and the place of an address in the file.
 
-ghost use Rattle.std.specs.Prelude.{◌≡◌, ℕ, ◌+◌, ◌*◌, ◌^◌, ◌<◌, ◌≤◌, IsTrue, length};
+ghost use Rattle.std.specs.Prelude.{◌≡◌, ℕ, ◌+◌, ◌*◌, ◌^◌, ◌<◌, ◌≤◌, IsTrue, IfSome};
+ghost use Rattle.std.specs.Option.{option_copied};
+ghost use Rattle.cc_base.specs.Slices.{IsShort};
 ghost use Rattle.cc_base.specs.Tests.{first_of, Judges};
-ghost use Rattle.pe_reader.specs.Addresses.{covers, place_in, place_of};
+ghost use Rattle.pe_reader.specs.Addresses.{covers, section_contains, section_of, place_in, place_of, rest_in, rest_at};
 ghost use Rattle.pe_reader.specs.Faults.{section_tests, sections_tests};
 ghost use Rattle.pe_reader.specs.Places.{section_count};
 ghost use Rattle.pe_reader.specs.Reading.{AreSections, IsSection};
@@ -60,22 +62,45 @@ impl Sections {
         skip_field(bytes, at + 20, 4)
     }
 
-    /// Finds bytes at an address, and answers their place in the file. All of them have to stand in one
-    /// section, which is the first to hold the address, and before the file's end.
-    #[tactic(auto, using(crate::proofs::Lookup::lookup), unfolding(crate::specs::Addresses::section_contains, crate::specs::Addresses::section_of, crate::specs::Addresses::place_of))]
-    pub fn place_of(self, bytes: &[u8], rva: u32, len: u32) -> Option<u32>
+    /// Which section is the first that contains an address.
+    #[tactic(auto, using(crate::proofs::Lookup::lookup), unfolding(crate::specs::Addresses::section_contains, crate::specs::Addresses::section_of))]
+    fn find(self, bytes: &[u8], rva: u32) -> Option<u16>
         requires sections { AreSections bytes.now self }
         requires whole { first_of (sections_tests bytes.now (section_count bytes.now)) ≡ None }
-        requires small { length bytes.now ≤ 2147483647 }
-        ensures { result ≡ place_of bytes.now rva len }
+        ensures first { result ≡ section_of bytes.now rva }
+        ensures within { IfSome result (λ index. index < self.count) }
+        ensures inside { IfSome result (λ index. IsTrue (section_contains bytes.now rva index)) }
     {
         for index in 0..self.count {
-            let section = self.section(bytes, index);
-            if section.contains(rva) {
-                return section.place_of(bytes, rva, len);
+            if self.section(bytes, index).contains(rva) {
+                return Some(index);
             }
         }
         None
+    }
+
+    /// Finds bytes at an address, and answers their place in the file. All of them have to stand in one
+    /// section, which is the first to hold the address, and before the file's end.
+    #[tactic(auto, unfolding(crate::specs::Addresses::section_contains, crate::specs::Addresses::place_of))]
+    pub fn place_of(self, bytes: &[u8], rva: u32, len: u32) -> Option<u32>
+        requires sections { AreSections bytes.now self }
+        requires whole { first_of (sections_tests bytes.now (section_count bytes.now)) ≡ None }
+        requires small { IsShort bytes.now }
+        ensures { result ≡ place_of bytes.now rva len }
+    {
+        let index = self.find(bytes, rva)?;
+        self.section(bytes, index).place_of(bytes, rva, len)
+    }
+
+    /// The bytes from an address on, up to the end of its section or of the file, whichever comes first.
+    #[tactic(auto, unfolding(crate::specs::Addresses::section_contains, crate::specs::Addresses::rest_at))]
+    pub fn rest_at(self, bytes: &[u8], rva: u32) -> Option<&[u8]>
+        requires sections { AreSections bytes.now self }
+        requires whole { first_of (sections_tests bytes.now (section_count bytes.now)) ≡ None }
+        ensures { option_copied result ≡ rest_at bytes.now rva }
+    {
+        let index = self.find(bytes, rva)?;
+        self.section(bytes, index).rest_at(bytes, rva)
     }
 
     #[tactic(auto, using(crate::proofs::Lookup::section_lies), unfolding(crate::specs::Places::section_at, crate::specs::Places::virtual_address, crate::specs::Places::raw_size, crate::specs::Places::raw_at))]
@@ -106,7 +131,7 @@ impl Section {
     #[tactic(auto, unfolding(crate::specs::Addresses::place_in))]
     fn place_of(self, bytes: &[u8], rva: u32, len: u32) -> Option<u32>
         requires inside { IsTrue (covers self.address self.len rva) }
-        requires small { length bytes.now ≤ 2147483647 }
+        requires small { IsShort bytes.now }
         ensures { (i : ℕ) → IsSection bytes.now i self → result ≡ place_in bytes.now rva len i }
     {
         let offset = rva - self.address;
@@ -118,5 +143,20 @@ impl Section {
             return None;
         }
         Some(place as u32)
+    }
+
+    /// The bytes at an address of this section, up to its end or the file's.
+    #[tactic(auto, unfolding(crate::specs::Addresses::rest_in))]
+    fn rest_at(self, bytes: &[u8], rva: u32) -> Option<&[u8]>
+        requires { IsTrue (covers self.address self.len rva) }
+        ensures { (i : ℕ) → IsSection bytes.now i self → option_copied result ≡ rest_in bytes.now rva i }
+    {
+        let offset = rva - self.address;
+        let start = self.place as usize + offset as usize;
+        if start > bytes.len() {
+            return None;
+        }
+        let len = bytes.len() - start;
+        Some(&bytes[start..start + len.min((self.len - offset) as usize)])
     }
 }

@@ -7,6 +7,6 @@ use Rattle.asm_image.proofs.types.test_types.Given as goal
 
 abbrev pub invariant-loop-i : goal.invariant-loop-i
 invariant-loop-i l = record {
-  least : l.least ≡ least_list l.tables (l.i + 1);
-  rest : from_on (type_tests l.tables l.base) (l.i + 1) (type_count l.tables + 1) ≡ first_of (types_tests l.tables l.base);
+  least : l.least ≡ least_list l.metadata.bytes (l.i + 1);
+  rest : from_on (type_tests l.metadata.bytes l.metadata.offset) (l.i + 1) (type_count l.metadata.bytes + 1) ≡ first_of (types_tests l.metadata.bytes l.metadata.offset);
 }

@@ -39,7 +39,7 @@ loop-table-preserved c =
           rw (w.counts-is) (record {
             place = omega (arith, more, one);
             long = length-set _ _ _ ∙ before.long;
-            filled = filled-more (stored_count md) c.loop-table.counts table _ (omega arith) (w.u32_at.ensures ∙ stored_count-set md bits c.args.start table c.loop-table.at c.requires.bits c.requires.place set before.place) before.filled;
+            filled = filled-more (stored_count md) c.loop-table.counts table _ 0 (omega arith) (w.u32_at.ensures ∙ stored_count-set md bits c.args.start table c.loop-table.at c.requires.bits c.requires.place set before.place) before.filled;
             rest = zero-behind c.loop-table.counts table _ before.rest;
           })
       | else-has_bit w ↦

@@ -14,13 +14,13 @@ pub overflow_add-result : goal.overflow_add-result
 overflow_add-result c =
     let i = c.self.inside in
     let kept = c.self.invariant in
-    omega (arith, kept.short, kept.blob_begin, ap length kept.blob_kept, heap-end i.md.now (codes "#Blob") kept.sound, ap length c.rest_from.ensures, length-drop c.args.index i.blob.now, c.in_ok-front.ensures.whole, c.in_ok-front.ensures.written)
+    omega (arith, kept.short, kept.blob_begin, ap length kept.blob_kept, heap-end i.md.now (codes "#Blob") kept.sound, ap length c.rest_from.ensures, length-drop c.args.index i.blob.now, c.in_ok-front.ensures.whole, c.in_ok-front.ensures.some)
 
 pub overflow_add-result-2 : goal.overflow_add-result-2
 overflow_add-result-2 c =
     let i = c.self.inside in
     let kept = c.self.invariant in
-    omega (arith, kept.short, kept.blob_begin, ap length kept.blob_kept, heap-end i.md.now (codes "#Blob") kept.sound, ap length c.rest_from.ensures, length-drop c.args.index i.blob.now, c.in_ok-front.ensures.whole, c.in_ok-front.ensures.written)
+    omega (arith, kept.short, kept.blob_begin, ap length kept.blob_kept, heap-end i.md.now (codes "#Blob") kept.sound, ap length c.rest_from.ensures, length-drop c.args.index i.blob.now, c.in_ok-front.ensures.whole, c.in_ok-front.ensures.some)
 
 pub returns-clause-place : goal.returns-clause-place
 returns-clause-place c =
@@ -32,7 +32,7 @@ pub returns-clause-within : goal.returns-clause-within
 returns-clause-within c =
     let i = c.self.inside in
     let kept = c.self.invariant in
-    omega (arith, kept.blob_begin, ap length kept.blob_kept, heap-end i.md.now (codes "#Blob") kept.sound, ap length c.rest_from.ensures, length-drop c.args.index i.blob.now, c.in_ok-front.ensures.whole, c.in_ok-front.ensures.written, ap length c.self.view_is)
+    omega (arith, kept.blob_begin, ap length kept.blob_kept, heap-end i.md.now (codes "#Blob") kept.sound, ap length c.rest_from.ensures, length-drop c.args.index i.blob.now, c.in_ok-front.ensures.whole, c.in_ok-front.ensures.some, ap length c.self.view_is)
 
 pub returns-in_err-front-clause-lent : goal.returns-in_err-front-clause-lent
 returns-in_err-front-clause-lent c =
@@ -50,4 +50,4 @@ returns-clause-stands c =
     let kept = rw c.self.view_is at c.self.invariant.blob_kept in
     let begin = rw c.self.view_is at c.self.invariant.blob_begin in
     stands-is c.args.self.now c.self.inside.blob.now c.rest_from.result.now c.args.index c.self.inside.blob_at c.in_ok-front.front sound kept begin c.rest_from.ensures
-    c.in_ok-front.ensures.value c.in_ok-front.ensures.written c.in_ok-front.ensures.whole
+    c.in_ok-front.ensures.value c.in_ok-front.ensures.some c.in_ok-front.ensures.whole
