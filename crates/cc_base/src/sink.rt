@@ -1,10 +1,11 @@
 //! A place that bytes are written to.
 
 ghost use Rattle.std.specs.Prelude.{◌≡◌, ℕ, List, Option, OnOk, IsErrOf};
+ghost use Rattle.cc_base.specs.declared.sink.PutRefusal.TheVariants.{NoMemory};
 ghost use Rattle.cc_base.specs.Counts.{Rose, Kept};
 ghost use Rattle.cc_base.specs.Sink.{appended, AppendsFront};
 
-use std::alloc::Global;
+use std::alloc::{AllocError, Global};
 
 /// Why bytes were not written.
 #[derive(Clone, Copy, Debug, PartialEq, Eq)]
@@ -13,6 +14,14 @@ pub enum PutRefusal {
     Failed,
     /// Memory ran out, and nothing was written.
     NoMemory,
+}
+
+impl From<AllocError> for PutRefusal {
+    ghost from_gives = { λ _ e. e ≡ NoMemory };
+
+    fn from(_error: AllocError) -> PutRefusal {
+        PutRefusal::NoMemory
+    }
 }
 
 /// A place that bytes are written to, one after another.
