@@ -56,10 +56,10 @@ number_cut width rest fits short =
       some_missing = omega (arith, missed);
     }
 
-by_form_explained : (at size number : ℕ) (opcode : List ℕ) (form : Option Form) (rest : List ℕ) → FormSpells opcode form → size ≡ length opcode
+by_form_explained : (at size number b : ℕ) (opcode : List ℕ) (form : Option Form) (rest : List ℕ) → FormSpells b opcode form → size ≡ length opcode
     → number ≡ opcode_at (opcode ++ rest) 0 → IsBytes rest → Explains at (opcode ++ rest) (by_form at size number form rest)
-by_form_explained at size number opcode None rest spells len is fits = (refl, is)
-by_form_explained at size number opcode (Some (width, meaning)) rest spells len is fits =
+by_form_explained at size number b opcode None rest spells len is fits = (refl, is)
+by_form_explained at size number b opcode (Some (width, meaning)) rest spells len is fits =
     cond_both (leb width (length rest)) (Ok (meaning (little_number width rest), size + width)) (Err (Short at)) (Explains at (opcode ++ rest))
     (λ enough.
     let n = little_number width rest in
@@ -67,7 +67,7 @@ by_form_explained at size number opcode (Some (width, meaning)) rest spells len 
     ap (λ (t : List ℕ). t ++ drop width rest) (bytes_back-take width rest (leb-true _ _ enough) fits) ∙ take-append-drop width rest in (
       opcode ++ little_bytes width n,
       drop width rest,
-      spells n (little_number-lt width rest fits),
+      spells.1 n (little_number-lt width rest fits),
       omega (arith, len, length-append opcode (little_bytes width n), length-little_bytes width n),
       ap (λ (t : List ℕ). opcode ++ t) (sym stands) ∙ sym (append_assoc opcode (little_bytes width n) (drop width rest)),
     ))
@@ -79,7 +79,7 @@ by_form_explained at size number opcode (Some (width, meaning)) rest spells len 
         (
           opcode ++ little_bytes width c.number,
           c.missing,
-          spells c.number c.fits,
+          spells.1 c.number c.fits,
           ap (λ (t : List ℕ). opcode ++ t) c.spelled ∙ sym (append_assoc opcode rest c.missing),
           c.some_missing,
         ),
@@ -90,7 +90,7 @@ two_byte_explained : (at : ℕ) (rest : List ℕ) → IsBytes rest → Explains 
 unfolding two_byte
 two_byte_explained at [] fits = (refl, (Bin operators.Ceq, (0xfe ∷ 0x01 ∷ [], 0x01 ∷ [], refl, refl, omega arith)))
 two_byte_explained at (b ∷ rest) fits =
-    by_form_explained at 2 (0xfe00 + b) (0xfe ∷ b ∷ []) (long_form b) rest (long_form-spells b) refl refl (IsBytes-tail b rest fits)
+    by_form_explained at 2 (0xfe00 + b) b (0xfe ∷ b ∷ []) (long_form b) rest (long_form-spells b) refl refl (IsBytes-tail b rest fits)
 
 -- The answer tells what the bytes are.
 pub operation_explained : (at : ℕ) (rest : List ℕ) → IsBytes rest → Explains at rest (operation at rest)
@@ -99,7 +99,7 @@ operation_explained at [] fits = (refl, (Nop, (0x00 ∷ [], 0x00 ∷ [], refl, r
 operation_explained at (b ∷ rest) fits =
     cond_both (eqb b 0xfe) (two_byte at rest) (by_form at 1 b (short_form b) rest) (Explains at (b ∷ rest))
     (λ e. rw (eqb-true b 0xfe e) (two_byte_explained at rest (IsBytes-tail b rest fits)))
-    (λ other. by_form_explained at 1 b (b ∷ []) (short_form b) rest (short_form-spells b) refl (rw other refl) (IsBytes-tail b rest fits))
+    (λ other. by_form_explained at 1 b b (b ∷ []) (short_form b) rest (short_form-spells b) refl (rw other refl) (IsBytes-tail b rest fits))
 
 -- ---- what is spelled so is read
 

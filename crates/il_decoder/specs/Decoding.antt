@@ -1,8 +1,6 @@
 -- Decoding as a plain program: what the bytes at a place say, or the fault there.
 use Rattle.std.specs.Prelude.{ℕ, ◌+◌, List, [], ◌∷◌, length, drop, Option, Some, None, Result, Ok, Err, ◌==◌, nat_le, if◌then◌else◌}
 use Rattle.byteorder.specs.Endian.{little_number}
-use Rattle.cc_base.specs.declared.refusal.Refusal.{Refusal}
-use Rattle.cc_base.specs.declared.refusal.Refusal.TheVariants.{Bad}
 use Rattle.cil_model.specs.Opcodes.{Form, short_form, long_form}
 use Rattle.cil_model.specs.declared.instruction.Instr.{Instr}
 use Rattle.cil_model.specs.declared.instruction.Op.{Op}
@@ -29,10 +27,10 @@ unfoldable pub operation : ℕ → List ℕ → Result Operation IlFault
 operation at [] = Err (Short at)
 operation at (b ∷ rest) = if b == 0xfe then two_byte at rest else by_form at 1 b (short_form b) rest
 
-abbrev pub placed : ℕ → Result Operation IlFault → Result Instr (Refusal IlFault)
+abbrev pub placed : ℕ → Result Operation IlFault → Result Instr IlFault
 placed at (Ok (op, size)) = Ok (record { at = at; size = size; op = op })
-placed at (Err fault) = Err (Bad fault)
+placed at (Err fault) = Err fault
 
 -- The instruction at an IL offset, or the fault there.
-abbrev pub decoded : List ℕ → ℕ → Result Instr (Refusal IlFault)
+unfoldable pub decoded : List ℕ → ℕ → Result Instr IlFault
 decoded code at = placed at (operation at (drop at code))

@@ -8,7 +8,7 @@ ghost use Rattle.cc_base.specs.Tests.{must, Judges};
 ghost use Rattle.cc_base.specs.declared.refusal.Refusal.TheVariants.{Bad};
 ghost use Rattle.cil_model.specs.declared.instruction.Instr.{Instr};
 ghost use Rattle.il_decoder.specs.declared.fault.IlFault.TheVariants.{Short, Opcode};
-ghost use Rattle.il_decoder.specs.Decodes.{StandsIn, EndsInside, opcode_at};
+ghost use Rattle.il_decoder.specs.Decodes.{StandsIn, EndsInside, opcode_at, Reaches, Gives};
 ghost use Rattle.il_decoder.specs.Decoding.{decoded, operation, two_byte};
 
 use crate::fault::{IlFault, IlRefusal};
@@ -104,8 +104,9 @@ fn operation(at: u32, bytes: &[u8]) -> Result<Operation, IlFault>
 }
 
 /// The instruction at an IL offset of the code, or the fault there.
+#[tactic(auto, using(crate::proofs::Decoded::gives_fault), unfolding(crate::specs::Decoding::decoded))]
 fn decode_at(code: &[u8], at: u32) -> Result<Instr, IlRefusal>
-    ensures { result ≡ decoded code.now at }
+    ensures { Gives result (decoded code.now at) }
 {
     let bytes = code.get(at as usize..).unwrap_or(&[]);
     let (op, size) = operation(at, bytes)?;
@@ -121,11 +122,12 @@ pub fn decode_one(_alloc: Global, code: &[u8], at: u32) -> Result<Instr, IlRefus
     requires is_short { IsShort code.now }
     // What is found stands there.
     ensures found { IfOk result (λ i. (i.at ≡ at) × StandsIn i code.now) }
+    ensures reach { IfOk result (λ i. Reaches i code.now) }
     // What stands there is found.
     ensures only { (i : Instr) → i.at ≡ at → StandsIn i code.now → result ≡ Ok i }
     ensures short { (result ≡ Err (Bad (Short at))) ↔ EndsInside code.now at }
     ensures opcode { IfErr result (λ refusal. (refusal ≡ Bad (Short at)) ⊎ (refusal ≡ Bad (Opcode at (opcode_at code.now at)))) }
-    ensures exact { result ≡ decoded code.now at }
+    ensures exact { Gives result (decoded code.now at) }
 {
     decode_at(code, at)
 }
