@@ -15,16 +15,6 @@ use Rattle.metadata_tables.specs.TableTests.{table_tests, tables_tests, first_ta
 use Rattle.metadata_tables.proofs.HeaderLemmas.{stream-within}
 use Rattle.metadata_tables.proofs.RootLemmas.{rest-is}
 
--- The code's slice of a stream.
-pub bytes_of-is : (md : List ℕ) (s : Stream) (n : ℕ) → n ≡ s.size → take n (drop s.at md) ≡ bytes_of md (Some s)
-bytes_of-is md s n e = ap (λ (k : ℕ). take k (drop s.at md)) e
-
-pub rest_from-within : (bytes : List ℕ) (index : ℕ) → take (length bytes - index) (drop index bytes) ≡ drop index bytes
-rest_from-within bytes index = rest-is index bytes
-
-pub rest_from-past : (bytes : List ℕ) (index : ℕ) → length bytes ≤ index → [] ≡ drop index bytes
-rest_from-past bytes index h = sym (drop_of_length-le bytes h)
-
 pub heap-is : (md name : List ℕ) (s : Option Stream) (bytes : List ℕ) → stream md name ≡ s → bytes ≡ bytes_of md s → bytes ≡ heap md name
 unfolding heap
 heap-is md name s bytes e f = f ∙ ap (bytes_of md) (sym e)

@@ -19,13 +19,6 @@ pub now_at : {A : Type 0} (references : List (Bor (List A))) (i : ℕ) (d : Bor 
     → (get_or references i d).now ≡ get_or (map (λ r. r.now) references) i []
 now_at {A} references i d h = sym (get_or-map (λ (r : Bor (List A)). r.now) references i d [] h)
 
--- Past the last there is none.
-pub none_past : {A : Type 0} (references : List (Bor (List A))) (i : ℕ) → length references ≤ i
-    → [] ≡ get_or (map (λ r. r.now) references) i []
-none_past {A} references i h =
-    let long : length (map (λ (r : Bor (List A)). r.now) references) ≡ length references = length-map references (λ (r : Bor (List A)). r.now) in
-    sym (get_or_past (map (λ (r : Bor (List A)). r.now) references) i [] (omega arith))
-
 -- What each list of some lists does not pass, the one at a place does not pass.
 few_at : (lists : List (List Column)) (n i : ℕ) → list_all (λ columns. leb (length columns) n) lists ≡ true → length (get_or lists i []) ≤ n
 few_at [] n i e = omega arith
