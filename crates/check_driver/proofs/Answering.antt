@@ -5,7 +5,8 @@ use Rattle.std.specs.String.{string_bytes}
 use Rattle.std.specs.Option.{ForSome}
 use Rattle.std.proofs.lemmas.Bool.{cases_lt, le-leb, lt-leb}
 use Rattle.std.proofs.lemmas.List.{take_all}
-use Rattle.asm_image.specs.Faults.{first_assembly_fault, assembly_tests, file_tests, large_test, most_bytes}
+use Rattle.asm_image.specs.Faults.{FirstBroken, assembly_tests, file_tests, large_test}
+use Rattle.cil_model.specs.Limits.{MAX_FILE_BYTES}
 use Rattle.asm_image.specs.declared.fault.Cause.TheVariants as causes
 use Rattle.cc_base.specs.Tests.{first_of}
 use Rattle.cc_base.specs.Files.{Held, IsRead, READ_LIMIT}
@@ -18,9 +19,9 @@ use Rattle.check_driver.specs.declared.command.Command.TheVariants as commands
 use Rattle.check_driver.specs.declared.interrupt.Interrupt.{Interrupt}
 
 -- An assembly past the limit has that fault first.
-large_first : (bytes : List ℕ) → READ_LIMIT ≤ length bytes → first_assembly_fault bytes ≡ Some (record { at = most_bytes; cause = causes.Large })
-unfolding first_assembly_fault assembly_tests file_tests large_test first_of
-large_first bytes past = rw (lt-leb (length bytes) most_bytes (omega (arith, past))) refl
+large_first : (bytes : List ℕ) → READ_LIMIT ≤ length bytes → FirstBroken bytes ≡ Some (record { at = MAX_FILE_BYTES; cause = causes.Large })
+unfolding FirstBroken assembly_tests file_tests large_test first_of
+large_first bytes past = rw (lt-leb (length bytes) MAX_FILE_BYTES (omega (arith, past))) refl
 
 -- Bytes that were cut off past the limit have the answer of the whole.
 cut_alike : (command : Command) (name bytes : List ℕ) (limit : ℕ) → limit ≡ READ_LIMIT → READ_LIMIT ≤ length bytes

@@ -1,6 +1,6 @@
 -- No answer has a status that tells an interruption.
 use Rattle.std.proofs.Common.{◌≢◌, ℕ, ◌≤◌, Bool, true, false, List, Option, Some, None, if◌then◌else◌, nat_le, length, arith}
-use Rattle.asm_image.specs.Faults.{first_assembly_fault}
+use Rattle.asm_image.specs.Faults.{FirstBroken}
 use Rattle.asm_image.specs.declared.fault.AsmFault.{AsmFault}
 use Rattle.cc_base.specs.Files.{Held, READ_LIMIT}
 use Rattle.check_driver.specs.Expected.{Answer, expected, command_answer, file_answer, bytes_answer, list_answer, unit_answer, word_at}
@@ -42,7 +42,7 @@ plain_list name bytes (Some fault) = plain_refused
 plain_bytes : (command : Command) (name bytes : List ℕ) → IsPlain (bytes_answer command name bytes).status
 plain_bytes (commands.Unit file) name bytes =
     plain_either (nat_le READ_LIMIT (length bytes)) _ (unit_answer name bytes (first_unit_fault bytes)) plain_refused (plain_unit name bytes (first_unit_fault bytes))
-plain_bytes (commands.List file) name bytes = plain_list name bytes (first_assembly_fault bytes)
+plain_bytes (commands.List file) name bytes = plain_list name bytes (FirstBroken bytes)
 
 plain_file : (command : Command) (name : List ℕ) (under : Option (List ℕ)) → IsPlain (file_answer command name under).status
 plain_file command name None = plain_below 3 (omega arith)

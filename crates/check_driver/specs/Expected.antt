@@ -3,8 +3,8 @@ use Rattle.std.specs.Prelude.{◌≡◌, ℕ, List, [], ◌++◌, length, Option
 use Rattle.std.specs.Option.{ForSome}
 use Rattle.cc_base.specs.Digits.{hex}
 use Rattle.cc_base.specs.Files.{Held, READ_LIMIT}
-use Rattle.asm_image.specs.Faults.{first_assembly_fault}
-use Rattle.asm_image.specs.Names.{escaped}
+use Rattle.asm_image.specs.Faults.{FirstBroken}
+use Rattle.cc_base.specs.Escapes.{escaped}
 use Rattle.asm_image.specs.declared.fault.AsmFault.{AsmFault}
 use Rattle.cil_model.specs.declared.unit.Unit.{Unit as MethodUnit}
 use Rattle.check_driver.specs.FaultText.{unit_fault_text, assembly_fault_text}
@@ -77,7 +77,7 @@ list_answer name bytes None = output_answer 0 (list_text bytes)
 
 abbrev pub bytes_answer : Command → List ℕ → List ℕ → Answer
 bytes_answer (commands.Unit file) name bytes = unit_file_answer name bytes
-bytes_answer (commands.List file) name bytes = list_answer name bytes (first_assembly_fault bytes)
+bytes_answer (commands.List file) name bytes = list_answer name bytes (FirstBroken bytes)
 
 -- The answer to a command, by what is held under the name of its file.
 abbrev pub file_answer : Command → List ℕ → Option (List ℕ) → Answer

@@ -4,9 +4,9 @@ ghost use Rattle.std.specs.Prelude.{◌≡◌, ◌+◌, ◌<◌, ◌++◌, OnOk,
 ghost use Rattle.std.specs.Fmt.{decimal};
 ghost use Rattle.check_driver.specs.Text.{unit_line, verdict_line, method_line, summary_line, proved_text};
 
-use asm_image::{MethodRow, append_parameters};
+use asm_image::MethodRow;
 use cc_base::{put_hex, put_number};
-use cil_model::Unit;
+use cil_model::{Unit, append_parameters};
 use range_verdicts::Verdict;
 use std::alloc::{AllocError, Global};
 
@@ -23,7 +23,7 @@ pub fn unit_line(alloc: Global, unit: &Unit, proved: bool) -> Result<Vec<u8>, Al
     let mut line = Vec::from_slice(alloc, b"unit ")?;
     line.extend_from_slice(unit.name.as_slice())?;
     line.extend_from_slice(b"(")?;
-    append_parameters(&mut line, unit.args.as_slice())?;
+    append_parameters(alloc, &mut line, unit.args.as_slice())?;
     line.extend_from_slice(b"): ")?;
     line.extend_from_slice(proved_text(proved))?;
     line.extend_from_slice(b"\n")?;

@@ -3,7 +3,7 @@
 #![tactic(auto, using(cc_base::proofs::SinkLemmas::sinks, cc_base::proofs::CountLemmas::counts))]
 
 ghost use Rattle.std.specs.List.{flat_map};
-ghost use Rattle.asm_image.specs.Faults.{first_assembly_fault};
+ghost use Rattle.asm_image.specs.Faults.{FirstBroken};
 ghost use Rattle.check_driver.specs.Expected.{list_answer};
 ghost use Rattle.check_driver.specs.Outcome.{Gives};
 ghost use Rattle.check_driver.specs.Text.{method_line, list_text};
@@ -53,7 +53,7 @@ pub fn answer_list<O: Sink, E: Sink>(
     out: &mut O,
     err: &mut E,
 ) -> Result<u8, Interrupt>
-    ensures { Gives (list_answer name.now bytes.now (first_assembly_fault bytes.now)) result
+    ensures { Gives (list_answer name.now bytes.now (FirstBroken bytes.now)) result
         (change (O.written out.old) (O.written out.new) (O.faults out.old) (O.faults out.new))
         (change (E.written err.old) (E.written err.new) (E.faults err.old) (E.faults err.new)) }
 {

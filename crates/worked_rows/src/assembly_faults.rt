@@ -75,11 +75,7 @@ const CUT_ADDRESSES: [(usize, u32); 6] = [
 ];
 
 /// A cell MethodList of the class that names no method, or one that is not in order.
-const LIST_OUT: TableFault = TableFault::IndexOut {
-    table: 0x02,
-    row: 2,
-    column: 5,
-};
+const LIST_OUT: TableFault = TableFault::IndexOut(0x02, 2, 5);
 
 /// Other bytes at a place of the file of `DIV`, and the fault of its headers with the place that is told.
 const PE_CHANGES: [(usize, &[u8], PeFault, u32); 8] = [
@@ -109,12 +105,7 @@ const TABLE_CHANGES: [(usize, &[u8], TableFault, u32); 12] = [
     (0x288, b"\xff\xff", TableFault::BadRoot, 0x264),
     (0x282, b"\x04", TableFault::MissingStream, 0x264),
     // The bit of the table 03.
-    (
-        0x2d8,
-        b"\x4f",
-        TableFault::BadTables { bit: 3, at: 0x74 },
-        0x2d8,
-    ),
+    (0x2d8, b"\x4f", TableFault::BadTables(3, 0x74), 0x2d8),
     // The stream `#~` ends inside Valid, and one byte into the row of the method.
     (0x288, b"\x0f\0", TableFault::Short(0x74), 0x2d8),
     (0x288, b"\x77\0", TableFault::Short(0xe2), 0x346),
