@@ -1,6 +1,6 @@
 -- The table of schemas.
 use Rattle.std.proofs.Common.{Bor, zero, suc, ◌∷◌, leb, Bool, true, false, ◌&&◌, refl, ◌≡◌, ℕ, ◌≤◌, ◌<◌, List, [], map, length, get_or, sym, ap, arith, inl, inr}
-use Rattle.std.proofs.lemmas.List.{get_or_past, get_or-map, length-map}
+use Rattle.std.proofs.lemmas.List.{get_or_past, get_or-map}
 use Rattle.std.specs.List.{list_all}
 use Rattle.std.proofs.lemmas.Bool.{leb-true, cases_lt}
 use Rattle.metadata_tables.specs.declared.schema.Column.{Column}
