@@ -1,11 +1,10 @@
 -- What is kept of a heap, and its items.
-use Rattle.std.proofs.Common.{length-drop, subst, ◌≡◌, ℕ, ◌+◌, ◌-◌, ◌≤◌, List, [], length, take, drop, Option, Some, None, refl, sym, ap, ◌∙◌, arith}
+use Rattle.std.proofs.Common.{length-drop, subst, ◌≡◌, ℕ, ◌+◌, ◌-◌, ◌≤◌, List, length, take, drop, Option, Some, None, refl, sym, ap, ◌∙◌, arith}
 use Rattle.std.specs.Prelude.{option_map, codes, is_some, IfSome}
 use Rattle.cc_base.specs.Tests.{first_of}
 use Rattle.cc_base.proofs.TestLemmas.{first_of-append_none, first_of-append_some, none_before, none_behind}
 use Rattle.metadata_tables.specs.declared.fault.TableFault.{TableFault}
 use Rattle.std.proofs.lemmas.List.{length-take, length-take-le, drop-drop, drop-take, take-take}
-use Rattle.std.proofs.Math.ListN.{drop_of_length-le}
 use Rattle.metadata_tables.specs.declared.root.Stream.{Stream}
 use Rattle.cc_base.specs.declared.compressed.Compressed.{Compressed}
 use Rattle.metadata_tables.specs.Root.{zero_ended, stream, streams_tests, bytes_of, heap}
@@ -13,7 +12,6 @@ use Rattle.metadata_tables.specs.Layout.{start_of}
 use Rattle.metadata_tables.specs.Heaps.{whole_length, item_of, string_at, blob_at, blob_offset, user_string_at, StandsAt}
 use Rattle.metadata_tables.specs.TableTests.{table_tests, tables_tests, first_table_fault}
 use Rattle.metadata_tables.proofs.HeaderLemmas.{stream-within}
-use Rattle.metadata_tables.proofs.RootLemmas.{rest-is}
 
 pub heap-is : (md name : List ℕ) (s : Option Stream) (bytes : List ℕ) → stream md name ≡ s → bytes ≡ bytes_of md s → bytes ≡ heap md name
 unfolding heap
