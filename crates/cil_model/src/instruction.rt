@@ -101,3 +101,10 @@ pub enum BinOp {
     Clt,
     CltUn,
 }
+
+/// The operators of one number.
+#[derive(Clone, Copy, Debug, PartialEq, Eq)]
+pub enum UnOp {
+    Neg,
+    Not,
+}
