@@ -60,7 +60,7 @@ abbrev pub callee_index : World → ℕ → ℕ → Option ℕ
 callee_index w unit number = option_and_then (λ callees. slice_get callees number) (slice_get w.callee unit)
 
 -- A call of the callee of this number.
-pub record WorldCall (w : World) (callers : List Frame) (unit : MethodUnit) (number : ℕ) (i : Instr) (f : Frame) (heap : Heap) (new : Config) : Type 0 where
+pub record WorldCall (w : World) (callers : List Frame) (number : ℕ) (i : Instr) (f : Frame) (heap : Heap) (new : Config) : Type 0 where
   pub index : ℕ
   pub callee : MethodUnit
   pub args : List Value

@@ -62,7 +62,7 @@ pub record IsAbout (units : List MethodUnit) (f : Frame) (unit : MethodUnit) (i 
 abbrev pub Step : World → Config → Config → Type 0
 Step w (configs.Live frames heap) new =
     (callers : List Frame) × (f : Frame) × (unit : MethodUnit) × (i : Instr) × (frames ≡ callers ++ f ∷ [])
-    × IsAbout w.units f unit i × Row (WorldCall w callers unit) i.op callers unit i f heap new
+    × IsAbout w.units f unit i × Row (WorldCall w callers) i.op callers unit i f heap new
 Step w _ new = ⊥
 
 -- One step of one frame alone, whose calls are free: a call of a method tests what it requires, and then
