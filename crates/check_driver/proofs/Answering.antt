@@ -1,98 +1,106 @@
--- Answers, by what is held under a name and by the words.
-use Rattle.std.proofs.Common.{◌≡◌, ℕ, zero, suc, ◌<◌, ◌≤◌, List, [], ◌∷◌, length, get_or, map, take, String, Global, Option, Some, None, Result, refl, sym, ap, ◌∙◌, arith, inl, inr, length-take}
+-- Answers, by what is met under the names of files and by the words.
+use Rattle.std.proofs.Common.{◌≡◌, ℕ, ◌≤◌, List, [], ◌∷◌, length, take, Vec, Global, Option, Some, None, Result, Contains, refl, sym, ap, ◌∙◌, arith, inl, inr, length-take}
 use Rattle.std.specs.Prelude.{codes}
-use Rattle.std.specs.String.{string_bytes}
-use Rattle.std.specs.Option.{ForSome}
 use Rattle.std.proofs.lemmas.Bool.{cases_lt, le-leb, lt-leb}
-use Rattle.std.proofs.lemmas.List.{take_all}
+use Rattle.std.proofs.lemmas.List.{take_all, get_or-map, length-map}
 use Rattle.asm_image.specs.Faults.{first_assembly_fault, assembly_tests, file_tests, large_test, most_bytes}
 use Rattle.asm_image.specs.declared.fault.Cause.TheVariants as causes
 use Rattle.cc_base.specs.Tests.{first_of}
-use Rattle.cc_base.specs.Files.{Held, IsRead, READ_LIMIT}
-use Rattle.check_driver.specs.Expected.{USAGE, error_answer, refused_answer, AreTold, IsUnder, expected, unit_file_answer, bytes_answer, file_answer, word_at, file_of}
-use Rattle.check_driver.specs.Outcome.{GivesOrUnread}
-use Rattle.check_driver.specs.Words.{command_of, file_place}
+use Rattle.cc_base.specs.Files.{READ_LIMIT}
+use Rattle.cil_model.specs.Limits.{MAX_FILE_BYTES}
+use Rattle.check_driver.specs.Expected.{Answer, USAGE, error_answer, refused_answer, missing_line, missing_or, expected, unit_file_answer, list_answer, bytes_answer, files_answer, file_at}
+use Rattle.check_driver.specs.Met.{AreContents, first_missing, contents, bytes_read}
+use Rattle.check_driver.specs.Outcome.{Gives, GivesOrUnread, unread_answer}
+use Rattle.check_driver.specs.Words.{command_of, file_names, file_places, word_at, words_at}
 use Rattle.check_driver.specs.Writing.{Change}
 use Rattle.check_driver.specs.declared.command.Command.{Command}
 use Rattle.check_driver.specs.declared.command.Command.TheVariants as commands
 use Rattle.check_driver.specs.declared.interrupt.Interrupt.{Interrupt}
+use Rattle.check_driver.proofs.FilesRead.{none_missing}
+
+-- ---- bytes that a read cut off
 
 -- An assembly past the limit has that fault first.
 large_first : (bytes : List ℕ) → READ_LIMIT ≤ length bytes → first_assembly_fault bytes ≡ Some (record { at = most_bytes; cause = causes.Large })
 unfolding first_assembly_fault assembly_tests file_tests large_test first_of
 large_first bytes past = rw (lt-leb (length bytes) most_bytes (omega (arith, past))) refl
 
+-- A file past the limit is refused.
+pub too_large : (name bytes : List ℕ) → READ_LIMIT ≤ length bytes → unit_file_answer name bytes ≡ refused_answer name (codes "file too large") MAX_FILE_BYTES
+too_large name bytes past = let test = le-leb READ_LIMIT (length bytes) past in rw test refl
+
+abbrev list_file_answer : List ℕ → List ℕ → Answer
+list_file_answer name bytes = list_answer name bytes (first_assembly_fault bytes)
+
 -- Bytes that were cut off past the limit have the answer of the whole.
-cut_alike : (command : Command) (name bytes : List ℕ) (limit : ℕ) → limit ≡ READ_LIMIT → READ_LIMIT ≤ length bytes
-    → bytes_answer command name bytes ≡ bytes_answer command name (take limit bytes)
-cut_alike (commands.Unit file) name bytes limit is past =
-    let whole = le-leb READ_LIMIT (length bytes) past in
-    let cut = le-leb READ_LIMIT (length (take limit bytes)) (omega (arith, length-take limit bytes)) in
-    rw (whole, cut) refl
-cut_alike (commands.List file) name bytes limit is past =
+unit_cut : (name bytes : List ℕ) (limit : ℕ) → limit ≡ READ_LIMIT → READ_LIMIT ≤ length bytes → unit_file_answer name bytes ≡ unit_file_answer name (take limit bytes)
+unit_cut name bytes limit is past =
+    too_large name bytes past ∙ sym (too_large name (take limit bytes) (omega (arith, length-take limit bytes)))
+
+list_cut : (name bytes : List ℕ) (limit : ℕ) → limit ≡ READ_LIMIT → READ_LIMIT ≤ length bytes → list_file_answer name bytes ≡ list_file_answer name (take limit bytes)
+list_cut name bytes limit is past =
     let whole = large_first bytes past in
     let cut = large_first (take limit bytes) (omega (arith, length-take limit bytes)) in
     rw (whole, cut) refl
 
-alike : (command : Command) (name bytes : List ℕ) (limit : ℕ) → limit ≡ READ_LIMIT
-    → bytes_answer command name bytes ≡ bytes_answer command name (take limit bytes)
-alike command name bytes limit is =
+-- So has every answer that has it past the limit.
+cut_alike : (answer : List ℕ → Answer) (bytes : List ℕ) (limit : ℕ) → limit ≡ READ_LIMIT → (READ_LIMIT ≤ length bytes → answer bytes ≡ answer (take limit bytes))
+    → answer bytes ≡ answer (take limit bytes)
+cut_alike answer bytes limit is past =
     elim (cases_lt (length bytes) limit) [
-      | inl lt ↦ ap (bytes_answer command name) (sym (take_all limit bytes (omega arith)))
-      | inr ge ↦ cut_alike command name bytes limit is (omega arith)
+      | inl lt ↦ ap answer (sym (take_all limit bytes (omega arith)))
+      | inr ge ↦ past (omega arith)
     ]
 
 some_is : {X : Type 0} (x y : X) → Some x ≡ Some y → x ≡ y
 some_is x y e = cc
 
-read_alike : (command : Command) (name bytes : List ℕ) (under : Option (List ℕ)) → IsRead under bytes
-    → file_answer command name under ≡ bytes_answer command name bytes
-read_alike command name bytes None h = absurd cc
-read_alike command name bytes (Some whole) h =
-    alike command name whole READ_LIMIT refl ∙ ap (bytes_answer command name) (some_is (take READ_LIMIT whole) bytes h)
+-- What was read of the first file has the answer of what is met.
+first_alike : (answer : List ℕ → Answer) (met : List (Option (List ℕ))) (read : List (Vec ℕ Global))
+    → ((bytes : List ℕ) → READ_LIMIT ≤ length bytes → answer bytes ≡ answer (take READ_LIMIT bytes)) → AreContents met read
+    → answer (file_at (contents met) 0) ≡ answer (file_at (bytes_read read) 0)
+first_alike answer [] [] past h = refl
+first_alike answer (Some whole ∷ met) (bytes ∷ read) past (inl is, h) = ap answer (some_is whole bytes.items is)
+first_alike answer (Some whole ∷ met) (bytes ∷ read) past (inr is, h) =
+    cut_alike answer whole READ_LIMIT refl (past whole) ∙ ap answer (some_is (take READ_LIMIT whole) bytes.items is)
+first_alike answer (None ∷ met) (bytes ∷ read) past (inl is, h) = absurd cc
+first_alike answer (None ∷ met) (bytes ∷ read) past (inr is, h) = absurd cc
+first_alike answer [] (bytes ∷ read) past h = absurd h
+first_alike answer (under ∷ met) [] past h = absurd h
 
--- What was read is held, as far as that is told, and has the answer of what was read.
-pub read_under : (command : Command) (told : Option Held) (name bytes : List ℕ) → ForSome told (λ h. IsRead (h name) bytes)
-    → (under : Option (List ℕ)) × IsUnder told name under × (file_answer command name under ≡ bytes_answer command name bytes)
-read_under command None name bytes h = (Some bytes, λ files e. absurd cc, refl)
-read_under command (Some held) name bytes h =
-    (held name, λ files e. ap (λ (h : Held). h name) (sym (some_is held files e)), read_alike command name bytes (held name) (h held refl))
+bytes_alike : (command : Command) (words : List (List ℕ)) (met : List (Option (List ℕ))) (read : List (Vec ℕ Global)) → AreContents met read
+    → bytes_answer command words (contents met) ≡ bytes_answer command words (bytes_read read)
+bytes_alike (commands.Unit file) words met read h = first_alike (unit_file_answer (word_at words file)) met read (λ bytes past. unit_cut (word_at words file) bytes READ_LIMIT refl past) h
+bytes_alike (commands.List file) words met read h = first_alike (list_file_answer (word_at words file)) met read (λ bytes past. list_cut (word_at words file) bytes READ_LIMIT refl past) h
 
--- Something is held under each name, as far as that is told.
-pub any_under : (told : Option Held) (name : List ℕ) → (under : Option (List ℕ)) × IsUnder told name under
-any_under None name = (None, λ files e. absurd cc)
-any_under (Some held) name = (held name, λ files e. ap (λ (h : Held). h name) (sym (some_is held files e)))
+-- ---- answers to a command
 
--- Some files are those that are told and hold this under the name.
-held_under : (told : Option Held) (name : List ℕ) (under : Option (List ℕ)) → IsUnder told name under → (held : Held) × AreTold told held × (held name ≡ under)
-held_under None name under h = (λ other. under, λ files e. absurd cc, refl)
-held_under (Some files) name under h = (files, λ others e. sym (some_is files others e), h files refl)
+-- Files that were read have the answer for what was read.
+pub read_answer : (command : Command) (words : List (List ℕ)) (met : List (Option (List ℕ))) (read : List (Vec ℕ Global)) → AreContents met read
+    → files_answer command words met ≡ bytes_answer command words (bytes_read read)
+read_answer command words met read h =
+    let none = none_missing (words_at words (file_places command)) met read h in
+    ap (λ (missing : Option (List ℕ)). missing_or missing (bytes_answer command words (contents met))) none ∙ bytes_alike command words met read h
 
--- Some files are those that are told.
-pub any_held : (told : Option Held) → (held : Held) × AreTold told held
-any_held None = (λ name. None, λ files e. absurd cc)
-any_held (Some held) = (held, λ files e. sym (some_is held files e))
+-- A file that is missing has its answer.
+pub missing_answer : (command : Command) (words : List (List ℕ)) (met : List (Option (List ℕ))) (name : List ℕ)
+    → first_missing (words_at words (file_places command)) met ≡ Some name → files_answer command words met ≡ error_answer 3 (missing_line name)
+missing_answer command words met name first =
+    ap (λ (missing : Option (List ℕ)). missing_or missing (bytes_answer command words (contents met))) first
+
+-- The answer of one of the files, which was not read.
+pub gives_unread : (expected : Answer) (words : List (List ℕ)) (places : List ℕ) (place : ℕ) (failed : Type 0) (r : Result ℕ Interrupt) (out err : Change)
+    → failed → Contains places place → Gives (unread_answer (word_at words place)) r out err → GivesOrUnread expected (words_at words places) failed r out err
+gives_unread expected words places place failed r out err f (k, lt, at) gives =
+    let there = ap (word_at words) at in
+    inr (f, (k, word_at words place, simp length-map lt, get_or-map (word_at words) places k place (word_at words place) lt ∙ there, gives))
+
+-- ---- answers to words
 
 -- Words that are no command have the usage as their answer.
-pub no_command_answer : (words : List (List ℕ)) (held : Held) → None ≡ command_of words → expected words held ≡ error_answer 2 USAGE
-no_command_answer words held e = rw (← e) refl
+pub no_command_answer : (words : List (List ℕ)) (met : List (Option (List ℕ))) → None ≡ command_of words → expected words met ≡ error_answer 2 USAGE
+no_command_answer words met e = rw (← e) refl
 
--- A file past the limit is refused.
-pub too_large : (name bytes : List ℕ) → READ_LIMIT ≤ length bytes → unit_file_answer name bytes ≡ refused_answer name (codes "file too large") 0x04000000
-too_large name bytes past = let test = le-leb READ_LIMIT (length bytes) past in rw test refl
-
--- The answer for a name is that for the words.
-pub words_answer : (told : Option Held) (words : List (List ℕ)) (command : Command) (name : List ℕ) (under : Option (List ℕ)) (failed : Type 0) (r : Result ℕ Interrupt) (out err : Change)
-    → Some command ≡ command_of words → word_at words (file_place command) ≡ name → IsUnder told name under
-    → GivesOrUnread (file_answer command name under) name failed r out err
-    → (held : Held) × AreTold told held × GivesOrUnread (expected words held) (file_of words) failed r out err
-words_answer told words command name under failed r out err asked is under_is gives =
-    let h = held_under told name under under_is in
-    (h.0, h.1, rw (← asked, is, h.2) gives)
-
--- The word at a place, as bytes.
-pub word_is : (words : List (String Global)) (place : ℕ) (word : String Global) → place < length words → word ≡ get_or words place word
-    → word_at (map (λ (w : String Global). string_bytes w) words) place ≡ string_bytes word
-word_is [] place word inside is = absurd (omega arith)
-word_is (w ∷ words) zero word inside is = ap (λ (s : String Global). string_bytes s) (sym is)
-word_is (w ∷ words) (suc place) word inside is = word_is words place word (omega arith) is
+-- They name no file.
+pub no_command_files : (words : List (List ℕ)) → None ≡ command_of words → file_names words ≡ []
+no_command_files words e = rw (← e) refl

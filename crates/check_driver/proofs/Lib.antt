@@ -1,4 +1,5 @@
 pub mod Answering
+pub mod FilesRead
 pub mod Leaving
 pub mod Plain
 pub mod PrintedSafe

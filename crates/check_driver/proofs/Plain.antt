@@ -2,10 +2,11 @@
 use Rattle.std.proofs.Common.{◌≢◌, ℕ, ◌≤◌, Bool, true, false, List, Option, Some, None, if◌then◌else◌, nat_le, length, arith}
 use Rattle.asm_image.specs.Faults.{first_assembly_fault}
 use Rattle.asm_image.specs.declared.fault.AsmFault.{AsmFault}
-use Rattle.cc_base.specs.Files.{Held, READ_LIMIT}
-use Rattle.check_driver.specs.Expected.{Answer, expected, command_answer, file_answer, bytes_answer, list_answer, unit_answer, word_at}
+use Rattle.cc_base.specs.Files.{READ_LIMIT}
+use Rattle.check_driver.specs.Expected.{Answer, expected, command_answer, missing_or, bytes_answer, list_answer, unit_answer, unit_file_answer, file_at}
+use Rattle.check_driver.specs.Met.{first_missing, contents}
 use Rattle.range_verdicts.specs.Verdicts.{verdicts, all_proved}
-use Rattle.check_driver.specs.Words.{command_of, file_place}
+use Rattle.check_driver.specs.Words.{command_of, file_places, word_at, words_at}
 use Rattle.check_driver.specs.declared.command.Command.{Command}
 use Rattle.check_driver.specs.declared.command.Command.TheVariants as commands
 use Rattle.method_unit.specs.UnitFile.{first_unit_fault, unit_of}
@@ -35,23 +36,26 @@ plain_either : (large : Bool) (refused answer : Answer) → IsPlain refused.stat
 plain_either true refused answer r a = r
 plain_either false refused answer r a = a
 
+plain_unit_file : (name bytes : List ℕ) → IsPlain (unit_file_answer name bytes).status
+plain_unit_file name bytes =
+    plain_either (nat_le READ_LIMIT (length bytes)) _ (unit_answer name bytes (first_unit_fault bytes)) plain_refused (plain_unit name bytes (first_unit_fault bytes))
+
 plain_list : (name bytes : List ℕ) (fault : Option AsmFault) → IsPlain (list_answer name bytes fault).status
 plain_list name bytes None = plain_below 0 (omega arith)
 plain_list name bytes (Some fault) = plain_refused
 
-plain_bytes : (command : Command) (name bytes : List ℕ) → IsPlain (bytes_answer command name bytes).status
-plain_bytes (commands.Unit file) name bytes =
-    plain_either (nat_le READ_LIMIT (length bytes)) _ (unit_answer name bytes (first_unit_fault bytes)) plain_refused (plain_unit name bytes (first_unit_fault bytes))
-plain_bytes (commands.List file) name bytes = plain_list name bytes (first_assembly_fault bytes)
+plain_bytes : (command : Command) (words files : List (List ℕ)) → IsPlain (bytes_answer command words files).status
+plain_bytes (commands.Unit file) words files = plain_unit_file (word_at words file) (file_at files 0)
+plain_bytes (commands.List file) words files = plain_list (word_at words file) (file_at files 0) (first_assembly_fault (file_at files 0))
 
-plain_file : (command : Command) (name : List ℕ) (under : Option (List ℕ)) → IsPlain (file_answer command name under).status
-plain_file command name None = plain_below 3 (omega arith)
-plain_file command name (Some bytes) = plain_bytes command name bytes
+plain_missing : (missing : Option (List ℕ)) (answer : Answer) → IsPlain answer.status → IsPlain (missing_or missing answer).status
+plain_missing None answer plain = plain
+plain_missing (Some name) answer plain = plain_below 3 (omega arith)
 
-plain_command : (words : List (List ℕ)) (held : Held) (command : Option Command) → IsPlain (command_answer words held command).status
-plain_command words held None = plain_below 2 (omega arith)
-plain_command words held (Some command) =
-    let name = word_at words (file_place command) in plain_file command name (held name)
+plain_command : (words : List (List ℕ)) (met : List (Option (List ℕ))) (command : Option Command) → IsPlain (command_answer words met command).status
+plain_command words met None = plain_below 2 (omega arith)
+plain_command words met (Some command) =
+    plain_missing (first_missing (words_at words (file_places command)) met) (bytes_answer command words (contents met)) (plain_bytes command words (contents met))
 
-pub plain_expected : (words : List (List ℕ)) (held : Held) → IsPlain (expected words held).status
-plain_expected words held = plain_command words held (command_of words)
+pub plain_expected : (words : List (List ℕ)) (met : List (Option (List ℕ))) → IsPlain (expected words met).status
+plain_expected words met = plain_command words met (command_of words)

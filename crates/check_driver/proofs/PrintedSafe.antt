@@ -7,11 +7,14 @@ use Rattle.cc_base.specs.Files.{Held, READ_LIMIT}
 use Rattle.cc_base.specs.Sink.{appended, IsFront, AppendsFront}
 use Rattle.cc_base.proofs.SinkLemmas.{IsFront-trans}
 use Rattle.cil_model.specs.declared.unit.Unit.{Unit as MethodUnit}
-use Rattle.check_driver.specs.Expected.{Answer, expected, command_answer, file_answer, unit_file_answer, unit_answer, word_at}
+use Rattle.check_driver.specs.Expected.{Answer, expected, command_answer, files_answer, unit_file_answer, unit_answer}
+use Rattle.check_driver.specs.Met.{AreUnder}
+use Rattle.check_driver.specs.Words.{command_files, command_of, file_names, word_at, words_at}
+use Rattle.check_driver.specs.declared.command.Command.{Command}
 use Rattle.check_driver.specs.declared.command.Command.TheVariants as commands
 use Rattle.check_driver.specs.SingleUnit.{AsksFor, PrintsProved}
 use Rattle.range_verdicts.specs.Safety.{IsSafe}
-use Rattle.check_driver.specs.Text.{signature_text, proved_text, unit_line, verdict_line, unit_counts, summary_line, unit_report}
+use Rattle.check_driver.specs.ReportText.{signature_text, proved_text, unit_line, verdict_line, unit_counts, summary_line, unit_report}
 use Rattle.method_unit.specs.UnitFile.{first_unit_fault, unit_of}
 use Rattle.method_unit.specs.UnitSpelling.{unit_bytes}
 use Rattle.range_verdicts.specs.Verdicts.{verdicts, all_proved}
@@ -75,21 +78,31 @@ answer_report : (name bytes : List ℕ) (unit : MethodUnit) → first_unit_fault
     → Answer.out (unit_answer name bytes (first_unit_fault bytes)) ≡ unit_report unit
 answer_report name bytes unit none same = rw none (ap unit_report same)
 
+-- What is met is the file of the unit.
+unit_asked : (words : List (List ℕ)) (file : ℕ) (held : Held) (unit : MethodUnit) (met : List (Option (List ℕ))) → held (word_at words file) ≡ Some (unit_bytes unit)
+    → command_of words ≡ Some (commands.Unit file) → AreUnder (Some held) (words_at words (file ∷ [])) met
+    → expected words met ≡ unit_file_answer (word_at words file) (unit_bytes unit)
+unit_asked words file held unit (under ∷ []) bytes command (is, last) =
+    let met_is : under ≡ Some (unit_bytes unit) = sym (is held refl) ∙ bytes in
+    ap (command_answer words (under ∷ [])) command ∙ ap (λ (u : Option (List ℕ)). files_answer (commands.Unit file) words (u ∷ [])) met_is
+unit_asked words file held unit [] bytes command h = absurd h
+unit_asked words file held unit (under ∷ other ∷ met) bytes command h = absurd h.1
+
 -- The answer to the words is the answer for the bytes of the unit.
-asked_answer : (words : List (List ℕ)) (held : Held) (unit : MethodUnit) (asks : AsksFor words held unit)
-    → expected words held ≡ unit_file_answer (word_at words asks.file) (unit_bytes unit)
-asked_answer words held unit asks =
-    ap (command_answer words held) asks.command ∙ ap (file_answer (commands.Unit asks.file) (word_at words asks.file)) asks.bytes
+asked_answer : (words : List (List ℕ)) (held : Held) (unit : MethodUnit) (met : List (Option (List ℕ))) (asks : AsksFor words held unit) → AreUnder (Some held) (file_names words) met
+    → expected words met ≡ unit_file_answer (word_at words asks.file) (unit_bytes unit)
+asked_answer words held unit met asks under =
+    unit_asked words asks.file held unit met asks.bytes asks.command (subst (λ (command : Option Command). AreUnder (Some held) (command_files words command) met) asks.command under)
 
 -- The line begins the report of the unit, if it begins what is printed at all.
-front_of_report : (words : List (List ℕ)) (held : Held) (unit : MethodUnit) → AsksFor words held unit
-    → IsFront (unit_line unit true) (Answer.out (expected words held)) → IsFront (unit_line unit true) (unit_report unit)
-front_of_report words held unit asks front =
+front_of_report : (words : List (List ℕ)) (held : Held) (unit : MethodUnit) (met : List (Option (List ℕ))) → AsksFor words held unit → AreUnder (Some held) (file_names words) met
+    → IsFront (unit_line unit true) (Answer.out (expected words met)) → IsFront (unit_line unit true) (unit_report unit)
+front_of_report words held unit met asks under front =
     let name = word_at words asks.file in
     let bytes = unit_bytes unit in
     let again = unit_again unit asks.built in
     let begins : IsFront (unit_line unit true) (Answer.out (unit_file_answer name bytes)) =
-    subst (λ (a : Answer). IsFront (unit_line unit true) a.out) (asked_answer words held unit asks) front in
+    subst (λ (a : Answer). IsFront (unit_line unit true) a.out) (asked_answer words held unit met asks under) front in
     front_of_answer (nat_le READ_LIMIT (length bytes)) _ (unit_answer name bytes (first_unit_fault bytes)) unit refl (answer_report name bytes unit again.0 again.1) begins
 
 -- What begins what was appended begins what was to be printed.
@@ -103,8 +116,9 @@ front_of_expected old new unit out (front, is_front, adds) prints =
 
 -- A unit is safe whose file was asked for and whose report was printed as far as the line that tells it
 -- to be proved.
-pub printed_safe : (words : List (List ℕ)) (held : Held) (unit : MethodUnit) (old new : Option (List ℕ))
-    → AsksFor words held unit → AppendsFront old new (expected words held).out → PrintsProved old new unit → IsSafe unit
-printed_safe words held unit old new asks appends prints =
-    let proved = report_proved unit (front_of_report words held unit asks (front_of_expected old new unit (expected words held).out appends prints)) in
-    proved_is_safe unit asks.built proved
+pub printed_safe : (told : Option Held) (words : List (List ℕ)) (held : Held) (unit : MethodUnit) (met : List (Option (List ℕ))) (old new : Option (List ℕ))
+    → told ≡ Some held → AsksFor words held unit → AreUnder told (file_names words) met → AppendsFront old new (expected words met).out → PrintsProved old new unit → IsSafe unit
+printed_safe told words held unit met old new told_is asks under appends prints =
+    let here = subst (λ (t : Option Held). AreUnder t (file_names words) met) told_is under in
+    let front = front_of_expected old new unit (expected words met).out appends prints in
+    proved_is_safe unit asks.built (report_proved unit (front_of_report words held unit met asks here front))

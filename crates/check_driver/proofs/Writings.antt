@@ -1,5 +1,5 @@
 -- How texts that are written follow one another, and what answers they make.
-use Rattle.std.proofs.Common.{◌≡◌, ℕ, suc, ◌<◌, List, [], ◌∷◌, ◌++◌, length, get_or, take, drop, Option, Result, Ok, Err, refl, sym, ap, subst, ◌∙◌, append_assoc, take-append-drop, inl, inr}
+use Rattle.std.proofs.Common.{◌≡◌, ℕ, suc, ◌<◌, List, [], ◌∷◌, ◌++◌, length, get_or, take, drop, Option, Result, Ok, Err, refl, sym, ap, ◌∙◌, append_assoc, take-append-drop, inl, inr}
 use Rattle.std.specs.Prelude.{IfOk, IsErrOf}
 use Rattle.std.specs.List.{flat_map}
 use Rattle.std.proofs.Math.Seq.{drop-cons}
@@ -8,11 +8,15 @@ use Rattle.cc_base.specs.Counts.{Kept}
 use Rattle.cc_base.specs.Sink.{appended, IsFront}
 use Rattle.cc_base.proofs.CountLemmas.{Kept-refl, Kept-trans, Kept-Rose}
 use Rattle.cc_base.proofs.SinkLemmas.{appended-nil, AppendsFront-none, AppendsFront-after, AppendsFront-front}
-use Rattle.check_driver.specs.Expected.{Answer, error_answer, output_answer}
+use Rattle.check_driver.specs.Expected.{error_answer, output_answer}
 use Rattle.check_driver.specs.Outcome.{Gives}
-use Rattle.check_driver.specs.Writing.{Change, change, Writes}
+use Rattle.check_driver.specs.Writing.{Change, Writes}
 use Rattle.check_driver.specs.declared.interrupt.Interrupt.{Interrupt}
 use Rattle.check_driver.specs.declared.interrupt.Interrupt.TheVariants as interrupts
+
+-- A change of a sink, by its parts.
+abbrev pub change : Option (List ℕ) → Option (List ℕ) → ℕ → ℕ → Change
+change old new before after = record { old = old; new = new; faults_before = before; faults_after = after }
 
 -- A call that was interrupted as another one gives the same error.
 retold : {X Y : Type 0} (e f : Interrupt) → IsErrOf {T = X} (Err e) f → IsErrOf {T = Y} (Err e) f
@@ -22,7 +26,7 @@ retold interrupts.CannotWrite interrupts.NoMemory h = absurd cc
 retold interrupts.NoMemory interrupts.CannotWrite h = absurd cc
 
 -- A text that is interrupted behind another one is a front of all that begins with both.
-pub writes_stop : {X Y : Type 0} (e : Interrupt) (old mid new : Option (List ℕ)) (f0 f1 f2 : ℕ) (before text whole : List ℕ)
+writes_stop : {X Y : Type 0} (e : Interrupt) (old mid new : Option (List ℕ)) (f0 f1 f2 : ℕ) (before text whole : List ℕ)
     → mid ≡ appended old before → Kept f0 f1 → Writes {X = X} (Err e) (change mid new f1 f2) text → IsFront (before ++ text) whole
     → Writes {X = Y} (Err e) (change old new f0 f2) whole
 writes_stop {X} {Y} e old mid new f0 f1 f2 before text whole so_far kept w inside = record {
@@ -33,7 +37,7 @@ writes_stop {X} {Y} e old mid new f0 f1 f2 before text whole so_far kept w insid
 }
 
 -- The texts of the first items and of the next are a front of the texts of all.
-pub texts_front : {X : Type 0} (text : X → List ℕ) (items : List X) (k : ℕ) (item : X) → k < length items → item ≡ get_or items k item
+texts_front : {X : Type 0} (text : X → List ℕ) (items : List X) (k : ℕ) (item : X) → k < length items → item ≡ get_or items k item
     → IsFront (flat_map text (take k items) ++ text item) (flat_map text items)
 texts_front {X} text items k item lt at =
     let split : drop k items ≡ item ∷ drop (suc k) items = drop-cons items k item lt ∙ ap (λ (x : X). x ∷ drop (suc k) items) (sym at) in
@@ -42,20 +46,14 @@ texts_front {X} text items k item lt at =
     ap (flat_map text) whole ∙ flat_map-append text (take k items) (item ∷ drop (suc k) items) in
     (flat_map text (drop (suc k) items), texts ∙ sym (append_assoc (flat_map text (take k items)) (text item) (flat_map text (drop (suc k) items))))
 
--- ---- answers
+-- The texts of items, one after another, are interrupted at the next.
+pub texts_stop : {X A : Type 0} (text : X → List ℕ) (items : List X) (k : ℕ) (item : X) (e : Interrupt) (old mid new : Option (List ℕ)) (f0 f1 f2 : ℕ)
+    → k < length items → item ≡ get_or items k item → mid ≡ appended old (flat_map text (take k items)) → Kept f0 f1
+    → Writes {X = A} (Err e) (change mid new f1 f2) (text item) → Writes {X = A} (Err e) (change old new f0 f2) (flat_map text items)
+texts_stop {X} {A} text items k item e old mid new f0 f1 f2 lt at so_far kept w =
+    writes_stop {X = A} {Y = A} e old mid new f0 f1 f2 (flat_map text (take k items)) (text item) (flat_map text items) so_far kept w (texts_front text items k item lt at)
 
--- Memory ran out before anything was written.
-pub gives_no_memory : (x : Answer) (o : Option (List ℕ)) (f : ℕ) (e : Option (List ℕ)) (g : ℕ) → Gives x (Err interrupts.NoMemory) (change o o f f) (change e e g g)
-gives_no_memory x o f e g = record {
-  status = tt;
-  out_all = tt;
-  err_all = tt;
-  out_front = AppendsFront-none o o x.out refl;
-  err_front = AppendsFront-none e e x.err refl;
-  cause = λ is. absurd cc;
-  out_kept = Kept-refl f;
-  err_kept = Kept-refl g;
-}
+-- ---- answers
 
 -- A line on the sink of errors is the answer.
 pub gives_error : (status : ℕ) (line : List ℕ) (r : Result ℕ Interrupt) (o : Option (List ℕ)) (f : ℕ) (err : Change)
@@ -94,8 +92,3 @@ gives_output_stop {X} status text i out e g w = record {
   out_kept = w.kept;
   err_kept = Kept-refl g;
 }
-
--- The same for a line that was made as it had to be.
-pub gives_line : (status : ℕ) (made line : List ℕ) (r : Result ℕ Interrupt) (o : Option (List ℕ)) (f : ℕ) (err : Change)
-    → made ≡ line → IfOk r (λ given. given ≡ status) → Writes r err made → Gives (error_answer status line) r (change o o f f) err
-gives_line status made line r o f err e is w = gives_error status line r o f err is (subst (λ (t : List ℕ). Writes r err t) e w)

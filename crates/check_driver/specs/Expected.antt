@@ -1,21 +1,23 @@
 -- What a call of the program gives where nothing interrupts it.
-use Rattle.std.specs.Prelude.{◌≡◌, ℕ, List, [], ◌++◌, length, Option, Some, None, nat_le, if◌then◌else◌, codes, slice_index_or}
-use Rattle.std.specs.Option.{ForSome}
-use Rattle.cc_base.specs.Digits.{hex}
-use Rattle.cc_base.specs.Files.{Held, READ_LIMIT}
+use Rattle.std.specs.Prelude.{ℕ, List, [], ◌++◌, length, Option, Some, None, nat_le, if◌then◌else◌, codes, slice_index_or}
 use Rattle.asm_image.specs.Faults.{first_assembly_fault}
-use Rattle.asm_image.specs.Names.{escaped}
 use Rattle.asm_image.specs.declared.fault.AsmFault.{AsmFault}
+use Rattle.cc_base.specs.Digits.{hex}
+use Rattle.cc_base.specs.Escapes.{escaped}
+use Rattle.cc_base.specs.Files.{READ_LIMIT}
+use Rattle.cil_model.specs.Limits.{MAX_FILE_BYTES}
 use Rattle.cil_model.specs.declared.unit.Unit.{Unit as MethodUnit}
-use Rattle.check_driver.specs.FaultText.{unit_fault_text, assembly_fault_text}
-use Rattle.check_driver.specs.Text.{unit_report, list_text}
 use Rattle.method_unit.specs.Faults.{fault_at}
 use Rattle.method_unit.specs.UnitFile.{first_unit_fault, unit_of}
+use Rattle.method_unit.specs.declared.unit_fault.UnitFault.{UnitFault}
 use Rattle.range_verdicts.specs.Verdicts.{verdicts, all_proved}
-use Rattle.check_driver.specs.Words.{command_of, file_place}
+use Rattle.check_driver.specs.FaultText.{unit_fault_text, assembly_fault_text}
+use Rattle.check_driver.specs.ListText.{list_text}
+use Rattle.check_driver.specs.Met.{first_missing, contents}
+use Rattle.check_driver.specs.ReportText.{unit_report}
+use Rattle.check_driver.specs.Words.{command_of, file_places, word_at, words_at}
 use Rattle.check_driver.specs.declared.command.Command.{Command}
 use Rattle.check_driver.specs.declared.command.Command.TheVariants as commands
-use Rattle.method_unit.specs.declared.unit_fault.UnitFault.{UnitFault}
 
 -- What is written to the two sinks, and the status.
 pub record Answer : Type 0 where
@@ -67,7 +69,7 @@ unit_answer name bytes None = report_answer (unit_of bytes)
 -- The answer to `unit FILE` for the bytes of the file.
 abbrev pub unit_file_answer : List ℕ → List ℕ → Answer
 unit_file_answer name bytes =
-    if nat_le READ_LIMIT (length bytes) then refused_answer name (codes "file too large") 0x04000000
+    if nat_le READ_LIMIT (length bytes) then refused_answer name (codes "file too large") MAX_FILE_BYTES
     else unit_answer name bytes (first_unit_fault bytes)
 
 -- The answer to `list FILE` for the bytes of the file, which have this first fault or none.
@@ -75,40 +77,29 @@ abbrev pub list_answer : List ℕ → List ℕ → Option AsmFault → Answer
 list_answer name bytes (Some fault) = refused_answer name (assembly_fault_text fault.cause) fault.at
 list_answer name bytes None = output_answer 0 (list_text bytes)
 
-abbrev pub bytes_answer : Command → List ℕ → List ℕ → Answer
-bytes_answer (commands.Unit file) name bytes = unit_file_answer name bytes
-bytes_answer (commands.List file) name bytes = list_answer name bytes (first_assembly_fault bytes)
+-- The bytes of the file at an index among those of a command.
+abbrev pub file_at : List (List ℕ) → ℕ → List ℕ
+file_at files index = slice_index_or files index []
 
--- The answer to a command, by what is held under the name of its file.
-abbrev pub file_answer : Command → List ℕ → Option (List ℕ) → Answer
-file_answer command name None = error_answer 3 (missing_line name)
-file_answer command name (Some bytes) = bytes_answer command name bytes
+-- The answer to a command of these words for the bytes of its files, in order.
+abbrev pub bytes_answer : Command → List (List ℕ) → List (List ℕ) → Answer
+bytes_answer (commands.Unit file) words files = unit_file_answer (word_at words file) (file_at files 0)
+bytes_answer (commands.List file) words files = list_answer (word_at words file) (file_at files 0) (first_assembly_fault (file_at files 0))
 
--- The word at a place.
-abbrev pub word_at : List (List ℕ) → ℕ → List ℕ
-word_at words place = slice_index_or words place []
+-- The answer to a command, of whose files this one is the first that is missing, or else that one.
+abbrev pub missing_or : Option (List ℕ) → Answer → Answer
+missing_or (Some name) answer = error_answer 3 (missing_line name)
+missing_or None answer = answer
 
-abbrev pub command_answer : List (List ℕ) → Held → Option Command → Answer
-command_answer words held None = error_answer 2 USAGE
-command_answer words held (Some command) =
-    let name = word_at words (file_place command) in file_answer command name (held name)
+-- The answer to a command, by what is met under the names of its files.
+abbrev pub files_answer : Command → List (List ℕ) → List (Option (List ℕ)) → Answer
+files_answer command words met =
+    missing_or (first_missing (words_at words (file_places command)) met) (bytes_answer command words (contents met))
 
--- The answer to the words, where these files are held.
-abbrev pub expected : List (List ℕ) → Held → Answer
-expected words held = command_answer words held (command_of words)
+abbrev pub command_answer : List (List ℕ) → List (Option (List ℕ)) → Option Command → Answer
+command_answer words met None = error_answer 2 USAGE
+command_answer words met (Some command) = files_answer command words met
 
--- The word that names the file of these words, where they are a command.
-abbrev pub file_of_command : List (List ℕ) → Option Command → List ℕ
-file_of_command words None = []
-file_of_command words (Some command) = word_at words (file_place command)
-
-abbrev pub file_of : List (List ℕ) → List ℕ
-file_of words = file_of_command words (command_of words)
-
--- The files are those that are told, where they are told.
-abbrev pub AreTold : Option Held → Held → Type 0
-AreTold told held = ForSome told (λ files. files ≡ held)
-
--- This is held under the name, where that is told.
-abbrev pub IsUnder : Option Held → List ℕ → Option (List ℕ) → Type 0
-IsUnder told name under = ForSome told (λ files. files name ≡ under)
+-- The answer to the words, where this is met under the names of their files.
+abbrev pub expected : List (List ℕ) → List (Option (List ℕ)) → Answer
+expected words met = command_answer words met (command_of words)

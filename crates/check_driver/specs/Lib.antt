@@ -1,7 +1,9 @@
 pub mod Words
 pub mod Writing
-pub mod Text
+pub mod Met
+pub mod FaultText
+pub mod ReportText
+pub mod ListText
 pub mod Expected
 pub mod Outcome
 pub mod SingleUnit
-pub mod FaultText

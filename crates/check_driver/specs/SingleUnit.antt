@@ -3,10 +3,9 @@ use Rattle.std.specs.Prelude.{◌≡◌, ℕ, true, List, ◌++◌, Option, Some
 use Rattle.cc_base.specs.Files.{Held}
 use Rattle.cc_base.specs.Sink.{IsFront}
 use Rattle.cil_model.specs.declared.unit.Unit.{Unit as MethodUnit}
-use Rattle.check_driver.specs.Expected.{word_at}
-use Rattle.check_driver.specs.Text.{unit_line}
 use Rattle.method_unit.specs.UnitSpelling.{IsBuilt, unit_bytes}
-use Rattle.check_driver.specs.Words.{command_of}
+use Rattle.check_driver.specs.ReportText.{unit_line}
+use Rattle.check_driver.specs.Words.{command_of, word_at}
 use Rattle.check_driver.specs.declared.command.Command.TheVariants as commands
 
 -- The words ask for the report of a file, and the file held is the spelling of this built unit.

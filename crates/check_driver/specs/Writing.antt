@@ -22,8 +22,14 @@ pub record Change : Type 0 where
   pub faults_before : ℕ
   pub faults_after : ℕ
 
-abbrev pub change : Option (List ℕ) → Option (List ℕ) → ℕ → ℕ → Change
-change old new before after = record { old = old; new = new; faults_before = before; faults_after = after }
+-- The change of a sink, of which `written` tells what it was given, and `faults` how often it refused.
+abbrev pub change_of : {S : Type 0} → (S → Option (List ℕ)) → (S → ℕ) → S → S → Change
+change_of written faults before after = record {
+  old = written before;
+  new = written after;
+  faults_before = faults before;
+  faults_after = faults after;
+}
 
 -- The call wrote the text, or was interrupted behind a front of it, by a fault of the sink or for
 -- want of memory.

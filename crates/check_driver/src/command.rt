@@ -1,8 +1,9 @@
 //! The words that the program is given.
 
-ghost use Rattle.std.specs.Prelude.{◌≡◌, ◌<◌, length, map, IfSome};
-ghost use Rattle.std.specs.String.{string_bytes};
-ghost use Rattle.check_driver.specs.Words.{command_of, command_of_two, file_place, is_file_word};
+ghost use Rattle.std.specs.Prelude.{◌≡◌, ◌<◌, All, IfSome, length};
+ghost use Rattle.check_driver.specs.Words.{command_of, command_of_two, file_places, is_file_word, word_at, words_bytes};
+
+use std::slice;
 
 /// What the program is asked for. Files are places of words, counted from 0.
 #[derive(Clone, Copy, Debug, PartialEq, Eq)]
@@ -14,12 +15,12 @@ pub enum Command {
 }
 
 impl Command {
-    /// The place of the word that names its file.
-    pub fn file(self) -> u32
-        ensures { result ≡ file_place self }
+    /// The places of the words that name its files, in the order in which the files are read.
+    pub fn files(&self) -> &[u32]
+        ensures { result.now ≡ file_places self.now }
     {
         match self {
-            Command::Unit(file) | Command::List(file) => file,
+            Command::Unit(file) | Command::List(file) => slice::from_ref(file),
         }
     }
 }
@@ -36,7 +37,7 @@ fn is_file_word(word: &str) -> bool
 
 /// The command of two words.
 fn command_of_two(word: &str, file: &str) -> Option<Command>
-    ensures inside { IfSome result (λ command. file_place command < 2) }
+    ensures inside { IfSome result (λ command. All (λ place. place < 2) (file_places command)) }
     ensures command { result ≡ command_of_two word.now file.now }
 {
     if !is_file_word(file) {
@@ -51,11 +52,19 @@ fn command_of_two(word: &str, file: &str) -> Option<Command>
 
 /// The command that the words are, if they are one.
 pub fn parse_words(words: &[String]) -> Option<Command>
-    ensures inside { IfSome result (λ command. file_place command < length words.now) }
-    ensures command { result ≡ command_of (map (λ word. string_bytes word) words.now) }
+    ensures inside { IfSome result (λ command. All (λ place. place < length words.now) (file_places command)) }
+    ensures command { result ≡ command_of (words_bytes words.now) }
 {
     match words {
         [word, file] => command_of_two(word.as_str(), file.as_str()),
         _ => None,
     }
+}
+
+/// The word at a place.
+pub fn word_at(words: &[String], place: u32) -> &str
+    requires { place < length words.now }
+    ensures { result.now ≡ word_at (words_bytes words.now) place }
+{
+    words[place as usize].as_str()
 }

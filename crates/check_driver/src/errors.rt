@@ -3,8 +3,7 @@
 ghost use Rattle.std.specs.Prelude.{◌≡◌, IfOk};
 ghost use Rattle.check_driver.specs.Expected.{missing_line, unread_line, refused_line};
 
-use asm_image::append_escaped;
-use cc_base::put_hex;
+use cc_base::{append_escaped, put_hex};
 use std::alloc::{AllocError, Global};
 
 /// The usage of the program.

@@ -9,6 +9,7 @@ mod lines;
 mod list_answer;
 mod program;
 mod puts;
+mod reading;
 mod report;
 mod unit_answer;
 

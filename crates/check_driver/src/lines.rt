@@ -1,12 +1,11 @@
-//! The lines that are written, each made in memory and put at once.
+//! The lines of a unit's report, each made in memory.
 
-ghost use Rattle.std.specs.Prelude.{◌≡◌, ◌+◌, ◌<◌, ◌++◌, OnOk, IfOk};
+ghost use Rattle.std.specs.Prelude.{◌≡◌, ◌<◌, ◌++◌, IfOk, OnOk};
 ghost use Rattle.std.specs.Fmt.{decimal};
-ghost use Rattle.check_driver.specs.Text.{unit_line, verdict_line, method_line, summary_line, proved_text};
+ghost use Rattle.check_driver.specs.ReportText.{proved_text, summary_line, unit_line, verdict_line};
 
-use asm_image::{MethodRow, append_parameters};
 use cc_base::{put_hex, put_number};
-use cil_model::Unit;
+use cil_model::{Unit, append_parameters};
 use range_verdicts::Verdict;
 use std::alloc::{AllocError, Global};
 
@@ -23,7 +22,7 @@ pub fn unit_line(alloc: Global, unit: &Unit, proved: bool) -> Result<Vec<u8>, Al
     let mut line = Vec::from_slice(alloc, b"unit ")?;
     line.extend_from_slice(unit.name.as_slice())?;
     line.extend_from_slice(b"(")?;
-    append_parameters(&mut line, unit.args.as_slice())?;
+    append_parameters(alloc, &mut line, unit.args.as_slice())?;
     line.extend_from_slice(b"): ")?;
     line.extend_from_slice(proved_text(proved))?;
     line.extend_from_slice(b"\n")?;
@@ -39,18 +38,6 @@ pub fn verdict_line(alloc: Global, verdict: Verdict) -> Result<Vec<u8>, AllocErr
     put_hex(alloc, &mut line, verdict.at, 4)?;
     line.extend_from_slice(b" assert: ")?;
     line.extend_from_slice(proved_text(verdict.proved))?;
-    line.extend_from_slice(b"\n")?;
-    Ok(line)
-}
-
-/// The line of a method in a list: its token and its name.
-pub fn method_line(alloc: Global, method: &MethodRow) -> Result<Vec<u8>, AllocError>
-    ensures { IfOk result (λ line. line.items ≡ method_line method.now) }
-{
-    let mut line = Vec::new(alloc);
-    put_hex(alloc, &mut line, method.token.0, 8)?;
-    line.extend_from_slice(b" ")?;
-    line.extend_from_slice(method.name.as_slice())?;
     line.extend_from_slice(b"\n")?;
     Ok(line)
 }

@@ -2,74 +2,76 @@
 
 #![tactic(auto, using(cc_base::proofs::SinkLemmas::sinks, cc_base::proofs::CountLemmas::counts))]
 
-ghost use Rattle.std.specs.Prelude.{◌≡◌, ◌⊎◌, ◌<◌, List, ℕ, map, Option, Some, IfOk, None};
-ghost use Rattle.std.specs.String.{string_bytes};
+ghost use Rattle.std.specs.Prelude.{◌≡◌, ◌⊎◌, ◌<◌, All, List, ℕ, length, Option, Some, IfOk, None};
 ghost use Rattle.cc_base.specs.Counts.{Rose, Kept};
 ghost use Rattle.cc_base.specs.Files.{Held};
 ghost use Rattle.cc_base.specs.Sink.{AppendsFront};
-ghost use Rattle.check_driver.specs.Expected.{AreTold, IsUnder, expected, unread_line, file_of, bytes_answer, file_answer};
-ghost use Rattle.check_driver.specs.Outcome.{Gives, GivesOrUnread, Leaves};
-ghost use Rattle.check_driver.specs.SingleUnit.{AsksFor, PrintsProved};
-ghost use Rattle.range_verdicts.specs.Safety.{IsSafe};
-ghost use Rattle.check_driver.specs.Words.{command_of};
 ghost use Rattle.cil_model.specs.declared.unit.Unit.{Unit as MethodUnit};
-ghost use Rattle.check_driver.specs.Writing.{change};
+ghost use Rattle.range_verdicts.specs.Safety.{IsSafe};
+ghost use Rattle.check_driver.specs.Expected.{bytes_answer, expected, files_answer};
+ghost use Rattle.check_driver.specs.Met.{AreUnder, bytes_read};
+ghost use Rattle.check_driver.specs.Outcome.{Gives, GivesOrUnread, Leaves, last_line, status_of};
+ghost use Rattle.check_driver.specs.SingleUnit.{AsksFor, PrintsProved};
+ghost use Rattle.check_driver.specs.Words.{command_of, file_names, file_places, words_at, words_bytes};
+ghost use Rattle.check_driver.specs.Writing.{change_of};
 
-use crate::command::{Command, parse_words};
-use crate::errors::{NO_MEMORY, UNWRITTEN, USAGE, missing_line, unread_line};
+use crate::command::{Command, parse_words, word_at};
+use crate::errors::{NO_MEMORY, UNWRITTEN, USAGE};
 use crate::interrupt::Interrupt;
 use crate::list_answer::answer_list;
-use crate::puts::answer_error;
+use crate::puts::{answer_error, answer_missing, answer_unread};
+use crate::reading::{Unread, read_files};
 use crate::unit_answer::answer_unit_file;
-use cc_base::{Files, ReadRefusal, Sink};
+use cc_base::{Files, Sink};
 use std::alloc::Global;
 
-/// Answers a command for what was read of its file, at most `READ_LIMIT` bytes.
+/// Answers a command for what was read of its files, of each at most `READ_LIMIT` bytes.
 fn answer_bytes<O: Sink, E: Sink>(
     alloc: Global,
     command: Command,
-    name: &[u8],
-    bytes: &[u8],
+    words: &[String],
+    read: &[Vec<u8>],
     out: &mut O,
     err: &mut E,
 ) -> Result<u8, Interrupt>
-    ensures { Gives (bytes_answer command name.now bytes.now) result
-        (change (O.written out.old) (O.written out.new) (O.faults out.old) (O.faults out.new))
-        (change (E.written err.old) (E.written err.new) (E.faults err.old) (E.faults err.new)) }
+    requires words { All (λ place. place < length words.now) (file_places command) }
+    requires read { length read.now ≡ length (file_places command) }
+    ensures { Gives (bytes_answer command (words_bytes words.now) (bytes_read read.now)) result
+        (change_of O.written O.faults out.old out.new) (change_of E.written E.faults err.old err.new) }
 {
     match command {
-        Command::Unit(_) => answer_unit_file(alloc, name, bytes, out, err),
-        Command::List(_) => answer_list(alloc, name, bytes, out, err),
+        Command::Unit(file) => {
+            answer_unit_file(alloc, word_at(words, file).as_bytes(), &read[0], out, err)
+        }
+        Command::List(file) => {
+            answer_list(alloc, word_at(words, file).as_bytes(), &read[0], out, err)
+        }
     }
 }
 
-/// Answers a command whose file has this name.
-fn answer_file<F: Files, O: Sink, E: Sink>(
+/// Answers a command of these words.
+fn answer_command<F: Files, O: Sink, E: Sink>(
     alloc: Global,
     command: Command,
-    name: &str,
+    words: &[String],
     files: &mut F,
     out: &mut O,
     err: &mut E,
 ) -> Result<u8, Interrupt>
-    ensures answer { (under : Option (List ℕ)) × IsUnder (F.held files.old) name.now under
-        × GivesOrUnread (file_answer command name.now under) name.now (Rose (F.faults files.old) (F.faults files.new)) result
-        (change (O.written out.old) (O.written out.new) (O.faults out.old) (O.faults out.new))
-        (change (E.written err.old) (E.written err.new) (E.faults err.old) (E.faults err.new)) }
+    requires { All (λ place. place < length words.now) (file_places command) }
+    ensures answer { let given = words_bytes words.now in
+        let names = words_at given (file_places command) in
+        (met : List (Option (List ℕ))) × AreUnder (F.held files.old) names met
+        × GivesOrUnread (files_answer command given met) names (Rose (F.faults files.old) (F.faults files.new)) result
+        (change_of O.written O.faults out.old out.new) (change_of E.written E.faults err.old err.new) }
     ensures missing { IfOk result (λ status. status ≡ 3 → Rose (F.missed files.old) (F.missed files.new)) }
     ensures files { F.held files.new ≡ F.held files.old }
 {
-    match files.read(alloc, name) {
-        Ok(bytes) => answer_bytes(alloc, command, name.as_bytes(), &bytes, out, err),
-        Err(ReadRefusal::NoMemory) => Err(Interrupt::NoMemory),
-        Err(ReadRefusal::Missing) => {
-            let line = missing_line(alloc, name.as_bytes())?;
-            answer_error(alloc, 3, &line, err)
-        }
-        Err(ReadRefusal::Failed) => {
-            let line = unread_line(alloc, name.as_bytes())?;
-            answer_error(alloc, 4, &line, err)
-        }
+    match read_files(alloc, words, command.files(), files) {
+        Ok(read) => answer_bytes(alloc, command, words, &read, out, err),
+        Err(Unread::Missing(file)) => answer_missing(alloc, word_at(words, file).as_bytes(), err),
+        Err(Unread::Failed(file)) => answer_unread(alloc, word_at(words, file).as_bytes(), err),
+        Err(Unread::NoMemory) => Err(Interrupt::NoMemory),
     }
 }
 
@@ -81,21 +83,17 @@ fn answer_words<F: Files, O: Sink, E: Sink>(
     out: &mut O,
     err: &mut E,
 ) -> Result<u8, Interrupt>
-    ensures answer { (held : Held) × AreTold (F.held files.old) held
-        × GivesOrUnread (expected (map (λ word. string_bytes word) words.now) held) (file_of (map (λ word. string_bytes word) words.now))
-        (Rose (F.faults files.old) (F.faults files.new)) result
-        (change (O.written out.old) (O.written out.new) (O.faults out.old) (O.faults out.new))
-        (change (E.written err.old) (E.written err.new) (E.faults err.old) (E.faults err.new)) }
+    ensures answer { let given = words_bytes words.now in
+        (met : List (Option (List ℕ))) × AreUnder (F.held files.old) (file_names given) met
+        × GivesOrUnread (expected given met) (file_names given) (Rose (F.faults files.old) (F.faults files.new)) result
+        (change_of O.written O.faults out.old out.new) (change_of E.written E.faults err.old err.new) }
     ensures missing { IfOk result (λ status. status ≡ 3 → Rose (F.missed files.old) (F.missed files.new)) }
-    ensures usage { command_of (map (λ word. string_bytes word) words.now) ≡ None → IfOk result (λ status. status ≡ 2) }
+    ensures usage { command_of (words_bytes words.now) ≡ None → IfOk result (λ status. status ≡ 2) }
     ensures files { F.held files.new ≡ F.held files.old }
 {
     match parse_words(words) {
         None => answer_error(alloc, 2, USAGE, err),
-        Some(command) => {
-            let name = words[command.file() as usize].as_str();
-            answer_file(alloc, command, name, files, out, err)
-        }
+        Some(command) => answer_command(alloc, command, words, files, out, err),
     }
 }
 
@@ -105,6 +103,25 @@ fn try_line<E: Sink>(alloc: Global, line: &[u8], err: &mut E)
     ensures kept { Kept (E.faults err.old) (E.faults err.new) }
 {
     let _ = err.put(alloc, line);
+}
+
+/// Ends a call that was answered so: the status. Of an interruption the line is tried.
+fn finish<E: Sink>(alloc: Global, answered: Result<u8, Interrupt>, err: &mut E) -> u8
+    ensures status { result ≡ status_of answered }
+    ensures front { AppendsFront (E.written err.old) (E.written err.new) (last_line answered) }
+    ensures kept { Kept (E.faults err.old) (E.faults err.new) }
+{
+    match answered {
+        Ok(status) => status,
+        Err(Interrupt::CannotWrite) => {
+            try_line(alloc, UNWRITTEN, err);
+            6
+        }
+        Err(Interrupt::NoMemory) => {
+            try_line(alloc, NO_MEMORY, err);
+            7
+        }
+    }
 }
 
 /// The program: answers the words, writes to the two sinks and gives the status.
@@ -117,36 +134,28 @@ pub fn run_words<F: Files, O: Sink, E: Sink>(
     out: &mut O,
     err: &mut E,
 ) -> u8
-    // What is written, and the status: those that are expected for the words and for what is held (where
-    // it is not told, for some files).
-    ensures output { (held : Held) × AreTold (F.held files.old) held
-        × Leaves (expected (map (λ word. string_bytes word) words.now) held) (unread_line (file_of (map (λ word. string_bytes word) words.now)))
-        (Rose (F.faults files.old) (F.faults files.new)) result
-        (change (O.written out.old) (O.written out.new) (O.faults out.old) (O.faults out.new))
-        (change (E.written err.old) (E.written err.new) (E.faults err.old) (E.faults err.new)) }
+    // What is written, and the status: those that are expected for the words and for what is held under
+    // the names of their files (where that is not told, for something under each).
+    ensures output { let given = words_bytes words.now in
+        let failed = Rose (F.faults files.old) (F.faults files.new) in
+        (met : List (Option (List ℕ))) × AreUnder (F.held files.old) (file_names given) met
+        × Leaves (expected given met) (file_names given) failed result
+        (change_of O.written O.faults out.old out.new) (change_of E.written E.faults err.old err.new) }
     ensures files { F.held files.new ≡ F.held files.old }
     // A unit that was printed as proved is safe, whatever the status.
     ensures single_unit { (held : Held) (unit : MethodUnit) → F.held files.old ≡ Some held
-        → AsksFor (map (λ word. string_bytes word) words.now) held unit
+        → AsksFor (words_bytes words.now) held unit
         → PrintsProved (O.written out.old) (O.written out.new) unit → IsSafe unit }
 
     // Each status that a device can bring comes only where its count rose in this call.
     ensures missing_cause { result ≡ 3 → Rose (F.missed files.old) (F.missed files.new) }
     ensures unread_cause { result ≡ 4 → Rose (F.faults files.old) (F.faults files.new) }
-    ensures unwritten_cause { result ≡ 6 → Rose (O.faults out.old) (O.faults out.new) ⊎ Rose (E.faults err.old) (E.faults err.new) }
+    ensures unwritten_cause { result ≡ 6 →
+        Rose (O.faults out.old) (O.faults out.new) ⊎ Rose (E.faults err.old) (E.faults err.new) }
     // Words that are no command are told so, unless that line is interrupted.
-    ensures usage { result ≡ 2 → command_of (map (λ word. string_bytes word) words.now) ≡ None }
-    ensures no_command { command_of (map (λ word. string_bytes word) words.now) ≡ None → (result ≡ 2) ⊎ ((result ≡ 6) ⊎ (result ≡ 7)) }
+    ensures usage { result ≡ 2 → command_of (words_bytes words.now) ≡ None }
+    ensures no_command { command_of (words_bytes words.now) ≡ None → (result ≡ 2) ⊎ ((result ≡ 6) ⊎ (result ≡ 7)) }
 {
-    match answer_words(alloc, words, files, out, err) {
-        Ok(status) => status,
-        Err(Interrupt::CannotWrite) => {
-            try_line(alloc, UNWRITTEN, err);
-            6
-        }
-        Err(Interrupt::NoMemory) => {
-            try_line(alloc, NO_MEMORY, err);
-            7
-        }
-    }
+    let answered = answer_words(alloc, words, files, out, err);
+    finish(alloc, answered, err)
 }

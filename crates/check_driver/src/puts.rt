@@ -3,17 +3,17 @@
 #![tactic(auto, using(cc_base::proofs::SinkLemmas::sinks, cc_base::proofs::CountLemmas::counts))]
 
 ghost use Rattle.std.specs.Prelude.{◌≡◌, IfOk};
-ghost use Rattle.check_driver.specs.Expected.{refused_line};
-ghost use Rattle.check_driver.specs.Writing.{Writes, change, joined};
+ghost use Rattle.check_driver.specs.Expected.{missing_line, refused_line, unread_line};
+ghost use Rattle.check_driver.specs.Writing.{Writes, change_of, joined};
 
-use crate::errors::refused_line;
+use crate::errors::{missing_line, refused_line, unread_line};
 use crate::interrupt::Interrupt;
 use cc_base::Sink;
 use std::alloc::Global;
 
 /// Puts one line.
 pub fn put_line<S: Sink>(alloc: Global, sink: &mut S, line: &[u8]) -> Result<(), Interrupt>
-    ensures { Writes result (change (S.written sink.old) (S.written sink.new) (S.faults sink.old) (S.faults sink.new)) line.now }
+    ensures { Writes result (change_of S.written S.faults sink.old sink.new) line.now }
 {
     sink.put(alloc, line)?;
     Ok(())
@@ -21,7 +21,7 @@ pub fn put_line<S: Sink>(alloc: Global, sink: &mut S, line: &[u8]) -> Result<(),
 
 /// Puts lines, each at once.
 pub fn put_lines<S: Sink>(alloc: Global, sink: &mut S, lines: &[Vec<u8>]) -> Result<(), Interrupt>
-    ensures { Writes result (change (S.written sink.old) (S.written sink.new) (S.faults sink.old) (S.faults sink.new)) (joined lines.now) }
+    ensures { Writes result (change_of S.written S.faults sink.old sink.new) (joined lines.now) }
 {
     for line in lines {
         put_line(alloc, sink, line)?;
@@ -37,10 +37,28 @@ pub fn answer_error<E: Sink>(
     err: &mut E,
 ) -> Result<u8, Interrupt>
     ensures status { IfOk result (λ given. given ≡ status) }
-    ensures written { Writes result (change (E.written err.old) (E.written err.new) (E.faults err.old) (E.faults err.new)) line.now }
+    ensures written { Writes result (change_of E.written E.faults err.old err.new) line.now }
 {
     put_line(alloc, err, line)?;
     Ok(status)
+}
+
+/// Answers that a file of this name is missing.
+pub fn answer_missing<E: Sink>(alloc: Global, name: &[u8], err: &mut E) -> Result<u8, Interrupt>
+    ensures status { IfOk result (λ given. given ≡ 3) }
+    ensures written { Writes result (change_of E.written E.faults err.old err.new) (missing_line name.now) }
+{
+    let line = missing_line(alloc, name)?;
+    answer_error(alloc, 3, &line, err)
+}
+
+/// Answers that a device refused to give the file of this name.
+pub fn answer_unread<E: Sink>(alloc: Global, name: &[u8], err: &mut E) -> Result<u8, Interrupt>
+    ensures status { IfOk result (λ given. given ≡ 4) }
+    ensures written { Writes result (change_of E.written E.faults err.old err.new) (unread_line name.now) }
+{
+    let line = unread_line(alloc, name)?;
+    answer_error(alloc, 4, &line, err)
 }
 
 /// Answers that a file is refused, with the words of its fault and the offset.
@@ -52,7 +70,7 @@ pub fn answer_refused<E: Sink>(
     err: &mut E,
 ) -> Result<u8, Interrupt>
     ensures status { IfOk result (λ given. given ≡ 5) }
-    ensures written { Writes result (change (E.written err.old) (E.written err.new) (E.faults err.old) (E.faults err.new)) (refused_line name.now fault.now at) }
+    ensures written { Writes result (change_of E.written E.faults err.old err.new) (refused_line name.now fault.now at) }
 {
     let line = refused_line(alloc, name, fault, at)?;
     answer_error(alloc, 5, &line, err)

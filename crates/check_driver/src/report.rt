@@ -2,7 +2,7 @@
 
 ghost use Rattle.std.specs.Prelude.{◌≡◌, ◌++◌, ◌<◌, ◌≤◌, length, All, IfOk, OnOk};
 ghost use Rattle.std.specs.List.{flat_map};
-ghost use Rattle.check_driver.specs.Text.{unit_report, verdict_line};
+ghost use Rattle.check_driver.specs.ReportText.{unit_report, verdict_line};
 ghost use Rattle.range_verdicts.specs.Verdicts.{verdicts};
 ghost use Rattle.check_driver.specs.Writing.{joined};
 
@@ -27,7 +27,7 @@ fn append_verdict_lines(
 }
 
 /// The lines of a unit's report.
-#[tactic(auto, unfolding(crate::specs::Text::unit_report))]
+#[tactic(auto, unfolding(crate::specs::ReportText::unit_report))]
 pub fn report_lines(
     alloc: Global,
     unit: &Unit,

@@ -5,9 +5,9 @@
 ghost use Rattle.std.specs.Prelude.{◌≡◌, ◌<◌, length, IfOk};
 ghost use Rattle.check_driver.specs.Expected.{unit_answer, unit_file_answer};
 ghost use Rattle.check_driver.specs.Outcome.{Gives};
-ghost use Rattle.check_driver.specs.Text.{unit_report};
+ghost use Rattle.check_driver.specs.ReportText.{unit_report};
 ghost use Rattle.range_verdicts.specs.Verdicts.{verdicts, all_proved};
-ghost use Rattle.check_driver.specs.Writing.{Writes, change};
+ghost use Rattle.check_driver.specs.Writing.{Writes, change_of};
 ghost use Rattle.method_unit.specs.UnitFile.{first_unit_fault};
 ghost use Rattle.method_unit.specs.UnitSpelling.{IsBuilt};
 
@@ -16,19 +16,16 @@ use crate::interrupt::Interrupt;
 use crate::puts::{answer_refused, put_lines};
 use crate::report::report_lines;
 use cc_base::{READ_LIMIT, Sink};
-use cil_model::Unit;
+use cil_model::{MAX_FILE_BYTES, Unit};
 use method_unit::{UnitRefusal, read_unit};
 use range_verdicts::{all_proved, judge};
 use std::alloc::Global;
-
-/// Where the fault of a file that is too large is named: at its first byte past the limit.
-const TOO_LARGE_AT: u32 = 67_108_864;
 
 /// Puts the report of a unit, and tells whether the unit is proved.
 fn put_report<O: Sink>(alloc: Global, unit: &Unit, out: &mut O) -> Result<bool, Interrupt>
     requires { IsBuilt unit.now }
     ensures proved { IfOk result (λ proved. proved ≡ all_proved (verdicts unit.now)) }
-    ensures written { Writes result (change (O.written out.old) (O.written out.new) (O.faults out.old) (O.faults out.new)) (unit_report unit.now) }
+    ensures written { Writes result (change_of O.written O.faults out.old out.new) (unit_report unit.now) }
 {
     let found = judge(alloc, unit)?;
     let lines = report_lines(alloc, unit, &found)?;
@@ -46,8 +43,7 @@ fn answer_unit<O: Sink, E: Sink>(
 ) -> Result<u8, Interrupt>
     requires { length bytes.now < READ_LIMIT }
     ensures { Gives (unit_answer name.now bytes.now (first_unit_fault bytes.now)) result
-        (change (O.written out.old) (O.written out.new) (O.faults out.old) (O.faults out.new))
-        (change (E.written err.old) (E.written err.new) (E.faults err.old) (E.faults err.new)) }
+        (change_of O.written O.faults out.old out.new) (change_of E.written E.faults err.old err.new) }
 {
     match read_unit(alloc, bytes) {
         Err(UnitRefusal::NoMemory) => Err(Interrupt::NoMemory),
@@ -70,11 +66,10 @@ pub fn answer_unit_file<O: Sink, E: Sink>(
     err: &mut E,
 ) -> Result<u8, Interrupt>
     ensures { Gives (unit_file_answer name.now bytes.now) result
-        (change (O.written out.old) (O.written out.new) (O.faults out.old) (O.faults out.new))
-        (change (E.written err.old) (E.written err.new) (E.faults err.old) (E.faults err.new)) }
+        (change_of O.written O.faults out.old out.new) (change_of E.written E.faults err.old err.new) }
 {
     if bytes.len() >= READ_LIMIT {
-        return answer_refused(alloc, name, b"file too large", TOO_LARGE_AT, err);
+        return answer_refused(alloc, name, b"file too large", MAX_FILE_BYTES, err);
     }
     answer_unit(alloc, name, bytes, out, err)
 }

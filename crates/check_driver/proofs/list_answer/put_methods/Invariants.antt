@@ -2,7 +2,7 @@ use Rattle.std.proofs.Common.{◌≡◌, take}
 use Rattle.std.specs.List.{flat_map}
 use Rattle.cc_base.specs.Counts.{Kept}
 use Rattle.cc_base.specs.Sink.{appended}
-use Rattle.check_driver.specs.Text.{method_line}
+use Rattle.check_driver.specs.ListText.{method_line}
 use Rattle.check_driver.proofs.list_answer.put_methods.Given as goal
 
 abbrev pub invariant-loop-method : goal.invariant-loop-method

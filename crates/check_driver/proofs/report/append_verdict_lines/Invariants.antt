@@ -1,6 +1,6 @@
 use Rattle.std.proofs.Common.{◌≡◌, ◌++◌, take}
 use Rattle.std.specs.List.{flat_map}
-use Rattle.check_driver.specs.Text.{verdict_line}
+use Rattle.check_driver.specs.ReportText.{verdict_line}
 use Rattle.check_driver.specs.Writing.{joined}
 use Rattle.check_driver.proofs.report.append_verdict_lines.Given as goal
 

@@ -1,11 +1,9 @@
--- The lines that are printed: those of reports and of lists.
+-- The lines of a unit's report.
 use Rattle.std.specs.Prelude.{ℕ, Bool, List, ◌++◌, length, if◌then◌else◌, codes}
 use Rattle.std.specs.Fmt.{decimal}
 use Rattle.std.specs.List.{flat_map}
-use Rattle.asm_image.specs.Names.{parameters_text}
-use Rattle.asm_image.specs.Rows.{methods_of}
-use Rattle.asm_image.specs.declared.method_row.MethodRow.{MethodRow}
 use Rattle.cc_base.specs.Digits.{hex}
+use Rattle.cil_model.specs.Places.{parameters_text}
 use Rattle.cil_model.specs.declared.unit.Unit.{Unit as MethodUnit}
 use Rattle.range_verdicts.specs.Verdicts.{verdicts, all_proved, proved_count}
 use Rattle.range_verdicts.specs.declared.verdict.Verdict.{Verdict}
@@ -31,24 +29,16 @@ summary_line n =
     ++ decimal n.obligations ++ codes " obligations, " ++ decimal n.proved_obligations ++ codes " proved\n"
 
 abbrev pub unit_counts : List Verdict → Counts
-unit_counts vs = record {
+unit_counts found = record {
   methods = 1;
-  proved = if all_proved vs then 1 else 0;
-  unproved = if all_proved vs then 0 else 1;
+  proved = if all_proved found then 1 else 0;
+  unproved = if all_proved found then 0 else 1;
   skipped = 0;
-  obligations = length vs;
-  proved_obligations = proved_count vs;
+  obligations = length found;
+  proved_obligations = proved_count found;
 }
 
 -- The report of a unit: its verdict, those of its obligations, and the summary.
 unfoldable pub unit_report : MethodUnit → List ℕ
 unit_report unit =
     unit_line unit (all_proved (verdicts unit)) ++ flat_map verdict_line (verdicts unit) ++ summary_line (unit_counts (verdicts unit))
-
--- The line of a method in a list: its token, its name.
-abbrev pub method_line : MethodRow → List ℕ
-method_line method = hex 8 method.token.0 ++ codes " " ++ method.name ++ codes "\n"
-
--- The methods of an assembly, one line for each.
-unfoldable pub list_text : List ℕ → List ℕ
-list_text bytes = flat_map method_line (methods_of bytes)

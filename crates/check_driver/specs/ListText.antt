@@ -1,0 +1,14 @@
+-- The lines of an assembly's list.
+use Rattle.std.specs.Prelude.{ℕ, List, ◌++◌, codes}
+use Rattle.std.specs.List.{flat_map}
+use Rattle.asm_image.specs.Rows.{methods_of}
+use Rattle.asm_image.specs.declared.method_row.MethodRow.{MethodRow}
+use Rattle.cc_base.specs.Digits.{hex}
+
+-- The line of a method: its token, its name.
+abbrev pub method_line : MethodRow → List ℕ
+method_line method = hex 8 method.token.0 ++ codes " " ++ method.name ++ codes "\n"
+
+-- The methods of an assembly, one line for each.
+unfoldable pub list_text : List ℕ → List ℕ
+list_text bytes = flat_map method_line (methods_of bytes)

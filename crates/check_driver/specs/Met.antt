@@ -1,0 +1,59 @@
+-- What is met under the names of files, and what a call that reads them gives.
+use Rattle.std.specs.Prelude.{◌≡◌, ◌⊎◌, ℕ, List, [], ◌∷◌, map, Option, Some, None, Result, Ok, Err, Contains, unwrap_or}
+use Rattle.std.specs.Option.{ForSome}
+use Rattle.std.specs.declared.alloc.Global.{Global}
+use Rattle.std.specs.declared.vec.Vec.{Vec}
+use Rattle.cc_base.specs.Files.{Held, IsRead}
+use Rattle.check_driver.specs.Words.{word_at, words_at}
+use Rattle.check_driver.specs.declared.reading.Unread.{Unread}
+use Rattle.check_driver.specs.declared.reading.Unread.TheVariants as unread
+
+-- This is held under the name, where that is told.
+abbrev pub IsUnder : Option Held → List ℕ → Option (List ℕ) → Type 0
+IsUnder told name under = ForSome told (λ held. held name ≡ under)
+
+-- These are held under the names, each under its own, where that is told.
+abbrev pub AreUnder : Option Held → List (List ℕ) → List (Option (List ℕ)) → Type 0
+AreUnder told [] [] = Unit {0}
+AreUnder told (name ∷ names) (under ∷ met) = IsUnder told name under × AreUnder told names met
+AreUnder told _ _ = ⊥
+
+-- The first of the names under which nothing is met.
+abbrev pub first_missing : List (List ℕ) → List (Option (List ℕ)) → Option (List ℕ)
+first_missing (name ∷ names) (None ∷ met) = Some name
+first_missing (name ∷ names) (Some bytes ∷ met) = first_missing names met
+first_missing _ _ = None
+
+-- The bytes that are met, where nothing is missing.
+abbrev pub contents : List (Option (List ℕ)) → List (List ℕ)
+contents met = map (λ under. unwrap_or under []) met
+
+-- The bytes of what was read.
+abbrev pub bytes_read : List (Vec ℕ Global) → List (List ℕ)
+bytes_read read = map (λ bytes. bytes.items) read
+
+-- These bytes are what is met, whole or as a read cuts it.
+abbrev pub IsContent : Option (List ℕ) → List ℕ → Type 0
+IsContent under bytes = (under ≡ Some bytes) ⊎ IsRead under bytes
+
+-- Each of these is what is met.
+abbrev pub AreContents : List (Option (List ℕ)) → List (Vec ℕ Global) → Type 0
+AreContents [] [] = Unit {0}
+AreContents (under ∷ met) (bytes ∷ read) = IsContent under bytes.items × AreContents met read
+AreContents _ _ = ⊥
+
+-- A read of the file that the word at this place names, which met this: `missed` says that a name was
+-- missing in this call, and `failed` that a device refused a read.
+abbrev pub ReadsOne : ℕ → Option (List ℕ) → Type 0 → Type 0 → Result (Vec ℕ Global) Unread → Type 0
+ReadsOne place under missed failed (Ok bytes) = IsContent under bytes.items
+ReadsOne place under missed failed (Err (unread.Missing at)) = missed × (at ≡ place) × (under ≡ None)
+ReadsOne place under missed failed (Err (unread.Failed at)) = failed × (at ≡ place)
+ReadsOne place under missed failed (Err unread.NoMemory) = Unit {0}
+
+-- The reads of the files that the words at these places name, in order, which met these.
+abbrev pub Reads : List (List ℕ) → List ℕ → List (Option (List ℕ)) → Type 0 → Type 0 → Result (Vec (Vec ℕ Global) Global) Unread → Type 0
+Reads words places met missed failed (Ok read) = AreContents met read.items
+Reads words places met missed failed (Err (unread.Missing place)) =
+    missed × Contains places place × (first_missing (words_at words places) met ≡ Some (word_at words place))
+Reads words places met missed failed (Err (unread.Failed place)) = failed × Contains places place
+Reads words places met missed failed (Err unread.NoMemory) = Unit {0}
