@@ -1,8 +1,7 @@
 -- Lists of bytes, and the bytes of a number, of any length.
-use Rattle.std.proofs.Common.{Fits, w8, ◌≡◌, ℕ, zero, suc, ◌+◌, ◌*◌, ◌/◌, ◌%◌, ◌^◌, ◌<◌, ◌≤◌, List, [], ◌∷◌, ◌++◌, length, take, drop, slice_index, refl, sym, ap, ap₂, ◌∙◌, inl, inr, div-one, arith, get_or-drop}
+use Rattle.std.proofs.Common.{Fits, w8, ◌≡◌, ℕ, zero, suc, ◌+◌, ◌*◌, ◌/◌, ◌%◌, ◌^◌, ◌<◌, ◌≤◌, List, [], ◌∷◌, ◌++◌, length, take, drop, slice_index, refl, sym, ap, ap₂, ◌∙◌, div-one, arith, get_or-drop}
 use Rattle.std.proofs.Math.Nat.{div-div-eq-div-mul, pow-succ'}
-use Rattle.std.proofs.lemmas.Bool.{cases_lt}
-use Rattle.std.proofs.lemmas.List.{get_or_past, length-take-le}
+use Rattle.std.proofs.lemmas.List.{length-take-le}
 use Rattle.std.specs.Int.{byte_at, bytes_low_first}
 use Rattle.byteorder.specs.Endian.{little_number, little_bytes}
 use Rattle.byteorder.specs.Numbers.{little_from-cons, little_from-lt, little_from-take, length-bytes_low_first, little_number-reads_back}
@@ -17,14 +16,6 @@ IsBytes-cons a xs h rest (suc i) = rest i
 
 pub IsBytes-tail : (a : ℕ) (xs : List ℕ) → IsBytes (a ∷ xs) → IsBytes xs
 IsBytes-tail a xs h i = h (suc i)
-
--- It suffices to look at the places of the list.
-pub IsBytes-within : (xs : List ℕ) → ((i : ℕ) → i < length xs → slice_index xs i < 256) → IsBytes xs
-IsBytes-within xs h i =
-    elim (cases_lt i (length xs)) [
-      | inl below ↦ h i below
-      | inr past ↦ let e = get_or_past xs i 0 past in omega (arith, e)
-    ]
 
 -- What `c.type_inv` says of a slice or a `Vec` of bytes.
 pub IsBytes-from_fits : (xs : List ℕ) → ((i : ℕ) → Fits w8 (slice_index xs i)) → IsBytes xs
@@ -67,7 +58,7 @@ IsBytes-little_bytes n x = IsBytes-bytes_low_first 0 n x
 pub length-little_bytes : (n x : ℕ) → length (little_bytes n x) ≡ n
 length-little_bytes n x = length-bytes_low_first 0 n x
 
--- A byte of a number, by its place.
+-- A byte of a number, by its index.
 byte_at-pow : (k x : ℕ) → byte_at k x ≡ x / 256 ^ k % 256
 byte_at-pow zero x = ap (λ (y : ℕ). y % 256) (sym (div-one x))
 byte_at-pow (suc k) x = refl

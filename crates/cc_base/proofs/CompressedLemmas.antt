@@ -2,6 +2,7 @@
 use Rattle.std.proofs.Common.{◌≡◌, ℕ, ◌+◌, ◌*◌, ◌-◌, ◌%◌, ◌/◌, ◌^◌, ◌<◌, ◌≤◌, List, [], ◌∷◌, ◌++◌, length, take, Result, Ok, Err, refl, sym, ap₂, subst, ◌∙◌, inl, inr, arith}
 use Rattle.std.specs.Prelude.{IfOk}
 use Rattle.std.proofs.lemmas.Bool.{cases_lt, lt-ltb, le-ltb}
+use Rattle.std.proofs.Math.Seq.{take-append_seam}
 use Rattle.byteorder.specs.Endian.{big_number, big_bytes}
 use Rattle.cc_base.specs.LittleEndian.{IsBytes}
 use Rattle.cc_base.specs.Compressed.{low_bits, compressed, SpellsNumber}
@@ -9,9 +10,13 @@ use Rattle.cc_base.specs.declared.compressed.Compressed.{Compressed}
 use Rattle.cc_base.specs.declared.compressed.CompressedFault.{CompressedFault}
 use Rattle.cc_base.specs.declared.compressed.CompressedFault.TheVariants.{Cut, Form}
 
--- What is said of a number that was found at the front of some bytes.
-abbrev Spelled : List ℕ → Compressed → Type 0
-Spelled bytes found = SpellsNumber found.number (take found.width bytes)
+-- A spelling of the number that was found stands at the front of the bytes.
+pub record Spelled (bytes : List ℕ) (found : Compressed) : Type 0 where
+  pub spelling : List ℕ
+  pub rest : List ℕ
+  pub spells : SpellsNumber found.number spelling
+  pub wide : found.width ≡ length spelling
+  pub parts : bytes ≡ spelling ++ rest
 
 same : (x y : Compressed) → ◌≡◌ {A = Result Compressed CompressedFault} (Ok x) (Ok y) → x ≡ y
 same x y e = cc
@@ -40,7 +45,13 @@ two_found a [] found fits low high e = absurd (low_bits_cut 14 2 (a ∷ []) foun
 two_found a (b ∷ rest) found fits low high e =
     let number : big_number 2 (a ∷ b ∷ rest) ≡ a * 256 + b = omega arith in
     let is = low_bits_are 14 2 (a ∷ b ∷ rest) _ (omega arith) refl in
-    subst (Spelled (a ∷ b ∷ rest)) (same _ found (sym is ∙ e)) (inr (inl (omega arith, rw number (pair_spells a b low high (fits 1)))))
+    subst (Spelled (a ∷ b ∷ rest)) (same _ found (sym is ∙ e)) (record {
+      spelling = a ∷ b ∷ [];
+      rest = rest;
+      spells = inr (inl (omega arith, rw number (pair_spells a b low high (fits 1))));
+      wide = refl;
+      parts = refl;
+    })
 
 four_found : (a : ℕ) (rest : List ℕ) (found : Compressed) → IsBytes (a ∷ rest) → 0xC0 ≤ a → a < 0xE0 → low_bits 29 4 (a ∷ rest) ≡ Ok found → Spelled (a ∷ rest) found
 four_found a [] found fits low high e = absurd (low_bits_cut 29 4 (a ∷ []) found (omega arith) e)
@@ -49,7 +60,13 @@ four_found a (b ∷ c ∷ []) found fits low high e = absurd (low_bits_cut 29 4 
 four_found a (b ∷ c ∷ d ∷ rest) found fits low high e =
     let number : big_number 4 (a ∷ b ∷ c ∷ d ∷ rest) ≡ a * 0x100_0000 + b * 0x1_0000 + c * 256 + d = omega arith in
     let is = low_bits_are 29 4 (a ∷ b ∷ c ∷ d ∷ rest) _ (omega arith) refl in
-    subst (Spelled (a ∷ b ∷ c ∷ d ∷ rest)) (same _ found (sym is ∙ e)) (inr (inr (omega arith, rw number (four_spell a b c d low high (fits 1) (fits 2) (fits 3)))))
+    subst (Spelled (a ∷ b ∷ c ∷ d ∷ rest)) (same _ found (sym is ∙ e)) (record {
+      spelling = a ∷ b ∷ c ∷ d ∷ [];
+      rest = rest;
+      spells = inr (inr (omega arith, rw number (four_spell a b c d low high (fits 1) (fits 2) (fits 3))));
+      wide = refl;
+      parts = refl;
+    })
 
 -- What a number is, by its first byte.
 from_one : (a : ℕ) (rest : List ℕ) → a < 0x80 → compressed (a ∷ rest) ≡ Ok (record { number = a; width = 1 })
@@ -68,12 +85,14 @@ from_none : (a : ℕ) (rest : List ℕ) → 0xE0 ≤ a → compressed (a ∷ res
 unfolding compressed
 from_none a rest le = rw (le-ltb a 0x80 (omega arith), le-ltb a 0xC0 (omega arith), le-ltb a 0xE0 le) refl
 
-number_found : (bytes : List ℕ) (found : Compressed) → IsBytes bytes → compressed bytes ≡ Ok found → Spelled bytes found
+pub compressed_spelled : (bytes : List ℕ) (found : Compressed) → IsBytes bytes → compressed bytes ≡ Ok found → Spelled bytes found
 unfolding compressed
-number_found [] found fits e = absurd cc
-number_found (a ∷ rest) found fits e =
+compressed_spelled [] found fits e = absurd cc
+compressed_spelled (a ∷ rest) found fits e =
     elim (cases_lt a 0x80) [
-      | inl one ↦ subst (Spelled (a ∷ rest)) (same _ found (sym (from_one a rest one) ∙ e)) (inl (one, refl))
+      | inl one ↦
+          subst (Spelled (a ∷ rest)) (same _ found (sym (from_one a rest one) ∙ e))
+          (record { spelling = a ∷ []; rest = rest; spells = inl (one, refl); wide = refl; parts = refl })
       | inr more ↦ elim (cases_lt a 0xC0) [
         | inl two ↦ two_found a rest found fits more two (sym (from_two a rest more two) ∙ e)
         | inr more2 ↦ elim (cases_lt a 0xE0) [
@@ -83,10 +102,12 @@ number_found (a ∷ rest) found fits e =
       ]
     ]
 
--- A spelling of the number that was read stands at the front.
 pub compressed_found : (bytes : List ℕ) (result : Result Compressed CompressedFault) → IsBytes bytes → result ≡ compressed bytes
     → IfOk result (λ found. SpellsNumber found.number (take found.width bytes))
-compressed_found bytes (Ok found) fits e = number_found bytes found fits (sym e)
+compressed_found bytes (Ok found) fits e =
+    let s = compressed_spelled bytes found fits (sym e) in
+    let front : take found.width bytes ≡ s.spelling = ap₂ (λ (n : ℕ) (xs : List ℕ). take n xs) s.wide s.parts ∙ take-append_seam s.spelling s.rest in
+    subst (λ (spelling : List ℕ). SpellsNumber found.number spelling) (sym front) s.spells
 compressed_found bytes (Err fault) fits e = tt
 
 two_read : (n : ℕ) (rest : List ℕ) → n < 2 ^ 14 → compressed (big_bytes 2 (0x8000 + n) ++ rest) ≡ Ok (record { number = n; width = 2 })

@@ -13,27 +13,27 @@ length-hex (suc digits) n =
     omega (arith, e, pushed)
 
 -- One more digit in front of those that are written.
-hex_more-suc : (place rest digit : ℕ) (text : List ℕ) → place < length text → digit ≡ hex_digit (rest % 16)
-    → hex place (rest / 16) ++ drop place (set text place digit) ≡ hex (suc place) rest ++ drop (suc place) text
+hex_more-suc : (index rest digit : ℕ) (text : List ℕ) → index < length text → digit ≡ hex_digit (rest % 16)
+    → hex index (rest / 16) ++ drop index (set text index digit) ≡ hex (suc index) rest ++ drop (suc index) text
 unfolding hex
-hex_more-suc place rest digit text h e =
-    let next : place + 1 ≡ suc place = omega arith in
-    ap (λ (xs : List ℕ). hex place (rest / 16) ++ xs) (drop-set text place digit h)
-    ∙ ap₂ (λ (d p : ℕ). hex place (rest / 16) ++ d ∷ drop p text) e next
-    ∙ sym (append_assoc (hex place (rest / 16)) (hex_digit (rest % 16) ∷ []) (drop (suc place) text))
+hex_more-suc index rest digit text h e =
+    let next : index + 1 ≡ suc index = omega arith in
+    ap (λ (xs : List ℕ). hex index (rest / 16) ++ xs) (drop-set text index digit h)
+    ∙ ap₂ (λ (d p : ℕ). hex index (rest / 16) ++ d ∷ drop p text) e next
+    ∙ sym (append_assoc (hex index (rest / 16)) (hex_digit (rest % 16) ∷ []) (drop (suc index) text))
 
--- The same, from a place that is not the first.
-pub hex_more : (place rest digit : ℕ) (text : List ℕ) → 0 < place → place ≤ length text → digit ≡ hex_digit (rest % 16)
-    → hex (place - 1) (rest / 16) ++ drop (place - 1) (set text (place - 1) digit) ≡ hex place rest ++ drop place text
+-- The same, from an index above 0.
+pub hex_more : (index rest digit : ℕ) (text : List ℕ) → 0 < index → index ≤ length text → digit ≡ hex_digit (rest % 16)
+    → hex (index - 1) (rest / 16) ++ drop (index - 1) (set text (index - 1) digit) ≡ hex index rest ++ drop index text
 hex_more zero rest digit text above h e = absurd (omega arith)
-hex_more (suc place) rest digit text above h e =
-    let back : suc place - 1 ≡ place = omega arith in
-    rw back (hex_more-suc place rest digit text (omega arith) e)
+hex_more (suc index) rest digit text above h e =
+    let back : suc index - 1 ≡ index = omega arith in
+    rw back (hex_more-suc index rest digit text (omega arith) e)
 
--- At the first place all is written.
-pub hex_all : (place rest digits n : ℕ) (text old : List ℕ) → place ≤ 0
-    → hex place rest ++ drop place text ≡ hex digits n ++ drop digits old → take digits text ≡ hex digits n
+-- At index 0 all is written.
+pub hex_all : (index rest digits n : ℕ) (text old : List ℕ) → index ≤ 0
+    → hex index rest ++ drop index text ≡ hex digits n ++ drop digits old → take digits text ≡ hex digits n
 unfolding hex
 hex_all zero rest digits n text old h e =
     ap (λ (xs : List ℕ). take digits xs) e ∙ take_at (hex digits n) (drop digits old) digits (length-hex digits n)
-hex_all (suc place) rest digits n text old h e = absurd (omega arith)
+hex_all (suc index) rest digits n text old h e = absurd (omega arith)

@@ -1,5 +1,5 @@
--- What files in memory hold, by the place of the first file of a name.
-use Rattle.std.proofs.Common.{Result, Ok, Err, IsErrAnd, IfOk, MatchResult, ◌≡◌, ◌≢◌, ℕ, zero, suc, ◌<◌, Bool, true, false, cond, ltb, List, [], ◌∷◌, ◌++◌, length, get_or, set, Option, Some, None, option_map, min, take, position, string_bytes, refl, sym, ap, ◌∙◌, inl, inr, arith, lt-ltb, length-set, get_or-set_same, get_or-set_other}
+-- What files in memory hold, by the index of the first file of a name.
+use Rattle.std.proofs.Common.{◌≡◌, ◌≢◌, ℕ, zero, suc, ◌<◌, Bool, true, false, cond, ltb, List, [], ◌∷◌, ◌++◌, length, get_or, set, Option, Some, None, option_map, min, take, position, string_bytes, refl, sym, ap, ◌∙◌, inl, inr, arith, lt-ltb, length-set, get_or-set_same, get_or-set_other}
 use Rattle.std.proofs.lemmas.Bool.{cases_lt, cases_Bool}
 use Rattle.std.proofs.lemmas.List.Quantifiers.{position-Some}
 use Rattle.std.proofs.lemmas.List.Sums.{fails_before_first}
@@ -82,7 +82,7 @@ held-push_other name (file ∷ files) new is =
     ap (λ (rest : Option (List ℕ)). cond (is_named name file) (Some file.bytes.items) rest)
     (held-push_other name files new is)
 
--- Where no place passes, no element does.
+-- Where no element is found that passes, none does.
 none_pass : (p : NamedFile → Bool) (files : List NamedFile) (d : NamedFile) → position p files ≡ None
     → (k : ℕ) → k < length files → p (get_or files k d) ≡ false
 none_pass p files d none k lt =
@@ -171,10 +171,3 @@ pub ForSome-read : (name : List ℕ) (files : List NamedFile) (bytes copy : List
     → copy ≡ take READ_LIMIT bytes → ForSome (Some (held_in files)) (λ h. IsRead (h name) copy)
 ForSome-read name files bytes copy held is h told =
     ap (λ (o : Option (List ℕ)). option_map (λ (xs : List ℕ). take READ_LIMIT xs) o) (told-at files name h told ∙ sym held) ∙ ap Some (sym is)
-
--- What holds of the value in an `Ok`, after `map_err`.
-pub IfOk-map_err : {T E D : Type 0} (r : Result T E) (s : Result T D) (P Q : T → Type 0) (R : E → D → Type 0)
-    → MatchResult r (λ x. s ≡ Ok x) (λ e. IsErrAnd s (R e)) → IfOk r P → ((x : T) → P x → Q x) → IfOk s Q
-IfOk-map_err (Ok x) s P Q R is p weaker = rw is (weaker x p)
-IfOk-map_err (Err e) (Ok x) P Q R is p weaker = elim is [ ]
-IfOk-map_err (Err e) (Err d) P Q R is p weaker = tt

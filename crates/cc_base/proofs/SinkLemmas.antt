@@ -27,10 +27,6 @@ IsFront-trans f g w (r, e) (s, d) = (r ++ s, d ∙ ap (λ (x : List ℕ). x ++ s
 pub IsFront-more : (f w z : List ℕ) → IsFront f w → IsFront f (w ++ z)
 IsFront-more f w z (r, e) = (r ++ z, ap (λ (x : List ℕ). x ++ z) e ∙ append_assoc f r z)
 
--- A list is a front of it with more behind.
-pub IsFront-append : (w z : List ℕ) → IsFront w (w ++ z)
-IsFront-append w z = (z, refl)
-
 -- The same list before a front and its whole.
 pub IsFront-after : (a f w : List ℕ) → IsFront f w → IsFront (a ++ f) (a ++ w)
 IsFront-after a f w (r, e) = (r, ap (λ (x : List ℕ). a ++ x) e ∙ sym (append_assoc a f r))

@@ -2,6 +2,7 @@ pub mod Counts
 pub mod Files
 pub mod MapFiles
 pub mod Sink
+pub mod VecSink
 pub mod Wrap
 pub mod Digits
 pub mod LittleEndian

@@ -1,4 +1,4 @@
--- Little endian numbers at a place among bytes.
+-- Little endian numbers at an offset among bytes.
 use Rattle.std.specs.Prelude.{ℕ, ◌<◌, List, drop, slice_index}
 pub use Rattle.byteorder.specs.Endian.{little_number, little_bytes}
 
@@ -6,14 +6,14 @@ pub use Rattle.byteorder.specs.Endian.{little_number, little_bytes}
 abbrev pub IsBytes : List ℕ → Type 0
 IsBytes bytes = (i : ℕ) → slice_index bytes i < 256
 
--- The number in the two bytes at a place.
+-- The number in the two bytes at an offset.
 unfoldable pub u16_at : List ℕ → ℕ → ℕ
 u16_at bytes at = little_number 2 (drop at bytes)
 
--- The number in the four bytes at a place.
+-- The number in the four bytes at an offset.
 unfoldable pub u32_at : List ℕ → ℕ → ℕ
 u32_at bytes at = little_number 4 (drop at bytes)
 
--- The number in the eight bytes at a place.
+-- The number in the eight bytes at an offset.
 unfoldable pub u64_at : List ℕ → ℕ → ℕ
 u64_at bytes at = little_number 8 (drop at bytes)

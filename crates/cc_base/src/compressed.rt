@@ -1,6 +1,6 @@
 //! Compressed numbers (ECMA-335 II.23.2).
 
-ghost use Rattle.std.specs.Prelude.{◌≡◌, ◌≤◌, ℕ, List, ◌++◌, length, take, Ok, IfOk};
+ghost use Rattle.std.specs.Prelude.{◌≡◌, ◌≤◌, ℕ, List, ◌++◌, length, take, Ok, IfOk, IsErrOf};
 ghost use Rattle.cc_base.specs.Compressed.{low_bits, compressed, SpellsNumber};
 
 use byteorder::{BigEndian, ByteOrder};
@@ -52,6 +52,7 @@ fn front_number(bytes: &[u8]) -> Result<Compressed, CompressedFault>
     ensures some { IfOk result (λ found. 1 ≤ found.width) }
     ensures few { IfOk result (λ found. found.width ≤ 4) }
     ensures within { IfOk result (λ found. found.width ≤ length bytes.now) }
+    ensures begun { IsErrOf result CompressedFault.Form → 1 ≤ length bytes.now }
 {
     match bytes {
         [] => Err(CompressedFault::Cut),
@@ -78,6 +79,8 @@ pub fn compressed_number(bytes: &[u8]) -> Result<Compressed, CompressedFault>
     ensures some { IfOk result (λ found. 1 ≤ found.width) }
     ensures few { IfOk result (λ found. found.width ≤ 4) }
     ensures within { IfOk result (λ found. found.width ≤ length bytes.now) }
+    // A first byte that begins no number is there.
+    ensures begun { IsErrOf result CompressedFault.Form → 1 ≤ length bytes.now }
 {
     front_number(bytes)
 }

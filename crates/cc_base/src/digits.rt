@@ -42,8 +42,8 @@ fn hex_text(n: u32, digits: usize) -> [u8; MAX_HEX_DIGITS]
 {
     let mut text = [0; MAX_HEX_DIGITS];
     let mut rest = n;
-    for place in (0..digits).rev() {
-        text[place] = hex_digit(rest % 16);
+    for index in (0..digits).rev() {
+        text[index] = hex_digit(rest % 16);
         rest /= 16;
     }
     text

@@ -2,10 +2,12 @@
 
 ghost use Rattle.std.specs.Prelude.{◌≡◌, ℕ, Option, None, IsSome, IsErrOf, IfOk, OnOk, ◌⊎◌};
 ghost use Rattle.std.specs.Option.{ForSome};
+ghost use Rattle.cc_base.specs.declared.files.ReadRefusal.TheVariants as reads;
+ghost use Rattle.cc_base.specs.declared.files.ReplaceRefusal.TheVariants as replaces;
 ghost use Rattle.cc_base.specs.Counts.{Rose, Kept};
 ghost use Rattle.cc_base.specs.Files.{Held, IsRead, ToldReplaced};
 
-use std::alloc::Global;
+use std::alloc::{AllocError, Global};
 
 /// A read gives at most this many bytes: one more than the largest file that is accepted.
 pub const READ_LIMIT: usize = 67_108_865;
@@ -21,6 +23,14 @@ pub enum ReadRefusal {
     NoMemory,
 }
 
+impl From<AllocError> for ReadRefusal {
+    ghost from_gives = { λ _ e. e ≡ reads.NoMemory };
+
+    fn from(_error: AllocError) -> ReadRefusal {
+        ReadRefusal::NoMemory
+    }
+}
+
 /// Why a file was not replaced.
 #[derive(Clone, Copy, Debug, PartialEq, Eq)]
 pub enum ReplaceRefusal {
@@ -28,6 +38,14 @@ pub enum ReplaceRefusal {
     Failed,
     /// Memory ran out, and nothing changed.
     NoMemory,
+}
+
+impl From<AllocError> for ReplaceRefusal {
+    ghost from_gives = { λ _ e. e ≡ replaces.NoMemory };
+
+    fn from(_error: AllocError) -> ReplaceRefusal {
+        ReplaceRefusal::NoMemory
+    }
 }
 
 /// Files under names.

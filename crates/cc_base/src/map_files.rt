@@ -1,9 +1,10 @@
 //! Files in memory, for tests: they hold what they were given, and fail where they are told to.
 
-ghost use Rattle.std.specs.Prelude.{◌≡◌, ◌↔◌, [], Option, Some, IsTrue, Contains, OnOk, OnErr, IfOk, position, take, option_copied};
-ghost use Rattle.cc_base.specs.Counts.{count_up};
-ghost use Rattle.cc_base.specs.Files.{Replaces};
-ghost use Rattle.cc_base.specs.MapFiles.{held_in, is_named};
+ghost use Rattle.std.specs.Prelude.{◌≡◌, ◌↔◌, [], Option, Some, IsTrue, IsSome, IsNone, IsErrOf, Contains, OnOk, OnErr, IfOk, position, take, option_copied};
+ghost use Rattle.std.specs.Option.{ForSome};
+ghost use Rattle.cc_base.specs.Counts.{count_up, Rose, Kept};
+ghost use Rattle.cc_base.specs.Files.{Replaces, IsRead};
+ghost use Rattle.cc_base.specs.MapFiles.{held_in, is_named, missed_after, read_faults_after, replace_faults_after};
 
 use crate::NoMemory;
 use crate::files::{Files, READ_LIMIT, ReadRefusal, ReplaceRefusal};
@@ -66,8 +67,8 @@ impl MapFiles {
         ensures rest { self.new ≡ record self.old { files = self.new.files } }
     {
         let bytes = Vec::from_slice(alloc, bytes)?;
-        match place_of(&self.files, name) {
-            Some(place) => self.files[place].bytes = bytes,
+        match index_of(&self.files, name) {
+            Some(index) => self.files[index].bytes = bytes,
             None => {
                 let name = String::from_str(alloc, name)?;
                 self.files.push(NamedFile { name, bytes })?;
@@ -80,8 +81,8 @@ impl MapFiles {
     pub fn get(&self, name: &str) -> Option<&[u8]>
         ensures { option_copied result ≡ held_in self.now.files.items name.now }
     {
-        match place_of(&self.files, name) {
-            Some(place) => Some(&self.files[place].bytes),
+        match index_of(&self.files, name) {
+            Some(index) => Some(&self.files[index].bytes),
             None => None,
         }
     }
@@ -112,7 +113,25 @@ impl Files for MapFiles {
 
     ghost faults = { λ m. m.faults };
 
-    fn read(&mut self, alloc: Global, name: &str) -> Result<Vec<u8>, ReadRefusal> {
+    fn read(&mut self, alloc: Global, name: &str) -> Result<Vec<u8>, ReadRefusal>
+        ensures found { IfOk result (λ bytes.
+            ForSome (Some (held_in self.old.files.items)) (λ h. IsRead (h name.now) bytes.items)) }
+        ensures missing_cause { IsErrOf result ReadRefusal.Missing → Rose self.old.missed self.new.missed }
+        ensures failed_cause { IsErrOf result ReadRefusal.Failed → Rose self.old.faults self.new.faults }
+        ensures missed_kept { Kept self.old.missed self.new.missed }
+        ensures faults_kept { Kept self.old.faults self.new.faults }
+
+        // A name that is not held is missing, and of the others the listed reads fail and no others.
+        ensures not_held { IsErrOf result ReadRefusal.Missing ↔ IsNone (held_in self.old.files.items name.now) }
+        ensures listed { IsErrOf result ReadRefusal.Failed ↔
+            (IsSome (held_in self.old.files.items name.now)
+            × Contains self.old.fail_reads.items (count_up self.old.reads)) }
+        ensures counted { self.new ≡ record self.old {
+          reads = count_up self.old.reads;
+          missed = missed_after result self.old.missed;
+          faults = read_faults_after result self.old.faults;
+        } }
+    {
         let fails = self.begin_read();
         let Some(bytes) = self.get(name) else {
             self.missed = self.missed.saturating_add(1);
@@ -122,16 +141,33 @@ impl Files for MapFiles {
             self.faults = self.faults.saturating_add(1);
             return Err(ReadRefusal::Failed);
         }
-        first_bytes(alloc, bytes).map_err(|_| ReadRefusal::NoMemory)
+        Ok(first_bytes(alloc, bytes)?)
     }
 
-    fn replace(&mut self, alloc: Global, name: &str, bytes: &[u8]) -> Result<(), ReplaceRefusal> {
+    fn replace(&mut self, alloc: Global, name: &str, bytes: &[u8]) -> Result<(), ReplaceRefusal>
+        ensures ok { OnOk result
+            (Replaces (held_in self.old.files.items) (held_in self.new.files.items) name.now bytes.now) }
+        ensures no_memory { IsErrOf result ReplaceRefusal.NoMemory →
+            held_in self.new.files.items ≡ held_in self.old.files.items }
+        ensures failed_cause { IsErrOf result ReplaceRefusal.Failed → Rose self.old.faults self.new.faults }
+        ensures faults_kept { Kept self.old.faults self.new.faults }
+
+        // The listed replacements fail and no others, and they change no file.
+        ensures listed { IsErrOf result ReplaceRefusal.Failed ↔
+            Contains self.old.fail_replaces.items (count_up self.old.replaces) }
+        ensures none_changed { IsErrOf result ReplaceRefusal.Failed → self.new.files ≡ self.old.files }
+        ensures counted { self.new ≡ record self.old {
+          files = self.new.files;
+          replaces = count_up self.old.replaces;
+          faults = replace_faults_after result self.old.faults;
+        } }
+    {
         if self.begin_replace() {
             self.faults = self.faults.saturating_add(1);
             return Err(ReplaceRefusal::Failed);
         }
-        self.hold(alloc, name, bytes)
-            .map_err(|_| ReplaceRefusal::NoMemory)
+        self.hold(alloc, name, bytes)?;
+        Ok(())
     }
 }
 
@@ -142,8 +178,8 @@ fn first_bytes(alloc: Global, bytes: &[u8]) -> Result<Vec<u8>, NoMemory>
     Vec::from_slice(alloc, &bytes[..bytes.len().min(READ_LIMIT)])
 }
 
-/// The place of the first file of the name.
-fn place_of(files: &[NamedFile], name: &str) -> Option<usize>
+/// The index of the first file of the name.
+fn index_of(files: &[NamedFile], name: &str) -> Option<usize>
     ensures { result ≡ position (is_named name.now) files.now }
 {
     files.iter().position(|file| file.name.as_str() == name)

@@ -1,5 +1,5 @@
-//! Places in bytes.
+//! Offsets in bytes.
 
-/// A place in a file or in code, in bytes from its start.
+/// Where something stands in a file or in code, in bytes from its start.
 #[derive(Clone, Copy, Debug, PartialEq, Eq, PartialOrd, Ord, Hash)]
 pub struct Offset(pub u32);

@@ -1,10 +1,11 @@
-//! A place that bytes are written to.
+//! What bytes are written to.
 
 ghost use Rattle.std.specs.Prelude.{◌≡◌, ℕ, List, Option, OnOk, IsErrOf};
+ghost use Rattle.cc_base.specs.declared.sink.PutRefusal.TheVariants.{NoMemory};
 ghost use Rattle.cc_base.specs.Counts.{Rose, Kept};
 ghost use Rattle.cc_base.specs.Sink.{appended, AppendsFront};
 
-use std::alloc::Global;
+use std::alloc::{AllocError, Global};
 
 /// Why bytes were not written.
 #[derive(Clone, Copy, Debug, PartialEq, Eq)]
@@ -15,7 +16,15 @@ pub enum PutRefusal {
     NoMemory,
 }
 
-/// A place that bytes are written to, one after another.
+impl From<AllocError> for PutRefusal {
+    ghost from_gives = { λ _ e. e ≡ NoMemory };
+
+    fn from(_error: AllocError) -> PutRefusal {
+        PutRefusal::NoMemory
+    }
+}
+
+/// What bytes are written to, one after another.
 pub trait Sink {
     /// All that was written, where the object tells it.
     ghost written: { Self → Option (List ℕ) };

@@ -1,7 +1,8 @@
 //! A sink in memory, for tests: it keeps what it was given, and fails where it is told to.
 
-ghost use Rattle.std.specs.Prelude.{◌≡◌, ◌↔◌, [], Some, IsTrue, Contains};
-ghost use Rattle.cc_base.specs.Counts.{count_up};
+ghost use Rattle.std.specs.Prelude.{◌≡◌, ◌↔◌, [], Some, IsTrue, Contains, OnOk, IsErrOf, ◌++◌};
+ghost use Rattle.cc_base.specs.Counts.{count_up, Rose, Kept};
+ghost use Rattle.cc_base.specs.VecSink.{put_faults_after};
 
 use crate::sink::{PutRefusal, Sink};
 use std::alloc::Global;
@@ -50,13 +51,27 @@ impl Sink for VecSink {
 
     ghost faults = { λ s. s.faults };
 
-    fn put(&mut self, _alloc: Global, bytes: &[u8]) -> Result<(), PutRefusal> {
+    fn put(&mut self, _alloc: Global, bytes: &[u8]) -> Result<(), PutRefusal>
+        ensures ok { OnOk result (self.new.bytes.items ≡ self.old.bytes.items ++ bytes.now) }
+        ensures no_memory { IsErrOf result PutRefusal.NoMemory → self.new.bytes.items ≡ self.old.bytes.items }
+        ensures failed_cause { IsErrOf result PutRefusal.Failed → Rose self.old.faults self.new.faults }
+        ensures faults_kept { Kept self.old.faults self.new.faults }
+
+        // The listed puts fail and no others, and they write nothing.
+        ensures listed { IsErrOf result PutRefusal.Failed ↔
+            Contains self.old.fail_puts.items (count_up self.old.puts) }
+        ensures none_written { IsErrOf result PutRefusal.Failed → self.new.bytes.items ≡ self.old.bytes.items }
+        ensures counted { self.new ≡ record self.old {
+          bytes = self.new.bytes;
+          puts = count_up self.old.puts;
+          faults = put_faults_after result self.old.faults;
+        } }
+    {
         if self.begin_put() {
             self.faults = self.faults.saturating_add(1);
             return Err(PutRefusal::Failed);
         }
-        self.bytes
-            .extend_from_slice(bytes)
-            .map_err(|_| PutRefusal::NoMemory)
+        self.bytes.extend_from_slice(bytes)?;
+        Ok(())
     }
 }

@@ -3,3 +3,4 @@ pub mod Standing
 pub mod NumberLaws
 pub mod TypeLaws
 pub mod SignatureLaws
+pub mod PlaceLemmas

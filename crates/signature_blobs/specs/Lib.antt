@@ -1,4 +1,6 @@
 pub mod Reading
+pub mod Faults
+pub mod Places
 pub mod Numbers
 pub mod Types
 pub mod Signatures

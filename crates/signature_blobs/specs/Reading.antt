@@ -19,7 +19,7 @@ abbrev pub ◌>>=◌ : {A B : Type 0} → Reading A → (A → Reading B) → Re
 (Ok None) >>= f = Ok None
 (Err fault) >>= f = Err fault
 
--- The byte at a place. The first byte that is not there is the one after the blob.
+-- The byte at an offset. The first byte that is not there is the one after the blob.
 abbrev pub byte_at : List ℕ → ℕ → Result ℕ SigFault
 byte_at blob at = if nat_lt at (length blob) then Ok (slice_index blob at) else Err (Short (length blob))
 

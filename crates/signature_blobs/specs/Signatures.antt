@@ -19,7 +19,7 @@ abbrev pub by_first : {A : Type 0} → List ℕ → (ℕ → Result A SigFault) 
 by_first [] read = Err (Short 0)
 by_first (first ∷ rest) read = read first
 
--- The place after the convention byte and, of a generic method, the number of its type parameters.
+-- The offset after the convention byte and, of a generic method, the number of its type parameters.
 unfoldable pub parameters_at : List ℕ → Bool → Result ℕ SigFault
 parameters_at blob generic = if generic then made (λ number. number.1) (compressed_at blob 1) else Ok 1
 

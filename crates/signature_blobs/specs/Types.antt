@@ -4,21 +4,20 @@ use Rattle.cil_model.specs.declared.place.Place.{Place}
 use Rattle.cil_model.specs.declared.place.Place.TheVariants.{Void, Bool, Int, Bools, Ints}
 use Rattle.signature_blobs.specs.Reading.{Reading, known, ◌>>=◌, byte_at}
 
--- What stands behind SZARRAY: BOOLEAN or I4.
-unfoldable pub element_at : List ℕ → ℕ → Reading (Place × ℕ)
-element_at blob at = do
-  code ← known (byte_at blob at)
-  if code == 0x02 then Ok (Some (Bools, at + 1))
-      else if code == 0x08 then Ok (Some (Ints, at + 1))
-      else Ok None
+-- What the code behind SZARRAY says, BOOLEAN or I4, and the offset after it.
+abbrev pub element_of : ℕ → ℕ → Reading (Place × ℕ)
+element_of code after =
+    if code == 0x02 then Ok (Some (Bools, after))
+    else if code == 0x08 then Ok (Some (Ints, after))
+    else Ok None
 
--- BOOLEAN, I4 or SZARRAY, and the place after it.
+-- BOOLEAN, I4 or SZARRAY, and the offset after it.
 unfoldable pub type_at : List ℕ → ℕ → Reading (Place × ℕ)
 type_at blob at = do
   code ← known (byte_at blob at)
   if code == 0x02 then Ok (Some (Bool, at + 1))
       else if code == 0x08 then Ok (Some (Int, at + 1))
-      else if code == 0x1D then element_at blob (at + 1)
+      else if code == 0x1D then known (byte_at blob (at + 1)) >>= (λ element. element_of element (at + 2))
       else Ok None
 
 -- VOID, which is a result alone, or a type.

@@ -16,6 +16,3 @@ pub use method::{MethodSig, SigTypes, Signature, method_sig};
 pub use number::compressed;
 pub use places::Places;
 pub use spec::spec_sig;
-
-#[cfg(test)]
-mod tests;

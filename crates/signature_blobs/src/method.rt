@@ -1,12 +1,14 @@
 //! Signatures of methods (II.23.2.1).
 
-ghost use Rattle.std.specs.Prelude.{◌≡◌, ◌≤◌, Bool, length, IfOk};
-ghost use Rattle.signature_blobs.specs.Spelling.{Begins, SpellsMethod, IfKnown};
+ghost use Rattle.std.specs.Prelude.{◌≡◌, ℕ, ◌%◌, IfSome, ◌≤◌, Bool, length, IfOk, IfErr};
+ghost use Rattle.cc_base.specs.Slices.{IsShort};
+ghost use Rattle.signature_blobs.specs.Faults.{offset_of};
+ghost use Rattle.signature_blobs.specs.Spelling.{SomeStand, StandFrom, Begins, SpellsTypeCount, SpellsTypes, SpellsMethod, IfKnown, is_generic};
 ghost use Rattle.signature_blobs.specs.declared.method.Signature.{Signature};
 ghost use Rattle.signature_blobs.specs.Signatures.{parameters_at, signature_at, types_of, method_signature};
 
 use crate::fault::SigFault;
-use crate::number::{count_at, number_at};
+use crate::number::{compressed, count_at};
 use crate::places::Places;
 use crate::types::{result_at, types_at};
 use cil_model::Place;
@@ -26,7 +28,7 @@ const DEFAULT: u8 = 0;
 /// The greatest number of a convention.
 const LAST_CONVENTION: u8 = 5;
 
-/// What a method takes and gives. It takes 130 bytes.
+/// What a method takes and gives.
 #[derive(Drop)]
 pub struct Signature {
     /// The type of the result.
@@ -44,7 +46,7 @@ pub enum SigTypes {
     Other,
 }
 
-/// The signature of a method. It takes 133 bytes.
+/// The signature of a method.
 #[derive(Drop)]
 pub struct MethodSig {
     /// The method has a `this`.
@@ -55,24 +57,29 @@ pub struct MethodSig {
     pub types: SigTypes,
 }
 
-/// The place after the convention byte and, of a generic method, the number of its type parameters.
-#[tactic(auto, unfolding(crate::specs::Signatures::parameters_at))]
+/// The offset after the convention byte and, of a generic method, the number of its type parameters.
+#[tactic(auto, using(crate::proofs::SignatureLaws::stand), unfolding(crate::specs::Signatures::parameters_at))]
 fn parameters_at(blob: &[u8], generic: bool) -> Result<u32, SigFault>
-    requires { length blob.now ≤ 2147483647 }
-    ensures { result ≡ parameters_at blob.now generic }
+    requires { IsShort blob.now }
+    ensures exact { result ≡ parameters_at blob.now generic }
+    ensures found { IfOk result (λ after. SomeStand (SpellsTypeCount generic) blob.now 1 after) }
+    ensures within { IfErr result (λ fault. offset_of fault ≤ length blob.now) }
 {
     if !generic {
         return Ok(1);
     }
-    let (_, at) = number_at(blob, 1)?;
+    let (_, at) = compressed(blob, 1)?;
     Ok(at)
 }
 
 /// The number of parameters, the result and the parameters.
-#[tactic(auto, unfolding(crate::specs::Signatures::signature_at))]
+#[tactic(auto, using(crate::proofs::SignatureLaws::stand), unfolding(crate::specs::Signatures::signature_at))]
 fn signature_at(blob: &[u8], generic: bool) -> Result<Option<Signature>, SigFault>
-    requires { length blob.now ≤ 2147483647 }
-    ensures { result ≡ signature_at blob.now generic }
+    requires { IsShort blob.now }
+    ensures exact { result ≡ signature_at blob.now generic }
+    ensures found { IfOk result (λ found. IfSome found (λ signature.
+        StandFrom (SpellsTypes generic signature) blob.now 1)) }
+    ensures within { IfErr result (λ fault. offset_of fault ≤ length blob.now) }
 {
     let at = parameters_at(blob, generic)?;
     let Some((count, at)) = count_at(blob, at)? else {
@@ -88,10 +95,14 @@ fn signature_at(blob: &[u8], generic: bool) -> Result<Option<Signature>, SigFaul
 }
 
 /// The types of a method with this convention byte.
-#[tactic(auto, unfolding(crate::specs::Signatures::types_of))]
+#[tactic(auto, using(crate::proofs::SignatureLaws::stand), unfolding(crate::specs::Signatures::types_of))]
 fn types_of(blob: &[u8], convention: u8) -> Result<SigTypes, SigFault>
-    requires { length blob.now ≤ 2147483647 }
-    ensures { result ≡ types_of blob.now convention }
+    requires { IsShort blob.now }
+    ensures exact { result ≡ types_of blob.now convention }
+    ensures default { IfOk result (λ types. IfKnown types (λ _. convention % 16 ≡ 0)) }
+    ensures found { IfOk result (λ types. IfKnown types (λ signature.
+        StandFrom (SpellsTypes (is_generic convention) signature) blob.now 1)) }
+    ensures within { IfErr result (λ fault. offset_of fault ≤ length blob.now) }
 {
     if convention & CONVENTION_MASK != DEFAULT {
         return Ok(SigTypes::Other);
@@ -103,10 +114,13 @@ fn types_of(blob: &[u8], convention: u8) -> Result<SigTypes, SigFault>
 }
 
 /// The convention byte and the types.
-#[tactic(auto, unfolding(crate::specs::Signatures::method_signature))]
+#[tactic(auto, using(crate::proofs::SignatureLaws::stand), unfolding(crate::specs::Signatures::method_signature))]
 fn method_of(blob: &[u8]) -> Result<MethodSig, SigFault>
-    requires { length blob.now ≤ 2147483647 }
-    ensures { result ≡ method_signature blob.now }
+    requires { IsShort blob.now }
+    ensures exact { result ≡ method_signature blob.now }
+    ensures within { IfErr result (λ fault. offset_of fault ≤ length blob.now) }
+    ensures found { IfOk result (λ method. IfKnown method.types (λ signature.
+        Begins (SpellsMethod method.has_this method.generic signature) blob.now)) }
 {
     let [convention, ..] = blob else {
         return Err(SigFault::Short(0));
@@ -127,7 +141,7 @@ fn method_of(blob: &[u8]) -> Result<MethodSig, SigFault>
 /// bytes behind the last type are not read. A convention byte that names no convention is `Form` at 0,
 /// a blob that ends too early `Short` at its end.
 pub fn method_sig(blob: &[u8]) -> Result<MethodSig, SigFault>
-    requires { length blob.now ≤ 2147483647 }
+    requires { IsShort blob.now }
     // What the blob says, or the first fault.
     ensures exact { result ≡ method_signature blob.now }
     // The blob begins with a spelling of the types that are known.
@@ -136,6 +150,8 @@ pub fn method_sig(blob: &[u8]) -> Result<MethodSig, SigFault>
     // A signature whose spelling begins the blob is known.
     ensures only { (this generic : Bool) (signature : Signature) → Begins (SpellsMethod this generic signature) blob.now →
         result ≡ Ok (record { has_this = this; generic = generic; types = SigTypes.Known signature }) }
+    // The first fault is in the blob or at its end.
+    ensures within { IfErr result (λ fault. offset_of fault ≤ length blob.now) }
 {
     method_of(blob)
 }

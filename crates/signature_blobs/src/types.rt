@@ -2,8 +2,12 @@
 //!
 //! Each reader answers None at a type outside the profile.
 
-ghost use Rattle.std.specs.Prelude.{◌≡◌, ◌≤◌, length};
-ghost use Rattle.signature_blobs.specs.Types.{element_at, type_at, result_at, types_at};
+ghost use Rattle.std.specs.Prelude.{◌≡◌, ℕ, ◌≤◌, length, IfErr, IfOk, IfSome, ◌≢◌};
+ghost use Rattle.cil_model.specs.declared.place.Place.TheVariants.{Void};
+ghost use Rattle.cc_base.specs.Slices.{IsShort};
+ghost use Rattle.signature_blobs.specs.Faults.{offset_of};
+ghost use Rattle.signature_blobs.specs.Spelling.{Stands, StandFrom, AreValues, SpellsPlaces, type_bytes};
+ghost use Rattle.signature_blobs.specs.Types.{type_at, result_at, types_at};
 
 use crate::fault::SigFault;
 use crate::number::byte_at;
@@ -22,38 +26,36 @@ const I4: u8 = 0x08;
 /// ELEMENT_TYPE_SZARRAY.
 const SZARRAY: u8 = 0x1d;
 
-/// The array whose element type stands at a place behind SZARRAY, and the place after it.
-#[tactic(auto, unfolding(crate::specs::Types::element_at))]
-fn element_at(blob: &[u8], at: u32) -> Result<Option<(Place, u32)>, SigFault>
-    requires { length blob.now ≤ 2147483647 }
-    ensures { result ≡ element_at blob.now at }
-{
-    match byte_at(blob, at)? {
-        BOOLEAN => Ok(Some((Place::Bools, at + 1))),
-        I4 => Ok(Some((Place::Ints, at + 1))),
-        _ => Ok(None),
-    }
-}
-
-/// The type of a parameter or local at a place, and the place after it.
-#[tactic(auto, unfolding(crate::specs::Types::type_at))]
+/// The type of a parameter or local at an offset, and the offset after it.
+#[tactic(auto, using(crate::proofs::Standing::pair_stands), unfolding(crate::specs::Types::type_at))]
 pub fn type_at(blob: &[u8], at: u32) -> Result<Option<(Place, u32)>, SigFault>
-    requires { length blob.now ≤ 2147483647 }
-    ensures { result ≡ type_at blob.now at }
+    requires { IsShort blob.now }
+    ensures exact { result ≡ type_at blob.now at }
+    ensures within { IfErr result (λ fault. offset_of fault ≤ length blob.now) }
+    ensures value { IfOk result (λ found. IfSome found (λ read. read.0 ≢ Void)) }
+    ensures found { IfOk result (λ found. IfSome found (λ read.
+        Stands (type_bytes read.0) blob.now at read.1)) }
 {
     match byte_at(blob, at)? {
         BOOLEAN => Ok(Some((Place::Bool, at + 1))),
         I4 => Ok(Some((Place::Int, at + 1))),
-        SZARRAY => element_at(blob, at + 1),
+        SZARRAY => match byte_at(blob, at + 1)? {
+            BOOLEAN => Ok(Some((Place::Bools, at + 2))),
+            I4 => Ok(Some((Place::Ints, at + 2))),
+            _ => Ok(None),
+        },
         _ => Ok(None),
     }
 }
 
-/// The type of a result at a place, and the place after it.
+/// The type of a result at an offset, and the offset after it.
 #[tactic(auto, unfolding(crate::specs::Types::result_at))]
 pub fn result_at(blob: &[u8], at: u32) -> Result<Option<(Place, u32)>, SigFault>
-    requires { length blob.now ≤ 2147483647 }
-    ensures { result ≡ result_at blob.now at }
+    requires { IsShort blob.now }
+    ensures exact { result ≡ result_at blob.now at }
+    ensures found { IfOk result (λ found. IfSome found (λ read.
+        Stands (type_bytes read.0) blob.now at read.1)) }
+    ensures within { IfErr result (λ fault. offset_of fault ≤ length blob.now) }
 {
     match byte_at(blob, at)? {
         VOID => Ok(Some((Place::Void, at + 1))),
@@ -61,12 +63,16 @@ pub fn result_at(blob: &[u8], at: u32) -> Result<Option<(Place, u32)>, SigFault>
     }
 }
 
-/// So many types from a place on, one after another.
-#[tactic(auto, using(crate::proofs::Loop::goes_on, crate::proofs::Loop::fails, crate::proofs::Loop::leaves, crate::proofs::Loop::is_done))]
+/// So many types from an offset on, one after another.
+#[tactic(auto, using(crate::proofs::Loop::goes_on, crate::proofs::Loop::fails, crate::proofs::Loop::leaves, crate::proofs::Loop::is_done, crate::proofs::TypeLaws::types))]
 pub fn types_at(blob: &[u8], at: u32, count: u32) -> Result<Option<Places>, SigFault>
-    requires blob { length blob.now ≤ 2147483647 }
+    requires blob { IsShort blob.now }
     requires room { count ≤ 128 }
-    ensures { result ≡ types_at blob.now at count }
+    ensures exact { result ≡ types_at blob.now at count }
+    ensures number { IfOk result (λ found. IfSome found (λ places. length places ≡ count)) }
+    ensures found { IfOk result (λ found. IfSome found (λ places.
+        StandFrom (SpellsPlaces places) blob.now at)) }
+    ensures within { IfErr result (λ fault. offset_of fault ≤ length blob.now) }
 {
     let mut places = Places::new();
     let mut next = at;

@@ -3,8 +3,8 @@ use Rattle.std.proofs.Common.{◌≡◌, ◌++◌, length, drop}
 use Rattle.cc_base.specs.Digits.{hex}
 use Rattle.cc_base.proofs.digits.hex_text.Given as goal
 
-abbrev pub invariant-loop-place : goal.invariant-loop-place
-invariant-loop-place l = record {
+abbrev pub invariant-loop-index : goal.invariant-loop-index
+invariant-loop-index l = record {
   room : length l.text ≡ 8;
-  written : hex l.place l.rest ++ drop l.place l.text ≡ hex l.digits l.n ++ drop l.digits l.initial.text;
+  written : hex l.index l.rest ++ drop l.index l.text ≡ hex l.digits l.n ++ drop l.digits l.initial.text;
 }

@@ -7,7 +7,7 @@ pub returns-in-Some : goal.returns-in-Some
 returns-in-Some c =
     ap Some c.deref-in-Some.ensures.value
     ∙ ap (λ (file : NamedFile). Some file.bytes.items) c.index.ensures
-    ∙ sym (held-found c.args.name.now c.args.self.now.files.items c.deref.result.now c.in-Some.place c.index.result.now
+    ∙ sym (held-found c.args.name.now c.args.self.now.files.items c.deref.result.now c.in-Some.index c.index.result.now
     c.deref.ensures.value c.in-Some.ensures)
 
 pub returns-in-None : goal.returns-in-None

@@ -6,7 +6,7 @@ use Rattle.cc_base.proofs.map_files.MapFiles.hold.Goals as goal
 pub returns-in-Some-clause-ok : goal.returns-in-Some-clause-ok
 returns-in-Some-clause-ok c =
     Replaces-along _ c.args.name.now _ _ c.args.bytes.now c.in_ok-bytes.bytes.items refl c.in_ok-bytes.ensures.items
-    (Replaces-set c.args.name.now c.args.self.now.files.items c.deref.result.now c.in-Some.place
+    (Replaces-set c.args.name.now c.args.self.now.files.items c.deref.result.now c.in-Some.index
     c.index_mut.result.now (record { name = c.index_mut.result.now.name; bytes = c.in_ok-bytes.bytes })
     c.deref.ensures.value c.in-Some.ensures c.index_mut.ensures.value refl)
 
