@@ -1,11 +1,11 @@
 -- The opcodes' rows are the spellings: each row spells its operation, and each spelling has a row.
-use Rattle.std.proofs.Common.{◌≡◌, ℕ, zero, suc, ◌+◌, ◌-◌, ◌^◌, ◌<◌, ◌≤◌, ℤ, pos, ◌-ℤ◌, Fits, FitsSigned, List, [], ◌∷◌, ◌++◌, Option, Some, None, ◌&&◌, false, cond, eqb, leb, refl, sym, ap, ◌∙◌, arith, ◌⊎◌, inl, inr}
+use Rattle.std.proofs.Common.{◌≡◌, ℕ, zero, suc, ◌+◌, ◌-◌, ◌^◌, ◌<◌, ◌≤◌, ℤ, pos, ◌-ℤ◌, Fits, List, [], ◌∷◌, ◌++◌, Option, Some, None, ◌&&◌, cond, eqb, leb, refl, sym, ap, ◌∙◌, arith, ◌⊎◌, inl, inr}
 use Rattle.std.specs.Int.{w8, w32, cast_signed, cast_unsigned}
 use Rattle.std.proofs.lemmas.Bool.{cond_both, eqb-true, leb-true, and_parts, cases_eq}
 use Rattle.std.proofs.lemmas.Int.{to_z-of_z, of_z-to_z, ints}
 use Rattle.std.proofs.Math.Facts.{Fits-of_z, sfits_to_z}
 use Rattle.byteorder.specs.Endian.{little_bytes}
-use Rattle.cil_model.specs.Opcodes.{Form, alone, short_form, long_form}
+use Rattle.cil_model.specs.Opcodes.{Form, short_form, long_form}
 use Rattle.cil_model.specs.Spells.{SpellsLoadArg, SpellsConst, SpellsBin, SpellsOp}
 use Rattle.cil_model.specs.declared.instruction.BinOp.{BinOp}
 use Rattle.cil_model.specs.declared.instruction.BinOp.TheVariants as operators

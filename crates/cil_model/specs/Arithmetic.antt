@@ -1,5 +1,5 @@
 -- What the operators give of int32 numbers, and when they fault (ECMA-335 III.3).
-use Rattle.std.specs.Prelude.{ℕ, ◌^◌, ◌/◌, ◌%◌, ◌*◌, ◌==◌, ◌&&◌, ℤ, pos, negsuc, ◌+ℤ◌, ◌-ℤ◌, ◌*ℤ◌, neg_ℤ, Bool, not, nat_lt, int_lt, int_le, int_div, int_rem, unsigned_abs, Result, Ok, Err, if◌then◌else◌}
+use Rattle.std.specs.Prelude.{ℕ, ◌^◌, ◌/◌, ◌%◌, ◌&&◌, ℤ, pos, negsuc, ◌+ℤ◌, ◌-ℤ◌, ◌*ℤ◌, neg_ℤ, Bool, not, nat_lt, int_lt, int_le, int_div, int_rem, unsigned_abs, Result, Ok, Err, if◌then◌else◌}
 use Rattle.std.specs.Ordering.{int_eq}
 use Rattle.std.specs.Int.{w32, cast_unsigned, cast_signed, int_bit_and, int_bit_or, int_bit_xor, int_shr}
 use Rattle.cc_base.specs.Wrap.{wrap32}
@@ -23,13 +23,13 @@ abbrev pub unsigned : ℤ → ℕ
 unsigned n = cast_unsigned w32 n
 
 abbrev pub signed : ℕ → ℤ
-signed n = cast_signed w32 (n % 2 ^ 32)
+signed n = cast_signed w32 n
 
 -- A result, or the overflow where it is no int32.
 abbrev pub exact : ℤ → Result ℤ FaultKind
 exact n = if int_le LEAST n && int_le n GREATEST then Ok n else Err Overflow
 
--- A division by b, of which this is the outcome: it faults for 0, and for the one quotient of 2^31.
+-- A division of a by b with this outcome: it faults for 0, and for the one quotient of 2^31.
 abbrev pub divided : ℤ → ℤ → ℤ → Result ℤ FaultKind
 divided a b outcome =
     if int_eq b (pos 0) then Err DivZero
@@ -41,8 +41,8 @@ abbrev pub divided_unsigned : ℤ → ℕ → Result ℤ FaultKind
 divided_unsigned b outcome = if int_eq b (pos 0) then Err DivZero else Ok (signed outcome)
 
 -- A shift, whose amount has to be one of 0 to 31.
-abbrev pub shifted : ℤ → ℤ → Result ℤ FaultKind
-shifted amount outcome = if int_le (pos 0) amount && int_lt amount (pos 32) then Ok outcome else Err Shift
+abbrev pub shifted : ℤ → (ℕ → ℤ) → Result ℤ FaultKind
+shifted amount by = if int_le (pos 0) amount && int_lt amount (pos 32) then Ok (by (unsigned_abs amount)) else Err Shift
 
 -- The comparisons of numbers (III.1.5 and III.4). Those without a sign take both numbers as unsigned.
 abbrev pub compares : CmpOp → ℤ → ℤ → Bool
@@ -73,9 +73,9 @@ operated operators.RemUn a b = divided_unsigned b (unsigned a % unsigned b)
 operated operators.And a b = Ok (int_bit_and w32 a b)
 operated operators.Or a b = Ok (int_bit_or w32 a b)
 operated operators.Xor a b = Ok (int_bit_xor w32 a b)
-operated operators.Shl a b = shifted b (wrap32 (a *ℤ pos (2 ^ unsigned_abs b)))
-operated operators.Shr a b = shifted b (int_shr a (unsigned_abs b))
-operated operators.ShrUn a b = shifted b (signed (unsigned a / 2 ^ unsigned_abs b))
+operated operators.Shl a b = shifted b (λ n. wrap32 (a *ℤ pos (2 ^ n)))
+operated operators.Shr a b = shifted b (λ n. int_shr a n)
+operated operators.ShrUn a b = shifted b (λ n. signed (unsigned a / 2 ^ n))
 operated operators.AddOvf a b = exact (a +ℤ b)
 operated operators.MulOvf a b = exact (a *ℤ b)
 operated operators.SubOvf a b = exact (a -ℤ b)
@@ -88,4 +88,4 @@ operated operators.CltUn a b = Ok (truth (compares comparisons.LtUn a b))
 -- What an operator gives of one int32.
 abbrev pub operated_one : UnOp → ℤ → ℤ
 operated_one unary.Neg a = wrap32 (neg_ℤ a)
-operated_one unary.Not a = wrap32 (neg_ℤ a -ℤ pos 1)
+operated_one unary.Not a = negsuc 0 -ℤ a

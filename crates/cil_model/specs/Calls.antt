@@ -1,11 +1,9 @@
 -- Calls and returns: contracts are tested there, and frames begin and end (ECMA-335 III.3.19 and III.3.57).
-use Rattle.std.specs.Prelude.{◌≡◌, ◌≢◌, ◌⊎◌, ℕ, ◌+◌, ◌<◌, ◌≤◌, Bool, true, List, [], ◌∷◌, ◌++◌, length, map, reverse, take, drop, Option, Some, None, option_map, Any, slice_get, slice_index_or, nat_le, if◌then◌else◌}
+use Rattle.std.specs.Prelude.{◌≡◌, ◌⊎◌, ℕ, ◌+◌, ◌<◌, ◌≤◌, List, [], ◌∷◌, ◌++◌, length, map, reverse, take, drop, Option, Some, None, option_map, Contains, slice_get}
 use Rattle.std.specs.Option.{option_and_then}
-use Rattle.cil_model.specs.Clauses.{Reading, false_requires, false_ensures}
-use Rattle.cil_model.specs.Values.{Heap, IsHeap, put, put_all, zero_of, FitsPlace}
-use Rattle.cil_model.specs.declared.clause.Clause.{Clause}
+use Rattle.cil_model.specs.Clauses.{false_requires, false_ensures}
+use Rattle.cil_model.specs.Values.{Heap, IsHeap, KeepsForms, put, put_all, zero_of, FitsPlace}
 use Rattle.cil_model.specs.declared.instruction.Instr.{Instr}
-use Rattle.cil_model.specs.declared.machine.ArrayCell.{ArrayCell}
 use Rattle.cil_model.specs.declared.machine.Config.{Config}
 use Rattle.cil_model.specs.declared.machine.Config.TheVariants as configs
 use Rattle.cil_model.specs.declared.machine.FaultKind.TheVariants as faults
@@ -73,7 +71,7 @@ pub record WorldCall (w : World) (callers : List Frame) (number : ℕ) (i : Inst
 
 -- The value is an array that was passed or is new, or no array.
 abbrev pub IsPassedOrNew : Heap → List Value → Option Value → Type 0
-IsPassedOrNew heap args (Some (values.Array a)) = Any (λ arg. arg ≡ values.Array a) args ⊎ (length heap ≤ a)
+IsPassedOrNew heap args (Some (values.Array a)) = Contains args (values.Array a) ⊎ (length heap ≤ a)
 IsPassedOrNew heap args _ = Unit {0}
 
 -- The result of a call is a value of its place, none where it is void.
@@ -83,10 +81,10 @@ FitsResult heap places.Void (Some value) = ⊥
 FitsResult heap place None = ⊥
 FitsResult heap place (Some value) = FitsPlace heap place value
 
--- Each earlier array keeps its place and its length, and its items too unless it was passed.
+-- Each earlier array keeps its type and its length, and its items too unless it was passed.
 pub record KeepsArrays (old new : Heap) (args : List Value) : Type 0 where
-  pub there : (a : ℕ) (cell : ArrayCell) → slice_get old a ≡ Some cell → (kept : ArrayCell) × (slice_get new a ≡ Some kept) × (kept.place ≡ cell.place) × (length kept.items ≡ length cell.items)
-  pub items : (a : ℕ) → a < length old → (Any (λ arg. arg ≡ values.Array a) args → ⊥) → slice_get new a ≡ slice_get old a
+  pub forms : KeepsForms old new
+  pub items : (a : ℕ) → a < length old → ¬ Contains args (values.Array a) → slice_get new a ≡ slice_get old a
 
 -- What a call may give that is free to do all that its callee's Ensures allow.
 pub record FreeReturn (callee : CalleeInfo) (args : List Value) (heap new : Heap) (result : Option Value) : Type 0 where
@@ -116,13 +114,9 @@ pub record FreeCall (unit : MethodUnit) (number : ℕ) (i : Instr) (f : Frame) (
 
 -- What a return takes from the stack, as it is put into the result: a value of its form, or none where the
 -- result is void. Nothing else may stand there.
-abbrev pub some_result : Option Value → Option (Option Value)
-some_result None = None
-some_result (Some value) = Some (Some value)
-
 abbrev pub result_of : Heap → Place → List Value → Option (Option Value)
 result_of heap places.Void [] = Some None
-result_of heap place (value ∷ []) = some_result (put heap place value)
+result_of heap place (value ∷ []) = option_map Some (put heap place value)
 result_of heap place _ = None
 
 -- A result goes to the caller, or it is the end of the run.

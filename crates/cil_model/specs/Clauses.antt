@@ -1,10 +1,10 @@
 -- What the clauses of contracts are worth. A parameter means its value at entry; an element outside OldValue
 -- is read in the arrays at the method's end, and inside OldValue in those at its entry.
-use Rattle.std.specs.Prelude.{◌≡◌, ℕ, suc, ◌+◌, ◌<◌, ◌≤◌, ℤ, pos, Bool, true, false, not, ◌&&◌, List, [], ◌∷◌, length, filter, Option, Some, None, option_map, Result, Ok, Err, if◌then◌else◌, int_lt, int_le, unsigned_abs, slice_get}
+use Rattle.std.specs.Prelude.{ℕ, ◌+◌, ℤ, pos, Bool, true, false, not, ◌&&◌, List, [], ◌∷◌, length, filter, Option, Some, None, option_map, Result, Ok, Err, if◌then◌else◌, int_le, unsigned_abs, slice_get}
 use Rattle.std.specs.Ordering.{int_eq}
 use Rattle.std.specs.Option.{option_and_then}
-use Rattle.cil_model.specs.Arithmetic.{operated, operated_one, truth}
-use Rattle.cil_model.specs.Comparisons.{pushed_comparison, comparison_of, is_true}
+use Rattle.cil_model.specs.Arithmetic.{operated, operated_one}
+use Rattle.cil_model.specs.Comparisons.{comparison_value, comparison_of, is_true}
 use Rattle.cil_model.specs.Values.{Heap, same_place}
 use Rattle.cil_model.specs.declared.clause.Clause.{Clause}
 use Rattle.cil_model.specs.declared.clause.ClauseKind.{ClauseKind}
@@ -42,7 +42,7 @@ arithmetic_value operator _ _ = None
 
 abbrev pub binary_by : BinOp → Option CmpOp → Value → Value → Option Value
 binary_by operator None a b = arithmetic_value operator a b
-binary_by operator (Some op) a b = option_map (λ holds. Int (truth holds)) (pushed_comparison op a b)
+binary_by operator (Some op) a b = comparison_value op a b
 
 -- What an operator gives of two values, where it does not fault.
 abbrev pub binary_value : BinOp → Value → Value → Option Value
@@ -57,10 +57,10 @@ abbrev pub length_value : Heap → Value → Option Value
 length_value heap (Array a) = option_map (λ cell. Int (pos (length cell.items))) (slice_get heap a)
 length_value heap _ = None
 
--- The item at an index of an array, where the array is one of the place and has it.
+-- The item at an index of an array, where the array is of this type and has the item.
 abbrev pub item_in : Place → ℤ → ArrayCell → Option Value
 item_in place n cell =
-    if same_place cell.place place && int_le (pos 0) n then option_map (λ item. Int item) (slice_get cell.items (unsigned_abs n)) else None
+    if same_place cell.place place && int_le (pos 0) n then option_map Int (slice_get cell.items (unsigned_abs n)) else None
 
 abbrev pub element_value : Heap → Place → Value → Value → Option Value
 element_value heap place (Array a) (Int n) = option_and_then (item_in place n) (slice_get heap a)

@@ -1,7 +1,7 @@
 -- Comparisons of values, and what is taken for true (ECMA-335 III.1.5, III.3.17 and III.3.18).
-use Rattle.std.specs.Prelude.{ℕ, ◌==◌, ℤ, pos, Bool, true, false, not, Option, Some, None, option_map, if◌then◌else◌}
+use Rattle.std.specs.Prelude.{ℕ, ◌==◌, ℤ, pos, Bool, true, false, not, Option, Some, None, option_map}
 use Rattle.std.specs.Ordering.{int_eq}
-use Rattle.cil_model.specs.Arithmetic.{compares}
+use Rattle.cil_model.specs.Arithmetic.{compares, truth}
 use Rattle.cil_model.specs.declared.instruction.BinOp.{BinOp}
 use Rattle.cil_model.specs.declared.instruction.BinOp.TheVariants as operators
 use Rattle.cil_model.specs.declared.instruction.CmpOp.{CmpOp}
@@ -26,7 +26,7 @@ same_reference None None = true
 same_reference (Some i) (Some j) = i == j
 same_reference _ _ = false
 
--- Two references are compared for equality alone.
+-- Two references are compared for equality alone. Typing lets arrays of one type meet here, or null.
 abbrev pub compares_references : CmpOp → Option ℕ → Option ℕ → Option Bool
 compares_references comparisons.Eq a b = Some (same_reference a b)
 compares_references comparisons.NeUn a b = Some (not (same_reference a b))
@@ -41,11 +41,15 @@ compares_parts op a b r q = None
 abbrev pub compares_values : CmpOp → Value → Value → Option Bool
 compares_values op a b = compares_parts op (number_of a) (number_of b) (reference_of a) (reference_of b)
 
--- A comparison whose outcome is pushed. Here a reference is above null where it is not null.
+-- The same, where the outcome is pushed and not branched on. Here an array is above null.
 abbrev pub pushed_comparison : CmpOp → Value → Value → Option Bool
 pushed_comparison comparisons.GtUn (values.Array i) values.Null = Some true
 pushed_comparison comparisons.GtUn values.Null values.Null = Some false
 pushed_comparison op a b = compares_values op a b
+
+-- The number that is pushed.
+abbrev pub comparison_value : CmpOp → Value → Value → Option Value
+comparison_value op a b = option_map (λ holds. values.Int (truth holds)) (pushed_comparison op a b)
 
 -- The comparison that an operator is.
 abbrev pub comparison_of : BinOp → Option CmpOp

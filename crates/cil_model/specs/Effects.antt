@@ -1,11 +1,11 @@
 -- What an instruction does to its own frame: one row for each, except calls of methods and returns.
 -- The first value of a stack is its top. An instruction that finds no row is undefined (ECMA-335 III.3, III.4).
-use Rattle.std.specs.Prelude.{◌≡◌, ℕ, ◌+◌, ◌-◌, ℤ, pos, Bool, true, false, not, option_map, List, [], ◌∷◌, ◌++◌, length, replicate, Option, Some, None, Result, Ok, Err, if◌then◌else◌, int_lt, int_le, unsigned_abs, slice_get, slice_set, ◌⊎◌}
+use Rattle.std.specs.Prelude.{◌≡◌, ℕ, ◌+◌, ℤ, pos, Bool, true, false, not, option_map, List, [], ◌∷◌, ◌++◌, length, replicate, Option, Some, None, Result, Ok, Err, if◌then◌else◌, int_lt, int_le, unsigned_abs, slice_get, slice_set, ◌⊎◌}
 use Rattle.std.specs.Ordering.{int_eq}
 use Rattle.std.specs.Int.{int_rem_euclid}
 use Rattle.std.specs.Option.{option_and_then}
-use Rattle.cil_model.specs.Arithmetic.{unsigned, operated, operated_one, truth}
-use Rattle.cil_model.specs.Comparisons.{number_of, compares_values, pushed_comparison, comparison_of, is_true}
+use Rattle.cil_model.specs.Arithmetic.{unsigned, operated, operated_one}
+use Rattle.cil_model.specs.Comparisons.{number_of, compares_values, comparison_value, comparison_of, is_true}
 use Rattle.cil_model.specs.UnitCalls.{unit_call, array_place}
 use Rattle.cil_model.specs.Values.{Heap, same_place, put}
 use Rattle.cil_model.specs.declared.instruction.UnOp.{UnOp}
@@ -63,14 +63,10 @@ branches target i f heap rest (Some false) = goes_on i f heap rest
 
 -- ---- moves
 
--- A value is stored to an argument or a local, of which there are these.
-abbrev pub stored : List Value → ℕ → Option Value → Option (List Value)
-stored values n None = None
-stored values n (Some value) = Some (slice_set values n value)
-
--- A value as it is put into the place of this number among some.
-abbrev pub put_at : Heap → List Place → ℕ → Value → Option Value
-put_at heap places n value = option_and_then (λ place. put heap place value) (slice_get places n)
+-- The variables with the value put into the one of this number, where they have these places.
+abbrev pub stored : Heap → List Place → ℕ → Value → List Value → Option (List Value)
+stored heap places n value variables =
+    option_map (λ new. slice_set variables n new) (option_and_then (λ place. put heap place value) (slice_get places n))
 
 abbrev pub with_args : Instr → Frame → Heap → List Value → Option (List Value) → List Effect
 with_args i f heap rest None = []
@@ -81,11 +77,11 @@ with_locals i f heap rest None = []
 with_locals i f heap rest (Some locals) = goes_on i (record f { locals = locals }) heap rest
 
 abbrev pub stores_arg : MethodUnit → ℕ → Instr → Frame → Heap → List Value → List Effect
-stores_arg unit n i f heap (value ∷ rest) = with_args i f heap rest (stored f.args n (put_at heap unit.args n value))
+stores_arg unit n i f heap (value ∷ rest) = with_args i f heap rest (stored heap unit.args n value f.args)
 stores_arg unit n i f heap [] = []
 
 abbrev pub stores_local : MethodUnit → ℕ → Instr → Frame → Heap → List Value → List Effect
-stores_local unit n i f heap (value ∷ rest) = with_locals i f heap rest (stored f.locals n (put_at heap unit.locals n value))
+stores_local unit n i f heap (value ∷ rest) = with_locals i f heap rest (stored heap unit.locals n value f.locals)
 stores_local unit n i f heap [] = []
 
 abbrev pub duplicates : Instr → Frame → Heap → List Value → List Effect
@@ -107,13 +103,9 @@ abbrev pub arithmetic : BinOp → Instr → Frame → Heap → List Value → Li
 arithmetic operator i f heap (Int b ∷ Int a ∷ rest) = gives i f heap rest (operated operator a b)
 arithmetic operator i f heap _ = []
 
-abbrev pub pushes_truth : Instr → Frame → Heap → List Value → Option Bool → List Effect
-pushes_truth i f heap rest None = []
-pushes_truth i f heap rest (Some holds) = goes_on i f heap (Int (truth holds) ∷ rest)
-
 -- A comparison of two values.
 abbrev pub comparison : CmpOp → Instr → Frame → Heap → List Value → List Effect
-comparison op i f heap (b ∷ a ∷ rest) = pushes_truth i f heap rest (pushed_comparison op a b)
+comparison op i f heap (b ∷ a ∷ rest) = pushes i f heap rest (comparison_value op a b)
 comparison op i f heap _ = []
 
 abbrev pub binary : BinOp → Option CmpOp → Instr → Frame → Heap → List Value → List Effect
@@ -167,13 +159,9 @@ abbrev pub new_array : Option Place → Instr → Frame → Heap → List Value 
 new_array place i f heap (value ∷ rest) = makes_number place (number_of value) i f heap rest
 new_array place i f heap [] = []
 
-abbrev pub measures : Instr → Frame → Heap → List Value → Option ArrayCell → List Effect
-measures i f heap rest None = []
-measures i f heap rest (Some cell) = goes_on i f heap (Native (length cell.items) ∷ rest)
-
 abbrev pub array_length : Instr → Frame → Heap → List Value → List Effect
 array_length i f heap (Null ∷ rest) = Faults faults.NullUse ∷ []
-array_length i f heap (Array a ∷ rest) = measures i f heap rest (slice_get heap a)
+array_length i f heap (Array a ∷ rest) = pushes i f heap rest (option_map (λ cell. Native (length cell.items)) (slice_get heap a))
 array_length i f heap _ = []
 
 -- What is done at an index of an array, where it has the item.
@@ -183,29 +171,25 @@ at_index cell n done =
     else if int_le (pos (length cell.items)) n then Faults faults.Upper ∷ []
     else done
 
--- What is done with an array of this place: one of another place has no row.
+-- What is done with an array of this type: one of another type has no row.
 abbrev pub of_place : Place → Option ArrayCell → (ArrayCell → List Effect) → List Effect
 of_place place None done = []
 of_place place (Some cell) done = if same_place cell.place place then done cell else []
 
-abbrev pub item_at : ArrayCell → ℤ → Option ℤ
-item_at cell n = slice_get cell.items (unsigned_abs n)
-
-abbrev pub pushes_item : Instr → Frame → Heap → List Value → Option ℤ → List Effect
-pushes_item i f heap rest None = []
-pushes_item i f heap rest (Some n) = goes_on i f heap (Int n ∷ rest)
+abbrev pub item_value : ArrayCell → ℤ → Option Value
+item_value cell n = option_map Int (slice_get cell.items (unsigned_abs n))
 
 abbrev pub loads : Place → Instr → Frame → Heap → List Value → List Effect
 loads place i f heap (Int n ∷ Null ∷ rest) = Faults faults.NullUse ∷ []
 loads place i f heap (Int n ∷ Array a ∷ rest) =
-    of_place place (slice_get heap a) (λ cell. at_index cell n (pushes_item i f heap rest (item_at cell n)))
+    of_place place (slice_get heap a) (λ cell. at_index cell n (pushes i f heap rest (item_value cell n)))
 loads place i f heap _ = []
 
 -- The heap with one item of an array replaced.
 abbrev pub with_item : Heap → ℕ → ArrayCell → ℕ → ℤ → Heap
 with_item heap a cell n item = slice_set heap a (record cell { items = slice_set cell.items n item })
 
--- A number as it is stored in an array of this place.
+-- A number as it is stored in an array of this type.
 abbrev pub item_of : Place → ℤ → ℤ
 item_of places.Bools n = int_rem_euclid n (pos 256)
 item_of _ n = n

@@ -1,11 +1,9 @@
--- The kinds of values on the stack before each instruction: passes over the code, until nothing changes
--- (ECMA-335 III.1.5, III.1.7.5 and III.1.8.1.3). The first kind of a stack is its top.
-use Rattle.std.specs.Prelude.{◌≡◌, ℕ, zero, suc, ◌+◌, ◌==◌, Bool, true, false, ◌&&◌, ◌||◌, not, nat_lt, List, [], ◌∷◌, ◌++◌, length, map, reverse, take, drop, Option, Some, None, is_some, Result, Ok, Err, if◌then◌else◌, slice_get}
-use Rattle.std.specs.Option.{option_map_or, option_or}
+-- The kinds of values on the stack, and what an instruction does to them (ECMA-335 III.1.5 and III.1.8). The
+-- first kind of a stack is its top.
+use Rattle.std.specs.Prelude.{ℕ, ◌+◌, Bool, true, false, ◌&&◌, ◌||◌, nat_lt, List, [], ◌∷◌, length, reverse, take, drop, Option, Some, None, option_map, Result, Ok, Err, if◌then◌else◌, slice_get}
+use Rattle.std.specs.Option.{option_map_or, option_and_then}
 use Rattle.cil_model.specs.Comparisons.{comparison_of}
-use Rattle.cil_model.specs.Shapes.{ShapeOf}
 use Rattle.cil_model.specs.UnitCalls.{unit_call, array_place}
-use Rattle.cil_model.specs.declared.instruction.BinOp.{BinOp}
 use Rattle.cil_model.specs.declared.instruction.CmpOp.{CmpOp}
 use Rattle.cil_model.specs.declared.instruction.CmpOp.TheVariants as comparisons
 use Rattle.cil_model.specs.declared.instruction.Instr.{Instr}
@@ -17,8 +15,9 @@ use Rattle.cil_model.specs.declared.place.Kind.{Kind}
 use Rattle.cil_model.specs.declared.place.Kind.TheVariants.{Int, Native, Ints, Bools, NullRef, Text}
 use Rattle.cil_model.specs.declared.place.Place.{Place}
 use Rattle.cil_model.specs.declared.place.Place.TheVariants as places
+use Rattle.cil_model.specs.declared.shape.Shape.{Shape}
 use Rattle.cil_model.specs.declared.type_fault.TypeFault.{TypeFault}
-use Rattle.cil_model.specs.declared.type_fault.TypeFault.TheVariants.{Underflow, Conflict, WrongKind, FallsOff, Deep}
+use Rattle.cil_model.specs.declared.type_fault.TypeFault.TheVariants.{Underflow, WrongKind, Deep}
 use Rattle.cil_model.specs.declared.unit.CalleeInfo.{CalleeInfo}
 use Rattle.cil_model.specs.declared.unit_numbers.UnitCall.{UnitCall}
 use Rattle.cil_model.specs.declared.unit_numbers.UnitCall.TheVariants as calls
@@ -53,15 +52,22 @@ is_number Int = true
 is_number Native = true
 is_number _ = false
 
--- Arrays of one kind, or one of them null.
+abbrev pub is_reference : Kind → Bool
+is_reference Ints = true
+is_reference Bools = true
+is_reference NullRef = true
+is_reference _ = false
+
+-- An array of this type may be of the kind, or null.
+abbrev pub is_array_of : Place → Kind → Bool
+is_array_of place kind = is_reference kind && takes place kind
+
+-- References to arrays of one type, or one of them null.
 abbrev pub are_comparable : Kind → Kind → Bool
 are_comparable Ints Ints = true
 are_comparable Bools Bools = true
-are_comparable NullRef NullRef = true
-are_comparable Ints NullRef = true
-are_comparable Bools NullRef = true
-are_comparable NullRef Ints = true
-are_comparable NullRef Bools = true
+are_comparable NullRef other = is_reference other
+are_comparable other NullRef = is_reference other
 are_comparable _ _ = false
 
 abbrev pub is_equality : CmpOp → Bool
@@ -75,13 +81,12 @@ compares_kinds op a b = (is_number a && is_number b) || (is_equality op && are_c
 
 -- An instruction may push such a comparison. It may also ask whether a reference is above the null constant.
 abbrev pub pushes_comparison : CmpOp → Kind → Kind → Bool
-pushes_comparison comparisons.GtUn a NullRef = are_comparable a NullRef
+pushes_comparison comparisons.GtUn a NullRef = is_reference a
 pushes_comparison op a b = compares_kinds op a b
 
--- A branch may test a value of the kind: a number or a reference.
+-- A value of the kind may be tested: a number or a reference.
 abbrev pub is_tested : Kind → Bool
-is_tested Text = false
-is_tested _ = true
+is_tested kind = is_number kind || is_reference kind
 
 -- ---- one instruction
 
@@ -95,7 +100,7 @@ result_count _ = 1
 abbrev pub param_count : Option CalleeInfo → ℕ
 param_count callee = option_map_or (λ info. length info.args) callee 0
 
-abbrev pub call_operands : ShapeOf → Option UnitCall → ℕ
+abbrev pub call_operands : Shape → Option UnitCall → ℕ
 call_operands shape (Some (calls.Requires message)) = 1 + one_if message
 call_operands shape (Some (calls.Ensures message)) = 1 + one_if message
 call_operands shape (Some (calls.Assert message)) = 1 + one_if message
@@ -110,7 +115,7 @@ test_operands (tests.Cmp op) = 2
 test_operands _ = 1
 
 -- How many values an operation takes from the stack.
-abbrev pub operand_count : ShapeOf → Op → ℕ
+abbrev pub operand_count : Shape → Op → ℕ
 operand_count shape (ops.StoreArg n) = 1
 operand_count shape (ops.StoreLocal n) = 1
 operand_count shape ops.Dup = 1
@@ -138,10 +143,9 @@ abbrev pub pushed_kind : Option Kind → List Kind → List Kind
 pushed_kind None stack = stack
 pushed_kind (Some kind) stack = kind ∷ stack
 
--- A place that is there.
+-- The kind of a variable that is there.
 abbrev pub loaded : Option Place → List Kind → Option (List Kind)
-loaded None stack = None
-loaded (Some place) stack = Some (pushed_kind (kind_of place) stack)
+loaded place stack = option_map (λ kind. kind ∷ stack) (option_and_then kind_of place)
 
 abbrev pub stored_kind : Option Place → List Kind → Option (List Kind)
 stored_kind (Some place) (kind ∷ rest) = when (takes place kind) rest
@@ -161,7 +165,7 @@ abbrev pub behind_old : Place → List Kind → Option (List Kind)
 behind_old place (kind ∷ rest) = when (takes place kind) (pushed_kind (kind_of place) rest)
 behind_old place [] = None
 
-abbrev pub behind_call : ShapeOf → Option UnitCall → List Kind → Option (List Kind)
+abbrev pub behind_call : Shape → Option UnitCall → List Kind → Option (List Kind)
 behind_call shape None stack = None
 behind_call shape (Some (calls.Requires message)) stack = behind_condition message stack
 behind_call shape (Some (calls.Ensures message)) stack = behind_condition message stack
@@ -214,15 +218,15 @@ behind_new_array (Some place) (kind ∷ rest) = when (is_number kind) (pushed_ki
 behind_new_array _ _ = None
 
 abbrev pub behind_length : List Kind → Option (List Kind)
-behind_length (kind ∷ rest) = when (are_comparable kind NullRef) (Native ∷ rest)
+behind_length (kind ∷ rest) = when (is_reference kind) (Native ∷ rest)
 behind_length [] = None
 
 abbrev pub behind_load : Place → List Kind → Option (List Kind)
-behind_load place (Int ∷ array ∷ rest) = when (takes place array) (Int ∷ rest)
+behind_load place (Int ∷ array ∷ rest) = when (is_array_of place array) (Int ∷ rest)
 behind_load place _ = None
 
 abbrev pub behind_store : Place → List Kind → Option (List Kind)
-behind_store place (Int ∷ Int ∷ array ∷ rest) = when (takes place array) rest
+behind_store place (Int ∷ Int ∷ array ∷ rest) = when (is_array_of place array) rest
 behind_store place _ = None
 
 abbrev pub duplicated : List Kind → Option (List Kind)
@@ -234,7 +238,7 @@ popped (kind ∷ rest) = Some rest
 popped [] = None
 
 -- The stack behind an operation, where it finds operands of kinds that it takes.
-abbrev pub behind : ShapeOf → Op → List Kind → Option (List Kind)
+abbrev pub behind : Shape → Op → List Kind → Option (List Kind)
 behind shape ops.Nop stack = Some stack
 behind shape (ops.LoadArg n) stack = loaded (slice_get shape.args n) stack
 behind shape (ops.StoreArg n) stack = stored_kind (slice_get shape.args n) stack
@@ -259,147 +263,13 @@ behind shape (ops.LoadElem place) stack = behind_load place stack
 behind shape (ops.StoreElem place) stack = behind_store place stack
 
 -- The stack behind an instruction, within its size.
-abbrev pub within_size : ShapeOf → ℕ → Option (List Kind) → Result (List Kind) TypeFault
+abbrev pub within_size : Shape → ℕ → Option (List Kind) → Result (List Kind) TypeFault
 within_size shape at None = Err (WrongKind at)
 within_size shape at (Some stack) = if nat_lt shape.max_stack (length stack) then Err (Deep at) else Ok stack
 
 -- The stack behind an instruction, or its fault: first that an operand is missing, then that one has a wrong
 -- kind, and last that the stack is too deep.
-abbrev pub typed : ShapeOf → Instr → List Kind → Result (List Kind) TypeFault
+abbrev pub typed : Shape → Instr → List Kind → Result (List Kind) TypeFault
 typed shape i stack =
     if nat_lt (length stack) (operand_count shape i.op) then Err (Underflow i.at)
     else within_size shape i.at (behind shape i.op stack)
-
--- ---- where it goes on
-
--- The IL offsets to which an operation goes on, where the next instruction stands at this one.
-abbrev pub successors : Op → ℕ → List ℕ
-successors ops.Return next = []
-successors (ops.Branch tests.Always target) next = target ∷ []
-successors (ops.Branch test target) next = target ∷ next ∷ []
-successors (ops.Switch targets) next = targets ++ next ∷ []
-successors _ next = next ∷ []
-
-abbrev pub goes_behind : Op → Bool
-goes_behind ops.Return = false
-goes_behind (ops.Branch tests.Always target) = false
-goes_behind _ = true
-
-abbrev pub begins_at : List Instr → ℕ → Bool
-begins_at [] at = false
-begins_at (i ∷ is) at = (i.at == at) || begins_at is at
-
--- ---- merging
-
--- A kind that both are: null is merged into an array.
-abbrev pub merged_kind : Kind → Kind → Option Kind
-merged_kind Int Int = Some Int
-merged_kind Native Native = Some Native
-merged_kind Ints Ints = Some Ints
-merged_kind Bools Bools = Some Bools
-merged_kind NullRef NullRef = Some NullRef
-merged_kind Text Text = Some Text
-merged_kind Ints NullRef = Some Ints
-merged_kind NullRef Ints = Some Ints
-merged_kind Bools NullRef = Some Bools
-merged_kind NullRef Bools = Some Bools
-merged_kind _ _ = None
-
-abbrev pub with_kind : Option Kind → Option (List Kind) → Option (List Kind)
-with_kind (Some kind) (Some kinds) = Some (kind ∷ kinds)
-with_kind _ _ = None
-
-abbrev pub merged : List Kind → List Kind → Option (List Kind)
-merged [] [] = Some []
-merged (a ∷ others) (b ∷ more) = with_kind (merged_kind a b) (merged others more)
-merged _ _ = None
-
--- For each instruction the stack before it, or none where it was not reached.
-abbrev pub Stacks : Type 0
-Stacks = List (Option (List Kind))
-
--- A stack that comes to an instruction, beside what came before.
-abbrev pub arrived : Option (List Kind) → List Kind → Option (List Kind)
-arrived None stack = Some stack
-arrived (Some before) stack = merged before stack
-
--- The stack before the instruction at an IL offset.
-abbrev pub stack_at : List Instr → Stacks → ℕ → Option (List Kind)
-stack_at (i ∷ is) (stack ∷ stacks) at = if i.at == at then stack else stack_at is stacks at
-stack_at _ _ at = None
-
--- The stack comes to the instruction at the IL offset.
-abbrev pub come_to : List Instr → Stacks → ℕ → List Kind → Stacks
-come_to (i ∷ is) (before ∷ stacks) at stack =
-    if i.at == at then option_or (arrived before stack) before ∷ stacks else before ∷ come_to is stacks at stack
-come_to _ stacks at stack = stacks
-
--- The stack does not merge with the one before the instruction at the IL offset.
-abbrev pub conflicts : List Instr → Stacks → List Kind → ℕ → Bool
-conflicts is stacks stack at = not (is_some (arrived (stack_at is stacks at) stack))
-
--- The lowest of the IL offsets where it does not merge, if there is one.
-abbrev pub lower_of : Option ℕ → ℕ → ℕ
-lower_of None at = at
-lower_of (Some other) at = if nat_lt other at then other else at
-
-abbrev pub lowest_conflict : List Instr → Stacks → List Kind → List ℕ → Option ℕ
-lowest_conflict is stacks stack [] = None
-lowest_conflict is stacks stack (at ∷ ats) =
-    let others = lowest_conflict is stacks stack ats in
-    if conflicts is stacks stack at then Some (lower_of others at) else others
-
-abbrev pub come_to_all : List Instr → Stacks → List Kind → List ℕ → Stacks
-come_to_all is stacks stack [] = stacks
-come_to_all is stacks stack (at ∷ ats) = come_to_all is (come_to is stacks at stack) stack ats
-
--- ---- passes
-
-abbrev pub going_on : List Instr → Stacks → Option ℕ → List Kind → List ℕ → Result Stacks TypeFault
-going_on is stacks (Some at) stack ats = Err (Conflict at)
-going_on is stacks None stack ats = Ok (come_to_all is stacks stack ats)
-
--- An instruction passes the stack behind it to all that may follow.
-abbrev pub follow : List Instr → Stacks → Instr → Result (List Kind) TypeFault → Result Stacks TypeFault
-follow is stacks i (Err fault) = Err fault
-follow is stacks i (Ok stack) =
-    if goes_behind i.op && not (begins_at is (i.at + i.size)) then Err (FallsOff i.at)
-    else going_on is stacks (lowest_conflict is stacks stack (successors i.op (i.at + i.size))) stack (successors i.op (i.at + i.size))
-
-abbrev pub visited : ShapeOf → List Instr → Stacks → Instr → Option (List Kind) → Result Stacks TypeFault
-visited shape is stacks i None = Ok stacks
-visited shape is stacks i (Some stack) = follow is stacks i (typed shape i stack)
-
--- The instructions of a pass, in rising order. What one brings counts for those behind it in the same pass.
-abbrev pub pass_over : ShapeOf → List Instr → List Instr → Result Stacks TypeFault → Result Stacks TypeFault
-pass_over shape is [] stacks = stacks
-pass_over shape is (i ∷ rest) (Err fault) = Err fault
-pass_over shape is (i ∷ rest) (Ok stacks) = pass_over shape is rest (visited shape is stacks i (stack_at is stacks i.at))
-
--- One pass over all instructions.
-abbrev pub pass : ShapeOf → List Instr → Stacks → Result Stacks TypeFault
-pass shape is stacks = pass_over shape is is (Ok stacks)
-
--- The first instruction is reached with an empty stack. Empty code falls off at once.
-abbrev pub first_stacks : List Instr → Result Stacks TypeFault
-first_stacks [] = Err (FallsOff 0)
-first_stacks (i ∷ is) = Ok (Some [] ∷ map (λ other. None) is)
-
-abbrev pub after_pass : ShapeOf → List Instr → Result Stacks TypeFault → Result Stacks TypeFault
-after_pass shape is (Err fault) = Err fault
-after_pass shape is (Ok stacks) = pass shape is stacks
-
-abbrev pub after_passes : ShapeOf → List Instr → ℕ → Result Stacks TypeFault
-after_passes shape is zero = first_stacks is
-after_passes shape is (suc n) = after_pass shape is (after_passes shape is n)
-
--- These are the stacks of the code: some number of passes brings them, and one more changes nothing.
-pub record KindsOf (shape : ShapeOf) (is : List Instr) (stacks : Stacks) : Type 0 where
-  pub passes : ℕ
-  pub brought : after_passes shape is passes ≡ Ok stacks
-  pub settled : pass shape is stacks ≡ Ok stacks
-
--- This is the first fault of the code.
-pub record HasTypeFault (shape : ShapeOf) (is : List Instr) (fault : TypeFault) : Type 0 where
-  pub passes : ℕ
-  pub met : after_passes shape is passes ≡ Err fault

@@ -4,6 +4,7 @@ pub mod Places
 pub mod Limits
 pub mod UnitCalls
 pub mod Terms
+pub mod TermCodes
 pub mod Nodes
 pub mod Values
 pub mod Arithmetic
@@ -15,3 +16,7 @@ pub mod Runs
 pub mod Worlds
 pub mod Shapes
 pub mod Kinds
+pub mod Passes
+pub mod Blocks
+pub mod TreeKinds
+pub mod WellFormed

@@ -72,12 +72,12 @@ LocalStep unit (configs.Live (f ∷ []) heap) new =
     (i : Instr) × (instr_at unit.instrs f.at ≡ Some i) × Row (FreeCall unit) i.op [] unit i f heap new
 LocalStep unit _ new = ⊥
 
--- ---- runs of any steps
+-- ---- steps of any kind
 
 -- The configuration comes after n steps.
-abbrev pub RunsBy : (Config → Config → Type 0) → Config → ℕ → Config → Type 0
-RunsBy Steps start zero c = c ≡ start
-RunsBy Steps start (suc n) c = (mid : Config) × RunsBy Steps start n mid × Steps mid c
+abbrev pub StepsTo : (Config → Config → Type 0) → Config → ℕ → Config → Type 0
+StepsTo Steps start zero c = c ≡ start
+StepsTo Steps start (suc n) c = (mid : Config) × StepsTo Steps start n mid × Steps mid c
 
 -- The configuration is no fault.
 abbrev pub IsNoFault : Config → Type 0
@@ -85,18 +85,14 @@ IsNoFault (configs.Fault kind unit at) = ⊥
 IsNoFault _ = Unit {0}
 
 -- The configuration is an end, or has a step.
-abbrev pub IsDefinedBy : (Config → Config → Type 0) → Config → Type 0
-IsDefinedBy Steps (configs.Live frames heap) = (next : Config) × Steps (configs.Live frames heap) next
-IsDefinedBy Steps _ = Unit {0}
-
--- After any number of steps there is no fault and nothing undefined.
-abbrev pub RunsSafely : (Config → Config → Type 0) → Config → Type 0
-RunsSafely Steps start = (n : ℕ) (c : Config) → RunsBy Steps start n c → IsNoFault c × IsDefinedBy Steps c
+abbrev pub IsDefined : (Config → Config → Type 0) → Config → Type 0
+IsDefined Steps (configs.Live frames heap) = (next : Config) × Steps (configs.Live frames heap) next
+IsDefined Steps _ = Unit {0}
 
 -- ---- entries
 
--- A method may begin with these arguments over this heap: they are of its signature's types, and each of its
--- Requires is true of them.
+-- A method may begin with these arguments over this heap: they are of its signature's types, where several may
+-- be one array and each array may be null, and each of its Requires is true of them.
 pub record MayBegin (unit : MethodUnit) (args : List Value) (heap : Heap) : Type 0 where
   pub heap_is : IsHeap heap
   pub fit : FitPlaces heap unit.args args
@@ -106,19 +102,22 @@ pub record MayBegin (unit : MethodUnit) (args : List Value) (heap : Heap) : Type
 abbrev pub entry_config : MethodUnit → ℕ → List Value → Heap → Config
 entry_config unit index args heap = configs.Live (entry_frame unit index args heap ∷ []) heap
 
--- The configuration comes after n steps of a run of the world's method m.
-abbrev pub Runs : World → ℕ → List Value → Heap → ℕ → Config → Type 0
-Runs w m args heap n c =
-    (unit : MethodUnit) × (slice_get w.units m ≡ Some unit) × MayBegin unit args heap
-    × RunsBy (Step w) (entry_config unit m args heap) n c
+-- The configuration comes after n steps of a run of the world's method m, from these arguments over this heap.
+pub record Runs (w : World) (m : ℕ) (args : List Value) (heap : Heap) (n : ℕ) (c : Config) : Type 0 where
+  pub unit : MethodUnit
+  pub unit_is : slice_get w.units m ≡ Some unit
+  pub begins : MayBegin unit args heap
+  pub steps : StepsTo (Step w) (entry_config unit m args heap) n c
 
--- No run of the method, from arguments that meet its Requires over any heap and of any length, is at a fault
--- or where nothing is defined.
+-- No run of the method is ever at a fault, or where nothing is defined.
 abbrev pub Safe : World → ℕ → Type 0
-Safe w m = (unit : MethodUnit) (args : List Value) (heap : Heap) → slice_get w.units m ≡ Some unit
-    → MayBegin unit args heap → RunsSafely (Step w) (entry_config unit m args heap)
+Safe w m = (args : List Value) (heap : Heap) (n : ℕ) (c : Config) → Runs w m args heap n c → IsNoFault c × IsDefined (Step w) c
 
 -- The same of one unit by itself. The index in its frame does not count.
+pub record LocalRuns (unit : MethodUnit) (index : ℕ) (args : List Value) (heap : Heap) (n : ℕ) (c : Config) : Type 0 where
+  pub begins : MayBegin unit args heap
+  pub steps : StepsTo (LocalStep unit) (entry_config unit index args heap) n c
+
 abbrev pub LocalSafe : MethodUnit → Type 0
-LocalSafe unit = (index : ℕ) (args : List Value) (heap : Heap)
-    → MayBegin unit args heap → RunsSafely (LocalStep unit) (entry_config unit index args heap)
+LocalSafe unit = (index : ℕ) (args : List Value) (heap : Heap) (n : ℕ) (c : Config)
+    → LocalRuns unit index args heap n c → IsNoFault c × IsDefined (LocalStep unit) c

@@ -18,28 +18,35 @@ Heap = List ArrayCell
 abbrev pub IsByte : ℤ → Type 0
 IsByte n = (pos 0 ≤ℤ n) × (n <ℤ pos 256)
 
--- What an item of an array of this place may be. Other places have no arrays.
-abbrev pub FitsItem : Place → ℤ → Type 0
-FitsItem places.Bools n = IsByte n
-FitsItem places.Ints n = FitsSigned w32 n
-FitsItem _ n = ⊥
+-- What the items of an array of this type may be. Other types are none of arrays.
+abbrev pub FitItems : Place → List ℤ → Type 0
+FitItems places.Bools items = AllByRecursion IsByte items
+FitItems places.Ints items = AllByRecursion (FitsSigned w32) items
+FitItems _ items = ⊥
 
 abbrev pub IsArray : ArrayCell → Type 0
-IsArray cell = AllByRecursion (FitsItem cell.place) cell.items × (length cell.items < 2 ^ 31)
+IsArray cell = FitItems cell.place cell.items × (length cell.items < 2 ^ 31)
 
 abbrev pub IsHeap : Heap → Type 0
 IsHeap heap = AllByRecursion IsArray heap
+
+-- Each array of a heap keeps its type and its length. New arrays may follow.
+abbrev pub KeepsForms : Heap → Heap → Type 0
+KeepsForms [] new = Unit {0}
+KeepsForms (cell ∷ cells) [] = ⊥
+KeepsForms (cell ∷ cells) (kept ∷ others) =
+    (kept.place ≡ cell.place) × (length kept.items ≡ length cell.items) × KeepsForms cells others
 
 -- Two places are the same.
 abbrev pub same_place : Place → Place → Bool
 same_place a b = place_number a == place_number b
 
--- The heap has an array of this place there.
+-- The heap has an array of this type there.
 abbrev pub has_array : Heap → Place → ℕ → Bool
 has_array heap place i = option_map_or (λ cell. same_place cell.place place) (slice_get heap i) false
 
--- A value as it is put into a place: a bool place keeps its low eight bits, and an array place takes null and
--- arrays of its own. None where the value has not the form of the place.
+-- A value as it is put into a place: a bool place keeps its low eight bits, and a place of arrays takes null
+-- and arrays of its type. None where the value has not the form of the place.
 abbrev pub put : Heap → Place → Value → Option Value
 put heap places.Bool (values.Int n) = Some (values.Int (int_rem_euclid n (pos 256)))
 put heap places.Int (values.Int n) = Some (values.Int n)

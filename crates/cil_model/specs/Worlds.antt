@@ -1,5 +1,5 @@
 -- Worlds whose units agree on what they say of each other.
-use Rattle.std.specs.Prelude.{◌≡◌, ℕ, ◌<◌, List, length, Some, slice_get}
+use Rattle.std.specs.Prelude.{◌≡◌, ℕ, List, length, Some, slice_get}
 use Rattle.cil_model.specs.Calls.{callee_index}
 use Rattle.cil_model.specs.declared.machine.World.{World}
 use Rattle.cil_model.specs.declared.unit.CalleeInfo.{CalleeInfo}
