@@ -1,5 +1,5 @@
 -- What the numbers in a unit's code name: those of its calls and of its new arrays.
-use Rattle.std.specs.Prelude.{ℕ, ◌-◌, ◌==◌, nat_le, true, false, Option, Some, None, if◌then◌else◌}
+use Rattle.std.specs.Prelude.{ℕ, ◌-◌, ◌==◌, nat_le, Bool, true, false, Option, Some, None, if◌then◌else◌}
 use Rattle.cil_model.specs.declared.place.Place.{Place}
 use Rattle.cil_model.specs.declared.place.Place.TheVariants as places
 use Rattle.cil_model.specs.declared.unit_numbers.UnitCall.{UnitCall}
@@ -39,6 +39,16 @@ unit_call number =
     else if nat_le number 8 then condition_call number
     else place_call number
 
--- The place of the arrays that newarr makes.
+-- The callee that a call names.
+abbrev pub callee_of : Option UnitCall → Option ℕ
+callee_of (Some (Callee number)) = Some number
+callee_of _ = None
+
+-- The call is an Assert without a message.
+abbrev pub is_assert : Option UnitCall → Bool
+is_assert (Some (Assert false)) = true
+is_assert _ = false
+
+-- The type of the arrays that newarr makes.
 abbrev pub array_place : ℕ → Option Place
 array_place number = if number == 1 then Some places.Bools else if number == 2 then Some places.Ints else None

@@ -1,5 +1,5 @@
 -- Units as the rest of the project takes them: those that files spell and that methods of assemblies make.
-use Rattle.std.specs.Prelude.{◌≡◌, ◌≢◌, ◌⊎◌, ℕ, ◌+◌, ◌<◌, ◌≤◌, List, [], ◌∷◌, length, sum_by, filter_map, Option, Some, None, IsSome}
+use Rattle.std.specs.Prelude.{◌≡◌, ◌≢◌, ◌⊎◌, ℕ, ◌+◌, ◌<◌, ◌≤◌, List, [], ◌∷◌, length, sum_by, filter_map, Option, None, IsSome}
 use Rattle.std.specs.List.{AllByRecursion}
 use Rattle.cil_model.specs.Blocks.{block_count, start_of_body}
 use Rattle.cil_model.specs.Limits.{MAX_BLOCKS, MAX_CLAUSES, MAX_CODE_BYTES, MAX_CONDITIONS, MAX_INSTRUCTIONS, MAX_NAME_BYTES, MAX_NODES, MAX_OLD_VALUES, MAX_VARIABLES}
@@ -8,7 +8,7 @@ use Rattle.cil_model.specs.Shapes.{shape_of}
 use Rattle.cil_model.specs.Spells.{CodeOf}
 use Rattle.cil_model.specs.Terms.{term_size, condition_depth, old_count}
 use Rattle.cil_model.specs.TreeKinds.{IsNumberClause}
-use Rattle.cil_model.specs.UnitCalls.{unit_call, array_place}
+use Rattle.cil_model.specs.UnitCalls.{unit_call, array_place, callee_of}
 use Rattle.cil_model.specs.declared.clause.Clause.{Clause}
 use Rattle.cil_model.specs.declared.instruction.Op.{Op}
 use Rattle.cil_model.specs.declared.instruction.Op.TheVariants as ops
@@ -16,8 +16,6 @@ use Rattle.cil_model.specs.declared.place.Place.{Place}
 use Rattle.cil_model.specs.declared.place.Place.TheVariants as places
 use Rattle.cil_model.specs.declared.unit.CalleeInfo.{CalleeInfo}
 use Rattle.cil_model.specs.declared.unit.Unit.{Unit as MethodUnit}
-use Rattle.cil_model.specs.declared.unit_numbers.UnitCall.{UnitCall}
-use Rattle.cil_model.specs.declared.unit_numbers.UnitCall.TheVariants as calls
 
 -- ---- the numbers in code
 
@@ -27,10 +25,6 @@ NamesSomething (ops.Call number) = IsSome (unit_call number)
 NamesSomething (ops.NewArray number) = IsSome (array_place number)
 NamesSomething (ops.Text number) = number ≡ 0
 NamesSomething op = Unit {0}
-
-abbrev pub callee_of : Option UnitCall → Option ℕ
-callee_of (Some (calls.Callee number)) = Some number
-callee_of _ = None
 
 -- The number of the callee that an operation calls.
 abbrev pub called_by : Op → Option ℕ

@@ -16,7 +16,7 @@ mod unit;
 mod unit_numbers;
 
 pub use clause::{Clause, ClauseKind};
-pub use instruction::{ASSERT_CALL, BinOp, CmpOp, Instr, Op, Targets, Test, UnOp};
+pub use instruction::{BinOp, CmpOp, Instr, Op, Targets, Test, UnOp};
 pub use limits::{
     MAX_BLOCKS, MAX_CLAUSES, MAX_CODE_BYTES, MAX_CONDITIONS, MAX_FILE_BYTES, MAX_INSTRUCTIONS,
     MAX_NAME_BYTES, MAX_NODES, MAX_OLD_VALUES, MAX_VARIABLES,
@@ -29,4 +29,4 @@ pub use shape::Shape;
 pub use tree::{Node, Tree};
 pub use type_fault::TypeFault;
 pub use unit::{CalleeInfo, Unit};
-pub use unit_numbers::{UnitCall, array_place, unit_call};
+pub use unit_numbers::{UnitCall, array_place, is_assert, unit_call};

@@ -1,7 +1,7 @@
 //! What the calls in a unit's code name.
 
 ghost use Rattle.std.specs.Prelude.{◌≡◌};
-ghost use Rattle.cil_model.specs.UnitCalls.{unit_call, condition_call, place_call, array_place};
+ghost use Rattle.cil_model.specs.UnitCalls.{unit_call, condition_call, place_call, array_place, is_assert};
 
 use crate::place::Place;
 
@@ -79,7 +79,14 @@ pub fn unit_call(number: u32) -> Option<UnitCall>
     }
 }
 
-/// The place of the arrays that a `newarr` of this number makes: `bool[]` or `int32[]`.
+/// Whether a call of this number is `Contract.Assert` without a message.
+pub fn is_assert(number: u32) -> bool
+    ensures { result ≡ is_assert (unit_call number) }
+{
+    matches!(unit_call(number), Some(UnitCall::Assert(false)))
+}
+
+/// The type of the arrays that a `newarr` of this number makes: `bool[]` or `int32[]`.
 pub fn array_place(number: u32) -> Option<Place>
     ensures { result ≡ array_place number }
 {

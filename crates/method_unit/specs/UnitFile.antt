@@ -2,7 +2,7 @@
 -- that fails names the fault.
 use Rattle.std.specs.Prelude.{ℕ, zero, suc, ◌+◌, Bool, false, not, ◌&&◌, List, [], ◌∷◌, length, take, drop, replicate, Option, Some, None, Result, Ok, Err, ◌==◌, nat_lt, nat_le, if◌then◌else◌, slice_index}
 use Rattle.cc_base.specs.LittleEndian.{u16_at, u32_at}
-use Rattle.cil_model.specs.Effects.{ASSERT_CALL}
+use Rattle.cil_model.specs.UnitCalls.{unit_call, is_assert}
 use Rattle.cil_model.specs.declared.instruction.Instr.{Instr}
 use Rattle.cil_model.specs.declared.instruction.Op.{Op}
 use Rattle.cil_model.specs.declared.instruction.Op.TheVariants as ops
@@ -162,7 +162,7 @@ decoder_fault place _ = Form place
 
 -- A call of something else than Assert.
 abbrev pub is_other_call : Op → Bool
-is_other_call (ops.Call number) = not (number == ASSERT_CALL)
+is_other_call (ops.Call number) = not (is_assert (unit_call number))
 is_other_call _ = false
 
 -- What was decoded at this offset of the file, where it is built.

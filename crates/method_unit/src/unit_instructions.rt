@@ -7,7 +7,7 @@ ghost use Rattle.method_unit.specs.Reach.{Reaches};
 ghost use Rattle.method_unit.specs.UnitFile.{built, is_other_call, instructions, limit_fault};
 
 use crate::unit_fault::{UnitFault, UnitRefusal};
-use cil_model::{ASSERT_CALL, Instr, Op};
+use cil_model::{Instr, Op, is_assert};
 use il_decoder::{IlFault, IlRefusal, decode_one};
 use std::alloc::Global;
 
@@ -19,7 +19,7 @@ fn is_other_call(op: &Op) -> bool
     ensures { result ≡ is_other_call op.now }
 {
     match op {
-        Op::Call(number) => *number != ASSERT_CALL,
+        Op::Call(number) => !is_assert(*number),
         _ => false,
     }
 }
