@@ -4,9 +4,9 @@ use Rattle.std.specs.Prelude.{ℕ, zero, suc, ◌+◌, List, [], ◌∷◌, ◌+
 use Rattle.std.specs.List.{flat_map, range_with_len}
 use Rattle.cc_base.specs.LittleEndian.{u16_at, u32_at}
 use Rattle.cc_base.specs.Tests.{first_of, must}
-use Rattle.cil_model.specs.Effects.{ASSERT_CALL}
 use Rattle.cil_model.specs.Limits.{MAX_CODE_BYTES, MAX_INSTRUCTIONS, MAX_VARIABLES}
 use Rattle.cil_model.specs.Places.{place_number, place_of_number}
+use Rattle.cil_model.specs.UnitCalls.{unit_call, is_assert}
 use Rattle.cil_model.specs.declared.instruction.Instr.{Instr}
 use Rattle.cil_model.specs.declared.instruction.Op.{Op}
 use Rattle.cil_model.specs.declared.instruction.Op.TheVariants as ops
@@ -185,7 +185,7 @@ all_decodings code = decodings (length code) code 0
 
 -- A call of something else than Assert.
 abbrev pub is_other_call : Op → Bool
-is_other_call (ops.Call number) = not (number == ASSERT_CALL)
+is_other_call (ops.Call number) = not (is_assert (unit_call number))
 is_other_call _ = false
 
 -- How a fault of the decoder is named. The code begins at the offset `base` of the file.

@@ -9,7 +9,7 @@ ghost use Rattle.method_unit.specs.UnitFile.{is_other_call, code_fault, decoding
 
 use crate::unit_fault::{UnitFault, UnitRefusal};
 use cc_base::Refusal;
-use cil_model::{ASSERT_CALL, Instr, MAX_INSTRUCTIONS, Op};
+use cil_model::{Instr, MAX_INSTRUCTIONS, Op, is_assert};
 use il_decoder::{IlFault, decode_one};
 use std::alloc::Global;
 
@@ -18,7 +18,7 @@ fn is_other_call(op: &Op) -> bool
     ensures { result ≡ is_other_call op.now }
 {
     match op {
-        Op::Call(number) => *number != ASSERT_CALL,
+        Op::Call(number) => !is_assert(*number),
         _ => false,
     }
 }
