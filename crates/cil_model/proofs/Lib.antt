@@ -2,10 +2,12 @@ pub mod AliasRun
 pub mod Alone
 pub mod ArithmeticFits
 pub mod AssumeRun
+pub mod EffectsKeep
 pub mod Forms
 pub mod HeapsKept
 pub mod Laid
 pub mod OldValueRun
+pub mod Options
 pub mod OverflowRun
 pub mod RoomRun
 pub mod Running

@@ -2,6 +2,7 @@
 use Rattle.std.proofs.Common.{◌≡◌, ℕ, zero, suc, Bool, true, false, List, [], ◌∷◌, ◌++◌, Option, Some, None, option_map, slice_get, refl, sym, ap, subst, ◌∙◌, inl, inr}
 use Rattle.std.specs.Option.{option_and_then}
 use Rattle.std.proofs.lemmas.Option.{same_Some, none-some}
+use Rattle.cil_model.proofs.Options.{and_then_from, map_from}
 use Rattle.cil_model.specs.Calls.{WorldCall, ReturnRow, Returned, Returns, args_of, callee_index, called, ensures_fault, pushed, result_of}
 use Rattle.cil_model.specs.Clauses.{false_requires}
 use Rattle.cil_model.specs.Effects.{Effect, HasEffect, effects}
@@ -20,22 +21,6 @@ use Rattle.cil_model.specs.declared.machine.World.{World}
 use Rattle.cil_model.specs.declared.unit.Unit.{Unit as MethodUnit}
 use Rattle.cil_model.specs.declared.unit_numbers.UnitCall.{UnitCall}
 use Rattle.cil_model.specs.declared.unit_numbers.UnitCall.TheVariants as calls
-
--- ---- options
-
--- What a chain gave came from a first value.
-pub record ComesFrom {X Y : Type 0} (first : Option X) (f : X → Option Y) (y : Y) : Type 0 where
-  pub value : X
-  pub is : first ≡ Some value
-  pub gave : f value ≡ Some y
-
-and_then_from : {X Y : Type 0} (f : X → Option Y) (first : Option X) (y : Y) → option_and_then f first ≡ Some y → ComesFrom first f y
-and_then_from f None y e = absurd (none-some y e)
-and_then_from f (Some x) y e = record { value = x; is = refl; gave = e }
-
-map_from : {X Y : Type 0} (f : X → Y) (first : Option X) (y : Y) → option_map f first ≡ Some y → (x : X) × (first ≡ Some x) × (y ≡ f x)
-map_from f None y e = absurd (none-some y e)
-map_from f (Some x) y e = (x, refl, sym (same_Some (f x) y e))
 
 -- ---- the running frame
 
