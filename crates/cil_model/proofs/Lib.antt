@@ -6,11 +6,14 @@ pub mod EffectsKeep
 pub mod Forms
 pub mod HeapsKept
 pub mod Laid
+pub mod Lists
 pub mod OldValueRun
 pub mod Options
 pub mod OverflowRun
 pub mod RoomRun
 pub mod Running
+pub mod StepKinds
+pub mod StepsKeep
 pub mod SumKinds
 pub mod SumRun
 pub mod SumUnit

@@ -115,8 +115,8 @@ pub record FreeCall (unit : MethodUnit) (number : ℕ) (i : Instr) (f : Frame) (
 -- What a return takes from the stack, as it is put into the result: a value of its form, or none where the
 -- result is void. Nothing else may stand there.
 abbrev pub result_of : Heap → Place → List Value → Option (Option Value)
-result_of heap places.Void [] = Some None
 result_of heap place (value ∷ []) = option_map Some (put heap place value)
+result_of heap places.Void [] = Some None
 result_of heap place _ = None
 
 -- A result goes to the caller, or it is the end of the run.
