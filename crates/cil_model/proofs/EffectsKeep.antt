@@ -1,5 +1,5 @@
 -- What an instruction does to its own frame keeps values values, and arrays what they are.
-use Rattle.std.proofs.Common.{◌≡◌, ℕ, zero, suc, ◌+◌, ◌<◌, ◌==◌, ℤ, pos, int_lt, int_le, int_eq, unsigned_abs, FitsSigned, Bool, true, false, not, List, [], ◌∷◌, ◌++◌, length, replicate, slice_get, slice_set, Option, Some, None, option_map, Result, Ok, Err, IfOk, refl, sym, ap, subst, ◌∙◌, w32, arith, inl, inr, length-append}
+use Rattle.std.proofs.Common.{◌≡◌, ℕ, zero, suc, ◌+◌, ◌<◌, ◌==◌, ℤ, pos, int_lt, int_le, int_eq, unsigned_abs, FitsSigned, Bool, true, false, not, List, [], ◌∷◌, ◌++◌, length, replicate, slice_get, slice_set, Option, Some, None, option_map, Result, Ok, Err, IfOk, refl, sym, subst, w32, arith, inl, inr, length-append}
 use Rattle.std.specs.List.{AllByRecursion}
 use Rattle.std.specs.Option.{option_and_then}
 use Rattle.std.proofs.lemmas.Bool.{cond_both, false≢true}
@@ -8,7 +8,7 @@ use Rattle.std.proofs.lemmas.List.{length-replicate, length-set}
 use Rattle.std.proofs.lemmas.Option.{none-some, same_Some}
 use Rattle.cil_model.specs.Arithmetic.{operated, operated_one, truth, unsigned}
 use Rattle.cil_model.specs.Comparisons.{comparison_of, comparison_value, compares_values, is_true, number_of, pushed_comparison}
-use Rattle.cil_model.specs.Effects.{Effect, GoesOn, Faults, Assumes, FindsNoRoom, HasEffect, arithmetic, array_length, at_index, below_message, binary, branches, branches_by, changes, comparison, contract_call, converts, duplicates, effects, effects_of, gives, goes_to, item_of, item_value, loads, makes, makes_number, new_array, of_place, pops, pushes, stored, stores, stores_arg, stores_local, switches, switches_to, tests_condition, with_args, with_item, with_locals, zeros}
+use Rattle.cil_model.specs.Effects.{Effect, GoesOn, Faults, Assumes, HasEffect, arithmetic, array_length, at_index, below_message, binary, branches, branches_by, changes, comparison, contract_call, converts, duplicates, effects, effects_of, gives, goes_to, item_of, item_value, loads, makes, makes_number, new_array, of_place, pops, pushes, stored, stores, stores_arg, stores_local, switches, switches_to, tests_condition, with_args, with_item, with_locals, zeros}
 use Rattle.cil_model.specs.UnitCalls.{array_place, unit_call}
 use Rattle.cil_model.specs.Values.{Heap, FitItems, FitPlaces, IsArray, IsByte, IsHeap, IsValue, KeepsForms, put, same_place}
 use Rattle.cil_model.specs.declared.instruction.BinOp.{BinOp}
@@ -296,21 +296,24 @@ module _ (unit : MethodUnit) (i : Instr) (f : Frame) (heap : Heap) where
       let kept = keeps_before heap (new ∷ []) in
       let more : length (heap ++ new ∷ []) ≡ length heap + 1 = length-append heap (new ∷ []) in
       cond_both (int_lt n (pos 0)) _ _ (Keep (v ∷ rest)) (λ e. (tt, tt))
-      (λ e. (tt, (
-      record {
-        unit_is = refl;
-        entry_args_are = refl;
-        entry_heap_is = refl;
-        kept = kept;
-        holds = λ h. record {
-          heap_is = heap_and_one heap new h.heap_is (zeros_is_array place (unsigned_abs n) arrays (let below = fits h in omega (arith, ints)));
-          args_fit = FitPlaces-kept heap (heap ++ new ∷ []) kept unit.args f.args h.args_fit;
-          locals_fit = FitPlaces-kept heap (heap ++ new ∷ []) kept unit.locals f.locals h.locals_fit;
-          values = (omega arith, AreValues-kept heap (heap ++ new ∷ []) kept rest h.values.1);
-        };
-      },
-      tt,
-      )))
+      (λ e. (
+        tt,
+        (
+          record {
+            unit_is = refl;
+            entry_args_are = refl;
+            entry_heap_is = refl;
+            kept = kept;
+            holds = λ h. record {
+              heap_is = heap_and_one heap new h.heap_is (zeros_is_array place (unsigned_abs n) arrays (let below = fits h in omega (arith, ints)));
+              args_fit = FitPlaces-kept heap (heap ++ new ∷ []) kept unit.args f.args h.args_fit;
+              locals_fit = FitPlaces-kept heap (heap ++ new ∷ []) kept unit.locals f.locals h.locals_fit;
+              values = (omega arith, AreValues-kept heap (heap ++ new ∷ []) kept rest h.values.1);
+            };
+          },
+          tt,
+        ),
+      ))
 
   makes_number_keeps : (place : Option Place) (n : Option ℤ) (v : Value) (rest : List Value) → ((p : Place) → place ≡ Some p → IsOfArrays p)
       → ((m : ℤ) → n ≡ Some m → Holds unit heap f.args f.locals (v ∷ rest) → FitsSigned w32 m) → Keep (v ∷ rest) (makes_number place n i f heap rest)
@@ -351,10 +354,9 @@ module _ (unit : MethodUnit) (i : Instr) (f : Frame) (heap : Heap) where
       → IsArray (record cell { items = slice_set cell.items k (item_of place n) })
   item_stored a cell place k n there same is fits =
       let array = array_of_heap heap a cell is there in
-      let long : length (slice_set cell.items k (item_of place n)) ≡ length cell.items = length-set cell.items k (item_of place n) in
-      (
+      let long : length (slice_set cell.items k (item_of place n)) ≡ length cell.items = length-set cell.items k (item_of place n) in (
         subst (λ (p : Place). FitItems p (slice_set cell.items k (item_of place n))) (sym same)
-        (items_with place cell.items k n (subst (λ (p : Place). FitItems p cell.items) same array.0) fits),
+            (items_with place cell.items k n (subst (λ (p : Place). FitItems p cell.items) same array.0) fits),
         subst (λ (m : ℕ). m < 2147483648) (sym long) array.1,
       )
 
@@ -368,19 +370,19 @@ module _ (unit : MethodUnit) (i : Instr) (f : Frame) (heap : Heap) where
       let after = slice_set heap a new in
       let kept = keeps_others heap a cell new there refl (length-set cell.items (unsigned_abs n) (item_of place v)) in
       at_index_keeps unit i f heap (Int v ∷ Int n ∷ Array a ∷ rest) cell n (goes_to (i.at + i.size) f after rest) (
-      record {
-        unit_is = refl;
-        entry_args_are = refl;
-        entry_heap_is = refl;
-        kept = kept;
-        holds = λ h. record {
-          heap_is = heap_with heap a new h.heap_is (item_stored a cell place (unsigned_abs n) v there same h.heap_is h.values.0);
-          args_fit = FitPlaces-kept heap after kept unit.args f.args h.args_fit;
-          locals_fit = FitPlaces-kept heap after kept unit.locals f.locals h.locals_fit;
-          values = AreValues-kept heap after kept rest h.values.1.1.1;
-        };
-      },
-      tt,
+        record {
+          unit_is = refl;
+          entry_args_are = refl;
+          entry_heap_is = refl;
+          kept = kept;
+          holds = λ h. record {
+            heap_is = heap_with heap a new h.heap_is (item_stored a cell place (unsigned_abs n) v there same h.heap_is h.values.0);
+            args_fit = FitPlaces-kept heap after kept unit.args f.args h.args_fit;
+            locals_fit = FitPlaces-kept heap after kept unit.locals f.locals h.locals_fit;
+            values = AreValues-kept heap after kept rest h.values.1.1.1;
+          };
+        },
+        tt,
       ))
   stores_keeps place _ = tt
 

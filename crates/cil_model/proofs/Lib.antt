@@ -1,5 +1,6 @@
 pub mod AliasRun
 pub mod Alone
+pub mod AloneSafe
 pub mod ArithmeticFits
 pub mod AssumeRun
 pub mod EffectsKeep

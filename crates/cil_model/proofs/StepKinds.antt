@@ -1,8 +1,8 @@
 -- A step of a world is a step of its last frame by itself, or a call, or a return.
-use Rattle.std.proofs.Common.{◌≡◌, ◌⊎◌, ℕ, List, [], ◌∷◌, ◌++◌, Option, Some, None, slice_get, refl, ◌∙◌, inl, inr}
+use Rattle.std.proofs.Common.{◌≡◌, ◌⊎◌, ℕ, List, [], ◌∷◌, ◌++◌, Option, Some, refl, ◌∙◌, inl, inr}
 use Rattle.cil_model.specs.Calls.{WorldCall, FreeCall, ReturnRow}
 use Rattle.cil_model.specs.Effects.{Effect, GoesOn, Faults, Assumes, FindsNoRoom}
-use Rattle.cil_model.specs.Runs.{CallRow, CallsBy, IsAbout, LocalStep, Row, Step, config_after, instr_at}
+use Rattle.cil_model.specs.Runs.{CallRow, CallsBy, IsAbout, LocalStep, Row, Step, config_after}
 use Rattle.cil_model.specs.UnitCalls.{unit_call, callee_of}
 use Rattle.cil_model.specs.Values.{Heap}
 use Rattle.cil_model.specs.WellFormed.{called_by}

@@ -1,14 +1,14 @@
 -- Steps keep configurations: values stay values, variables hold values of their types, and no array changes its
 -- type or its length.
-use Rattle.std.proofs.Common.{◌≡◌, ℕ, zero, suc, ◌+◌, ℤ, pos, FitsSigned, List, [], ◌∷◌, ◌++◌, length, map, reverse, take, drop, option_map, Option, Some, None, slice_get, refl, sym, ap, subst, ◌∙◌, w8, w32, arith, length-append, inl, inr, ⊎_elim}
+use Rattle.std.proofs.Common.{◌≡◌, ℕ, zero, suc, ◌+◌, ℤ, FitsSigned, List, [], ◌∷◌, ◌++◌, length, map, reverse, take, drop, option_map, Option, Some, None, slice_get, refl, sym, ap, subst, ◌∙◌, w32, arith, length-append, inl, inr}
 use Rattle.std.specs.List.{AllByRecursion}
 use Rattle.std.proofs.lemmas.Int.{ints}
 use Rattle.std.proofs.lemmas.Option.{none-some, same_Some}
-use Rattle.cil_model.specs.Calls.{FreeCall, FreeReturn, FreelyCalled, FitsResult, ReturnRow, Returned, Returns, WorldCall, args_of, behind_call, called, ensures_fault, entry_frame, pushed, result_of}
+use Rattle.cil_model.specs.Calls.{FreeCall, FreelyCalled, FitsResult, Returned, Returns, args_of, behind_call, called, ensures_fault, entry_frame, pushed, result_of}
 use Rattle.cil_model.specs.Clauses.{false_requires}
 use Rattle.cil_model.specs.Configs.{ArraysKept, IsConfig, IsFrame, IsFrameOf}
 use Rattle.cil_model.specs.Effects.{Effect, GoesOn, Faults, Assumes, FindsNoRoom}
-use Rattle.cil_model.specs.Runs.{CallsBy, EffectRow, LocalStep, Row, Step, StepsTo, config_after, instr_at}
+use Rattle.cil_model.specs.Runs.{CallsBy, EffectRow, LocalStep, Row, Runs, Step, StepsTo, config_after, entry_config}
 use Rattle.cil_model.specs.Spells.{CodeFrom, SpellsConst, SpellsOp}
 use Rattle.cil_model.specs.UnitCalls.{unit_call}
 use Rattle.cil_model.specs.Values.{Heap, FitPlaces, IsHeap, IsValue, KeepsForms, put, zero_of}
@@ -167,8 +167,7 @@ module _ (unit : MethodUnit) (f : Frame) (heap : Heap) (is : IsHeap heap) (frame
   continues_keeps : (new : Frame) (after : Heap) → Continues unit f heap f.stack new after → KeepsFrame unit f heap (configs.Live (new ∷ []) after)
   continues_keeps new after on =
       let holds = on.holds (record { heap_is = is; args_fit = frame.args; locals_fit = frame.locals; values = frame.stack }) in
-      let entry : KeepsForms new.entry_heap heap = subst (λ (h : Heap). KeepsForms h heap) (sym on.entry_heap_is) frame.kept in
-      (
+      let entry : KeepsForms new.entry_heap heap = subst (λ (h : Heap). KeepsForms h heap) (sym on.entry_heap_is) frame.kept in (
         holds.heap_is,
         record {
           args = holds.args_fit;
@@ -199,10 +198,10 @@ module _ (unit : MethodUnit) (f : Frame) (heap : Heap) (is : IsHeap heap) (frame
       let behind = behind_call i (length callee.args) f in
       let went = behind_call_is unit after i (length callee.args) f (frame_kept unit heap after f kept frame) in
       subst (KeepsFrame unit f heap) (sym to) (
-      free.heap_is,
-      pushed_is unit after behind result went (fits_result after callee.result result free.fits),
-      pushed_unit behind result,
-      kept,
+        free.heap_is,
+        pushed_is unit after behind result went (fits_result after callee.result result free.fits),
+        pushed_unit behind result,
+        kept,
       )
 
   call_keeps : (call : Option UnitCall) (i : Instr) (new : Config) → OperandFits i.op → CallsBy (FreeCall unit) call [] unit i f heap new → KeepsFrame unit f heap new
@@ -309,3 +308,9 @@ step_keeps w _ new make is step = absurd step
 pub steps_keep : (w : World) (start : Config) (n : ℕ) (c : Config) → AllMakeValues w → IsConfig w.units start → StepsTo (Step w) start n c → IsConfig w.units c
 steps_keep w start zero c make is same = subst (IsConfig w.units) (sym same) is
 steps_keep w start (suc n) c make is (mid, steps, step) = (step_keeps w mid c make (steps_keep w start n mid make is steps) step).0
+
+-- And so is whatever a run of one of its methods comes to.
+pub runs_keep : (w : World) (m : ℕ) (args : List Value) (heap : Heap) (n : ℕ) (c : Config) → AllMakeValues w → Runs w m args heap n c → IsConfig w.units c
+runs_keep w m args heap n c make runs =
+    let frame = entry_frame_is runs.unit m args heap (make m runs.unit runs.unit_is).locals runs.begins.heap_is runs.begins.fit in
+    steps_keep w (entry_config runs.unit m args heap) n c make (runs.begins.heap_is, (record { unit = runs.unit; of = runs.unit_is; is = frame }, tt)) runs.steps
