@@ -9,10 +9,10 @@ use Rattle.cil_model.specs.Clauses.{false_requires}
 use Rattle.cil_model.specs.Configs.{ArraysKept, IsConfig, IsFrame, IsFrameOf}
 use Rattle.cil_model.specs.Effects.{Effect, GoesOn, Faults, Assumes, FindsNoRoom}
 use Rattle.cil_model.specs.Runs.{CallsBy, EffectRow, LocalStep, Row, Runs, Step, StepsTo, config_after, entry_config}
-use Rattle.cil_model.specs.Spells.{CodeFrom, SpellsConst, SpellsOp}
+use Rattle.cil_model.specs.Spells.{CodeFrom, CodeOf, SpellsConst, SpellsOp}
 use Rattle.cil_model.specs.UnitCalls.{unit_call}
 use Rattle.cil_model.specs.Values.{Heap, FitPlaces, IsHeap, IsValue, KeepsForms, put, zero_of}
-use Rattle.cil_model.specs.WellFormed.{HoldValues, IsWellFormed}
+use Rattle.cil_model.specs.WellFormed.{HoldValues}
 use Rattle.cil_model.specs.declared.instruction.Instr.{Instr}
 use Rattle.cil_model.specs.declared.instruction.Op.{Op}
 use Rattle.cil_model.specs.declared.instruction.Op.TheVariants as ops
@@ -35,7 +35,7 @@ use Rattle.cil_model.proofs.StepKinds.{StepKind, above, step_kind}
 
 -- ---- units
 
--- The locals of the unit hold values, and the constants of its code are int32.
+-- The locals of the unit hold values, and the constants of its code are int32. Each well formed unit is one.
 pub record MakesValues (unit : MethodUnit) : Type 0 where
   pub locals : HoldValues unit.locals
   pub constants : AllByRecursion (λ i. OperandFits i.op) unit.instrs
@@ -54,9 +54,8 @@ constants_fit : (at : ℕ) (is : List Instr) (code : List ℕ) → CodeFrom at i
 constants_fit at [] code h = tt
 constants_fit at (i ∷ is) code (place, (bytes, rest, spelled, split, others)) = (operand_fits i.op bytes spelled.0, constants_fit (at + i.size) is rest others)
 
--- Each well formed unit is one.
-pub well_formed_makes_values : (unit : MethodUnit) → IsWellFormed unit → MakesValues unit
-well_formed_makes_values unit formed = record { locals = formed.locals; constants = constants_fit 0 unit.instrs unit.code formed.code }
+pub code_makes_values : (unit : MethodUnit) → CodeOf unit.instrs unit.code → HoldValues unit.locals → MakesValues unit
+code_makes_values unit code hold = record { locals = hold; constants = constants_fit 0 unit.instrs unit.code code }
 
 -- ---- frames
 
