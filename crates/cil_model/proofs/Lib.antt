@@ -1,2 +1,12 @@
+pub mod AliasRun
 pub mod Alone
+pub mod AssumeRun
 pub mod Forms
+pub mod Laid
+pub mod OldValueRun
+pub mod OverflowRun
+pub mod RoomRun
+pub mod Running
+pub mod SumKinds
+pub mod SumRun
+pub mod SumUnit
