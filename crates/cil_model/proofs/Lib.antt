@@ -1,7 +1,9 @@
 pub mod AliasRun
 pub mod Alone
+pub mod ArithmeticFits
 pub mod AssumeRun
 pub mod Forms
+pub mod HeapsKept
 pub mod Laid
 pub mod OldValueRun
 pub mod OverflowRun

@@ -12,6 +12,7 @@ pub mod Comparisons
 pub mod Effects
 pub mod Clauses
 pub mod Calls
+pub mod Configs
 pub mod Runs
 pub mod Worlds
 pub mod Shapes
