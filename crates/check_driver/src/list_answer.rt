@@ -5,7 +5,7 @@
 ghost use Rattle.std.specs.Prelude.{◌≡◌, ◌++◌, OnOk};
 ghost use Rattle.std.specs.List.{flat_map};
 ghost use Rattle.asm_image.specs.Faults.{FirstBroken};
-ghost use Rattle.asm_image.specs.Rows.{first_name, methods_of};
+ghost use Rattle.asm_image.specs.Rows.{first_name};
 ghost use Rattle.check_driver.specs.Expected.{list_answer};
 ghost use Rattle.check_driver.specs.ListText.{line_of, list_text, method_line};
 ghost use Rattle.check_driver.specs.Outcome.{Gives};
