@@ -2,10 +2,13 @@ pub mod AliasRun
 pub mod Alone
 pub mod AloneSafe
 pub mod ArithmeticFits
+pub mod ArithmeticRows
 pub mod AssumeRun
 pub mod EffectsKeep
+pub mod CallsDefined
 pub mod Forms
 pub mod HeapsKept
+pub mod KindsRows
 pub mod Laid
 pub mod Lists
 pub mod OldValueRun

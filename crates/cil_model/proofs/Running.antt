@@ -29,11 +29,11 @@ pub record Split : Type 0 where
   pub callers : List Frame
   pub last : Frame
 
-abbrev below : Frame → Option Split → Split
+abbrev pub below : Frame → Option Split → Split
 below f None = record { callers = []; last = f }
 below f (Some split) = record split { callers = f ∷ split.callers }
 
-abbrev split_last : List Frame → Option Split
+abbrev pub split_last : List Frame → Option Split
 split_last [] = None
 split_last (f ∷ fs) = Some (below f (split_last fs))
 
@@ -93,7 +93,7 @@ after_call_row w callers number i f heap new e =
     let (args, are, gives) = map_from (λ args. called callers found.value named.value args i f heap (false_requires found.value.clauses args heap)) (args_of heap found.value.args f.stack) new found.gave in
     record { index = named.value; callee = found.value; args = args; index_is = named.is; callee_is = found.is; args_are = are; new_is = gives }
 
-abbrev resumed : Option Split → Option Value → Heap → Config
+abbrev pub resumed : Option Split → Option Value → Heap → Config
 resumed None result heap = configs.Returned result
 resumed (Some split) result heap = configs.Live (split.callers ++ pushed split.last result ∷ []) heap
 
@@ -102,11 +102,11 @@ resumed_returns : (callers : List Frame) (split : Option Split) (result : Option
 resumed_returns callers None result heap e = inl (e, refl)
 resumed_returns callers (Some split) result heap e = inr (split.callers, split.last, e, refl)
 
-abbrev returning : List Frame → Instr → Frame → Heap → Option Value → Option ℕ → Config
+abbrev pub returning : List Frame → Instr → Frame → Heap → Option Value → Option ℕ → Config
 returning callers i f heap result (Some k) = configs.Fault (faults.Ensures k) f.unit i.at
 returning callers i f heap result None = resumed (split_last callers) result heap
 
-returning_row : (callers : List Frame) (i : Instr) (f : Frame) (heap : Heap) (result : Option Value) (fault : Option ℕ)
+pub returning_row : (callers : List Frame) (i : Instr) (f : Frame) (heap : Heap) (result : Option Value) (fault : Option ℕ)
     → Returned callers i f heap result fault (returning callers i f heap result fault)
 returning_row callers i f heap result (Some k) = refl
 returning_row callers i f heap result None = resumed_returns callers (split_last callers) result heap (split_is callers)

@@ -192,7 +192,8 @@ module _ (unit : MethodUnit) (f : Frame) (heap : Heap) (is : IsHeap heap) (frame
 
   freely_called : (callee : CalleeInfo) (args : List Value) (i : Instr) (fault : Option ℕ) (new : Config) → FreelyCalled callee args i f heap fault new → KeepsFrame unit f heap new
   freely_called callee args i (Some k) new to = subst (KeepsFrame unit f heap) (sym to) tt
-  freely_called callee args i None new (after, result, free, to) =
+  freely_called callee args i None new (inl ends) = subst (KeepsFrame unit f heap) (sym ends) tt
+  freely_called callee args i None new (inr (after, result, free, to)) =
       let kept = free.keeps.forms in
       let behind = behind_call i (length callee.args) f in
       let went = behind_call_is unit after i (length callee.args) f (frame_kept unit heap after f kept frame) in
