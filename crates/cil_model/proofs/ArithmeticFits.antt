@@ -1,8 +1,8 @@
 -- What operators give of int32 are int32.
-use Rattle.std.proofs.Common.{◌≡◌, ℕ, zero, suc, ◌/◌, ◌%◌, ◌^◌, ◌<◌, ◌≤◌, ◌&&◌, ℤ, pos, negsuc, neg_ℤ, ◌+ℤ◌, ◌-ℤ◌, ◌*ℤ◌, ◌≤ℤ◌, int_lt, int_le, int_eq, int_div, int_rem, Fits, FitsSigned, Bool, true, false, Ok, Err, IfOk, ap, true≢false, w32, arith}
-use Rattle.std.specs.Int.{int_bit_and, int_rem_euclid, int_shr}
+use Rattle.std.proofs.Common.{◌≡◌, ℕ, zero, suc, ◌/◌, ◌^◌, ◌<◌, ◌≤◌, ◌&&◌, ℤ, pos, negsuc, neg_ℤ, ◌+ℤ◌, ◌-ℤ◌, ◌*ℤ◌, int_lt, int_le, int_eq, int_div, int_rem, Fits, FitsSigned, Bool, true, false, Ok, Err, IfOk, ap, true≢false, w32, arith}
+use Rattle.std.specs.Int.{int_rem_euclid, int_shr}
 use Rattle.std.specs.Int.Bits.{bit_or, bit_xor}
-use Rattle.std.specs.Int.Signed.{mag, mag_rem, mag_shr}
+use Rattle.std.specs.Int.Signed.{mag_rem, mag_shr}
 use Rattle.std.proofs.Math.Facts.{Fits-of_z, Fits-and, sfits_to_z}
 use Rattle.std.proofs.Math.Nat.{div-le_self, div-lt_self, mod-le}
 use Rattle.std.proofs.lemmas.Bool.{cond_both, and_parts}
@@ -15,7 +15,6 @@ use Rattle.cil_model.specs.declared.instruction.BinOp.{BinOp}
 use Rattle.cil_model.specs.declared.instruction.BinOp.TheVariants as operators
 use Rattle.cil_model.specs.declared.instruction.UnOp.{UnOp}
 use Rattle.cil_model.specs.declared.instruction.UnOp.TheVariants as unary
-use Rattle.cil_model.specs.declared.machine.FaultKind.{FaultKind}
 use Rattle.cil_model.specs.declared.machine.FaultKind.TheVariants.{Overflow}
 
 neg_fits : (n : ℕ) → n ≤ 2147483648 → FitsSigned w32 (neg_ℤ (pos n))

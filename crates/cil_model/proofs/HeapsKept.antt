@@ -1,11 +1,10 @@
 -- Heaps whose arrays keep their types and lengths, and what stays true over them.
-use Rattle.std.proofs.Common.{◌≡◌, ℕ, zero, suc, ◌^◌, ◌<◌, ◌≤◌, ℤ, FitsSigned, Bool, true, false, List, [], ◌∷◌, ◌++◌, length, slice_get, slice_set, Option, Some, None, if◌then◌else◌, refl, sym, ap, subst, ◌∙◌, w32, arith}
+use Rattle.std.proofs.Common.{◌≡◌, ℕ, zero, suc, ◌<◌, ◌≤◌, true, List, [], ◌∷◌, ◌++◌, length, slice_get, slice_set, Option, Some, None, if◌then◌else◌, refl, sym, ap, subst, ◌∙◌, arith}
 use Rattle.std.specs.List.{AllByRecursion}
 use Rattle.std.proofs.lemmas.Bool.{false≢true}
 use Rattle.std.proofs.lemmas.Int.{ints}
 use Rattle.std.proofs.lemmas.Option.{cond_some, none-some, same_Some}
-use Rattle.cil_model.specs.Values.{Heap, FitItems, FitPlaces, FitsPlace, IsArray, IsByte, IsHeap, IsValue, KeepsForms, has_array, put, put_all, same_place, with_first, zero_of}
-use Rattle.cil_model.specs.WellFormed.{HoldValues}
+use Rattle.cil_model.specs.Values.{Heap, FitPlaces, FitsPlace, IsArray, IsHeap, IsValue, KeepsForms, has_array, put, put_all, same_place, with_first}
 use Rattle.cil_model.specs.declared.machine.ArrayCell.{ArrayCell}
 use Rattle.cil_model.specs.declared.machine.Value.{Value}
 use Rattle.cil_model.specs.declared.machine.Value.TheVariants as values

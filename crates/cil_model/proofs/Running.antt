@@ -1,5 +1,5 @@
 -- Runs that are computed: a function that gives what comes after some steps, and that it comes.
-use Rattle.std.proofs.Common.{◌≡◌, ℕ, zero, suc, Bool, true, false, List, [], ◌∷◌, ◌++◌, Option, Some, None, option_map, slice_get, refl, sym, ap, subst, ◌∙◌, inl, inr}
+use Rattle.std.proofs.Common.{◌≡◌, ℕ, zero, suc, Bool, true, false, List, [], ◌∷◌, ◌++◌, Option, Some, None, option_map, slice_get, refl, sym, ap, subst, inl, inr}
 use Rattle.std.specs.Option.{option_and_then}
 use Rattle.std.proofs.lemmas.Option.{same_Some, none-some}
 use Rattle.cil_model.specs.Calls.{WorldCall, ReturnRow, Returned, Returns, args_of, callee_index, called, ensures_fault, pushed, result_of}
@@ -176,8 +176,7 @@ after_step_steps : (w : World) (room : Bool) (c new : Config) → after_step w r
 after_step_steps w room (configs.Live frames heap) new e =
     let split = and_then_from (after_split w room heap) (split_last frames) new e in
     let unit = and_then_from (after_unit w room split.value heap) (slice_get w.units split.value.last.unit) new split.gave in
-    let instr = and_then_from (after_instr w room split.value heap unit.value) (instr_at unit.value.instrs split.value.last.at) new unit.gave in
-    (
+    let instr = and_then_from (after_instr w room split.value heap unit.value) (instr_at unit.value.instrs split.value.last.at) new unit.gave in (
       split.value.callers,
       split.value.last,
       unit.value,

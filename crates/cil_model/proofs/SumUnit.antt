@@ -1,8 +1,8 @@
 -- A method that calls itself, and a method that calls it with an argument that it does not take.
-use Rattle.std.proofs.Common.{◌≡◌, ℕ, zero, suc, ◌++◌, pos, negsuc, List, [], ◌∷◌, length, Some, slice_get, codes, refl, sym, ap, subst, ◌∙◌}
+use Rattle.std.proofs.Common.{◌≡◌, ℕ, zero, suc, pos, negsuc, List, [], ◌∷◌, length, Some, slice_get, codes, refl, sym, ap, subst, ◌∙◌}
 use Rattle.std.proofs.lemmas.Option.{same_Some, none-some}
 use Rattle.cil_model.specs.Terms as terms
-use Rattle.cil_model.specs.Worlds.{Agree, Names, info_of}
+use Rattle.cil_model.specs.Worlds.{Agree, Names}
 use Rattle.cil_model.specs.declared.clause.Clause.{Clause}
 use Rattle.cil_model.specs.declared.clause.ClauseKind.TheVariants as kinds
 use Rattle.cil_model.specs.declared.instruction.BinOp.TheVariants as operators

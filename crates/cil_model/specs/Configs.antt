@@ -1,5 +1,5 @@
 -- Configurations whose values are values of their heap: whatever a run comes to is one.
-use Rattle.std.specs.Prelude.{◌≡◌, ℕ, List, Some, slice_get}
+use Rattle.std.specs.Prelude.{◌≡◌, List, Some, slice_get}
 use Rattle.std.specs.List.{AllByRecursion}
 use Rattle.cil_model.specs.Values.{Heap, IsHeap, KeepsForms, FitPlaces, IsValue}
 use Rattle.cil_model.specs.declared.machine.Config.{Config}
