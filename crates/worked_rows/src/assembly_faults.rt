@@ -1,6 +1,7 @@
 //! Assemblies that are cut or changed: the first fault and its place.
 
-use crate::demo_assembly::{DIV, MAX, file, put};
+use crate::changes::put;
+use crate::demo_assembly::{DIV, MAX, file};
 use asm_image::{AsmFault, AsmRefusal, Assembly, Cause};
 use metadata_tables::TableFault;
 use pe_reader::PeFault;
@@ -75,11 +76,7 @@ const CUT_ADDRESSES: [(usize, u32); 6] = [
 ];
 
 /// A cell MethodList of the class that names no method, or one that is not in order.
-const LIST_OUT: TableFault = TableFault::IndexOut {
-    table: 0x02,
-    row: 2,
-    column: 5,
-};
+const LIST_OUT: TableFault = TableFault::IndexOut(0x02, 2, 5);
 
 /// Other bytes at a place of the file of `DIV`, and the fault of its headers with the place that is told.
 const PE_CHANGES: [(usize, &[u8], PeFault, u32); 8] = [
@@ -112,7 +109,7 @@ const TABLE_CHANGES: [(usize, &[u8], TableFault, u32); 12] = [
     (
         0x2d8,
         b"\x4f",
-        TableFault::BadTables { bit: 3, at: 0x74 },
+        TableFault::BadTables(3, 0x74),
         0x2d8,
     ),
     // The stream `#~` ends inside Valid, and one byte into the row of the method.

@@ -1,6 +1,7 @@
 //! Assemblies of known plans are read back: tokens, printed names and columns of their methods.
 
-use crate::demo_assembly::{ARRAY_SUM, CONSTRUCTOR, DIV, Method, file, put};
+use crate::changes::put;
+use crate::demo_assembly::{ARRAY_SUM, CONSTRUCTOR, DIV, Method, file};
 use asm_image::{Assembly, MethodRow};
 use cc_base::Token;
 use cil_model::Place;
@@ -190,7 +191,7 @@ fn locals_have_a_row_of_their_own(rt: HostRuntime) -> Result<(), Fail> {
     let Some(LocalSig::Known(locals)) = assembly.locals_of(0x1100_0001) else {
         panic!(rt; "no locals");
     };
-    assert_eq!(rt; locals.as_slice(), [Place::Int, Place::Int].as_slice());
+    assert_eq!(rt; locals.to_vec(alloc)?.as_slice(), [Place::Int, Place::Int].as_slice());
     assert!(rt; assembly.locals_of(0x1100_0002).is_none());
     assert_eq!(rt; assembly.element_of(Token(0x0100_0002)), Some(Place::Int));
     assert_eq!(rt; assembly.element_of(Token(0x0100_0003)), Some(Place::Bool));

@@ -87,12 +87,3 @@ pub fn file(alloc: Global, wide: bool, methods: &[Method]) -> Result<Vec<u8>, Wr
     };
     write_assembly(alloc, &plan)
 }
-
-/// Puts other bytes at a place of the file, where it has that place, and tells whether it has.
-pub fn put(file: &mut [u8], at: usize, bytes: &[u8]) -> bool {
-    let is_there = at <= file.len() && bytes.len() <= file.len() - at;
-    if is_there {
-        file[at..at + bytes.len()].copy_from_slice(bytes);
-    }
-    is_there
-}

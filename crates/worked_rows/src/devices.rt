@@ -89,12 +89,3 @@ fn owned(alloc: Global, words: &[&str]) -> Result<Vec<String>, AllocError> {
     }
     Ok(copies)
 }
-
-/// The parts, one after another.
-pub fn joined(alloc: Global, parts: &[&[u8]]) -> Result<Vec<u8>, AllocError> {
-    let mut bytes = Vec::new(alloc);
-    for part in parts {
-        bytes.extend_from_slice(part)?;
-    }
-    Ok(bytes)
-}

@@ -1,6 +1,7 @@
 //! Lists of the methods of an assembly, and refused assemblies: each line.
 
-use crate::demo_assembly::{ARRAY_SUM, CONSTRUCTOR, DIV, MAX, Method, file, put};
+use crate::changes::put;
+use crate::demo_assembly::{ARRAY_SUM, CONSTRUCTOR, DIV, MAX, Method, file};
 use crate::devices::{Answer, Devices};
 use cil_model::Place;
 use std::alloc::Global;
