@@ -82,7 +82,7 @@ impl Devices {
 }
 
 /// Copies of the words.
-fn owned(alloc: Global, words: &[&str]) -> Result<Vec<String>, AllocError> {
+pub fn owned(alloc: Global, words: &[&str]) -> Result<Vec<String>, AllocError> {
     let mut copies = Vec::new(alloc);
     for word in words {
         copies.push(String::from_str(alloc, word)?)?;

@@ -127,6 +127,7 @@ fn blobs_have_their_lengths_before_them(rt: HostRuntime) -> Result<(), Fail> {
     // The streams have other names: without `#US` there is no item.
     change(&rt, &mut md, &[(0x50, b"#Us"), (0x8c, b"#us")]);
     assert_user_strings(&rt, &md, &[(0, None), (1, None)])?;
+    assert!(rt; md.len() == LENGTH);
     let tables = Tables::read(&md)?;
     for (index, item) in BLOBS {
         assert_eq!(rt; tables.blob_at(index), item.map(|item| item.0), "at {index}");

@@ -23,7 +23,13 @@ mod devices;
 #[cfg(test)]
 mod failing_devices;
 #[cfg(test)]
+mod fault_texts;
+#[cfg(test)]
 mod heap_rows;
+#[cfg(test)]
+mod image_rows;
+#[cfg(test)]
+mod lacking_devices;
 #[cfg(test)]
 mod limits;
 #[cfg(test)]
@@ -43,4 +49,8 @@ mod unit_refusals;
 #[cfg(test)]
 mod unit_reports;
 #[cfg(test)]
+mod verdict_rows;
+#[cfg(test)]
 mod word_lists;
+#[cfg(test)]
+mod writer_rows;

@@ -17,6 +17,7 @@ const STRANGE: Method = Method {
     result: Place::Void,
     args: &[Place::Bool, Place::Bools],
     locals: &[],
+    max_stack: 8,
     code: b"\x2a",
 };
 

@@ -179,13 +179,14 @@ fn front(
 
 /// A cell: where it stands, and its number.
 #[derive(Clone, Copy)]
-struct Cell {
-    at: u32,
-    number: u32,
+pub struct Cell {
+    /// Its offset in the metadata.
+    pub at: u32,
+    pub number: u32,
 }
 
 /// The cell of a table, which has it.
-fn cell_of(rt: &impl Abort, tables: &Tables<'_>, table: u8, row: u32, column: u8) -> Cell {
+pub fn cell_of(rt: &impl Abort, tables: &Tables<'_>, table: u8, row: u32, column: u8) -> Cell {
     assert!(rt; row >= 1 && row <= tables.row_count(table), "no row {row} of {table}");
     assert!(rt; usize::from(column) < columns(table).len(), "no column {column} of {table}");
     Cell {
@@ -195,7 +196,9 @@ fn cell_of(rt: &impl Abort, tables: &Tables<'_>, table: u8, row: u32, column: u8
 }
 
 /// The bytes of a column of this kind.
-fn width(kind: u8, heap_sizes: u8) -> u32 {
+fn width(kind: u8, heap_sizes: u8) -> u32
+    ensures { result ≤ 4 }
+{
     let bit = match kind {
         b'4' => return 4,
         b'S' => 1,
@@ -237,6 +240,7 @@ fn each_cell_has_its_place(rt: HostRuntime) -> Result<(), Fail> {
             for (kind, column) in kinds.iter().zip(0..) {
                 let cell = cell_of(&rt, &tables, table, 1, column);
                 assert_eq!(rt; cell.at, at, "{table} {column}");
+                assert!(rt; at < 0x300);
                 let next = at + width(*kind, heap_sizes);
                 let stored = number(md.get(at as usize..next as usize));
                 assert_eq!(rt; Some(cell.number), stored, "{table} {column}");
@@ -260,7 +264,7 @@ fn width_of(
     index: Index,
 ) -> Result<u32, Fail> {
     let (table, column, _, _) = index;
-    assert!(rt; md.len() == ROOM);
+    assert!(rt; md.len() == ROOM && column < 9);
     assert!(rt; put(md, 0, &front(alloc, counts, 0, 0x180_0000 - 0x48)?));
     let tables = Tables::read(md)?;
     let at = cell_of(rt, &tables, table, 1, column).at;
