@@ -175,7 +175,11 @@ fn cells_are_those_that_monodis_tells(rt: HostRuntime) -> Result<(), Fail> {
     }
     for (table, row, column, at, number) in CELLS {
         let cell = cell_of(&rt, &tables, table, row, column);
-        assert_eq!(rt; (cell.at, cell.number), (at, number), "{table} {row} {column}");
+        assert_eq!(rt;
+            (cell.at, cell.number),
+            (at, number),
+            "{table} {row} {column}"
+        );
     }
     for (index, text) in STRINGS {
         assert_eq!(rt; tables.string_at(index), Some(text), "at {index}");

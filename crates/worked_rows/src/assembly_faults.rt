@@ -55,12 +55,7 @@ const TABLE_CHANGES: [(usize, &[u8], TableFault, u32); 12] = [
     (0x288, b"\xff\xff", TableFault::BadRoot, 0x264),
     (0x282, b"\x04", TableFault::MissingStream, 0x264),
     // The bit of the table 03.
-    (
-        0x2d8,
-        b"\x4f",
-        TableFault::BadTables(3, 0x74),
-        0x2d8,
-    ),
+    (0x2d8, b"\x4f", TableFault::BadTables(3, 0x74), 0x2d8),
     // The stream `#~` ends inside Valid, and one byte into the row of the method.
     (0x288, b"\x0f\0", TableFault::Short(0x74), 0x2d8),
     (0x288, b"\x77\0", TableFault::Short(0xe2), 0x346),

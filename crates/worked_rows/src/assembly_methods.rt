@@ -198,7 +198,13 @@ const PLANS: [Method; 7] = [
         is_static: false,
         result: Place::Bools,
         args: &[Place::Ints, Place::Bools, Place::Int, Place::Bool],
-        locals: &[Place::Bool, Place::Int, Place::Bools, Place::Ints, Place::Bool],
+        locals: &[
+            Place::Bool,
+            Place::Int,
+            Place::Bools,
+            Place::Ints,
+            Place::Bool,
+        ],
         max_stack: 119,
         code: b"\x14\x2a",
     },
@@ -236,7 +242,22 @@ fn assert_body(
     let Some(body) = assembly.image().at(rva, size) else {
         panic!(rt; "no body of {:?}", plan.name);
     };
-    let [0x13, 0x30, stack, 0, c0, c1, c2, c3, t0, t1, t2, t3, code @ ..] = body else {
+    let [
+        0x13,
+        0x30,
+        stack,
+        0,
+        c0,
+        c1,
+        c2,
+        c3,
+        t0,
+        t1,
+        t2,
+        t3,
+        code @ ..,
+    ] = body
+    else {
         panic!(rt; "no header of {:?}", plan.name);
     };
     assert_eq!(rt; *stack, plan.max_stack);
@@ -252,13 +273,11 @@ fn assert_body(
 }
 
 /// Asserts that the row of a method has the types of the plan.
-fn assert_types(
-    rt: &impl Abort,
-    alloc: Global,
-    row: &MethodRow,
-    plan: Method,
-) -> Result<(), Fail> {
-    assert_eq!(rt; (row.sig.has_this, row.sig.generic), (!plan.is_static, false));
+fn assert_types(rt: &impl Abort, alloc: Global, row: &MethodRow, plan: Method) -> Result<(), Fail> {
+    assert_eq!(rt;
+        (row.sig.has_this, row.sig.generic),
+        (!plan.is_static, false)
+    );
     let SigTypes::Known(signature) = &row.sig.types else {
         panic!(rt; "no types of {:?}", plan.name);
     };
@@ -279,7 +298,11 @@ fn plans_are_read_back(rt: HostRuntime) -> Result<(), Fail> {
             assert_body(&rt, alloc, &assembly, row.rva, plan)?;
         }
         // The locals of four plans have rows of their own, and there is no other.
-        for (token, is_there) in [(0x1100_0001, true), (0x1100_0004, true), (0x1100_0005, false)] {
+        for (token, is_there) in [
+            (0x1100_0001, true),
+            (0x1100_0004, true),
+            (0x1100_0005, false),
+        ] {
             assert_eq!(rt; assembly.locals_of(token).is_some(), is_there);
         }
         assert_eq!(rt; assembly.element_of(Token(0x0100_0002)), Some(Place::Int));

@@ -2,8 +2,8 @@
 
 use cc_base::{
     Compressed, CompressedFault, Files, MapFiles, Offset, PutRefusal, ReadRefusal, ReplaceRefusal,
-    Sink, Token, VecSink, append_escaped, compressed_number, little_endian_law, put_hex, put_number,
-    u16_at, u32_at, u64_at, wrap32,
+    Sink, Token, VecSink, append_escaped, compressed_number, little_endian_law, put_hex,
+    put_number, u16_at, u32_at, u64_at, wrap32,
 };
 use std::test::Fail;
 

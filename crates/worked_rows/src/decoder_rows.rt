@@ -105,7 +105,11 @@ fn spellings_are_decoded(rt: HostRuntime) -> Result<(), Fail> {
         let code = joined(alloc, &[b"\x2a", spelling, b"\xfe"])?;
         assert!(rt; spelling.len() < 100);
         let size = spelling.len() as u32;
-        assert_eq!(rt; decoded(&rt, alloc, &code, 1)?, (size, told), "{spelling:?}");
+        assert_eq!(rt;
+            decoded(&rt, alloc, &code, 1)?,
+            (size, told),
+            "{spelling:?}"
+        );
     }
     Ok(())
 }
@@ -114,6 +118,10 @@ fn spellings_are_decoded(rt: HostRuntime) -> Result<(), Fail> {
 fn other_bytes_are_no_instruction(rt: HostRuntime) {
     for (code, at, fault) in FAULTS {
         let want = Err(IlRefusal::Bad(fault));
-        assert_eq!(rt; decoded(&rt, rt.alloc(), code, at), want, "at {at} of {code:?}");
+        assert_eq!(rt;
+            decoded(&rt, rt.alloc(), code, at),
+            want,
+            "at {at} of {code:?}"
+        );
     }
 }

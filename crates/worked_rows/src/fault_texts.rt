@@ -32,7 +32,11 @@ const TABLE_FAULTS: [(TableFault, &str, u32); 6] = [
         "bad tables: bit 3 of the field at 00000074",
         0x74,
     ),
-    (TableFault::Short(0xec), "tables too short at 000000ec", 0xec),
+    (
+        TableFault::Short(0xec),
+        "tables too short at 000000ec",
+        0xec,
+    ),
     (
         TableFault::IndexOut(0x02, 1, 5),
         "index out of range in row 1 of table 02, column 5",
@@ -50,7 +54,11 @@ const UNIT_FAULTS: [(UnitFault, &str, u32); 4] = [
     (UnitFault::Short(0x15), "unit short at 00000015", 0x15),
     (UnitFault::Form(2), "unit form at 00000002", 2),
     (UnitFault::Version(3), "unit version at 00000003", 3),
-    (UnitFault::NotBuilt(0x16), "unit not built at 00000016", 0x16),
+    (
+        UnitFault::NotBuilt(0x16),
+        "unit not built at 00000016",
+        0x16,
+    ),
 ];
 
 const IL_FAULTS: [(IlFault, &str); 4] = [

@@ -145,16 +145,8 @@ const NARROW_FILES: [Row; 31] = [
         None,
     ),
     // The directory's address is cut, and 0; its size is cut, and the address 0.
-    (
-        0x16b,
-        &[(0x168, b"\0\0")],
-        Some(PeFault::TooShort(0x168)),
-    ),
-    (
-        0x16f,
-        &[(0x168, b"\0\0")],
-        Some(PeFault::TooShort(0x16c)),
-    ),
+    (0x16b, &[(0x168, b"\0\0")], Some(PeFault::TooShort(0x168))),
+    (0x16f, &[(0x168, b"\0\0")], Some(PeFault::TooShort(0x16c))),
     // The address is 0, and the first section passes the end; it is 0 alone; each of its bytes counts.
     (0x170, &[(0x168, b"\0\0")], Some(PeFault::NoCli(0x168))),
     (LENGTH, &[(0x168, b"\0\0")], Some(PeFault::NoCli(0x168))),
@@ -164,11 +156,7 @@ const NARROW_FILES: [Row; 31] = [
         Some(PeFault::RvaOutside(0x0100_0000)),
     ),
     // The last section passes the end, and the CLI header is in none.
-    (
-        0x1b7,
-        &[(0x168, b"\0\x24")],
-        Some(PeFault::TooShort(0x1b4)),
-    ),
+    (0x1b7, &[(0x168, b"\0\x24")], Some(PeFault::TooShort(0x1b4))),
     // The CLI header ends behind its section, and the metadata is in none; it ends where its section does,
     // and names the address 0.
     (
@@ -182,8 +170,16 @@ const NARROW_FILES: [Row; 31] = [
         Some(PeFault::RvaOutside(0)),
     ),
     // The CLI header at the least address of the section, one below it, and behind the last.
-    (LENGTH, &[(0x168, b"\xff\x1f")], Some(PeFault::RvaOutside(0x1fff))),
-    (LENGTH, &[(0x168, b"\0\x23")], Some(PeFault::RvaOutside(0x2300))),
+    (
+        LENGTH,
+        &[(0x168, b"\xff\x1f")],
+        Some(PeFault::RvaOutside(0x1fff)),
+    ),
+    (
+        LENGTH,
+        &[(0x168, b"\0\x23")],
+        Some(PeFault::RvaOutside(0x2300)),
+    ),
     // The metadata one byte past its section, up to its end, and of no bytes.
     (
         LENGTH,
@@ -220,11 +216,7 @@ const WIDE_FILES: [Row; 6] = [
         None,
     ),
     (LENGTH, &[(0x178, b"\0\0")], Some(PeFault::NoCli(0x178))),
-    (
-        0x1c7,
-        &[(0x178, b"\0\x24")],
-        Some(PeFault::TooShort(0x1c4)),
-    ),
+    (0x1c7, &[(0x178, b"\0\x24")], Some(PeFault::TooShort(0x1c4))),
 ];
 
 /// The first fault of a file.

@@ -242,10 +242,16 @@ fn assert_verdict(
     let size = (code.len() as u32).to_le_bytes();
     let mut devices = Devices::with_unit(alloc, &joined(alloc, &[HEAD, &size, &code])?)?;
     let verdict = if is_proved { "proved" } else { "unproved" };
-    let counts = if is_proved { "1 proved, 0 unproved" } else { "0 proved, 1 unproved" };
+    let counts = if is_proved {
+        "1 proved, 0 unproved"
+    } else {
+        "0 proved, 1 unproved"
+    };
     let at = number.len();
     let count = u8::from(is_proved);
-    let report = format!(in alloc; "unit T::f(int32): {verdict}\n  IL_{at:04x} assert: {verdict}\nsummary: 1 methods, {counts}, 0 not analysed, 1 obligations, {count} proved\n")?;
+    let report = format!(in alloc;
+        "unit T::f(int32): {verdict}\n  IL_{at:04x} assert: {verdict}\nsummary: 1 methods, {counts}, 0 not analysed, 1 obligations, {count} proved\n"
+    )?;
     let want = Answer {
         status: u8::from(!is_proved),
         out: report.as_bytes(),
