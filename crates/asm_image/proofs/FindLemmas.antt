@@ -266,9 +266,6 @@ name_of_row md row = refl
 
 -- ---- the table of names
 
-pub named_none : (md : List ℕ) → NamesFirst [] [] md 0
-named_none md = record { lasts = λ name. refl; long = refl; befores = λ k h. absurd (omega arith) }
-
 -- One method more is noted.
 pub named_next : (md : List ℕ) (count : ℕ) (old new : List (List ℕ × ℕ)) (earlier short : List ℕ) (before : ℕ) → NamesFirst old earlier md count
     → short ≡ short_name md (count + 1) → before ≡ last_of old short → Notes old short (count + 1) new → NamesFirst new (earlier ++ before ∷ []) md (count + 1)

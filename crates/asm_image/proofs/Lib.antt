@@ -1,5 +1,4 @@
 pub mod BlobLemmas
-pub mod FaultLemmas
 pub mod FindLemmas
 pub mod NameLemmas
 pub mod NameTableLemmas

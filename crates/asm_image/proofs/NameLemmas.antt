@@ -1,11 +1,11 @@
 -- Printed names with their types and without.
-use Rattle.std.proofs.Common.{◌≡◌, ◌≢◌, ℕ, suc, ◌+◌, ◌-◌, ◌<◌, ◌≤◌, List, [], ◌∷◌, ◌++◌, length, take, get_or, Bool, true, false, true≢false, length-append, refl, sym, ap, ◌∙◌, arith, inl, inr}
-use Rattle.std.specs.Prelude.{not, ◌==◌, codes}
-use Rattle.std.specs.List.{All, flat_map, list_all}
+use Rattle.std.proofs.Common.{◌≡◌, ◌≢◌, ℕ, suc, ◌+◌, ◌-◌, ◌<◌, ◌≤◌, List, [], ◌∷◌, ◌++◌, length, take, get_or, Bool, true, false, true≢false, length-append, refl, sym, ap, ◌∙◌, arith, inl, inr, add-one}
+use Rattle.std.specs.Prelude.{zero, Some, not, ◌==◌, codes}
+use Rattle.std.specs.List.{All, flat_map, list_all, slice_get}
 use Rattle.std.proofs.lemmas.Bool.{cases_order}
 use Rattle.std.proofs.Math.Seq.{take-append_seam}
-use Rattle.std.proofs.lemmas.List.{get_or_at, get_or-append_right}
-use Rattle.std.proofs.lemmas.List.Concat.{flat_map-cons}
+use Rattle.std.proofs.lemmas.List.{append-nil, append_assoc, get_or_at, get_or-append_right}
+use Rattle.std.proofs.lemmas.List.Concat.{flat_map-cons, flat_map-append}
 use Rattle.std.proofs.lemmas.List.Elements.{All-get_or}
 use Rattle.std.proofs.lemmas.List.Folds.{list_all-append, list_all_at}
 use Rattle.cil_model.specs.declared.place.Place.{Place}
@@ -13,7 +13,26 @@ use Rattle.cil_model.specs.declared.place.Place.TheVariants as places
 use Rattle.signature_blobs.specs.declared.method.SigTypes.{SigTypes}
 use Rattle.signature_blobs.specs.declared.method.SigTypes.TheVariants as types
 use Rattle.cil_model.specs.Places.{place_text, next_parameter, parameters_text}
-use Rattle.asm_image.specs.Names.{types_text}
+use Rattle.asm_image.specs.Names.{parameter_text, types_text}
+use Rattle.signature_blobs.proofs.PlaceLemmas.{take-get}
+use Rattle.std.proofs.lemmas.Option.{same_Some}
+
+-- The types of the first parameters, and of one more.
+one_more : (places : List Place) (i : ℕ) (place : Place) → slice_get places i ≡ Some place
+    → parameters_text (take (suc i) places) ≡ parameters_text (take i places) ++ parameter_text i place
+one_more [] i place at = absurd cc
+one_more (first ∷ rest) zero place at = append-nil (place_text first) ∙ ap place_text (same_Some first place at)
+one_more (first ∷ rest) (suc k) place at =
+    let more : take (suc k) rest ≡ take k rest ++ place ∷ [] = rw (← add-one) (take-get rest k place at) in
+    let before = flat_map next_parameter (take k rest) in
+    let last : flat_map next_parameter (place ∷ []) ≡ next_parameter place = flat_map-cons next_parameter place [] ∙ append-nil (next_parameter place) in
+    rw (more, flat_map-append next_parameter (take k rest) (place ∷ []), last) (sym (append_assoc (place_text first) before (next_parameter place)))
+
+-- A text that goes on with the type of one more.
+pub parameters_more : (start line new : List ℕ) (places : List Place) (i : ℕ) (place : Place) → line ≡ start ++ parameters_text (take i places)
+    → slice_get places i ≡ Some place → new ≡ line ++ parameter_text i place → new ≡ start ++ parameters_text (take (i + 1) places)
+parameters_more start line new places i place so_far at more =
+    rw (add-one, more, so_far, one_more places i place at) (append_assoc start (parameters_text (take i places)) (parameter_text i place))
 
 -- No parenthesis opens.
 abbrev pub opens_none : List ℕ → Bool

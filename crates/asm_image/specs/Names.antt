@@ -1,7 +1,8 @@
 -- The printed names of methods.
 use Rattle.std.specs.Prelude.{ℕ, zero, suc, List, [], ◌∷◌, ◌++◌, codes}
 use Rattle.cc_base.specs.Escapes.{escaped}
-use Rattle.cil_model.specs.Places.{parameters_text}
+use Rattle.cil_model.specs.Places.{place_text, next_parameter, parameters_text}
+use Rattle.cil_model.specs.declared.place.Place.{Place}
 use Rattle.signature_blobs.specs.declared.method.SigTypes.{SigTypes}
 use Rattle.signature_blobs.specs.declared.method.SigTypes.TheVariants as types
 use Rattle.asm_image.specs.Cells.{type_name, namespace, method_name, signature, owner}
@@ -15,6 +16,11 @@ qualified (byte ∷ bytes) name = escaped (byte ∷ bytes) ++ codes "." ++ escap
 abbrev pub owner_text : List ℕ → ℕ → List ℕ
 owner_text md zero = []
 owner_text md (suc k) = qualified (namespace md (suc k)) (type_name md (suc k))
+
+-- The type of the parameter of an index from 0 on, behind a comma where it is not the first.
+abbrev pub parameter_text : ℕ → Place → List ℕ
+parameter_text zero place = place_text place
+parameter_text (suc index) place = next_parameter place
 
 abbrev pub types_text : SigTypes → List ℕ
 types_text (types.Known known) = codes "(" ++ parameters_text known.args ++ codes ")"

@@ -42,7 +42,11 @@ methods_of bytes = rows_of (metadata bytes)
 abbrev pub described : MethodRow → Method
 described row = record { token = row.token; flags = row.flags; impl_flags = row.impl_flags; rva = row.rva; sig = row.sig }
 
--- The first of some rows without its name, and its name, none where there is no row.
+-- The token of the first of some rows, that row without its name, and its name, none where there is no row.
+abbrev pub first_token : List MethodRow → Option Token
+first_token [] = None
+first_token (row ∷ rows) = Some row.token
+
 abbrev pub first_described : List MethodRow → Option Method
 first_described [] = None
 first_described (row ∷ rows) = Some (described row)

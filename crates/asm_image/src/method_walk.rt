@@ -6,7 +6,7 @@ ghost use Rattle.std.specs.Prelude.{◌≡◌, ◌++◌, ◌^◌, ◌<◌, drop,
 ghost use Rattle.metadata_tables.specs.Numbers.{method_def};
 ghost use Rattle.asm_image.specs.Cells.{HasRow, RunsRise, signature};
 ghost use Rattle.asm_image.specs.Names.{own_name};
-ghost use Rattle.asm_image.specs.Rows.{first_described, first_name, rows_of, described, method_row};
+ghost use Rattle.asm_image.specs.Rows.{first_described, first_name, first_token, rows_of, described, method_row};
 
 use crate::metadata::Metadata;
 use crate::method_row::Method;
@@ -94,7 +94,7 @@ fn append_own_name(
     let name = metadata.text(METHOD_DEF, row, METHOD_DEF_NAME);
     line.extend_from_slice(b"::")?;
     append_escaped(alloc, line, name)?;
-    append_types(alloc, line, &signature_of(metadata, row).types)
+    append_types(line, &signature_of(metadata, row).types)
 }
 
 impl<'f, 'a> MethodWalk<'f, 'a> {
@@ -109,6 +109,20 @@ impl<'f, 'a> MethodWalk<'f, 'a> {
             row: 1,
             owner: 0,
             owner_name: Vec::new(alloc),
+        }
+    }
+
+    /// The token of the current method, none where all are passed.
+    ///
+    /// Cost: constant. The signature is not read.
+    #[tactic(auto, using(metadata_tables::proofs::ColumnLemmas::known_columns, crate::proofs::WalkLemmas::walk), unfolding(crate::specs::Rows::method_row))]
+    pub fn token(&self) -> Option<Token>
+        ensures { result ≡ first_token self.now }
+    {
+        if self.row <= self.metadata.row_count(METHOD_DEF) {
+            Some(Token::new(METHOD_DEF, self.row))
+        } else {
+            None
         }
     }
 

@@ -4,14 +4,15 @@
 
 ghost use Rattle.std.specs.Prelude.{◌≡◌, ◌≤◌, ◌++◌, [], OnOk, OnErr};
 ghost use Rattle.asm_image.specs.Cells.{type_count};
-ghost use Rattle.asm_image.specs.Names.{qualified, owner_text, types_text};
+ghost use Rattle.cil_model.specs.Places.{parameters_text};
+ghost use Rattle.asm_image.specs.Names.{parameter_text, qualified, owner_text, types_text};
 
 use crate::metadata::Metadata;
 use cc_base::append_escaped;
-use cil_model::append_parameters;
+use cil_model::Place;
 use metadata_tables::column::{TYPE_DEF_NAME, TYPE_DEF_NAMESPACE};
 use metadata_tables::table::TYPE_DEF;
-use signature_blobs::SigTypes;
+use signature_blobs::{Places, SigTypes};
 use std::alloc::{AllocError, Global};
 
 /// Appends the name of a type behind its namespace.
@@ -30,14 +31,37 @@ fn append_qualified(
     append_escaped(alloc, line, name)
 }
 
+/// Appends the type of the parameter of an index from 0 on, behind a comma where it is not the first.
+fn append_place(line: &mut Vec<u8>, index: usize, place: Place) -> Result<(), AllocError>
+    ensures { OnOk result (line.new.items ≡ line.old.items ++ parameter_text index place) }
+{
+    if index > 0 {
+        line.push(b',')?;
+    }
+    line.extend_from_slice(place.text())
+}
+
+/// Appends the types of a method's parameters, with commas between.
+fn append_places(line: &mut Vec<u8>, places: &Places) -> Result<(), AllocError>
+    ensures { OnOk result (line.new.items ≡ line.old.items ++ parameters_text places.now) }
+{
+    for index in 0..places.len() {
+        let Some(place) = places.get(index) else {
+            break;
+        };
+        append_place(line, index, place)?;
+    }
+    Ok(())
+}
+
 /// Appends the types of a method's parameters in parentheses.
-pub fn append_types(alloc: Global, line: &mut Vec<u8>, types: &SigTypes) -> Result<(), AllocError>
+pub fn append_types(line: &mut Vec<u8>, types: &SigTypes) -> Result<(), AllocError>
     ensures { OnOk result (line.new.items ≡ line.old.items ++ types_text types.now) }
 {
     match types {
         SigTypes::Known(signature) => {
             line.push(b'(')?;
-            append_parameters(alloc, line, &signature.args.to_vec(alloc)?)?;
+            append_places(line, &signature.args)?;
             line.push(b')')?;
             Ok(())
         }

@@ -1,7 +1,7 @@
 -- The first fault of tests: test by test, list behind list, and by number.
 use Rattle.std.proofs.Common.{◌≡◌, ℕ, zero, suc, ◌+◌, ◌-◌, ◌<◌, ◌≤◌, List, [], ◌∷◌, ◌++◌, map, Bool, true, false, Option, Some, None, refl, sym, ap, subst, ◌∙◌, arith, inl, inr}
 use Rattle.std.specs.Prelude.{Result, Ok, Err, IsOk, IfErr, IsErrAnd, ◌↔◌}
-use Rattle.std.specs.List.{flat_map, range_with_len}
+use Rattle.std.specs.List.{AllByRecursion, flat_map, range_with_len}
 use Rattle.std.specs.Option.{option_or}
 use Rattle.std.proofs.lemmas.Bool.{cases_lt}
 use Rattle.std.proofs.lemmas.List.Concat.{flat_map-cons}
@@ -68,6 +68,25 @@ none_behind tests rest none = sym (first_of-append_none tests rest (none_before 
 pub none_here : {F : Type 0} (test : Option F) (rest : List (Option F)) → first_of (test ∷ rest) ≡ None → test ≡ None
 none_here test rest none = sym (first_of-one test) ∙ none_before (test ∷ []) rest none
 
+-- No test failed: each is passed.
+abbrev pub ArePassed : {F : Type 0} → List (Option F) → Type 0
+ArePassed tests = AllByRecursion (λ test. test ≡ None) tests
+
+pub none_failed : {F : Type 0} (tests : List (Option F)) → (first_of tests ≡ None) ↔ ArePassed tests
+unfolding first_of
+none_failed [] = (λ none. tt, λ passed. refl)
+none_failed (None ∷ tests) = (λ none. (refl, (none_failed tests).0 none), λ passed. (none_failed tests).1 passed.1)
+none_failed (Some fault ∷ tests) = (λ none. absurd cc, λ passed. absurd (let failed = passed.0 in cc))
+
+pub passed-append : {F : Type 0} (tests rest : List (Option F)) → ArePassed (tests ++ rest) ↔ (ArePassed tests × ArePassed rest)
+passed-append [] rest = (λ passed. (tt, passed), λ both. both.1)
+passed-append (test ∷ tests) rest =
+    (λ passed. let both = (passed-append tests rest).0 passed.1 in ((passed.0, both.0), both.1), λ both. (both.0.0, (passed-append tests rest).1 (both.0.1, both.1)))
+
+pub must_hold : {F : Type 0} (holds : Bool) (fault : F) → (must holds fault ≡ None) ↔ (holds ≡ true)
+must_hold true fault = (λ none. refl, λ so. refl)
+must_hold false fault = (λ none. absurd cc, λ so. absurd cc)
+
 -- ---- tests by number, from i on and below n
 
 range-from : (i n : ℕ) → i < n → range_with_len i (n - i) ≡ i ∷ range_with_len (i + 1) (n - (i + 1))
@@ -106,6 +125,8 @@ from_on-stop tests i n all fault h some so_far =
 pub from_on-done : {F : Type 0} (tests : ℕ → List (Option F)) (i n : ℕ) (all : Option F) → n ≤ i → from_on tests i n ≡ all → all ≡ None
 from_on-done tests i n all h so_far =
     sym so_far ∙ ap (λ (numbers : List ℕ). first_of (flat_map tests numbers)) (range-end i n h) ∙ first_of-nil
+
+pub ruleset numbered = (from_on-start, from_on-next, from_on-stop, from_on-done)
 
 -- No test of these numbers failed, and so none of each.
 pub each-passed : {F : Type 0} (tests : ℕ → List (Option F)) (i n k : ℕ) → i ≤ k → k < i + n

@@ -3,7 +3,7 @@ use Rattle.std.proofs.Common.{◌≡◌, ℕ, ◌≤◌, List, [], ◌∷◌, le
 use Rattle.std.specs.Prelude.{codes}
 use Rattle.std.proofs.lemmas.Bool.{cases_lt, le-leb, lt-leb}
 use Rattle.std.proofs.lemmas.List.{take_all, get_or-map, length-map}
-use Rattle.asm_image.specs.Faults.{first_assembly_fault, assembly_tests, file_tests, large_test, most_bytes}
+use Rattle.asm_image.specs.Faults.{FirstBroken, assembly_tests, file_tests, large_test}
 use Rattle.asm_image.specs.declared.fault.Cause.TheVariants as causes
 use Rattle.cc_base.specs.Tests.{first_of}
 use Rattle.cc_base.specs.Files.{READ_LIMIT}
@@ -21,16 +21,16 @@ use Rattle.check_driver.proofs.FilesRead.{none_missing}
 -- ---- bytes that a read cut off
 
 -- An assembly past the limit has that fault first.
-large_first : (bytes : List ℕ) → READ_LIMIT ≤ length bytes → first_assembly_fault bytes ≡ Some (record { at = most_bytes; cause = causes.Large })
-unfolding first_assembly_fault assembly_tests file_tests large_test first_of
-large_first bytes past = rw (lt-leb (length bytes) most_bytes (omega (arith, past))) refl
+large_first : (bytes : List ℕ) → READ_LIMIT ≤ length bytes → FirstBroken bytes ≡ Some (record { at = MAX_FILE_BYTES; cause = causes.Large })
+unfolding FirstBroken assembly_tests file_tests large_test first_of
+large_first bytes past = rw (lt-leb (length bytes) MAX_FILE_BYTES (omega (arith, past))) refl
 
 -- A file past the limit is refused.
 pub too_large : (name bytes : List ℕ) → READ_LIMIT ≤ length bytes → unit_file_answer name bytes ≡ refused_answer name (codes "file too large") MAX_FILE_BYTES
 too_large name bytes past = let test = le-leb READ_LIMIT (length bytes) past in rw test refl
 
 abbrev list_file_answer : List ℕ → List ℕ → Answer
-list_file_answer name bytes = list_answer name bytes (first_assembly_fault bytes)
+list_file_answer name bytes = list_answer name bytes (FirstBroken bytes)
 
 -- Bytes that were cut off past the limit have the answer of the whole.
 unit_cut : (name bytes : List ℕ) (limit : ℕ) → limit ≡ READ_LIMIT → READ_LIMIT ≤ length bytes → unit_file_answer name bytes ≡ unit_file_answer name (take limit bytes)

@@ -1,6 +1,6 @@
 -- No answer has a status that tells an interruption.
 use Rattle.std.proofs.Common.{◌≢◌, ℕ, ◌≤◌, Bool, true, false, List, Option, Some, None, if◌then◌else◌, nat_le, length, arith}
-use Rattle.asm_image.specs.Faults.{first_assembly_fault}
+use Rattle.asm_image.specs.Faults.{FirstBroken}
 use Rattle.asm_image.specs.declared.fault.AsmFault.{AsmFault}
 use Rattle.cc_base.specs.Files.{READ_LIMIT}
 use Rattle.check_driver.specs.Expected.{Answer, expected, command_answer, missing_or, bytes_answer, list_answer, unit_answer, unit_file_answer, file_at}
@@ -46,7 +46,7 @@ plain_list name bytes (Some fault) = plain_refused
 
 plain_bytes : (command : Command) (words files : List (List ℕ)) → IsPlain (bytes_answer command words files).status
 plain_bytes (commands.Unit file) words files = plain_unit_file (word_at words file) (file_at files 0)
-plain_bytes (commands.List file) words files = plain_list (word_at words file) (file_at files 0) (first_assembly_fault (file_at files 0))
+plain_bytes (commands.List file) words files = plain_list (word_at words file) (file_at files 0) (FirstBroken (file_at files 0))
 
 plain_missing : (missing : Option (List ℕ)) (answer : Answer) → IsPlain answer.status → IsPlain (missing_or missing answer).status
 plain_missing None answer plain = plain

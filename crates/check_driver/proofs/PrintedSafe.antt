@@ -19,7 +19,7 @@ use Rattle.method_unit.specs.UnitFile.{first_unit_fault, unit_of}
 use Rattle.method_unit.specs.UnitSpelling.{unit_bytes}
 use Rattle.range_verdicts.specs.Verdicts.{verdicts, all_proved}
 use Rattle.range_verdicts.proofs.Soundness.{proved_is_safe}
-use Rattle.method_unit.proofs.UnitAgain.{unit_again}
+use Rattle.method_unit.proofs.Units.{unit_again}
 
 -- ---- lists
 

@@ -26,7 +26,7 @@ retold interrupts.CannotWrite interrupts.NoMemory h = absurd cc
 retold interrupts.NoMemory interrupts.CannotWrite h = absurd cc
 
 -- A text that is interrupted behind another one is a front of all that begins with both.
-writes_stop : {X Y : Type 0} (e : Interrupt) (old mid new : Option (List ℕ)) (f0 f1 f2 : ℕ) (before text whole : List ℕ)
+pub writes_stop : {X Y : Type 0} (e : Interrupt) (old mid new : Option (List ℕ)) (f0 f1 f2 : ℕ) (before text whole : List ℕ)
     → mid ≡ appended old before → Kept f0 f1 → Writes {X = X} (Err e) (change mid new f1 f2) text → IsFront (before ++ text) whole
     → Writes {X = Y} (Err e) (change old new f0 f2) whole
 writes_stop {X} {Y} e old mid new f0 f1 f2 before text whole so_far kept w inside = record {

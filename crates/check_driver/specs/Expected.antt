@@ -1,6 +1,6 @@
 -- What a call of the program gives where nothing interrupts it.
 use Rattle.std.specs.Prelude.{ℕ, List, [], ◌++◌, length, Option, Some, None, nat_le, if◌then◌else◌, codes, slice_index_or}
-use Rattle.asm_image.specs.Faults.{first_assembly_fault}
+use Rattle.asm_image.specs.Faults.{FirstBroken}
 use Rattle.asm_image.specs.declared.fault.AsmFault.{AsmFault}
 use Rattle.cc_base.specs.Digits.{hex}
 use Rattle.cc_base.specs.Escapes.{escaped}
@@ -84,7 +84,7 @@ file_at files index = slice_index_or files index []
 -- The answer to a command of these words for the bytes of its files, in order.
 abbrev pub bytes_answer : Command → List (List ℕ) → List (List ℕ) → Answer
 bytes_answer (commands.Unit file) words files = unit_file_answer (word_at words file) (file_at files 0)
-bytes_answer (commands.List file) words files = list_answer (word_at words file) (file_at files 0) (first_assembly_fault (file_at files 0))
+bytes_answer (commands.List file) words files = list_answer (word_at words file) (file_at files 0) (FirstBroken (file_at files 0))
 
 -- The answer where the first file that is missing has this name, or where none is.
 abbrev pub missing_or : Option (List ℕ) → Answer → Answer

@@ -4,10 +4,14 @@ use Rattle.std.specs.List.{flat_map}
 use Rattle.asm_image.specs.Rows.{methods_of}
 use Rattle.asm_image.specs.declared.method_row.MethodRow.{MethodRow}
 use Rattle.cc_base.specs.Digits.{hex}
+use Rattle.cc_base.specs.declared.token.Token.{Token}
 
 -- The line of a method: its token, its name.
+abbrev pub line_of : Token → List ℕ → List ℕ
+line_of token name = hex 8 token.0 ++ codes " " ++ name ++ codes "\n"
+
 abbrev pub method_line : MethodRow → List ℕ
-method_line method = hex 8 method.token.0 ++ codes " " ++ method.name ++ codes "\n"
+method_line method = line_of method.token method.name
 
 -- The methods of an assembly, one line for each.
 unfoldable pub list_text : List ℕ → List ℕ

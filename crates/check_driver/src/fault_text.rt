@@ -38,9 +38,9 @@ fn table_fault_text(fault: TableFault) -> &'static [u8]
     match fault {
         TableFault::BadRoot => b"bad metadata root",
         TableFault::MissingStream => b"missing stream",
-        TableFault::BadTables { .. } => b"bad tables",
+        TableFault::BadTables(..) => b"bad tables",
         TableFault::Short(_) => b"tables too short",
-        TableFault::IndexOut { .. } => b"index out of range",
+        TableFault::IndexOut(..) => b"index out of range",
         TableFault::HeapEnd(_) => b"heap end",
     }
 }

@@ -1,11 +1,13 @@
 -- The opcodes' rows are the spellings: each row spells its operation, and each spelling has a row.
-use Rattle.std.proofs.Common.{◌≡◌, ℕ, zero, suc, ◌+◌, ◌-◌, ◌^◌, ◌<◌, ◌≤◌, ℤ, pos, ◌-ℤ◌, Fits, FitsSigned, List, [], ◌∷◌, ◌++◌, Option, Some, None, ◌&&◌, false, cond, eqb, leb, refl, sym, ap, ◌∙◌, arith, ◌⊎◌, inl, inr}
+use Rattle.std.proofs.Common.{◌≡◌, ℕ, zero, suc, ◌+◌, ◌-◌, ◌^◌, ◌<◌, ◌≤◌, ℤ, pos, ◌-ℤ◌, Fits, List, [], ◌∷◌, ◌++◌, length, Option, Some, None, ◌&&◌, cond, eqb, leb, refl, sym, ap, ◌∙◌, arith, ◌⊎◌, inl, inr}
 use Rattle.std.specs.Int.{w8, w32, cast_signed, cast_unsigned}
 use Rattle.std.proofs.lemmas.Bool.{cond_both, eqb-true, leb-true, and_parts, cases_eq}
 use Rattle.std.proofs.lemmas.Int.{to_z-of_z, of_z-to_z, ints}
 use Rattle.std.proofs.Math.Facts.{Fits-of_z, sfits_to_z}
 use Rattle.byteorder.specs.Endian.{little_bytes}
-use Rattle.cil_model.specs.Opcodes.{Form, alone, short_form, long_form}
+use Rattle.cc_base.specs.LittleEndian.{IsBytes}
+use Rattle.cc_base.proofs.ByteLemmas.{IsBytes-cons, IsBytes-little_bytes}
+use Rattle.cil_model.specs.Opcodes.{Form, short_form, long_form}
 use Rattle.cil_model.specs.Spells.{SpellsLoadArg, SpellsConst, SpellsBin, SpellsOp}
 use Rattle.cil_model.specs.declared.instruction.BinOp.{BinOp}
 use Rattle.cil_model.specs.declared.instruction.BinOp.TheVariants as operators
@@ -14,10 +16,10 @@ use Rattle.cil_model.specs.declared.instruction.Op.TheVariants.{Nop, LoadArg, Co
 
 -- ---- each row spells
 
--- An opcode with this row spells the row's operations.
-abbrev pub FormSpells : List ℕ → Option Form → Type 0
-FormSpells opcode None = Unit {0}
-FormSpells opcode (Some (width, meaning)) = (n : ℕ) → n < 256 ^ width → SpellsOp (meaning n) (opcode ++ little_bytes width n)
+-- This is a byte, and an opcode that ends in it spells the operations of its row.
+abbrev pub FormSpells : ℕ → List ℕ → Option Form → Type 0
+FormSpells b opcode None = Unit {0}
+FormSpells b opcode (Some (width, meaning)) = (b < 256) × ((n : ℕ) → n < 256 ^ width → SpellsOp (meaning n) (opcode ++ little_bytes width n))
 
 -- One row, and then the others.
 row : (P : Option Form → Type 0) (b k : ℕ) (here others : Option Form) → (b ≡ k → P here) → P others → P (cond (eqb b k) here others)
@@ -50,29 +52,29 @@ const_long_spells n below =
     let fits : Fits w32 n = omega arith in
     inr (inr (inr (sfits_to_z fits, ap (λ (bits : ℕ). 0x20 ∷ little_bytes 4 bits) (sym (of_z-to_z w32 n below)))))
 
-pub short_form-spells : (b : ℕ) → FormSpells (b ∷ []) (short_form b)
+pub short_form-spells : (b : ℕ) → FormSpells b (b ∷ []) (short_form b)
 unfolding short_form
 short_form-spells b =
-    let P = FormSpells (b ∷ []) in
-    row P b 0x00 _ _ (λ e n h. rw e refl)
-    (rows P b 0x02 0x05 _ _ (λ low high n h. load_arg_spells b low high)
-    (row P b 0x0e _ _ (λ e n h. rw (e, one_byte n h) (inr (inl (h, refl))))
-    (rows P b 0x15 0x1e _ _ (λ low high n h. const_spells b low high)
-    (row P b 0x1f _ _ (λ e n h. rw e (const_byte_spells n h))
-    (row P b 0x20 _ _ (λ e n h. rw e (const_long_spells n h))
-    (row P b 0x28 _ _ (λ e n h. rw e (h, refl))
-    (row P b 0x2a _ _ (λ e n h. rw e refl)
-    (row P b 0x58 _ _ (λ e n h. rw e refl)
+    let P = FormSpells b (b ∷ []) in
+    row P b 0x00 _ _ (λ e. (omega arith, λ n h. rw e refl))
+    (rows P b 0x02 0x05 _ _ (λ low high. (omega arith, λ n h. load_arg_spells b low high))
+    (row P b 0x0e _ _ (λ e. (omega arith, λ n h. rw (e, one_byte n h) (inr (inl (h, refl)))))
+    (rows P b 0x15 0x1e _ _ (λ low high. (omega arith, λ n h. const_spells b low high))
+    (row P b 0x1f _ _ (λ e. (omega arith, λ n h. rw e (const_byte_spells n h)))
+    (row P b 0x20 _ _ (λ e. (omega arith, λ n h. rw e (const_long_spells n h)))
+    (row P b 0x28 _ _ (λ e. (omega arith, λ n h. rw e (h, refl)))
+    (row P b 0x2a _ _ (λ e. (omega arith, λ n h. rw e refl))
+    (row P b 0x58 _ _ (λ e. (omega arith, λ n h. rw e refl))
     tt))))))))
 
-pub long_form-spells : (b : ℕ) → FormSpells (0xfe ∷ b ∷ []) (long_form b)
+pub long_form-spells : (b : ℕ) → FormSpells b (0xfe ∷ b ∷ []) (long_form b)
 unfolding long_form
 long_form-spells b =
-    let P = FormSpells (0xfe ∷ b ∷ []) in
-    row P b 0x01 _ _ (λ e n h. rw e refl)
-    (row P b 0x02 _ _ (λ e n h. rw e refl)
-    (row P b 0x04 _ _ (λ e n h. rw e refl)
-    (row P b 0x09 _ _ (λ e n h. rw e (inr (inr (h, refl))))
+    let P = FormSpells b (0xfe ∷ b ∷ []) in
+    row P b 0x01 _ _ (λ e. (omega arith, λ n h. rw e refl))
+    (row P b 0x02 _ _ (λ e. (omega arith, λ n h. rw e refl))
+    (row P b 0x04 _ _ (λ e. (omega arith, λ n h. rw e refl))
+    (row P b 0x09 _ _ (λ e. (omega arith, λ n h. rw e (inr (inr (h, refl)))))
     tt)))
 
 -- ---- each spelling has a row
@@ -144,4 +146,29 @@ spelled_by_form Return bytes h = inl (0x2a, ([], h, (0, omega arith, refl, refl)
 spelled_by_form (Bin operator) bytes h = bin_by_form operator bytes h
 spelled_by_form _ bytes h = absurd h
 
-pub ruleset forms = (short_form-spells, long_form-spells, spelled_by_form)
+-- ---- what every spelling is
+
+-- No spelling is empty.
+pub spelling_some : (op : Op) (bytes : List ℕ) → SpellsOp op bytes → 0 < length bytes
+spelling_some op bytes h =
+    elim (spelled_by_form op bytes h) [
+      | inl (b, (operand, e, form)) ↦ rw e (omega arith)
+      | inr (b, (operand, e, form)) ↦ rw e (omega arith)
+    ]
+
+byte_below : (b : ℕ) (opcode : List ℕ) (form : Option Form) (op : Op) (operand : List ℕ) → FormSpells b opcode form → HasForm form op operand → b < 256
+byte_below b opcode None op operand spells h = absurd h
+byte_below b opcode (Some (width, meaning)) op operand spells h = spells.0
+
+operand_bytes : (form : Option Form) (op : Op) (operand : List ℕ) → HasForm form op operand → IsBytes operand
+operand_bytes None op operand h = absurd h
+operand_bytes (Some (width, meaning)) op operand h = rw h.3 (IsBytes-little_bytes width h.0)
+
+-- A spelling is a list of bytes.
+pub spelling_bytes : (op : Op) (bytes : List ℕ) → SpellsOp op bytes → IsBytes bytes
+spelling_bytes op bytes h =
+    elim (spelled_by_form op bytes h) [
+      | inl (b, (operand, e, form)) ↦ rw e (IsBytes-cons b operand (byte_below b (b ∷ []) (short_form b) op operand (short_form-spells b) form) (operand_bytes (short_form b) op operand form))
+      | inr (b, (operand, e, form)) ↦
+          rw e (IsBytes-cons 0xfe (b ∷ operand) (omega arith) (IsBytes-cons b operand (byte_below b (0xfe ∷ b ∷ []) (long_form b) op operand (long_form-spells b) form) (operand_bytes (long_form b) op operand form)))
+    ]

@@ -1,1 +1,14 @@
+pub mod AliasRun
+pub mod Alone
+pub mod ArithmeticFits
+pub mod AssumeRun
 pub mod Forms
+pub mod HeapsKept
+pub mod Laid
+pub mod OldValueRun
+pub mod OverflowRun
+pub mod RoomRun
+pub mod Running
+pub mod SumKinds
+pub mod SumRun
+pub mod SumUnit

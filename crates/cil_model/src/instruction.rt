@@ -17,9 +17,6 @@ pub struct Instr {
     pub op: Op,
 }
 
-/// The number by which the code of a unit calls `Contract.Assert`.
-pub const ASSERT_CALL: u32 = 5;
-
 /// What an instruction does, with its operand.
 #[derive(Drop)]
 pub enum Op {
@@ -100,4 +97,11 @@ pub enum BinOp {
     CgtUn,
     Clt,
     CltUn,
+}
+
+/// The operators of one number.
+#[derive(Clone, Copy, Debug, PartialEq, Eq)]
+pub enum UnOp {
+    Neg,
+    Not,
 }

@@ -9,13 +9,24 @@ mod list;
 mod machine;
 mod parameters;
 mod place;
+mod shape;
+mod tree;
+mod type_fault;
 mod unit;
+mod unit_numbers;
 
-pub use clause::{Clause, ClauseKind, Tree, UnOp};
-pub use instruction::{ASSERT_CALL, BinOp, CmpOp, Instr, Op, Targets, Test};
-pub use limits::{MAX_CODE_BYTES, MAX_FILE_BYTES, MAX_INSTRUCTIONS, MAX_VARIABLES};
+pub use clause::{Clause, ClauseKind};
+pub use instruction::{BinOp, CmpOp, Instr, Op, Targets, Test, UnOp};
+pub use limits::{
+    MAX_BLOCKS, MAX_CLAUSES, MAX_CODE_BYTES, MAX_CONDITIONS, MAX_FILE_BYTES, MAX_INSTRUCTIONS,
+    MAX_NAME_BYTES, MAX_NODES, MAX_OLD_VALUES, MAX_VARIABLES,
+};
 pub use list::List;
 pub use machine::{ArrayCell, Config, FaultKind, Frame, Obligation, Value, World};
 pub use parameters::append_parameters;
 pub use place::{Kind, Place};
+pub use shape::Shape;
+pub use tree::{Node, Tree};
+pub use type_fault::TypeFault;
 pub use unit::{CalleeInfo, Unit};
+pub use unit_numbers::{UnitCall, array_place, is_assert, unit_call};

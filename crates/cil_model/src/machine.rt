@@ -11,7 +11,7 @@ pub enum Value {
     /// A length, as a native number.
     Native(u32),
     Null,
-    /// The array at this place of the heap.
+    /// The array of this index in the heap.
     Array(u32),
     Text,
 }
@@ -19,6 +19,7 @@ pub enum Value {
 /// An array of the heap.
 #[derive(Drop)]
 pub struct ArrayCell {
+    /// The array's type: `bool[]` or `int32[]`.
     pub place: Place,
     pub items: List<i32>,
 }
@@ -26,7 +27,7 @@ pub struct ArrayCell {
 /// A method that is running.
 #[derive(Drop)]
 pub struct Frame {
-    /// The place of its unit in the world.
+    /// The index of its unit in the world.
     pub unit: u32,
     /// The IL offset of the next instruction.
     pub at: u32,
@@ -40,7 +41,7 @@ pub struct Frame {
     pub entry_heap: List<ArrayCell>,
 }
 
-/// A state of the machine, or how it ended. The two numbers of an end are a unit and an IL offset.
+/// A state of the machine, or how it ended. The two numbers of an end are a unit's index and an IL offset.
 #[derive(Drop)]
 pub enum Config {
     Live {
@@ -58,7 +59,7 @@ pub enum Config {
 #[derive(Drop)]
 pub struct World {
     pub units: List<Unit>,
-    /// For each unit, the places of its callees among the units.
+    /// For each unit, the indexes of its callees among the units.
     pub callee: List<List<u32>>,
 }
 

@@ -34,7 +34,8 @@ impl<A: Order, B: Order> Order for Paired<A, B> {
     }
 
     ghost gap_allowed = { λ pair number s t k is both.
-        elim (greater_gap-either (A.gap pair.first s t) (B.gap pair.second s t) k is)
-        [ inl first ↦ A.gap_allowed pair.first number s t k first both.0
-        | inr second ↦ B.gap_allowed pair.second number s t k second both.1 ] };
+        elim (greater_gap-either (A.gap pair.first s t) (B.gap pair.second s t) k is) [
+          | inl first ↦ A.gap_allowed pair.first number s t k first both.0
+          | inr second ↦ B.gap_allowed pair.second number s t k second both.1
+        ] };
 }

@@ -1,4 +1,2 @@
-pub mod Operands
-pub mod Rows
-pub mod Again
-pub mod Spelled
+pub mod Read
+pub mod Decoded

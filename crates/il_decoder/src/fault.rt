@@ -1,5 +1,10 @@
 //! Why code has no instructions.
 
+ghost use Rattle.std.specs.Prelude.{◌≡◌};
+ghost use Rattle.cc_base.specs.declared.refusal.Refusal.TheVariants.{Bad};
+ghost use Rattle.il_decoder.specs.Faults.{fault_at};
+
+use cc_base::Refusal;
 use thiserror::Error;
 
 /// The first thing that is wrong with a method's code. The first number is an IL offset.
@@ -19,13 +24,27 @@ pub enum IlFault {
     Header(u32),
 }
 
+impl IlFault {
+    /// The IL offset.
+    pub fn at(self) -> u32
+        ensures { result ≡ fault_at self }
+    {
+        match self {
+            IlFault::Short(at)
+            | IlFault::Opcode(at, _)
+            | IlFault::Target(at)
+            | IlFault::Header(at) => at,
+        }
+    }
+}
+
 /// Why code was not decoded.
-#[derive(Clone, Copy, Debug, PartialEq, Eq, Error)]
-pub enum IlRefusal {
-    /// The code is at fault.
-    #[error("{0}")]
-    Bad(IlFault),
-    /// Memory ran out.
-    #[error("no memory")]
-    NoMemory,
+pub type IlRefusal = Refusal<IlFault>;
+
+impl From<IlFault> for Refusal<IlFault> {
+    ghost from_gives = { λ fault refusal. refusal ≡ Bad fault };
+
+    fn from(fault: IlFault) -> Refusal<IlFault> {
+        Refusal::Bad(fault)
+    }
 }

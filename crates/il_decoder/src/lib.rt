@@ -6,6 +6,3 @@ mod fault;
 
 pub use decode::decode_one;
 pub use fault::{IlFault, IlRefusal};
-
-#[cfg(test)]
-mod tests;

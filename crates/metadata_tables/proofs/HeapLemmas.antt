@@ -1,11 +1,10 @@
 -- What is kept of a heap, and its items.
-use Rattle.std.proofs.Common.{length-drop, subst, ◌≡◌, ℕ, ◌+◌, ◌-◌, ◌≤◌, List, [], length, take, drop, Option, Some, None, refl, sym, ap, ◌∙◌, arith}
+use Rattle.std.proofs.Common.{length-drop, subst, ◌≡◌, ℕ, ◌+◌, ◌-◌, ◌≤◌, List, length, take, drop, Option, Some, None, refl, sym, ap, ◌∙◌, arith}
 use Rattle.std.specs.Prelude.{option_map, codes, is_some, IfSome}
 use Rattle.cc_base.specs.Tests.{first_of}
 use Rattle.cc_base.proofs.TestLemmas.{first_of-append_none, first_of-append_some, none_before, none_behind}
 use Rattle.metadata_tables.specs.declared.fault.TableFault.{TableFault}
 use Rattle.std.proofs.lemmas.List.{length-take, length-take-le, drop-drop, drop-take, take-take}
-use Rattle.std.proofs.Math.ListN.{drop_of_length-le}
 use Rattle.metadata_tables.specs.declared.root.Stream.{Stream}
 use Rattle.cc_base.specs.declared.compressed.Compressed.{Compressed}
 use Rattle.metadata_tables.specs.Root.{zero_ended, stream, streams_tests, bytes_of, heap}
@@ -13,17 +12,6 @@ use Rattle.metadata_tables.specs.Layout.{start_of}
 use Rattle.metadata_tables.specs.Heaps.{whole_length, item_of, string_at, blob_at, blob_offset, user_string_at, StandsAt}
 use Rattle.metadata_tables.specs.TableTests.{table_tests, tables_tests, first_table_fault}
 use Rattle.metadata_tables.proofs.HeaderLemmas.{stream-within}
-use Rattle.metadata_tables.proofs.RootLemmas.{rest-is}
-
--- The code's slice of a stream.
-pub bytes_of-is : (md : List ℕ) (s : Stream) (n : ℕ) → n ≡ s.size → take n (drop s.at md) ≡ bytes_of md (Some s)
-bytes_of-is md s n e = ap (λ (k : ℕ). take k (drop s.at md)) e
-
-pub rest_from-within : (bytes : List ℕ) (index : ℕ) → take (length bytes - index) (drop index bytes) ≡ drop index bytes
-rest_from-within bytes index = rest-is index bytes
-
-pub rest_from-past : (bytes : List ℕ) (index : ℕ) → length bytes ≤ index → [] ≡ drop index bytes
-rest_from-past bytes index h = sym (drop_of_length-le bytes h)
 
 pub heap-is : (md name : List ℕ) (s : Option Stream) (bytes : List ℕ) → stream md name ≡ s → bytes ≡ bytes_of md s → bytes ≡ heap md name
 unfolding heap

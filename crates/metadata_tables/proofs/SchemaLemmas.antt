@@ -1,6 +1,6 @@
 -- The table of schemas.
 use Rattle.std.proofs.Common.{Bor, zero, suc, ◌∷◌, leb, Bool, true, false, ◌&&◌, refl, ◌≡◌, ℕ, ◌≤◌, ◌<◌, List, [], map, length, get_or, sym, ap, arith, inl, inr}
-use Rattle.std.proofs.lemmas.List.{get_or_past, get_or-map, length-map}
+use Rattle.std.proofs.lemmas.List.{get_or_past, get_or-map}
 use Rattle.std.specs.List.{list_all}
 use Rattle.std.proofs.lemmas.Bool.{leb-true, cases_lt}
 use Rattle.metadata_tables.specs.declared.schema.Column.{Column}
@@ -18,13 +18,6 @@ and-back false b e = absurd cc
 pub now_at : {A : Type 0} (references : List (Bor (List A))) (i : ℕ) (d : Bor (List A)) → i < length references
     → (get_or references i d).now ≡ get_or (map (λ r. r.now) references) i []
 now_at {A} references i d h = sym (get_or-map (λ (r : Bor (List A)). r.now) references i d [] h)
-
--- Past the last there is none.
-pub none_past : {A : Type 0} (references : List (Bor (List A))) (i : ℕ) → length references ≤ i
-    → [] ≡ get_or (map (λ r. r.now) references) i []
-none_past {A} references i h =
-    let long : length (map (λ (r : Bor (List A)). r.now) references) ≡ length references = length-map references (λ (r : Bor (List A)). r.now) in
-    sym (get_or_past (map (λ (r : Bor (List A)). r.now) references) i [] (omega arith))
 
 -- What each list of some lists does not pass, the one at a place does not pass.
 few_at : (lists : List (List Column)) (n i : ℕ) → list_all (λ columns. leb (length columns) n) lists ≡ true → length (get_or lists i []) ≤ n

@@ -1,69 +1,84 @@
--- Instructions that are read one after another are those that were sought.
-use Rattle.std.proofs.Common.{◌≡◌, ℕ, zero, suc, ◌+◌, ◌-◌, ◌<◌, ◌≤◌, List, [], ◌∷◌, ◌++◌, length, drop, None, Result, Ok, Err, refl, sym, ap, ◌∙◌, append_assoc, append-nil, arith}
-use Rattle.std.proofs.Math.ListN.{drop_of_length-le}
+-- Instructions that are decoded one after another.
+use Rattle.std.proofs.Common.{◌≡◌, ℕ, zero, suc, ◌+◌, ◌-◌, ◌<◌, ◌≤◌, List, [], ◌∷◌, ◌++◌, length, map, Ok, None, Some, refl, sym, ap, ◌∙◌, append_assoc, append-nil, length-append, arith}
+use Rattle.std.specs.Prelude.{All, slice_index_or}
 use Rattle.std.proofs.lemmas.Bool.{le-leb, lt-leb}
+use Rattle.std.proofs.lemmas.List.{get_or-map}
+use Rattle.std.proofs.lemmas.List.Elements.{All-push}
+use Rattle.cc_base.specs.Tests.{first_of}
+use Rattle.cc_base.proofs.TestLemmas.{first_of-nil, first_of-none, first_of-some}
 use Rattle.cil_model.specs.declared.instruction.Instr.{Instr}
+use Rattle.il_decoder.specs.Decodes.{Reaches}
 use Rattle.il_decoder.specs.Decoding.{decoded}
-use Rattle.method_unit.specs.Faults.{Reads}
-use Rattle.method_unit.specs.UnitFile.{built, followed_by, instructions, limit_fault}
+use Rattle.method_unit.specs.UnitFile.{offset_behind, decodings, all_decodings, decoding_test, decoding_tests, instructions, instructions_of, offset_of}
 use Rattle.method_unit.specs.declared.unit_fault.UnitFault.{UnitFault}
-use Rattle.method_unit.specs.declared.unit_fault.UnitRefusal.{UnitRefusal}
-use Rattle.method_unit.specs.declared.unit_fault.UnitRefusal.TheVariants as refusals
 
--- What is read, behind a front that was read before.
-abbrev pub with_front : List Instr → Result (List Instr) UnitFault → Result (List Instr) UnitFault
-with_front front (Ok is) = Ok (front ++ is)
-with_front front (Err fault) = Err fault
+-- What is decoded before the end, and at it.
 
-with_front-followed_by : (front : List Instr) (i : Instr) (rest : Result (List Instr) UnitFault)
-    → with_front front (followed_by i rest) ≡ with_front (front ++ i ∷ []) rest
-with_front-followed_by front i (Ok is) = ap Ok (sym (append_assoc front (i ∷ []) is))
-with_front-followed_by front i (Err fault) = refl
+pub decodings-more : (most : ℕ) (code : List ℕ) (at : ℕ) → at < length code
+    → decodings (suc most) code at ≡ decoded code at ∷ decodings most code (offset_behind code at (decoded code at))
+unfolding decodings
+decodings-more most code at inside = rw (lt-leb _ _ inside) refl
 
--- One more is read.
-pub instructions-step : (front : List Instr) (base most k at : ℕ) (code : List ℕ) (i : Instr) (total : Result (List Instr) UnitFault)
-    → k < most → at < length code → built (base + at) (decoded code at) ≡ Ok i
-    → with_front front (instructions (most - k) base code at) ≡ total
-    → with_front (front ++ i ∷ []) (instructions (most - (k + 1)) base code (at + i.size)) ≡ total
-unfolding instructions
-instructions-step front base most k at code i total lt inside read so_far =
-    let more : most - k ≡ suc (most - (k + 1)) = omega arith in
-    let test = lt-leb _ _ inside in
-    let one : with_front front (instructions (most - k) base code at) ≡ with_front (front ++ i ∷ []) (instructions (most - (k + 1)) base code (at + i.size)) =
-    rw (more, test, read) (with_front-followed_by front i (instructions (most - (k + 1)) base code (at + i.size))) in
-    sym one ∙ so_far
+pub one_more : (most : ℕ) (code : List ℕ) (at : ℕ) (i : Instr) → at < length code → decoded code at ≡ Ok i
+    → decodings (suc most) code at ≡ Ok i ∷ decodings most code (at + i.size)
+one_more most code at i inside found = decodings-more most code at inside ∙ ap (λ d. d ∷ decodings most code (offset_behind code at d)) found
 
--- The next is at fault.
-pub instructions-stop : (front : List Instr) (base most k at : ℕ) (code : List ℕ) (fault : UnitFault) (total : Result (List Instr) UnitFault)
-    → k < most → at < length code → built (base + at) (decoded code at) ≡ Err fault
-    → with_front front (instructions (most - k) base code at) ≡ total → total ≡ Err fault
-unfolding instructions
-instructions-stop front base most k at code fault total lt inside read so_far =
-    let more : most - k ≡ suc (most - (k + 1)) = omega arith in
-    let test = lt-leb _ _ inside in
-    let one : with_front front (instructions (most - k) base code at) ≡ Err fault = rw (more, test, read) refl in
-    sym so_far ∙ one
+pub decodings-end : (most : ℕ) (code : List ℕ) (at : ℕ) → length code ≤ at → decodings most code at ≡ []
+unfolding decodings
+decodings-end zero code at past = refl
+decodings-end (suc most) code at past = rw (le-leb _ _ past) refl
 
--- The next is refused.
-pub instructions-refused : {X : Type 0} (view : X → List Instr) (e : UnitRefusal) (front : List Instr) (base most k at : ℕ) (code : List ℕ) (total : Result (List Instr) UnitFault)
-    → k < most → at < length code → Reads {X = Instr} (λ i. i) (built (base + at) (decoded code at)) (Err e)
-    → with_front front (instructions (most - k) base code at) ≡ total
-    → Reads view total (Err e)
-instructions-refused view (refusals.Bad fault) front base most k at code total lt inside read so_far =
-    instructions-stop front base most k at code fault total lt inside read so_far
-instructions-refused view refusals.NoMemory front base most k at code total lt inside read so_far = tt
+-- These instructions were read up to an IL offset of the code: they and those that are decoded from there
+-- on are all, and the tests of those are left.
+pub record AreRead (base : ℕ) (code : List ℕ) (read : List Instr) (at : ℕ) : Type 0 where
+  pub inside : at ≤ length code
+  pub few : length read ≤ at
+  pub near : All (λ i. i.at < length code) read
+  pub tests : first_of (map (decoding_test base) (decodings (length code - length read) code at)) ≡ first_of (decoding_tests base code)
+  pub whole : read ++ instructions (decodings (length code - length read) code at) ≡ instructions_of code
 
--- Nothing is left to read.
-pub instructions-end : (front : List Instr) (base n at : ℕ) (code : List ℕ) (total : Result (List Instr) UnitFault)
-    → length code ≤ at → with_front front (instructions n base code at) ≡ total → total ≡ Ok front
-unfolding instructions
-instructions-end front base zero at code total past so_far = sym so_far ∙ ap Ok (append-nil front)
-instructions-end front base (suc n) at code total past so_far =
-    let test = le-leb _ _ past in
-    let one : with_front front (instructions (suc n) base code at) ≡ Ok front = rw test (ap Ok (append-nil front)) in
-    sym so_far ∙ one
+pub read-none : (base : ℕ) (code : List ℕ) (read : List Instr) → read ≡ [] → AreRead base code read 0
+unfolding decoding_tests instructions_of all_decodings
+read-none base code read none =
+    let all : length code - 0 ≡ length code = omega arith in
+    rw none (record { inside = omega arith; few = omega arith; near = λ k d h. absurd (omega arith); tests = rw all refl; whole = rw all refl })
+
+pub read-next : (base : ℕ) (code : List ℕ) (read more : List Instr) (at : ℕ) (i : Instr) → AreRead base code read at → at < length code → more ≡ read ++ i ∷ []
+    → decoding_test base (decoded code at) ≡ None → decoded code at ≡ Ok i → i.at ≡ at → Reaches i code → AreRead base code more (at + i.size)
+read-next base code read more at i so_far inside is passed found place reach =
+    let few = so_far.few in
+    let left : length code - length read ≡ suc (length code - (length read + 1)) = omega arith in
+    let long : length (read ++ i ∷ []) ≡ length read + 1 = length-append read (i ∷ []) in
+    let most = length code - (length read + 1) in
+    let here : decodings (length code - length read) code at ≡ Ok i ∷ decodings most code (at + i.size) = rw left (one_more most code at i inside found) in
+    let none : decoding_test base (Ok i) ≡ None = ap (decoding_test base) (sym found) ∙ passed in
+    rw is (record {
+      inside = omega (arith, reach.inside, place);
+      few = omega (arith, reach.some, long);
+      near = All-push (λ j. j.at < length code) read i so_far.near (omega arith);
+      tests = rw long (sym (ap (λ ds. first_of (map (decoding_test base) ds)) here ∙ first_of-none _ _ none) ∙ so_far.tests);
+      whole = rw long (append_assoc read (i ∷ []) _ ∙ sym (ap (λ ds. read ++ instructions ds) here) ∙ so_far.whole);
+    })
+
+pub read-fault : (base : ℕ) (code : List ℕ) (read : List Instr) (at : ℕ) (fault : UnitFault) → AreRead base code read at → at < length code
+    → decoding_test base (decoded code at) ≡ Some fault → first_of (decoding_tests base code) ≡ Some fault
+read-fault base code read at fault so_far inside failed =
+    let few = so_far.few in
+    let left : length code - length read ≡ suc (length code - (length read + 1)) = omega arith in
+    let rest = decodings (length code - (length read + 1)) code (offset_behind code at (decoded code at)) in
+    let here : decodings (length code - length read) code at ≡ decoded code at ∷ rest = rw left (decodings-more (length code - (length read + 1)) code at inside) in
+    sym so_far.tests ∙ ap (λ ds. first_of (map (decoding_test base) ds)) here ∙ first_of-some _ _ fault failed
+
+pub read-all : (base : ℕ) (code : List ℕ) (read : List Instr) (at : ℕ) → AreRead base code read at → length code ≤ at
+    → (first_of (decoding_tests base code) ≡ None) × (read ≡ instructions_of code)
+read-all base code read at so_far past =
+    let none = decodings-end (length code - length read) code at past in
+    (sym so_far.tests ∙ ap (λ ds. first_of (map (decoding_test base) ds)) none ∙ first_of-nil, sym (append-nil read) ∙ sym (ap (λ ds. read ++ instructions ds) none) ∙ so_far.whole)
+
+pub ruleset one_by_one = (read-next, read-fault, read-all)
 
 -- ---- the limit
 
-pub limit_fault-few : (base n : ℕ) (is : List Instr) → length is ≤ n → limit_fault base (drop n is) ≡ None
-limit_fault-few base n is few = rw (drop_of_length-le is few) refl
+pub instruction_offset : (is : List Instr) (index : ℕ) (d : Instr) → index < length is → offset_of is index ≡ (slice_index_or is index d).at
+unfolding offset_of
+instruction_offset is index d inside = get_or-map (λ (i : Instr). i.at) is index d 0 inside

@@ -1,6 +1,5 @@
 pub mod Faults
 pub mod Typing
 pub mod UnitFile
-pub mod Reach
 pub mod UnitSpelling
 pub mod Fields

@@ -1,10 +1,10 @@
 -- The typing of a unit's code up to its first return: every operand is there, the stack stays within its
 -- size, arguments are there, and the return finds the result alone (ECMA-335 III.1.7.4 and III.1.8.1).
 use Rattle.std.specs.Prelude.{ℕ, ◌+◌, ◌-◌, Bool, true, false, not, ◌||◌, ◌&&◌, List, [], ◌∷◌, Option, Some, ◌==◌, nat_lt, if◌then◌else◌}
+use Rattle.cc_base.specs.Tests.{must}
 use Rattle.cil_model.specs.declared.instruction.Instr.{Instr}
 use Rattle.cil_model.specs.declared.instruction.Op.{Op}
 use Rattle.cil_model.specs.declared.instruction.Op.TheVariants as ops
-use Rattle.method_unit.specs.Faults.{fails, ◌otherwise◌}
 use Rattle.method_unit.specs.declared.unit_fault.UnitFault.{UnitFault}
 use Rattle.method_unit.specs.declared.unit_fault.UnitFault.TheVariants.{Form}
 
@@ -45,19 +45,19 @@ is_typed args limit height (i ∷ is) =
     if is_return i.op then height == 1
     else (not (breaks args limit height i.op) && is_typed args limit (height_after i.op height) is)
 
--- The fault of an instruction that is no return, on a stack of this height. The code begins at the
+-- An instruction that is no return keeps the typing of a stack of this height. The code begins at the
 -- offset `base` of the file.
-abbrev pub step_fault : ℕ → ℕ → ℕ → ℕ → Instr → Option UnitFault
-step_fault args limit base height i = fails (breaks args limit height i.op) (Form (base + i.at))
+abbrev pub step_test : ℕ → ℕ → ℕ → ℕ → Instr → Option UnitFault
+step_test args limit base height i = must (not (breaks args limit height i.op)) (Form (base + i.at))
 
--- The fault of a return.
-abbrev pub return_fault : ℕ → ℕ → Instr → Option UnitFault
-return_fault base height i = fails (not (height == 1)) (Form (base + i.at))
+-- A return finds the result alone.
+abbrev pub return_test : ℕ → ℕ → Instr → Option UnitFault
+return_test base height i = must (height == 1) (Form (base + i.at))
 
--- The first fault of typing, from a stack of this height on. Where no return comes, it is at the last
+-- The typing of code from a stack of this height on. Where no return comes, the fault is at the last
 -- instruction, whose offset in the file is `last`.
-unfoldable pub typing_fault : ℕ → ℕ → ℕ → ℕ → ℕ → List Instr → Option UnitFault
-typing_fault args limit base height last [] = Some (Form last)
-typing_fault args limit base height last (i ∷ is) =
-    if is_return i.op then return_fault base height i
-    else (step_fault args limit base height i otherwise typing_fault args limit base (height_after i.op height) (base + i.at) is)
+unfoldable pub typing_tests : ℕ → ℕ → ℕ → ℕ → ℕ → List Instr → List (Option UnitFault)
+typing_tests args limit base height last [] = Some (Form last) ∷ []
+typing_tests args limit base height last (i ∷ is) =
+    if is_return i.op then return_test base height i ∷ []
+    else step_test args limit base height i ∷ typing_tests args limit base (height_after i.op height) (base + i.at) is

@@ -1,32 +1,27 @@
 -- Units that are built, and the one spelling of each as a file.
-use Rattle.std.specs.Prelude.{◌≡◌, ℕ, ◌+◌, ◌^◌, ◌<◌, ◌≤◌, false, true, List, [], ◌∷◌, ◌++◌, length, map, Some, None, Result, Ok, Err, codes}
+use Rattle.std.specs.Prelude.{◌≡◌, ℕ, ◌+◌, ◌^◌, ◌<◌, ◌≤◌, false, true, List, [], ◌∷◌, ◌++◌, length, map, Result, Ok, Err, codes}
 use Rattle.std.specs.List.{AllByRecursion}
 use Rattle.byteorder.specs.Endian.{little_bytes}
+use Rattle.cc_base.specs.declared.refusal.Refusal.{Refusal}
+use Rattle.cc_base.specs.declared.refusal.Refusal.TheVariants as refusals
+use Rattle.cil_model.specs.Limits.{MAX_CODE_BYTES, MAX_INSTRUCTIONS, MAX_VARIABLES}
+use Rattle.cil_model.specs.Places.{place_number}
 use Rattle.cil_model.specs.Spells.{CodeOf}
 use Rattle.cil_model.specs.declared.place.Place.{Place}
 use Rattle.cil_model.specs.declared.place.Place.TheVariants as places
 use Rattle.cil_model.specs.declared.unit.Unit.{Unit as MethodUnit}
 use Rattle.method_unit.specs.Typing.{is_typed}
-use Rattle.method_unit.specs.declared.unit_fault.UnitRefusal.{UnitRefusal}
-use Rattle.method_unit.specs.declared.unit_fault.UnitRefusal.TheVariants as refusals
-use Rattle.method_unit.specs.UnitFile.{MAX_VARIABLES, MAX_CODE, MAX_INSTRUCTIONS, is_printable, is_other_call, first_unit_fault, unit_of}
-
--- The byte that stands for a place.
-abbrev pub place_code : Place → ℕ
-place_code places.Void = 0
-place_code places.Bool = 1
-place_code places.Int = 2
-place_code places.Bools = 3
-place_code places.Ints = 4
+use Rattle.method_unit.specs.UnitFile.{is_printable, is_other_call}
+use Rattle.method_unit.specs.declared.unit_fault.UnitFault.{UnitFault}
 
 -- A list of places: their number, and a byte for each.
 abbrev pub spelled_places : List Place → List ℕ
-spelled_places places = length places ∷ map place_code places
+spelled_places places = length places ∷ map place_number places
 
 -- A unit as a file. Callees have no spelling yet: units that are built have none.
 abbrev pub unit_bytes : MethodUnit → List ℕ
 unit_bytes unit =
-    codes "CCU1" ++ (little_bytes 2 (length unit.name) ++ (unit.name ++ (place_code unit.result
+    codes "CCU1" ++ (little_bytes 2 (length unit.name) ++ (unit.name ++ (place_number unit.result
     ∷ (spelled_places unit.args ++ (spelled_places unit.locals ++ (unit.max_stack
     ∷ (little_bytes 2 (length unit.callees) ++ (little_bytes 4 (length unit.code) ++ unit.code))))))))
 
@@ -44,19 +39,13 @@ pub record IsBuilt (unit : MethodUnit) : Type 0 where
   pub body : unit.body_start ≡ 0
   pub variables : length unit.args + unit.max_stack ≤ MAX_VARIABLES
   pub code : CodeOf unit.instrs unit.code
-  pub code_length : length unit.code ≤ MAX_CODE
+  pub code_length : length unit.code ≤ MAX_CODE_BYTES
   pub few : length unit.instrs ≤ MAX_INSTRUCTIONS
   pub calls : AllByRecursion (λ i. is_other_call i.op ≡ false) unit.instrs
   pub typed : is_typed (length unit.args) unit.max_stack 0 unit.instrs ≡ true
 
 -- What was returned is this unit, unless memory ran out.
-abbrev pub ReadsOnly : MethodUnit → Result MethodUnit UnitRefusal → Type 0
+abbrev pub ReadsOnly : MethodUnit → Result MethodUnit (Refusal UnitFault) → Type 0
 ReadsOnly unit (Ok found) = found ≡ unit
 ReadsOnly unit (Err (refusals.Bad fault)) = ⊥
 ReadsOnly unit (Err refusals.NoMemory) = Unit {0}
-
--- What was returned is the unit of the file, or its first fault, unless memory ran out.
-abbrev pub ReadsUnit : List ℕ → Result MethodUnit UnitRefusal → Type 0
-ReadsUnit bytes (Ok unit) = (first_unit_fault bytes ≡ None) × (unit ≡ unit_of bytes)
-ReadsUnit bytes (Err (refusals.Bad fault)) = first_unit_fault bytes ≡ Some fault
-ReadsUnit bytes (Err refusals.NoMemory) = Unit {0}

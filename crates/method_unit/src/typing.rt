@@ -1,8 +1,8 @@
 //! The typing of a unit's code.
 
 ghost use Rattle.std.specs.Prelude.{◌≡◌, ◌+◌, ◌<◌, ◌≤◌, ◌^◌, ⊤, All};
-ghost use Rattle.method_unit.specs.Faults.{Tells};
-ghost use Rattle.method_unit.specs.Typing.{operands, results, is_return, lacks_argument, height_after, step_fault, return_fault, typing_fault};
+ghost use Rattle.cc_base.specs.Tests.{first_of, Judges};
+ghost use Rattle.method_unit.specs.Typing.{operands, results, is_return, lacks_argument, height_after, step_test, return_test, typing_tests};
 
 use crate::unit_fault::UnitFault;
 use cil_model::{Instr, Op};
@@ -57,8 +57,8 @@ fn check_step(
     requires small { max_stack < 256 }
     requires low { height ≤ max_stack }
     requires inside { base + instr.now.at < 2 ^ 32 }
-    ensures { Tells (step_fault args max_stack base height instr.now)
-        (λ behind. (behind ≡ height_after instr.now.op height) × (behind ≤ max_stack)) result }
+    ensures { Judges result (step_test args max_stack base height instr.now)
+        (λ behind. (behind ≡ height_after instr.now.op height) × (behind ≤ max_stack)) }
 {
     let op = &instr.op;
     let taken = operands(op);
@@ -72,10 +72,10 @@ fn check_step(
     Ok(behind)
 }
 
-/// That a return finds one value alone.
+/// Tests that a return finds one value alone.
 fn check_return(instr: &Instr, base: u32, height: usize) -> Result<(), UnitFault>
     requires { base + instr.now.at < 2 ^ 32 }
-    ensures { Tells (return_fault base height instr.now) (λ _. ⊤) result }
+    ensures { Judges result (return_test base height instr.now) (λ _. ⊤) }
 {
     if height == 1 {
         Ok(())
@@ -84,11 +84,11 @@ fn check_return(instr: &Instr, base: u32, height: usize) -> Result<(), UnitFault
     }
 }
 
-/// That the code is typed up to its first return: every operand and argument is there, the stack stays
+/// Tests that the code is typed up to its first return: every operand and argument is there, the stack stays
 /// within its size, and the return finds one value alone.
 ///
 /// The code begins at the offset `base` of the file.
-#[tactic(auto, unfolding(crate::specs::Typing::typing_fault))]
+#[tactic(auto, unfolding(cc_base::specs::Tests::first_of, crate::specs::Typing::typing_tests))]
 pub fn check_typing(
     instrs: &[Instr],
     args: usize,
@@ -97,7 +97,7 @@ pub fn check_typing(
 ) -> Result<(), UnitFault>
     requires small { max_stack < 256 }
     requires inside { All (λ i. base + i.at < 2 ^ 32) instrs.now }
-    ensures { Tells (typing_fault args max_stack base 0 base instrs.now) (λ _. ⊤) result }
+    ensures { Judges result (first_of (typing_tests args max_stack base 0 base instrs.now)) (λ _. ⊤) }
 {
     let mut height = 0;
     let mut last = base;

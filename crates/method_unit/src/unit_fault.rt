@@ -1,10 +1,10 @@
 //! Why a file is no built unit.
 
 ghost use Rattle.std.specs.Prelude.{◌≡◌};
+ghost use Rattle.cc_base.specs.declared.refusal.Refusal.TheVariants.{Bad};
 ghost use Rattle.method_unit.specs.Faults.{fault_at};
-ghost use Rattle.method_unit.specs.declared.unit_fault.UnitRefusal.TheVariants.{Bad, NoMemory};
 
-use std::alloc::{AllocError, AllocFailed};
+use cc_base::Refusal;
 use thiserror::Error;
 
 /// The first thing that is wrong with a unit file, with its offset in the file.
@@ -30,44 +30,21 @@ impl UnitFault {
         ensures { result ≡ fault_at self }
     {
         match self {
-            UnitFault::Short(at)
-            | UnitFault::Form(at)
-            | UnitFault::Version(at)
-            | UnitFault::NotBuilt(at) => at,
+            UnitFault::Short(offset)
+            | UnitFault::Form(offset)
+            | UnitFault::Version(offset)
+            | UnitFault::NotBuilt(offset) => offset,
         }
     }
 }
 
 /// Why a unit was not read.
-#[derive(Clone, Copy, Debug, PartialEq, Eq, Error)]
-pub enum UnitRefusal {
-    #[error(transparent)]
-    Bad(UnitFault),
-    /// Memory ran out.
-    #[error("out of memory")]
-    NoMemory,
-}
+pub type UnitRefusal = Refusal<UnitFault>;
 
-impl From<UnitFault> for UnitRefusal {
-    ghost from_gives = { λ fault e. e ≡ Bad fault };
+impl From<UnitFault> for Refusal<UnitFault> {
+    ghost from_gives = { λ fault refusal. refusal ≡ Bad fault };
 
-    fn from(fault: UnitFault) -> UnitRefusal {
-        UnitRefusal::Bad(fault)
-    }
-}
-
-impl From<AllocError> for UnitRefusal {
-    ghost from_gives = { λ _ e. e ≡ NoMemory };
-
-    fn from(_error: AllocError) -> UnitRefusal {
-        UnitRefusal::NoMemory
-    }
-}
-
-impl<T: Drop> From<AllocFailed<T>> for UnitRefusal {
-    ghost from_gives = { λ _ e. e ≡ NoMemory };
-
-    fn from(_error: AllocFailed<T>) -> UnitRefusal {
-        UnitRefusal::NoMemory
+    fn from(fault: UnitFault) -> Refusal<UnitFault> {
+        Refusal::Bad(fault)
     }
 }

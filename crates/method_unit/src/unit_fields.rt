@@ -1,71 +1,79 @@
 //! The fields of a unit file, in the order in which they are tested.
 
-ghost use Rattle.std.specs.Prelude.{◌≡◌, ◌+◌, ◌<◌, ◌≤◌, ◌^◌, ⊤, length};
-ghost use Rattle.method_unit.specs.Faults.{Tells};
+ghost use Rattle.std.specs.Prelude.{◌≡◌, ◌+◌, ◌<◌, ◌≤◌, ◌^◌, ⊤, length, slice_index};
+ghost use Rattle.cc_base.specs.LittleEndian.{u16_at, u32_at};
+ghost use Rattle.cc_base.specs.Tests.{first_of, Judges};
 ghost use Rattle.method_unit.specs.Fields.{HasFields};
-ghost use Rattle.method_unit.specs.UnitFile.{short, is_printable, wrong_letter, magic_fault, unprintable, name_fault, name_of, place_fault, result_fault, result_at, arg_fault, arg_faults, args_fault, args_at, arg_count, locals_fault, locals_at, max_stack_fault, max_stack_at, max_stack, callees_fault, callees_at, code_fault, code_length_at, code_at, code_of, field_fault};
+ghost use Rattle.method_unit.specs.UnitFile.{field, magic_tests, is_printable, printable_tests, name_tests, name_of, result_offset, place_tests, result_tests, args_offset, arg_tests, each_arg_tests, args_tests, arg_count, locals_offset, locals_tests, max_stack_offset, max_stack_tests, max_stack, callees_offset, callees_tests, code_length_offset, code_tests, code_of, field_tests};
 
 use crate::unit_fault::UnitFault;
-use cc_base::{u16_at, u32_at};
-
-/// The most arguments, locals and stack slots of a method together.
-const MAX_VARIABLES: usize = 128;
-
-/// The most bytes of a method's code.
-const MAX_CODE: usize = 65_536;
+use cil_model::{MAX_CODE_BYTES, MAX_VARIABLES, Place};
 
 /// Where the bytes of the name begin.
-const NAME_AT: usize = 6;
-
-/// The place code of int32.
-const INT: u8 = 2;
-
-/// The greatest place code.
-const LAST_PLACE: u8 = 4;
+const NAME_OFFSET: u32 = 6;
 
 /// The fields of a unit file that has no fault before its instructions.
 #[derive(Clone, Copy)]
 pub struct Fields<'a> {
     pub name: &'a [u8],
-    pub arg_count: usize,
+    pub arg_count: u8,
     pub max_stack: u8,
     pub code: &'a [u8],
     /// The offset of the code in the file.
-    pub code_at: u32,
+    pub code_offset: u32,
 }
 
-/// That a field of this size at this offset does not pass the end.
-fn check_end(bytes: &[u8], at: usize, size: usize) -> Result<(), UnitFault>
-    requires { at + size < 2 ^ 32 }
-    ensures { Tells (short bytes.now at size) (λ _. at + size ≤ length bytes.now) result }
+/// Tests that a field of this many bytes does not pass the end of the file.
+#[tactic(auto, unfolding(crate::specs::UnitFile::field))]
+fn skip_field(bytes: &[u8], offset: u32, size: u32) -> Result<(), UnitFault>
+    ensures { Judges result (field bytes.now offset size) (λ _. offset + size ≤ length bytes.now) }
 {
-    if bytes.len() < at + size {
-        return Err(UnitFault::Short(at as u32));
+    if offset as usize + size as usize <= bytes.len() {
+        Ok(())
+    } else {
+        Err(UnitFault::Short(offset))
     }
-    Ok(())
 }
 
-/// That the byte at this offset is this letter.
-fn check_letter(bytes: &[u8], at: usize, letter: u8) -> Result<(), UnitFault>
-    requires inside { at < length bytes.now }
-    requires small { at < 2 ^ 32 }
-    ensures { Tells (wrong_letter bytes.now at letter) (λ _. ⊤) result }
+/// The field of one byte at this offset.
+fn u8_field(bytes: &[u8], offset: u32) -> Result<u8, UnitFault>
+    ensures { Judges result (field bytes.now offset 1) (λ n. n ≡ slice_index bytes.now offset) }
 {
-    if bytes[at] != letter {
-        return Err(UnitFault::Form(at as u32));
-    }
-    Ok(())
+    skip_field(bytes, offset, 1)?;
+    Ok(bytes[offset as usize])
 }
 
-/// That the file begins with `CCU1`.
-#[tactic(auto, unfolding(crate::specs::UnitFile::magic_fault))]
+/// The field of two bytes at this offset.
+fn u16_field(bytes: &[u8], offset: u32) -> Result<u16, UnitFault>
+    ensures { Judges result (field bytes.now offset 2) (λ n. n ≡ u16_at bytes.now offset) }
+{
+    skip_field(bytes, offset, 2)?;
+    Ok(cc_base::u16_at(bytes, offset as usize))
+}
+
+/// The field of four bytes at this offset.
+fn u32_field(bytes: &[u8], offset: u32) -> Result<u32, UnitFault>
+    ensures { Judges result (field bytes.now offset 4) (λ n. n ≡ u32_at bytes.now offset) }
+{
+    skip_field(bytes, offset, 4)?;
+    Ok(cc_base::u32_at(bytes, offset as usize))
+}
+
+/// Tests that the file begins with `CCU1`.
+#[tactic(auto, using(cc_base::proofs::TestLemmas::first_tests), unfolding(crate::specs::UnitFile::magic_tests))]
 fn check_magic(bytes: &[u8]) -> Result<(), UnitFault>
-    ensures { Tells (magic_fault bytes.now) (λ _. 4 ≤ length bytes.now) result }
+    ensures { Judges result (first_of (magic_tests bytes.now)) (λ _. ⊤) }
 {
-    check_end(bytes, 0, 4)?;
-    check_letter(bytes, 0, b'C')?;
-    check_letter(bytes, 1, b'C')?;
-    check_letter(bytes, 2, b'U')?;
+    skip_field(bytes, 0, 4)?;
+    if bytes[0] != b'C' {
+        return Err(UnitFault::Form(0));
+    }
+    if bytes[1] != b'C' {
+        return Err(UnitFault::Form(1));
+    }
+    if bytes[2] != b'U' {
+        return Err(UnitFault::Form(2));
+    }
     if bytes[3] != b'1' {
         return Err(UnitFault::Version(3));
     }
@@ -79,194 +87,182 @@ fn is_printable(byte: u8) -> bool
     byte >= 0x21 && byte <= 0x7e
 }
 
-/// That every byte of a text, which begins at this offset, may stand in a name.
-#[tactic(auto, unfolding(crate::specs::UnitFile::unprintable))]
-fn check_printable(at: usize, text: &[u8]) -> Result<(), UnitFault>
-    requires { at + length text.now < 2 ^ 32 }
-    ensures { Tells (unprintable at text.now) (λ _. ⊤) result }
+/// Tests that every byte of a text, which begins at this offset, may stand in a name.
+#[tactic(auto, unfolding(cc_base::specs::Tests::first_of, crate::specs::UnitFile::printable_tests))]
+fn check_printable(offset: u32, text: &[u8]) -> Result<(), UnitFault>
+    requires { offset + length text.now < 2 ^ 32 }
+    ensures { Judges result (first_of (printable_tests offset text.now)) (λ _. ⊤) }
 {
     for (i, byte) in text.iter().enumerate() {
         if !is_printable(*byte) {
-            return Err(UnitFault::Form((at + i) as u32));
+            return Err(UnitFault::Form(offset + i as u32));
         }
     }
     Ok(())
 }
 
 /// The name, behind its length in two bytes.
-#[tactic(auto, unfolding(crate::specs::UnitFile::name_fault, crate::specs::UnitFile::name_of, crate::specs::UnitFile::name_length, crate::specs::UnitFile::result_at))]
+#[tactic(auto, using(cc_base::proofs::TestLemmas::first_tests), unfolding(crate::specs::UnitFile::name_tests, crate::specs::UnitFile::name_of, crate::specs::UnitFile::name_length, crate::specs::UnitFile::result_offset))]
 fn read_name(bytes: &[u8]) -> Result<&[u8], UnitFault>
-    ensures { Tells (name_fault bytes.now) (λ name. (name.now ≡ name_of bytes.now)
-        × (NAME_AT + length name.now ≡ result_at bytes.now) × (length name.now < 2 ^ 16)) result }
+    ensures { Judges result (first_of (name_tests bytes.now))
+        (λ name. (name.now ≡ name_of bytes.now)
+        × (NAME_OFFSET + length name.now ≡ result_offset bytes.now)
+        × (length name.now < 2 ^ 16)) }
 {
-    check_end(bytes, 4, 2)?;
-    let length = u16_at(bytes, 4) as usize;
-    check_end(bytes, NAME_AT, length)?;
-    let name = &bytes[NAME_AT..NAME_AT + length];
-    check_printable(NAME_AT, name)?;
+    let length = u32::from(u16_field(bytes, 4)?);
+    skip_field(bytes, NAME_OFFSET, length)?;
+    let start = NAME_OFFSET as usize;
+    let name = &bytes[start..start + length as usize];
+    check_printable(NAME_OFFSET, name)?;
     Ok(name)
 }
 
-/// That the place code at this offset is that of int32.
-fn check_place(bytes: &[u8], at: usize) -> Result<(), UnitFault>
-    requires inside { at < length bytes.now }
-    requires small { at < 2 ^ 32 }
-    ensures { Tells (place_fault bytes.now at) (λ _. ⊤) result }
+/// Tests that a number, which stands at this offset, is that of int32.
+#[tactic(auto, using(cc_base::proofs::TestLemmas::first_tests), unfolding(crate::specs::UnitFile::place_tests))]
+fn check_place(number: u8, offset: u32) -> Result<(), UnitFault>
+    ensures { Judges result (first_of (place_tests number offset)) (λ _. ⊤) }
 {
-    if bytes[at] > LAST_PLACE {
-        return Err(UnitFault::Form(at as u32));
+    match Place::of_number(number) {
+        None => Err(UnitFault::Form(offset)),
+        Some(Place::Int) => Ok(()),
+        Some(_) => Err(UnitFault::NotBuilt(offset)),
     }
-    if bytes[at] != INT {
-        return Err(UnitFault::NotBuilt(at as u32));
-    }
-    Ok(())
 }
 
-/// That the result is an int32. It stands behind the name.
-#[tactic(auto, unfolding(crate::specs::UnitFile::result_fault))]
-fn check_result(bytes: &[u8], at: usize) -> Result<(), UnitFault>
-    requires place { at ≡ result_at bytes.now }
-    requires small { at + 1 < 2 ^ 32 }
-    ensures { Tells (result_fault bytes.now) (λ _. at + 1 ≤ length bytes.now) result }
+/// Tests that the result is an int32.
+#[tactic(auto, using(cc_base::proofs::TestLemmas::first_tests), unfolding(crate::specs::UnitFile::result_tests))]
+fn check_result(bytes: &[u8], offset: u32) -> Result<(), UnitFault>
+    requires place { offset ≡ result_offset bytes.now }
+    ensures { Judges result (first_of (result_tests bytes.now)) (λ _. ⊤) }
 {
-    check_end(bytes, at, 1)?;
-    check_place(bytes, at)
+    let number = u8_field(bytes, offset)?;
+    check_place(number, offset)
 }
 
-/// That the argument's place at this offset is that of int32.
-#[tactic(auto, unfolding(crate::specs::UnitFile::arg_fault))]
-fn check_arg(bytes: &[u8], at: usize) -> Result<(), UnitFault>
-    requires { at + 1 < 2 ^ 32 }
-    ensures { Tells (arg_fault bytes.now at) (λ _. at + 1 ≤ length bytes.now) result }
+/// Tests that the argument at this offset is an int32.
+#[tactic(auto, using(cc_base::proofs::TestLemmas::first_tests), unfolding(crate::specs::UnitFile::arg_tests))]
+fn check_arg(bytes: &[u8], offset: u32) -> Result<(), UnitFault>
+    ensures { Judges result (first_of (arg_tests bytes.now offset)) (λ _. ⊤) }
 {
-    check_end(bytes, at, 1)?;
-    if bytes[at] == 0 {
-        return Err(UnitFault::Form(at as u32));
+    let number = u8_field(bytes, offset)?;
+    if number == Place::Void.number() {
+        return Err(UnitFault::Form(offset));
     }
-    check_place(bytes, at)
+    check_place(number, offset)
 }
 
-/// That this many arguments from an offset on are int32.
-#[tactic(auto, unfolding(crate::specs::UnitFile::arg_faults))]
-fn check_each_arg(bytes: &[u8], first: usize, count: usize) -> Result<(), UnitFault>
+/// Tests that this many arguments from an offset on are int32.
+#[tactic(auto, using(cc_base::proofs::TestLemmas::numbered), unfolding(crate::specs::UnitFile::each_arg_tests))]
+fn check_each_arg(bytes: &[u8], first: u32, count: u8) -> Result<(), UnitFault>
     requires { first + count < 2 ^ 32 }
-    ensures { Tells (arg_faults bytes.now count first) (λ _. ⊤) result }
+    ensures { Judges result (first_of (each_arg_tests bytes.now first count)) (λ _. ⊤) }
 {
-    for i in 0..count {
-        check_arg(bytes, first + i)?;
+    for offset in first..first + u32::from(count) {
+        check_arg(bytes, offset)?;
     }
     Ok(())
 }
 
 /// How many arguments there are. Each is an int32.
-#[tactic(auto, unfolding(crate::specs::UnitFile::args_fault, crate::specs::UnitFile::arg_count))]
-fn read_arg_count(bytes: &[u8], at: usize) -> Result<usize, UnitFault>
-    requires place { at ≡ args_at bytes.now }
-    requires small { at + 300 < 2 ^ 32 }
-    ensures { Tells (args_fault bytes.now) (λ count. (count ≡ arg_count bytes.now) × (count ≤ MAX_VARIABLES)) result }
+#[tactic(auto, using(cc_base::proofs::TestLemmas::first_tests), unfolding(crate::specs::UnitFile::args_tests, crate::specs::UnitFile::arg_count, crate::specs::UnitFile::first_arg_offset))]
+fn read_arg_count(bytes: &[u8], offset: u32) -> Result<u8, UnitFault>
+    requires place { offset ≡ args_offset bytes.now }
+    requires small { offset + 300 < 2 ^ 32 }
+    ensures { Judges result (first_of (args_tests bytes.now)) (λ count. (count ≡ arg_count bytes.now) × (count ≤ MAX_VARIABLES)) }
 {
-    check_end(bytes, at, 1)?;
-    let count = bytes[at] as usize;
-    if count > MAX_VARIABLES {
-        return Err(UnitFault::Form(at as u32));
+    let count = u8_field(bytes, offset)?;
+    if usize::from(count) > MAX_VARIABLES {
+        return Err(UnitFault::Form(offset));
     }
-    check_each_arg(bytes, at + 1, count)?;
+    check_each_arg(bytes, offset + 1, count)?;
     Ok(count)
 }
 
-/// That there are no locals. Their count stands behind the arguments.
-#[tactic(auto, unfolding(crate::specs::UnitFile::locals_fault))]
-fn check_locals(bytes: &[u8], at: usize, args: usize) -> Result<(), UnitFault>
-    requires place { at ≡ locals_at bytes.now }
-    requires small { at + 1 < 2 ^ 32 }
+/// Tests that there are no locals. Their count stands behind the arguments.
+#[tactic(auto, using(cc_base::proofs::TestLemmas::first_tests), unfolding(crate::specs::UnitFile::locals_tests))]
+fn check_locals(bytes: &[u8], offset: u32, args: u8) -> Result<(), UnitFault>
+    requires place { offset ≡ locals_offset bytes.now }
     requires counted { args ≡ arg_count bytes.now }
-    requires few { args ≤ MAX_VARIABLES }
-    ensures { Tells (locals_fault bytes.now) (λ _. ⊤) result }
+    ensures { Judges result (first_of (locals_tests bytes.now)) (λ _. ⊤) }
 {
-    check_end(bytes, at, 1)?;
-    let locals = bytes[at] as usize;
-    if args + locals > MAX_VARIABLES {
-        return Err(UnitFault::Form(at as u32));
+    let locals = u8_field(bytes, offset)?;
+    if usize::from(args) + usize::from(locals) > MAX_VARIABLES {
+        return Err(UnitFault::Form(offset));
     }
     if locals != 0 {
-        return Err(UnitFault::NotBuilt(at as u32));
+        return Err(UnitFault::NotBuilt(offset));
     }
     Ok(())
 }
 
 /// The size of the stack.
-#[tactic(auto, unfolding(crate::specs::UnitFile::max_stack_fault, crate::specs::UnitFile::max_stack))]
-fn read_max_stack(bytes: &[u8], at: usize, args: usize) -> Result<u8, UnitFault>
-    requires place { at ≡ max_stack_at bytes.now }
-    requires small { at + 1 < 2 ^ 32 }
+#[tactic(auto, using(cc_base::proofs::TestLemmas::first_tests), unfolding(crate::specs::UnitFile::max_stack_tests, crate::specs::UnitFile::max_stack))]
+fn read_max_stack(bytes: &[u8], offset: u32, args: u8) -> Result<u8, UnitFault>
+    requires place { offset ≡ max_stack_offset bytes.now }
     requires counted { args ≡ arg_count bytes.now }
-    requires few { args ≤ MAX_VARIABLES }
-    ensures { Tells (max_stack_fault bytes.now) (λ size. size ≡ max_stack bytes.now) result }
+    ensures { Judges result (first_of (max_stack_tests bytes.now)) (λ size. size ≡ max_stack bytes.now) }
 {
-    check_end(bytes, at, 1)?;
-    let max_stack = bytes[at];
-    if args + max_stack as usize > MAX_VARIABLES {
-        return Err(UnitFault::Form(at as u32));
+    let max_stack = u8_field(bytes, offset)?;
+    if usize::from(args) + usize::from(max_stack) > MAX_VARIABLES {
+        return Err(UnitFault::Form(offset));
     }
     Ok(max_stack)
 }
 
-/// That there are no callees.
-#[tactic(auto, unfolding(crate::specs::UnitFile::callees_fault))]
-fn check_callees(bytes: &[u8], at: usize) -> Result<(), UnitFault>
-    requires place { at ≡ callees_at bytes.now }
-    requires small { at + 2 < 2 ^ 32 }
-    ensures { Tells (callees_fault bytes.now) (λ _. ⊤) result }
+/// Tests that there are no callees.
+#[tactic(auto, using(cc_base::proofs::TestLemmas::first_tests), unfolding(crate::specs::UnitFile::callees_tests))]
+fn check_callees(bytes: &[u8], offset: u32) -> Result<(), UnitFault>
+    requires place { offset ≡ callees_offset bytes.now }
+    ensures { Judges result (first_of (callees_tests bytes.now)) (λ _. ⊤) }
 {
-    check_end(bytes, at, 2)?;
-    if u16_at(bytes, at) != 0 {
-        return Err(UnitFault::NotBuilt(at as u32));
+    if u16_field(bytes, offset)? != 0 {
+        return Err(UnitFault::NotBuilt(offset));
     }
     Ok(())
 }
 
 /// The code, behind its length in four bytes. It ends the file.
-#[tactic(auto, unfolding(crate::specs::UnitFile::code_fault, crate::specs::UnitFile::code_of, crate::specs::UnitFile::code_at, crate::specs::UnitFile::code_length))]
-fn read_code(bytes: &[u8], at: usize) -> Result<&[u8], UnitFault>
-    requires place { at ≡ code_length_at bytes.now }
-    requires small { at + 65600 < 2 ^ 32 }
-    ensures { Tells (code_fault bytes.now) (λ code. (code.now ≡ code_of bytes.now) × (length code.now ≤ MAX_CODE)) result }
+#[tactic(auto, using(cc_base::proofs::TestLemmas::first_tests), unfolding(crate::specs::UnitFile::code_tests, crate::specs::UnitFile::code_of, crate::specs::UnitFile::code_offset, crate::specs::UnitFile::code_length))]
+fn read_code(bytes: &[u8], offset: u32) -> Result<&[u8], UnitFault>
+    requires place { offset ≡ code_length_offset bytes.now }
+    requires small { offset + 65600 < 2 ^ 32 }
+    ensures { Judges result (first_of (code_tests bytes.now)) (λ code. (code.now ≡ code_of bytes.now) × (length code.now ≤ MAX_CODE_BYTES)) }
 {
-    check_end(bytes, at, 4)?;
-    let length = u32_at(bytes, at) as usize;
-    if length > MAX_CODE {
-        return Err(UnitFault::Form(at as u32));
+    let length = u32_field(bytes, offset)?;
+    if length as usize > MAX_CODE_BYTES {
+        return Err(UnitFault::Form(offset));
     }
-    let start = at + 4;
-    check_end(bytes, start, length)?;
-    if bytes.len() > start + length {
-        return Err(UnitFault::Form((start + length) as u32));
+    let start = offset + 4;
+    skip_field(bytes, start, length)?;
+    let end = start + length;
+    if bytes.len() > end as usize {
+        return Err(UnitFault::Form(end));
     }
-    Ok(&bytes[start..start + length])
+    Ok(&bytes[start as usize..end as usize])
 }
 
 /// The fields, or the first fault among them.
-#[tactic(auto, unfolding(crate::specs::UnitFile::field_fault, crate::specs::UnitFile::args_at, crate::specs::UnitFile::locals_at, crate::specs::UnitFile::max_stack_at, crate::specs::UnitFile::callees_at, crate::specs::UnitFile::code_length_at, crate::specs::UnitFile::code_at))]
+#[tactic(auto, using(cc_base::proofs::TestLemmas::appended), unfolding(crate::specs::UnitFile::field_tests, crate::specs::UnitFile::args_offset, crate::specs::UnitFile::first_arg_offset, crate::specs::UnitFile::locals_offset, crate::specs::UnitFile::max_stack_offset, crate::specs::UnitFile::callees_offset, crate::specs::UnitFile::code_length_offset, crate::specs::UnitFile::code_offset))]
 pub fn read_fields(bytes: &[u8]) -> Result<Fields<'_>, UnitFault>
-    ensures { Tells (field_fault bytes.now) (HasFields bytes.now) result }
+    ensures { Judges result (first_of (field_tests bytes.now)) (HasFields bytes.now) }
 {
     check_magic(bytes)?;
     let name = read_name(bytes)?;
-    let result_at = NAME_AT + name.len();
-    check_result(bytes, result_at)?;
-    let args_at = result_at + 1;
-    let arg_count = read_arg_count(bytes, args_at)?;
-    let locals_at = args_at + 1 + arg_count;
-    check_locals(bytes, locals_at, arg_count)?;
-    let max_stack = read_max_stack(bytes, locals_at + 1, arg_count)?;
-    let callees_at = locals_at + 2;
-    check_callees(bytes, callees_at)?;
-    let code = read_code(bytes, callees_at + 2)?;
+    let result_offset = NAME_OFFSET + name.len() as u32;
+    check_result(bytes, result_offset)?;
+    let args_offset = result_offset + 1;
+    let arg_count = read_arg_count(bytes, args_offset)?;
+    let locals_offset = args_offset + 1 + u32::from(arg_count);
+    check_locals(bytes, locals_offset, arg_count)?;
+    let max_stack = read_max_stack(bytes, locals_offset + 1, arg_count)?;
+    let callees_offset = locals_offset + 2;
+    check_callees(bytes, callees_offset)?;
+    let code = read_code(bytes, callees_offset + 2)?;
     Ok(Fields {
         name,
         arg_count,
         max_stack,
         code,
-        code_at: (callees_at + 6) as u32,
+        code_offset: callees_offset + 6,
     })
 }

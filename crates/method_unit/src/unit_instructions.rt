@@ -1,26 +1,37 @@
 //! The instructions of a unit file.
 
-ghost use Rattle.std.specs.Prelude.{◌≡◌, ◌+◌, ◌<◌, ◌≤◌, ◌^◌, ⊤, length, drop, All, IfOk};
+ghost use Rattle.std.specs.Prelude.{◌≡◌, ◌+◌, ◌<◌, ◌≤◌, ◌^◌, ⊤, length, All, Ok, IfOk};
+ghost use Rattle.cc_base.specs.Tests.{first_of, Judges, JudgesOrNoMemory};
+ghost use Rattle.il_decoder.specs.Decodes.{Reaches};
 ghost use Rattle.il_decoder.specs.Decoding.{decoded};
-ghost use Rattle.method_unit.specs.Faults.{Tells, Reads};
-ghost use Rattle.method_unit.specs.Reach.{Reaches};
-ghost use Rattle.method_unit.specs.UnitFile.{built, is_other_call, instructions, limit_fault};
+ghost use Rattle.il_decoder.specs.Faults.{fault_at};
+ghost use Rattle.method_unit.specs.UnitFile.{is_other_call, code_fault, decoding_test, decoding_tests, instructions_of, limit_tests};
 
 use crate::unit_fault::{UnitFault, UnitRefusal};
-use cil_model::{ASSERT_CALL, Instr, Op};
-use il_decoder::{IlFault, IlRefusal, decode_one};
+use cc_base::Refusal;
+use cil_model::{Instr, MAX_INSTRUCTIONS, Op, is_assert};
+use il_decoder::{IlFault, decode_one};
 use std::alloc::Global;
-
-/// The most instructions of a method.
-pub const MAX_INSTRUCTIONS: usize = 4_096;
 
 /// Whether the operation is a call of something else than Assert.
 fn is_other_call(op: &Op) -> bool
     ensures { result ≡ is_other_call op.now }
 {
     match op {
-        Op::Call(number) => *number != ASSERT_CALL,
+        Op::Call(number) => !is_assert(*number),
         _ => false,
+    }
+}
+
+/// How a fault of the decoder is named, where the code begins at the offset `base` of the file.
+fn code_fault(base: u32, fault: IlFault) -> UnitFault
+    requires { base + fault_at fault < 2 ^ 32 }
+    ensures { result ≡ code_fault base fault }
+{
+    let offset = base + fault.at();
+    match fault {
+        IlFault::Opcode(_, _) => UnitFault::NotBuilt(offset),
+        _ => UnitFault::Form(offset),
     }
 }
 
@@ -28,31 +39,27 @@ fn is_other_call(op: &Op) -> bool
 fn read_instruction(alloc: Global, code: &[u8], base: u32, at: u32) -> Result<Instr, UnitRefusal>
     requires short { length code.now ≤ 65536 }
     requires small { base + at < 2 ^ 32 }
-    ensures built { Reads (λ i. i) (built (base + at) (decoded code.now at)) result }
+    ensures judged { JudgesOrNoMemory result (decoding_test base (decoded code.now at)) (λ i. decoded code.now at ≡ Ok i) }
     ensures place { IfOk result (λ i. i.at ≡ at) }
     ensures reach { IfOk result (λ i. Reaches i code.now) }
 {
-    let place = base + at;
-    match decode_one(alloc, code, at) {
-        Ok(instr) => {
-            if is_other_call(&instr.op) {
-                return Err(UnitRefusal::Bad(UnitFault::NotBuilt(place)));
-            }
-            Ok(instr)
-        }
-        Err(IlRefusal::NoMemory) => Err(UnitRefusal::NoMemory),
-        Err(IlRefusal::Bad(IlFault::Opcode(_, _))) => {
-            Err(UnitRefusal::Bad(UnitFault::NotBuilt(place)))
-        }
-        Err(IlRefusal::Bad(_)) => Err(UnitRefusal::Bad(UnitFault::Form(place))),
+    let instr = match decode_one(alloc, code, at) {
+        Ok(instr) => instr,
+        Err(Refusal::Bad(fault)) => return Err(Refusal::Bad(code_fault(base, fault))),
+        Err(Refusal::NoMemory) => return Err(Refusal::NoMemory),
+    };
+    if is_other_call(&instr.op) {
+        return Err(Refusal::Bad(UnitFault::NotBuilt(base + at)));
     }
+    Ok(instr)
 }
 
 /// The instructions of the code, each of them built.
+#[tactic(auto, using(crate::proofs::Instructions::one_by_one, cc_base::proofs::TestLemmas::carried))]
 pub fn read_instructions(alloc: Global, code: &[u8], base: u32) -> Result<Vec<Instr>, UnitRefusal>
     requires short { length code.now ≤ 65536 }
-    requires small { base + length code.now + 8 < 2 ^ 32 }
-    ensures read { Reads (λ instrs. instrs.items) (instructions (length code.now) base code.now 0) result }
+    requires small { base + length code.now < 2 ^ 32 }
+    ensures judged { JudgesOrNoMemory result (first_of (decoding_tests base code.now)) (λ instrs. instrs.items ≡ instructions_of code.now) }
     ensures places { IfOk result (λ instrs. All (λ i. i.at < length code.now) instrs.items) }
 {
     let mut instrs = Vec::new(alloc);
@@ -65,10 +72,11 @@ pub fn read_instructions(alloc: Global, code: &[u8], base: u32) -> Result<Vec<In
     Ok(instrs)
 }
 
-/// That there are not too many instructions.
+/// Tests that there are not too many instructions.
+#[tactic(auto, using(crate::proofs::Instructions::instruction_offset, cc_base::proofs::TestLemmas::first_tests), unfolding(crate::specs::UnitFile::limit_tests))]
 pub fn check_limit(instrs: &[Instr], base: u32) -> Result<(), UnitFault>
     requires { All (λ i. base + i.at < 2 ^ 32) instrs.now }
-    ensures { Tells (limit_fault base (drop MAX_INSTRUCTIONS instrs.now)) (λ _. ⊤) result }
+    ensures { Judges result (first_of (limit_tests base instrs.now)) (λ _. ⊤) }
 {
     if instrs.len() > MAX_INSTRUCTIONS {
         return Err(UnitFault::Form(base + instrs[MAX_INSTRUCTIONS].at));

@@ -7,7 +7,7 @@ use Rattle.cil_model.specs.Spells.{CodeFrom, CodeOf}
 use Rattle.cil_model.specs.declared.instruction.Instr.{Instr}
 use Rattle.cil_model.specs.declared.unit.Unit.{Unit as MethodUnit}
 use Rattle.range_verdicts.specs.Verdicts.{has_obligation, obligations, verdict, verdicts}
-use Rattle.method_unit.proofs.Decoded.{spelling_some}
+use Rattle.cil_model.proofs.Forms.{spelling_some}
 
 weaker : (a b : ℕ) (offsets : List ℕ) → a ≤ b → AllByRecursion (λ o. o < a) offsets → AllByRecursion (λ o. o < b) offsets
 weaker a b [] le h = tt

@@ -1,22 +1,34 @@
 -- What a typed instruction does to values that are within the known ranges.
-use Rattle.std.proofs.Common.{◌≡◌, ℕ, zero, suc, ◌<◌, ◌≤◌, ◌==◌, ℤ, pos, ◌+ℤ◌, int_lt, int_eq, FitsSigned, Bool, true, false, ◌||◌, nat_lt, List, [], ◌∷◌, length, slice_get, Some, Ok, refl, ap, subst, arith, w32, true≢false, ltb-false, ltb-true}
+use Rattle.std.proofs.Common.{◌≡◌, ℕ, zero, suc, ◌<◌, ◌≤◌, ◌==◌, ℤ, pos, ◌+ℤ◌, int_lt, int_eq, FitsSigned, Bool, true, false, ◌||◌, nat_lt, List, [], ◌∷◌, length, slice_get, Option, Some, None, refl, ap, subst, arith, w32, true≢false, ltb-false, ltb-true}
 use Rattle.std.specs.List.{AllByRecursion}
-use Rattle.std.proofs.lemmas.Bool.{or_parts, false_from_ne_true, not-false}
+use Rattle.std.proofs.lemmas.Bool.{cond_both, false≢true, or_parts, false_from_ne_true, not-false}
+use Rattle.std.proofs.lemmas.Option.{same_Some, none-some}
 use Rattle.std.proofs.lemmas.Bool.Decides.{Decides-int_eq, not_from_Decides}
 use Rattle.cc_base.specs.Wrap.{wrap32}
-use Rattle.cil_model.specs.Effects.{ASSERT_CALL, Effect, goes_on, operated, binary, asserts, effects_of, truth}
-use Rattle.cil_model.specs.Machine.{Heap, FitPlaces, FitsPlace}
+use Rattle.cil_model.specs.Arithmetic.{truth}
+use Rattle.cil_model.specs.Comparisons.{comparison_of}
+use Rattle.cil_model.specs.Effects.{Effect, Faults, goes_on, binary, tests_condition, effects_of}
+use Rattle.cil_model.specs.Runs.{instr_at}
+use Rattle.cil_model.specs.UnitCalls.{unit_call, callee_of, is_assert}
+use Rattle.cil_model.specs.Values.{Heap, FitPlaces, FitsPlace}
+use Rattle.cil_model.specs.WellFormed.{called_by}
 use Rattle.cil_model.specs.Spells.{SpellsOp, SpellsBin}
 use Rattle.cil_model.specs.declared.instruction.BinOp.{BinOp}
 use Rattle.cil_model.specs.declared.instruction.BinOp.TheVariants as operators
 use Rattle.cil_model.specs.declared.instruction.Instr.{Instr}
 use Rattle.cil_model.specs.declared.instruction.Op.{Op}
 use Rattle.cil_model.specs.declared.instruction.Op.TheVariants as ops
+use Rattle.cil_model.specs.declared.machine.FaultKind.TheVariants as faults
 use Rattle.cil_model.specs.declared.machine.Frame.{Frame}
 use Rattle.cil_model.specs.declared.machine.Value.{Value}
 use Rattle.cil_model.specs.declared.machine.Value.TheVariants as values
 use Rattle.cil_model.specs.declared.place.Place.{Place}
 use Rattle.cil_model.specs.declared.place.Place.TheVariants as places
+use Rattle.cil_model.specs.declared.unit.Unit.{Unit as MethodUnit}
+use Rattle.cil_model.specs.declared.unit_numbers.UnitCall.{UnitCall}
+use Rattle.cil_model.specs.declared.unit_numbers.UnitCall.TheVariants as calls
+use Rattle.cil_model.proofs.Alone.{CallsNoMethod, is_assert-true}
+use Rattle.method_unit.specs.UnitSpelling.{IsBuilt}
 use Rattle.range_verdicts.specs.Ranges.{Has, one, full, sum, less, equal, is_zero}
 use Rattle.method_unit.specs.Typing.{operands, is_return, lacks_argument, height_after, breaks}
 use Rattle.method_unit.specs.UnitFile.{is_other_call}
@@ -81,27 +93,35 @@ argument_there heap (place ∷ args) (v ∷ vs) (suc n) ints fit lt = argument_t
 
 -- ---- operators
 
--- The operator gives a number, of the range that is known of it.
-abbrev Gives : BinOp → Range → Range → ℤ → ℤ → Type 0
-Gives operator a b m n = (k : ℤ) × (r : Range) × (operated operator m n ≡ Some (Ok k)) × (combined operator a b ≡ Some r) × Has r k
+-- The operator pushes a number, of the range that is known of it.
+pub record Gives (operator : BinOp) (i : Instr) (f : Frame) (heap : Heap) (stack : List Value) (a b : Range) (m n : ℤ) : Type 0 where
+  pub number : ℤ
+  pub range : Range
+  pub pushed : binary operator (comparison_of operator) i f heap (values.Int n ∷ values.Int m ∷ stack) ≡ goes_on i f heap (values.Int number ∷ stack)
+  pub known : combined operator a b ≡ Some range
+  pub has : Has range number
 
-operator_gives : (operator : BinOp) (bytes : List ℕ) (a b : Range) (m n : ℤ) → SpellsBin operator bytes → Has a m → Has b n → Gives operator a b m n
-operator_gives operators.Add bytes a b m n spelled hasM hasN = (wrap32 (m +ℤ n), sum a b, refl, refl, Has-sum a b m n hasM hasN)
-operator_gives operators.Ceq bytes a b m n spelled hasM hasN = (truth (int_eq m n), equal a b, refl, refl, Has-equal a b m n hasM hasN)
-operator_gives operators.Cgt bytes a b m n spelled hasM hasN = (truth (int_lt n m), less b a, refl, refl, Has-less b a n m hasN hasM)
-operator_gives operators.Clt bytes a b m n spelled hasM hasN = (truth (int_lt m n), less a b, refl, refl, Has-less a b m n hasM hasN)
-operator_gives _ bytes a b m n spelled hasM hasN = absurd spelled
+operator_gives : (operator : BinOp) (bytes : List ℕ) (i : Instr) (f : Frame) (heap : Heap) (stack : List Value) (a b : Range) (m n : ℤ)
+    → SpellsBin operator bytes → Has a m → Has b n → Gives operator i f heap stack a b m n
+operator_gives operators.Add bytes i f heap stack a b m n spelled hasM hasN = record { number = wrap32 (m +ℤ n); range = sum a b; pushed = refl; known = refl; has = Has-sum a b m n hasM hasN }
+operator_gives operators.Ceq bytes i f heap stack a b m n spelled hasM hasN =
+    record { number = truth (int_eq m n); range = equal a b; pushed = refl; known = refl; has = Has-equal a b m n hasM hasN }
+operator_gives operators.Cgt bytes i f heap stack a b m n spelled hasM hasN =
+    record { number = truth (int_lt n m); range = less b a; pushed = refl; known = refl; has = Has-less b a n m hasN hasM }
+operator_gives operators.Clt bytes i f heap stack a b m n spelled hasM hasN =
+    record { number = truth (int_lt m n); range = less a b; pushed = refl; known = refl; has = Has-less a b m n hasM hasN }
+operator_gives _ bytes i f heap stack a b m n spelled hasM hasN = absurd spelled
 
 binary_goes : (operator : BinOp) (bytes : List ℕ) (i : Instr) (f : Frame) (heap : Heap) (known : List Range) (stack : List Value)
-    → SpellsBin operator bytes → StackHolds known stack → 2 ≤ length stack → Goes (ops.Bin operator) i f heap (binary operator i f heap stack) known stack
+    → SpellsBin operator bytes → StackHolds known stack → 2 ≤ length stack → Goes (ops.Bin operator) i f heap (binary operator (comparison_of operator) i f heap stack) known stack
 binary_goes operator bytes i f heap (b ∷ a ∷ known) (values.Int n ∷ values.Int m ∷ stack) spelled holds tall =
-    let given = operator_gives operator bytes a b m n spelled holds.1.0 holds.0 in
+    let given = operator_gives operator bytes i f heap stack a b m n spelled holds.1.0 holds.0 in
     record {
-      stack = values.Int given.0 ∷ stack;
-      ranges = given.1 ∷ known;
-      goes = rw given.2 refl;
-      behind = rw given.3 refl;
-      holds = (given.4, holds.1.1);
+      stack = values.Int given.number ∷ stack;
+      ranges = given.range ∷ known;
+      goes = given.pushed;
+      behind = rw given.known refl;
+      holds = (given.has, holds.1.1);
       height = omega arith;
     }
 binary_goes operator bytes i f heap known stack spelled holds tall = absurd (grind (arith, same_height known stack holds))
@@ -114,7 +134,8 @@ more_than_zero r n has other =
     false_from_ne_true (is_zero r) (λ zero_alone. not_from_Decides (int_eq n (pos 0)) (Decides-int_eq n (pos 0)) other (is_zero-true r n has zero_alone))
 
 asserts_goes : (number : ℕ) (i : Instr) (f : Frame) (heap : Heap) (known : List Range) (stack : List Value)
-    → (number == ASSERT_CALL) ≡ true → StackHolds known stack → 1 ≤ length stack → shows_assert (Known known) ≡ true → Goes (ops.Call number) i f heap (asserts i f heap stack) known stack
+    → is_assert (unit_call number) ≡ true → StackHolds known stack → 1 ≤ length stack → shows_assert (Known known) ≡ true
+    → Goes (ops.Call number) i f heap (tests_condition (Faults faults.Assert) i f heap (Some stack)) known stack
 asserts_goes number i f heap (r ∷ known) (values.Int n ∷ stack) assert holds tall shown =
     let other : int_eq n (pos 0) ≡ false = excludes_zero-true r n holds.0 shown in
     let open_range : is_zero r ≡ false = more_than_zero r n holds.0 other in
@@ -143,15 +164,15 @@ argument_named args limit n height typed =
     let named = unbroken (nat_lt height (operands op)) (lacks_argument args op) (nat_lt limit (height_after op height)) typed in
     ltb-true n args (not-false (nat_lt n args) named.1)
 
-calls_assert : (number : ℕ) → is_other_call (ops.Call number) ≡ false → (number == ASSERT_CALL) ≡ true
-calls_assert number h = not-false (number == ASSERT_CALL) h
+pub calls_assert : (number : ℕ) → is_other_call (ops.Call number) ≡ false → is_assert (unit_call number) ≡ true
+calls_assert number h = not-false (is_assert (unit_call number)) h
 
 -- A typed instruction that is no return lets the frame go on, within what is then known.
-pub effects_go : (op : Op) (bytes : List ℕ) (i : Instr) (f : Frame) (heap : Heap) (args : List Place) (limit : ℕ) (known : List Range)
+pub effects_go : (op : Op) (bytes : List ℕ) (unit : MethodUnit) (i : Instr) (f : Frame) (heap : Heap) (args : List Place) (limit : ℕ) (known : List Range)
     → SpellsOp op bytes → is_return op ≡ false → is_other_call op ≡ false → breaks (length args) limit (length f.stack) op ≡ false
     → (has_obligation op ≡ true → shows_assert (Known known) ≡ true) → AllInts args → FitPlaces heap args f.args → StackHolds known f.stack
-    → Goes op i f heap (effects_of op i f heap) known f.stack
-effects_go ops.Nop bytes i f heap args limit known spelled passes calls typed shown ints fit holds =
+    → Goes op i f heap (effects_of op unit i f heap) known f.stack
+effects_go ops.Nop bytes unit i f heap args limit known spelled passes calls typed shown ints fit holds =
     record {
       stack = f.stack;
       ranges = known;
@@ -160,7 +181,7 @@ effects_go ops.Nop bytes i f heap args limit known spelled passes calls typed sh
       holds = holds;
       height = omega arith;
     }
-effects_go (ops.LoadArg n) bytes i f heap args limit known spelled passes calls typed shown ints fit holds =
+effects_go (ops.LoadArg n) bytes unit i f heap args limit known spelled passes calls typed shown ints fit holds =
     let there = argument_there heap args f.args n ints fit (argument_named (length args) limit n (length f.stack) typed) in
     record {
       stack = values.Int there.0 ∷ f.stack;
@@ -170,7 +191,7 @@ effects_go (ops.LoadArg n) bytes i f heap args limit known spelled passes calls 
       holds = (Has-full there.0 there.2, holds);
       height = omega arith;
     }
-effects_go (ops.Const n) bytes i f heap args limit known spelled passes calls typed shown ints fit holds =
+effects_go (ops.Const n) bytes unit i f heap args limit known spelled passes calls typed shown ints fit holds =
     record {
       stack = values.Int n ∷ f.stack;
       ranges = one n ∷ known;
@@ -179,11 +200,32 @@ effects_go (ops.Const n) bytes i f heap args limit known spelled passes calls ty
       holds = (Has-one n, holds);
       height = omega arith;
     }
-effects_go (ops.Bin operator) bytes i f heap args limit known spelled passes calls typed shown ints fit holds =
+effects_go (ops.Bin operator) bytes unit i f heap args limit known spelled passes calls typed shown ints fit holds =
     binary_goes operator bytes i f heap known f.stack spelled holds (operands_there (length args) limit (ops.Bin operator) (length f.stack) typed)
-effects_go (ops.Call number) bytes i f heap args limit known spelled passes calls typed shown ints fit holds =
+effects_go (ops.Call number) bytes unit i f heap args limit known spelled passes calls typed shown ints fit holds =
     let assert = calls_assert number calls in
-    rw assert
+    rw (is_assert-true (unit_call number) assert)
     (asserts_goes number i f heap known f.stack assert holds (operands_there (length args) limit (ops.Call number) (length f.stack) typed) (shown assert))
-effects_go ops.Return bytes i f heap args limit known spelled passes calls typed shown ints fit holds = absurd (true≢false passes)
-effects_go _ bytes i f heap args limit known spelled passes calls typed shown ints fit holds = absurd spelled
+effects_go ops.Return bytes unit i f heap args limit known spelled passes calls typed shown ints fit holds = absurd (true≢false passes)
+effects_go _ bytes unit i f heap args limit known spelled passes calls typed shown ints fit holds = absurd spelled
+
+-- ---- calls
+
+assert_calls_none : (call : Option UnitCall) → is_assert call ≡ true → callee_of call ≡ None
+assert_calls_none (Some (calls.Assert false)) e = refl
+assert_calls_none _ e = absurd (false≢true e)
+
+op_calls_none : (op : Op) → is_other_call op ≡ false → called_by op ≡ None
+op_calls_none (ops.Call number) passes = assert_calls_none (unit_call number) (calls_assert number passes)
+op_calls_none _ passes = refl
+
+found_calls_none : (is : List Instr) (at : ℕ) (i : Instr) → AllByRecursion (λ j. is_other_call j.op ≡ false) is → instr_at is at ≡ Some i → called_by i.op ≡ None
+found_calls_none [] at i passes found = absurd (none-some i found)
+found_calls_none (j ∷ is) at i passes found =
+    cond_both (j.at == at) _ _ (λ (other : Option Instr). other ≡ Some i → called_by i.op ≡ None)
+    (λ here e. subst (λ (k : Instr). called_by k.op ≡ None) (same_Some j i e) (op_calls_none j.op passes.0))
+    (λ later e. found_calls_none is at i passes.1 e) found
+
+-- A built unit calls no method.
+pub calls_no_method : (unit : MethodUnit) → IsBuilt unit → CallsNoMethod unit
+calls_no_method unit built at i found = found_calls_none unit.instrs at i built.calls found

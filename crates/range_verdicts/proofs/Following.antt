@@ -4,7 +4,7 @@ use Rattle.std.proofs.Common.{◌≡◌, ℕ, ◌+◌, ◌<◌, ◌≤◌, ◌==
 use Rattle.std.specs.List.{AllByRecursion, list_all}
 use Rattle.std.proofs.lemmas.Bool.{false≢true, and_parts, ne_eqb, eq-eqb}
 use Rattle.cil_model.specs.Spells.{CodeFrom, Spells}
-use Rattle.cil_model.specs.Step.{instr_at}
+use Rattle.cil_model.specs.Runs.{instr_at}
 use Rattle.cil_model.specs.declared.instruction.Instr.{Instr}
 use Rattle.cil_model.specs.declared.unit.Unit.{Unit as MethodUnit}
 use Rattle.method_unit.specs.UnitFile.{is_other_call}
@@ -12,7 +12,7 @@ use Rattle.method_unit.specs.UnitSpelling.{IsBuilt}
 use Rattle.range_verdicts.specs.States.{after, shows_assert}
 use Rattle.range_verdicts.specs.Verdicts.{entry, has_obligation, obligations, state_at, verdict, verdicts, all_proved}
 use Rattle.range_verdicts.specs.declared.state.State.{State}
-use Rattle.method_unit.proofs.Decoded.{spelling_some}
+use Rattle.cil_model.proofs.Forms.{spelling_some}
 
 -- If this instruction has an obligation, what is known before it shows that it holds.
 abbrev pub IsShown : List Instr → Instr → Type 0

@@ -10,7 +10,7 @@ use Rattle.range_verdicts.specs.States.{after, shows_assert}
 use Rattle.range_verdicts.specs.Verdicts.{state_at, has_obligation, obligations, noted}
 use Rattle.range_verdicts.specs.declared.state.State.{State}
 use Rattle.range_verdicts.specs.declared.verdict.Verdict.{Verdict}
-use Rattle.method_unit.proofs.Decoded.{spelling_some}
+use Rattle.cil_model.proofs.Forms.{spelling_some}
 
 -- The offsets of instructions rise, from this one on.
 abbrev pub Rises : ℕ → List Instr → Type 0

@@ -4,8 +4,9 @@ use Rattle.std.proofs.lemmas.Bool.{cond_both, and_parts, or_cases, false_from_ne
 use Rattle.std.proofs.lemmas.Bool.Decides.{Decides-int_eq}
 use Rattle.std.proofs.lemmas.Int.{ints, int_wrap_fits, int_wrap-add_left, SFits-int_wrap}
 use Rattle.cc_base.specs.Wrap.{wrap32}
-use Rattle.cil_model.specs.Effects.{truth}
-use Rattle.range_verdicts.specs.Ranges.{Has, wrapped, LEAST, GREATEST, between, one, full, sum, less, equal, excludes_zero, is_zero}
+use Rattle.cil_model.specs.Arithmetic.{truth}
+use Rattle.cil_model.specs.Arithmetic.{LEAST, GREATEST}
+use Rattle.range_verdicts.specs.Ranges.{Has, wrapped, between, one, full, sum, less, equal, excludes_zero, is_zero}
 use Rattle.range_verdicts.specs.declared.range.Range.{Range}
 
 pub Has-one : (n : ℤ) → Has (one n) n

@@ -3,7 +3,8 @@ use Rattle.std.proofs.Common.{◌≡◌, ℤ, ◌+ℤ◌, ◌-ℤ◌, true, fals
 use Rattle.std.specs.Prelude.{int_le}
 use Rattle.std.proofs.lemmas.Int.{ints}
 use Rattle.cc_base.specs.Wrap.{wrap32}
-use Rattle.range_verdicts.specs.Ranges.{between, full, wrapped, LEAST, GREATEST}
+use Rattle.cil_model.specs.Arithmetic.{LEAST, GREATEST}
+use Rattle.range_verdicts.specs.Ranges.{between, full, wrapped}
 
 fits_tests : (n : ℤ) → FitsSigned w32 n → (int_le LEAST n && int_le n GREATEST) ≡ true
 fits_tests n fits = grind (arith, ints)

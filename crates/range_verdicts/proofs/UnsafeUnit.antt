@@ -2,8 +2,8 @@
 use Rattle.std.proofs.Common.{ℕ, pos, FitsSigned, List, [], ◌∷◌, codes, refl, w32, arith, inl}
 use Rattle.std.proofs.lemmas.Int.{ints}
 use Rattle.cil_model.specs.Effects.{GoesOn, Faults}
-use Rattle.cil_model.specs.LocalStep.{LocalStep, LocalRuns, LocalSafe}
-use Rattle.cil_model.specs.Machine.{IsEntryFrame}
+use Rattle.cil_model.specs.Runs.{LocalStep, LocalRuns, LocalSafe, MayBegin}
+use Rattle.cil_model.specs.UnitCalls.{unit_call}
 use Rattle.cil_model.specs.declared.instruction.BinOp.TheVariants as operators
 use Rattle.cil_model.specs.declared.instruction.Instr.{Instr}
 use Rattle.cil_model.specs.declared.instruction.Op.{Op}
@@ -39,8 +39,8 @@ live at stack = configs.Live (frame at stack ∷ []) []
 zero_fits : FitsSigned w32 (pos 0)
 zero_fits = omega (arith, ints)
 
-entry : IsEntryFrame unit 0 [] (frame 0 [])
-entry = record { unit_is = refl; at_body = refl; empty = refl; zeros = refl; fit = (zero_fits, tt); entry_args = refl; entry_heap = refl }
+begins : MayBegin unit args []
+begins = record { heap_is = tt; fit = (zero_fits, tt); required = refl }
 
 step0 : LocalStep unit (live 0 []) (live 1 (values.Int (pos 0) ∷ []))
 step0 = (instr 0 1 (ops.LoadArg 0), refl, (GoesOn (frame 1 (values.Int (pos 0) ∷ [])) [], inl refl, refl))
@@ -52,18 +52,22 @@ step2 : LocalStep unit (live 2 (values.Int (pos 1) ∷ values.Int (pos 0) ∷ []
 step2 = (instr 2 2 (ops.Bin operators.Cgt), refl, (GoesOn (frame 4 (values.Int (pos 0) ∷ [])) [], inl refl, refl))
 
 step3 : LocalStep unit (live 4 (values.Int (pos 0) ∷ [])) (configs.Fault Assert 0 4)
+unfolding unit_call
 step3 = (instr 4 5 (ops.Call 5), refl, (Faults Assert, inl refl, refl))
 
-runs : LocalRuns unit (live 0 []) 4 (configs.Fault Assert 0 4)
-runs = (
-  live 4 (values.Int (pos 0) ∷ []),
-  (
-    live 2 (values.Int (pos 1) ∷ values.Int (pos 0) ∷ []),
-    (live 1 (values.Int (pos 0) ∷ []), (live 0 [], refl, step0), step1),
-    step2,
-  ),
-  step3,
-)
+runs : LocalRuns unit 0 args [] 4 (configs.Fault Assert 0 4)
+runs = record {
+  begins = begins;
+  steps = (
+    live 4 (values.Int (pos 0) ∷ []),
+    (
+      live 2 (values.Int (pos 1) ∷ values.Int (pos 0) ∷ []),
+      (live 1 (values.Int (pos 0) ∷ []), (live 0 [], refl, step0), step1),
+      step2,
+    ),
+    step3,
+  );
+}
 
 pub unit_is_not_safe : LocalSafe unit → ⊥
-unit_is_not_safe safe = (safe [] (frame 0 []) tt entry 4 (configs.Fault Assert 0 4) runs).0
+unit_is_not_safe safe = (safe 0 args [] 4 (configs.Fault Assert 0 4) runs).0

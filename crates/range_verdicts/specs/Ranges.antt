@@ -1,18 +1,13 @@
 -- Ranges of int32 numbers, and what operators do to them.
-use Rattle.std.specs.Prelude.{ℤ, pos, negsuc, ◌+ℤ◌, ◌-ℤ◌, ◌≤ℤ◌, Bool, ◌&&◌, ◌||◌, int_lt, int_le, if◌then◌else◌}
+use Rattle.std.specs.Prelude.{ℤ, pos, ◌+ℤ◌, ◌-ℤ◌, ◌≤ℤ◌, Bool, ◌&&◌, ◌||◌, int_lt, int_le, if◌then◌else◌}
 use Rattle.std.specs.Ordering.{int_eq}
 use Rattle.cc_base.specs.Wrap.{wrap32}
+use Rattle.cil_model.specs.Arithmetic.{LEAST, GREATEST}
 use Rattle.range_verdicts.specs.declared.range.Range.{Range}
 
 -- The range has the number.
 abbrev pub Has : Range → ℤ → Type 0
 Has r n = (r.lo ≤ℤ n) × (n ≤ℤ r.hi)
-
-abbrev pub LEAST : ℤ
-LEAST = negsuc 2147483647
-
-abbrev pub GREATEST : ℤ
-GREATEST = pos 2147483647
 
 abbrev pub between : ℤ → ℤ → Range
 between lo hi = record { lo = lo; hi = hi }

@@ -1,7 +1,6 @@
 -- When a unit is safe.
 use Rattle.std.specs.Prelude.{◌≡◌, ℕ, Some, slice_get}
-use Rattle.cil_model.specs.LocalStep.{LocalSafe}
-use Rattle.cil_model.specs.Step.{Safe}
+use Rattle.cil_model.specs.Runs.{LocalSafe, Safe}
 use Rattle.cil_model.specs.declared.machine.World.{World}
 use Rattle.cil_model.specs.declared.unit.Unit.{Unit as MethodUnit}
 

@@ -1,6 +1,6 @@
 -- What is known before an instruction of straight code, and behind it.
-use Rattle.std.specs.Prelude.{Bool, true, false, List, [], ◌∷◌, Option, Some, None, ◌==◌, if◌then◌else◌}
-use Rattle.cil_model.specs.Effects.{ASSERT_CALL}
+use Rattle.std.specs.Prelude.{Bool, true, false, List, [], ◌∷◌, Option, Some, None, if◌then◌else◌}
+use Rattle.cil_model.specs.UnitCalls.{unit_call, is_assert}
 use Rattle.cil_model.specs.declared.instruction.BinOp.{BinOp}
 use Rattle.cil_model.specs.declared.instruction.BinOp.TheVariants as operators
 use Rattle.cil_model.specs.declared.instruction.Op.{Op}
@@ -39,7 +39,7 @@ after_known ops.Nop stack = Known stack
 after_known (ops.LoadArg n) stack = Known (full ∷ stack)
 after_known (ops.Const n) stack = Known (one n ∷ stack)
 after_known (ops.Bin operator) stack = after_operator operator stack
-after_known (ops.Call number) stack = if number == ASSERT_CALL then after_assert stack else Unknown
+after_known (ops.Call number) stack = if is_assert (unit_call number) then after_assert stack else Unknown
 after_known ops.Return stack = NotReached
 after_known _ stack = Unknown
 

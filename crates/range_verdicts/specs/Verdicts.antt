@@ -1,7 +1,7 @@
 -- The verdict on each obligation of a unit.
 use Rattle.std.specs.Prelude.{ℕ, Bool, false, List, [], ◌∷◌, map, ◌==◌, if◌then◌else◌, count_by}
 use Rattle.std.specs.List.{list_all}
-use Rattle.cil_model.specs.Effects.{ASSERT_CALL}
+use Rattle.cil_model.specs.UnitCalls.{unit_call, is_assert}
 use Rattle.cil_model.specs.declared.instruction.Instr.{Instr}
 use Rattle.cil_model.specs.declared.instruction.Op.{Op}
 use Rattle.cil_model.specs.declared.instruction.Op.TheVariants as ops
@@ -18,7 +18,7 @@ state_at s (i ∷ is) at = if i.at == at then s else state_at (after i.op s) is 
 
 -- The operation has an obligation: each Assert has one.
 abbrev pub has_obligation : Op → Bool
-has_obligation (ops.Call number) = number == ASSERT_CALL
+has_obligation (ops.Call number) = is_assert (unit_call number)
 has_obligation _ = false
 
 -- The IL offsets of the instructions that have an obligation, in order.

@@ -13,7 +13,8 @@ pub struct Range {
 
 impl Range {
     ghost use Rattle.std.specs.Prelude.{◌+ℤ◌, ◌≤ℤ◌};
-    ghost use Rattle.range_verdicts.specs.Ranges.{one, sum, less, equal, wrapped, LEAST, GREATEST, excludes_zero, is_zero};
+    ghost use Rattle.range_verdicts.specs.Ranges.{one, sum, less, equal, wrapped, excludes_zero, is_zero};
+    ghost use Rattle.cil_model.specs.Arithmetic.{LEAST, GREATEST};
 
     /// Every int32.
     pub const FULL: Range = Range {

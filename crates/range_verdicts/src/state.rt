@@ -5,7 +5,7 @@ ghost use Rattle.range_verdicts.specs.States.{combined, after_assert, after_oper
 
 use crate::range::Range;
 use crate::stack::Stack;
-use cil_model::{ASSERT_CALL, BinOp, Op};
+use cil_model::{BinOp, Op, is_assert};
 use std::alloc::AllocError;
 
 /// What is known before an instruction.
@@ -73,7 +73,7 @@ fn after_known(op: &Op, mut stack: Stack<Range>) -> Result<State, AllocError>
         Op::LoadArg(_) => stack.push(Range::FULL)?,
         Op::Const(number) => stack.push(Range::one(*number))?,
         Op::Bin(operator) => return after_operator(*operator, stack),
-        Op::Call(ASSERT_CALL) => return Ok(after_assert(stack)),
+        Op::Call(number) if is_assert(*number) => return Ok(after_assert(stack)),
         Op::Return => return Ok(State::NotReached),
         _ => return Ok(State::Unknown),
     }

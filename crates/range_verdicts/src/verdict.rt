@@ -8,7 +8,7 @@ ghost use Rattle.range_verdicts.specs.Verdicts.{all_proved, has_obligation, note
 
 use crate::stack::Stack;
 use crate::state::State;
-use cil_model::{ASSERT_CALL, Instr, Op, Unit};
+use cil_model::{Instr, Op, Unit, is_assert};
 use std::alloc::{AllocError, Global};
 
 /// Whether the obligation of the instruction at an IL offset is proved.
@@ -25,7 +25,7 @@ fn has_obligation(op: &Op) -> bool
     ensures { result ≡ has_obligation op.now }
 {
     match op {
-        Op::Call(number) => *number == ASSERT_CALL,
+        Op::Call(number) => is_assert(*number),
         _ => false,
     }
 }

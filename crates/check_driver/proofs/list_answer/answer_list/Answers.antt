@@ -1,16 +1,16 @@
 use Rattle.std.proofs.Common.{◌≡◌, None, Some, refl}
 use Rattle.std.proofs.lemmas.Result.{err_from_is_err_and}
-use Rattle.asm_image.specs.Faults.{first_assembly_fault}
+use Rattle.asm_image.specs.Faults.{FirstBroken}
 use Rattle.check_driver.specs.Expected.{refused_line}
 use Rattle.check_driver.specs.FaultText.{assembly_fault_text}
 use Rattle.check_driver.specs.ListText.{list_text}
 use Rattle.check_driver.proofs.Writings.{gives_error, gives_output_stop}
 use Rattle.check_driver.proofs.list_answer.answer_list.Goals as goal
 
-pub returns-in-Err-Bad : goal.returns-in-Err-Bad
-returns-in-Err-Bad g c =
-    let fault = c.in-Err-Bad.fault in
-    let first : first_assembly_fault c.args.bytes.now ≡ Some fault = (rw c.in-Err-Bad.field-0-is at c.in-Err-Bad.ensures.refused) fault refl in
+pub returns-in-Err : goal.returns-in-Err
+returns-in-Err g c =
+    let fault = c.in-Err.fault in
+    let first : FirstBroken c.args.bytes.now ≡ Some fault = c.in-Err.ensures.refused in
     rw first
     (gives_error 5 (refused_line c.args.name.now (assembly_fault_text fault.cause) fault.at) c.answer_refused.result
     (g.O.Sink.written c.args.out.now) (g.O.Sink.faults c.args.out.now) _ c.answer_refused.ensures.status
@@ -19,7 +19,7 @@ returns-in-Err-Bad g c =
 pub returns-in_err-put_list-in-Ok : goal.returns-in_err-put_list-in-Ok
 returns-in_err-put_list-in-Ok g c =
     let p = err_from_is_err_and c.from_residual.result c.from_residual.ensures.1 in
-    let first : first_assembly_fault c.args.bytes.now ≡ None = c.in-Ok.ensures.accepted in
+    let first : FirstBroken c.args.bytes.now ≡ None = c.in-Ok.ensures.accepted.0 refl in
     rw (p.1, p.2, first)
     (gives_output_stop 0 (list_text c.args.bytes.now) c.in_err-put_list-in-Ok.field-0.0 _
     (g.E.Sink.written c.args.err.now) (g.E.Sink.faults c.args.err.now) (rw c.in-Ok.ensures.value at c.in_err-put_list-in-Ok.ensures))

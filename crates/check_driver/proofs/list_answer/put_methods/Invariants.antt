@@ -1,15 +1,16 @@
-use Rattle.std.proofs.Common.{◌≡◌, take}
-use Rattle.std.specs.List.{flat_map}
+use Rattle.std.proofs.Common.{length}
 use Rattle.cc_base.specs.Counts.{Kept}
-use Rattle.cc_base.specs.Sink.{appended}
-use Rattle.check_driver.specs.ListText.{method_line}
+use Rattle.check_driver.proofs.Listing.{AtRest}
 use Rattle.check_driver.proofs.list_answer.put_methods.Given as goal
 
-abbrev pub invariant-loop-method : goal.invariant-loop-method
-invariant-loop-method g l =
+abbrev pub invariant-loop-token : goal.invariant-loop-token
+invariant-loop-token g l =
     let written = g.O.Sink.written in
     let faults = g.O.Sink.faults in
     record {
-      so_far : written l.out ≡ appended (written l.initial.out) (flat_map method_line (take l.method-index l.methods));
+      rest : AtRest (written l.initial.out) (written l.out) l.walk l.initial.walk;
       kept : Kept (faults l.initial.out) (faults l.out);
     }
+
+abbrev pub decreases-loop-token : goal.decreases-loop-token
+decreases-loop-token g l = length l.walk

@@ -1,4 +1,4 @@
-use Rattle.std.proofs.Common.{◌≡◌, ℕ, List, length, get_or, ap, ◌∙◌, arith}
+use Rattle.std.proofs.Common.{◌≡◌, ℕ, List, get_or, ap, ◌∙◌}
 use Rattle.metadata_tables.specs.Layout.{row_count}
 use Rattle.metadata_tables.proofs.CellLemmas.{rows_few}
 use Rattle.metadata_tables.proofs.tables.Tables.row_count.Goals as goal

@@ -1,0 +1,82 @@
+-- Units as the rest of the project takes them: those that files spell and that methods of assemblies make.
+use Rattle.std.specs.Prelude.{◌≡◌, ◌≢◌, ◌⊎◌, ℕ, ◌+◌, ◌<◌, ◌≤◌, List, [], ◌∷◌, length, sum_by, filter_map, Option, None, IsSome}
+use Rattle.std.specs.List.{AllByRecursion}
+use Rattle.cil_model.specs.Blocks.{block_count, start_of_body}
+use Rattle.cil_model.specs.Limits.{MAX_BLOCKS, MAX_CLAUSES, MAX_CODE_BYTES, MAX_CONDITIONS, MAX_INSTRUCTIONS, MAX_NAME_BYTES, MAX_NODES, MAX_OLD_VALUES, MAX_VARIABLES}
+use Rattle.cil_model.specs.Passes.{Stacks, KindsOf}
+use Rattle.cil_model.specs.Shapes.{shape_of}
+use Rattle.cil_model.specs.Spells.{CodeOf}
+use Rattle.cil_model.specs.Terms.{term_size, condition_depth, old_count}
+use Rattle.cil_model.specs.TreeKinds.{IsNumberClause}
+use Rattle.cil_model.specs.UnitCalls.{unit_call, array_place, callee_of}
+use Rattle.cil_model.specs.declared.clause.Clause.{Clause}
+use Rattle.cil_model.specs.declared.instruction.Op.{Op}
+use Rattle.cil_model.specs.declared.instruction.Op.TheVariants as ops
+use Rattle.cil_model.specs.declared.place.Place.{Place}
+use Rattle.cil_model.specs.declared.place.Place.TheVariants as places
+use Rattle.cil_model.specs.declared.unit.CalleeInfo.{CalleeInfo}
+use Rattle.cil_model.specs.declared.unit.Unit.{Unit as MethodUnit}
+
+-- ---- the numbers in code
+
+-- The operand names something, where it is a number of the unit and no token of the metadata.
+abbrev pub NamesSomething : Op → Type 0
+NamesSomething (ops.Call number) = IsSome (unit_call number)
+NamesSomething (ops.NewArray number) = IsSome (array_place number)
+NamesSomething (ops.Text number) = number ≡ 0
+NamesSomething op = Unit {0}
+
+-- The number of the callee that an operation calls.
+abbrev pub called_by : Op → Option ℕ
+called_by (ops.Call number) = callee_of (unit_call number)
+called_by _ = None
+
+-- Each of these callees is one of the first or the next one, and in the end the first are all of them.
+abbrev pub InOrderOfUse : ℕ → ℕ → List ℕ → Type 0
+InOrderOfUse first all [] = first ≡ all
+InOrderOfUse first all (number ∷ numbers) =
+    ((number < first) × InOrderOfUse first all numbers) ⊎ ((number ≡ first) × InOrderOfUse (first + 1) all numbers)
+
+-- ---- limits
+
+pub record ClausesWithinLimits (clauses : List Clause) : Type 0 where
+  pub count : length clauses ≤ MAX_CLAUSES
+  pub nodes : AllByRecursion (λ clause. term_size clause.tree ≤ MAX_NODES) clauses
+  pub conditions : AllByRecursion (λ clause. condition_depth clause.tree ≤ MAX_CONDITIONS) clauses
+  pub old_values : sum_by (λ clause. old_count clause.tree) clauses ≤ MAX_OLD_VALUES
+
+pub record IsWithinLimits (unit : MethodUnit) : Type 0 where
+  pub name : length unit.name ≤ MAX_NAME_BYTES
+  pub code : length unit.code ≤ MAX_CODE_BYTES
+  pub instructions : length unit.instrs ≤ MAX_INSTRUCTIONS
+  pub blocks : block_count unit ≤ MAX_BLOCKS
+  pub variables : length unit.args + length unit.locals + unit.max_stack ≤ MAX_VARIABLES
+  pub clauses : ClausesWithinLimits unit.clauses
+
+-- ---- units
+
+-- Variables of these types hold values.
+abbrev pub HoldValues : List Place → Type 0
+HoldValues types = AllByRecursion (λ place. place ≢ places.Void) types
+
+-- What a unit says of a callee is what a well formed unit may say of itself.
+pub record IsCallee (callee : CalleeInfo) : Type 0 where
+  pub args : HoldValues callee.args
+  pub few_args : length callee.args ≤ MAX_VARIABLES
+  pub name : length callee.name ≤ MAX_NAME_BYTES
+  pub clauses : ClausesWithinLimits callee.clauses
+  pub numbers : AllByRecursion (IsNumberClause callee.args callee.result) callee.clauses
+
+-- A well formed unit. That its clauses are the trees of its contract block is to be said here too, once there
+-- is a definition of the tree of a clause.
+pub record IsWellFormed (unit : MethodUnit) : Type 0 where
+  pub code : CodeOf unit.instrs unit.code
+  pub body : unit.body_start ≡ start_of_body unit.instrs
+  pub args : HoldValues unit.args
+  pub locals : HoldValues unit.locals
+  pub named : AllByRecursion (λ i. NamesSomething i.op) unit.instrs
+  pub order : InOrderOfUse 0 (length unit.callees) (filter_map (λ i. called_by i.op) unit.instrs)
+  pub callees : AllByRecursion IsCallee unit.callees
+  pub numbers : AllByRecursion (IsNumberClause unit.args unit.result) unit.clauses
+  pub kinds : (stacks : Stacks) × KindsOf (shape_of unit) unit.instrs stacks
+  pub limits : IsWithinLimits unit
