@@ -99,7 +99,7 @@ fn decoded(rt: &impl Abort, alloc: Global, code: &[u8], at: u32) -> Result<(u32,
 }
 
 #[test]
-fn spellings_are_decoded(rt: HostRuntime) -> Result<(), Fail> {
+fn instructions_are_decoded(rt: HostRuntime) -> Result<(), Fail> {
     let alloc = rt.alloc();
     for (spelling, told) in SPELLINGS {
         let code = joined(alloc, &[b"\x2a", spelling, b"\xfe"])?;
@@ -111,17 +111,9 @@ fn spellings_are_decoded(rt: HostRuntime) -> Result<(), Fail> {
             "{spelling:?}"
         );
     }
-    Ok(())
-}
-
-#[test]
-fn other_bytes_are_no_instruction(rt: HostRuntime) {
     for (code, at, fault) in FAULTS {
         let want = Err(IlRefusal::Bad(fault));
-        assert_eq!(rt;
-            decoded(&rt, rt.alloc(), code, at),
-            want,
-            "at {at} of {code:?}"
-        );
+        assert_eq!(rt; decoded(&rt, alloc, code, at), want, "at {at} of {code:?}");
     }
+    Ok(())
 }

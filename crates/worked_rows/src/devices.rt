@@ -40,11 +40,6 @@ impl Devices {
         Ok(devices)
     }
 
-    /// Devices with the bytes under the name `u.bin`.
-    pub fn with_unit(alloc: Global, bytes: &[u8]) -> Result<Devices, AllocError> {
-        Devices::with_file(alloc, "u.bin", bytes)
-    }
-
     /// Calls the program with these words, and asserts its answer.
     ///
     /// The sinks are to be empty. Where memory ran out, what was written is still asserted: a front of the

@@ -61,11 +61,11 @@ const UNIT_FAULTS: [(UnitFault, &str, u32); 4] = [
     ),
 ];
 
-const IL_FAULTS: [(IlFault, &str); 4] = [
-    (IlFault::Short(7), "short at 0007"),
-    (IlFault::Opcode(0x10, 0xfe03), "opcode fe03 at 0010"),
-    (IlFault::Target(0x20), "target at 0020"),
-    (IlFault::Header(0), "header at 0000"),
+const IL_FAULTS: [(IlFault, &str, u32); 4] = [
+    (IlFault::Short(7), "short at 0007", 7),
+    (IlFault::Opcode(0x10, 0xfe03), "opcode fe03 at 0010", 0x10),
+    (IlFault::Target(0x20), "target at 0020", 0x20),
+    (IlFault::Header(0), "header at 0000", 0),
 ];
 
 /// Asserts how something is printed.
@@ -99,15 +99,10 @@ fn faults_have_their_words(rt: HostRuntime) -> Result<(), Fail> {
         assert_text(&rt, alloc, &fault, text)?;
         assert_eq!(rt; fault.at(), at);
     }
-    for (fault, text) in IL_FAULTS {
+    for (fault, text, at) in IL_FAULTS {
         assert_text(&rt, alloc, &fault, text)?;
+        assert_eq!(rt; fault.at(), at);
     }
-    Ok(())
-}
-
-#[test]
-fn refusals_have_their_words(rt: HostRuntime) -> Result<(), Fail> {
-    let alloc = rt.alloc();
     let cause = Cause::Pe(PeFault::NotPe(0));
     let refusal = AsmRefusal::Bad(AsmFault { at: 0, cause });
     let text = "not a PE file at 00000000, in the file at 00000000";

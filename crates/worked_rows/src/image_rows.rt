@@ -3,7 +3,7 @@
 //! at 346, those of MethodDef at 362, `#Strings` at 3c4 and `#Blob` at 45c.
 
 use crate::assembly::ASSEMBLY;
-use crate::changes::{Change, copy_with};
+use crate::changes::{Change, change};
 use asm_image::Cause::{self, Sig, Table};
 use asm_image::{AsmFault, AsmRefusal, Assembly, AssemblyFile, Callee, ContractOp, Found};
 use cc_base::Token;
@@ -288,7 +288,9 @@ const ELEMENTS: [Element; 10] = [
 
 /// The file with these changes.
 fn changed(rt: &impl Abort, alloc: Global, changes: &[Change]) -> Result<Vec<u8>, Fail> {
-    Ok(copy_with(rt, alloc, &ASSEMBLY, changes)?)
+    let mut file = Vec::from_slice(alloc, &ASSEMBLY)?;
+    change(rt, &mut file, changes);
+    Ok(file)
 }
 
 #[test]
@@ -302,10 +304,8 @@ fn methods_have_their_printed_names(rt: HostRuntime) -> Result<(), Fail> {
         };
         assert_eq!(rt; twice.name.as_slice(), first, "{changes:?}");
         assert_eq!(rt; sum.name.as_slice(), second, "{changes:?}");
-        assert_eq!(rt;
-            (twice.token, sum.token),
-            (Token(0x0600_0001), Token(0x0600_0002))
-        );
+        let tokens = (Token(0x0600_0001), Token(0x0600_0002));
+        assert_eq!(rt; (twice.token, sum.token), tokens);
         assert_eq!(rt; (twice.rva, sum.rva), (0x2050, 0x2058));
         assert_eq!(rt; (twice.flags, sum.flags), (0x96, 0x96));
         assert_eq!(rt; (twice.impl_flags, sum.impl_flags), (0, 0));
@@ -321,14 +321,15 @@ fn a_walk_goes_over_the_methods(rt: HostRuntime) -> Result<(), Fail> {
         let file = AssemblyFile::read(&file)?;
         assert_eq!(rt; file.image().metadata_at(), 0x284);
         let mut walk = file.methods(alloc);
-        for (name, rva) in [(first, 0x2050), (second, 0x2058)] {
+        for (name, token, rva) in [(first, 0x0600_0001, 0x2050), (second, 0x0600_0002, 0x2058)] {
+            assert_eq!(rt; walk.token(), Some(Token(token)));
             assert_eq!(rt; walk.current().map(|method| method.rva), Some(rva));
             let mut line = Vec::from_slice(alloc, b"> ")?;
             walk.append_name(alloc, &mut line)?;
             assert_eq!(rt; line.strip_prefix(b"> "), Some(name), "{changes:?}");
             walk.advance();
         }
-        assert!(rt; walk.current().is_none());
+        assert!(rt; walk.current().is_none() && walk.token().is_none());
         let mut line = Vec::new(alloc);
         walk.append_name(alloc, &mut line)?;
         walk.advance();
@@ -370,8 +371,8 @@ fn names_mean_methods(rt: HostRuntime) -> Result<(), Fail> {
 fn tokens_name_callees(rt: HostRuntime) -> Result<(), Fail> {
     let alloc = rt.alloc();
     for (changes, token, callee) in CALLS {
-        let file = changed(&rt, alloc, &ASSERT)?;
-        let file = copy_with(&rt, alloc, &file, changes)?;
+        let mut file = changed(&rt, alloc, &ASSERT)?;
+        change(&rt, &mut file, changes);
         let assembly = Assembly::read(alloc, &file)?;
         assert_eq!(rt;
             assembly.callee_of(Token(token)),

@@ -99,7 +99,7 @@ fn assert_unit(
     parameters: &[u8],
     fault: Option<&[u8]>,
 ) -> Result<(), Fail> {
-    let mut devices = Devices::with_unit(alloc, unit)?;
+    let mut devices = Devices::with_file(alloc, "u.bin", unit)?;
     match fault {
         None => {
             let report = joined(alloc, &[b"unit T::f(", parameters, b"): proved\n", SUMMARY])?;

@@ -206,33 +206,24 @@ const CODES: [(&[u8], &[u8]); 37] = [
     (b"\0\0\0\0", b"unit form at 00000015"),
 ];
 
-/// The answer that refuses `u.bin` by this line.
-fn refusal(line: &[u8]) -> Answer<'_> {
-    Answer {
-        status: 5,
-        out: b"",
-        err: line,
-    }
-}
-
 #[test]
-fn the_first_fault_of_the_fields_is_told(rt: HostRuntime) -> Result<(), Fail> {
+fn the_first_fault_of_a_unit_is_told(rt: HostRuntime) -> Result<(), Fail> {
     let alloc = rt.alloc();
-    for (file, fault) in FIELDS {
-        let line = joined(alloc, &[b"cccheck: refused u.bin: ", fault, b"\n"])?;
-        let mut devices = Devices::with_unit(alloc, file)?;
-        devices.assert_answer(&rt, alloc, &["unit", "u.bin"], refusal(&line))?;
-    }
-    Ok(())
-}
-
-#[test]
-fn the_first_fault_of_the_code_is_told(rt: HostRuntime) -> Result<(), Fail> {
-    let alloc = rt.alloc();
-    for (code, fault) in CODES {
-        let line = joined(alloc, &[b"cccheck: refused u.bin: ", fault, b"\n"])?;
-        let mut devices = Devices::with_unit(alloc, &joined(alloc, &[HEAD, code])?)?;
-        devices.assert_answer(&rt, alloc, &["unit", "u.bin"], refusal(&line))?;
+    let tables = [
+        (b"".as_slice(), FIELDS.as_slice()),
+        (HEAD, CODES.as_slice()),
+    ];
+    for (front, rows) in tables {
+        for (rest, fault) in rows {
+            let line = joined(alloc, &[b"cccheck: refused u.bin: ", fault, b"\n"])?;
+            let want = Answer {
+                status: 5,
+                out: b"",
+                err: &line,
+            };
+            let mut devices = Devices::with_file(alloc, "u.bin", &joined(alloc, &[front, rest])?)?;
+            devices.assert_answer(&rt, alloc, &["unit", "u.bin"], want)?;
+        }
     }
     Ok(())
 }

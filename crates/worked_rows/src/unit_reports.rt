@@ -55,7 +55,7 @@ fn a_unit_is_reported(rt: HostRuntime) -> Result<(), Fail> {
             out: row.report,
             err: b"",
         };
-        let mut devices = Devices::with_unit(alloc, row.file)?;
+        let mut devices = Devices::with_file(alloc, "u.bin", row.file)?;
         devices.assert_answer(&rt, alloc, &["unit", "u.bin"], want)?;
     }
     Ok(())
