@@ -2,8 +2,8 @@
 
 use cc_base::{
     Compressed, CompressedFault, Files, MapFiles, Offset, PutRefusal, ReadRefusal, ReplaceRefusal,
-    Sink, Token, VecSink, append_escaped, compressed_number, little_endian_law, put_hex, put_number,
-    u16_at, u32_at, u64_at, wrap32,
+    Sink, Token, VecSink, append_escaped, compressed_number, little_endian_law, put_hex,
+    put_number, u16_at, u32_at, u64_at, wrap32,
 };
 use std::test::Fail;
 
@@ -105,7 +105,7 @@ fn numbers_wrap_as_twos_complement(rt: HostRuntime) {
 }
 
 #[test]
-fn numbers_are_appended_as_text(rt: HostRuntime) -> Result<(), Fail> {
+fn numbers_and_names_are_appended_as_text(rt: HostRuntime) -> Result<(), Fail> {
     let alloc = rt.alloc();
     for (number, text) in DECIMALS {
         let mut line = Vec::from_slice(alloc, b"n=")?;
@@ -118,12 +118,6 @@ fn numbers_are_appended_as_text(rt: HostRuntime) -> Result<(), Fail> {
     put_hex(alloc, &mut line, 0xdead_beef, 8)?;
     put_hex(alloc, &mut line, 0xf, 1)?;
     assert_eq!(rt; line.as_slice(), b"2a0009deadbeeff".as_slice());
-    Ok(())
-}
-
-#[test]
-fn names_are_escaped(rt: HostRuntime) -> Result<(), Fail> {
-    let alloc = rt.alloc();
     for (name, text) in NAMES {
         let mut line = Vec::new(alloc);
         append_escaped(alloc, &mut line, name)?;

@@ -42,15 +42,3 @@ pub fn zeros_with(
     change(rt, &mut file, changes);
     Ok(file)
 }
-
-/// A copy of the bytes with these changes.
-pub fn copy_with(
-    rt: &impl Abort,
-    alloc: Global,
-    bytes: &[u8],
-    changes: &[Change],
-) -> Result<Vec<u8>, AllocError> {
-    let mut file = Vec::from_slice(alloc, bytes)?;
-    change(rt, &mut file, changes);
-    Ok(file)
-}

@@ -99,21 +99,21 @@ fn decoded(rt: &impl Abort, alloc: Global, code: &[u8], at: u32) -> Result<(u32,
 }
 
 #[test]
-fn spellings_are_decoded(rt: HostRuntime) -> Result<(), Fail> {
+fn instructions_are_decoded(rt: HostRuntime) -> Result<(), Fail> {
     let alloc = rt.alloc();
     for (spelling, told) in SPELLINGS {
         let code = joined(alloc, &[b"\x2a", spelling, b"\xfe"])?;
         assert!(rt; spelling.len() < 100);
         let size = spelling.len() as u32;
-        assert_eq!(rt; decoded(&rt, alloc, &code, 1)?, (size, told), "{spelling:?}");
+        assert_eq!(rt;
+            decoded(&rt, alloc, &code, 1)?,
+            (size, told),
+            "{spelling:?}"
+        );
     }
-    Ok(())
-}
-
-#[test]
-fn other_bytes_are_no_instruction(rt: HostRuntime) {
     for (code, at, fault) in FAULTS {
         let want = Err(IlRefusal::Bad(fault));
-        assert_eq!(rt; decoded(&rt, rt.alloc(), code, at), want, "at {at} of {code:?}");
+        assert_eq!(rt; decoded(&rt, alloc, code, at), want, "at {at} of {code:?}");
     }
+    Ok(())
 }

@@ -1,6 +1,8 @@
-//! What the tests share: files and sinks in memory, and the bytes of units.
+//! What the tests share: files and sinks in memory, and others that lack it.
 
-use cc_base::{MapFiles, VecSink};
+ghost use Rattle.std.specs.Prelude.{None, Some};
+
+use cc_base::{Files, MapFiles, PutRefusal, ReadRefusal, ReplaceRefusal, Sink, VecSink};
 use check_driver::run_words;
 use std::alloc::{AllocError, Global};
 use std::process::Abort;
@@ -36,11 +38,6 @@ impl Devices {
         let mut devices = Devices::new(alloc);
         devices.files.hold(alloc, name, bytes)?;
         Ok(devices)
-    }
-
-    /// Devices with the bytes under the name `u.bin`.
-    pub fn with_unit(alloc: Global, bytes: &[u8]) -> Result<Devices, AllocError> {
-        Devices::with_file(alloc, "u.bin", bytes)
     }
 
     /// Calls the program with these words, and asserts its answer.
@@ -88,4 +85,63 @@ pub fn owned(alloc: Global, words: &[&str]) -> Result<Vec<String>, AllocError> {
         copies.push(String::from_str(alloc, word)?)?;
     }
     Ok(copies)
+}
+
+/// Files of which each read and each replacement answers that it lacks memory.
+#[derive(Drop)]
+pub struct LackingFiles {
+    pub faults: u64,
+}
+
+impl Files for LackingFiles {
+    ghost held = { λ _. None };
+
+    ghost missed = { λ f. f.faults };
+
+    ghost faults = { λ f. f.faults };
+
+    fn read(&mut self, _alloc: Global, _name: &str) -> Result<Vec<u8>, ReadRefusal> {
+        Err(ReadRefusal::NoMemory)
+    }
+
+    fn replace(
+        &mut self,
+        _alloc: Global,
+        _name: &str,
+        _bytes: &[u8],
+    ) -> Result<(), ReplaceRefusal> {
+        Err(ReplaceRefusal::NoMemory)
+    }
+}
+
+/// A sink in memory of which some puts answer that they lack memory, by their number from 1.
+#[derive(Drop)]
+pub struct LackingSink {
+    pub sink: VecSink,
+    lacking: &'static [u8],
+    puts: u8,
+}
+
+impl LackingSink {
+    pub fn new(alloc: Global, lacking: &'static [u8]) -> LackingSink {
+        LackingSink {
+            sink: VecSink::new(alloc),
+            lacking,
+            puts: 0,
+        }
+    }
+}
+
+impl Sink for LackingSink {
+    ghost written = { λ s. Some s.sink.bytes.items };
+
+    ghost faults = { λ s. s.sink.faults };
+
+    fn put(&mut self, alloc: Global, bytes: &[u8]) -> Result<(), PutRefusal> {
+        self.puts = self.puts.saturating_add(1);
+        if self.lacking.contains(&self.puts) {
+            return Err(PutRefusal::NoMemory);
+        }
+        self.sink.put(alloc, bytes)
+    }
 }

@@ -32,7 +32,11 @@ const TABLE_FAULTS: [(TableFault, &str, u32); 6] = [
         "bad tables: bit 3 of the field at 00000074",
         0x74,
     ),
-    (TableFault::Short(0xec), "tables too short at 000000ec", 0xec),
+    (
+        TableFault::Short(0xec),
+        "tables too short at 000000ec",
+        0xec,
+    ),
     (
         TableFault::IndexOut(0x02, 1, 5),
         "index out of range in row 1 of table 02, column 5",
@@ -50,14 +54,18 @@ const UNIT_FAULTS: [(UnitFault, &str, u32); 4] = [
     (UnitFault::Short(0x15), "unit short at 00000015", 0x15),
     (UnitFault::Form(2), "unit form at 00000002", 2),
     (UnitFault::Version(3), "unit version at 00000003", 3),
-    (UnitFault::NotBuilt(0x16), "unit not built at 00000016", 0x16),
+    (
+        UnitFault::NotBuilt(0x16),
+        "unit not built at 00000016",
+        0x16,
+    ),
 ];
 
-const IL_FAULTS: [(IlFault, &str); 4] = [
-    (IlFault::Short(7), "short at 0007"),
-    (IlFault::Opcode(0x10, 0xfe03), "opcode fe03 at 0010"),
-    (IlFault::Target(0x20), "target at 0020"),
-    (IlFault::Header(0), "header at 0000"),
+const IL_FAULTS: [(IlFault, &str, u32); 4] = [
+    (IlFault::Short(7), "short at 0007", 7),
+    (IlFault::Opcode(0x10, 0xfe03), "opcode fe03 at 0010", 0x10),
+    (IlFault::Target(0x20), "target at 0020", 0x20),
+    (IlFault::Header(0), "header at 0000", 0),
 ];
 
 /// Asserts how something is printed.
@@ -91,15 +99,10 @@ fn faults_have_their_words(rt: HostRuntime) -> Result<(), Fail> {
         assert_text(&rt, alloc, &fault, text)?;
         assert_eq!(rt; fault.at(), at);
     }
-    for (fault, text) in IL_FAULTS {
+    for (fault, text, at) in IL_FAULTS {
         assert_text(&rt, alloc, &fault, text)?;
+        assert_eq!(rt; fault.at(), at);
     }
-    Ok(())
-}
-
-#[test]
-fn refusals_have_their_words(rt: HostRuntime) -> Result<(), Fail> {
-    let alloc = rt.alloc();
     let cause = Cause::Pe(PeFault::NotPe(0));
     let refusal = AsmRefusal::Bad(AsmFault { at: 0, cause });
     let text = "not a PE file at 00000000, in the file at 00000000";

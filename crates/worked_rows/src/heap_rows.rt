@@ -21,7 +21,10 @@ const METADATA: [Change; 17] = [
     (0xa8, b"\x01"),
     (0xd0, b"\0ab\0c\0de"),
     (0xd8, b"\0xy\0"),
-    (0xdc, b"\0\x02xy\x80\x01z\xc0\0\0\x01w\xe0\0\0\0\xef\0\xff\x03\x01\x80"),
+    (
+        0xdc,
+        b"\0\x02xy\x80\x01z\xc0\0\0\x01w\xe0\0\0\0\xef\0\xff\x03\x01\x80",
+    ),
     (0xf2, b"\0\x01q"),
     (0xf5, b"\0\x03h\0\0\xe0\x01"),
     (0xfc, b"\0\x01k\0"),
@@ -106,8 +109,8 @@ fn assert_user_strings(
 }
 
 #[test]
-fn strings_end_at_the_first_zero(rt: HostRuntime) -> Result<(), Fail> {
-    let md = zeros_with(&rt, rt.alloc(), LENGTH, &METADATA)?;
+fn items_stand_at_their_indexes(rt: HostRuntime) -> Result<(), Fail> {
+    let mut md = zeros_with(&rt, rt.alloc(), LENGTH, &METADATA)?;
     assert!(rt; md.len() == LENGTH);
     let tables = Tables::read(&md)?;
     for (index, text) in STRINGS {
@@ -115,25 +118,22 @@ fn strings_end_at_the_first_zero(rt: HostRuntime) -> Result<(), Fail> {
         assert_eq!(rt; tables.has_string(index), text.is_some(), "at {index}");
     }
     for (index, text, is_there) in COMPARED {
-        assert_eq!(rt; tables.string_is(index, text), is_there, "{text:?} at {index}");
+        assert_eq!(rt;
+            tables.string_is(index, text),
+            is_there,
+            "{text:?} at {index}"
+        );
     }
-    Ok(())
-}
-
-#[test]
-fn blobs_have_their_lengths_before_them(rt: HostRuntime) -> Result<(), Fail> {
-    let mut md = zeros_with(&rt, rt.alloc(), LENGTH, &METADATA)?;
+    for (index, item) in BLOBS {
+        let blob = item.map(|item| item.0);
+        assert_eq!(rt; tables.blob_at(index), blob, "at {index}");
+        let at = item.map(|item| item.1);
+        assert_eq!(rt; tables.blob_offset(index), at, "at {index}");
+    }
     assert_user_strings(&rt, &md, &USER_STRINGS)?;
     // The streams have other names: without `#US` there is no item.
     change(&rt, &mut md, &[(0x50, b"#Us"), (0x8c, b"#us")]);
-    assert_user_strings(&rt, &md, &[(0, None), (1, None)])?;
-    assert!(rt; md.len() == LENGTH);
-    let tables = Tables::read(&md)?;
-    for (index, item) in BLOBS {
-        assert_eq!(rt; tables.blob_at(index), item.map(|item| item.0), "at {index}");
-        assert_eq!(rt; tables.blob_offset(index), item.map(|item| item.1), "at {index}");
-    }
-    Ok(())
+    assert_user_strings(&rt, &md, &[(0, None), (1, None)])
 }
 
 #[test]

@@ -3,7 +3,7 @@
 //! at 346, those of MethodDef at 362, `#Strings` at 3c4 and `#Blob` at 45c.
 
 use crate::assembly::ASSEMBLY;
-use crate::changes::{Change, copy_with};
+use crate::changes::{Change, change};
 use asm_image::Cause::{self, Sig, Table};
 use asm_image::{AsmFault, AsmRefusal, Assembly, AssemblyFile, Callee, ContractOp, Found};
 use cc_base::Token;
@@ -82,11 +82,7 @@ type Fault = (&'static [Change], u32, Cause);
 
 const FAULTS: [Fault; 27] = [
     // The root of the metadata is wrong, and its tables are cut; the last row is cut, and a name is missing.
-    (
-        &[(0x284, b"BSJA"), (0x2a8, b"\xd1")],
-        0x284,
-        Table(BadRoot),
-    ),
+    (&[(0x284, b"BSJA"), (0x2a8, b"\xd1")], 0x284, Table(BadRoot)),
     (&[(0x2a8, b"\xd1")], 0x3ae, Table(Short(0x12a))),
     (
         &[(0x2a8, b"\xd1"), (0x34a, b"\xff\xff")],
@@ -242,7 +238,11 @@ const CALLS: [Call; 21] = [
     (&[(0x3f0, b"contract")], MEMBER, Callee::Outside),
     (&[(0x3f0, b"Contracts\0")], MEMBER, Callee::Outside),
     (&[(0x40e, b"\0")], MEMBER, Callee::Outside),
-    (&[(0x42e, b"Assume\0")], MEMBER, Callee::ContractCall(ContractOp(7))),
+    (
+        &[(0x42e, b"Assume\0")],
+        MEMBER,
+        Callee::ContractCall(ContractOp(7)),
+    ),
     (&[(0x42e, b"assert\0")], MEMBER, Callee::Outside),
     (&[(0x46d, b"\x03")], MEMBER, Callee::Outside),
     (&[(0x46e, b"\x20")], MEMBER, Callee::Outside),
@@ -267,7 +267,11 @@ const ELEMENTS: [Element; 10] = [
     (&[(0x3e2, b"Int32\0")], 0x0100_0000, None),
     (&[(0x3e2, b"Int32\0")], 0x0100_0003, None),
     (&[(0x3e2, b"Int32\0")], 0x0200_0001, None),
-    (&[(0x3e2, b"Int32\0"), (0x3e9, b"system")], 0x0100_0001, None),
+    (
+        &[(0x3e2, b"Int32\0"), (0x3e9, b"system")],
+        0x0100_0001,
+        None,
+    ),
     (&[(0x3e2, b"int32\0")], 0x0100_0001, None),
     // The cell of its name, at 33c, names the text at 42e.
     (
@@ -284,7 +288,9 @@ const ELEMENTS: [Element; 10] = [
 
 /// The file with these changes.
 fn changed(rt: &impl Abort, alloc: Global, changes: &[Change]) -> Result<Vec<u8>, Fail> {
-    Ok(copy_with(rt, alloc, &ASSEMBLY, changes)?)
+    let mut file = Vec::from_slice(alloc, &ASSEMBLY)?;
+    change(rt, &mut file, changes);
+    Ok(file)
 }
 
 #[test]
@@ -298,7 +304,8 @@ fn methods_have_their_printed_names(rt: HostRuntime) -> Result<(), Fail> {
         };
         assert_eq!(rt; twice.name.as_slice(), first, "{changes:?}");
         assert_eq!(rt; sum.name.as_slice(), second, "{changes:?}");
-        assert_eq!(rt; (twice.token, sum.token), (Token(0x0600_0001), Token(0x0600_0002)));
+        let tokens = (Token(0x0600_0001), Token(0x0600_0002));
+        assert_eq!(rt; (twice.token, sum.token), tokens);
         assert_eq!(rt; (twice.rva, sum.rva), (0x2050, 0x2058));
         assert_eq!(rt; (twice.flags, sum.flags), (0x96, 0x96));
         assert_eq!(rt; (twice.impl_flags, sum.impl_flags), (0, 0));
@@ -314,14 +321,15 @@ fn a_walk_goes_over_the_methods(rt: HostRuntime) -> Result<(), Fail> {
         let file = AssemblyFile::read(&file)?;
         assert_eq!(rt; file.image().metadata_at(), 0x284);
         let mut walk = file.methods(alloc);
-        for (name, rva) in [(first, 0x2050), (second, 0x2058)] {
+        for (name, token, rva) in [(first, 0x0600_0001, 0x2050), (second, 0x0600_0002, 0x2058)] {
+            assert_eq!(rt; walk.token(), Some(Token(token)));
             assert_eq!(rt; walk.current().map(|method| method.rva), Some(rva));
             let mut line = Vec::from_slice(alloc, b"> ")?;
             walk.append_name(alloc, &mut line)?;
             assert_eq!(rt; line.strip_prefix(b"> "), Some(name), "{changes:?}");
             walk.advance();
         }
-        assert!(rt; walk.current().is_none());
+        assert!(rt; walk.current().is_none() && walk.token().is_none());
         let mut line = Vec::new(alloc);
         walk.append_name(alloc, &mut line)?;
         walk.advance();
@@ -363,10 +371,14 @@ fn names_mean_methods(rt: HostRuntime) -> Result<(), Fail> {
 fn tokens_name_callees(rt: HostRuntime) -> Result<(), Fail> {
     let alloc = rt.alloc();
     for (changes, token, callee) in CALLS {
-        let file = changed(&rt, alloc, &ASSERT)?;
-        let file = copy_with(&rt, alloc, &file, changes)?;
+        let mut file = changed(&rt, alloc, &ASSERT)?;
+        change(&rt, &mut file, changes);
         let assembly = Assembly::read(alloc, &file)?;
-        assert_eq!(rt; assembly.callee_of(Token(token)), callee, "{token:08x} with {changes:?}");
+        assert_eq!(rt;
+            assembly.callee_of(Token(token)),
+            callee,
+            "{token:08x} with {changes:?}"
+        );
     }
     Ok(())
 }
@@ -377,13 +389,20 @@ fn tokens_name_elements_and_locals(rt: HostRuntime) -> Result<(), Fail> {
     for (changes, token, place) in ELEMENTS {
         let file = changed(&rt, alloc, changes)?;
         let assembly = Assembly::read(alloc, &file)?;
-        assert_eq!(rt; assembly.element_of(Token(token)), place, "{token:08x} with {changes:?}");
+        assert_eq!(rt;
+            assembly.element_of(Token(token)),
+            place,
+            "{token:08x} with {changes:?}"
+        );
     }
     let assembly = Assembly::read(alloc, &ASSEMBLY)?;
     let Some(LocalSig::Known(places)) = assembly.locals_of(0x1100_0001) else {
         panic!(rt; "no locals");
     };
-    assert_eq!(rt; places.to_vec(alloc)?.as_slice(), [Place::Int, Place::Int].as_slice());
+    assert_eq!(rt;
+        places.to_vec(alloc)?.as_slice(),
+        [Place::Int, Place::Int].as_slice()
+    );
     let Some(LocalSig::Known(places)) = assembly.locals_of(0) else {
         panic!(rt; "the token 0 names no locals");
     };

@@ -29,8 +29,6 @@ mod heap_rows;
 #[cfg(test)]
 mod image_rows;
 #[cfg(test)]
-mod lacking_devices;
-#[cfg(test)]
 mod limits;
 #[cfg(test)]
 mod list_answers;

@@ -45,7 +45,7 @@ const CUTS: [(usize, &[u8]); 3] = [
     ),
 ];
 
-/// Other bytes at a place of the file of `DIV`, and the line of the fault. The metadata begins at 264.
+/// Other bytes at an offset of the file of `DIV`, and the line of the fault. The metadata begins at 264.
 const CHANGES: [(usize, &[u8], &[u8]); 11] = [
     (
         0,
@@ -140,30 +140,15 @@ fn the_methods_of_an_assembly_are_listed(rt: HostRuntime) -> Result<(), Fail> {
 }
 
 #[test]
-fn an_assembly_that_is_cut_is_refused(rt: HostRuntime) -> Result<(), Fail> {
+fn the_fault_of_an_assembly_is_told(rt: HostRuntime) -> Result<(), Fail> {
     let alloc = rt.alloc();
     let bytes = file(alloc, false, &[MAX])?;
     for (length, line) in CUTS {
         assert_refused(&rt, alloc, bytes.get(..length).unwrap_or(&[]), line)?;
     }
-    Ok(())
-}
-
-#[test]
-fn tables_that_end_in_a_row_of_methods_are_refused(rt: HostRuntime) -> Result<(), Fail> {
-    let alloc = rt.alloc();
-    let mut bytes = file(alloc, false, &[MAX])?;
-    assert!(rt; put(&mut bytes, 0x290, b"\x77\0"));
-    let line = b"cccheck: refused a.dll: tables too short at 0000034e\n";
-    assert_refused(&rt, alloc, &bytes, line)
-}
-
-#[test]
-fn each_fault_of_an_assembly_has_its_words(rt: HostRuntime) -> Result<(), Fail> {
-    let alloc = rt.alloc();
-    for (place, changed, line) in CHANGES {
+    for (at, changed, line) in CHANGES {
         let mut bytes = file(alloc, false, &[DIV])?;
-        assert!(rt; put(&mut bytes, place, changed));
+        assert!(rt; put(&mut bytes, at, changed));
         assert_refused(&rt, alloc, &bytes, line)?;
     }
     Ok(())

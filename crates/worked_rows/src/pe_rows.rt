@@ -145,16 +145,8 @@ const NARROW_FILES: [Row; 31] = [
         None,
     ),
     // The directory's address is cut, and 0; its size is cut, and the address 0.
-    (
-        0x16b,
-        &[(0x168, b"\0\0")],
-        Some(PeFault::TooShort(0x168)),
-    ),
-    (
-        0x16f,
-        &[(0x168, b"\0\0")],
-        Some(PeFault::TooShort(0x16c)),
-    ),
+    (0x16b, &[(0x168, b"\0\0")], Some(PeFault::TooShort(0x168))),
+    (0x16f, &[(0x168, b"\0\0")], Some(PeFault::TooShort(0x16c))),
     // The address is 0, and the first section passes the end; it is 0 alone; each of its bytes counts.
     (0x170, &[(0x168, b"\0\0")], Some(PeFault::NoCli(0x168))),
     (LENGTH, &[(0x168, b"\0\0")], Some(PeFault::NoCli(0x168))),
@@ -164,11 +156,7 @@ const NARROW_FILES: [Row; 31] = [
         Some(PeFault::RvaOutside(0x0100_0000)),
     ),
     // The last section passes the end, and the CLI header is in none.
-    (
-        0x1b7,
-        &[(0x168, b"\0\x24")],
-        Some(PeFault::TooShort(0x1b4)),
-    ),
+    (0x1b7, &[(0x168, b"\0\x24")], Some(PeFault::TooShort(0x1b4))),
     // The CLI header ends behind its section, and the metadata is in none; it ends where its section does,
     // and names the address 0.
     (
@@ -182,8 +170,16 @@ const NARROW_FILES: [Row; 31] = [
         Some(PeFault::RvaOutside(0)),
     ),
     // The CLI header at the least address of the section, one below it, and behind the last.
-    (LENGTH, &[(0x168, b"\xff\x1f")], Some(PeFault::RvaOutside(0x1fff))),
-    (LENGTH, &[(0x168, b"\0\x23")], Some(PeFault::RvaOutside(0x2300))),
+    (
+        LENGTH,
+        &[(0x168, b"\xff\x1f")],
+        Some(PeFault::RvaOutside(0x1fff)),
+    ),
+    (
+        LENGTH,
+        &[(0x168, b"\0\x23")],
+        Some(PeFault::RvaOutside(0x2300)),
+    ),
     // The metadata one byte past its section, up to its end, and of no bytes.
     (
         LENGTH,
@@ -220,11 +216,7 @@ const WIDE_FILES: [Row; 6] = [
         None,
     ),
     (LENGTH, &[(0x178, b"\0\0")], Some(PeFault::NoCli(0x178))),
-    (
-        0x1c7,
-        &[(0x178, b"\0\x24")],
-        Some(PeFault::TooShort(0x1c4)),
-    ),
+    (0x1c7, &[(0x178, b"\0\x24")], Some(PeFault::TooShort(0x1c4))),
 ];
 
 /// The first fault of a file.
@@ -254,25 +246,87 @@ fn files_that_are_cut_in_a_field_are_refused(rt: HostRuntime) -> Result<(), Fail
     Ok(())
 }
 
-/// Asserts that a file of this kind has the fault of the row.
-fn assert_row(rt: &impl Abort, file: &mut [u8], kind: &[Change], row: Row) {
-    let (length, changes, fault) = row;
-    change(rt, file, kind);
-    change(rt, file, changes);
-    let cut = file.get(..length).unwrap_or(&[]);
-    assert_eq!(rt; fault_of(rt, cut), fault, "{changes:?} in {length}");
-}
-
 #[test]
 fn the_first_fault_of_a_file_is_told(rt: HostRuntime) -> Result<(), Fail> {
     let alloc = rt.alloc();
-    for row in NARROW_FILES {
-        let mut file = zeros_with(&rt, alloc, LENGTH, &COMMON)?;
-        assert_row(&rt, &mut file, &NARROW, row);
+    let kinds = [
+        (NARROW, NARROW_FILES.as_slice()),
+        (WIDE, WIDE_FILES.as_slice()),
+    ];
+    for (kind, rows) in kinds {
+        for (length, changes, fault) in rows {
+            let mut file = zeros_with(&rt, alloc, LENGTH, &COMMON)?;
+            change(&rt, &mut file, &kind);
+            change(&rt, &mut file, changes);
+            let cut = file.get(..*length).unwrap_or(&[]);
+            assert_eq!(rt; fault_of(&rt, cut), *fault, "{changes:?} in {length}");
+        }
     }
-    for row in WIDE_FILES {
-        let mut file = zeros_with(&rt, alloc, LENGTH, &COMMON)?;
-        assert_row(&rt, &mut file, &WIDE, row);
+    Ok(())
+}
+
+/// How long a file is, an address, a number of bytes, and where these stand in the file.
+const BYTES: [(usize, u32, u32, Option<usize>); 18] = [
+    // In the first section: the metadata, the whole section, one byte more, the last bytes, and one more.
+    (LENGTH, 0x2050, 4, Some(0x250)),
+    (LENGTH, 0x2000, 0x200, Some(0x200)),
+    (LENGTH, 0x2000, 0x201, None),
+    (LENGTH, 0x21fc, 4, Some(0x3fc)),
+    (LENGTH, 0x21fd, 4, None),
+    (LENGTH, 0x21ff, 0, Some(0x3ff)),
+    // Before the first, and in the second alone: at its start there, its end, and behind.
+    (LENGTH, 0x1fff, 0, None),
+    (LENGTH, 0x1fff, 4, None),
+    (LENGTH, 0x2200, 0, Some(0x300)),
+    (LENGTH, 0x2250, 4, Some(0x350)),
+    (LENGTH, 0x22ff, 1, Some(0x3ff)),
+    (LENGTH, 0x22ff, 2, None),
+    (LENGTH, 0x2300, 0, None),
+    (LENGTH, 0xffff_ffff, 1, None),
+    // The file ends inside the first section, which decides although the second has the bytes.
+    (0x300, 0x2000, 0x100, Some(0x200)),
+    (0x300, 0x2000, 0x101, None),
+    (0x300, 0x2100, 0, Some(0x300)),
+    (0x300, 0x2101, 0, None),
+];
+
+/// How long a file is, an address, and where the bytes from it on begin and end in the file.
+const RESTS: [(usize, u32, Option<(usize, usize)>); 12] = [
+    (LENGTH, 0x2000, Some((0x200, 0x400))),
+    (LENGTH, 0x2050, Some((0x250, 0x400))),
+    (LENGTH, 0x2100, Some((0x300, 0x400))),
+    (LENGTH, 0x21ff, Some((0x3ff, 0x400))),
+    (LENGTH, 0x2200, Some((0x300, 0x400))),
+    (LENGTH, 0x22ff, Some((0x3ff, 0x400))),
+    (LENGTH, 0x2300, None),
+    (LENGTH, 0x1fff, None),
+    // The file ends inside the section.
+    (0x300, 0x2000, Some((0x200, 0x300))),
+    (0x300, 0x2100, Some((0x300, 0x300))),
+    (0x300, 0x2101, None),
+    (0x300, 0x2200, Some((0x300, 0x300))),
+];
+
+#[test]
+fn bytes_stand_at_their_addresses(rt: HostRuntime) -> Result<(), Fail> {
+    let mut whole = zeros_with(&rt, rt.alloc(), LENGTH, &COMMON)?;
+    change(&rt, &mut whole, &NARROW);
+    for (length, rva, size, want) in BYTES {
+        let file = whole.get(..length).unwrap_or(&[]);
+        assert!(rt; file.len() <= LENGTH);
+        let image = Image::read(file)?;
+        let found = image.at(rva, size);
+        let want = want.and_then(|at| file.get(at..)?.get(..size as usize));
+        assert_eq!(rt; found, want, "{size} bytes at {rva:x}");
+    }
+    for (length, rva, want) in RESTS {
+        let file = whole.get(..length).unwrap_or(&[]);
+        assert!(rt; file.len() <= LENGTH);
+        let image = Image::read(file)?;
+        let want = want.and_then(|(start, end)| file.get(start..end));
+        assert_eq!(rt; image.rest_at(rva), want, "at {rva:x}");
+        assert_eq!(rt; image.metadata_at(), 0x250);
+        assert_eq!(rt; image.metadata(), b"BSJB".as_slice());
     }
     Ok(())
 }

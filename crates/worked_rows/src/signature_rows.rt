@@ -214,7 +214,11 @@ fn signatures_of_locals_are_read(rt: HostRuntime) -> Result<(), Fail> {
         assert_eq!(rt; found.as_deref(), places, "in {blob:?}");
     }
     for (blob, fault) in LOCAL_FAULTS {
-        assert_eq!(rt; locals_in(&rt, alloc, blob)?.err(), Some(fault), "in {blob:?}");
+        assert_eq!(rt;
+            locals_in(&rt, alloc, blob)?.err(),
+            Some(fault),
+            "in {blob:?}"
+        );
     }
     Ok(())
 }

@@ -11,7 +11,7 @@ struct Row {
     report: &'static [u8],
 }
 
-const ROWS: [Row; 4] = [
+const ROWS: [Row; 5] = [
     // 3 + 8 is greater than 1.
     Row {
         file: b"CCU1\x04\0T::f\x02\x01\x02\0\x02\0\0\x0d\0\0\0\x1b\x19\x58\x1e\xfe\x01\x28\x05\0\0\0\x02\x2a",
@@ -37,6 +37,13 @@ const ROWS: [Row; 4] = [
         status: 1,
         report: b"unit a\\5cb((int32,int32): unproved\n  IL_0002 assert: proved\n  IL_000a assert: unproved\n  IL_0010 assert: unproved\n  IL_0016 assert: proved\n  IL_001e assert: proved\nsummary: 1 methods, 0 proved, 1 unproved, 0 not analysed, 5 obligations, 3 proved\n",
     },
+    // Asserts that the greatest number and 1 are less than 0, that 2 is not greater than 2, that 2 is equal to 3,
+    // and of 0. The last is never reached.
+    Row {
+        file: b"CCU1\x04\0T::h\x02\0\0\x02\0\0\x2c\0\0\0\x20\xff\xff\xff\x7f\x17\x58\x16\xfe\x04\x28\x05\0\0\0\x18\x18\xfe\x02\x16\xfe\x01\x28\x05\0\0\0\x18\x19\xfe\x01\x28\x05\0\0\0\x16\x28\x05\0\0\0\x16\x2a",
+        status: 1,
+        report: b"unit T::h(): unproved\n  IL_000a assert: proved\n  IL_0016 assert: proved\n  IL_001f assert: unproved\n  IL_0025 assert: proved\nsummary: 1 methods, 0 proved, 1 unproved, 0 not analysed, 4 obligations, 3 proved\n",
+    },
 ];
 
 #[test]
@@ -48,7 +55,7 @@ fn a_unit_is_reported(rt: HostRuntime) -> Result<(), Fail> {
             out: row.report,
             err: b"",
         };
-        let mut devices = Devices::with_unit(alloc, row.file)?;
+        let mut devices = Devices::with_file(alloc, "u.bin", row.file)?;
         devices.assert_answer(&rt, alloc, &["unit", "u.bin"], want)?;
     }
     Ok(())

@@ -240,12 +240,18 @@ fn assert_verdict(
     let code = joined(alloc, &[number, b"\x28\x05\0\0\0\x16\x2a"])?;
     assert!(rt; code.len() < 100);
     let size = (code.len() as u32).to_le_bytes();
-    let mut devices = Devices::with_unit(alloc, &joined(alloc, &[HEAD, &size, &code])?)?;
+    let mut devices = Devices::with_file(alloc, "u.bin", &joined(alloc, &[HEAD, &size, &code])?)?;
     let verdict = if is_proved { "proved" } else { "unproved" };
-    let counts = if is_proved { "1 proved, 0 unproved" } else { "0 proved, 1 unproved" };
+    let counts = if is_proved {
+        "1 proved, 0 unproved"
+    } else {
+        "0 proved, 1 unproved"
+    };
     let at = number.len();
     let count = u8::from(is_proved);
-    let report = format!(in alloc; "unit T::f(int32): {verdict}\n  IL_{at:04x} assert: {verdict}\nsummary: 1 methods, {counts}, 0 not analysed, 1 obligations, {count} proved\n")?;
+    let report = format!(in alloc;
+        "unit T::f(int32): {verdict}\n  IL_{at:04x} assert: {verdict}\nsummary: 1 methods, {counts}, 0 not analysed, 1 obligations, {count} proved\n"
+    )?;
     let want = Answer {
         status: u8::from(!is_proved),
         out: report.as_bytes(),
@@ -255,26 +261,23 @@ fn assert_verdict(
     Ok(())
 }
 
-/// Asserts both verdicts on what the operator of each row gives.
-fn assert_rows(rt: &impl Abort, alloc: Global, rows: &[Row]) -> Result<(), Fail> {
-    for (first, second, operator, truth) in rows {
-        let number = joined(alloc, &[first, second, operator])?;
-        assert_verdict(rt, alloc, &number, *truth == Always)?;
-        let is_zero = joined(alloc, &[&number, ZERO, EQUAL])?;
-        assert_verdict(rt, alloc, &is_zero, *truth == Never)?;
+#[test]
+fn operators_have_their_verdicts(rt: HostRuntime) -> Result<(), Fail> {
+    let alloc = rt.alloc();
+    let tables = [
+        LESS_ROWS.as_slice(),
+        GREATER_ROWS.as_slice(),
+        EQUAL_ROWS.as_slice(),
+        SUM_ROWS.as_slice(),
+        SUMS_COMPARED.as_slice(),
+    ];
+    for rows in tables {
+        for (first, second, operator, truth) in rows {
+            let number = joined(alloc, &[first, second, operator])?;
+            assert_verdict(&rt, alloc, &number, *truth == Always)?;
+            let is_zero = joined(alloc, &[&number, ZERO, EQUAL])?;
+            assert_verdict(&rt, alloc, &is_zero, *truth == Never)?;
+        }
     }
     Ok(())
-}
-
-#[test]
-fn comparisons_have_their_verdicts(rt: HostRuntime) -> Result<(), Fail> {
-    assert_rows(&rt, rt.alloc(), &LESS_ROWS)?;
-    assert_rows(&rt, rt.alloc(), &GREATER_ROWS)?;
-    assert_rows(&rt, rt.alloc(), &EQUAL_ROWS)
-}
-
-#[test]
-fn sums_have_their_verdicts(rt: HostRuntime) -> Result<(), Fail> {
-    assert_rows(&rt, rt.alloc(), &SUM_ROWS)?;
-    assert_rows(&rt, rt.alloc(), &SUMS_COMPARED)
 }

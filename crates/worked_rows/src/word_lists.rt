@@ -68,7 +68,7 @@ fn a_missing_file_is_named(rt: HostRuntime) -> Result<(), Fail> {
 }
 
 #[test]
-fn a_command_names_its_file_by_place(rt: HostRuntime) -> Result<(), Fail> {
+fn a_command_names_its_file_by_its_index(rt: HostRuntime) -> Result<(), Fail> {
     let alloc = rt.alloc();
     for (word, command) in [("unit", Command::Unit(1)), ("list", Command::List(1))] {
         let words = vec![in alloc;
@@ -76,6 +76,7 @@ fn a_command_names_its_file_by_place(rt: HostRuntime) -> Result<(), Fail> {
             String::from_str(alloc, "a.bin")?,
         ]?;
         assert_eq!(rt; parse_words(&words), Some(command));
+        assert_eq!(rt; command.files(), [1].as_slice());
     }
     Ok(())
 }

@@ -111,7 +111,11 @@ fn methods_beyond_a_limit_are_not_written(rt: HostRuntime) -> Result<(), Fail> {
             methods: vec![in alloc; plan_of(alloc, args, locals, max_stack, code)?]?,
         };
         let refusal = write_assembly(alloc, &plan).err();
-        let want = if is_within { None } else { Some(WriteRefusal::TooLarge) };
+        let want = if is_within {
+            None
+        } else {
+            Some(WriteRefusal::TooLarge)
+        };
         assert_eq!(rt; refusal, want, "{args} {locals} {max_stack} {code}");
     }
     Ok(())
