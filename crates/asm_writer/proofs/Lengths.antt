@@ -70,7 +70,7 @@ length_stream l ms =
     let numbers = length_numbers (stream_numbers l) in
     let counts = sizes (count_bytes l) (count_size l) (λ (table : Table). length_numbers (count_numbers l table)) all_tables in
     let rows = sizes (table_bytes l ms) (table_size l ms) (λ (table : Table). length_rows l (table_rows ms table)) all_tables in
-    length_padded 4 _ _ (omega arith) (rw (length-append, length-append, numbers, counts, rows) refl)
+    length_padded 4 _ _ (omega arith) (both _ _ _ _ (both _ _ _ _ numbers counts) rows)
 
 -- Items that are packed.
 length_pushed : (packing : Packing) (items : List (List ℕ)) → length (pushed_all packing items).bytes ≡ length packing.bytes + items_size items

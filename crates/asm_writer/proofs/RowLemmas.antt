@@ -7,25 +7,26 @@ use Rattle.std.proofs.lemmas.Grind.{flat_map-append}
 use Rattle.asm_writer.specs.declared.field.Field.{Field}
 use Rattle.asm_writer.specs.declared.layout.Layout.{Layout}
 use Rattle.asm_writer.specs.declared.plan.MethodPlan.{MethodPlan}
+use Rattle.asm_writer.specs.declared.table.Table.TheVariants as tables
 use Rattle.asm_writer.specs.Bodies.{locals_rows, has_locals}
 use Rattle.asm_writer.specs.Each.{each_from}
 use Rattle.asm_writer.specs.Layout.{rows_bytes}
-use Rattle.asm_writer.specs.Rows.{method_rows_of, locals_rows_of, locals_fields}
+use Rattle.asm_writer.specs.Rows.{rows_of_method, locals_fields}
 use Rattle.asm_writer.proofs.EachLemmas.{each_more}
 
-count_methods_from : (index : ℕ) (ms : List MethodPlan) → length (each_from index method_rows_of ms) ≡ length ms
+count_methods_from : (index : ℕ) (ms : List MethodPlan) → length (each_from index (rows_of_method tables.MethodDef) ms) ≡ length ms
 unfolding each_from
 count_methods_from index [] = refl
 count_methods_from index (m ∷ ms) = ap suc (count_methods_from (index + 1) ms)
 
-pub count_methods : (ms : List MethodPlan) → length ms ≡ length (each_from 0 method_rows_of ms)
+pub count_methods : (ms : List MethodPlan) → length ms ≡ length (each_from 0 (rows_of_method tables.MethodDef) ms)
 count_methods ms = sym (count_methods_from 0 ms)
 
 count_one : (index : ℕ) (m : MethodPlan) (has : Bool) → length {A = List Field} (if has then locals_fields index ∷ [] else []) ≡ (if has then 1 else 0)
 count_one index m true = refl
 count_one index m false = refl
 
-count_locals_from : (index : ℕ) (ms : List MethodPlan) → length (each_from index locals_rows_of ms) ≡ sum_by locals_rows ms
+count_locals_from : (index : ℕ) (ms : List MethodPlan) → length (each_from index (rows_of_method tables.StandAloneSig) ms) ≡ sum_by locals_rows ms
 unfolding each_from locals_rows
 count_locals_from index [] = refl
 count_locals_from index (m ∷ ms) =
@@ -33,7 +34,7 @@ count_locals_from index (m ∷ ms) =
     let rest = count_locals_from (index + 1) ms in
     rw (length-append, first, rest, sum_by-cons) refl
 
-pub count_locals : (ms : List MethodPlan) → sum_by locals_rows ms ≡ length (each_from 0 locals_rows_of ms)
+pub count_locals : (ms : List MethodPlan) → sum_by locals_rows ms ≡ length (each_from 0 (rows_of_method tables.StandAloneSig) ms)
 count_locals ms = sym (count_locals_from 0 ms)
 
 pub rows_none : (l : Layout) (f : ℕ → MethodPlan → List (List Field)) (out : List ℕ) → out ≡ out ++ rows_bytes l (each_from 0 f [])

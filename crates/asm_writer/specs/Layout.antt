@@ -2,7 +2,7 @@
 use Rattle.std.specs.Prelude.{ℕ, ◌+◌, ◌-◌, ◌^◌, List, [], ◌∷◌, length, flat_map, slice_index, Bool, nat_le, if◌then◌else◌}
 use Rattle.std.specs.List.{list_any}
 use Rattle.asm_writer.specs.declared.field.Field.{Field}
-use Rattle.asm_writer.specs.declared.field.Field.TheVariants.{Plain, Strings, MethodName, Guid, Blob, MethodSignature, MethodLocals, MethodBody, Row, Coded}
+use Rattle.asm_writer.specs.declared.field.Field.TheVariants.{Plain, Strings, MethodName, Guid, Blobs, MethodSignature, MethodLocals, MethodBody, Row, Coded}
 use Rattle.asm_writer.specs.declared.layout.Layout.{Layout}
 use Rattle.asm_writer.specs.declared.number.Number.{Number}
 use Rattle.asm_writer.specs.declared.number.Number.TheVariants.{Two, Four}
@@ -55,7 +55,7 @@ field_number l (Plain number) = number
 field_number l (Strings name) = heap_index l.strings (name_index name)
 field_number l (MethodName method) = heap_index l.strings (method_name_index method)
 field_number l (Guid n) = Two n
-field_number l (Blob blob) = heap_index l.blobs (blob_index blob)
+field_number l (Blobs blob) = heap_index l.blobs (blob_index blob)
 field_number l (MethodSignature method) = heap_index l.blobs (signature_index method)
 field_number l (MethodLocals method) = heap_index l.blobs (locals_index method)
 field_number l (MethodBody method) = Four (bodies_rva + slice_index l.bodies.offsets method)

@@ -31,7 +31,7 @@ linked = names.Mscorlib ∷ []
 abbrev pub assembly_ref_row : Name → List Field
 assembly_ref_row name =
     Plain (Two 0) ∷ Plain (Two 0) ∷ Plain (Two 0) ∷ Plain (Two 0) ∷ Plain (Four 0)
-    ∷ fields.Blob blobs.Empty ∷ Strings name ∷ Strings names.Empty ∷ fields.Blob blobs.Empty ∷ []
+    ∷ fields.Blobs blobs.Empty ∷ Strings name ∷ Strings names.Empty ∷ fields.Blobs blobs.Empty ∷ []
 
 -- TypeRef (II.22.38): types of `mscorlib`, with their names and namespaces.
 abbrev pub types : List Name
@@ -68,9 +68,6 @@ method_row index m =
     fields.MethodBody index ∷ Plain (Two 0) ∷ Plain (Two (method_flags m.is_static))
     ∷ fields.MethodName index ∷ fields.MethodSignature index ∷ Row tables.Param 1 ∷ []
 
-abbrev pub method_rows_of : ℕ → MethodPlan → List (List Field)
-method_rows_of index m = method_row index m ∷ []
-
 -- MemberRef (II.22.25): the contract calls, each with its name and the kind of its signature.
 abbrev pub calls : List (Name × Blob)
 calls =
@@ -85,7 +82,7 @@ calls =
 abbrev pub member_ref_row : Name × Blob → List Field
 member_ref_row (name, signature) =
     Coded MemberRefParent tables.TypeRef (row_named names.Contract types)
-    ∷ Strings name ∷ fields.Blob signature ∷ []
+    ∷ Strings name ∷ fields.Blobs signature ∷ []
 
 -- The row of the first call of this name.
 abbrev pub call_row : Name → ℕ
@@ -95,14 +92,11 @@ call_row name = row_named name (map (λ call. call.0) calls)
 abbrev pub locals_fields : ℕ → List Field
 locals_fields index = fields.MethodLocals index ∷ []
 
-abbrev pub locals_rows_of : ℕ → MethodPlan → List (List Field)
-locals_rows_of index m = if has_locals m then locals_fields index ∷ [] else []
-
 -- Assembly (II.22.2): no hash, version, flags and key; the name of the class, and no culture.
 abbrev pub assembly_rows : List (List Field)
 assembly_rows =
     (Plain (Four 0) ∷ Plain (Two 0) ∷ Plain (Two 0) ∷ Plain (Two 0) ∷ Plain (Two 0) ∷ Plain (Four 0)
-    ∷ fields.Blob blobs.Empty ∷ Strings names.Class ∷ Strings names.Empty ∷ [])
+    ∷ fields.Blobs blobs.Empty ∷ Strings names.Class ∷ Strings names.Empty ∷ [])
     ∷ []
 
 -- MethodSpec (II.22.29): `Result`, then `OldValue`, by each type.
@@ -110,7 +104,7 @@ abbrev pub instantiations : List Blob
 instantiations = blobs.OfBool ∷ blobs.OfInt ∷ blobs.OfBools ∷ blobs.OfInts ∷ []
 
 abbrev pub method_spec_row : Name → Blob → List Field
-method_spec_row call by = Coded MethodDefOrRef tables.MemberRef (call_row call) ∷ fields.Blob by ∷ []
+method_spec_row call by = Coded MethodDefOrRef tables.MemberRef (call_row call) ∷ fields.Blobs by ∷ []
 
 -- The rows that do not hang on the methods.
 abbrev pub fixed_rows : Table → List (List Field)
@@ -124,8 +118,14 @@ fixed_rows tables.MethodSpec =
     map (method_spec_row names.Result) instantiations ++ map (method_spec_row names.OldValue) instantiations
 fixed_rows _ = []
 
+-- The rows that a table has for the method of this index.
+abbrev pub rows_of_method : Table → ℕ → MethodPlan → List (List Field)
+rows_of_method tables.MethodDef index m = method_row index m ∷ []
+rows_of_method tables.StandAloneSig index m = if has_locals m then locals_fields index ∷ [] else []
+rows_of_method _ index m = []
+
 -- The rows of a table.
 abbrev pub table_rows : List MethodPlan → Table → List (List Field)
-table_rows methods tables.MethodDef = each_from 0 method_rows_of methods
-table_rows methods tables.StandAloneSig = each_from 0 locals_rows_of methods
+table_rows methods tables.MethodDef = each_from 0 (rows_of_method tables.MethodDef) methods
+table_rows methods tables.StandAloneSig = each_from 0 (rows_of_method tables.StandAloneSig) methods
 table_rows methods table = fixed_rows table

@@ -133,7 +133,8 @@ fn push_method(heap: &mut Packed, method: &MethodPlan) -> Result<(), AllocError>
 #[tactic(auto, unfolding(crate::specs::Packing::pushed_all))]
 fn push_methods(heap: &mut Packed, methods: &[MethodPlan]) -> Result<(), AllocError>
     requires { All (λ m. IsTrue (is_within m)) methods.now }
-    ensures { OnOk result (heap.new ≡ pushed_all heap.old (flat_map method_blob_items methods.now)) }
+    ensures { OnOk result
+        (heap.new ≡ pushed_all heap.old (flat_map method_blob_items methods.now)) }
 {
     for method in methods {
         push_method(heap, method)?;

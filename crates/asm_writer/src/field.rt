@@ -18,7 +18,7 @@ pub enum Field {
     /// A GUID in `#GUID`, counted from 1, or none.
     Guid(u64),
     /// A blob in `#Blob`.
-    Blob(Blob),
+    Blobs(Blob),
     /// The signature of a method, in `#Blob`.
     MethodSignature(u32),
     /// The locals of a method, in `#Blob`.

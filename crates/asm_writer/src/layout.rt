@@ -107,7 +107,7 @@ impl Layout {
             Field::Strings(name) => heap_index(&self.strings, name.index()),
             Field::MethodName(method) => heap_index(&self.strings, method_name_index(method)),
             Field::Guid(n) => Two(n),
-            Field::Blob(blob) => heap_index(&self.blobs, blob.index()),
+            Field::Blobs(blob) => heap_index(&self.blobs, blob.index()),
             Field::MethodSignature(method) => heap_index(&self.blobs, signature_index(method)),
             Field::MethodLocals(method) => heap_index(&self.blobs, locals_index(method)),
             Field::MethodBody(method) => Four(BODIES_RVA + self.bodies.offset(method as usize)),

@@ -146,7 +146,8 @@ fn push_method_name(heap: &mut Packed, method: &MethodPlan) -> Result<(), AllocE
 /// Appends the names of the methods, each with its zero.
 #[tactic(auto, unfolding(crate::specs::Packing::pushed_all))]
 fn push_method_names(heap: &mut Packed, plan: &AsmPlan) -> Result<(), AllocError>
-    ensures { OnOk result (heap.new ≡ pushed_all heap.old (map method_name_item plan.now.methods.items)) }
+    ensures { OnOk result
+        (heap.new ≡ pushed_all heap.old (map method_name_item plan.now.methods.items)) }
 {
     for method in &plan.methods {
         push_method_name(heap, method)?;

@@ -4,11 +4,13 @@ ghost use Rattle.std.specs.Prelude.{◌≡◌, length};
 ghost use Rattle.asm_writer.specs.Rows.{fixed_rows, method_row, locals_fields};
 
 use crate::blob::Blob;
+use crate::blob::Blob::{Condition, ConditionAndMessage, Nothing};
 use crate::field::Field;
 use crate::field::Field::{
-    Coded, Guid, MethodBody, MethodLocals, MethodName, MethodSignature, Plain, Row, Strings,
+    Blobs, Coded, Guid, MethodBody, MethodLocals, MethodName, MethodSignature, Plain, Row, Strings,
 };
 use crate::name::Name;
+use crate::name::Name::{Assert, Assume, EndContractBlock, Ensures, Requires};
 use crate::number::Number::{Four, Two};
 use crate::plan::MethodPlan;
 use crate::table::CodedIndex::{MemberRefParent, MethodDefOrRef, ResolutionScope, TypeDefOrRef};
@@ -59,57 +61,17 @@ const CONTRACT: Field = Coded(MemberRefParent, Table::TypeRef, 4);
 
 /// MemberRef (II.22.25): the contract calls.
 pub const MEMBER_REFS: [[Field; 3]; 11] = [
-    [
-        CONTRACT,
-        Strings(Name::Requires),
-        Field::Blob(Blob::Condition),
-    ],
-    [
-        CONTRACT,
-        Strings(Name::Requires),
-        Field::Blob(Blob::ConditionAndMessage),
-    ],
-    [
-        CONTRACT,
-        Strings(Name::Ensures),
-        Field::Blob(Blob::Condition),
-    ],
-    [
-        CONTRACT,
-        Strings(Name::Ensures),
-        Field::Blob(Blob::ConditionAndMessage),
-    ],
-    [
-        CONTRACT,
-        Strings(Name::Assert),
-        Field::Blob(Blob::Condition),
-    ],
-    [
-        CONTRACT,
-        Strings(Name::Assert),
-        Field::Blob(Blob::ConditionAndMessage),
-    ],
-    [
-        CONTRACT,
-        Strings(Name::Assume),
-        Field::Blob(Blob::Condition),
-    ],
-    [
-        CONTRACT,
-        Strings(Name::Assume),
-        Field::Blob(Blob::ConditionAndMessage),
-    ],
-    [
-        CONTRACT,
-        Strings(Name::EndContractBlock),
-        Field::Blob(Blob::Nothing),
-    ],
-    [CONTRACT, Strings(Name::Result), Field::Blob(Blob::Result)],
-    [
-        CONTRACT,
-        Strings(Name::OldValue),
-        Field::Blob(Blob::OldValue),
-    ],
+    [CONTRACT, Strings(Requires), Blobs(Condition)],
+    [CONTRACT, Strings(Requires), Blobs(ConditionAndMessage)],
+    [CONTRACT, Strings(Ensures), Blobs(Condition)],
+    [CONTRACT, Strings(Ensures), Blobs(ConditionAndMessage)],
+    [CONTRACT, Strings(Assert), Blobs(Condition)],
+    [CONTRACT, Strings(Assert), Blobs(ConditionAndMessage)],
+    [CONTRACT, Strings(Assume), Blobs(Condition)],
+    [CONTRACT, Strings(Assume), Blobs(ConditionAndMessage)],
+    [CONTRACT, Strings(EndContractBlock), Blobs(Nothing)],
+    [CONTRACT, Strings(Name::Result), Blobs(Blob::Result)],
+    [CONTRACT, Strings(Name::OldValue), Blobs(Blob::OldValue)],
 ];
 
 /// Assembly (II.22.2).
@@ -120,7 +82,7 @@ pub const ASSEMBLIES: [[Field; 9]; 1] = [[
     Plain(Two(0)),
     Plain(Two(0)),
     Plain(Four(0)),
-    Field::Blob(Blob::Empty),
+    Blobs(Blob::Empty),
     Strings(Name::Class),
     Strings(Name::Empty),
 ]];
@@ -132,10 +94,10 @@ pub const ASSEMBLY_REFS: [[Field; 9]; 1] = [[
     Plain(Two(0)),
     Plain(Two(0)),
     Plain(Four(0)),
-    Field::Blob(Blob::Empty),
+    Blobs(Blob::Empty),
     Strings(Name::Mscorlib),
     Strings(Name::Empty),
-    Field::Blob(Blob::Empty),
+    Blobs(Blob::Empty),
 ]];
 
 /// The rows of `Result` and `OldValue`.
@@ -145,14 +107,14 @@ const OLD_VALUE: Field = Coded(MethodDefOrRef, Table::MemberRef, 11);
 
 /// MethodSpec (II.22.29): both by each type.
 pub const METHOD_SPECS: [[Field; 2]; 8] = [
-    [RESULT, Field::Blob(Blob::OfBool)],
-    [RESULT, Field::Blob(Blob::OfInt)],
-    [RESULT, Field::Blob(Blob::OfBools)],
-    [RESULT, Field::Blob(Blob::OfInts)],
-    [OLD_VALUE, Field::Blob(Blob::OfBool)],
-    [OLD_VALUE, Field::Blob(Blob::OfInt)],
-    [OLD_VALUE, Field::Blob(Blob::OfBools)],
-    [OLD_VALUE, Field::Blob(Blob::OfInts)],
+    [RESULT, Blobs(Blob::OfBool)],
+    [RESULT, Blobs(Blob::OfInt)],
+    [RESULT, Blobs(Blob::OfBools)],
+    [RESULT, Blobs(Blob::OfInts)],
+    [OLD_VALUE, Blobs(Blob::OfBool)],
+    [OLD_VALUE, Blobs(Blob::OfInt)],
+    [OLD_VALUE, Blobs(Blob::OfBools)],
+    [OLD_VALUE, Blobs(Blob::OfInts)],
 ];
 
 /// How many rows a table has, but for those of MethodDef and StandAloneSig.

@@ -1,8 +1,9 @@
 //! The stream `#~` (ECMA-335 II.24.2.6).
 
 ghost use Rattle.std.specs.Prelude.{◌≡◌, ◌++◌, ◌<◌, ◌≤◌, ◌^◌, length, flat_map, sum_by, OnOk, IfOk};
+ghost use Rattle.asm_writer.specs.Each.{each_from};
 ghost use Rattle.asm_writer.specs.Layout.{rows_bytes};
-ghost use Rattle.asm_writer.specs.Rows.{fixed_rows, table_rows, method_rows_of, locals_rows_of};
+ghost use Rattle.asm_writer.specs.Rows.{rows_of_method};
 ghost use Rattle.asm_writer.specs.Stream.{heap_sizes, valid_bit, valid, count_bytes, table_bytes, tables_stream};
 
 use crate::field::Field;
@@ -33,66 +34,42 @@ fn append_rows<const N: usize>(
     Ok(())
 }
 
-/// Appends the row of a method.
-fn append_method(
-    out: &mut Vec<u8>,
-    layout: &Layout,
-    index: u32,
-    method: &MethodPlan,
-) -> Result<(), AllocError>
-    ensures { OnOk result
-        (out.new.items ≡ out.old.items ++ rows_bytes layout.now (method_rows_of index method.now)) }
-{
-    append_rows(out, layout, &[method_row(index, method)])
-}
-
-/// Appends the rows of MethodDef.
-#[tactic(auto, using(crate::proofs::RowLemmas::rows_none))]
-fn append_methods(
-    out: &mut Vec<u8>,
-    layout: &Layout,
-    methods: &[MethodPlan],
-) -> Result<(), AllocError>
-    requires { length methods.now < 2 ^ 24 }
-    ensures { OnOk result
-        (out.new.items ≡ out.old.items ++ rows_bytes layout.now (table_rows methods.now Table.MethodDef)) }
-{
-    for (index, method) in methods.iter().enumerate() {
-        append_method(out, layout, index as u32, method)?;
-    }
-    Ok(())
-}
-
-/// Appends the row of the locals of a method, where it has any.
+/// Appends the rows that a table has for the method of this index.
 #[tactic(auto, unfolding(crate::specs::Layout::rows_bytes))]
-fn append_locals_of(
+fn append_rows_of_method(
     out: &mut Vec<u8>,
     layout: &Layout,
+    table: Table,
     index: u32,
     method: &MethodPlan,
 ) -> Result<(), AllocError>
     ensures { OnOk result
-        (out.new.items ≡ out.old.items ++ rows_bytes layout.now (locals_rows_of index method.now)) }
+        (out.new.items ≡
+        out.old.items ++ rows_bytes layout.now (rows_of_method table index method.now)) }
 {
-    if method.locals.is_empty() {
-        return Ok(());
+    match table {
+        Table::MethodDef => append_rows(out, layout, &[method_row(index, method)]),
+        Table::StandAloneSig if !method.locals.is_empty() => {
+            append_rows(out, layout, &[locals_row(index)])
+        }
+        _ => Ok(()),
     }
-    append_rows(out, layout, &[locals_row(index)])
 }
 
-/// Appends the rows of StandAloneSig.
+/// Appends the rows that a table has for the methods.
 #[tactic(auto, using(crate::proofs::RowLemmas::rows_none))]
-fn append_locals(
+fn append_rows_of_methods(
     out: &mut Vec<u8>,
     layout: &Layout,
+    table: Table,
     methods: &[MethodPlan],
 ) -> Result<(), AllocError>
     requires { length methods.now < 2 ^ 24 }
-    ensures { OnOk result
-        (out.new.items ≡ out.old.items ++ rows_bytes layout.now (table_rows methods.now Table.StandAloneSig)) }
+    ensures { OnOk result (out.new.items ≡
+        out.old.items ++ rows_bytes layout.now (each_from 0 (rows_of_method table) methods.now)) }
 {
     for (index, method) in methods.iter().enumerate() {
-        append_locals_of(out, layout, index as u32, method)?;
+        append_rows_of_method(out, layout, table, index as u32, method)?;
     }
     Ok(())
 }
@@ -106,18 +83,20 @@ fn append_table(
     table: Table,
 ) -> Result<(), AllocError>
     requires { length methods.now < 2 ^ 24 }
-    ensures { OnOk result (out.new.items ≡ out.old.items ++ table_bytes layout.now methods.now table) }
+    ensures { OnOk result
+        (out.new.items ≡ out.old.items ++ table_bytes layout.now methods.now table) }
 {
     match table {
         Table::Module => append_rows(out, layout, &MODULES),
         Table::TypeRef => append_rows(out, layout, &TYPE_REFS),
         Table::TypeDef => append_rows(out, layout, &TYPE_DEFS),
-        Table::MethodDef => append_methods(out, layout, methods),
         Table::MemberRef => append_rows(out, layout, &MEMBER_REFS),
-        Table::StandAloneSig => append_locals(out, layout, methods),
         Table::Assembly => append_rows(out, layout, &ASSEMBLIES),
         Table::AssemblyRef => append_rows(out, layout, &ASSEMBLY_REFS),
         Table::MethodSpec => append_rows(out, layout, &METHOD_SPECS),
+        Table::MethodDef | Table::StandAloneSig => {
+            append_rows_of_methods(out, layout, table, methods)
+        }
         Table::Field | Table::Param | Table::ModuleRef | Table::TypeSpec => Ok(()),
     }
 }
@@ -131,7 +110,8 @@ fn append_tables(
 ) -> Result<(), AllocError>
     requires { length methods.now < 2 ^ 24 }
     ensures { OnOk result
-        (out.new.items ≡ out.old.items ++ flat_map (table_bytes layout.now methods.now) tables.now) }
+        (out.new.items ≡
+        out.old.items ++ flat_map (table_bytes layout.now methods.now) tables.now) }
 {
     for table in tables {
         append_table(out, layout, methods, *table)?;
@@ -186,7 +166,8 @@ fn append_count(out: &mut Vec<u8>, layout: &Layout, table: Table) -> Result<(), 
 
 /// Appends the row counts of the tables that have rows.
 fn append_counts(out: &mut Vec<u8>, layout: &Layout, tables: &[Table]) -> Result<(), AllocError>
-    ensures { OnOk result (out.new.items ≡ out.old.items ++ flat_map (count_bytes layout.now) tables.now) }
+    ensures { OnOk result
+        (out.new.items ≡ out.old.items ++ flat_map (count_bytes layout.now) tables.now) }
 {
     for table in tables {
         append_count(out, layout, *table)?;

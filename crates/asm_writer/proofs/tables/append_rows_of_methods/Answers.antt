@@ -1,0 +1,7 @@
+use Rattle.std.proofs.Common.{◌∙◌}
+use Rattle.asm_writer.specs.Rows.{rows_of_method}
+use Rattle.asm_writer.proofs.RowLemmas.{rows_more}
+use Rattle.asm_writer.proofs.tables.append_rows_of_methods.Goals as goal
+
+pub loop-index-preserved : goal.loop-index-preserved
+loop-index-preserved c = c.in_ok-append_rows_of_method.ensures ∙ rows_more _ (rows_of_method c.args.table) _ _ _ _ _ c.loop-index-test.true c.index-methods-index.is c.loop-index.invariant
