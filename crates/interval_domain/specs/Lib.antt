@@ -1,0 +1,3 @@
+pub mod Interval
+pub mod Joins
+pub mod Arithmetic

@@ -1,0 +1,9 @@
+//! Ranges of numbers, as a domain of the analysis.
+#![tactic(auto)]
+
+mod arithmetic;
+mod joins;
+mod range;
+mod values;
+
+pub use range::Range;

@@ -1,0 +1,1 @@
+//! Ranges as sets of numbers.
