@@ -1,6 +1,7 @@
 -- Ranges: all numbers from one to another, but for at most one between them.
-use Rattle.std.specs.Prelude.{◌≡◌, ◌≢◌, ℤ, pos, ◌+ℤ◌, ◌-ℤ◌, ◌≤ℤ◌, ◌<ℤ◌, Bool, false, true, ◌&&◌, ◌||◌, int_lt, int_le, Option, Some, None, if◌then◌else◌}
+use Rattle.std.specs.Prelude.{◌≡◌, ◌≢◌, ℤ, pos, ◌+ℤ◌, ◌-ℤ◌, ◌≤ℤ◌, ◌<ℤ◌, Bool, false, true, ◌&&◌, ◌||◌, int_lt, int_le, Option, Some, None, FitsSigned, if◌then◌else◌}
 use Rattle.std.specs.Ordering.{int_eq}
+use Rattle.std.specs.Int.{w64}
 
 -- A range: its ends, and its hole, which is no number of it.
 pub record Interval : Type 0 where
@@ -19,8 +20,9 @@ between lo hi = interval lo hi None
 abbrev pub one : ℤ → Interval
 one n = between n n
 
--- The range has the number.
+-- The range has the number, of 64 bits.
 pub record Contains (r : Interval) (n : ℤ) : Type 0 where
+  pub fits : FitsSigned w64 n
   pub above : r.lo ≤ℤ n
   pub below : n ≤ℤ r.hi
   pub no_hole : r.hole ≢ Some n

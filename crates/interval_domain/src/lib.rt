@@ -1,7 +1,6 @@
 //! Ranges of numbers, as a domain of the analysis.
 #![tactic(auto)]
 
-mod arithmetic;
 mod joins;
 mod range;
 mod values;
