@@ -92,11 +92,11 @@ excluded_apart a (Some k) n excluded has = λ is. grind (arith, has_excludes a n
 pub within_contains : (a b : Interval) (n : ℤ) → within a b ≡ true → Contains a n → Contains b n
 unfolding within
 within_contains a b n inside has =
-    let ends = and_parts (int_le b.lo a.lo) _ inside in
-    let rest = and_parts (int_le a.hi b.hi) _ ends.1 in
+    let parts = and_parts (int_le b.lo a.lo && int_le a.hi b.hi) _ inside in
+    let ends = and_parts (int_le b.lo a.lo) _ parts.0 in
     record {
       fits = has.fits;
       above = grind (arith, ints, ends.0, has.above);
-      below = grind (arith, ints, rest.0, has.below);
-      no_hole = excluded_apart a b.hole n rest.1 has;
+      below = grind (arith, ints, ends.1, has.below);
+      no_hole = excluded_apart a b.hole n parts.1 has;
     }
