@@ -1,270 +1,175 @@
 -- How many bytes the parts have.
-use Rattle.std.proofs.Common.{◌≡◌, ℕ, suc, ◌+◌, ◌-◌, ◌*◌, ◌≤◌, List, [], ◌∷◌, ◌++◌, length, Bool, true, false, refl, sym, if◌then◌else◌, ◌∙◌, arith, codes, ◌==◌}
-use Rattle.std.specs.List.{flat_map, sum_by, count_by}
+use Rattle.std.proofs.Common.{◌≡◌, ℕ, ◌+◌, ◌*◌, ◌≤◌, ◌<◌, ◌^◌, List, [], ◌∷◌, ◌++◌, length, Bool, true, false, refl, sym, add-zero, zero-add, add_assoc, ap, ◌∙◌, arith, IsFalse, nat_le, ◌&&◌}
+use Rattle.std.specs.List.{flat_map, sum_by, list_all}
 use Rattle.std.proofs.lemmas.List.{length-append, length-replicate}
-use Rattle.std.proofs.lemmas.List.Sums.{sum_by-cons}
-use Rattle.asm_writer.specs.declared.field.Field.TheVariants.{Zeros, Four}
+use Rattle.std.proofs.lemmas.List.Sums.{sum_by-cons, sum_by-append}
+use Rattle.asm_writer.specs.declared.field.Field.{Field}
 use Rattle.asm_writer.specs.declared.layout.Layout.{Layout}
-use Rattle.asm_writer.specs.declared.layout.Widths.{Widths}
+use Rattle.asm_writer.specs.declared.number.Number.{Number}
+use Rattle.asm_writer.specs.declared.number.Number.TheVariants.{Zeros, Two, Four, Eight}
 use Rattle.asm_writer.specs.declared.plan.AsmPlan.{AsmPlan}
 use Rattle.asm_writer.specs.declared.plan.MethodPlan.{MethodPlan}
-use Rattle.asm_writer.specs.Assembly.{root, stream_headers, metadata, file_bytes, assembly_bytes}
-use Rattle.asm_writer.specs.Bodies.{row_after, body, bodies_from}
-use Rattle.asm_writer.specs.Fields.{fields_bytes}
-use Rattle.asm_writer.specs.Headers.{section_header, dos_fields, file_fields, optional_fields, headers, cli_header}
-use Rattle.asm_writer.specs.Heaps.{zero_ended, common_names, method_name, strings_heap, user_strings, guids, common_blobs, blob_heap}
-use Rattle.asm_writer.specs.Rows.{first_rows, last_rows, method_row, method_rows, member_ref_rows, local_row, local_rows, rows, count, method_names_at, tables_fields, tables_header, tables}
-use Rattle.asm_writer.specs.Signatures.{method_blobs}
-use Rattle.asm_writer.specs.Sizes.{body_size, name_size, blobs_size, has_locals, layout_of, names_size, strings_size, blob_heap_size, widths_of, indexes, rows_size, count_size, tables_used, tables_size, metadata_size, section_used, section_size, size_of, file_size}
+use Rattle.asm_writer.specs.declared.table.Table.{Table}
+use Rattle.asm_writer.specs.Assembly.{section, section_of, assembly_bytes}
+use Rattle.cil_model.specs.Limits.{MAX_FILE_BYTES}
+use Rattle.asm_writer.specs.Blobs.{blob_items, blob_heap}
+use Rattle.asm_writer.specs.Limits.{is_within}
+use Rattle.asm_writer.specs.Bodies.{locals_row, body_header, body, body_item, bodies}
+use Rattle.asm_writer.specs.Each.{each_from}
+use Rattle.asm_writer.specs.Headers.{file_alignment, bodies_rva, cli_header, cli_header_size, headers, section_header}
+use Rattle.asm_writer.specs.Metadata.{user_strings, guids, streams, joined, root, root_size, metadata}
+use Rattle.asm_writer.specs.Names.{string_items, strings_heap}
+use Rattle.asm_writer.specs.Layout.{layout_of, field_number, field_bytes, fields_bytes, rows_bytes}
+use Rattle.asm_writer.specs.Numbers.{number_bytes, number_width, numbers_bytes, numbers_width}
+use Rattle.asm_writer.specs.Padding.{padded, round_up}
+use Rattle.asm_writer.specs.Packing.{Packing, pushed, pushed_all, packed, filled}
+use Rattle.asm_writer.specs.Rows.{table_rows}
+use Rattle.asm_writer.specs.Sizes.{field_width, row_width, rows_width, items_size, headers_size, metadata_size, section_size, body_size, bodies_size, count_size, table_size, tables_size, file_size, fits}
+use Rattle.asm_writer.specs.Stream.{stream_numbers, count_numbers, count_bytes, table_bytes, tables_stream}
+use Rattle.asm_writer.specs.Tables.{all_tables}
+use Rattle.asm_writer.proofs.MetadataLemmas.{length_root}
 use Rattle.asm_writer.proofs.Rounding.{round_up_above}
 
-two_parts : (a b : List ℕ) (m n : ℕ) → length a ≡ m → length b ≡ n → length (a ++ b) ≡ m + n
-two_parts a b m n p q = rw length-append (rw (p, q) refl)
+-- Parts that have so many bytes each.
+sizes : {X : Type 0} (f : X → List ℕ) (size : X → ℕ) → ((x : X) → length (f x) ≡ size x) → (xs : List X) → length (flat_map f xs) ≡ sum_by size xs
+sizes f size each [] = refl
+sizes f size each (x ∷ xs) = rw (length-append, each x, sizes f size each xs, sum_by-cons) refl
 
-length_is : (a : List ℕ) → length a ≡ length a
-length_is a = refl
+length_number : (number : Number) → length (number_bytes number) ≡ number_width number
+length_number (Zeros count) = length-replicate {A = ℕ} count 0
+length_number (Two n) = refl
+length_number (Four n) = refl
+length_number (Eight n) = refl
 
--- The headers.
-headers_so : (w : Widths) (size : ℕ) (wide : Bool) → length (fields_bytes w dos_fields ++ fields_bytes w (file_fields wide) ++ fields_bytes w (optional_fields wide) ++ (codes ".text" ++ fields_bytes w (Zeros 3 ∷ []) ++ fields_bytes w (Four 0 ∷ Four 0x2000 ∷ Four size ∷ Four 0x200 ∷ Zeros 16 ∷ Zeros (if wide then 80 else 96) ∷ []))) ≡ 512
-unfolding fields_bytes
-headers_so w size true = refl
-headers_so w size false = refl
+length_numbers : (numbers : List Number) → length (numbers_bytes numbers) ≡ numbers_width numbers
+unfolding numbers_bytes numbers_width
+length_numbers numbers = sizes number_bytes number_width length_number numbers
 
-length_headers : (l : Layout) → length (headers l) ≡ 512
-unfolding headers section_header
-length_headers l = headers_so (widths_of l) (section_size l) l.wide
+length_fields : (l : Layout) (fields : List Field) → length (fields_bytes l fields) ≡ row_width l fields
+unfolding fields_bytes row_width
+length_fields l fields = sizes (field_bytes l) (field_width l) (λ (field : Field). length_number (field_number l field)) fields
 
-length_cli_header : (l : Layout) → length (cli_header l) ≡ 72
-unfolding cli_header fields_bytes
-length_cli_header l = refl
+length_rows : (l : Layout) (rows : List (List Field)) → length (rows_bytes l rows) ≡ rows_width l rows
+unfolding rows_bytes rows_width
+length_rows l rows = sizes (fields_bytes l) (row_width l) (length_fields l) rows
+
+length_padded : (unit n : ℕ) (bytes : List ℕ) → 1 ≤ unit → length bytes ≡ n → length (padded unit bytes) ≡ round_up unit n
+unfolding padded
+length_padded unit n bytes some is =
+    let above = round_up_above unit (length bytes) some in
+    let all : length (padded unit bytes) ≡ round_up unit (length bytes) = simp (length-append, length-replicate) (omega arith) in
+    all ∙ ap (round_up unit) is
+
+both : (a b : List ℕ) (m n : ℕ) → length a ≡ m → length b ≡ n → length (a ++ b) ≡ m + n
+both a b m n p q = rw length-append (rw (p, q) refl)
+
+-- The stream `#~`.
+length_stream : (l : Layout) (ms : List MethodPlan) → length (tables_stream l ms) ≡ tables_size l ms
+unfolding tables_stream tables_size
+length_stream l ms =
+    let numbers = length_numbers (stream_numbers l) in
+    let counts = sizes (count_bytes l) (count_size l) (λ (table : Table). length_numbers (count_numbers l table)) all_tables in
+    let rows = sizes (table_bytes l ms) (table_size l ms) (λ (table : Table). length_rows l (table_rows ms table)) all_tables in
+    length_padded 4 _ _ (omega arith) (rw (length-append, length-append, numbers, counts, rows) refl)
+
+-- Items that are packed.
+length_pushed : (packing : Packing) (items : List (List ℕ)) → length (pushed_all packing items).bytes ≡ length packing.bytes + items_size items
+unfolding pushed_all
+length_pushed packing [] = sym (add-zero (length packing.bytes))
+length_pushed packing (item ∷ items) =
+    let rest = length_pushed (pushed packing item) items in
+    let more : length (packing.bytes ++ item) ≡ length packing.bytes + length item = length-append packing.bytes item in
+    let cons : items_size (item ∷ items) ≡ length item + items_size items = sum_by-cons length item items in
+    rest ∙ (rw (more, cons) (add_assoc (length packing.bytes) (length item) (items_size items)))
+
+length_packed : (items : List (List ℕ)) → length (packed items).bytes ≡ items_size items
+unfolding packed
+length_packed items = length_pushed (record { bytes = []; offsets = [] }) items ∙ zero-add (items_size items)
+
+length_filled : (items : List (List ℕ)) → length (filled (packed items)).bytes ≡ round_up 4 (items_size items)
+length_filled items = length_padded 4 _ (packed items).bytes (omega arith) (length_packed items)
 
 -- The bodies.
-length_body : (w : Widths) (row : ℕ) (m : MethodPlan) → length (body w row m) ≡ body_size m
-unfolding body body_size fields_bytes
-length_body w row m =
-    let h = round_up_above 4 (12 + length m.code.items) (omega arith) in
-    simp (length-append, length-replicate) (omega arith)
+length_body : (row : ℕ) (m : MethodPlan) → length (body row m) ≡ body_size m
+unfolding body body_size numbers_width
+length_body row m =
+    let numbers : length (numbers_bytes (body_header row m)) ≡ 12 = length_numbers (body_header row m) in
+    let above = round_up_above 4 (12 + length m.code.items) (omega arith) in
+    simp (length-append, length-replicate, numbers) (omega arith)
 
-length_bodies : (w : Widths) (row : ℕ) (ms : List MethodPlan) → length (bodies_from w row ms) ≡ sum_by body_size ms
-unfolding bodies_from
-length_bodies w row [] = refl
-length_bodies w row (m ∷ ms) = rw sum_by-cons (two_parts _ _ _ _ (length_body w row m) (length_bodies w (row_after row m) ms))
+each_size : (f : ℕ → MethodPlan → List (List ℕ)) (size : MethodPlan → ℕ) → ((index : ℕ) (m : MethodPlan) → items_size (f index m) ≡ size m) → (index : ℕ) (ms : List MethodPlan) → items_size (each_from index f ms) ≡ sum_by size ms
+unfolding each_from
+each_size f size each index [] = refl
+each_size f size each index (m ∷ ms) = rw (sum_by-append, each index m, each_size f size each (index + 1) ms, sum_by-cons) refl
 
--- The rows.
-indexes_more : (b : Bool) (n : ℕ) → indexes b (suc n) ≡ indexes b 1 + indexes b n
-indexes_more true n = omega arith
-indexes_more false n = omega arith
+length_bodies : (ms : List MethodPlan) → length (bodies ms).bytes ≡ bodies_size ms
+unfolding bodies
+length_bodies ms =
+    length_packed (each_from 0 (body_item ms) ms)
+    ∙ each_size (body_item ms) body_size (λ (index : ℕ) (m : MethodPlan). zero-add _ ∙ length_body (locals_row ms index) m) 0 ms
 
-indexes_none : (b : Bool) → indexes b 0 ≡ 0
-indexes_none true = refl
-indexes_none false = refl
+-- The headers.
+length_headers : (wide : Bool) (size : ℕ) → length (headers wide size) ≡ headers_size wide
+unfolding headers headers_size section_header padded round_up numbers_bytes numbers_width
+length_headers true size = refl
+length_headers false size = refl
 
-indexes_sum : (b : Bool) (x y : ℕ) → indexes b (x + y) ≡ indexes b x + indexes b y
-indexes_sum true x y = omega arith
-indexes_sum false x y = omega arith
+-- The metadata.
+length_joined : (size : ℕ) (tables : List ℕ) (l : Layout) → length (joined size (streams tables l)).bytes ≡ length tables + length l.strings.bytes + length user_strings + length guids + length l.blobs.bytes
+unfolding joined
+length_joined size tables l = rw (length-append, length-append, length-append, length-append) refl
 
-step_sum : (s1 b1 s b s2 b2 n : ℕ) → s2 ≡ s1 + s → b2 ≡ b1 + b → 10 + s1 + b1 + (10 * n + s + b) ≡ 10 * suc n + s2 + b2
-step_sum s1 b1 s b s2 b2 n p q = omega arith
+grouped : (r t s u g b : ℕ) → r + (t + s + u + g + b) ≡ r + t + s + u + g + b
+grouped r t s u g b = omega arith
 
-first_so : (l : Layout) (s b m o p : Bool) → widths_of l ≡ record { strings = s; blobs = b; method = m; method_or_member = o; member_parent = p } → length (first_rows l) ≡ 32 + indexes s 13 + indexes m 2
-unfolding first_rows fields_bytes
-first_so l true b true o p is = rw is refl
-first_so l true b false o p is = rw is refl
-first_so l false b true o p is = rw is refl
-first_so l false b false o p is = rw is refl
-
-last_so : (s b m o p : Bool) → length (last_rows (record { strings = s; blobs = b; method = m; method_or_member = o; member_parent = p })) ≡ 28 + indexes b 11 + indexes s 4 + indexes o 8
-unfolding last_rows fields_bytes
-last_so true true m true p = refl
-last_so true true m false p = refl
-last_so true false m true p = refl
-last_so true false m false p = refl
-last_so false true m true p = refl
-last_so false true m false p = refl
-last_so false false m true p = refl
-last_so false false m false p = refl
-
-refs_so : (s b m o p : Bool) → length (fields_bytes (record { strings = s; blobs = b; method = m; method_or_member = o; member_parent = p }) member_ref_rows) ≡ indexes p 11 + indexes s 11 + indexes b 11
-unfolding fields_bytes
-refs_so true true m o true = refl
-refs_so true true m o false = refl
-refs_so true false m o true = refl
-refs_so true false m o false = refl
-refs_so false true m o true = refl
-refs_so false true m o false = refl
-refs_so false false m o true = refl
-refs_so false false m o false = refl
-
-method_row_so : (s b m o p : Bool) (rva name at : ℕ) (x : MethodPlan) → length (fields_bytes (record { strings = s; blobs = b; method = m; method_or_member = o; member_parent = p }) (method_row rva name at x)) ≡ 10 + indexes s 1 + indexes b 1
-unfolding fields_bytes
-method_row_so true true m o p rva name at x = refl
-method_row_so true false m o p rva name at x = refl
-method_row_so false true m o p rva name at x = refl
-method_row_so false false m o p rva name at x = refl
-
-length_method_rows : (w : Widths) (rva name at : ℕ) (ms : List MethodPlan) → length (method_rows w rva name at ms) ≡ 10 * length ms + indexes w.strings (length ms) + indexes w.blobs (length ms)
-unfolding method_rows
-length_method_rows w rva name at [] =
-    let s = indexes_none w.strings in
-    let b = indexes_none w.blobs in
-    omega arith
-length_method_rows w rva name at (m ∷ ms) =
-    let first = method_row_so w.strings w.blobs w.method w.method_or_member w.member_parent rva name at m in
-    let rest = length_method_rows w (rva + body_size m) (name + name_size m) (at + blobs_size m) ms in
-    let both = two_parts _ _ _ _ first rest in
-    let s = indexes_more w.strings (length ms) in
-    let b = indexes_more w.blobs (length ms) in
-    both ∙ step_sum _ _ _ _ _ _ (length ms) s b
-
-local_row_so : (s b m o p : Bool) (at : ℕ) (x : MethodPlan) (has : Bool) → has_locals x ≡ has → length (local_row (record { strings = s; blobs = b; method = m; method_or_member = o; member_parent = p }) at x) ≡ indexes b (if has then 1 else 0)
-unfolding fields_bytes
-local_row_so s true m o p at x true is = rw is refl
-local_row_so s false m o p at x true is = rw is refl
-local_row_so s true m o p at x false is = rw is refl
-local_row_so s false m o p at x false is = rw is refl
-
-combine : (s b m o p : Bool) (n k : ℕ) → (32 + indexes s 13 + indexes m 2) + (10 * n + indexes s n + indexes b n) + (indexes p 11 + indexes s 11 + indexes b 11) + indexes b k + (28 + indexes b 11 + indexes s 4 + indexes o 8) ≡ 60 + 10 * n + indexes s (28 + n) + indexes b (22 + n + k) + indexes m 2 + indexes o 8 + indexes p 11
-combine true true m o p n k = omega arith
-combine true false m o p n k = omega arith
-combine false true m o p n k = omega arith
-combine false false m o p n k = omega arith
-
-length_root : (l : Layout) → length (root l) ≡ 108
-unfolding root stream_headers fields_bytes
-length_root l = refl
-
-count_so : (w : Widths) (n : ℕ) (none : Bool) → length (if none then [] else fields_bytes w (Four n ∷ [])) ≡ (if none then 0 else 4)
-unfolding fields_bytes
-count_so w n true = refl
-count_so w n false = refl
-
-length_count : (w : Widths) (n : ℕ) → length (count w n) ≡ count_size n
-unfolding count
-length_count w n = count_so w n (n == 0)
-
-length_tables_fields : (l : Layout) → length (fields_bytes (widths_of l) (tables_fields l)) ≡ 24
-unfolding fields_bytes
-length_tables_fields l = refl
-
-one : (w : Widths) (a : ℕ) → length (fields_bytes w (Four a ∷ [])) ≡ 4
-unfolding fields_bytes
-one w a = refl
-
-three : (w : Widths) (a b c : ℕ) → length (fields_bytes w (Four a ∷ Four b ∷ Four c ∷ [])) ≡ 12
-unfolding fields_bytes
-three w a b c = refl
-
-header_sum : (m k : ℕ) → 24 + 12 + m + 4 + k + 12 ≡ 52 + m + k
-header_sum m k = omega arith
-
-length_tables_header : (l : Layout) → length (tables_header l) ≡ 52 + count_size l.methods + count_size l.local_signatures
-unfolding tables_header
-length_tables_header l =
-    let w = widths_of l in
-    two_parts _ _ _ _ (two_parts _ _ _ _ (two_parts _ _ _ _ (two_parts _ _ _ _ (two_parts _ _ _ _ (length_tables_fields l) (three w 1 4 2)) (length_count w l.methods)) (one w 11)) (length_count w l.local_signatures)) (three w 1 1 8)
-    ∙ header_sum (count_size l.methods) (count_size l.local_signatures)
-
-length_local_rows : (w : Widths) (at : ℕ) (ms : List MethodPlan) → length (local_rows w at ms) ≡ indexes w.blobs (count_by has_locals ms)
-unfolding local_rows
-length_local_rows w at [] = sym (indexes_none w.blobs)
-length_local_rows w at (m ∷ ms) =
-    let first = local_row_so w.strings w.blobs w.method w.method_or_member w.member_parent at m (has_locals m) refl in
-    let rest = length_local_rows w (at + blobs_size m) ms in
-    rw sum_by-cons (two_parts (local_row w at m) (local_rows w (at + blobs_size m) ms) _ _ first rest ∙ sym (indexes_sum w.blobs (if has_locals m then 1 else 0) (count_by has_locals ms)))
-
-length_rows : (plan : AsmPlan) → length (rows (layout_of plan) plan.methods.items) ≡ rows_size (layout_of plan)
-unfolding rows rows_size
-length_rows plan =
-    let l = layout_of plan in
-    let w = widths_of (layout_of plan) in
-    let ms = plan.methods.items in
-    let first = first_so l w.strings w.blobs w.method w.method_or_member w.member_parent refl in
-    let refs = refs_so w.strings w.blobs w.method w.method_or_member w.member_parent in
-    let last = last_so w.strings w.blobs w.method w.method_or_member w.member_parent in
-    two_parts _ _ _ _ (two_parts _ _ _ _ (two_parts _ _ _ _ (two_parts _ _ _ _ (first) (length_method_rows w 0x2048 (method_names_at l) 48 ms)) (refs)) (length_local_rows w 48 ms)) (last)
-    ∙ combine w.strings w.blobs w.method w.method_or_member w.member_parent (length ms) (count_by has_locals ms)
-
-tables_fill : (l : Layout) → tables_used l ≤ tables_size l
-unfolding tables_size
-tables_fill l = round_up_above 4 (tables_used l) (omega arith)
-
-length_tables : (plan : AsmPlan) → length (tables (layout_of plan) plan.methods.items) ≡ tables_size (layout_of plan)
-unfolding tables tables_used
-length_tables plan =
-    let l = layout_of plan in
-    let fill = tables_fill l in
-    two_parts _ _ _ _ (two_parts _ _ _ _ (length_tables_header l) (length_rows plan)) (length-replicate {A = ℕ} (tables_size l - tables_used l) 0)
-    ∙ omega arith
-
-length_user_strings : length user_strings ≡ 20
-length_user_strings = refl
-
-length_guids : length guids ≡ 16
-length_guids = refl
-
-length_common_names : length common_names ≡ 149
-unfolding common_names zero_ended
-length_common_names = refl
-
-length_common_blobs : length common_blobs ≡ 48
-unfolding common_blobs
-length_common_blobs = refl
-
--- The heaps.
-length_zero_ended : (name : List ℕ) → length (zero_ended name) ≡ length name + 1
-unfolding zero_ended
-length_zero_ended name = length-append name (0 ∷ [])
-
-length_names : (ms : List MethodPlan) → length (flat_map method_name ms) ≡ sum_by name_size ms
-unfolding name_size
-length_names [] = refl
-length_names (m ∷ ms) = rw sum_by-cons (two_parts (method_name m) (flat_map method_name ms) (name_size m) (sum_by name_size ms) (length_zero_ended m.name.items) (length_names ms))
-
-length_blobs : (ms : List MethodPlan) → length (flat_map method_blobs ms) ≡ sum_by blobs_size ms
-unfolding blobs_size
-length_blobs [] = refl
-length_blobs (m ∷ ms) = rw sum_by-cons (two_parts (method_blobs m) (flat_map method_blobs ms) _ _ refl (length_blobs ms))
-
-strings_fill : (l : Layout) → names_size l ≤ strings_size l
-unfolding strings_size
-strings_fill l = round_up_above 4 (names_size l) (omega arith)
-
-blobs_fill : (l : Layout) → 48 + l.method_blobs ≤ blob_heap_size l
-unfolding blob_heap_size
-blobs_fill l = round_up_above 4 (48 + l.method_blobs) (omega arith)
-
-section_fill : (l : Layout) → section_used l ≤ section_size l
-unfolding section_size
-section_fill l = round_up_above 512 (section_used l) (omega arith)
-
-length_strings : (plan : AsmPlan) → length (strings_heap (layout_of plan) plan) ≡ strings_size (layout_of plan)
-unfolding strings_heap names_size
-length_strings plan =
-    let l = layout_of plan in
-    let fill = strings_fill l in
-    two_parts _ _ _ _ (two_parts _ _ _ _ (two_parts _ _ _ _ (two_parts _ _ _ _ (two_parts _ _ _ _ (two_parts _ _ _ _ (length_common_names) (length_zero_ended plan.class.items)) (length_zero_ended plan.namespace.items)) (length_is plan.class.items)) (length_zero_ended (codes ".dll"))) (length_names plan.methods.items)) (length-replicate {A = ℕ} (strings_size l - names_size l) 0)
-    ∙ omega arith
-
-length_blob_heap : (plan : AsmPlan) → length (blob_heap (layout_of plan) plan.methods.items) ≡ blob_heap_size (layout_of plan)
-unfolding blob_heap
-length_blob_heap plan =
-    let l = layout_of plan in
-    let fill = blobs_fill l in
-    two_parts _ _ _ _ (two_parts _ _ _ _ (length_common_blobs) (length_blobs plan.methods.items)) (length-replicate {A = ℕ} (blob_heap_size l - (48 + l.method_blobs)) 0)
-    ∙ omega arith
-
--- The whole.
-length_metadata : (plan : AsmPlan) → length (metadata (layout_of plan) plan) ≡ metadata_size (layout_of plan)
-unfolding metadata metadata_size
+length_metadata : (plan : AsmPlan) → length (metadata (layout_of plan) plan.methods.items) ≡ metadata_size plan
+unfolding metadata metadata_size root_size strings_heap blob_heap
 length_metadata plan =
     let l = layout_of plan in
-    two_parts _ _ _ _ (two_parts _ _ _ _ (two_parts _ _ _ _ (two_parts _ _ _ _ (two_parts _ _ _ _ (length_root l) (length_tables plan)) (length_strings plan)) (length_user_strings)) (length_guids)) (length_blob_heap plan)
-    ∙ omega arith
+    let tables = tables_stream l plan.methods.items in
+    let stream = length_stream l plan.methods.items in
+    let strings = length_filled (string_items plan) in
+    let blobs = length_filled (blob_items plan.methods.items) in
+    let front = length_root (length (root 0 (streams tables l))) tables l ∙ sym (length_root 0 tables l) in
+    let parts = length_joined (length (root 0 (streams tables l))) tables l in
+    both _ _ _ _ front (parts ∙ rw (stream, strings, blobs) refl) ∙ grouped _ _ _ _ _ _
+
+-- The whole.
+length_section : (plan : AsmPlan) → length (section_of plan) ≡ section_size plan
+unfolding section section_size numbers_width
+length_section plan =
+    let cli = length_numbers (cli_header (bodies_rva + length (bodies plan.methods.items).bytes) (length (metadata (layout_of plan) plan.methods.items))) in
+    length_padded file_alignment _ _ (omega arith) (both _ _ _ _ (both _ _ _ _ cli (length_bodies plan.methods.items)) (length_metadata plan))
 
 pub length_assembly : (plan : AsmPlan) → length (assembly_bytes plan) ≡ file_size plan
-unfolding assembly_bytes file_bytes file_size size_of section_used
-length_assembly plan =
-    let l = layout_of plan in
-    let fill = section_fill l in
-    two_parts _ _ _ _ (two_parts _ _ _ _ (two_parts _ _ _ _ (two_parts _ _ _ _ (length_headers l) (length_cli_header l)) (length_bodies (widths_of l) 1 plan.methods.items)) (length_metadata plan)) (length-replicate {A = ℕ} (section_size l - section_used l) 0)
-    ∙ omega arith
+unfolding assembly_bytes file_size
+length_assembly plan = both _ _ _ _ (length_headers plan.wide (length (section_of plan))) (length_section plan)
+
+-- More methods than a token can tell apart pass the size of a file.
+body_above : (m : MethodPlan) → 12 ≤ body_size m
+unfolding body_size numbers_width
+body_above m = let above = round_up_above 4 (12 + length m.code.items) (omega arith) in omega arith
+
+few_bodies : (ms : List MethodPlan) → 12 * length ms ≤ bodies_size ms
+few_bodies [] = omega arith
+few_bodies (m ∷ ms) =
+    let cons = sum_by-cons body_size m ms in
+    let one = body_above m in
+    let rest = few_bodies ms in
+    omega arith
+
+bodies_below : (plan : AsmPlan) → bodies_size plan.methods.items ≤ file_size plan
+unfolding file_size section_size
+bodies_below plan =
+    let above = round_up_above file_alignment (cli_header_size + bodies_size plan.methods.items + metadata_size plan) (omega arith) in
+    omega arith
+
+passes : (size limit : ℕ) (within : Bool) → limit < size → (nat_le size limit && within) ≡ false
+passes size limit within more = grind arith
+
+pub too_many : (plan : AsmPlan) → 2 ^ 24 ≤ length plan.methods.items → IsFalse (fits plan)
+unfolding fits
+too_many plan many =
+    let few = few_bodies plan.methods.items in
+    let below = bodies_below plan in
+    passes (file_size plan) MAX_FILE_BYTES (list_all is_within plan.methods.items) (omega arith)

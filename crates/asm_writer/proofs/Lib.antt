@@ -1,5 +1,7 @@
 pub mod Rounding
-pub mod Capped
-pub mod Loops
-pub mod Parts
+pub mod PackingLemmas
+pub mod EachLemmas
+pub mod BodyLemmas
+pub mod RowLemmas
+pub mod MetadataLemmas
 pub mod Lengths

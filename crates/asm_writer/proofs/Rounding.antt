@@ -1,7 +1,7 @@
 -- Rounding up.
 use Rattle.std.proofs.Common.{ℕ, zero, ◌+◌, ◌-◌, ◌*◌, ◌<◌, ◌≤◌, ◌/◌, arith}
 use Rattle.std.proofs.Math.Nat.{div-mul-le_self, lt-div-mul-add}
-use Rattle.asm_writer.specs.Sizes.{round_up}
+use Rattle.asm_writer.specs.Padding.{round_up}
 
 -- What is rounded up lies between the number and the next multiple.
 pub rounded_above : (n unit : ℕ) → 1 ≤ unit → n ≤ (n + (unit - 1)) / unit * unit

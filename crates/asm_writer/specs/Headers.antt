@@ -1,43 +1,57 @@
 -- The headers before the section, and the CLI header at its start (ECMA-335 II.25).
 use Rattle.std.specs.Prelude.{ℕ, ◌+◌, List, [], ◌∷◌, ◌++◌, Bool, codes, if◌then◌else◌}
-use Rattle.asm_writer.specs.declared.field.Field.{Field}
-use Rattle.asm_writer.specs.declared.field.Field.TheVariants.{Zeros, Two, Four}
-use Rattle.asm_writer.specs.declared.layout.Layout.{Layout}
-use Rattle.asm_writer.specs.Fields.{fields_bytes}
-use Rattle.asm_writer.specs.Sizes.{widths_of, metadata_size, section_size}
+use Rattle.asm_writer.specs.declared.number.Number.{Number}
+use Rattle.asm_writer.specs.declared.number.Number.TheVariants.{Zeros, Two, Four}
+use Rattle.asm_writer.specs.Numbers.{numbers_bytes, numbers_width}
+use Rattle.asm_writer.specs.Padding.{padded}
 
--- `MZ`, and at 3c the place of the PE signature (II.25.2.1).
-abbrev pub dos_fields : List Field
-dos_fields = Two 0x5a4d ∷ Zeros 58 ∷ Four 0x80 ∷ Zeros 64 ∷ []
+-- The multiple to which the headers and the section are filled up.
+abbrev pub file_alignment : ℕ
+file_alignment = 0x200
 
--- The PE signature and the PE file header (II.25.2.2), for x86 or for x64.
-abbrev pub file_fields : Bool → List Field
-file_fields wide =
-    Four 0x4550 ∷ Two (if wide then 0x8664 else 0x14c) ∷ Two 1 ∷ Zeros 12 ∷ Two (if wide then 0xf0 else 0xe0) ∷ Two 0 ∷ []
+-- Where the section stands in memory.
+abbrev pub section_rva : ℕ
+section_rva = 0x2000
+
+-- `MZ`, and at 3c the offset of the PE signature (II.25.2.1).
+abbrev pub dos_header : List Number
+dos_header = Two 0x5a4d ∷ Zeros 58 ∷ Four 0x80 ∷ Zeros 64 ∷ []
+
+-- The CLI header (II.25.3.3): its size, and the RVA and the size of the metadata.
+abbrev pub cli_header : ℕ → ℕ → List Number
+cli_header rva size = Four 72 ∷ Four 0 ∷ Four rva ∷ Four size ∷ Zeros 56 ∷ []
+
+abbrev pub cli_header_size : ℕ
+cli_header_size = numbers_width (cli_header 0 0)
+
+-- Where the first method body stands in memory, behind the CLI header.
+abbrev pub bodies_rva : ℕ
+bodies_rva = section_rva + cli_header_size
 
 -- The optional header, PE32 or PE32+, whose directory 14 names the CLI header (II.25.2.3).
-abbrev pub optional_fields : Bool → List Field
-optional_fields wide =
-    Two (if wide then 0x20b else 0x10b) ∷ Zeros (if wide then 222 else 206) ∷ Four 0x2000 ∷ Four 72 ∷ Zeros 8 ∷ []
+abbrev pub optional_header : Bool → List Number
+optional_header wide =
+    Two (if wide then 0x20b else 0x10b) ∷ Zeros (if wide then 222 else 206)
+    ∷ Four section_rva ∷ Four cli_header_size ∷ Zeros 8 ∷ []
 
--- The numbers of the one section header (II.25.3), and zeros up to the section.
-abbrev pub section_fields : Layout → List Field
-section_fields l =
-    Four 0 ∷ Four 0x2000 ∷ Four (section_size l) ∷ Four 0x200 ∷ Zeros 16 ∷ Zeros (if l.wide then 80 else 96) ∷ []
+-- The PE signature and the PE file header (II.25.2.2), for x86 or for x64.
+abbrev pub file_header : Bool → List Number
+file_header wide =
+    Four 0x4550 ∷ Two (if wide then 0x8664 else 0x14c) ∷ Two 1 ∷ Zeros 12
+    ∷ Two (numbers_width (optional_header wide)) ∷ Two 0 ∷ []
 
--- The section header.
-unfoldable pub section_header : Layout → List ℕ
-section_header l = codes ".text" ++ fields_bytes (widths_of l) (Zeros 3 ∷ []) ++ fields_bytes (widths_of l) (section_fields l)
+-- The one section header (II.25.3), of a section of this size behind the headers.
+abbrev pub section_numbers : ℕ → List Number
+section_numbers size = Four 0 ∷ Four section_rva ∷ Four size ∷ Four file_alignment ∷ Zeros 16 ∷ []
 
--- All before the section.
-unfoldable pub headers : Layout → List ℕ
-headers l =
-    fields_bytes (widths_of l) dos_fields
-    ++ fields_bytes (widths_of l) (file_fields l.wide)
-    ++ fields_bytes (widths_of l) (optional_fields l.wide)
-    ++ section_header l
+unfoldable pub section_header : ℕ → List ℕ
+section_header size = codes ".text" ++ 0 ∷ 0 ∷ 0 ∷ [] ++ numbers_bytes (section_numbers size)
 
--- The CLI header (II.25.3.3): its size, and where the metadata stands, behind it and the bodies.
-unfoldable pub cli_header : Layout → List ℕ
-cli_header l =
-    fields_bytes (widths_of l) (Four 72 ∷ Four 0 ∷ Four (0x2048 + l.bodies) ∷ Four (metadata_size l) ∷ Zeros 56 ∷ [])
+-- All before the section, which has this size.
+unfoldable pub headers : Bool → ℕ → List ℕ
+headers wide section_size =
+    padded file_alignment
+    (numbers_bytes dos_header
+    ++ numbers_bytes (file_header wide)
+    ++ numbers_bytes (optional_header wide)
+    ++ section_header section_size)

@@ -1,149 +1,131 @@
--- The stream `#~` (ECMA-335 II.24.2.6) and the rows of its tables (II.22).
-use Rattle.std.specs.Prelude.{ℕ, ◌+◌, ◌-◌, List, [], ◌∷◌, ◌++◌, length, replicate, Bool, if◌then◌else◌, ◌==◌}
+-- The rows of the tables (ECMA-335 II.22).
+use Rattle.std.specs.Prelude.{ℕ, ◌+◌, List, [], ◌∷◌, ◌++◌, map, position, unwrap_or, Bool, if◌then◌else◌, ◌==◌}
+use Rattle.asm_writer.specs.declared.blob.Blob.{Blob}
+use Rattle.asm_writer.specs.declared.blob.Blob.TheVariants as blobs
 use Rattle.asm_writer.specs.declared.field.Field.{Field}
-use Rattle.asm_writer.specs.declared.field.Field.TheVariants.{Zeros, Two, Four, Eight, Strings, Blob, Method, MethodOrMember, MemberParent}
-use Rattle.asm_writer.specs.declared.layout.Layout.{Layout}
-use Rattle.asm_writer.specs.declared.layout.Widths.{Widths}
+use Rattle.asm_writer.specs.declared.field.Field.TheVariants as fields
+use Rattle.asm_writer.specs.declared.field.Field.TheVariants.{Plain, Strings, Guid, Row, Coded}
+use Rattle.asm_writer.specs.declared.name.Name.{Name}
+use Rattle.asm_writer.specs.declared.name.Name.TheVariants as names
+use Rattle.asm_writer.specs.declared.number.Number.TheVariants.{Two, Four}
 use Rattle.asm_writer.specs.declared.plan.MethodPlan.{MethodPlan}
-use Rattle.asm_writer.specs.Fields.{fields_bytes}
-use Rattle.asm_writer.specs.Signatures.{signature_blob}
-use Rattle.asm_writer.specs.Sizes.{widths_of, body_size, name_size, blobs_size, has_locals, tables_used, tables_size}
+use Rattle.asm_writer.specs.declared.table.CodedIndex.TheVariants.{TypeDefOrRef, MemberRefParent, MethodDefOrRef, ResolutionScope}
+use Rattle.asm_writer.specs.declared.table.Table.{Table}
+use Rattle.asm_writer.specs.declared.table.Table.TheVariants as tables
+use Rattle.asm_writer.specs.Bodies.{has_locals}
+use Rattle.asm_writer.specs.Each.{each_from}
+use Rattle.asm_writer.specs.Names.{name_index}
 
--- Where the names of the class, the namespace, the module and the first method stand in `#Strings`.
-abbrev pub class_at : ℕ
-class_at = 149
+-- The row of the first that has the name, where the rows have these names.
+abbrev pub row_named : Name → List Name → ℕ
+row_named name among = unwrap_or (position (λ other. name_index other == name_index name) among) 0 + 1
 
-abbrev pub namespace_at : Layout → ℕ
-namespace_at l = 150 + l.class_name
+-- Module (II.22.30): its generation, its name, and the first GUID.
+abbrev pub module_rows : List (List Field)
+module_rows = (Plain (Two 0) ∷ Strings names.File ∷ Guid 1 ∷ Guid 0 ∷ Guid 0 ∷ []) ∷ []
 
-abbrev pub module_at : Layout → ℕ
-module_at l = 151 + l.class_name + l.namespace_name
+-- AssemblyRef (II.22.5): its version, flags, key, name, culture and hash.
+abbrev pub linked : List Name
+linked = names.Mscorlib ∷ []
 
-abbrev pub method_names_at : Layout → ℕ
-method_names_at l = 156 + l.class_name + l.namespace_name + l.class_name
+abbrev pub assembly_ref_row : Name → List Field
+assembly_ref_row name =
+    Plain (Two 0) ∷ Plain (Two 0) ∷ Plain (Two 0) ∷ Plain (Two 0) ∷ Plain (Four 0)
+    ∷ fields.Blob blobs.Empty ∷ Strings name ∷ Strings names.Empty ∷ fields.Blob blobs.Empty ∷ []
 
--- HeapSizes: 1 where indexes into `#Strings` have four bytes, and 4 where those into `#Blob` have.
-abbrev pub heap_sizes : Widths → ℕ
-heap_sizes widths = (if widths.strings then 1 else 0) + (if widths.blobs then 4 else 0)
+-- TypeRef (II.22.38): types of `mscorlib`, with their names and namespaces.
+abbrev pub types : List Name
+types = names.Object ∷ names.Int32 ∷ names.Boolean ∷ names.Contract ∷ []
 
--- Valid: a bit for each table with rows. Module, TypeRef, TypeDef, MemberRef, Assembly, AssemblyRef and
--- MethodSpec always have some; MethodDef is bit 6, and StandAloneSig bit 11 hexadecimal.
-abbrev pub valid : Layout → ℕ
-valid l =
-    0x80900000407 + (if l.methods == 0 then 0 else 0x40) + (if l.local_signatures == 0 then 0 else 0x20000)
+abbrev pub namespace_of : Name → Name
+namespace_of names.Contract = names.Contracts
+namespace_of _ = names.System
 
--- The row count of a table, where it has rows.
-unfoldable pub count : Widths → ℕ → List ℕ
-count widths rows = if rows == 0 then [] else fields_bytes widths (Four rows ∷ [])
+abbrev pub type_ref_row : Name → List Field
+type_ref_row name =
+    Coded ResolutionScope tables.AssemblyRef (row_named names.Mscorlib linked)
+    ∷ Strings name ∷ Strings (namespace_of name) ∷ []
 
--- The fields before the row counts: versions and HeapSizes, Valid and Sorted.
-abbrev pub tables_fields : Layout → List Field
-tables_fields l = Zeros 6 ∷ Two (heap_sizes (widths_of l)) ∷ Eight (valid l) ∷ Zeros 8 ∷ []
-
-unfoldable pub tables_header : Layout → List ℕ
-tables_header l =
-    fields_bytes (widths_of l) (tables_fields l)
-    ++ fields_bytes (widths_of l) (Four 1 ∷ Four 4 ∷ Four 2 ∷ [])
-    ++ count (widths_of l) l.methods
-    ++ fields_bytes (widths_of l) (Four 11 ∷ [])
-    ++ count (widths_of l) l.local_signatures
-    ++ fields_bytes (widths_of l) (Four 1 ∷ Four 1 ∷ Four 8 ∷ [])
-
--- Module (II.22.30): its name and the first GUID.
-abbrev pub module_row : Layout → List Field
-module_row l = Two 0 ∷ Strings (module_at l) ∷ Two 1 ∷ Two 0 ∷ Two 0 ∷ []
-
--- TypeRef (II.22.38) of the first AssemblyRef: Object, Int32, Boolean and Contract.
-abbrev pub type_ref_rows : List Field
-type_ref_rows =
-    Two 6 ∷ Strings 1 ∷ Strings 8
-    ∷ Two 6 ∷ Strings 15 ∷ Strings 8
-    ∷ Two 6 ∷ Strings 21 ∷ Strings 8
-    ∷ Two 6 ∷ Strings 29 ∷ Strings 38 ∷ []
-
--- TypeDef (II.22.37): `<Module>`, and the class, which extends Object. The class has all methods.
-abbrev pub type_def_rows : Layout → List Field
-type_def_rows l =
-    Four 0 ∷ Strings 67 ∷ Strings 0 ∷ Two 0 ∷ Two 1 ∷ Method 1
-    ∷ Four 0 ∷ Strings class_at ∷ Strings (namespace_at l) ∷ Two 5 ∷ Two 1 ∷ Method 1 ∷ []
+-- TypeDef (II.22.37): flags, name, namespace, what it extends, and the first of its fields and of its methods.
+-- `<Module>` has none, and the class, which extends Object, has all.
+abbrev pub type_def_rows : List (List Field)
+type_def_rows =
+    (Plain (Four 0) ∷ Strings names.Global ∷ Strings names.Empty
+    ∷ Coded TypeDefOrRef tables.TypeDef 0
+    ∷ Row tables.Field 1 ∷ Row tables.MethodDef 1 ∷ [])
+    ∷ (Plain (Four 0) ∷ Strings names.Class ∷ Strings names.Namespace
+    ∷ Coded TypeDefOrRef tables.TypeRef (row_named names.Object types)
+    ∷ Row tables.Field 1 ∷ Row tables.MethodDef 1 ∷ [])
+    ∷ []
 
 -- MethodAttributes (II.23.1.10): Static, or none.
 abbrev pub method_flags : Bool → ℕ
 method_flags is_static = if is_static then 0x10 else 0
 
--- MethodDef (II.22.26) of a method whose body, name and signature stand at these places.
-abbrev pub method_row : ℕ → ℕ → ℕ → MethodPlan → List Field
-method_row rva name at m = Four rva ∷ Two 0 ∷ Two (method_flags m.is_static) ∷ Strings name ∷ Blob at ∷ Two 1 ∷ []
+-- MethodDef (II.22.26): the body, ImplFlags, the flags, the name, the signature, and no parameters.
+abbrev pub method_row : ℕ → MethodPlan → List Field
+method_row index m =
+    fields.MethodBody index ∷ Plain (Two 0) ∷ Plain (Two (method_flags m.is_static))
+    ∷ fields.MethodName index ∷ fields.MethodSignature index ∷ Row tables.Param 1 ∷ []
 
--- The rows of the methods, where the body, the name and the blobs of the first stand at these places.
-unfoldable pub method_rows : Widths → ℕ → ℕ → ℕ → List MethodPlan → List ℕ
-method_rows widths rva name at [] = []
-method_rows widths rva name at (m ∷ ms) =
-    fields_bytes widths (method_row rva name at m)
-    ++ method_rows widths (rva + body_size m) (name + name_size m) (at + blobs_size m) ms
+abbrev pub method_rows_of : ℕ → MethodPlan → List (List Field)
+method_rows_of index m = method_row index m ∷ []
 
--- MemberRef (II.22.25) to Contract: Requires, Ensures, Assert and Assume, each without and with a message,
--- EndContractBlock, Result and OldValue.
-abbrev pub member_ref_rows : List Field
-member_ref_rows =
-    MemberParent 0x21 ∷ Strings 76 ∷ Blob 1
-    ∷ MemberParent 0x21 ∷ Strings 76 ∷ Blob 6
-    ∷ MemberParent 0x21 ∷ Strings 85 ∷ Blob 1
-    ∷ MemberParent 0x21 ∷ Strings 85 ∷ Blob 6
-    ∷ MemberParent 0x21 ∷ Strings 93 ∷ Blob 1
-    ∷ MemberParent 0x21 ∷ Strings 93 ∷ Blob 6
-    ∷ MemberParent 0x21 ∷ Strings 100 ∷ Blob 1
-    ∷ MemberParent 0x21 ∷ Strings 100 ∷ Blob 6
-    ∷ MemberParent 0x21 ∷ Strings 107 ∷ Blob 12
-    ∷ MemberParent 0x21 ∷ Strings 124 ∷ Blob 16
-    ∷ MemberParent 0x21 ∷ Strings 131 ∷ Blob 22 ∷ []
+-- MemberRef (II.22.25): the contract calls, each with its name and the kind of its signature.
+abbrev pub calls : List (Name × Blob)
+calls =
+    (names.Requires, blobs.Condition) ∷ (names.Requires, blobs.ConditionAndMessage)
+    ∷ (names.Ensures, blobs.Condition) ∷ (names.Ensures, blobs.ConditionAndMessage)
+    ∷ (names.Assert, blobs.Condition) ∷ (names.Assert, blobs.ConditionAndMessage)
+    ∷ (names.Assume, blobs.Condition) ∷ (names.Assume, blobs.ConditionAndMessage)
+    ∷ (names.EndContractBlock, blobs.Nothing)
+    ∷ (names.Result, blobs.Result)
+    ∷ (names.OldValue, blobs.OldValue) ∷ []
 
--- StandAloneSig (II.22.36) of a method whose blobs stand at a place: its locals' blob comes after its signature's.
-abbrev pub local_row : Widths → ℕ → MethodPlan → List ℕ
-local_row widths at m = if has_locals m then fields_bytes widths (Blob (at + length (signature_blob m)) ∷ []) else []
+abbrev pub member_ref_row : Name × Blob → List Field
+member_ref_row (name, signature) =
+    Coded MemberRefParent tables.TypeRef (row_named names.Contract types)
+    ∷ Strings name ∷ fields.Blob signature ∷ []
 
-unfoldable pub local_rows : Widths → ℕ → List MethodPlan → List ℕ
-local_rows widths at [] = []
-local_rows widths at (m ∷ ms) = local_row widths at m ++ local_rows widths (at + blobs_size m) ms
+-- The row of the first call of this name.
+abbrev pub call_row : Name → ℕ
+call_row name = row_named name (map (λ call. call.0) calls)
 
--- Assembly (II.22.2), named as the class, and AssemblyRef (II.22.5), `mscorlib`.
-abbrev pub assembly_rows : List Field
+-- StandAloneSig (II.22.36): the locals of each method that has any.
+abbrev pub locals_fields : ℕ → List Field
+locals_fields index = fields.MethodLocals index ∷ []
+
+abbrev pub locals_rows_of : ℕ → MethodPlan → List (List Field)
+locals_rows_of index m = if has_locals m then locals_fields index ∷ [] else []
+
+-- Assembly (II.22.2): no hash, version, flags and key; the name of the class, and no culture.
+abbrev pub assembly_rows : List (List Field)
 assembly_rows =
-    Zeros 16 ∷ Blob 0 ∷ Strings class_at ∷ Strings 0
-    ∷ Zeros 12 ∷ Blob 0 ∷ Strings 140 ∷ Strings 0 ∷ Blob 0 ∷ []
+    (Plain (Four 0) ∷ Plain (Two 0) ∷ Plain (Two 0) ∷ Plain (Two 0) ∷ Plain (Two 0) ∷ Plain (Four 0)
+    ∷ fields.Blob blobs.Empty ∷ Strings names.Class ∷ Strings names.Empty ∷ [])
+    ∷ []
 
--- MethodSpec (II.22.29): Result, then OldValue, of bool, int32, bool[] and int32[].
-abbrev pub method_spec_rows : List Field
-method_spec_rows =
-    MethodOrMember 0x15 ∷ Blob 30
-    ∷ MethodOrMember 0x15 ∷ Blob 34
-    ∷ MethodOrMember 0x15 ∷ Blob 38
-    ∷ MethodOrMember 0x15 ∷ Blob 43
-    ∷ MethodOrMember 0x17 ∷ Blob 30
-    ∷ MethodOrMember 0x17 ∷ Blob 34
-    ∷ MethodOrMember 0x17 ∷ Blob 38
-    ∷ MethodOrMember 0x17 ∷ Blob 43 ∷ []
+-- MethodSpec (II.22.29): `Result`, then `OldValue`, by each type.
+abbrev pub instantiations : List Blob
+instantiations = blobs.OfBool ∷ blobs.OfInt ∷ blobs.OfBools ∷ blobs.OfInts ∷ []
 
--- The rows of Module, TypeRef and TypeDef.
-unfoldable pub first_rows : Layout → List ℕ
-first_rows l =
-    fields_bytes (widths_of l) (module_row l)
-    ++ fields_bytes (widths_of l) type_ref_rows
-    ++ fields_bytes (widths_of l) (type_def_rows l)
+abbrev pub method_spec_row : Name → Blob → List Field
+method_spec_row call by = Coded MethodDefOrRef tables.MemberRef (call_row call) ∷ fields.Blob by ∷ []
 
--- The rows of Assembly, AssemblyRef and MethodSpec.
-unfoldable pub last_rows : Widths → List ℕ
-last_rows widths = fields_bytes widths assembly_rows ++ fields_bytes widths method_spec_rows
+-- The rows that do not hang on the methods.
+abbrev pub fixed_rows : Table → List (List Field)
+fixed_rows tables.Module = module_rows
+fixed_rows tables.TypeRef = map type_ref_row types
+fixed_rows tables.TypeDef = type_def_rows
+fixed_rows tables.MemberRef = map member_ref_row calls
+fixed_rows tables.Assembly = assembly_rows
+fixed_rows tables.AssemblyRef = map assembly_ref_row linked
+fixed_rows tables.MethodSpec =
+    map (method_spec_row names.Result) instantiations ++ map (method_spec_row names.OldValue) instantiations
+fixed_rows _ = []
 
--- The rows of all tables, by the numbers of the tables.
-unfoldable pub rows : Layout → List MethodPlan → List ℕ
-rows l methods =
-    first_rows l
-    ++ method_rows (widths_of l) 0x2048 (method_names_at l) 48 methods
-    ++ fields_bytes (widths_of l) member_ref_rows
-    ++ local_rows (widths_of l) 48 methods
-    ++ last_rows (widths_of l)
-
--- The stream, filled up with zeros.
-unfoldable pub tables : Layout → List MethodPlan → List ℕ
-tables l methods = tables_header l ++ rows l methods ++ replicate (tables_size l - tables_used l) 0
+-- The rows of a table.
+abbrev pub table_rows : List MethodPlan → Table → List (List Field)
+table_rows methods tables.MethodDef = each_from 0 method_rows_of methods
+table_rows methods tables.StandAloneSig = each_from 0 locals_rows_of methods
+table_rows methods table = fixed_rows table

@@ -8,13 +8,31 @@ use Rattle.asm_writer.specs.declared.plan.MethodPlan.{MethodPlan}
 unfoldable pub compressed : ℕ → List ℕ
 compressed n = if nat_lt n 0x80 then n ∷ [] else (0x80 + n / 256) ∷ n % 256 ∷ []
 
--- The bytes of a type (II.23.1.16): VOID, BOOLEAN, I4, and SZARRAY of the last two.
+-- Types as they stand in signatures (II.23.1.16).
+abbrev pub VOID : ℕ
+VOID = 0x01
+
+abbrev pub BOOLEAN : ℕ
+BOOLEAN = 0x02
+
+abbrev pub I4 : ℕ
+I4 = 0x08
+
+abbrev pub STRING : ℕ
+STRING = 0x0e
+
+abbrev pub SZARRAY : ℕ
+SZARRAY = 0x1d
+
+abbrev pub MVAR : ℕ
+MVAR = 0x1e
+
 abbrev pub type_bytes : Place → List ℕ
-type_bytes places.Void = 0x01 ∷ []
-type_bytes places.Bool = 0x02 ∷ []
-type_bytes places.Int = 0x08 ∷ []
-type_bytes places.Bools = 0x1d ∷ 0x02 ∷ []
-type_bytes places.Ints = 0x1d ∷ 0x08 ∷ []
+type_bytes places.Void = VOID ∷ []
+type_bytes places.Bool = BOOLEAN ∷ []
+type_bytes places.Int = I4 ∷ []
+type_bytes places.Bools = SZARRAY ∷ BOOLEAN ∷ []
+type_bytes places.Ints = SZARRAY ∷ I4 ∷ []
 
 -- The calling convention (II.15.3): HASTHIS where the method is not static.
 abbrev pub convention : Bool → ℕ
@@ -40,7 +58,3 @@ signature_blob m = blob (signature m)
 unfoldable pub local_blob : List Place → List ℕ
 local_blob [] = []
 local_blob (place ∷ places) = blob (local_signature (place ∷ places))
-
--- The blobs of a method.
-unfoldable pub method_blobs : MethodPlan → List ℕ
-method_blobs m = signature_blob m ++ local_blob m.locals.items

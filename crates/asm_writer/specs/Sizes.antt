@@ -1,136 +1,84 @@
--- How large the parts of the file are, and what passes a limit. Sizes are in bytes.
-use Rattle.std.specs.Prelude.{ℕ, ◌+◌, ◌-◌, ◌*◌, ◌/◌, ◌^◌, List, [], ◌∷◌, length, sum_by, count_by, Bool, false, true, Option, Some, None, nat_le, ◌==◌, ◌&&◌, if◌then◌else◌}
+-- How large the parts of the file are, in bytes, and what passes a limit.
+use Rattle.std.specs.Prelude.{ℕ, ◌+◌, List, length, sum_by, Bool, nat_le, ◌&&◌}
 use Rattle.std.specs.List.{list_all}
-use Rattle.cil_model.specs.declared.place.Place.{Place}
+use Rattle.cil_model.specs.Limits.{MAX_FILE_BYTES}
+use Rattle.asm_writer.specs.declared.field.Field.{Field}
 use Rattle.asm_writer.specs.declared.layout.Layout.{Layout}
-use Rattle.asm_writer.specs.declared.layout.Widths.{Widths}
 use Rattle.asm_writer.specs.declared.plan.AsmPlan.{AsmPlan}
 use Rattle.asm_writer.specs.declared.plan.MethodPlan.{MethodPlan}
-use Rattle.asm_writer.specs.Signatures.{method_blobs}
+use Rattle.asm_writer.specs.declared.table.Table.{Table}
+use Rattle.asm_writer.specs.Blobs.{blob_items}
+use Rattle.asm_writer.specs.Bodies.{body_header}
+use Rattle.asm_writer.specs.Headers.{file_alignment, dos_header, file_header, optional_header, section_header, cli_header_size}
+use Rattle.asm_writer.specs.Layout.{layout_of, field_number}
+use Rattle.asm_writer.specs.Limits.{is_within}
+use Rattle.asm_writer.specs.Metadata.{user_strings, guids, streams, root_size}
+use Rattle.asm_writer.specs.Names.{string_items}
+use Rattle.asm_writer.specs.Numbers.{number_width, numbers_width}
+use Rattle.asm_writer.specs.Padding.{round_up}
+use Rattle.asm_writer.specs.Rows.{table_rows}
+use Rattle.asm_writer.specs.Stream.{stream_numbers, count_numbers, tables_stream}
+use Rattle.asm_writer.specs.Tables.{all_tables}
 
--- The most bytes of a file.
-abbrev pub MAX_FILE : ℕ
-MAX_FILE = 67_108_864
+-- The items of a heap, one behind another.
+abbrev pub items_size : List (List ℕ) → ℕ
+items_size items = sum_by length items
 
--- The most bytes of a method's code.
-abbrev pub MAX_CODE : ℕ
-MAX_CODE = 65_536
-
--- The most arguments, locals and stack slots of a method together.
-abbrev pub MAX_VARIABLES : ℕ
-MAX_VARIABLES = 128
-
--- The least multiple of the unit that is not below n.
-unfoldable pub round_up : ℕ → ℕ → ℕ
-round_up unit n = (n + (unit - 1)) / unit * unit
-
--- A fat method body: 12 bytes of header and the code (II.25.4.3), filled up to a multiple of 4.
 unfoldable pub body_size : MethodPlan → ℕ
-body_size m = round_up 4 (12 + length m.code.items)
+body_size m = round_up 4 (numbers_width (body_header 0 m) + length m.code.items)
 
--- A name in the heap `#Strings`, with its zero (II.24.2.3).
-unfoldable pub name_size : MethodPlan → ℕ
-name_size m = length m.name.items + 1
+abbrev pub bodies_size : List MethodPlan → ℕ
+bodies_size methods = sum_by body_size methods
 
-unfoldable pub blobs_size : MethodPlan → ℕ
-blobs_size m = length (method_blobs m)
+-- Columns, rows, and several rows.
+abbrev pub field_width : Layout → Field → ℕ
+field_width l field = number_width (field_number l field)
 
-abbrev pub has_items : List Place → Bool
-has_items [] = false
-has_items (place ∷ places) = true
+unfoldable pub row_width : Layout → List Field → ℕ
+row_width l fields = sum_by (field_width l) fields
 
--- The method has a local variable, and so a row of StandAloneSig.
-abbrev pub has_locals : MethodPlan → Bool
-has_locals m = has_items m.locals.items
+unfoldable pub rows_width : Layout → List (List Field) → ℕ
+rows_width l rows = sum_by (row_width l) rows
 
--- What the sizes and the widths of indexes follow from.
-abbrev pub layout_of : AsmPlan → Layout
-layout_of plan = record {
-  wide = plan.wide;
-  methods = length plan.methods.items;
-  local_signatures = count_by has_locals plan.methods.items;
-  bodies = sum_by body_size plan.methods.items;
-  namespace_name = length plan.namespace.items;
-  class_name = length plan.class.items;
-  method_names = sum_by name_size plan.methods.items;
-  method_blobs = sum_by blobs_size plan.methods.items;
-}
+-- The row count of a table, and its rows.
+abbrev pub count_size : Layout → Table → ℕ
+count_size l table = numbers_width (count_numbers l table)
 
--- The names that each file has, and those of the class, the namespace, the module and the methods.
-unfoldable pub names_size : Layout → ℕ
-names_size l = 156 + l.class_name + l.namespace_name + l.class_name + l.method_names
+abbrev pub table_size : Layout → List MethodPlan → Table → ℕ
+table_size l methods table = rows_width l (table_rows methods table)
 
-unfoldable pub strings_size : Layout → ℕ
-strings_size l = round_up 4 (names_size l)
+-- The stream `#~`.
+unfoldable pub tables_size : Layout → List MethodPlan → ℕ
+tables_size l methods =
+    round_up 4
+    (numbers_width (stream_numbers l)
+    + sum_by (count_size l) all_tables
+    + sum_by (table_size l methods) all_tables)
 
--- The blobs that each file has, and those of the methods.
-unfoldable pub blob_heap_size : Layout → ℕ
-blob_heap_size l = round_up 4 (48 + l.method_blobs)
+unfoldable pub metadata_size : AsmPlan → ℕ
+metadata_size plan =
+    let l = layout_of plan in
+    root_size (streams (tables_stream l plan.methods.items) l)
+    + tables_size l plan.methods.items
+    + round_up 4 (items_size (string_items plan))
+    + length user_strings
+    + length guids
+    + round_up 4 (items_size (blob_items plan.methods.items))
 
--- Which indexes have four bytes: those into a heap of 2^16 bytes or more, those of a table of 2^16 rows or
--- more, and coded ones, whose tag leaves fewer bits for the row (II.24.2.6).
-unfoldable pub widths_of : Layout → Widths
-widths_of l = record {
-  strings = nat_le (2 ^ 16) (strings_size l);
-  blobs = nat_le (2 ^ 16) (blob_heap_size l);
-  method = nat_le (2 ^ 16) l.methods;
-  method_or_member = nat_le (2 ^ 15) l.methods;
-  member_parent = nat_le (2 ^ 13) l.methods;
-}
+unfoldable pub section_size : AsmPlan → ℕ
+section_size plan = round_up file_alignment (cli_header_size + bodies_size plan.methods.items + metadata_size plan)
 
--- So many indexes of one kind.
-abbrev pub indexes : Bool → ℕ → ℕ
-indexes is_wide count = if is_wide then 4 * count else 2 * count
-
--- The rows of all tables: their plain columns, and their indexes of each kind.
-unfoldable pub rows_size : Layout → ℕ
-rows_size l =
-    60 + 10 * l.methods
-    + indexes (widths_of l).strings (28 + l.methods)
-    + indexes (widths_of l).blobs (22 + l.methods + l.local_signatures)
-    + indexes (widths_of l).method 2
-    + indexes (widths_of l).method_or_member 8
-    + indexes (widths_of l).member_parent 11
-
--- The row count of a table that is present.
-abbrev pub count_size : ℕ → ℕ
-count_size rows = if rows == 0 then 0 else 4
-
--- The stream `#~` (II.24.2.6), before it is filled up, and whole.
-unfoldable pub tables_used : Layout → ℕ
-tables_used l = 52 + count_size l.methods + count_size l.local_signatures + rows_size l
-
-unfoldable pub tables_size : Layout → ℕ
-tables_size l = round_up 4 (tables_used l)
-
--- The root with its stream headers, and the five streams, of which `#US` has 20 bytes and `#GUID` 16.
-unfoldable pub metadata_size : Layout → ℕ
-metadata_size l = 108 + tables_size l + strings_size l + 36 + blob_heap_size l
-
--- The section before it is filled up, with the 72 bytes of the CLI header at its start.
-unfoldable pub section_used : Layout → ℕ
-section_used l = 72 + l.bodies + metadata_size l
-
-unfoldable pub section_size : Layout → ℕ
-section_size l = round_up 512 (section_used l)
-
--- The headers, and the section behind them.
-unfoldable pub size_of : Layout → ℕ
-size_of l = 512 + section_size l
+unfoldable pub headers_size : Bool → ℕ
+headers_size wide =
+    round_up file_alignment
+    (numbers_width dos_header
+    + numbers_width (file_header wide)
+    + numbers_width (optional_header wide)
+    + length (section_header 0))
 
 unfoldable pub file_size : AsmPlan → ℕ
-file_size plan = size_of (layout_of plan)
-
--- The method keeps the limits on its code and on its variables.
-unfoldable pub is_within : MethodPlan → Bool
-is_within m =
-    nat_le (length m.code.items) MAX_CODE
-    && nat_le (length m.args.items + length m.locals.items + m.max_stack) MAX_VARIABLES
-
--- A part's size, where it is no larger than a file.
-abbrev pub kept : ℕ → Option ℕ
-kept size = if nat_le size MAX_FILE then Some size else None
+file_size plan = headers_size plan.wide + section_size plan
 
 -- The file and each method keep their limits.
 unfoldable pub fits : AsmPlan → Bool
-fits plan = nat_le (file_size plan) MAX_FILE && list_all is_within plan.methods.items
+fits plan = nat_le (file_size plan) MAX_FILE_BYTES && list_all is_within plan.methods.items

@@ -1,34 +1,42 @@
 //! The headers before the section, and the CLI header at its start (ECMA-335 II.25).
 
-ghost use Rattle.std.specs.Prelude.{◌≡◌, ◌++◌, OnOk};
-ghost use Rattle.asm_writer.specs.Fields.{fields_bytes};
-ghost use Rattle.asm_writer.specs.Headers.{dos_fields, file_fields, optional_fields, section_header, headers, cli_header};
+ghost use Rattle.std.specs.Prelude.{◌≡◌, ◌++◌, IfOk, OnOk};
+ghost use Rattle.asm_writer.specs.Headers.{dos_header, file_header, optional_header, section_header, cli_header, headers};
+ghost use Rattle.asm_writer.specs.Numbers.{numbers_bytes};
 
-use crate::field::Field::{Four, Two, Zeros};
-use crate::field::append_fields;
-use crate::layout::{Layout, Widths};
-use std::alloc::AllocError;
+use crate::number::Number::{Four, Two, Zeros};
+use crate::number::append_numbers;
+use crate::padding::pad;
+use std::alloc::{AllocError, Global};
+
+/// The multiple to which the headers and the section are filled up.
+pub const FILE_ALIGNMENT: usize = 0x200;
+
+/// Where the section stands in memory.
+const SECTION_RVA: u64 = 0x2000;
+
+/// How many bytes the CLI header has.
+const CLI_HEADER_SIZE: u64 = 72;
+
+/// Where the first method body stands in memory, behind the CLI header.
+pub const BODIES_RVA: u64 = SECTION_RVA + CLI_HEADER_SIZE;
 
 /// Appends the MS-DOS header.
-fn append_dos_header(out: &mut Vec<u8>, widths: Widths) -> Result<(), AllocError>
-    ensures { OnOk result (out.new.items ≡ out.old.items ++ fields_bytes widths dos_fields) }
+fn append_dos_header(out: &mut Vec<u8>) -> Result<(), AllocError>
+    ensures { OnOk result (out.new.items ≡ out.old.items ++ numbers_bytes dos_header) }
 {
-    append_fields(
-        out,
-        widths,
-        &[Two(0x5a4d), Zeros(58), Four(0x80), Zeros(64)],
-    )
+    append_numbers(out, &[Two(0x5a4d), Zeros(58), Four(0x80), Zeros(64)])
 }
 
 /// Appends the PE signature and the PE file header.
-fn append_file_header(out: &mut Vec<u8>, widths: Widths, wide: bool) -> Result<(), AllocError>
-    ensures { OnOk result (out.new.items ≡ out.old.items ++ fields_bytes widths (file_fields wide)) }
+#[tactic(auto, unfolding(crate::specs::Numbers::numbers_width))]
+fn append_file_header(out: &mut Vec<u8>, wide: bool) -> Result<(), AllocError>
+    ensures { OnOk result (out.new.items ≡ out.old.items ++ numbers_bytes (file_header wide)) }
 {
     let machine = if wide { 0x8664 } else { 0x14c };
     let optional_size = if wide { 0xf0 } else { 0xe0 };
-    append_fields(
+    append_numbers(
         out,
-        widths,
         &[
             Four(0x4550),
             Two(machine),
@@ -41,73 +49,67 @@ fn append_file_header(out: &mut Vec<u8>, widths: Widths, wide: bool) -> Result<(
 }
 
 /// Appends the optional header.
-fn append_optional_header(out: &mut Vec<u8>, widths: Widths, wide: bool) -> Result<(), AllocError>
-    ensures { OnOk result (out.new.items ≡ out.old.items ++ fields_bytes widths (optional_fields wide)) }
+#[tactic(auto, unfolding(crate::specs::Numbers::numbers_width))]
+fn append_optional_header(out: &mut Vec<u8>, wide: bool) -> Result<(), AllocError>
+    ensures { OnOk result (out.new.items ≡ out.old.items ++ numbers_bytes (optional_header wide)) }
 {
     let magic = if wide { 0x20b } else { 0x10b };
     let before_directory = if wide { 222 } else { 206 };
-    append_fields(
+    append_numbers(
         out,
-        widths,
         &[
             Two(magic),
             Zeros(before_directory),
-            Four(0x2000),
-            Four(72),
+            Four(SECTION_RVA),
+            Four(CLI_HEADER_SIZE),
             Zeros(8),
         ],
     )
 }
 
-/// Appends the header of the section, and zeros up to the section.
+/// Appends the header of the section of this size.
 #[tactic(auto, unfolding(crate::specs::Headers::section_header))]
-fn append_section_header(out: &mut Vec<u8>, layout: &Layout) -> Result<(), AllocError>
-    ensures { OnOk result (out.new.items ≡ out.old.items ++ section_header layout.now) }
+fn append_section_header(out: &mut Vec<u8>, size: u64) -> Result<(), AllocError>
+    ensures { OnOk result (out.new.items ≡ out.old.items ++ section_header size) }
 {
-    let widths = layout.widths();
-    let before_section = if layout.wide { 80 } else { 96 };
-    out.extend_from_slice(b".text")?;
-    append_fields(out, widths, &[Zeros(3)])?;
-    append_fields(
+    out.extend_from_slice(b".text\0\0\0")?;
+    append_numbers(
         out,
-        widths,
         &[
             Four(0),
-            Four(0x2000),
-            Four(layout.section_size()),
-            Four(0x200),
+            Four(SECTION_RVA),
+            Four(size),
+            Four(FILE_ALIGNMENT as u64),
             Zeros(16),
-            Zeros(before_section),
         ],
     )
 }
 
-/// Appends all before the section.
+/// All before the section, which has this size.
 #[tactic(auto, unfolding(crate::specs::Headers::headers))]
-pub fn append_headers(out: &mut Vec<u8>, layout: &Layout) -> Result<(), AllocError>
-    ensures { OnOk result (out.new.items ≡ out.old.items ++ headers layout.now) }
+pub fn headers(alloc: Global, wide: bool, section_size: u64) -> Result<Vec<u8>, AllocError>
+    ensures { IfOk result (λ bytes. bytes.items ≡ headers wide section_size) }
 {
-    let widths = layout.widths();
-    append_dos_header(out, widths)?;
-    append_file_header(out, widths, layout.wide)?;
-    append_optional_header(out, widths, layout.wide)?;
-    append_section_header(out, layout)
+    let mut out = Vec::new(alloc);
+    append_dos_header(&mut out)?;
+    append_file_header(&mut out, wide)?;
+    append_optional_header(&mut out, wide)?;
+    append_section_header(&mut out, section_size)?;
+    pad(&mut out, FILE_ALIGNMENT)?;
+    Ok(out)
 }
 
-/// Appends the CLI header.
-#[tactic(auto, unfolding(crate::specs::Headers::cli_header))]
-pub fn append_cli_header(out: &mut Vec<u8>, layout: &Layout) -> Result<(), AllocError>
-    ensures { OnOk result (out.new.items ≡ out.old.items ++ cli_header layout.now) }
+/// Appends the CLI header of a file whose metadata stands there and has this size.
+pub fn append_cli_header(out: &mut Vec<u8>, rva: u64, size: u64) -> Result<(), AllocError>
+    ensures { OnOk result (out.new.items ≡ out.old.items ++ numbers_bytes (cli_header rva size)) }
 {
-    let metadata_at = 0x2048 + u64::from(layout.bodies);
-    append_fields(
+    append_numbers(
         out,
-        layout.widths(),
         &[
-            Four(72),
+            Four(CLI_HEADER_SIZE),
             Four(0),
-            Four(metadata_at),
-            Four(layout.metadata_size()),
+            Four(rva),
+            Four(size),
             Zeros(56),
         ],
     )

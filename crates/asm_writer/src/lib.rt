@@ -2,19 +2,22 @@
 //! of them, and references to the contract calls (ECMA-335 II.22 to II.25).
 #![tactic(auto)]
 
-mod append;
+mod blob;
 mod bodies;
 mod field;
 mod headers;
-mod heaps;
 mod layout;
-mod limits;
+mod metadata;
+mod name;
+mod number;
+mod packed;
+mod padding;
 mod plan;
 mod rows;
 mod signature;
-#[cfg(test)]
-mod tests;
+mod table;
+mod tables;
 mod writer;
 
-pub use plan::{AsmPlan, MAX_CODE, MAX_FILE, MAX_VARIABLES, MethodPlan, WriteRefusal};
+pub use plan::{AsmPlan, MethodPlan, WriteRefusal};
 pub use writer::write_assembly;

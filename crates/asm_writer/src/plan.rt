@@ -6,15 +6,6 @@ ghost use Rattle.asm_writer.specs.declared.plan.WriteRefusal.TheVariants.{NoMemo
 use cil_model::Place;
 use std::alloc::AllocError;
 
-/// The most bytes of a file.
-pub const MAX_FILE: u64 = 67_108_864;
-
-/// The most bytes of a method's code.
-pub const MAX_CODE: usize = 65_536;
-
-/// The most variables of a method: its arguments, its locals and its stack slots together.
-pub const MAX_VARIABLES: usize = 128;
-
 /// An assembly of one class. That its names read back, none of them has a zero byte.
 #[derive(Drop)]
 pub struct AsmPlan {

@@ -1,23 +1,35 @@
-//! The blobs of a method's signatures (ECMA-335 II.23.2).
+//! The signatures of methods and locals (ECMA-335 II.23.2), and their blobs (II.24.2.4).
 
 ghost use Rattle.std.specs.Prelude.{◌≡◌, ◌+◌, ◌*◌, ◌<◌, ◌≤◌, ◌++◌, length, flat_map, OnOk, IsTrue};
-ghost use Rattle.asm_writer.specs.Signatures.{compressed, type_bytes, signature, local_signature, signature_blob, local_blob, method_blobs};
-ghost use Rattle.asm_writer.specs.Sizes.{is_within, blobs_size};
+ghost use Rattle.asm_writer.specs.Signatures.{compressed, blob, type_bytes, signature, local_signature, signature_blob, local_blob};
 
 use crate::plan::MethodPlan;
 use cil_model::Place;
 use std::alloc::AllocError;
+
+/// Types as they stand in signatures (II.23.1.16).
+pub const VOID: u8 = 0x01;
+
+pub const BOOLEAN: u8 = 0x02;
+
+pub const I4: u8 = 0x08;
+
+pub const STRING: u8 = 0x0e;
+
+pub const SZARRAY: u8 = 0x1d;
+
+pub const MVAR: u8 = 0x1e;
 
 /// The bytes of a type.
 fn type_bytes(place: Place) -> &'static [u8]
     ensures { result.now ≡ type_bytes place }
 {
     match place {
-        Place::Void => &[0x01],
-        Place::Bool => &[0x02],
-        Place::Int => &[0x08],
-        Place::Bools => &[0x1d, 0x02],
-        Place::Ints => &[0x1d, 0x08],
+        Place::Void => &[VOID],
+        Place::Bool => &[BOOLEAN],
+        Place::Int => &[I4],
+        Place::Bools => &[SZARRAY, BOOLEAN],
+        Place::Ints => &[SZARRAY, I4],
     }
 }
 
@@ -46,7 +58,7 @@ fn compressed_size(n: usize) -> usize
 
 /// Appends a compressed number.
 #[tactic(auto, unfolding(crate::specs::Signatures::compressed))]
-fn append_compressed(out: &mut Vec<u8>, n: usize) -> Result<(), AllocError>
+pub fn append_compressed(out: &mut Vec<u8>, n: usize) -> Result<(), AllocError>
     requires { n < 0x4000 }
     ensures { OnOk result (out.new.items ≡ out.old.items ++ compressed n) }
 {
@@ -80,44 +92,9 @@ fn signature_size(method: &MethodPlan) -> usize
     1 + compressed_size(method.args.len()) + result + types_size(&method.args)
 }
 
-/// How many bytes the blob of the signature of a method has.
-#[tactic(auto, unfolding(crate::specs::Signatures::signature_blob, crate::specs::Signatures::blob))]
-pub fn signature_blob_size(method: &MethodPlan) -> usize
-    requires { length method.now.args.items ≤ 128 }
-    ensures is { result ≡ length (signature_blob method.now) }
-    ensures bound { result ≤ 263 }
-{
-    let size = signature_size(method);
-    compressed_size(size) + size
-}
-
-/// How many bytes the blob of local variables has.
-#[tactic(auto, unfolding(crate::specs::Signatures::local_signature, crate::specs::Signatures::local_blob, crate::specs::Signatures::blob))]
-fn local_blob_size(locals: &[Place]) -> usize
-    requires { length locals.now ≤ 128 }
-    ensures is { result ≡ length (local_blob locals.now) }
-    ensures bound { result ≤ 261 }
-{
-    if locals.is_empty() {
-        return 0;
-    }
-    let size = 1 + compressed_size(locals.len()) + types_size(locals);
-    compressed_size(size) + size
-}
-
-/// How many bytes the blobs of a method have.
-#[tactic(auto, unfolding(crate::specs::Signatures::method_blobs, crate::specs::Sizes::is_within, crate::specs::Sizes::blobs_size))]
-pub fn blobs_size(method: &MethodPlan) -> usize
-    requires { IsTrue (is_within method.now) }
-    ensures is { result ≡ blobs_size method.now }
-    ensures bound { result ≤ 524 }
-{
-    signature_blob_size(method) + local_blob_size(&method.locals)
-}
-
 /// Appends the blob of the signature of a method.
 #[tactic(auto, unfolding(crate::specs::Signatures::signature, crate::specs::Signatures::signature_blob, crate::specs::Signatures::blob))]
-fn append_signature_blob(out: &mut Vec<u8>, method: &MethodPlan) -> Result<(), AllocError>
+pub fn append_signature_blob(out: &mut Vec<u8>, method: &MethodPlan) -> Result<(), AllocError>
     requires { length method.now.args.items ≤ 128 }
     ensures { OnOk result (out.new.items ≡ out.old.items ++ signature_blob method.now) }
 {
@@ -130,7 +107,7 @@ fn append_signature_blob(out: &mut Vec<u8>, method: &MethodPlan) -> Result<(), A
 
 /// Appends the blob of local variables, where there are any.
 #[tactic(auto, unfolding(crate::specs::Signatures::local_signature, crate::specs::Signatures::local_blob, crate::specs::Signatures::blob))]
-fn append_local_blob(out: &mut Vec<u8>, locals: &[Place]) -> Result<(), AllocError>
+pub fn append_local_blob(out: &mut Vec<u8>, locals: &[Place]) -> Result<(), AllocError>
     requires { length locals.now ≤ 128 }
     ensures { OnOk result (out.new.items ≡ out.old.items ++ local_blob locals.now) }
 {
@@ -141,14 +118,4 @@ fn append_local_blob(out: &mut Vec<u8>, locals: &[Place]) -> Result<(), AllocErr
     out.push(0x07)?;
     append_compressed(out, locals.len())?;
     append_types(out, locals)
-}
-
-/// Appends the blobs of a method.
-#[tactic(auto, unfolding(crate::specs::Signatures::method_blobs, crate::specs::Sizes::is_within))]
-pub fn append_blobs(out: &mut Vec<u8>, method: &MethodPlan) -> Result<(), AllocError>
-    requires { IsTrue (is_within method.now) }
-    ensures { OnOk result (out.new.items ≡ out.old.items ++ method_blobs method.now) }
-{
-    append_signature_blob(out, method)?;
-    append_local_blob(out, &method.locals)
 }

@@ -65,7 +65,7 @@ shifted_fits : (amount : ℤ) (by : ℕ → ℤ) → ((n : ℕ) → FitsSigned w
 shifted_fits amount by fits =
     cond_both (int_le (pos 0) amount && int_lt amount (pos 32)) _ _ (λ r. IfOk r (FitsSigned w32)) (λ e. fits _) (λ e. tt)
 
-truth_fits : (holds : Bool) → FitsSigned w32 (truth holds)
+pub truth_fits : (holds : Bool) → FitsSigned w32 (truth holds)
 truth_fits true = omega (arith, ints)
 truth_fits false = omega (arith, ints)
 

@@ -2,6 +2,7 @@
 use Rattle.std.proofs.Common.{◌≡◌, ℕ, zero, suc, Bool, true, false, List, [], ◌∷◌, ◌++◌, Option, Some, None, option_map, slice_get, refl, sym, ap, subst, inl, inr}
 use Rattle.std.specs.Option.{option_and_then}
 use Rattle.std.proofs.lemmas.Option.{same_Some, none-some}
+use Rattle.cil_model.proofs.Options.{and_then_from, map_from}
 use Rattle.cil_model.specs.Calls.{WorldCall, ReturnRow, Returned, Returns, args_of, callee_index, called, ensures_fault, pushed, result_of}
 use Rattle.cil_model.specs.Clauses.{false_requires}
 use Rattle.cil_model.specs.Effects.{Effect, HasEffect, effects}
@@ -21,22 +22,6 @@ use Rattle.cil_model.specs.declared.unit.Unit.{Unit as MethodUnit}
 use Rattle.cil_model.specs.declared.unit_numbers.UnitCall.{UnitCall}
 use Rattle.cil_model.specs.declared.unit_numbers.UnitCall.TheVariants as calls
 
--- ---- options
-
--- What a chain gave came from a first value.
-pub record ComesFrom {X Y : Type 0} (first : Option X) (f : X → Option Y) (y : Y) : Type 0 where
-  pub value : X
-  pub is : first ≡ Some value
-  pub gave : f value ≡ Some y
-
-and_then_from : {X Y : Type 0} (f : X → Option Y) (first : Option X) (y : Y) → option_and_then f first ≡ Some y → ComesFrom first f y
-and_then_from f None y e = absurd (none-some y e)
-and_then_from f (Some x) y e = record { value = x; is = refl; gave = e }
-
-map_from : {X Y : Type 0} (f : X → Y) (first : Option X) (y : Y) → option_map f first ≡ Some y → (x : X) × (first ≡ Some x) × (y ≡ f x)
-map_from f None y e = absurd (none-some y e)
-map_from f (Some x) y e = (x, refl, sym (same_Some (f x) y e))
-
 -- ---- the running frame
 
 -- Frames, and the one above them.
@@ -44,11 +29,11 @@ pub record Split : Type 0 where
   pub callers : List Frame
   pub last : Frame
 
-abbrev below : Frame → Option Split → Split
+abbrev pub below : Frame → Option Split → Split
 below f None = record { callers = []; last = f }
 below f (Some split) = record split { callers = f ∷ split.callers }
 
-abbrev split_last : List Frame → Option Split
+abbrev pub split_last : List Frame → Option Split
 split_last [] = None
 split_last (f ∷ fs) = Some (below f (split_last fs))
 
@@ -108,7 +93,7 @@ after_call_row w callers number i f heap new e =
     let (args, are, gives) = map_from (λ args. called callers found.value named.value args i f heap (false_requires found.value.clauses args heap)) (args_of heap found.value.args f.stack) new found.gave in
     record { index = named.value; callee = found.value; args = args; index_is = named.is; callee_is = found.is; args_are = are; new_is = gives }
 
-abbrev resumed : Option Split → Option Value → Heap → Config
+abbrev pub resumed : Option Split → Option Value → Heap → Config
 resumed None result heap = configs.Returned result
 resumed (Some split) result heap = configs.Live (split.callers ++ pushed split.last result ∷ []) heap
 
@@ -117,11 +102,11 @@ resumed_returns : (callers : List Frame) (split : Option Split) (result : Option
 resumed_returns callers None result heap e = inl (e, refl)
 resumed_returns callers (Some split) result heap e = inr (split.callers, split.last, e, refl)
 
-abbrev returning : List Frame → Instr → Frame → Heap → Option Value → Option ℕ → Config
+abbrev pub returning : List Frame → Instr → Frame → Heap → Option Value → Option ℕ → Config
 returning callers i f heap result (Some k) = configs.Fault (faults.Ensures k) f.unit i.at
 returning callers i f heap result None = resumed (split_last callers) result heap
 
-returning_row : (callers : List Frame) (i : Instr) (f : Frame) (heap : Heap) (result : Option Value) (fault : Option ℕ)
+pub returning_row : (callers : List Frame) (i : Instr) (f : Frame) (heap : Heap) (result : Option Value) (fault : Option ℕ)
     → Returned callers i f heap result fault (returning callers i f heap result fault)
 returning_row callers i f heap result (Some k) = refl
 returning_row callers i f heap result None = resumed_returns callers (split_last callers) result heap (split_is callers)

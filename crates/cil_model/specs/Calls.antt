@@ -95,12 +95,13 @@ pub record FreeReturn (callee : CalleeInfo) (args : List Value) (heap new : Heap
   pub ensured : false_ensures callee.clauses (record { args = args; entry_heap = heap; heap = new; result = result }) ≡ None
 
 -- What comes of a free call: the fault of the first Requires that is not true, or the caller with a result
--- over a new heap.
+-- over a new heap. It may also not come back, since the callee may assume what is false or find no room, and it
+-- cannot where nothing meets its Ensures. The run then ends without a fault.
 abbrev pub FreelyCalled : CalleeInfo → List Value → Instr → Frame → Heap → Option ℕ → Config → Type 0
 FreelyCalled callee args i f heap (Some k) new = new ≡ configs.Fault (faults.Requires k) f.unit i.at
 FreelyCalled callee args i f heap None new =
-    (after : Heap) × (result : Option Value) × FreeReturn callee args heap after result
-    × (new ≡ configs.Live (pushed (behind_call i (length callee.args) f) result ∷ []) after)
+    (new ≡ configs.NoRoom) ⊎ ((after : Heap) × (result : Option Value) × FreeReturn callee args heap after result
+    × (new ≡ configs.Live (pushed (behind_call i (length callee.args) f) result ∷ []) after))
 
 -- A free call of the unit's callee of this number.
 pub record FreeCall (unit : MethodUnit) (number : ℕ) (i : Instr) (f : Frame) (heap : Heap) (new : Config) : Type 0 where
@@ -115,8 +116,8 @@ pub record FreeCall (unit : MethodUnit) (number : ℕ) (i : Instr) (f : Frame) (
 -- What a return takes from the stack, as it is put into the result: a value of its form, or none where the
 -- result is void. Nothing else may stand there.
 abbrev pub result_of : Heap → Place → List Value → Option (Option Value)
-result_of heap places.Void [] = Some None
 result_of heap place (value ∷ []) = option_map Some (put heap place value)
+result_of heap places.Void [] = Some None
 result_of heap place _ = None
 
 -- A result goes to the caller, or it is the end of the run.

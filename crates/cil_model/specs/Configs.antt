@@ -27,3 +27,8 @@ pub record IsFrame (units : List MethodUnit) (heap : Heap) (f : Frame) : Type 0 
 abbrev pub IsConfig : List MethodUnit → Config → Type 0
 IsConfig units (configs.Live frames heap) = IsHeap heap × AllByRecursion (IsFrame units heap) frames
 IsConfig units _ = Unit {0}
+
+-- The arrays of the first configuration have kept their types and lengths in the second.
+abbrev pub ArraysKept : Config → Config → Type 0
+ArraysKept (configs.Live frames heap) (configs.Live others after) = KeepsForms heap after
+ArraysKept _ _ = Unit {0}

@@ -46,7 +46,6 @@ pub record ClausesWithinLimits (clauses : List Clause) : Type 0 where
   pub old_values : sum_by (λ clause. old_count clause.tree) clauses ≤ MAX_OLD_VALUES
 
 pub record IsWithinLimits (unit : MethodUnit) : Type 0 where
-  pub name : length unit.name ≤ MAX_NAME_BYTES
   pub code : length unit.code ≤ MAX_CODE_BYTES
   pub instructions : length unit.instrs ≤ MAX_INSTRUCTIONS
   pub blocks : block_count unit ≤ MAX_BLOCKS
@@ -54,6 +53,11 @@ pub record IsWithinLimits (unit : MethodUnit) : Type 0 where
   pub clauses : ClausesWithinLimits unit.clauses
 
 -- ---- units
+
+-- A name as it stands in a unit: some graphic bytes of ASCII.
+pub record IsUnitName (name : List ℕ) : Type 0 where
+  pub graphic : AllByRecursion (λ b. (0x21 ≤ b) × (b ≤ 0x7e)) name
+  pub short : length name ≤ MAX_NAME_BYTES
 
 -- Variables of these types hold values.
 abbrev pub HoldValues : List Place → Type 0
@@ -63,13 +67,14 @@ HoldValues types = AllByRecursion (λ place. place ≢ places.Void) types
 pub record IsCallee (callee : CalleeInfo) : Type 0 where
   pub args : HoldValues callee.args
   pub few_args : length callee.args ≤ MAX_VARIABLES
-  pub name : length callee.name ≤ MAX_NAME_BYTES
+  pub name : IsUnitName callee.name
   pub clauses : ClausesWithinLimits callee.clauses
   pub numbers : AllByRecursion (IsNumberClause callee.args callee.result) callee.clauses
 
 -- A well formed unit. That its clauses are the trees of its contract block is to be said here too, once there
 -- is a definition of the tree of a clause.
 pub record IsWellFormed (unit : MethodUnit) : Type 0 where
+  pub name : IsUnitName unit.name
   pub code : CodeOf unit.instrs unit.code
   pub body : unit.body_start ≡ start_of_body unit.instrs
   pub args : HoldValues unit.args

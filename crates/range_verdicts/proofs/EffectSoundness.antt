@@ -1,14 +1,12 @@
 -- What a typed instruction does to values that are within the known ranges.
-use Rattle.std.proofs.Common.{◌≡◌, ℕ, zero, suc, ◌<◌, ◌≤◌, ◌==◌, ℤ, pos, ◌+ℤ◌, int_lt, int_eq, FitsSigned, Bool, true, false, ◌||◌, nat_lt, List, [], ◌∷◌, length, slice_get, Option, Some, None, refl, ap, subst, arith, w32, true≢false, ltb-false, ltb-true}
+use Rattle.std.proofs.Common.{◌≡◌, ℕ, zero, suc, ◌<◌, ◌≤◌, ℤ, pos, ◌+ℤ◌, int_lt, int_eq, FitsSigned, Bool, true, false, ◌||◌, nat_lt, List, [], ◌∷◌, length, slice_get, Option, Some, None, refl, ap, subst, arith, w32, true≢false, ltb-false, ltb-true}
 use Rattle.std.specs.List.{AllByRecursion}
-use Rattle.std.proofs.lemmas.Bool.{cond_both, false≢true, or_parts, false_from_ne_true, not-false}
-use Rattle.std.proofs.lemmas.Option.{same_Some, none-some}
+use Rattle.std.proofs.lemmas.Bool.{false≢true, or_parts, false_from_ne_true, not-false}
 use Rattle.std.proofs.lemmas.Bool.Decides.{Decides-int_eq, not_from_Decides}
 use Rattle.cc_base.specs.Wrap.{wrap32}
 use Rattle.cil_model.specs.Arithmetic.{truth}
 use Rattle.cil_model.specs.Comparisons.{comparison_of}
 use Rattle.cil_model.specs.Effects.{Effect, Faults, goes_on, binary, tests_condition, effects_of}
-use Rattle.cil_model.specs.Runs.{instr_at}
 use Rattle.cil_model.specs.UnitCalls.{unit_call, callee_of, is_assert}
 use Rattle.cil_model.specs.Values.{Heap, FitPlaces, FitsPlace}
 use Rattle.cil_model.specs.WellFormed.{called_by}
@@ -28,6 +26,7 @@ use Rattle.cil_model.specs.declared.unit.Unit.{Unit as MethodUnit}
 use Rattle.cil_model.specs.declared.unit_numbers.UnitCall.{UnitCall}
 use Rattle.cil_model.specs.declared.unit_numbers.UnitCall.TheVariants as calls
 use Rattle.cil_model.proofs.Alone.{CallsNoMethod, is_assert-true}
+use Rattle.cil_model.proofs.Lists.{of_found}
 use Rattle.method_unit.specs.UnitSpelling.{IsBuilt}
 use Rattle.range_verdicts.specs.Ranges.{Has, one, full, sum, less, equal, is_zero}
 use Rattle.method_unit.specs.Typing.{operands, is_return, lacks_argument, height_after, breaks}
@@ -219,13 +218,10 @@ op_calls_none : (op : Op) → is_other_call op ≡ false → called_by op ≡ No
 op_calls_none (ops.Call number) passes = assert_calls_none (unit_call number) (calls_assert number passes)
 op_calls_none _ passes = refl
 
-found_calls_none : (is : List Instr) (at : ℕ) (i : Instr) → AllByRecursion (λ j. is_other_call j.op ≡ false) is → instr_at is at ≡ Some i → called_by i.op ≡ None
-found_calls_none [] at i passes found = absurd (none-some i found)
-found_calls_none (j ∷ is) at i passes found =
-    cond_both (j.at == at) _ _ (λ (other : Option Instr). other ≡ Some i → called_by i.op ≡ None)
-    (λ here e. subst (λ (k : Instr). called_by k.op ≡ None) (same_Some j i e) (op_calls_none j.op passes.0))
-    (λ later e. found_calls_none is at i passes.1 e) found
+each_calls_none : (is : List Instr) → AllByRecursion (λ i. is_other_call i.op ≡ false) is → AllByRecursion (λ i. called_by i.op ≡ None) is
+each_calls_none [] passes = tt
+each_calls_none (i ∷ is) passes = (op_calls_none i.op passes.0, each_calls_none is passes.1)
 
 -- A built unit calls no method.
 pub calls_no_method : (unit : MethodUnit) → IsBuilt unit → CallsNoMethod unit
-calls_no_method unit built at i found = found_calls_none unit.instrs at i built.calls found
+calls_no_method unit built at i found = of_found (λ j. called_by j.op ≡ None) unit.instrs at i (each_calls_none unit.instrs built.calls) found

@@ -40,14 +40,14 @@ pub record Stands (unit : MethodUnit) (is : List Instr) (known : List Range) (f 
   pub fit : FitPlaces heap unit.args f.args
   pub holds : StackHolds known f.stack
 
--- The configuration is one frame of this unit at such a place, or the end of a return.
-abbrev pub IsFine : MethodUnit → ℕ → Config → Type 0
-IsFine unit m (configs.Live (f ∷ []) heap) = (f.unit ≡ m) × ((is : List Instr) × (known : List Range) × Stands unit is known f heap)
-IsFine unit m (configs.Returned result) = Unit {0}
-IsFine unit m _ = ⊥
+-- The configuration is one frame that stands so, or the end of a return.
+abbrev pub IsFine : MethodUnit → Config → Type 0
+IsFine unit (configs.Live (f ∷ []) heap) = (is : List Instr) × (known : List Range) × Stands unit is known f heap
+IsFine unit (configs.Returned result) = Unit {0}
+IsFine unit _ = ⊥
 
 pub IsFine-entry : (unit : MethodUnit) (m : ℕ) (args : List Value) (heap : Heap) → IsBuilt unit → all_proved (verdicts unit) ≡ true
-    → MayBegin unit args heap → IsFine unit m (entry_config unit m args heap)
+    → MayBegin unit args heap → IsFine unit (entry_config unit m args heap)
 IsFine-entry unit m args heap built proved begins =
     let stands : Stands unit unit.instrs [] (entry_frame unit m args heap) heap = record {
       follows = subst (λ (at : ℕ). Follows unit unit.instrs at entry) (sym built.body) (Follows-first unit built proved);
@@ -55,7 +55,7 @@ IsFine-entry unit m args heap built proved begins =
       fit = begins.fit;
       holds = tt;
     } in
-    (refl, (unit.instrs, [], stands))
+    (unit.instrs, [], stands)
 
 -- ---- what typing tells
 
@@ -116,10 +116,10 @@ nothing_false unit f heap result none =
     ap (λ (clauses : List Clause). false_ensures clauses (record { args = f.entry_args; entry_heap = f.entry_heap; heap = heap; result = result })) none
 
 -- With no caller a return is the end.
-IsFine-return : (unit : MethodUnit) (m : ℕ) (i : Instr) (f : Frame) (heap : Heap) (new : Config) → unit.clauses ≡ [] → ReturnRow [] unit i f heap new → IsFine unit m new
-IsFine-return unit m i f heap new clauses (result, is, returned) =
+IsFine-return : (unit : MethodUnit) (i : Instr) (f : Frame) (heap : Heap) (new : Config) → unit.clauses ≡ [] → ReturnRow [] unit i f heap new → IsFine unit new
+IsFine-return unit i f heap new clauses (result, is, returned) =
     let to : Returns [] result heap new = subst (λ (fault : Option ℕ). Returned [] i f heap result fault new) (nothing_false unit f heap result clauses) returned in
-    ⊎_elim (λ ends. subst (IsFine unit m) (sym ends.1) tt) (λ resumes. absurd (no_caller resumes.0 resumes.1 resumes.2)) to
+    ⊎_elim (λ ends. subst (IsFine unit) (sym ends.1) tt) (λ resumes. absurd (no_caller resumes.0 resumes.1 resumes.2)) to
 
 -- ---- one instruction
 
@@ -145,18 +145,18 @@ module _ (unit : MethodUnit) (i : Instr) (is : List Instr) (known : List Range) 
         holds = goes.holds;
       }
 
-  IsFine-effect : (m : ℕ) (new : Config) → AllInts unit.args → f.unit ≡ m → is_return i.op ≡ false → EffectRow [] unit i f heap new → IsFine unit m new
-  IsFine-effect m new ints of passes (effect, has, to) =
+  IsFine-effect : (new : Config) → AllInts unit.args → is_return i.op ≡ false → EffectRow [] unit i f heap new → IsFine unit new
+  IsFine-effect new ints passes (effect, has, to) =
       let goes = stands_goes ints passes in
       let next = record f { at = i.at + i.size; stack = goes.stack } in
       let only : HasEffect (goes_on i f heap goes.stack) effect = subst (λ (es : List Effect). HasEffect es effect) goes.goes has in
       let same : effect ≡ GoesOn next heap = ⊎_elim (λ e. e) (λ none. absurd none) only in
-      subst (IsFine unit m) (sym (to ∙ ap (config_after [] f i) same)) (of, (is, goes.ranges, Stands-next passes goes))
+      subst (IsFine unit) (sym (to ∙ ap (config_after [] f i) same)) (is, goes.ranges, Stands-next passes goes)
 
-  IsFine-row : (m : ℕ) (new : Config) → IsBuilt unit → f.unit ≡ m → Row (FreeCall unit) i.op [] unit i f heap new → IsFine unit m new
-  IsFine-row m new built of row =
-      ⊎_elim (λ returns. IsFine-return unit m i f heap new built.clauses (row_returns (FreeCall unit) [] unit i f heap new i.op returns row))
-      (λ passes. IsFine-effect m new built.args of passes (row_passes (FreeCall unit) [] unit i f heap new i.op passes stands.follows.calls.0 row))
+  IsFine-row : (new : Config) → IsBuilt unit → Row (FreeCall unit) i.op [] unit i f heap new → IsFine unit new
+  IsFine-row new built row =
+      ⊎_elim (λ returns. IsFine-return unit i f heap new built.clauses (row_returns (FreeCall unit) [] unit i f heap new i.op returns row))
+      (λ passes. IsFine-effect new built.args passes (row_passes (FreeCall unit) [] unit i f heap new i.op passes stands.follows.calls.0 row))
       (cases_Bool (is_return i.op))
 
   return_defined : IsBuilt unit → is_return i.op ≡ true → (new : Config) × Row (FreeCall unit) i.op [] unit i f heap new
@@ -183,18 +183,18 @@ module _ (unit : MethodUnit) (i : Instr) (is : List Instr) (known : List Range) 
 
 -- ---- one step
 
-IsFine-frame : (unit : MethodUnit) (m : ℕ) (is : List Instr) (known : List Range) (f : Frame) (heap : Heap) (new : Config)
-    → IsBuilt unit → f.unit ≡ m → Stands unit is known f heap → LocalStep unit (configs.Live (f ∷ []) heap) new → IsFine unit m new
-IsFine-frame unit m [] known f heap new built of stands step = absurd (false≢true stands.typed)
-IsFine-frame unit m (i ∷ is) known f heap new built of stands (j, found, row) =
+IsFine-frame : (unit : MethodUnit) (is : List Instr) (known : List Range) (f : Frame) (heap : Heap) (new : Config)
+    → IsBuilt unit → Stands unit is known f heap → LocalStep unit (configs.Live (f ∷ []) heap) new → IsFine unit new
+IsFine-frame unit [] known f heap new built stands step = absurd (false≢true stands.typed)
+IsFine-frame unit (i ∷ is) known f heap new built stands (j, found, row) =
     let same : j ≡ i = same_Some j i (sym found ∙ Follows-found unit i is f.at (Known known) stands.follows) in
-    IsFine-row unit i is known f heap stands m new built of (subst (λ (k : Instr). Row (FreeCall unit) k.op [] unit k f heap new) same row)
+    IsFine-row unit i is known f heap stands new built (subst (λ (k : Instr). Row (FreeCall unit) k.op [] unit k f heap new) same row)
 
 -- A step leads from a fine configuration to one.
-pub IsFine-step : (unit : MethodUnit) (m : ℕ) (c new : Config) → IsBuilt unit → IsFine unit m c → LocalStep unit c new → IsFine unit m new
-IsFine-step unit m (configs.Live (f ∷ []) heap) new built (of, (is, known, stands)) step = IsFine-frame unit m is known f heap new built of stands step
-IsFine-step unit m (configs.Returned result) new built fine step = absurd step
-IsFine-step unit m _ new built fine step = absurd fine
+pub IsFine-step : (unit : MethodUnit) (c new : Config) → IsBuilt unit → IsFine unit c → LocalStep unit c new → IsFine unit new
+IsFine-step unit (configs.Live (f ∷ []) heap) new built (is, known, stands) step = IsFine-frame unit is known f heap new built stands step
+IsFine-step unit (configs.Returned result) new built fine step = absurd step
+IsFine-step unit _ new built fine step = absurd fine
 
 frame_defined : (unit : MethodUnit) (is : List Instr) (known : List Range) (f : Frame) (heap : Heap)
     → IsBuilt unit → Stands unit is known f heap → (new : Config) × LocalStep unit (configs.Live (f ∷ []) heap) new
@@ -204,12 +204,12 @@ frame_defined unit (i ∷ is) known f heap built stands =
     (new, (i, Follows-found unit i is f.at (Known known) stands.follows, row))
 
 -- A fine configuration is no fault, and is an end or has a row.
-pub IsNoFault-fine : (unit : MethodUnit) (m : ℕ) (c : Config) → IsFine unit m c → IsNoFault c
-IsNoFault-fine unit m (configs.Live (f ∷ []) heap) fine = tt
-IsNoFault-fine unit m (configs.Returned result) fine = tt
-IsNoFault-fine unit m _ fine = absurd fine
+pub IsNoFault-fine : (unit : MethodUnit) (c : Config) → IsFine unit c → IsNoFault c
+IsNoFault-fine unit (configs.Live (f ∷ []) heap) fine = tt
+IsNoFault-fine unit (configs.Returned result) fine = tt
+IsNoFault-fine unit _ fine = absurd fine
 
-pub IsDefined-fine : (unit : MethodUnit) (m : ℕ) (c : Config) → IsBuilt unit → IsFine unit m c → IsDefined (LocalStep unit) c
-IsDefined-fine unit m (configs.Live (f ∷ []) heap) built (of, (is, known, stands)) = frame_defined unit is known f heap built stands
-IsDefined-fine unit m (configs.Returned result) built fine = tt
-IsDefined-fine unit m _ built fine = absurd fine
+pub IsDefined-fine : (unit : MethodUnit) (c : Config) → IsBuilt unit → IsFine unit c → IsDefined (LocalStep unit) c
+IsDefined-fine unit (configs.Live (f ∷ []) heap) built (is, known, stands) = frame_defined unit is known f heap built stands
+IsDefined-fine unit (configs.Returned result) built fine = tt
+IsDefined-fine unit _ built fine = absurd fine

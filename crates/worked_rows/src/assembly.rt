@@ -1,12 +1,13 @@
 //! A small assembly that a C# compiler made, from its headers to its heaps. `monodis` and `pedump` told
 //! its rows, names and places.
 
+use crate::table_rows::cell_of;
 use metadata_tables::Tables;
 use pe_reader::{Image, PeFault};
 use std::test::Fail;
 
 /// A library with one class `Calc`, whose methods are `Twice` and `Sum`, cut behind its metadata.
-const ASSEMBLY: [u8; 1180] = [
+pub const ASSEMBLY: [u8; 1180] = [
     0x4d, 0x5a, 0x90, 0x00, 0x03, 0x00, 0x00, 0x00, 0x04, 0x00, 0x00, 0x00, 0xff, 0xff, 0x00, 0x00,
     0xb8, 0x00, 0x00, 0x00, 0x00, 0x00, 0x00, 0x00, 0x40, 0x00, 0x00, 0x00, 0x00, 0x00, 0x00, 0x00,
     0x00, 0x00, 0x00, 0x00, 0x00, 0x00, 0x00, 0x00, 0x00, 0x00, 0x00, 0x00, 0x00, 0x00, 0x00, 0x00,
@@ -83,13 +84,77 @@ const ASSEMBLY: [u8; 1180] = [
     0x08, 0xb7, 0x7a, 0x5c, 0x56, 0x19, 0x34, 0xe0, 0x89, 0x00, 0x00, 0x00,
 ];
 
-/// The table MethodDef.
-const METHOD_DEF: u8 = 0x06;
+/// Tables, and how many rows each has.
+const COUNTS: [(u8, u32); 14] = [
+    (0x00, 1),
+    (0x01, 2),
+    (0x02, 2),
+    (0x04, 0),
+    (0x06, 2),
+    (0x08, 2),
+    (0x0a, 1),
+    (0x0c, 1),
+    (0x11, 1),
+    (0x20, 1),
+    (0x23, 1),
+    (0x2b, 0),
+    (0x2d, 0),
+    (0xff, 0),
+];
+
+/// Cells: the table, the row and the column, the offset in the metadata, and the number.
+const CELLS: [(u8, u32, u8, u32, u32); 19] = [
+    // Module: its name and its GUID. The class that the second TypeRef is, and its namespace.
+    (0x00, 1, 1, 0xae, 0x79),
+    (0x00, 1, 2, 0xb0, 1),
+    (0x01, 2, 1, 0xbe, 0x2c),
+    (0x01, 2, 2, 0xc0, 0x4a),
+    // The class `Calc`: its flags, its name, what it extends, and its first field and method.
+    (0x02, 2, 0, 0xd0, 0x10_0181),
+    (0x02, 2, 1, 0xd4, 0x0a),
+    (0x02, 2, 3, 0xd8, 5),
+    (0x02, 2, 4, 0xda, 1),
+    (0x02, 2, 5, 0xdc, 1),
+    // The method `Sum`: its address, its flags, its name, its signature and its first parameter.
+    (0x06, 2, 0, 0xec, 0x2058),
+    (0x06, 2, 2, 0xf2, 0x96),
+    (0x06, 2, 3, 0xf4, 0x1a),
+    (0x06, 2, 4, 0xf6, 6),
+    (0x06, 2, 5, 0xf8, 2),
+    // The parent of the custom attribute, and the locals of `Sum`.
+    (0x0c, 1, 0, 0x10c, 0x2e),
+    (0x11, 1, 0, 0x112, 0x0c),
+    // The assembly's hash algorithm, and the version and the name of the one that it refers to.
+    (0x20, 1, 0, 0x114, 0x8004),
+    (0x23, 1, 0, 0x12a, 4),
+    (0x23, 1, 6, 0x138, 0x70),
+];
+
+/// Indexes into `#Strings`.
+const STRINGS: [(u32, &[u8]); 5] = [
+    (0x01, b"<Module>"),
+    (0x0a, b"Calc"),
+    (0x1a, b"Sum"),
+    (0x4a, b"System.Runtime.CompilerServices"),
+    (0x70, b"mscorlib"),
+];
+
+/// Indexes into `#Blob`, with the offset of what is there in the metadata: the signatures of the methods and of
+/// the locals, and a public key.
+const BLOBS: [(u32, u32, &[u8]); 4] = [
+    (0x01, 0x1da, b"\x00\x01\x08\x08"),
+    (0x06, 0x1df, b"\x00\x01\x08\x1d\x08"),
+    (0x0c, 0x1e5, b"\x07\x02\x08\x08"),
+    (0x34, 0x20d, b"\xb7\x7a\x5c\x56\x19\x34\xe0\x89"),
+];
+
+/// Where the metadata begins in the file.
+const METADATA_AT: u32 = 0x284;
 
 #[test]
 fn an_image_has_its_metadata(rt: HostRuntime) -> Result<(), Fail> {
     let image = Image::read(&ASSEMBLY)?;
-    assert_eq!(rt; image.metadata_at(), 0x284);
+    assert_eq!(rt; image.metadata_at(), METADATA_AT);
     assert_eq!(rt; image.metadata(), &ASSEMBLY[0x284..]);
     // The code of `Twice`: two arguments, add and return behind the header of a small body.
     assert_eq!(rt;
@@ -100,19 +165,28 @@ fn an_image_has_its_metadata(rt: HostRuntime) -> Result<(), Fail> {
 }
 
 #[test]
-#[tactic(auto, unfolding(metadata_tables::specs::Schema::columns_of))]
-fn methods_have_their_names(rt: HostRuntime) -> Result<(), Fail> {
+fn cells_are_those_that_monodis_tells(rt: HostRuntime) -> Result<(), Fail> {
     let image = Image::read(&ASSEMBLY)?;
     let metadata = image.metadata();
     assert!(rt; metadata.len() == 0x218);
     let tables = Tables::read(metadata)?;
-    assert!(rt; tables.row_count(METHOD_DEF) == 2);
-    let names = [
-        tables.string_at(tables.cell(METHOD_DEF, 1, 3)),
-        tables.string_at(tables.cell(METHOD_DEF, 2, 3)),
-    ];
-    assert_eq!(rt; names, [Some(b"Twice".as_slice()), Some(b"Sum".as_slice())]);
-    assert_eq!(rt; tables.cell(METHOD_DEF, 1, 0), 0x2050);
+    for (table, rows) in COUNTS {
+        assert_eq!(rt; tables.row_count(table), rows, "of table {table}");
+    }
+    for (table, row, column, at, number) in CELLS {
+        let cell = cell_of(&rt, &tables, table, row, column);
+        assert_eq!(rt; (cell.at, cell.number), (at, number), "{table} {row} {column}");
+    }
+    for (index, text) in STRINGS {
+        assert_eq!(rt; tables.string_at(index), Some(text), "at {index}");
+        assert!(rt; tables.has_string(index) && tables.string_is(index, text));
+    }
+    for (index, at, blob) in BLOBS {
+        assert_eq!(rt; tables.blob_at(index), Some(blob), "at {index}");
+        assert_eq!(rt; tables.blob_offset(index), Some(at), "at {index}");
+    }
+    assert_eq!(rt; tables.user_string_at(1), Some([0x20, 0, 0].as_slice()));
+    assert_eq!(rt; tables.user_string_at(8), None);
     Ok(())
 }
 

@@ -1,6 +1,7 @@
 //! Assemblies that are cut or changed: the first fault and its place.
 
-use crate::demo_assembly::{DIV, MAX, file, put};
+use crate::changes::put;
+use crate::demo_assembly::{DIV, MAX, file};
 use asm_image::{AsmFault, AsmRefusal, Assembly, Cause};
 use metadata_tables::TableFault;
 use pe_reader::PeFault;
@@ -14,72 +15,17 @@ use std::test::Fail;
 /// 264. All these numbers are hexadecimal.
 const WHOLE: usize = 0x4e8;
 
-/// Lengths of that file, each with the first field that passes the end.
-const CUT_FIELDS: [(usize, u32); 26] = [
-    // The bytes `MZ`, and the place of the PE signature.
-    (0, 0),
-    (1, 0),
-    (2, 0x3c),
-    (40, 0x3c),
-    (0x3f, 0x3c),
-    // The PE signature.
-    (0x40, 0x80),
-    (0x83, 0x80),
-    // The seven fields of the file header.
-    (0x84, 0x84),
-    (0x86, 0x86),
-    (0x88, 0x88),
-    (0x8c, 0x8c),
-    (0x90, 0x90),
-    (0x94, 0x94),
-    (0x96, 0x96),
-    // The magic number of the optional header.
-    (0x98, 0x98),
-    (0x99, 0x98),
-    // Address and size in the data directory.
-    (0x9a, 0x168),
-    (0x16b, 0x168),
-    (0x16c, 0x16c),
-    // The section's name, its two sizes, its address and its place.
-    (0x170, 0x178),
-    (0x17f, 0x178),
-    (0x180, 0x180),
-    (0x184, 0x184),
-    (0x188, 0x188),
-    (0x18c, 0x18c),
-    (0x18f, 0x18c),
-];
-
-/// The same for the PE32+ file, whose directory and section header stand 16 bytes further on.
-const CUT_WIDE_FIELDS: [(usize, u32); 9] = [
-    (0x98, 0x98),
-    (0x9a, 0x178),
-    (0x17c, 0x17c),
-    (0x180, 0x188),
-    (0x190, 0x190),
-    (0x194, 0x194),
-    (0x198, 0x198),
-    (0x19c, 0x19c),
-    (0x19f, 0x19c),
-];
-
-/// Lengths of either file, each with the address whose bytes are cut: the first 24 of the CLI header, or
-/// the metadata. The last 16 bytes of the section header are not read.
-const CUT_ADDRESSES: [(usize, u32); 6] = [
-    (0x1a0, 0x2000),
-    (0x200, 0x2000),
-    (0x217, 0x2000),
-    (0x218, 0x2064),
-    (0x264, 0x2064),
-    (WHOLE - 1, 0x2064),
+/// Lengths of that file, and of the PE32+ file, each with the first fault.
+const CUTS: [(usize, PeFault); 5] = [
+    (0, PeFault::TooShort(0)),
+    (0x83, PeFault::TooShort(0x80)),
+    (0x217, PeFault::RvaOutside(0x2000)),
+    (0x218, PeFault::RvaOutside(0x2064)),
+    (WHOLE - 1, PeFault::RvaOutside(0x2064)),
 ];
 
 /// A cell MethodList of the class that names no method, or one that is not in order.
-const LIST_OUT: TableFault = TableFault::IndexOut {
-    table: 0x02,
-    row: 2,
-    column: 5,
-};
+const LIST_OUT: TableFault = TableFault::IndexOut(0x02, 2, 5);
 
 /// Other bytes at a place of the file of `DIV`, and the fault of its headers with the place that is told.
 const PE_CHANGES: [(usize, &[u8], PeFault, u32); 8] = [
@@ -112,7 +58,7 @@ const TABLE_CHANGES: [(usize, &[u8], TableFault, u32); 12] = [
     (
         0x2d8,
         b"\x4f",
-        TableFault::BadTables { bit: 3, at: 0x74 },
+        TableFault::BadTables(3, 0x74),
         0x2d8,
     ),
     // The stream `#~` ends inside Valid, and one byte into the row of the method.
@@ -148,38 +94,16 @@ fn fault_of(alloc: Global, bytes: &[u8]) -> Result<Option<AsmFault>, AsmRefusal>
     }
 }
 
-/// The fault of headers with this place.
-fn pe_fault(at: u32, fault: PeFault) -> Option<AsmFault> {
-    let cause = Cause::Pe(fault);
-    Some(AsmFault { at, cause })
-}
-
 #[test]
-fn files_that_are_cut_in_their_headers_are_refused(rt: HostRuntime) -> Result<(), Fail> {
-    let alloc = rt.alloc();
-    let narrow = file(alloc, false, &[DIV])?;
-    for (length, at) in CUT_FIELDS {
-        let cut = narrow.get(..length).unwrap_or(&[]);
-        let want = pe_fault(at, PeFault::TooShort(at));
-        assert_eq!(rt; fault_of(alloc, cut)?, want, "cut to {length}");
-    }
-    let wide = file(alloc, true, &[DIV])?;
-    for (length, at) in CUT_WIDE_FIELDS {
-        let cut = wide.get(..length).unwrap_or(&[]);
-        let want = pe_fault(at, PeFault::TooShort(at));
-        assert_eq!(rt; fault_of(alloc, cut)?, want, "cut to {length}");
-    }
-    Ok(())
-}
-
-#[test]
-fn files_that_are_cut_behind_their_headers_are_refused(rt: HostRuntime) -> Result<(), Fail> {
+fn files_that_are_cut_are_refused(rt: HostRuntime) -> Result<(), Fail> {
     let alloc = rt.alloc();
     for wide in [false, true] {
         let bytes = file(alloc, wide, &[DIV])?;
-        for (length, at) in CUT_ADDRESSES {
+        for (length, fault) in CUTS {
             let cut = bytes.get(..length).unwrap_or(&[]);
-            let want = pe_fault(at, PeFault::RvaOutside(at));
+            let at = fault.at();
+            let cause = Cause::Pe(fault);
+            let want = Some(AsmFault { at, cause });
             assert_eq!(rt; fault_of(alloc, cut)?, want, "cut to {length}");
         }
         let whole = bytes.get(..WHOLE).unwrap_or(&[]);

@@ -1,10 +1,13 @@
 //! Assemblies of known plans are read back: tokens, printed names and columns of their methods.
 
-use crate::demo_assembly::{ARRAY_SUM, CONSTRUCTOR, DIV, Method, file, put};
+use crate::changes::put;
+use crate::demo_assembly::{ARRAY_SUM, CONSTRUCTOR, DIV, MAX, Method, file};
 use asm_image::{Assembly, MethodRow};
 use cc_base::Token;
 use cil_model::Place;
-use signature_blobs::LocalSig;
+use signature_blobs::{LocalSig, SigTypes};
+use std::alloc::Global;
+use std::process::Abort;
 use std::test::Fail;
 
 /// What the row of a method tells.
@@ -110,6 +113,7 @@ fn method(row: Row) -> Method {
         result: row.gives,
         args: row.args,
         locals: &[],
+        max_stack: 1,
         code: b"\x14\x2a",
     }
 }
@@ -182,19 +186,106 @@ fn a_class_may_have_no_methods(rt: HostRuntime) -> Result<(), Fail> {
     Ok(())
 }
 
-#[test]
-fn locals_have_a_row_of_their_own(rt: HostRuntime) -> Result<(), Fail> {
-    let alloc = rt.alloc();
-    let bytes = file(alloc, false, &[CONSTRUCTOR, ARRAY_SUM])?;
-    let assembly = Assembly::read(alloc, &bytes)?;
-    let Some(LocalSig::Known(locals)) = assembly.locals_of(0x1100_0001) else {
-        panic!(rt; "no locals");
+/// Plans that are read back: every result, arguments and locals of every type, bodies of several sizes and
+/// stacks, static methods and others.
+const PLANS: [Method; 7] = [
+    MAX,
+    DIV,
+    ARRAY_SUM,
+    CONSTRUCTOR,
+    Method {
+        name: b"All",
+        is_static: false,
+        result: Place::Bools,
+        args: &[Place::Ints, Place::Bools, Place::Int, Place::Bool],
+        locals: &[Place::Bool, Place::Int, Place::Bools, Place::Ints, Place::Bool],
+        max_stack: 119,
+        code: b"\x14\x2a",
+    },
+    Method {
+        name: b"None",
+        is_static: true,
+        result: Place::Ints,
+        args: &[],
+        locals: &[Place::Ints],
+        max_stack: 0,
+        code: b"",
+    },
+    Method {
+        name: b"Most",
+        is_static: true,
+        result: Place::Bool,
+        args: &[Place::Int; 70],
+        locals: &[Place::Bools; 57],
+        max_stack: 1,
+        code: b"\x16\x2a\x00\x01\x02",
+    },
+];
+
+/// Asserts that the body at an address is that of the plan, whose locals have a row of StandAloneSig where there
+/// are any: a fat header of twelve bytes (ECMA-335 II.25.4.3), and the code.
+fn assert_body(
+    rt: &impl Abort,
+    alloc: Global,
+    assembly: &Assembly<'_>,
+    rva: u32,
+    plan: Method,
+) -> Result<(), Fail> {
+    assert!(rt; plan.code.len() < 1000);
+    let size = 12 + plan.code.len() as u32;
+    let Some(body) = assembly.image().at(rva, size) else {
+        panic!(rt; "no body of {:?}", plan.name);
     };
-    assert_eq!(rt; locals.as_slice(), [Place::Int, Place::Int].as_slice());
-    assert!(rt; assembly.locals_of(0x1100_0002).is_none());
-    assert_eq!(rt; assembly.element_of(Token(0x0100_0002)), Some(Place::Int));
-    assert_eq!(rt; assembly.element_of(Token(0x0100_0003)), Some(Place::Bool));
-    assert_eq!(rt; assembly.element_of(Token(0x0100_0001)), None);
+    let [0x13, 0x30, stack, 0, c0, c1, c2, c3, t0, t1, t2, t3, code @ ..] = body else {
+        panic!(rt; "no header of {:?}", plan.name);
+    };
+    assert_eq!(rt; *stack, plan.max_stack);
+    assert_eq!(rt; u32::from_le_bytes([*c0, *c1, *c2, *c3]), size - 12);
+    assert_eq!(rt; code, plan.code);
+    let token = u32::from_le_bytes([*t0, *t1, *t2, *t3]);
+    assert_eq!(rt; token == 0, plan.locals.is_empty());
+    let Some(LocalSig::Known(locals)) = assembly.locals_of(token) else {
+        panic!(rt; "no locals of {:?}", plan.name);
+    };
+    assert_eq!(rt; locals.to_vec(alloc)?.as_slice(), plan.locals);
+    Ok(())
+}
+
+/// Asserts that the row of a method has the types of the plan.
+fn assert_types(
+    rt: &impl Abort,
+    alloc: Global,
+    row: &MethodRow,
+    plan: Method,
+) -> Result<(), Fail> {
+    assert_eq!(rt; (row.sig.has_this, row.sig.generic), (!plan.is_static, false));
+    let SigTypes::Known(signature) = &row.sig.types else {
+        panic!(rt; "no types of {:?}", plan.name);
+    };
+    assert_eq!(rt; signature.result, plan.result);
+    assert_eq!(rt; signature.args.to_vec(alloc)?.as_slice(), plan.args);
+    Ok(())
+}
+
+#[test]
+fn plans_are_read_back(rt: HostRuntime) -> Result<(), Fail> {
+    let alloc = rt.alloc();
+    for (wide, _) in KINDS {
+        let bytes = file(alloc, wide, &PLANS)?;
+        let assembly = Assembly::read(alloc, &bytes)?;
+        assert_eq!(rt; assembly.methods().len(), PLANS.len());
+        for (row, plan) in assembly.methods().iter().zip(PLANS) {
+            assert_types(&rt, alloc, row, plan)?;
+            assert_body(&rt, alloc, &assembly, row.rva, plan)?;
+        }
+        // The locals of four plans have rows of their own, and there is no other.
+        for (token, is_there) in [(0x1100_0001, true), (0x1100_0004, true), (0x1100_0005, false)] {
+            assert_eq!(rt; assembly.locals_of(token).is_some(), is_there);
+        }
+        assert_eq!(rt; assembly.element_of(Token(0x0100_0002)), Some(Place::Int));
+        assert_eq!(rt; assembly.element_of(Token(0x0100_0003)), Some(Place::Bool));
+        assert_eq!(rt; assembly.element_of(Token(0x0100_0001)), None);
+    }
     Ok(())
 }
 

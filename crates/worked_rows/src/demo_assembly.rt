@@ -4,7 +4,7 @@ use asm_writer::{AsmPlan, MethodPlan, WriteRefusal, write_assembly};
 use cil_model::Place;
 use std::alloc::{AllocError, Global};
 
-/// A method of the class. Its body has eight stack slots.
+/// A method of the class.
 #[derive(Clone, Copy)]
 pub struct Method {
     pub name: &'static [u8],
@@ -12,6 +12,7 @@ pub struct Method {
     pub result: Place,
     pub args: &'static [Place],
     pub locals: &'static [Place],
+    pub max_stack: u8,
     pub code: &'static [u8],
 }
 
@@ -22,6 +23,7 @@ pub const MAX: Method = Method {
     result: Place::Int,
     args: &[Place::Int, Place::Int],
     locals: &[],
+    max_stack: 8,
     code: b"\x28\x02\0\0\x2b\x02\xfe\x04\x16\xfe\x01\x28\x03\0\0\x0a\x02\x03\x32\x02\x02\x2a\x03\x2a",
 };
 
@@ -32,6 +34,7 @@ pub const DIV: Method = Method {
     result: Place::Int,
     args: &[Place::Int, Place::Int],
     locals: &[],
+    max_stack: 8,
     code: b"\x03\x16\xfe\x03\x28\x01\0\0\x0a\x02\x03\x5b\x2a",
 };
 
@@ -42,6 +45,7 @@ pub const ARRAY_SUM: Method = Method {
     result: Place::Int,
     args: &[Place::Ints],
     locals: &[Place::Int, Place::Int],
+    max_stack: 8,
     code: b"\x02\x14\xfe\x03\x28\x01\0\0\x0a\x16\x0a\x16\x0b\x2b\x0a\x06\x02\x07\x94\x58\x0a\x07\x17\x58\x0b\x07\x02\x8e\x69\x32\xf0\x06\x2a",
 };
 
@@ -52,6 +56,7 @@ pub const CONSTRUCTOR: Method = Method {
     result: Place::Void,
     args: &[],
     locals: &[],
+    max_stack: 8,
     code: b"\x2a",
 };
 
@@ -63,7 +68,7 @@ fn plan_of(alloc: Global, method: Method) -> Result<MethodPlan, AllocError> {
         result: method.result,
         args: Vec::from_slice(alloc, method.args)?,
         locals: Vec::from_slice(alloc, method.locals)?,
-        max_stack: 8,
+        max_stack: method.max_stack,
         code: Vec::from_slice(alloc, method.code)?,
     })
 }
@@ -86,13 +91,4 @@ pub fn file(alloc: Global, wide: bool, methods: &[Method]) -> Result<Vec<u8>, Wr
         methods: plans_of(alloc, methods)?,
     };
     write_assembly(alloc, &plan)
-}
-
-/// Puts other bytes at a place of the file, where it has that place, and tells whether it has.
-pub fn put(file: &mut [u8], at: usize, bytes: &[u8]) -> bool {
-    let is_there = at <= file.len() && bytes.len() <= file.len() - at;
-    if is_there {
-        file[at..at + bytes.len()].copy_from_slice(bytes);
-    }
-    is_there
 }

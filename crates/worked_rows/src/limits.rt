@@ -1,6 +1,7 @@
 //! The most instructions that a unit may have, and one more.
 
-use crate::devices::{Answer, Devices, joined};
+use crate::changes::joined;
+use crate::devices::{Answer, Devices};
 use std::alloc::{AllocError, Global};
 use std::test::Fail;
 

@@ -1,6 +1,7 @@
 //! Lists of the methods of an assembly, and refused assemblies: each line.
 
-use crate::demo_assembly::{ARRAY_SUM, CONSTRUCTOR, DIV, MAX, Method, file, put};
+use crate::changes::put;
+use crate::demo_assembly::{ARRAY_SUM, CONSTRUCTOR, DIV, MAX, Method, file};
 use crate::devices::{Answer, Devices};
 use cil_model::Place;
 use std::alloc::Global;
@@ -16,6 +17,7 @@ const STRANGE: Method = Method {
     result: Place::Void,
     args: &[Place::Bool, Place::Bools],
     locals: &[],
+    max_stack: 8,
     code: b"\x2a",
 };
 

@@ -1,6 +1,7 @@
 //! Unit files that are refused: the first fault, and its offset in the file.
 
-use crate::devices::{Answer, Devices, joined};
+use crate::changes::joined;
+use crate::devices::{Answer, Devices};
 use std::test::Fail;
 
 /// Files that are refused before their code is read, each with its fault.

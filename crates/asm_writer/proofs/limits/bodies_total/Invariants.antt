@@ -1,8 +1,0 @@
-use Rattle.std.proofs.Common.{◌≡◌, take, min}
-use Rattle.std.specs.List.{sum_by}
-use Rattle.asm_writer.specs.declared.limits.TheConstants.{CAP}
-use Rattle.asm_writer.specs.Sizes.{body_size}
-use Rattle.asm_writer.proofs.limits.bodies_total.Given as goal
-
-abbrev pub invariant-loop-method : goal.invariant-loop-method
-invariant-loop-method l = l.total ≡ min CAP (sum_by body_size (take l.method-index l.methods))
