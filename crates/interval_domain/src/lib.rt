@@ -1,9 +1,9 @@
 //! Ranges of numbers, as a domain of the analysis.
 #![tactic(auto)]
 
-mod arithmetic;
 mod joins;
 mod range;
+mod sums;
 mod values;
 
 pub use range::Range;
