@@ -50,11 +50,14 @@ least a b c d = int_min (int_min a b) (int_min c d)
 unfoldable pub greatest : ℤ → ℤ → ℤ → ℤ → ℤ
 greatest a b c d = int_max (int_max a b) (int_max c d)
 
+abbrev pub near_product : ℤ → ℤ → ℤ
+near_product m n = near (m *ℤ n)
+
 -- The products lie between the least and the greatest product of two ends.
 unfoldable pub corners : Interval → Interval → Interval
 corners a b =
-    near_between (least (a.lo *ℤ b.lo) (a.lo *ℤ b.hi) (a.hi *ℤ b.lo) (a.hi *ℤ b.hi))
-    (greatest (a.lo *ℤ b.lo) (a.lo *ℤ b.hi) (a.hi *ℤ b.lo) (a.hi *ℤ b.hi))
+    between (least (near_product a.lo b.lo) (near_product a.lo b.hi) (near_product a.hi b.lo) (near_product a.hi b.hi))
+    (greatest (near_product a.lo b.lo) (near_product a.lo b.hi) (near_product a.hi b.lo) (near_product a.hi b.hi))
 
 abbrev pub is_number_one : Interval → Bool
 is_number_one r = int_eq r.lo (pos 1) && int_eq r.hi (pos 1)
@@ -67,11 +70,14 @@ product a b = if is_number_one b then a else if is_number_one a then b else corn
 unfoldable pub size : Interval → ℕ
 size r = max (unsigned_abs r.lo) (unsigned_abs r.hi)
 
+abbrev pub near_quotient : ℤ → ℤ → ℤ
+near_quotient m n = near (int_div m n)
+
 -- The quotients by one number lie between those of the ends. By 0 there is none.
 unfoldable pub quotient_by : Interval → ℤ → Interval
 quotient_by a n =
     if int_eq n (pos 0) then one (pos 0)
-    else near_between (int_min (int_div a.lo n) (int_div a.hi n)) (int_max (int_div a.lo n) (int_div a.hi n))
+    else between (int_min (near_quotient a.lo n) (near_quotient a.hi n)) (int_max (near_quotient a.lo n) (near_quotient a.hi n))
 
 -- Truncated quotients: by one number, of numbers that are not negative by positive ones, and of any.
 unfoldable pub quotient : Interval → Interval → Interval
