@@ -3,6 +3,7 @@
 
 mod joins;
 mod range;
+mod sums;
 mod values;
 
 pub use range::Range;
