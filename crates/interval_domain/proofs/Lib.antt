@@ -1,3 +1,5 @@
 pub mod Nearest
 pub mod Holes
 pub mod JoinsContain
+pub mod SumContains
+pub mod ProductContains

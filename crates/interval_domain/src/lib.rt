@@ -3,7 +3,6 @@
 
 mod joins;
 mod range;
-mod sums;
 mod values;
 
 pub use range::Range;
