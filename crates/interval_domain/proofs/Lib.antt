@@ -3,3 +3,4 @@ pub mod Holes
 pub mod JoinsContain
 pub mod SumContains
 pub mod ProductContains
+pub mod QuotientContains

@@ -50,7 +50,7 @@ down_apart : (a b k m : ℤ) (hole : Option ℤ) → hole ≢ Some m → inner_h
 down_apart a b k m None apart = near_none (near a) (near b) (m -ℤ k)
 down_apart a b k m (Some h) apart = near_apart a b (h -ℤ k) (m -ℤ k) (λ e. apart (ap Some (omega (arith, ints))))
 
-near_between_contains : (lo hi n : ℤ) → lo ≤ℤ n → n ≤ℤ hi → FitsSigned w64 n → Contains (near_between lo hi) n
+pub near_between_contains : (lo hi n : ℤ) → lo ≤ℤ n → n ≤ℤ hi → FitsSigned w64 n → Contains (near_between lo hi) n
 unfolding near_between
 near_between_contains lo hi n above below fits =
     record { fits = fits; above = near_below lo n above fits; below = near_above hi n below fits; no_hole = λ is. grind arith }
