@@ -4,3 +4,5 @@ pub mod JoinsContain
 pub mod SumContains
 pub mod ProductContains
 pub mod QuotientContains
+pub mod RemainderContains
+pub mod BitsContain
