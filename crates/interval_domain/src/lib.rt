@@ -2,6 +2,8 @@
 #![tactic(auto)]
 
 mod joins;
+mod products;
+mod quotients;
 mod range;
 mod sums;
 mod values;

@@ -50,12 +50,14 @@ fn shifted(range: Range, k: i64) -> Range
     Range::with_hole(lo, hi, moved_hole(range.hole(), k))
 }
 
-/// The numbers between the sums of the ends.
+/// From the sum of the lower ends of two ranges to that of the upper ones.
 #[tactic(auto, using(crate::proofs::Nearest::near_sums_rise), unfolding(crate::specs::Arithmetic::near_between))]
-fn sums_of_ends(a: Range, b: Range) -> Range
-    ensures { result ≡ near_between (a.lo +ℤ b.lo) (a.hi +ℤ b.hi) }
+fn sums_of_ends(a_lo: i64, a_hi: i64, b_lo: i64, b_hi: i64) -> Range
+    requires first { a_lo ≤ℤ a_hi }
+    requires second { b_lo ≤ℤ b_hi }
+    ensures { result ≡ near_between (a_lo +ℤ b_lo) (a_hi +ℤ b_hi) }
 {
-    Range::between(near_sum(a.lo(), b.lo()), near_sum(a.hi(), b.hi()))
+    Range::between(near_sum(a_lo, b_lo), near_sum(a_hi, b_hi))
 }
 
 /// The sums.
@@ -69,7 +71,7 @@ pub fn sum(a: Range, b: Range) -> Range
     if is_one(a) {
         return shifted(b, a.lo());
     }
-    sums_of_ends(a, b)
+    sums_of_ends(a.lo(), a.hi(), b.lo(), b.hi())
 }
 
 /// A hole less k.
@@ -92,12 +94,14 @@ fn shifted_down(range: Range, k: i64) -> Range
     Range::with_hole(lo, hi, hole_down(range.hole(), k))
 }
 
-/// The numbers between the differences of the ends.
+/// From the least difference of two ranges to the greatest.
 #[tactic(auto, using(crate::proofs::Nearest::near_differences_rise), unfolding(crate::specs::Arithmetic::near_between))]
-fn differences_of_ends(a: Range, b: Range) -> Range
-    ensures { result ≡ near_between (a.lo -ℤ b.hi) (a.hi -ℤ b.lo) }
+fn differences_of_ends(a_lo: i64, a_hi: i64, b_lo: i64, b_hi: i64) -> Range
+    requires first { a_lo ≤ℤ a_hi }
+    requires second { b_lo ≤ℤ b_hi }
+    ensures { result ≡ near_between (a_lo -ℤ b_hi) (a_hi -ℤ b_lo) }
 {
-    Range::between(near_difference(a.lo(), b.hi()), near_difference(a.hi(), b.lo()))
+    Range::between(near_difference(a_lo, b_hi), near_difference(a_hi, b_lo))
 }
 
 /// The differences.
@@ -108,5 +112,5 @@ pub fn difference(a: Range, b: Range) -> Range
     if is_one(b) {
         return shifted_down(a, b.lo());
     }
-    differences_of_ends(a, b)
+    differences_of_ends(a.lo(), a.hi(), b.lo(), b.hi())
 }
