@@ -1,6 +1,5 @@
-use Rattle.std.proofs.Common.{◌≡◌, ◌+ℤ◌, ◌≤ℤ◌, arith, w64, to_z, of_z, ℤ}
+use Rattle.std.proofs.Common.{◌≤ℤ◌, arith, w64, to_z, of_z, ℤ}
 use Rattle.std.proofs.lemmas.Int.{ints}
-use Rattle.interval_domain.specs.Arithmetic.{near}
 use Rattle.interval_domain.proofs.Nearest.{near_sums_rise}
 use Rattle.interval_domain.proofs.sums.sums_of_ends.Goals as goal
 
