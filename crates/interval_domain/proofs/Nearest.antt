@@ -1,5 +1,5 @@
 -- The number of 64 bits that is nearest to a number.
-use Rattle.std.proofs.Common.{ℤ, pos, negsuc, ◌≤ℤ◌, ◌+ℤ◌, ◌-ℤ◌, FitsSigned, w64, arith}
+use Rattle.std.proofs.Common.{ℤ, pos, negsuc, ◌≤ℤ◌, ◌+ℤ◌, ◌-ℤ◌, FitsSigned, w64, to_z, of_z, arith}
 use Rattle.std.proofs.lemmas.Int.{ints}
 use Rattle.interval_domain.specs.Arithmetic.{near}
 
@@ -31,3 +31,7 @@ near_sums_rise a b c d h k = near_rises (a +ℤ b) (c +ℤ d) (omega (arith, int
 
 pub near_differences_rise : (a b c d : ℤ) → a ≤ℤ c → d ≤ℤ b → near (a -ℤ b) ≤ℤ near (c -ℤ d)
 near_differences_rise a b c d h k = near_rises (a -ℤ b) (c -ℤ d) (omega (arith, ints))
+
+-- a number as it stands where it was passed
+abbrev pub passed : ℤ → ℤ
+passed n = to_z w64 (of_z w64 n)

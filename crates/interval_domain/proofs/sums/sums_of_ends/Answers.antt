@@ -1,11 +1,7 @@
-use Rattle.std.proofs.Common.{◌≤ℤ◌, arith, w64, to_z, of_z, ℤ}
+use Rattle.std.proofs.Common.{◌≤ℤ◌, arith}
 use Rattle.std.proofs.lemmas.Int.{ints}
-use Rattle.interval_domain.proofs.Nearest.{near_sums_rise}
+use Rattle.interval_domain.proofs.Nearest.{near_sums_rise, passed}
 use Rattle.interval_domain.proofs.sums.sums_of_ends.Goals as goal
-
--- a number as it is passed
-abbrev passed : ℤ → ℤ
-passed n = to_z w64 (of_z w64 n)
 
 pub between-requires : goal.between-requires
 between-requires c =
