@@ -1,5 +1,5 @@
 -- What operators give of the numbers of two ranges. An end beyond 64 bits is the nearest number of 64 bits.
-use Rattle.std.specs.Prelude.{ℤ, pos, ◌+ℤ◌, ◌-ℤ◌, ◌*ℤ◌, neg_ℤ, ℕ, ◌-◌, max, Bool, ◌&&◌, int_lt, int_le, unsigned_abs, int_div, int_rem, Option, Some, None, option_map, if◌then◌else◌}
+use Rattle.std.specs.Prelude.{ℤ, pos, ◌+ℤ◌, ◌-ℤ◌, ◌*ℤ◌, neg_ℤ, ℕ, ◌-◌, max, Bool, ◌&&◌, int_lt, int_le, unsigned_abs, int_div, int_rem, Option, Some, None, if◌then◌else◌}
 use Rattle.std.specs.Ordering.{int_eq}
 use Rattle.std.specs.Int.{w64, int_min, int_max, saturate_signed, int_bit_and}
 use Rattle.interval_domain.specs.Interval.{Interval, between, one, holed}

@@ -1,5 +1,5 @@
 -- Hulls, widening and containment of ranges.
-use Rattle.std.specs.Prelude.{ℤ, pos, negsuc, Bool, false, true, ◌&&◌, int_lt, int_le, Option, Some, None, if◌then◌else◌}
+use Rattle.std.specs.Prelude.{ℤ, pos, negsuc, Bool, true, ◌&&◌, int_lt, int_le, Option, Some, None, if◌then◌else◌}
 use Rattle.std.specs.Option.{option_or}
 use Rattle.std.specs.Int.{int_min, int_max}
 use Rattle.interval_domain.specs.Interval.{Interval, between, holed, excludes}

@@ -1,13 +1,13 @@
 -- What products of ranges have.
-use Rattle.std.proofs.Common.{◌≡◌, ℕ, suc, ◌*◌, ℤ, pos, negsuc, neg_ℤ, ◌*ℤ◌, ◌≤ℤ◌, ◌⊎◌, inl, inr, int_eq, cond, true, w64, FitsSigned, arith}
+use Rattle.std.proofs.Common.{◌≡◌, ℕ, suc, ℤ, pos, negsuc, ◌*ℤ◌, ◌≤ℤ◌, ◌⊎◌, inl, inr, int_eq, true, w64, FitsSigned, arith}
 use Rattle.std.proofs.lemmas.Int.{ints, clamps}
 use Rattle.std.proofs.lemmas.Nat.{mul-le}
 use Rattle.std.proofs.lemmas.Bool.{cond_both, and_parts}
 use Rattle.std.proofs.lemmas.Bool.Decides.{Decides-int_eq}
 use lib.IntN.{*ℤ_comm}
 use Rattle.interval_domain.specs.Interval.{Interval, Contains}
-use Rattle.interval_domain.specs.Arithmetic.{near, least, greatest, near_product, corners, is_number_one, product}
-use Rattle.interval_domain.proofs.Nearest.{near_below, near_above}
+use Rattle.interval_domain.specs.Arithmetic.{least, greatest, near_product, corners, is_number_one, product}
+use Rattle.interval_domain.specs.Ends.{near_below, near_above}
 
 -- products by a number that is not negative rise, and by a negative one they fall
 times_rises : (x y : ℤ) (k : ℕ) → x ≤ℤ y → (x *ℤ pos k) ≤ℤ (y *ℤ pos k)
@@ -56,28 +56,28 @@ greatest_above p q r s x (inr (inr h)) = omega (arith, ints, clamps, h)
 low_corner : (a b c d m n : ℤ) → a ≤ℤ m → m ≤ℤ b → c ≤ℤ n → n ≤ℤ d → FitsSigned w64 (m *ℤ n)
     → least (near_product a c) (near_product a d) (near_product b c) (near_product b d) ≤ℤ (m *ℤ n)
 low_corner a b c d m n ma mb nc nd fits = least_below _ _ _ _ _ (elim (second_below c d n m nc nd) [
-    | inl h ↦ elim (first_below a b m c ma mb) [
-        | inl k ↦ inl (inl (near_below (a *ℤ c) (m *ℤ n) (omega (arith, ints, h, k)) fits))
-        | inr k ↦ inr (inl (near_below (b *ℤ c) (m *ℤ n) (omega (arith, ints, h, k)) fits))
-      ]
-    | inr h ↦ elim (first_below a b m d ma mb) [
-        | inl k ↦ inl (inr (near_below (a *ℤ d) (m *ℤ n) (omega (arith, ints, h, k)) fits))
-        | inr k ↦ inr (inr (near_below (b *ℤ d) (m *ℤ n) (omega (arith, ints, h, k)) fits))
-      ]
-  ])
+  | inl h ↦ elim (first_below a b m c ma mb) [
+    | inl k ↦ inl (inl (near_below (a *ℤ c) (m *ℤ n) (omega (arith, ints, h, k)) fits))
+    | inr k ↦ inr (inl (near_below (b *ℤ c) (m *ℤ n) (omega (arith, ints, h, k)) fits))
+  ]
+  | inr h ↦ elim (first_below a b m d ma mb) [
+    | inl k ↦ inl (inr (near_below (a *ℤ d) (m *ℤ n) (omega (arith, ints, h, k)) fits))
+    | inr k ↦ inr (inr (near_below (b *ℤ d) (m *ℤ n) (omega (arith, ints, h, k)) fits))
+  ]
+])
 
 high_corner : (a b c d m n : ℤ) → a ≤ℤ m → m ≤ℤ b → c ≤ℤ n → n ≤ℤ d → FitsSigned w64 (m *ℤ n)
     → (m *ℤ n) ≤ℤ greatest (near_product a c) (near_product a d) (near_product b c) (near_product b d)
 high_corner a b c d m n ma mb nc nd fits = greatest_above _ _ _ _ _ (elim (second_above c d n m nc nd) [
-    | inl h ↦ elim (first_above a b m c ma mb) [
-        | inl k ↦ inl (inl (near_above (a *ℤ c) (m *ℤ n) (omega (arith, ints, h, k)) fits))
-        | inr k ↦ inr (inl (near_above (b *ℤ c) (m *ℤ n) (omega (arith, ints, h, k)) fits))
-      ]
-    | inr h ↦ elim (first_above a b m d ma mb) [
-        | inl k ↦ inl (inr (near_above (a *ℤ d) (m *ℤ n) (omega (arith, ints, h, k)) fits))
-        | inr k ↦ inr (inr (near_above (b *ℤ d) (m *ℤ n) (omega (arith, ints, h, k)) fits))
-      ]
-  ])
+  | inl h ↦ elim (first_above a b m c ma mb) [
+    | inl k ↦ inl (inl (near_above (a *ℤ c) (m *ℤ n) (omega (arith, ints, h, k)) fits))
+    | inr k ↦ inr (inl (near_above (b *ℤ c) (m *ℤ n) (omega (arith, ints, h, k)) fits))
+  ]
+  | inr h ↦ elim (first_above a b m d ma mb) [
+    | inl k ↦ inl (inr (near_above (a *ℤ d) (m *ℤ n) (omega (arith, ints, h, k)) fits))
+    | inr k ↦ inr (inr (near_above (b *ℤ d) (m *ℤ n) (omega (arith, ints, h, k)) fits))
+  ]
+])
 
 corners_contain : (a b : Interval) (m n : ℤ) → Contains a m → Contains b n → FitsSigned w64 (m *ℤ n) → Contains (corners a b) (m *ℤ n)
 unfolding corners
@@ -105,5 +105,5 @@ product_contains a b m n first second fits =
     cond_both (is_number_one b) _ _ (λ r. Contains r (m *ℤ n))
     (λ e. rw (number_one b n e second) (rw (times_one m) first))
     (λ e. cond_both (is_number_one a) _ _ (λ r. Contains r (m *ℤ n))
-      (λ f. rw (number_one a m f first) (rw (*ℤ_comm (pos 1) n) (rw (times_one n) second)))
-      (λ f. corners_contain a b m n first second fits))
+    (λ f. rw (number_one a m f first) (rw (*ℤ_comm (pos 1) n) (rw (times_one n) second)))
+    (λ f. corners_contain a b m n first second fits))

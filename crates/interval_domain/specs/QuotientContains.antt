@@ -1,15 +1,15 @@
 -- What truncated quotients of ranges have.
-use Rattle.std.proofs.Common.{◌≡◌, ◌≢◌, ℕ, zero, suc, ◌*◌, ◌/◌, ◌<◌, ◌≤◌, max, ℤ, pos, negsuc, neg_ℤ, ◌≤ℤ◌, ◌⊎◌, inl, inr, true, refl, None, ◌&&◌, int_eq, int_le, int_div, unsigned_abs, sym, w64, FitsSigned, arith}
+use Rattle.std.proofs.Common.{◌≡◌, ◌≢◌, ℕ, zero, suc, ◌/◌, ◌≤◌, max, ℤ, pos, negsuc, neg_ℤ, ◌≤ℤ◌, ◌⊎◌, inl, inr, true, refl, None, ◌&&◌, int_eq, int_le, int_div, unsigned_abs, sym, w64, FitsSigned, arith}
 use Rattle.std.specs.Int.{int_min, int_max}
 use Rattle.std.proofs.lemmas.Int.{ints, clamps}
 use Rattle.std.proofs.lemmas.Nat.{mul-le, le-div}
 use Rattle.std.proofs.Math.Nat.{div-mul-le_self, div-le_self}
 use Rattle.std.proofs.lemmas.Bool.{cond_both, and_parts}
 use Rattle.std.proofs.lemmas.Bool.Decides.{Decides-int_eq}
-use Rattle.interval_domain.specs.Interval.{Interval, Contains, one}
-use Rattle.interval_domain.specs.Arithmetic.{near, near_quotient, is_one, size, quotient_by, quotient}
-use Rattle.interval_domain.proofs.Nearest.{near_below, near_above}
-use Rattle.interval_domain.proofs.SumContains.{the_one, near_between_contains}
+use Rattle.interval_domain.specs.Interval.{Interval, Contains}
+use Rattle.interval_domain.specs.Arithmetic.{near, is_one, size, quotient_by, quotient}
+use Rattle.interval_domain.specs.Ends.{near_below, near_above}
+use Rattle.interval_domain.specs.SumContains.{the_one, near_between_contains}
 
 div_rises : (a b k : ℕ) → a ≤ b → a / suc k ≤ b / suc k
 div_rises a b k h = le-div (a / suc k) b (suc k) (omega arith) (omega (arith, h, div-mul-le_self a (suc k)))
@@ -127,6 +127,6 @@ quotient_contains a b m n first second apart fits =
     cond_both (is_one b) _ _ (λ r. Contains r (int_div m n))
     (λ e. rw (sym (the_one b n e second)) (by_one a m n first apart fits))
     (λ e. cond_both (int_le (pos 0) a.lo && int_le (pos 1) b.lo) _ _ (λ r. Contains r (int_div m n))
-      (λ f. no_quotient_more a b m n f first second fits)
-      (λ f. let large = has_size a m first in
-        near_between_contains (neg_ℤ (pos (size a))) (pos (size a)) (int_div m n) (size_above m n (size a) large) (size_below m n (size a) large) fits))
+    (λ f. no_quotient_more a b m n f first second fits)
+    (λ f. let large = has_size a m first in
+    near_between_contains (neg_ℤ (pos (size a))) (pos (size a)) (int_div m n) (size_above m n (size a) large) (size_below m n (size a) large) fits))

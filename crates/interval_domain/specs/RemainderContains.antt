@@ -1,5 +1,5 @@
 -- What remainders of ranges have.
-use Rattle.std.proofs.Common.{◌≡◌, ◌≢◌, ℕ, zero, suc, ◌-◌, ◌%◌, ◌<◌, ◌≤◌, ℤ, pos, negsuc, neg_ℤ, ◌≤ℤ◌, true, ◌&&◌, cond, int_eq, int_lt, int_rem, unsigned_abs, refl, sym, ◌∙◌, w64, FitsSigned, arith}
+use Rattle.std.proofs.Common.{◌≡◌, ◌≢◌, ℕ, zero, suc, ◌-◌, ◌%◌, ◌<◌, ◌≤◌, ℤ, pos, negsuc, neg_ℤ, ◌≤ℤ◌, ◌&&◌, cond, int_eq, int_lt, int_rem, unsigned_abs, refl, sym, ◌∙◌, w64, FitsSigned, arith}
 use Rattle.std.specs.Int.{int_min, int_max}
 use Rattle.std.proofs.lemmas.Int.{ints, clamps}
 use Rattle.std.proofs.lemmas.Nat.{mod_below}
@@ -8,9 +8,9 @@ use Rattle.std.proofs.lemmas.Bool.{cond_both, and_parts}
 use Rattle.std.proofs.lemmas.Bool.Decides.{Decides-int_eq}
 use Rattle.interval_domain.specs.Interval.{Interval, Contains, one}
 use Rattle.interval_domain.specs.Arithmetic.{is_one, size, remainders, remainder}
-use Rattle.interval_domain.proofs.SumContains.{the_one}
-use Rattle.interval_domain.proofs.JoinsContain.{one_contains}
-use Rattle.interval_domain.proofs.QuotientContains.{has_size}
+use Rattle.interval_domain.specs.SumContains.{the_one}
+use Rattle.interval_domain.specs.JoinsContain.{one_contains}
+use Rattle.interval_domain.specs.QuotientContains.{has_size}
 
 size_positive : (n : ℤ) → n ≢ pos 0 → 0 < unsigned_abs n
 size_positive (pos zero) apart = elim (apart refl) [ ]
@@ -69,5 +69,5 @@ unfolding remainder
 remainder_contains a b m n first second apart =
     cond_both (is_one a && is_one b) _ _ (λ r. Contains r (int_rem m n))
     (λ e. let parts = and_parts (is_one a) _ e in
-      of_two a.lo b.lo m n (the_one a m parts.0 first) (the_one b n parts.1 second) apart first.fits)
+    of_two a.lo b.lo m n (the_one a m parts.0 first) (the_one b n parts.1 second) apart first.fits)
     (λ e. remainders_contain a b m n first second apart)

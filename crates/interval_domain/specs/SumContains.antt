@@ -1,12 +1,12 @@
 -- What sums and differences of ranges have.
-use Rattle.std.proofs.Common.{◌≡◌, ◌≢◌, ℤ, pos, negsuc, ◌+ℤ◌, ◌-ℤ◌, ◌≤ℤ◌, ◌<ℤ◌, Bool, true, false, ◌&&◌, int_lt, int_eq, Option, Some, None, cond, refl, sym, ap, w64, FitsSigned, arith}
-use Rattle.std.proofs.lemmas.Int.{ints, clamps}
-use Rattle.std.proofs.lemmas.Bool.{cond_both, true≢false, and_parts}
+use Rattle.std.proofs.Common.{◌≡◌, ◌≢◌, ℤ, pos, negsuc, ◌+ℤ◌, ◌-ℤ◌, ◌≤ℤ◌, ◌<ℤ◌, true, int_lt, Option, Some, None, sym, ap, w64, FitsSigned, arith}
+use Rattle.std.proofs.lemmas.Int.{ints}
+use Rattle.std.proofs.lemmas.Bool.{cond_both, and_parts}
 use Rattle.std.proofs.lemmas.Bool.Decides.{Decides-int_eq}
 use Rattle.interval_domain.specs.Interval.{Interval, Contains, inner_hole, is_inside, holed}
 use Rattle.interval_domain.specs.Joins.{LEAST_64, GREATEST_64}
 use Rattle.interval_domain.specs.Arithmetic.{near, near_between, is_one, moved_hole, shifted, hole_down, shifted_down, sum, difference}
-use Rattle.interval_domain.proofs.Nearest.{near_below, near_above}
+use Rattle.interval_domain.specs.Ends.{near_below, near_above}
 
 -- a number that is brought to 64 bits, and stays below both ends, is itself
 near_same : (x : ℤ) → LEAST_64 <ℤ near x → near x <ℤ GREATEST_64 → near x ≡ x
@@ -91,8 +91,8 @@ sum_contains a b m n first second fits =
     cond_both (is_one b) _ _ (λ r. Contains r (m +ℤ n))
     (λ e. rw (sym (the_one b n e second)) (shifted_contains a m n first fits))
     (λ e. cond_both (is_one a) _ _ (λ r. Contains r (m +ℤ n))
-      (λ f. one_first a b m n f first second fits)
-      (λ f. near_between_contains (a.lo +ℤ b.lo) (a.hi +ℤ b.hi) (m +ℤ n) (omega (arith, ints, first.above, second.above)) (omega (arith, ints, first.below, second.below)) fits))
+    (λ f. one_first a b m n f first second fits)
+    (λ f. near_between_contains (a.lo +ℤ b.lo) (a.hi +ℤ b.hi) (m +ℤ n) (omega (arith, ints, first.above, second.above)) (omega (arith, ints, first.below, second.below)) fits))
 
 pub difference_contains : (a b : Interval) (m n : ℤ) → Contains a m → Contains b n → FitsSigned w64 (m -ℤ n) → Contains (difference a b) (m -ℤ n)
 unfolding difference

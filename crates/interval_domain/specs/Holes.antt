@@ -1,10 +1,9 @@
 -- Numbers that a range has, and its hole.
-use Rattle.std.proofs.Common.{◌≡◌, ◌≢◌, ℤ, ◌≤ℤ◌, ◌<ℤ◌, Bool, true, false, ◌&&◌, ◌||◌, int_lt, int_eq, Option, Some, None, cond, refl, sym, ap, w64, FitsSigned, arith}
+use Rattle.std.proofs.Common.{◌≡◌, ◌≢◌, ℤ, Bool, true, false, Option, Some, None, refl, sym, ap, arith}
 use Rattle.std.proofs.lemmas.Int.{ints}
-use Rattle.std.proofs.lemmas.Bool.{cond_both, both_ways, or_from}
+use Rattle.std.proofs.lemmas.Bool.{cond_both, or_from}
 use Rattle.std.proofs.lemmas.Bool.Decides.{Decides-int_eq}
-use Rattle.interval_domain.specs.Interval.{Interval, Contains, holed, inner_hole, is_inside, is_hole, excludes}
-use Rattle.interval_domain.specs.Joins.{kept_hole}
+use Rattle.interval_domain.specs.Interval.{Interval, Contains, inner_hole, is_inside, is_hole, excludes}
 
 not_hole : (hole : Option ℤ) (n : ℤ) (b : Bool) → is_hole hole n ≡ b → hole ≢ Some n → b ≡ false
 not_hole None n b is apart = sym is

@@ -1,12 +1,12 @@
 -- What hulls and widening have, and what containment of ranges gives.
-use Rattle.std.proofs.Common.{◌≡◌, ◌≢◌, ℤ, pos, negsuc, ◌≤ℤ◌, Bool, true, false, ◌&&◌, int_lt, int_le, Option, Some, None, cond, w32, w64, FitsSigned, arith}
+use Rattle.std.proofs.Common.{◌≡◌, ◌≢◌, ℤ, ◌≤ℤ◌, true, ◌&&◌, int_lt, int_le, Option, Some, None, w32, w64, FitsSigned, arith}
 use Rattle.std.proofs.lemmas.Int.{ints, clamps}
-use Rattle.std.proofs.lemmas.Bool.{cond_both, true≢false, and_parts}
+use Rattle.std.proofs.lemmas.Bool.{cond_both, and_parts}
 use Rattle.std.specs.Option.{option_or}
 use Rattle.std.specs.Int.{int_min, int_max}
 use Rattle.interval_domain.specs.Interval.{Interval, Contains, one, holed, excludes}
-use Rattle.interval_domain.specs.Joins.{full, kept_hole, hull, floor_of, ceiling_of, lower_end, upper_end, widened, excludes_hole, within, LEAST_32, GREATEST_32, LEAST_64, GREATEST_64}
-use Rattle.interval_domain.proofs.Holes.{has_excludes, inner_apart}
+use Rattle.interval_domain.specs.Joins.{full, kept_hole, hull, floor_of, ceiling_of, lower_end, upper_end, widened, excludes_hole, within}
+use Rattle.interval_domain.specs.Holes.{has_excludes, inner_apart}
 
 -- the range of one number, and of all int32
 pub one_contains : (n : ℤ) → FitsSigned w64 n → Contains (one n) n

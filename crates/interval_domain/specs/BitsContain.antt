@@ -1,15 +1,14 @@
 -- What the common bits of ranges have.
-use Rattle.std.proofs.Common.{◌≡◌, ℕ, zero, suc, ◌+◌, ◌-◌, ◌*◌, ◌^◌, ◌<◌, ◌≤◌, ℤ, pos, negsuc, ◌≤ℤ◌, true, false, ltb, refl, ◌&&◌, int_le, bit_and, ap, ◌∙◌, sym, w32, w64, to_z, of_z, FitsSigned, arith}
+use Rattle.std.proofs.Common.{◌≡◌, ℕ, suc, ◌+◌, ◌-◌, ◌*◌, ◌^◌, ◌<◌, ℤ, pos, negsuc, ◌≤ℤ◌, true, false, ltb, refl, ◌&&◌, int_le, bit_and, ap, ◌∙◌, sym, w32, w64, to_z, of_z, FitsSigned, arith}
 use Rattle.std.specs.Int.{int_min, int_bit_and}
 use Rattle.std.proofs.lemmas.Int.{ints, clamps, to_z_pos}
 use Rattle.std.proofs.lemmas.Nat.{and_le_l, and_le_r, and_block}
 use Rattle.std.proofs.lemmas.Bool.{cond_both, and_parts, le-ltb}
-use Rattle.interval_domain.specs.Interval.{Interval, Contains, one, between}
+use Rattle.interval_domain.specs.Interval.{Interval, Contains, between}
 use Rattle.interval_domain.specs.Joins.{LEAST_32, GREATEST_32, LEAST_64, GREATEST_64, full}
 use Rattle.interval_domain.specs.Arithmetic.{is_one, is_narrow, bits_below, common_bits}
-use Rattle.interval_domain.proofs.SumContains.{the_one}
-use Rattle.interval_domain.proofs.JoinsContain.{one_contains, full_contains}
-
+use Rattle.interval_domain.specs.SumContains.{the_one}
+use Rattle.interval_domain.specs.JoinsContain.{one_contains, full_contains}
 
 bits_of : (x : ℕ) → x < 2 ^ 64 → FitsSigned w64 (to_z w64 x)
 bits_of x h = omega (arith, ints)
@@ -99,19 +98,19 @@ bits_below_contain a b m n first second =
     let fits = bits_fit m n first.fits in
     cond_both (int_le (pos 0) a.lo && int_le (pos 0) b.lo) _ _ (λ r. Contains r (int_bit_and w64 m n))
     (λ e. let parts = and_parts (int_le (pos 0) a.lo) _ e in
-      of_both a.hi b.hi m n (grind (arith, ints, parts.0, first.above)) (grind (arith, ints, parts.1, second.above)) first.fits second.fits first.below second.below)
+    of_both a.hi b.hi m n (grind (arith, ints, parts.0, first.above)) (grind (arith, ints, parts.1, second.above)) first.fits second.fits first.below second.below)
     (λ e. cond_both (int_le (pos 0) a.lo) _ _ (λ r. Contains r (int_bit_and w64 m n))
-      (λ f. of_first a.hi m n (grind (arith, ints, f, first.above)) first.fits first.below)
-      (λ f. cond_both (int_le (pos 0) b.lo) _ _ (λ r. Contains r (int_bit_and w64 m n))
-        (λ g. of_second b.hi m n (grind (arith, ints, g, second.above)) first.fits second.fits second.below)
-        (λ g. cond_both (is_narrow a && is_narrow b) _ _ (λ r. Contains r (int_bit_and w64 m n))
-          (λ h. narrow_contains a b m n h first second)
-          (λ h. all_contains (int_bit_and w64 m n) fits))))
+    (λ f. of_first a.hi m n (grind (arith, ints, f, first.above)) first.fits first.below)
+    (λ f. cond_both (int_le (pos 0) b.lo) _ _ (λ r. Contains r (int_bit_and w64 m n))
+    (λ g. of_second b.hi m n (grind (arith, ints, g, second.above)) first.fits second.fits second.below)
+    (λ g. cond_both (is_narrow a && is_narrow b) _ _ (λ r. Contains r (int_bit_and w64 m n))
+    (λ h. narrow_contains a b m n h first second)
+    (λ h. all_contains (int_bit_and w64 m n) fits))))
 
 pub bits_contain : (a b : Interval) (m n : ℤ) → Contains a m → Contains b n → Contains (common_bits a b) (int_bit_and w64 m n)
 unfolding common_bits
 bits_contain a b m n first second =
     cond_both (is_one a && is_one b) _ _ (λ r. Contains r (int_bit_and w64 m n))
     (λ e. let parts = and_parts (is_one a) _ e in
-      rw (sym (the_one a m parts.0 first)) (rw (sym (the_one b n parts.1 second)) (one_contains (int_bit_and w64 m n) (bits_fit m n first.fits))))
+    rw (sym (the_one a m parts.0 first)) (rw (sym (the_one b n parts.1 second)) (one_contains (int_bit_and w64 m n) (bits_fit m n first.fits))))
     (λ e. bits_below_contain a b m n first second)
