@@ -13,6 +13,8 @@ mod assembly_methods;
 #[cfg(test)]
 mod base_rows;
 #[cfg(test)]
+mod chain;
+#[cfg(test)]
 mod changes;
 #[cfg(test)]
 mod decoder_rows;
@@ -20,6 +22,8 @@ mod decoder_rows;
 mod demo_assembly;
 #[cfg(test)]
 mod devices;
+#[cfg(test)]
+mod domain_rows;
 #[cfg(test)]
 mod failing_devices;
 #[cfg(test)]
@@ -36,6 +40,8 @@ mod list_answers;
 mod model_rows;
 #[cfg(test)]
 mod pe_rows;
+#[cfg(test)]
+mod range_rows;
 #[cfg(test)]
 mod root_rows;
 #[cfg(test)]
