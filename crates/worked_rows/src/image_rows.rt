@@ -225,7 +225,7 @@ const ASSERT: [Change; 4] = [
 /// The token of that row.
 const MEMBER: u32 = 0x0a00_0001;
 
-const CALLS: [Call; 21] = [
+const CALLS: [Call; 23] = [
     (&[], 0x0600_0001, Callee::Method(Token(0x0600_0001))),
     (&[], 0x0600_0002, Callee::Method(Token(0x0600_0002))),
     (&[], 0x0600_0003, Callee::Outside),
@@ -246,6 +246,13 @@ const CALLS: [Call; 21] = [
     (&[(0x42e, b"assert\0")], MEMBER, Callee::Outside),
     (&[(0x46d, b"\x03")], MEMBER, Callee::Outside),
     (&[(0x46e, b"\x20")], MEMBER, Callee::Outside),
+    // The same signature with a byte behind it, and with its count in two bytes.
+    (&[(0x46d, b"\x05")], MEMBER, Callee::Outside),
+    (
+        &[(0x46d, b"\x05\0\x80\x01\x01\x02")],
+        MEMBER,
+        Callee::Outside,
+    ),
     // The parent is the second row of TypeDef, of ModuleRef, of MethodDef and of TypeSpec, and no row and the
     // third of TypeRef.
     (&[(0x38a, b"\x10")], MEMBER, Callee::Outside),
@@ -379,6 +386,20 @@ fn tokens_name_callees(rt: HostRuntime) -> Result<(), Fail> {
             callee,
             "{token:08x} with {changes:?}"
         );
+    }
+    Ok(())
+}
+
+/// Changes to the signature of the locals, whose blob is at 468: it is of another kind, and it ends too early.
+const NO_LOCALS: [&[Change]; 2] = [&[(0x469, b"\x06")], &[(0x468, b"\x02")]];
+
+#[test]
+fn signatures_that_are_refused_name_no_locals(rt: HostRuntime) -> Result<(), Fail> {
+    let alloc = rt.alloc();
+    for changes in NO_LOCALS {
+        let file = changed(&rt, alloc, changes)?;
+        let assembly = Assembly::read(alloc, &file)?;
+        assert!(rt; assembly.locals_of(0x1100_0001).is_none(), "{changes:?}");
     }
     Ok(())
 }

@@ -13,7 +13,7 @@ type Types = (Place, &'static [Place]);
 
 /// Signatures of methods: whether there is a `this`, whether there are type parameters, and the types, where all
 /// of them are in the profile.
-const METHODS: [(&[u8], bool, bool, Option<Types>); 24] = [
+const METHODS: [(&[u8], bool, bool, Option<Types>); 25] = [
     // `void Requires(bool)`, `void m()` of an instance, and each type as a result and as a parameter.
     (b"\x00\x01\x01\x02", false, false, Some((Void, &[Bool]))),
     (b"\x20\x00\x01", true, false, Some((Void, &[]))),
@@ -33,6 +33,8 @@ const METHODS: [(&[u8], bool, bool, Option<Types>); 24] = [
     (b"\x00\x00\x1d\x08", false, false, Some((Ints, &[]))),
     // An explicit `this` has its type among the parameters.
     (b"\x60\x01\x01\x08", true, false, Some((Void, &[Int]))),
+    // A bit of the convention that says nothing.
+    (b"\x80\x01\x01\x08", false, false, Some((Void, &[Int]))),
     // Type parameters, none of which is a type; counts in more bytes than they need; a byte that is not read.
     (b"\x10\x01\x01\x08\x02", false, true, Some((Int, &[Bool]))),
     (

@@ -29,6 +29,35 @@ const FILES: [Row; 3] = [
             // The body's header, and the first byte of its code; Valid.
             (0x248, b"\x13\x30\x08\0\x0d\0\0\0\0\0\0\0\x03"),
             (0x2d8, b"\x47\x04\0\0\x09\x08\0\0"),
+            // Module, the types of mscorlib in TypeRef, and TypeDef.
+            (0x308, b"\0\0\x9f\0\x01\0\0\0\0\0"),
+            (0x312, b"\x06\0\x01\0\x08\0\x06\0\x0f\0\x08\0"),
+            (0x31e, b"\x06\0\x15\0\x08\0\x06\0\x1d\0\x26\0"),
+            (0x32a, b"\0\0\0\0\x43\0\0\0\0\0\x01\0\x01\0"),
+            (0x338, b"\0\0\0\0\x95\0\x9a\0\x05\0\x01\0\x01\0"),
+            // The method; the first and the last of MemberRef.
+            (0x346, b"\x48\x20\0\0\0\0\x10\0\xa8\0\x30\0\x01\0"),
+            (0x354, b"\x21\0\x4c\0\x01\0"),
+            (0x390, b"\x21\0\x83\0\x16\0"),
+            // Names and zeros of Assembly and of AssemblyRef; the first and the last of MethodSpec.
+            (0x3a6, b"\0\0\x95\0\0\0"),
+            (0x3ac, b"\0\0\0\0\0\0\0\0\0\0\0\0\0\0\x8c\0\0\0\0\0"),
+            (0x3c0, b"\x15\0\x1e\0"),
+            (0x3dc, b"\x17\0\x2b\0"),
+            // The heaps: strings, user strings, the GUID, and blobs up to that of the method.
+            (0x3e0, b"\0Object\0System\0Int32\0Boolean\0Contract\0"),
+            (0x48c, b"\0\x11c\0o\0n\0t\0r\0a\0c\0t\0\0\0"),
+            (0x4a0, b"\x01\x02\x03"),
+            (
+                0x4b0,
+                b"\0\x04\0\x01\x01\x02\x05\0\x02\x01\x02\x0e\x03\0\0\x01",
+            ),
+            (0x4c0, b"\x05\x10\x01\0\x1e\0\x07\x10\x01\x01\x1e\0\x1e\0"),
+            (
+                0x4ce,
+                b"\x03\x0a\x01\x02\x03\x0a\x01\x08\x04\x0a\x01\x1d\x02",
+            ),
+            (0x4db, b"\x04\x0a\x01\x1d\x08\x05\0\x02\x08\x08\x08"),
         ],
     ),
     (
