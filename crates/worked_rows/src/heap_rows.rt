@@ -136,15 +136,25 @@ fn items_stand_at_their_indexes(rt: HostRuntime) -> Result<(), Fail> {
     assert_user_strings(&rt, &md, &[(0, None), (1, None)])
 }
 
+/// The rows of Module, and what stands at 1 in the heaps of strings, of blobs and of user strings.
+type Counted = (u32, &'static [u8], &'static [u8], &'static [u8]);
+
+/// Reads the metadata, and asserts which of its streams count.
+fn assert_counted(rt: &impl Abort, md: &[u8], counted: &Counted) -> Result<(), Fail> {
+    assert!(rt; md.len() == LENGTH);
+    let tables = Tables::read(md)?;
+    let (rows, text, blob, item) = *counted;
+    assert_eq!(rt; tables.row_count(0), rows);
+    assert_eq!(rt; tables.string_at(1), Some(text));
+    assert_eq!(rt; tables.blob_at(1), Some(blob));
+    assert_eq!(rt; tables.user_string_at(1), Some(item));
+    Ok(())
+}
+
 #[test]
 fn of_two_streams_of_one_name_the_first_counts(rt: HostRuntime) -> Result<(), Fail> {
     let mut md = zeros_with(&rt, rt.alloc(), LENGTH, &METADATA)?;
-    assert!(rt; md.len() == LENGTH);
-    let tables = Tables::read(&md)?;
-    assert_eq!(rt; tables.row_count(0), 1);
-    assert_eq!(rt; tables.string_at(1), Some(b"ab".as_slice()));
-    assert_eq!(rt; tables.blob_at(1), Some(b"xy".as_slice()));
-    assert_eq!(rt; tables.user_string_at(1), Some(b"h\0\0".as_slice()));
+    assert_counted(&rt, &md, &(1, b"ab", b"xy", b"h\0\0"))?;
     // The first four have other names.
     let others: [Change; 4] = [
         (0x20, b"#-"),
@@ -153,11 +163,5 @@ fn of_two_streams_of_one_name_the_first_counts(rt: HostRuntime) -> Result<(), Fa
         (0x50, b"#us"),
     ];
     change(&rt, &mut md, &others);
-    assert!(rt; md.len() == LENGTH);
-    let tables = Tables::read(&md)?;
-    assert_eq!(rt; tables.row_count(0), 0);
-    assert_eq!(rt; tables.string_at(1), Some(b"xy".as_slice()));
-    assert_eq!(rt; tables.blob_at(1), Some(b"q".as_slice()));
-    assert_eq!(rt; tables.user_string_at(1), Some(b"k".as_slice()));
-    Ok(())
+    assert_counted(&rt, &md, &(0, b"xy", b"q", b"k"))
 }
