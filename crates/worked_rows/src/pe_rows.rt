@@ -2,6 +2,7 @@
 
 use crate::changes::{Change, change, zeros_with};
 use pe_reader::{Image, PeFault};
+use std::alloc::Global;
 use std::process::Abort;
 use std::test::Fail;
 
@@ -246,23 +247,27 @@ fn files_that_are_cut_in_a_field_are_refused(rt: HostRuntime) -> Result<(), Fail
     Ok(())
 }
 
-#[test]
-fn the_first_fault_of_a_file_is_told(rt: HostRuntime) -> Result<(), Fail> {
-    let alloc = rt.alloc();
-    let kinds = [
-        (NARROW, NARROW_FILES.as_slice()),
-        (WIDE, WIDE_FILES.as_slice()),
-    ];
-    for (kind, rows) in kinds {
-        for (length, changes, fault) in rows {
-            let mut file = zeros_with(&rt, alloc, LENGTH, &COMMON)?;
-            change(&rt, &mut file, &kind);
-            change(&rt, &mut file, changes);
-            let cut = file.get(..*length).unwrap_or(&[]);
-            assert_eq!(rt; fault_of(&rt, cut), *fault, "{changes:?} in {length}");
-        }
+/// Makes files of a kind, and asserts the first fault of each.
+fn assert_faults(
+    rt: &impl Abort,
+    alloc: Global,
+    kind: &[Change],
+    rows: &[Row],
+) -> Result<(), Fail> {
+    for (length, changes, fault) in rows {
+        let mut file = zeros_with(rt, alloc, LENGTH, &COMMON)?;
+        change(rt, &mut file, kind);
+        change(rt, &mut file, changes);
+        let cut = file.get(..*length).unwrap_or(&[]);
+        assert_eq!(rt; fault_of(rt, cut), *fault, "{changes:?} in {length}");
     }
     Ok(())
+}
+
+#[test]
+fn the_first_fault_of_a_file_is_told(rt: HostRuntime) -> Result<(), Fail> {
+    assert_faults(&rt, rt.alloc(), &NARROW, &NARROW_FILES)?;
+    assert_faults(&rt, rt.alloc(), &WIDE, &WIDE_FILES)
 }
 
 /// How long a file is, an address, a number of bytes, and where these stand in the file.
