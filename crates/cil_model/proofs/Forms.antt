@@ -1,174 +1,169 @@
--- The opcodes' rows are the spellings: each row spells its operation, and each spelling has a row.
-use Rattle.std.proofs.Common.{◌≡◌, ℕ, zero, suc, ◌+◌, ◌-◌, ◌^◌, ◌<◌, ◌≤◌, ℤ, pos, ◌-ℤ◌, Fits, List, [], ◌∷◌, ◌++◌, length, Option, Some, None, ◌&&◌, cond, eqb, leb, refl, sym, ap, ◌∙◌, arith, ◌⊎◌, inl, inr}
-use Rattle.std.specs.Int.{w8, w32, cast_signed, cast_unsigned}
-use Rattle.std.proofs.lemmas.Bool.{cond_both, eqb-true, leb-true, and_parts, cases_eq}
-use Rattle.std.proofs.lemmas.Int.{to_z-of_z, of_z-to_z, ints}
-use Rattle.std.proofs.Math.Facts.{Fits-of_z, sfits_to_z}
-use Rattle.byteorder.specs.Endian.{little_bytes}
+-- What every spelling of an instruction is: it is not empty, it is a list of bytes, and it is the front of no other.
+use Rattle.std.proofs.Common.{◌≡◌, ℕ, ◌+◌, ◌^◌, ◌<◌, List, [], ◌∷◌, ◌++◌, length, map, append_assoc, append-nil, Option, Some, None, refl, sym, ap, subst, ◌∙◌, arith, inl, inr}
+use Rattle.std.specs.List.{AllByRecursion}
+use Rattle.std.proofs.lemmas.List.{length-append, append_cancel_left}
+use Rattle.byteorder.specs.Endian.{little_bytes, little_number}
 use Rattle.cc_base.specs.LittleEndian.{IsBytes}
-use Rattle.cc_base.proofs.ByteLemmas.{IsBytes-cons, IsBytes-little_bytes}
-use Rattle.cil_model.specs.Opcodes.{Form, short_form, long_form}
-use Rattle.cil_model.specs.Spells.{SpellsLoadArg, SpellsConst, SpellsBin, SpellsOp}
-use Rattle.cil_model.specs.declared.instruction.BinOp.{BinOp}
-use Rattle.cil_model.specs.declared.instruction.BinOp.TheVariants as operators
-use Rattle.cil_model.specs.declared.instruction.Op.{Op}
-use Rattle.cil_model.specs.declared.instruction.Op.TheVariants.{Nop, LoadArg, Const, Call, Return, Bin}
+use Rattle.cc_base.proofs.ByteLemmas.{IsBytes-nil, IsBytes-cons, IsBytes-append, IsBytes-little_bytes, length-little_bytes, number_back}
+use Rattle.cil_model.specs.Opcodes.{Form, short_form, long_form, operator_of, target}
+use Rattle.cil_model.specs.Spells.{SpellsForm, SpellsShort, SpellsLong, SpellsSwitch, Spells, offset_bytes}
+use Rattle.cil_model.specs.declared.instruction.Instr.{Instr}
+use Rattle.cil_model.specs.declared.instruction.Op.TheVariants.{Switch}
 
--- ---- each row spells
+-- ---- bytes
 
--- This is a byte, and an opcode that ends in it spells the operations of its row.
-abbrev pub FormSpells : ℕ → List ℕ → Option Form → Type 0
-FormSpells b opcode None = Unit {0}
-FormSpells b opcode (Some (width, meaning)) = (b < 256) × ((n : ℕ) → n < 256 ^ width → SpellsOp (meaning n) (opcode ++ little_bytes width n))
+form_bytes : (form : Option Form) (opcode : List ℕ) (i : Instr) (bytes : List ℕ) → IsBytes opcode → SpellsForm form opcode i bytes → IsBytes bytes
+form_bytes None opcode i bytes h spells = absurd spells
+form_bytes (Some (width, meaning)) opcode i bytes h (operand, fits, op, are) =
+    rw are (IsBytes-append opcode (little_bytes width operand) h (IsBytes-little_bytes width operand))
 
--- One row, and then the others.
-row : (P : Option Form → Type 0) (b k : ℕ) (here others : Option Form) → (b ≡ k → P here) → P others → P (cond (eqb b k) here others)
-row P b k here others met rest = cond_both (eqb b k) here others P (λ e. met (eqb-true b k e)) (λ e. rest)
-
-rows : (P : Option Form → Type 0) (b low high : ℕ) (here others : Option Form) → (low ≤ b → b ≤ high → P here) → P others → P (cond (leb low b && leb b high) here others)
-rows P b low high here others met rest =
-    cond_both (leb low b && leb b high) here others P (λ e. let h = and_parts _ _ e in met (leb-true _ _ h.0) (leb-true _ _ h.1)) (λ e. rest)
-
-one_byte : (n : ℕ) → n < 256 → little_bytes 1 n ≡ n ∷ []
-one_byte n below = ap (λ (b : ℕ). b ∷ []) (omega arith)
-
-load_arg_spells : (b : ℕ) → 0x02 ≤ b → b ≤ 0x05 → SpellsLoadArg (b - 0x02) (b ∷ [])
-load_arg_spells b low high = inl (omega arith, ap (λ (n : ℕ). n ∷ []) (omega arith))
-
-const_spells : (b : ℕ) → 0x15 ≤ b → b ≤ 0x1e → SpellsConst (pos b -ℤ pos 0x16) (b ∷ [])
-const_spells b low high =
-    elim (cases_eq b 0x15) [
-      | inl e ↦ rw e (inl (refl, refl))
-      | inr above ↦ inr (inl (b - 0x16, omega arith, omega (arith, ints), ap (λ (n : ℕ). n ∷ []) (omega arith)))
-    ]
-
-const_byte_spells : (n : ℕ) → n < 256 → SpellsConst (cast_signed w8 n) (0x1f ∷ little_bytes 1 n)
-const_byte_spells n below =
-    let fits : Fits w8 n = omega arith in
-    inr (inr (inl (sfits_to_z fits, ap (λ (t : List ℕ). 0x1f ∷ t) (one_byte n below ∙ ap (λ (b : ℕ). b ∷ []) (sym (of_z-to_z w8 n below))))))
-
-const_long_spells : (n : ℕ) → n < 2 ^ 32 → SpellsConst (cast_signed w32 n) (0x20 ∷ little_bytes 4 n)
-const_long_spells n below =
-    let fits : Fits w32 n = omega arith in
-    inr (inr (inr (sfits_to_z fits, ap (λ (bits : ℕ). 0x20 ∷ little_bytes 4 bits) (sym (of_z-to_z w32 n below)))))
-
-pub short_form-spells : (b : ℕ) → FormSpells b (b ∷ []) (short_form b)
-unfolding short_form
-short_form-spells b =
-    let P = FormSpells b (b ∷ []) in
-    row P b 0x00 _ _ (λ e. (omega arith, λ n h. rw e refl))
-    (rows P b 0x02 0x05 _ _ (λ low high. (omega arith, λ n h. load_arg_spells b low high))
-    (row P b 0x0e _ _ (λ e. (omega arith, λ n h. rw (e, one_byte n h) (inr (inl (h, refl)))))
-    (rows P b 0x15 0x1e _ _ (λ low high. (omega arith, λ n h. const_spells b low high))
-    (row P b 0x1f _ _ (λ e. (omega arith, λ n h. rw e (const_byte_spells n h)))
-    (row P b 0x20 _ _ (λ e. (omega arith, λ n h. rw e (const_long_spells n h)))
-    (row P b 0x28 _ _ (λ e. (omega arith, λ n h. rw e (h, refl)))
-    (row P b 0x2a _ _ (λ e. (omega arith, λ n h. rw e refl))
-    (row P b 0x58 _ _ (λ e. (omega arith, λ n h. rw e refl))
-    tt))))))))
-
-pub long_form-spells : (b : ℕ) → FormSpells b (0xfe ∷ b ∷ []) (long_form b)
-unfolding long_form
-long_form-spells b =
-    let P = FormSpells b (0xfe ∷ b ∷ []) in
-    row P b 0x01 _ _ (λ e. (omega arith, λ n h. rw e refl))
-    (row P b 0x02 _ _ (λ e. (omega arith, λ n h. rw e refl))
-    (row P b 0x04 _ _ (λ e. (omega arith, λ n h. rw e refl))
-    (row P b 0x09 _ _ (λ e. (omega arith, λ n h. rw e (inr (inr (h, refl)))))
-    tt)))
-
--- ---- each spelling has a row
-
--- The operation is one of the row, and the bytes are its operand.
-abbrev pub HasForm : Option Form → Op → List ℕ → Type 0
-HasForm None op operand = ⊥
-HasForm (Some (width, meaning)) op operand = (n : ℕ) × (n < 256 ^ width) × (op ≡ meaning n) × (operand ≡ little_bytes width n)
-
--- The bytes are an opcode and its operand.
-abbrev pub IsByForm : Op → List ℕ → Type 0
-IsByForm op bytes =
-    ((b : ℕ) × ((operand : List ℕ) × (bytes ≡ b ∷ operand) × HasForm (short_form b) op operand))
-    ⊎ ((b : ℕ) × ((operand : List ℕ) × (bytes ≡ 0xfe ∷ b ∷ operand) × HasForm (long_form b) op operand))
-
-load_arg_form : (n : ℕ) → n < 4 → HasForm (short_form (2 + n)) (LoadArg n) []
-unfolding short_form
-load_arg_form zero h = (0, omega arith, refl, refl)
-load_arg_form (suc zero) h = (0, omega arith, refl, refl)
-load_arg_form (suc (suc zero)) h = (0, omega arith, refl, refl)
-load_arg_form (suc (suc (suc zero))) h = (0, omega arith, refl, refl)
-load_arg_form (suc (suc (suc (suc n)))) h = absurd (omega arith)
-
-const_form : (k : ℕ) → k ≤ 8 → HasForm (short_form (0x16 + k)) (Const (pos k)) []
-unfolding short_form
-const_form zero h = (0, omega arith, refl, refl)
-const_form (suc zero) h = (0, omega arith, refl, refl)
-const_form (suc (suc zero)) h = (0, omega arith, refl, refl)
-const_form (suc (suc (suc zero))) h = (0, omega arith, refl, refl)
-const_form (suc (suc (suc (suc zero)))) h = (0, omega arith, refl, refl)
-const_form (suc (suc (suc (suc (suc zero))))) h = (0, omega arith, refl, refl)
-const_form (suc (suc (suc (suc (suc (suc zero)))))) h = (0, omega arith, refl, refl)
-const_form (suc (suc (suc (suc (suc (suc (suc zero))))))) h = (0, omega arith, refl, refl)
-const_form (suc (suc (suc (suc (suc (suc (suc (suc zero)))))))) h = (0, omega arith, refl, refl)
-const_form (suc (suc (suc (suc (suc (suc (suc (suc (suc k))))))))) h = absurd (omega arith)
-
-load_arg_by_form : (n : ℕ) (bytes : List ℕ) → SpellsLoadArg n bytes → IsByForm (LoadArg n) bytes
-unfolding short_form long_form
-load_arg_by_form n bytes (inl h) = inl (2 + n, ([], h.1, load_arg_form n h.0))
-load_arg_by_form n bytes (inr (inl h)) = inl (0x0e, (n ∷ [], h.1, (n, h.0, refl, sym (one_byte n h.0))))
-load_arg_by_form n bytes (inr (inr h)) = inr (0x09, (little_bytes 2 n, h.1, (n, h.0, refl, refl)))
-
-const_by_form : (n : ℤ) (bytes : List ℕ) → SpellsConst n bytes → IsByForm (Const n) bytes
-unfolding short_form
-const_by_form n bytes (inl h) = inl (0x15, ([], h.1, (0, omega arith, ap Const h.0, refl)))
-const_by_form n bytes (inr (inl h)) = inl (0x16 + h.0, ([], h.3, rw h.2 (const_form h.0 h.1)))
-const_by_form n bytes (inr (inr (inl h))) =
-    let below : Fits w8 (cast_unsigned w8 n) = Fits-of_z h.0 in
-    inl (0x1f, (cast_unsigned w8 n ∷ [], h.1, (cast_unsigned w8 n, omega arith, ap Const (sym (to_z-of_z w8 n h.0)), sym (one_byte (cast_unsigned w8 n) (omega arith)))))
-const_by_form n bytes (inr (inr (inr h))) =
-    let below : Fits w32 (cast_unsigned w32 n) = Fits-of_z h.0 in
-    inl (0x20, (little_bytes 4 (cast_unsigned w32 n), h.1, (cast_unsigned w32 n, omega arith, ap Const (sym (to_z-of_z w32 n h.0)), refl)))
-
-bin_by_form : (operator : BinOp) (bytes : List ℕ) → SpellsBin operator bytes → IsByForm (Bin operator) bytes
-unfolding short_form long_form
-bin_by_form operators.Add bytes h = inl (0x58, ([], h, (0, omega arith, refl, refl)))
-bin_by_form operators.Ceq bytes h = inr (0x01, ([], h, (0, omega arith, refl, refl)))
-bin_by_form operators.Cgt bytes h = inr (0x02, ([], h, (0, omega arith, refl, refl)))
-bin_by_form operators.Clt bytes h = inr (0x04, ([], h, (0, omega arith, refl, refl)))
-bin_by_form _ bytes h = absurd h
-
-pub spelled_by_form : (op : Op) (bytes : List ℕ) → SpellsOp op bytes → IsByForm op bytes
-unfolding short_form
-spelled_by_form Nop bytes h = inl (0x00, ([], h, (0, omega arith, refl, refl)))
-spelled_by_form (LoadArg n) bytes h = load_arg_by_form n bytes h
-spelled_by_form (Const n) bytes h = const_by_form n bytes h
-spelled_by_form (Call token) bytes h = inl (0x28, (little_bytes 4 token, h.1, (token, h.0, refl, refl)))
-spelled_by_form Return bytes h = inl (0x2a, ([], h, (0, omega arith, refl, refl)))
-spelled_by_form (Bin operator) bytes h = bin_by_form operator bytes h
-spelled_by_form _ bytes h = absurd h
-
--- ---- what every spelling is
-
--- No spelling is empty.
-pub spelling_some : (op : Op) (bytes : List ℕ) → SpellsOp op bytes → 0 < length bytes
-spelling_some op bytes h =
-    elim (spelled_by_form op bytes h) [
-      | inl (b, (operand, e, form)) ↦ rw e (omega arith)
-      | inr (b, (operand, e, form)) ↦ rw e (omega arith)
-    ]
-
-byte_below : (b : ℕ) (opcode : List ℕ) (form : Option Form) (op : Op) (operand : List ℕ) → FormSpells b opcode form → HasForm form op operand → b < 256
-byte_below b opcode None op operand spells h = absurd h
-byte_below b opcode (Some (width, meaning)) op operand spells h = spells.0
-
-operand_bytes : (form : Option Form) (op : Op) (operand : List ℕ) → HasForm form op operand → IsBytes operand
-operand_bytes None op operand h = absurd h
-operand_bytes (Some (width, meaning)) op operand h = rw h.3 (IsBytes-little_bytes width h.0)
+offsets_are_bytes : (offsets : List ℕ) → IsBytes (offset_bytes offsets)
+offsets_are_bytes [] = IsBytes-nil
+offsets_are_bytes (offset ∷ offsets) = IsBytes-append (little_bytes 4 offset) (offset_bytes offsets) (IsBytes-little_bytes 4 offset) (offsets_are_bytes offsets)
 
 -- A spelling is a list of bytes.
-pub spelling_bytes : (op : Op) (bytes : List ℕ) → SpellsOp op bytes → IsBytes bytes
-spelling_bytes op bytes h =
-    elim (spelled_by_form op bytes h) [
-      | inl (b, (operand, e, form)) ↦ rw e (IsBytes-cons b operand (byte_below b (b ∷ []) (short_form b) op operand (short_form-spells b) form) (operand_bytes (short_form b) op operand form))
-      | inr (b, (operand, e, form)) ↦
-          rw e (IsBytes-cons 0xfe (b ∷ operand) (omega arith) (IsBytes-cons b operand (byte_below b (0xfe ∷ b ∷ []) (long_form b) op operand (long_form-spells b) form) (operand_bytes (long_form b) op operand form)))
+pub spelling_bytes : (i : Instr) (bytes : List ℕ) → Spells i bytes → IsBytes bytes
+spelling_bytes i bytes spells =
+    elim spells.row [
+      | inl (b, below, form) ↦ form_bytes (short_form b) (b ∷ []) i bytes (IsBytes-cons b [] below IsBytes-nil) form
+      | inr (inl (b, below, form)) ↦ form_bytes (long_form b) (0xfe ∷ b ∷ []) i bytes (IsBytes-cons 0xfe (b ∷ []) (omega arith) (IsBytes-cons b [] below IsBytes-nil)) form
+      | inr (inr switch) ↦
+          let count = little_bytes 4 (length switch.offsets) in
+          let offsets = offset_bytes switch.offsets in
+          rw switch.spelled (IsBytes-cons 0x45 (count ++ offsets) (omega arith)
+          (IsBytes-append count offsets (IsBytes-little_bytes 4 (length switch.offsets)) (offsets_are_bytes switch.offsets)))
     ]
+
+-- ---- opcodes
+
+-- What a spelling by a row begins with.
+pub form_begins : (form : Option Form) (b : ℕ) (opcode : List ℕ) (i : Instr) (bytes : List ℕ) → SpellsForm form (b ∷ opcode) i bytes → (rest : List ℕ) × (bytes ≡ b ∷ rest)
+form_begins None b opcode i bytes spells = absurd spells
+form_begins (Some (width, meaning)) b opcode i bytes (operand, fits, op, are) = (opcode ++ little_bytes width operand, are)
+
+-- No spelling is empty.
+pub spelling_some : (i : Instr) (bytes : List ℕ) → Spells i bytes → 0 < length bytes
+spelling_some i bytes spells =
+    elim spells.row [
+      | inl (b, below, form) ↦ rw ((form_begins (short_form b) b [] i bytes form).1) (omega arith)
+      | inr (inl (b, below, form)) ↦ rw ((form_begins (long_form b) 0xfe (b ∷ []) i bytes form).1) (omega arith)
+      | inr (inr switch) ↦ rw switch.spelled (omega arith)
+    ]
+
+-- ---- fronts
+
+-- Numbers of one width are the same where one's bytes begin with the other's.
+same_number : (width n m : ℕ) (more rest : List ℕ) → n < 256 ^ width → m < 256 ^ width → little_bytes width n ++ more ≡ little_bytes width m ++ rest → (n ≡ m) × (more ≡ rest)
+same_number width n m more rest small other e =
+    let same : n ≡ m = sym (number_back width n more small) ∙ ap (little_number width) e ∙ number_back width m rest other in
+    (same, append_cancel_left (little_bytes width n) more rest (e ∙ ap (λ (k : ℕ). little_bytes width k ++ rest) (sym same)))
+
+-- Offsets of one count are the same where one's bytes begin with the other's.
+same_offsets : (xs ys : List ℕ) (more : List ℕ) → AllByRecursion (λ x. x < 2 ^ 32) xs → AllByRecursion (λ y. y < 2 ^ 32) ys → length xs ≡ length ys
+    → offset_bytes xs ++ more ≡ offset_bytes ys → (xs ≡ ys) × (more ≡ [])
+same_offsets [] [] more small others same e = (refl, e)
+same_offsets [] (y ∷ ys) more small others same e = absurd (omega (arith, same))
+same_offsets (x ∷ xs) [] more small others same e = absurd (omega (arith, same))
+same_offsets (x ∷ xs) (y ∷ ys) more small others same e =
+    let here = same_number 4 x y (offset_bytes xs ++ more) (offset_bytes ys) small.0 others.0 (sym (append_assoc (little_bytes 4 x) (offset_bytes xs) more) ∙ e) in
+    let rest = same_offsets xs ys more small.1 others.1 (omega (arith, same)) here.1 in
+    (let first = here.0 in let behind = rest.0 in cc, rest.1)
+
+-- Two instructions are the same where all that they have is.
+same_instr : (i j : Instr) → i.at ≡ j.at → i.size ≡ j.size → i.op ≡ j.op → i ≡ j
+same_instr i j at size op = λ k. record { at = at k; size = size k; op = op k }
+
+-- Both spell one instruction, and nothing stands behind.
+abbrev pub Same : Instr → Instr → List ℕ → Type 0
+Same i j more = (more ≡ []) × (i ≡ j)
+
+same_size : (i j : Instr) (bytes more : List ℕ) → i.size ≡ length bytes → j.size ≡ length (bytes ++ more) → more ≡ [] → i.size ≡ j.size
+same_size i j bytes more size other none = size ∙ ap length (sym (append-nil bytes)) ∙ ap (λ (t : List ℕ). length (bytes ++ t)) (sym none) ∙ sym other
+
+module _ (i j : Instr) (bytes more : List ℕ) (at : i.at ≡ j.at) (size : i.size ≡ length bytes) (other : j.size ≡ length (bytes ++ more)) where
+  same_form : (form : Option Form) (opcode : List ℕ) → SpellsForm form opcode i bytes → SpellsForm form opcode j (bytes ++ more) → Same i j more
+  same_form None opcode spells spells' = absurd spells
+  same_form (Some (width, meaning)) opcode (n, small, op, are) (m, small', op', are') =
+      let e : opcode ++ (little_bytes width n ++ more) ≡ opcode ++ (little_bytes width m ++ []) =
+      sym (append_assoc opcode (little_bytes width n) more) ∙ ap (λ (t : List ℕ). t ++ more) (sym are) ∙ are' ∙ ap (λ (t : List ℕ). opcode ++ t) (sym (append-nil (little_bytes width m))) in
+      let same = same_number width n m more [] small small' (append_cancel_left opcode _ _ e) in
+      let sizes = same_size i j bytes more size other same.1 in
+      let next : i.at + i.size ≡ j.at + j.size = omega (arith, at, sizes) in
+      (same.1, same_instr i j at sizes (op ∙ ap (λ (k : ℕ). meaning k n) next ∙ ap (meaning (j.at + j.size)) same.0 ∙ sym op'))
+
+  same_switch : SpellsSwitch i bytes → SpellsSwitch j (bytes ++ more) → Same i j more
+  same_switch spells spells' =
+      let count = little_bytes 4 (length spells.offsets) in
+      let all : 0x45 ∷ (count ++ (offset_bytes spells.offsets ++ more)) ≡ 0x45 ∷ (little_bytes 4 (length spells'.offsets) ++ offset_bytes spells'.offsets) =
+      ap (λ (t : List ℕ). 0x45 ∷ t) (sym (append_assoc count (offset_bytes spells.offsets) more)) ∙ ap (λ (t : List ℕ). t ++ more) (sym spells.spelled) ∙ spells'.spelled in
+      let counts = same_number 4 (length spells.offsets) (length spells'.offsets) _ _ spells.few spells'.few (append_cancel_left (0x45 ∷ []) _ _ all) in
+      let same = same_offsets spells.offsets spells'.offsets more spells.small spells'.small counts.0 counts.1 in
+      let sizes = same_size i j bytes more size other same.1 in
+      let next : i.at + i.size ≡ j.at + j.size = omega (arith, at, sizes) in
+      (same.1, same_instr i j at sizes (spells.op ∙ ap (λ (k : ℕ). Switch (map (target k) spells.offsets)) next ∙ ap (λ (t : List ℕ). Switch (map (target (j.at + j.size)) t)) same.0 ∙ sym spells'.op))
+
+heads : (a b : ℕ) (s t bytes more : List ℕ) → bytes ≡ a ∷ s → bytes ++ more ≡ b ∷ t → a ≡ b
+heads a b s t bytes more e other = let whole : a ∷ (s ++ more) ≡ b ∷ t = ap (λ (u : List ℕ). u ++ more) (sym e) ∙ other in cc
+
+seconds : (b c : ℕ) (i j : Instr) (bytes more : List ℕ) (f g : Option Form) → SpellsForm f (0xfe ∷ b ∷ []) i bytes → SpellsForm g (0xfe ∷ c ∷ []) j (bytes ++ more) → b ≡ c
+seconds b c i j bytes more None g form form' = absurd form
+seconds b c i j bytes more (Some (width, meaning)) None form form' = absurd form'
+seconds b c i j bytes more (Some (width, meaning)) (Some (width', meaning')) (n, small, op, are) (m, small', op', are') =
+    let whole : 0xfe ∷ b ∷ (little_bytes width n ++ more) ≡ 0xfe ∷ c ∷ little_bytes width' m = ap (λ (u : List ℕ). u ++ more) (sym are) ∙ are' in
+    cc
+
+-- The two opcodes that have no row of one byte.
+no_long : (b : ℕ) (i : Instr) (bytes : List ℕ) → b ≡ 0xfe → SpellsForm (short_form b) (b ∷ []) i bytes → ⊥
+unfolding short_form operator_of
+no_long b i bytes e form = rw e at form
+
+no_switch : (b : ℕ) (i : Instr) (bytes : List ℕ) → b ≡ 0x45 → SpellsForm (short_form b) (b ∷ []) i bytes → ⊥
+unfolding short_form operator_of
+no_switch b i bytes e form = rw e at form
+
+module _ (i j : Instr) (bytes more : List ℕ) (at : i.at ≡ j.at) (spells : Spells i bytes) (spells' : Spells j (bytes ++ more)) where
+  same_row : (f : ℕ → Option Form) (opcode : ℕ → List ℕ) (b c : ℕ) → b ≡ c → SpellsForm (f b) (opcode b) i bytes → SpellsForm (f c) (opcode c) j (bytes ++ more) → Same i j more
+  same_row f opcode b c same form form' =
+      same_form i j bytes more at spells.size spells'.size (f b) (opcode b) form (subst (λ (k : ℕ). SpellsForm (f k) (opcode k) j (bytes ++ more)) (sym same) form')
+
+  behind_short : SpellsShort i bytes → Same i j more
+  behind_short (b, below, form) =
+      let (rest, are) = form_begins (short_form b) b [] i bytes form in
+      elim spells'.row [
+        | inl (c, below', form') ↦
+            let (rest', are') = form_begins (short_form c) c [] j (bytes ++ more) form' in
+            same_row short_form (λ k. k ∷ []) b c (heads b c rest rest' bytes more are are') form form'
+        | inr (inl (c, below', form')) ↦
+            let (rest', are') = form_begins (long_form c) 0xfe (c ∷ []) j (bytes ++ more) form' in
+            absurd (no_long b i bytes (heads b 0xfe rest rest' bytes more are are') form)
+        | inr (inr switch) ↦ absurd (no_switch b i bytes (heads b 0x45 rest _ bytes more are switch.spelled) form)
+      ]
+
+  behind_long : SpellsLong i bytes → Same i j more
+  behind_long (b, below, form) =
+      let (rest, are) = form_begins (long_form b) 0xfe (b ∷ []) i bytes form in
+      elim spells'.row [
+        | inl (c, below', form') ↦
+            let (rest', are') = form_begins (short_form c) c [] j (bytes ++ more) form' in
+            absurd (no_long c j (bytes ++ more) (sym (heads 0xfe c rest rest' bytes more are are')) form')
+        | inr (inl (c, below', form')) ↦
+            let second = seconds b c i j bytes more (long_form b) (long_form c) form form' in
+            same_row long_form (λ k. 0xfe ∷ k ∷ []) b c second form form'
+        | inr (inr switch) ↦ absurd (let other = heads 0xfe 0x45 rest _ bytes more are switch.spelled in omega (arith, other))
+      ]
+
+  behind_switch : SpellsSwitch i bytes → Same i j more
+  behind_switch switch =
+      elim spells'.row [
+        | inl (c, below', form') ↦
+            let (rest', are') = form_begins (short_form c) c [] j (bytes ++ more) form' in
+            absurd (no_switch c j (bytes ++ more) (sym (heads 0x45 c _ rest' bytes more switch.spelled are')) form')
+        | inr (inl (c, below', form')) ↦
+            let (rest', are') = form_begins (long_form c) 0xfe (c ∷ []) j (bytes ++ more) form' in
+            absurd (let other = heads 0x45 0xfe _ rest' bytes more switch.spelled are' in omega (arith, other))
+        | inr (inr switch') ↦ same_switch i j bytes more at spells.size spells'.size switch switch'
+      ]
+
+  -- No spelling is the front of another, where both stand at one IL offset: what begins with one is that one.
+  pub no_front : Same i j more
+  no_front = elim spells.row [ inl short ↦ behind_short short | inr (inl long) ↦ behind_long long | inr (inr switch) ↦ behind_switch switch ]

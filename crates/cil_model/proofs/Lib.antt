@@ -7,6 +7,7 @@ pub mod AssumeRun
 pub mod EffectsKeep
 pub mod CallsDefined
 pub mod Forms
+pub mod Rows
 pub mod HeapsKept
 pub mod KindsRows
 pub mod Laid

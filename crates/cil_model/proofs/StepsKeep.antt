@@ -9,7 +9,7 @@ use Rattle.cil_model.specs.Clauses.{false_requires}
 use Rattle.cil_model.specs.Configs.{ArraysKept, IsConfig, IsFrame, IsFrameOf}
 use Rattle.cil_model.specs.Effects.{Effect, GoesOn, Faults, Assumes, FindsNoRoom}
 use Rattle.cil_model.specs.Runs.{CallsBy, EffectRow, LocalStep, Row, Runs, Step, StepsTo, config_after, entry_config}
-use Rattle.cil_model.specs.Spells.{CodeFrom, CodeOf, SpellsConst, SpellsOp}
+use Rattle.cil_model.specs.Code.{CodeFrom, CodeOf}
 use Rattle.cil_model.specs.UnitCalls.{unit_call}
 use Rattle.cil_model.specs.Values.{Heap, FitPlaces, IsHeap, IsValue, KeepsForms, put, zero_of}
 use Rattle.cil_model.specs.WellFormed.{HoldValues}
@@ -31,6 +31,7 @@ use Rattle.cil_model.proofs.EffectsKeep.{Continues, EffectKeeps, OperandFits, ef
 use Rattle.cil_model.proofs.HeapsKept.{AreValues-kept, FitPlaces-kept, keeps_itself, keeps_on, put_all_fit, put_fits, value_of_place}
 use Rattle.cil_model.proofs.Lists.{all_append, all_drop, all_reverse, all_split, all_take, of_found}
 use Rattle.cil_model.proofs.Options.{map_from}
+use Rattle.cil_model.proofs.Rows.{operand_fits}
 use Rattle.cil_model.proofs.StepKinds.{StepKind, above, step_kind}
 
 -- ---- units
@@ -40,22 +41,12 @@ pub record MakesValues (unit : MethodUnit) : Type 0 where
   pub locals : HoldValues unit.locals
   pub constants : AllByRecursion (λ i. OperandFits i.op) unit.instrs
 
-const_fits : (n : ℤ) (bytes : List ℕ) → SpellsConst n bytes → FitsSigned w32 n
-const_fits n bytes (inl minus_one) = let e = minus_one.0 in omega (arith, ints)
-const_fits n bytes (inr (inl (k, few, e, spelled))) = omega (arith, ints)
-const_fits n bytes (inr (inr (inl byte))) = let fits = byte.0 in omega (arith, ints)
-const_fits n bytes (inr (inr (inr whole))) = whole.0
-
-operand_fits : (op : Op) (bytes : List ℕ) → SpellsOp op bytes → OperandFits op
-operand_fits (ops.Const n) bytes spelled = const_fits n bytes spelled
-operand_fits _ bytes spelled = tt
-
 constants_fit : (at : ℕ) (is : List Instr) (code : List ℕ) → CodeFrom at is code → AllByRecursion (λ i. OperandFits i.op) is
 constants_fit at [] code h = tt
-constants_fit at (i ∷ is) code (place, (bytes, rest, spelled, split, others)) = (operand_fits i.op bytes spelled.0, constants_fit (at + i.size) is rest others)
+constants_fit at (i ∷ is) code (place, (bytes, rest, spelled, split, others)) = (operand_fits i bytes spelled, constants_fit (at + i.size) is rest others)
 
 pub code_makes_values : (unit : MethodUnit) → CodeOf unit.instrs unit.code → HoldValues unit.locals → MakesValues unit
-code_makes_values unit code hold = record { locals = hold; constants = constants_fit 0 unit.instrs unit.code code }
+code_makes_values unit code hold = record { locals = hold; constants = constants_fit 0 unit.instrs unit.code code.spelled }
 
 -- ---- frames
 

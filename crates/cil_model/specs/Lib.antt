@@ -1,5 +1,6 @@
-pub mod Spells
 pub mod Opcodes
+pub mod Spells
+pub mod Code
 pub mod Places
 pub mod Limits
 pub mod UnitCalls

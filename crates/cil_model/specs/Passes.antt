@@ -2,6 +2,7 @@
 -- III.1.7.5 and III.1.8.1.3).
 use Rattle.std.specs.Prelude.{◌≡◌, ℕ, zero, suc, ◌+◌, ◌==◌, Bool, true, false, ◌&&◌, ◌||◌, not, nat_lt, List, [], ◌∷◌, ◌++◌, map, Option, Some, None, is_some, Result, Ok, Err, if◌then◌else◌}
 use Rattle.std.specs.Option.{option_or}
+use Rattle.cil_model.specs.Code.{begins_at}
 use Rattle.cil_model.specs.Kinds.{typed}
 use Rattle.cil_model.specs.declared.instruction.Instr.{Instr}
 use Rattle.cil_model.specs.declared.instruction.Op.{Op}
@@ -25,10 +26,6 @@ abbrev pub goes_behind : Op → Bool
 goes_behind ops.Return = false
 goes_behind (ops.Branch tests.Always target) = false
 goes_behind _ = true
-
-abbrev pub begins_at : List Instr → ℕ → Bool
-begins_at [] at = false
-begins_at (i ∷ is) at = (i.at == at) || begins_at is at
 
 -- ---- merging
 
