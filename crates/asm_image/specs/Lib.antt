@@ -6,4 +6,5 @@ pub mod Metadata
 pub mod Names
 pub mod Reading
 pub mod Rows
+pub mod Bodies
 pub mod Tokens

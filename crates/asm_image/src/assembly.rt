@@ -4,6 +4,8 @@ ghost use Rattle.std.specs.Prelude.{◌≡◌, ◌++◌, None, Some, Err, IfOk};
 ghost use Rattle.cc_base.specs.Tests.{JudgesOrNoMemory};
 ghost use Rattle.cc_base.specs.declared.refusal.Refusal.TheVariants.{Bad};
 ghost use Rattle.pe_reader.specs.Addresses.{metadata};
+ghost use Rattle.std.specs.Option.{option_copied};
+ghost use Rattle.asm_image.specs.Bodies.{method_of};
 ghost use Rattle.asm_image.specs.Calls.{callee_of};
 ghost use Rattle.asm_image.specs.Faults.{FirstBroken};
 ghost use Rattle.asm_image.specs.Find.{either, one_more, find_of, whole_of, short_of};
@@ -21,6 +23,7 @@ use crate::name_table::{NameTable, short_name};
 use crate::{calls, tokens};
 use cc_base::Token;
 use cil_model::{List, Place};
+use metadata_tables::table::METHOD_DEF;
 use pe_reader::Image;
 use signature_blobs::LocalSig;
 use std::alloc::{AllocError, Global};
@@ -131,6 +134,16 @@ impl<'a> Assembly<'a> {
         ensures accepted { FirstBroken self.now ≡ None }
     {
         &self.methods
+    }
+
+    /// The method that a token names, none where it names no row of the table MethodDef.
+    pub fn method(&self, token: Token) -> Option<&MethodRow>
+        ensures { option_copied result ≡ method_of self.now token }
+    {
+        if token.table() != METHOD_DEF || token.row() == 0 {
+            return None;
+        }
+        self.methods.get(token.row() as usize - 1)
     }
 
     /// What a name means: the methods whose printed name it is, whole or up to the types of the parameters.

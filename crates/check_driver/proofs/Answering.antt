@@ -8,7 +8,7 @@ use Rattle.asm_image.specs.declared.fault.Cause.TheVariants as causes
 use Rattle.cc_base.specs.Tests.{first_of}
 use Rattle.cc_base.specs.Files.{READ_LIMIT}
 use Rattle.cil_model.specs.Limits.{MAX_FILE_BYTES}
-use Rattle.check_driver.specs.Expected.{Answer, USAGE, error_answer, refused_answer, missing_line, missing_or, expected, unit_file_answer, list_answer, bytes_answer, files_answer, file_at}
+use Rattle.check_driver.specs.Expected.{Answer, USAGE, error_answer, refused_answer, missing_line, missing_or, expected, unit_file_answer, list_answer, bytes_answer, files_answer, file_at, il_answer}
 use Rattle.check_driver.specs.Met.{AreContents, first_missing, contents, bytes_read}
 use Rattle.check_driver.specs.Outcome.{Gives, GivesOrUnread, unread_answer}
 use Rattle.check_driver.specs.Words.{command_of, file_names, file_indexes, word_at, words_at}
@@ -43,6 +43,16 @@ list_cut name bytes limit is past =
     let cut = large_first (take limit bytes) (omega (arith, length-take limit bytes)) in
     rw (whole, cut) refl
 
+abbrev pub il_file_answer : List ℕ → List ℕ → List ℕ → Answer
+il_file_answer name method bytes = il_answer name method bytes (FirstBroken bytes)
+
+il_cut : (name method bytes : List ℕ) (limit : ℕ) → limit ≡ READ_LIMIT → READ_LIMIT ≤ length bytes
+    → il_file_answer name method bytes ≡ il_file_answer name method (take limit bytes)
+il_cut name method bytes limit is past =
+    let whole = large_first bytes past in
+    let cut = large_first (take limit bytes) (omega (arith, length-take limit bytes)) in
+    rw (whole, cut) refl
+
 -- So has every answer that has it past the limit.
 cut_alike : (answer : List ℕ → Answer) (bytes : List ℕ) (limit : ℕ) → limit ≡ READ_LIMIT → (READ_LIMIT ≤ length bytes → answer bytes ≡ answer (take limit bytes))
     → answer bytes ≡ answer (take limit bytes)
@@ -72,6 +82,9 @@ bytes_alike : (command : Command) (words : List (List ℕ)) (met : List (Option 
     → bytes_answer command words (contents met) ≡ bytes_answer command words (bytes_read read)
 bytes_alike (commands.Unit file) words met read h = first_alike (unit_file_answer (word_at words file)) met read (λ bytes past. unit_cut (word_at words file) bytes READ_LIMIT refl past) h
 bytes_alike (commands.List file) words met read h = first_alike (list_file_answer (word_at words file)) met read (λ bytes past. list_cut (word_at words file) bytes READ_LIMIT refl past) h
+bytes_alike (commands.Il file method) words met read h =
+    first_alike (il_file_answer (word_at words file) (word_at words method)) met read
+    (λ bytes past. il_cut (word_at words file) (word_at words method) bytes READ_LIMIT refl past) h
 
 -- ---- answers to a command
 

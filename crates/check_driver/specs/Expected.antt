@@ -1,17 +1,24 @@
 -- What a call of the program gives where nothing interrupts it.
 use Rattle.std.specs.Prelude.{ℕ, List, [], ◌++◌, length, Option, Some, None, nat_le, if◌then◌else◌, codes, slice_index_or}
+use Rattle.std.specs.Option.{option_and_then}
+use Rattle.asm_image.specs.Bodies.{method_of}
 use Rattle.asm_image.specs.Faults.{FirstBroken}
+use Rattle.asm_image.specs.Find.{find_of}
 use Rattle.asm_image.specs.declared.fault.AsmFault.{AsmFault}
+use Rattle.asm_image.specs.declared.found.Found.{Found}
+use Rattle.asm_image.specs.declared.found.Found.TheVariants.{One, Several}
 use Rattle.cc_base.specs.Digits.{hex}
 use Rattle.cc_base.specs.Escapes.{escaped}
 use Rattle.cc_base.specs.Files.{READ_LIMIT}
 use Rattle.cil_model.specs.Limits.{MAX_FILE_BYTES}
+use Rattle.cil_model.specs.declared.instruction.Instr.{Instr}
 use Rattle.cil_model.specs.declared.unit.Unit.{Unit as MethodUnit}
 use Rattle.method_unit.specs.Faults.{fault_at}
 use Rattle.method_unit.specs.UnitFile.{first_unit_fault, unit_of}
 use Rattle.method_unit.specs.declared.unit_fault.UnitFault.{UnitFault}
 use Rattle.range_verdicts.specs.Verdicts.{verdicts, all_proved}
 use Rattle.check_driver.specs.FaultText.{unit_fault_text, assembly_fault_text}
+use Rattle.check_driver.specs.IlText.{il_text, method_instrs}
 use Rattle.check_driver.specs.ListText.{list_text}
 use Rattle.check_driver.specs.Met.{first_missing, contents}
 use Rattle.check_driver.specs.ReportText.{unit_report}
@@ -39,6 +46,9 @@ unread_line name = error_line (codes "cannot read " ++ escaped name)
 
 abbrev pub refused_line : List ℕ → List ℕ → ℕ → List ℕ
 refused_line name fault at = error_line (codes "refused " ++ escaped name ++ codes ": " ++ fault ++ codes " at " ++ hex 8 at)
+
+abbrev pub misfit_line : List ℕ → List ℕ
+misfit_line reason = error_line (codes "does not fit: " ++ reason)
 
 abbrev pub UNWRITTEN_LINE : List ℕ
 UNWRITTEN_LINE = error_line (codes "cannot write")
@@ -77,6 +87,26 @@ abbrev pub list_answer : List ℕ → List ℕ → Option AsmFault → Answer
 list_answer name bytes (Some fault) = refused_answer name (assembly_fault_text fault.cause) fault.at
 list_answer name bytes None = output_answer 0 (list_text bytes)
 
+-- The answer where the words name no method that can be shown.
+abbrev pub misfit_answer : List ℕ → Answer
+misfit_answer reason = error_answer 11 (misfit_line reason)
+
+-- The answer to `il` for the instructions of the method, or that it has none that read.
+abbrev pub instrs_answer : Option (List Instr) → Answer
+instrs_answer None = misfit_answer (codes "not analysed")
+instrs_answer (Some instrs) = output_answer 0 (il_text instrs)
+
+-- The answer for what the name means in the assembly that a file is.
+abbrev pub found_answer : List ℕ → Option Found → Answer
+found_answer bytes None = misfit_answer (codes "no method")
+found_answer bytes (Some Several) = misfit_answer (codes "several methods")
+found_answer bytes (Some (One token)) = instrs_answer (option_and_then (method_instrs bytes) (method_of bytes token))
+
+-- The answer to `il FILE METHOD` for the bytes of the file, which have this first fault or none.
+abbrev pub il_answer : List ℕ → List ℕ → List ℕ → Option AsmFault → Answer
+il_answer name method bytes (Some fault) = refused_answer name (assembly_fault_text fault.cause) fault.at
+il_answer name method bytes None = found_answer bytes (find_of bytes method)
+
 -- The bytes of the file at an index among those of a command.
 abbrev pub file_at : List (List ℕ) → ℕ → List ℕ
 file_at files index = slice_index_or files index []
@@ -85,6 +115,8 @@ file_at files index = slice_index_or files index []
 abbrev pub bytes_answer : Command → List (List ℕ) → List (List ℕ) → Answer
 bytes_answer (commands.Unit file) words files = unit_file_answer (word_at words file) (file_at files 0)
 bytes_answer (commands.List file) words files = list_answer (word_at words file) (file_at files 0) (FirstBroken (file_at files 0))
+bytes_answer (commands.Il file method) words files =
+    il_answer (word_at words file) (word_at words method) (file_at files 0) (FirstBroken (file_at files 0))
 
 -- The answer where the first file that is missing has this name, or where none is.
 abbrev pub missing_or : Option (List ℕ) → Answer → Answer

@@ -4,6 +4,7 @@ pub mod Met
 pub mod FaultText
 pub mod ReportText
 pub mod ListText
+pub mod IlText
 pub mod Expected
 pub mod Outcome
 pub mod SingleUnit

@@ -1,7 +1,7 @@
 //! The lines on the sink of errors.
 
 ghost use Rattle.std.specs.Prelude.{◌≡◌, IfOk};
-ghost use Rattle.check_driver.specs.Expected.{missing_line, unread_line, refused_line};
+ghost use Rattle.check_driver.specs.Expected.{misfit_line, missing_line, unread_line, refused_line};
 
 use cc_base::{append_escaped, put_hex};
 use std::alloc::{AllocError, Global};
@@ -32,6 +32,16 @@ pub fn unread_line(alloc: Global, name: &[u8]) -> Result<Vec<u8>, AllocError>
 {
     let mut line = Vec::from_slice(alloc, b"cccheck: cannot read ")?;
     append_escaped(alloc, &mut line, name)?;
+    line.extend_from_slice(b"\n")?;
+    Ok(line)
+}
+
+/// The line that tells why the words name no method that can be shown.
+pub fn misfit_line(alloc: Global, reason: &[u8]) -> Result<Vec<u8>, AllocError>
+    ensures { IfOk result (λ line. line.items ≡ misfit_line reason.now) }
+{
+    let mut line = Vec::from_slice(alloc, b"cccheck: does not fit: ")?;
+    line.extend_from_slice(reason)?;
     line.extend_from_slice(b"\n")?;
     Ok(line)
 }

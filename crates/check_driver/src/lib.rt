@@ -4,6 +4,7 @@
 mod command;
 mod errors;
 mod fault_text;
+mod il_answer;
 mod interrupt;
 mod lines;
 mod list_answer;

@@ -12,11 +12,12 @@ ghost use Rattle.check_driver.specs.Expected.{bytes_answer, expected, files_answ
 ghost use Rattle.check_driver.specs.Met.{AreUnder, bytes_read};
 ghost use Rattle.check_driver.specs.Outcome.{Gives, GivesOrUnread, Leaves, last_line, status_of};
 ghost use Rattle.check_driver.specs.SingleUnit.{AsksFor, PrintsProved};
-ghost use Rattle.check_driver.specs.Words.{command_of, file_indexes, file_names, words_at, words_bytes};
+ghost use Rattle.check_driver.specs.Words.{command_of, file_indexes, file_names, used_indexes, words_at, words_bytes};
 ghost use Rattle.check_driver.specs.Writing.{change_of};
 
 use crate::command::{Command, parse_words, word_at};
 use crate::errors::{NO_MEMORY, UNWRITTEN, USAGE};
+use crate::il_answer::answer_il;
 use crate::interrupt::Interrupt;
 use crate::list_answer::answer_list;
 use crate::puts::{answer_error, answer_missing, answer_unread};
@@ -34,7 +35,7 @@ fn answer_bytes<O: Sink, E: Sink>(
     out: &mut O,
     err: &mut E,
 ) -> Result<u8, Interrupt>
-    requires words { All (λ index. index < length words.now) (file_indexes command) }
+    requires words { All (λ index. index < length words.now) (used_indexes command) }
     requires read { length read.now ≡ length (file_indexes command) }
     ensures { Gives (bytes_answer command (words_bytes words.now) (bytes_read read.now)) result
         (change_of O.written O.faults out.old out.new) (change_of E.written E.faults err.old err.new) }
@@ -45,6 +46,10 @@ fn answer_bytes<O: Sink, E: Sink>(
         }
         Command::List(file) => {
             answer_list(alloc, word_at(words, file).as_bytes(), &read[0], out, err)
+        }
+        Command::Il { file, method } => {
+            let (name, method) = (word_at(words, file), word_at(words, method));
+            answer_il(alloc, name.as_bytes(), method.as_bytes(), &read[0], out, err)
         }
     }
 }
@@ -58,7 +63,7 @@ fn answer_command<F: Files, O: Sink, E: Sink>(
     out: &mut O,
     err: &mut E,
 ) -> Result<u8, Interrupt>
-    requires { All (λ index. index < length words.now) (file_indexes command) }
+    requires { All (λ index. index < length words.now) (used_indexes command) }
     ensures answer { let given = words_bytes words.now in
         let names = words_at given (file_indexes command) in
         (met : List (Option (List ℕ))) × AreUnder (F.held files.old) names met

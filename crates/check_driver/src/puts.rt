@@ -3,10 +3,10 @@
 #![tactic(auto, using(cc_base::proofs::SinkLemmas::sinks, cc_base::proofs::CountLemmas::counts))]
 
 ghost use Rattle.std.specs.Prelude.{◌≡◌, IfOk};
-ghost use Rattle.check_driver.specs.Expected.{missing_line, refused_line, unread_line};
+ghost use Rattle.check_driver.specs.Expected.{misfit_line, missing_line, refused_line, unread_line};
 ghost use Rattle.check_driver.specs.Writing.{Writes, change_of, joined};
 
-use crate::errors::{missing_line, refused_line, unread_line};
+use crate::errors::{misfit_line, missing_line, refused_line, unread_line};
 use crate::interrupt::Interrupt;
 use cc_base::Sink;
 use std::alloc::Global;
@@ -59,6 +59,15 @@ pub fn answer_unread<E: Sink>(alloc: Global, name: &[u8], err: &mut E) -> Result
 {
     let line = unread_line(alloc, name)?;
     answer_error(alloc, 4, &line, err)
+}
+
+/// Answers that the words name no method that can be shown, for this reason.
+pub fn answer_misfit<E: Sink>(alloc: Global, reason: &[u8], err: &mut E) -> Result<u8, Interrupt>
+    ensures status { IfOk result (λ given. given ≡ 11) }
+    ensures written { Writes result (change_of E.written E.faults err.old err.new) (misfit_line reason.now) }
+{
+    let line = misfit_line(alloc, reason)?;
+    answer_error(alloc, 11, &line, err)
 }
 
 /// Answers that a file is refused, with the words of its fault and the offset.

@@ -8,8 +8,8 @@ use Rattle.cc_base.specs.Tests.{first_of}
 use Rattle.cc_base.proofs.TestLemmas.{first_of-nil, first_of-none, first_of-some}
 use Rattle.cil_model.specs.declared.instruction.Instr.{Instr}
 use Rattle.il_decoder.specs.Decodes.{Reaches}
-use Rattle.il_decoder.specs.Decoding.{decoded}
-use Rattle.method_unit.specs.UnitFile.{offset_behind, decodings, all_decodings, decoding_test, decoding_tests, instructions, instructions_of, offset_of}
+use Rattle.il_decoder.specs.Decoding.{decoded, offset_behind, decodings, all_decodings, instructions, instructions_of}
+use Rattle.method_unit.specs.UnitFile.{decoding_test, decoding_tests, offset_of}
 use Rattle.method_unit.specs.declared.unit_fault.UnitFault.{UnitFault}
 
 -- What is decoded before the end, and at it.
@@ -34,7 +34,7 @@ pub record AreRead (base : ℕ) (code : List ℕ) (read : List Instr) (at : ℕ)
   pub inside : at ≤ length code
   pub few : length read ≤ at
   pub near : All (λ i. i.at < length code) read
-  pub tests : first_of (map (decoding_test base) (decodings (length code - length read) code at)) ≡ first_of (decoding_tests base code)
+  pub tests : first_of (map (decoding_test base code) (decodings (length code - length read) code at)) ≡ first_of (decoding_tests base code)
   pub whole : read ++ instructions (decodings (length code - length read) code at) ≡ instructions_of code
 
 pub read-none : (base : ℕ) (code : List ℕ) (read : List Instr) → read ≡ [] → AreRead base code read 0
@@ -44,36 +44,36 @@ read-none base code read none =
     rw none (record { inside = omega arith; few = omega arith; near = λ k d h. absurd (omega arith); tests = rw all refl; whole = rw all refl })
 
 pub read-next : (base : ℕ) (code : List ℕ) (read more : List Instr) (at : ℕ) (i : Instr) → AreRead base code read at → at < length code → more ≡ read ++ i ∷ []
-    → decoding_test base (decoded code at) ≡ None → decoded code at ≡ Ok i → i.at ≡ at → Reaches i code → AreRead base code more (at + i.size)
+    → decoding_test base code (decoded code at) ≡ None → decoded code at ≡ Ok i → i.at ≡ at → Reaches i code → AreRead base code more (at + i.size)
 read-next base code read more at i so_far inside is passed found place reach =
     let few = so_far.few in
     let left : length code - length read ≡ suc (length code - (length read + 1)) = omega arith in
     let long : length (read ++ i ∷ []) ≡ length read + 1 = length-append read (i ∷ []) in
     let most = length code - (length read + 1) in
     let here : decodings (length code - length read) code at ≡ Ok i ∷ decodings most code (at + i.size) = rw left (one_more most code at i inside found) in
-    let none : decoding_test base (Ok i) ≡ None = ap (decoding_test base) (sym found) ∙ passed in
+    let none : decoding_test base code (Ok i) ≡ None = ap (decoding_test base code) (sym found) ∙ passed in
     rw is (record {
       inside = omega (arith, reach.inside, place);
       few = omega (arith, reach.some, long);
       near = All-push (λ j. j.at < length code) read i so_far.near (omega arith);
-      tests = rw long (sym (ap (λ ds. first_of (map (decoding_test base) ds)) here ∙ first_of-none _ _ none) ∙ so_far.tests);
+      tests = rw long (sym (ap (λ ds. first_of (map (decoding_test base code) ds)) here ∙ first_of-none _ _ none) ∙ so_far.tests);
       whole = rw long (append_assoc read (i ∷ []) _ ∙ sym (ap (λ ds. read ++ instructions ds) here) ∙ so_far.whole);
     })
 
 pub read-fault : (base : ℕ) (code : List ℕ) (read : List Instr) (at : ℕ) (fault : UnitFault) → AreRead base code read at → at < length code
-    → decoding_test base (decoded code at) ≡ Some fault → first_of (decoding_tests base code) ≡ Some fault
+    → decoding_test base code (decoded code at) ≡ Some fault → first_of (decoding_tests base code) ≡ Some fault
 read-fault base code read at fault so_far inside failed =
     let few = so_far.few in
     let left : length code - length read ≡ suc (length code - (length read + 1)) = omega arith in
     let rest = decodings (length code - (length read + 1)) code (offset_behind code at (decoded code at)) in
     let here : decodings (length code - length read) code at ≡ decoded code at ∷ rest = rw left (decodings-more (length code - (length read + 1)) code at inside) in
-    sym so_far.tests ∙ ap (λ ds. first_of (map (decoding_test base) ds)) here ∙ first_of-some _ _ fault failed
+    sym so_far.tests ∙ ap (λ ds. first_of (map (decoding_test base code) ds)) here ∙ first_of-some _ _ fault failed
 
 pub read-all : (base : ℕ) (code : List ℕ) (read : List Instr) (at : ℕ) → AreRead base code read at → length code ≤ at
     → (first_of (decoding_tests base code) ≡ None) × (read ≡ instructions_of code)
 read-all base code read at so_far past =
     let none = decodings-end (length code - length read) code at past in
-    (sym so_far.tests ∙ ap (λ ds. first_of (map (decoding_test base) ds)) none ∙ first_of-nil, sym (append-nil read) ∙ sym (ap (λ ds. read ++ instructions ds) none) ∙ so_far.whole)
+    (sym so_far.tests ∙ ap (λ ds. first_of (map (decoding_test base code) ds)) none ∙ first_of-nil, sym (append-nil read) ∙ sym (ap (λ ds. read ++ instructions ds) none) ∙ so_far.whole)
 
 pub ruleset one_by_one = (read-next, read-fault, read-all)
 

@@ -3,7 +3,7 @@
 use Rattle.std.proofs.Common.{◌≡◌, ℕ, zero, suc, ◌+◌, ◌<◌, ◌≤◌, true, List, [], ◌∷◌, ◌++◌, length, map, replicate, None, Result, Ok, Err, Fits, w8, slice_index, refl, sym, ap, ap₂, subst, ◌∙◌, arith, codes, ◌↔◌}
 use Rattle.std.specs.Prelude.{IfOk}
 use Rattle.std.specs.List.{AllByRecursion}
-use Rattle.std.proofs.lemmas.Bool.{and_parts, leb-true}
+use Rattle.std.proofs.lemmas.Bool.{and_parts, false≢true, leb-true}
 use Rattle.std.proofs.lemmas.List.{length-replicate}
 use Rattle.byteorder.specs.Endian.{little_bytes}
 use Rattle.cc_base.specs.LittleEndian.{IsBytes}
@@ -13,14 +13,19 @@ use Rattle.cc_base.specs.Tests.{JudgesOrNoMemory}
 use Rattle.cc_base.specs.declared.refusal.Refusal.{Refusal}
 use Rattle.cc_base.specs.declared.refusal.Refusal.TheVariants.{Bad, NoMemory}
 use Rattle.cil_model.specs.Places.{place_number}
-use Rattle.cil_model.specs.Spells.{CodeFrom}
+use Rattle.cil_model.specs.Blocks.{branch_targets}
+use Rattle.cil_model.specs.Code.{CodeFrom, MeetsStarts}
 use Rattle.cil_model.specs.declared.instruction.Instr.{Instr}
+use Rattle.cil_model.specs.declared.instruction.Op.{Op}
+use Rattle.cil_model.specs.declared.instruction.Op.TheVariants as ops
 use Rattle.cil_model.specs.declared.place.Place.{Place}
 use Rattle.cil_model.specs.declared.place.Place.TheVariants as places
 use Rattle.cil_model.specs.declared.unit.Unit.{Unit as MethodUnit}
 use Rattle.cil_model.proofs.Forms.{spelling_bytes}
+use Rattle.il_decoder.specs.Decoding.{all_decodings, instructions_of}
+use Rattle.method_unit.specs.Built.{is_built}
 use Rattle.method_unit.specs.Typing.{typing_tests}
-use Rattle.method_unit.specs.UnitFile.{arg_count, max_stack, code_offset, code_of, field_tests, all_decodings, decoding_tests, instructions_of, limit_tests, unit_tests, first_unit_fault, is_printable, unit_of}
+use Rattle.method_unit.specs.UnitFile.{arg_count, max_stack, code_offset, code_of, field_tests, decoding_tests, limit_tests, unit_tests, first_unit_fault, is_printable, unit_of}
 use Rattle.method_unit.specs.UnitSpelling.{unit_bytes, IsBuilt, ReadsOnly}
 use Rattle.method_unit.specs.declared.unit_fault.UnitFault.{UnitFault}
 use Rattle.method_unit.proofs.Passed.{at_most}
@@ -89,6 +94,16 @@ code_bytes : (bytes : List ℕ) → IsBytes bytes → IsBytes (code_of bytes)
 unfolding code_of
 code_bytes bytes fits = IsBytes-take _ _ (IsBytes-drop _ bytes fits)
 
+-- A built instruction branches nowhere.
+built_targets : (op : Op) → is_built op ≡ true → branch_targets op ≡ []
+built_targets (ops.Branch test target) built = absurd (false≢true built)
+built_targets (ops.Switch targets) built = absurd (false≢true built)
+built_targets _ built = refl
+
+no_targets : (instrs is : List Instr) → AllByRecursion (λ i. is_built i.op ≡ true) is → AllByRecursion (MeetsStarts instrs) is
+no_targets instrs [] built = tt
+no_targets instrs (i ∷ is) built = (rw (built_targets i.op built.0) tt, no_targets instrs is built.1)
+
 taken_built : (bytes : List ℕ) → FieldsTaken bytes → UnitPassed bytes → IsCode (code_of bytes) 0 (instructions_of (code_of bytes)) → IsBuilt (unit_of bytes)
 unfolding unit_of
 taken_built bytes f p code =
@@ -103,10 +118,10 @@ taken_built bytes f p code =
       clauses = refl;
       body = refl;
       variables = rw n f.few;
-      code = code.0;
+      code = record { spelled = code.0; targets = no_targets _ _ code.1 };
       code_length = f.code_short;
       few = (within_limit _ _).0 p.few;
-      calls = code.1;
+      instructions = code.1;
       typed = rw n ((typed _ _ _ _ _ _).0 p.typed);
     }
 
@@ -130,7 +145,7 @@ built_spelled unit built =
 
 again_passed : (bytes : List ℕ) (unit : MethodUnit) → IsBuilt unit → FieldsAgain bytes unit.name unit.code (length unit.args) unit.max_stack → first_unit_fault bytes ≡ None
 again_passed bytes unit built f =
-    let code = code_again (code_offset bytes) unit.code unit.instrs (built.code, built.calls) in
+    let code = code_again (code_offset bytes) unit.code unit.instrs (built.code.spelled, built.instructions) in
     (no_fault bytes).1 (record {
       fields = f.passed;
       decoded = rw f.same_code code.0;
@@ -142,7 +157,7 @@ again_same : (bytes : List ℕ) (unit : MethodUnit) → IsBuilt unit → FieldsA
 unfolding unit_of
 again_same bytes unit built f =
     let args : replicate (arg_count bytes) places.Int ≡ unit.args = ap (λ (n : ℕ). replicate n places.Int) f.same_args ∙ sym (all_ints unit.args built.args) in
-    let instrs : instructions_of (code_of bytes) ≡ unit.instrs = ap instructions_of f.same_code ∙ (code_again 0 unit.code unit.instrs (built.code, built.calls)).1 in
+    let instrs : instructions_of (code_of bytes) ≡ unit.instrs = ap instructions_of f.same_code ∙ (code_again 0 unit.code unit.instrs (built.code.spelled, built.instructions)).1 in
     let result = sym built.result in
     let locals = sym built.locals in
     let callees = sym built.callees in
@@ -175,7 +190,7 @@ one_unit a b built other e = sym (unit_again a built).1 ∙ ap unit_of e ∙ (un
 instructions_bytes : (at : ℕ) (is : List Instr) (code : List ℕ) → CodeFrom at is code → IsBytes code
 instructions_bytes at [] code h = rw h IsBytes-nil
 instructions_bytes at (i ∷ is) code (place, (bytes, rest, spells, whole, behind)) =
-    rw whole (IsBytes-append bytes rest (spelling_bytes i.op bytes spells.0) (instructions_bytes (at + i.size) is rest behind))
+    rw whole (IsBytes-append bytes rest (spelling_bytes i bytes spells) (instructions_bytes (at + i.size) is rest behind))
 
 name_bytes : (name : List ℕ) → AllByRecursion (λ b. is_printable b ≡ true) name → IsBytes name
 name_bytes [] all = IsBytes-nil
@@ -207,7 +222,7 @@ pub built_bytes : (unit : MethodUnit) → IsBuilt unit → IsBytes (unit_bytes u
 built_bytes unit built =
     let variables = built.variables in
     subst IsBytes (sym (built_spelled unit built))
-    (spelled_bytes unit.name unit.code (length unit.args) unit.max_stack (name_bytes unit.name built.name) (instructions_bytes 0 unit.instrs unit.code built.code) (omega arith) (omega arith))
+    (spelled_bytes unit.name unit.code (length unit.args) unit.max_stack (name_bytes unit.name built.name) (instructions_bytes 0 unit.instrs unit.code built.code.spelled) (omega arith) (omega arith))
 
 -- ---- the answer of a reader
 

@@ -1,21 +1,19 @@
 -- The tests of a unit file, in order, and the unit of a file that passes them, each by its offsets in the
 -- whole file.
-use Rattle.std.specs.Prelude.{ℕ, zero, suc, ◌+◌, List, [], ◌∷◌, ◌++◌, length, map, take, drop, replicate, slice_index, Bool, false, not, ◌&&◌, ◌==◌, nat_le, is_some, Option, Some, Result, Ok, Err, if◌then◌else◌}
+use Rattle.std.specs.Prelude.{ℕ, ◌+◌, List, [], ◌∷◌, ◌++◌, length, map, take, drop, replicate, slice_index, Bool, not, ◌&&◌, ◌==◌, nat_le, is_some, Option, Some, Result, Ok, Err, if◌then◌else◌}
 use Rattle.std.specs.List.{flat_map, range_with_len}
 use Rattle.cc_base.specs.LittleEndian.{u16_at, u32_at}
 use Rattle.cc_base.specs.Tests.{first_of, must}
 use Rattle.cil_model.specs.Limits.{MAX_CODE_BYTES, MAX_INSTRUCTIONS, MAX_VARIABLES}
 use Rattle.cil_model.specs.Places.{place_number, place_of_number}
-use Rattle.cil_model.specs.UnitCalls.{unit_call, is_assert}
 use Rattle.cil_model.specs.declared.instruction.Instr.{Instr}
-use Rattle.cil_model.specs.declared.instruction.Op.{Op}
-use Rattle.cil_model.specs.declared.instruction.Op.TheVariants as ops
 use Rattle.cil_model.specs.declared.place.Place.TheVariants as places
 use Rattle.cil_model.specs.declared.unit.Unit.{Unit as MethodUnit}
-use Rattle.il_decoder.specs.Decoding.{decoded}
+use Rattle.il_decoder.specs.Decoding.{all_decodings, instructions_of}
 use Rattle.il_decoder.specs.Faults.{fault_at}
 use Rattle.il_decoder.specs.declared.fault.IlFault.{IlFault}
-use Rattle.il_decoder.specs.declared.fault.IlFault.TheVariants.{Opcode}
+use Rattle.il_decoder.specs.declared.fault.IlFault.TheVariants.{Opcode, Short as Cut}
+use Rattle.method_unit.specs.Built.{begins_built, is_built}
 use Rattle.method_unit.specs.Typing.{typing_tests}
 use Rattle.method_unit.specs.declared.unit_fault.UnitFault.{UnitFault}
 use Rattle.method_unit.specs.declared.unit_fault.UnitFault.TheVariants.{Short, Form, Version, NotBuilt}
@@ -167,48 +165,20 @@ field_tests bytes =
 
 -- ---- the instructions' tests
 
--- Where what stands behind a decoded instruction begins: nothing is read behind a fault.
-abbrev pub offset_behind : List ℕ → ℕ → Result Instr IlFault → ℕ
-offset_behind code at (Ok i) = at + i.size
-offset_behind code at (Err fault) = length code
-
--- What is decoded from an IL offset of code on, this often at most, up to its end or the first fault.
-unfoldable pub decodings : ℕ → List ℕ → ℕ → List (Result Instr IlFault)
-decodings zero code at = []
-decodings (suc most) code at =
-    if nat_le (length code) at then []
-    else decoded code at ∷ decodings most code (offset_behind code at (decoded code at))
-
--- The same for the whole code, which has no more instructions than bytes.
-unfoldable pub all_decodings : List ℕ → List (Result Instr IlFault)
-all_decodings code = decodings (length code) code 0
-
--- A call of something else than Assert.
-abbrev pub is_other_call : Op → Bool
-is_other_call (ops.Call number) = not (is_assert (unit_call number))
-is_other_call _ = false
-
--- How a fault of the decoder is named. The code begins at the offset `base` of the file.
-abbrev pub code_fault : ℕ → IlFault → UnitFault
-code_fault base (Opcode at opcode) = NotBuilt (base + at)
-code_fault base fault = Form (base + fault_at fault)
+-- How a fault of the decoder is named. The code begins at the offset `base` of the file. Where it ends inside an
+-- instruction that is not built, that instruction is the fault.
+abbrev pub code_fault : ℕ → List ℕ → IlFault → UnitFault
+code_fault base code (Opcode at opcode) = NotBuilt (base + at)
+code_fault base code (Cut at) = if begins_built (drop at code) then Form (base + at) else NotBuilt (base + at)
+code_fault base code fault = Form (base + fault_at fault)
 
 -- What was decoded is an instruction that is built.
-abbrev pub decoding_test : ℕ → Result Instr IlFault → Option UnitFault
-decoding_test base (Ok i) = must (not (is_other_call i.op)) (NotBuilt (base + i.at))
-decoding_test base (Err fault) = Some (code_fault base fault)
+abbrev pub decoding_test : ℕ → List ℕ → Result Instr IlFault → Option UnitFault
+decoding_test base code (Ok i) = must (is_built i.op) (NotBuilt (base + i.at))
+decoding_test base code (Err fault) = Some (code_fault base code fault)
 
 unfoldable pub decoding_tests : ℕ → List ℕ → List (Option UnitFault)
-decoding_tests base code = map (decoding_test base) (all_decodings code)
-
--- The instructions that were decoded.
-abbrev pub instructions : List (Result Instr IlFault) → List Instr
-instructions [] = []
-instructions (Ok i ∷ rest) = i ∷ instructions rest
-instructions (Err fault ∷ rest) = instructions rest
-
-unfoldable pub instructions_of : List ℕ → List Instr
-instructions_of code = instructions (all_decodings code)
+decoding_tests base code = map (decoding_test base code) (all_decodings code)
 
 -- The IL offset of the instruction of an index.
 unfoldable pub offset_of : List Instr → ℕ → ℕ

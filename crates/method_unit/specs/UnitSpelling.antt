@@ -1,17 +1,18 @@
 -- Units that are built, and the one spelling of each as a file.
-use Rattle.std.specs.Prelude.{◌≡◌, ℕ, ◌+◌, ◌^◌, ◌<◌, ◌≤◌, false, true, List, [], ◌∷◌, ◌++◌, length, map, Result, Ok, Err, codes}
+use Rattle.std.specs.Prelude.{◌≡◌, ℕ, ◌+◌, ◌^◌, ◌<◌, ◌≤◌, true, List, [], ◌∷◌, ◌++◌, length, map, Result, Ok, Err, codes}
 use Rattle.std.specs.List.{AllByRecursion}
 use Rattle.byteorder.specs.Endian.{little_bytes}
 use Rattle.cc_base.specs.declared.refusal.Refusal.{Refusal}
 use Rattle.cc_base.specs.declared.refusal.Refusal.TheVariants as refusals
 use Rattle.cil_model.specs.Limits.{MAX_CODE_BYTES, MAX_INSTRUCTIONS, MAX_VARIABLES}
 use Rattle.cil_model.specs.Places.{place_number}
-use Rattle.cil_model.specs.Spells.{CodeOf}
+use Rattle.cil_model.specs.Code.{CodeOf}
 use Rattle.cil_model.specs.declared.place.Place.{Place}
 use Rattle.cil_model.specs.declared.place.Place.TheVariants as places
 use Rattle.cil_model.specs.declared.unit.Unit.{Unit as MethodUnit}
+use Rattle.method_unit.specs.Built.{is_built}
 use Rattle.method_unit.specs.Typing.{is_typed}
-use Rattle.method_unit.specs.UnitFile.{is_printable, is_other_call}
+use Rattle.method_unit.specs.UnitFile.{is_printable}
 use Rattle.method_unit.specs.declared.unit_fault.UnitFault.{UnitFault}
 
 -- A list of places: their number, and a byte for each.
@@ -26,8 +27,7 @@ unit_bytes unit =
     ∷ (little_bytes 2 (length unit.callees) ++ (little_bytes 4 (length unit.code) ++ unit.code))))))))
 
 -- The unit is built: its result and arguments are int32, it has neither locals nor callees nor clauses,
--- its code is the spelling of its instructions, calls nothing but Assert and is typed, and it keeps the
--- limits.
+-- its code is the spelling of its instructions, each of them is built, it is typed and it keeps the limits.
 pub record IsBuilt (unit : MethodUnit) : Type 0 where
   pub name : AllByRecursion (λ b. is_printable b ≡ true) unit.name
   pub name_length : length unit.name < 2 ^ 16
@@ -41,7 +41,7 @@ pub record IsBuilt (unit : MethodUnit) : Type 0 where
   pub code : CodeOf unit.instrs unit.code
   pub code_length : length unit.code ≤ MAX_CODE_BYTES
   pub few : length unit.instrs ≤ MAX_INSTRUCTIONS
-  pub calls : AllByRecursion (λ i. is_other_call i.op ≡ false) unit.instrs
+  pub instructions : AllByRecursion (λ i. is_built i.op ≡ true) unit.instrs
   pub typed : is_typed (length unit.args) unit.max_stack 0 unit.instrs ≡ true
 
 -- What was returned is this unit, unless memory ran out.

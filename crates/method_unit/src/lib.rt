@@ -1,6 +1,7 @@
 //! Methods in the unit form: a file for one method, with all that its check depends on.
 #![tactic(auto)]
 
+mod built;
 mod typing;
 mod unit_fault;
 mod unit_fields;

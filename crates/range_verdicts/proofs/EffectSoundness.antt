@@ -10,7 +10,6 @@ use Rattle.cil_model.specs.Effects.{Effect, Faults, goes_on, binary, tests_condi
 use Rattle.cil_model.specs.UnitCalls.{unit_call, callee_of, is_assert}
 use Rattle.cil_model.specs.Values.{Heap, FitPlaces, FitsPlace}
 use Rattle.cil_model.specs.WellFormed.{called_by}
-use Rattle.cil_model.specs.Spells.{SpellsOp, SpellsBin}
 use Rattle.cil_model.specs.declared.instruction.BinOp.{BinOp}
 use Rattle.cil_model.specs.declared.instruction.BinOp.TheVariants as operators
 use Rattle.cil_model.specs.declared.instruction.Instr.{Instr}
@@ -30,7 +29,7 @@ use Rattle.cil_model.proofs.Lists.{of_found}
 use Rattle.method_unit.specs.UnitSpelling.{IsBuilt}
 use Rattle.range_verdicts.specs.Ranges.{Has, one, full, sum, less, equal, is_zero}
 use Rattle.method_unit.specs.Typing.{operands, is_return, lacks_argument, height_after, breaks}
-use Rattle.method_unit.specs.UnitFile.{is_other_call}
+use Rattle.method_unit.specs.Built.{is_built, is_built_operator}
 use Rattle.range_verdicts.specs.States.{combined, after_known, shows_assert}
 use Rattle.range_verdicts.specs.Verdicts.{has_obligation}
 use Rattle.range_verdicts.specs.declared.range.Range.{Range}
@@ -100,21 +99,21 @@ pub record Gives (operator : BinOp) (i : Instr) (f : Frame) (heap : Heap) (stack
   pub known : combined operator a b ≡ Some range
   pub has : Has range number
 
-operator_gives : (operator : BinOp) (bytes : List ℕ) (i : Instr) (f : Frame) (heap : Heap) (stack : List Value) (a b : Range) (m n : ℤ)
-    → SpellsBin operator bytes → Has a m → Has b n → Gives operator i f heap stack a b m n
-operator_gives operators.Add bytes i f heap stack a b m n spelled hasM hasN = record { number = wrap32 (m +ℤ n); range = sum a b; pushed = refl; known = refl; has = Has-sum a b m n hasM hasN }
-operator_gives operators.Ceq bytes i f heap stack a b m n spelled hasM hasN =
+operator_gives : (operator : BinOp) (i : Instr) (f : Frame) (heap : Heap) (stack : List Value) (a b : Range) (m n : ℤ)
+    → is_built_operator operator ≡ true → Has a m → Has b n → Gives operator i f heap stack a b m n
+operator_gives operators.Add i f heap stack a b m n built hasM hasN = record { number = wrap32 (m +ℤ n); range = sum a b; pushed = refl; known = refl; has = Has-sum a b m n hasM hasN }
+operator_gives operators.Ceq i f heap stack a b m n built hasM hasN =
     record { number = truth (int_eq m n); range = equal a b; pushed = refl; known = refl; has = Has-equal a b m n hasM hasN }
-operator_gives operators.Cgt bytes i f heap stack a b m n spelled hasM hasN =
+operator_gives operators.Cgt i f heap stack a b m n built hasM hasN =
     record { number = truth (int_lt n m); range = less b a; pushed = refl; known = refl; has = Has-less b a n m hasN hasM }
-operator_gives operators.Clt bytes i f heap stack a b m n spelled hasM hasN =
+operator_gives operators.Clt i f heap stack a b m n built hasM hasN =
     record { number = truth (int_lt m n); range = less a b; pushed = refl; known = refl; has = Has-less a b m n hasM hasN }
-operator_gives _ bytes i f heap stack a b m n spelled hasM hasN = absurd spelled
+operator_gives _ i f heap stack a b m n built hasM hasN = absurd (false≢true built)
 
-binary_goes : (operator : BinOp) (bytes : List ℕ) (i : Instr) (f : Frame) (heap : Heap) (known : List Range) (stack : List Value)
-    → SpellsBin operator bytes → StackHolds known stack → 2 ≤ length stack → Goes (ops.Bin operator) i f heap (binary operator (comparison_of operator) i f heap stack) known stack
-binary_goes operator bytes i f heap (b ∷ a ∷ known) (values.Int n ∷ values.Int m ∷ stack) spelled holds tall =
-    let given = operator_gives operator bytes i f heap stack a b m n spelled holds.1.0 holds.0 in
+binary_goes : (operator : BinOp) (i : Instr) (f : Frame) (heap : Heap) (known : List Range) (stack : List Value)
+    → is_built_operator operator ≡ true → StackHolds known stack → 2 ≤ length stack → Goes (ops.Bin operator) i f heap (binary operator (comparison_of operator) i f heap stack) known stack
+binary_goes operator i f heap (b ∷ a ∷ known) (values.Int n ∷ values.Int m ∷ stack) built holds tall =
+    let given = operator_gives operator bytes i f heap stack a b m n built holds.1.0 holds.0 in
     record {
       stack = values.Int given.number ∷ stack;
       ranges = given.range ∷ known;
@@ -123,7 +122,7 @@ binary_goes operator bytes i f heap (b ∷ a ∷ known) (values.Int n ∷ values
       holds = (given.has, holds.1.1);
       height = omega arith;
     }
-binary_goes operator bytes i f heap known stack spelled holds tall = absurd (grind (arith, same_height known stack holds))
+binary_goes operator i f heap known stack built holds tall = absurd (grind (arith, same_height known stack holds))
 
 -- ---- Contract.Assert
 
@@ -163,15 +162,12 @@ argument_named args limit n height typed =
     let named = unbroken (nat_lt height (operands op)) (lacks_argument args op) (nat_lt limit (height_after op height)) typed in
     ltb-true n args (not-false (nat_lt n args) named.1)
 
-pub calls_assert : (number : ℕ) → is_other_call (ops.Call number) ≡ false → is_assert (unit_call number) ≡ true
-calls_assert number h = not-false (is_assert (unit_call number)) h
-
 -- A typed instruction that is no return lets the frame go on, within what is then known.
-pub effects_go : (op : Op) (bytes : List ℕ) (unit : MethodUnit) (i : Instr) (f : Frame) (heap : Heap) (args : List Place) (limit : ℕ) (known : List Range)
-    → SpellsOp op bytes → is_return op ≡ false → is_other_call op ≡ false → breaks (length args) limit (length f.stack) op ≡ false
+pub effects_go : (op : Op) (unit : MethodUnit) (i : Instr) (f : Frame) (heap : Heap) (args : List Place) (limit : ℕ) (known : List Range)
+    → is_built op ≡ true → is_return op ≡ false → breaks (length args) limit (length f.stack) op ≡ false
     → (has_obligation op ≡ true → shows_assert (Known known) ≡ true) → AllInts args → FitPlaces heap args f.args → StackHolds known f.stack
     → Goes op i f heap (effects_of op unit i f heap) known f.stack
-effects_go ops.Nop bytes unit i f heap args limit known spelled passes calls typed shown ints fit holds =
+effects_go ops.Nop unit i f heap args limit known built passes typed shown ints fit holds =
     record {
       stack = f.stack;
       ranges = known;
@@ -180,7 +176,7 @@ effects_go ops.Nop bytes unit i f heap args limit known spelled passes calls typ
       holds = holds;
       height = omega arith;
     }
-effects_go (ops.LoadArg n) bytes unit i f heap args limit known spelled passes calls typed shown ints fit holds =
+effects_go (ops.LoadArg n) unit i f heap args limit known built passes typed shown ints fit holds =
     let there = argument_there heap args f.args n ints fit (argument_named (length args) limit n (length f.stack) typed) in
     record {
       stack = values.Int there.0 ∷ f.stack;
@@ -190,7 +186,7 @@ effects_go (ops.LoadArg n) bytes unit i f heap args limit known spelled passes c
       holds = (Has-full there.0 there.2, holds);
       height = omega arith;
     }
-effects_go (ops.Const n) bytes unit i f heap args limit known spelled passes calls typed shown ints fit holds =
+effects_go (ops.Const n) unit i f heap args limit known built passes typed shown ints fit holds =
     record {
       stack = values.Int n ∷ f.stack;
       ranges = one n ∷ known;
@@ -199,14 +195,13 @@ effects_go (ops.Const n) bytes unit i f heap args limit known spelled passes cal
       holds = (Has-one n, holds);
       height = omega arith;
     }
-effects_go (ops.Bin operator) bytes unit i f heap args limit known spelled passes calls typed shown ints fit holds =
-    binary_goes operator bytes i f heap known f.stack spelled holds (operands_there (length args) limit (ops.Bin operator) (length f.stack) typed)
-effects_go (ops.Call number) bytes unit i f heap args limit known spelled passes calls typed shown ints fit holds =
-    let assert = calls_assert number calls in
-    rw (is_assert-true (unit_call number) assert)
-    (asserts_goes number i f heap known f.stack assert holds (operands_there (length args) limit (ops.Call number) (length f.stack) typed) (shown assert))
-effects_go ops.Return bytes unit i f heap args limit known spelled passes calls typed shown ints fit holds = absurd (true≢false passes)
-effects_go _ bytes unit i f heap args limit known spelled passes calls typed shown ints fit holds = absurd spelled
+effects_go (ops.Bin operator) unit i f heap args limit known built passes typed shown ints fit holds =
+    binary_goes operator i f heap known f.stack built holds (operands_there (length args) limit (ops.Bin operator) (length f.stack) typed)
+effects_go (ops.Call number) unit i f heap args limit known built passes typed shown ints fit holds =
+    rw (is_assert-true (unit_call number) built)
+    (asserts_goes number i f heap known f.stack built holds (operands_there (length args) limit (ops.Call number) (length f.stack) typed) (shown built))
+effects_go ops.Return unit i f heap args limit known built passes typed shown ints fit holds = absurd (true≢false passes)
+effects_go _ unit i f heap args limit known built passes typed shown ints fit holds = absurd (false≢true built)
 
 -- ---- calls
 
@@ -214,14 +209,14 @@ assert_calls_none : (call : Option UnitCall) → is_assert call ≡ true → cal
 assert_calls_none (Some (calls.Assert false)) e = refl
 assert_calls_none _ e = absurd (false≢true e)
 
-op_calls_none : (op : Op) → is_other_call op ≡ false → called_by op ≡ None
-op_calls_none (ops.Call number) passes = assert_calls_none (unit_call number) (calls_assert number passes)
+op_calls_none : (op : Op) → is_built op ≡ true → called_by op ≡ None
+op_calls_none (ops.Call number) passes = assert_calls_none (unit_call number) passes
 op_calls_none _ passes = refl
 
-each_calls_none : (is : List Instr) → AllByRecursion (λ i. is_other_call i.op ≡ false) is → AllByRecursion (λ i. called_by i.op ≡ None) is
+each_calls_none : (is : List Instr) → AllByRecursion (λ i. is_built i.op ≡ true) is → AllByRecursion (λ i. called_by i.op ≡ None) is
 each_calls_none [] passes = tt
 each_calls_none (i ∷ is) passes = (op_calls_none i.op passes.0, each_calls_none is passes.1)
 
 -- A built unit calls no method.
 pub calls_no_method : (unit : MethodUnit) → IsBuilt unit → CallsNoMethod unit
-calls_no_method unit built at i found = of_found (λ j. called_by j.op ≡ None) unit.instrs at i (each_calls_none unit.instrs built.calls) found
+calls_no_method unit built at i found = of_found (λ j. called_by j.op ≡ None) unit.instrs at i (each_calls_none unit.instrs built.instructions) found

@@ -3,11 +3,12 @@
 use Rattle.std.proofs.Common.{◌≡◌, ℕ, ◌+◌, ◌<◌, ◌≤◌, ◌==◌, Bool, true, false, List, [], ◌∷◌, map, Some, if◌then◌else◌, refl, sym, ap, subst, ◌∙◌, arith}
 use Rattle.std.specs.List.{AllByRecursion, list_all}
 use Rattle.std.proofs.lemmas.Bool.{false≢true, and_parts, ne_eqb, eq-eqb}
-use Rattle.cil_model.specs.Spells.{CodeFrom, Spells}
+use Rattle.cil_model.specs.Code.{CodeFrom}
+use Rattle.cil_model.specs.Spells.{Spells}
 use Rattle.cil_model.specs.Runs.{instr_at}
 use Rattle.cil_model.specs.declared.instruction.Instr.{Instr}
 use Rattle.cil_model.specs.declared.unit.Unit.{Unit as MethodUnit}
-use Rattle.method_unit.specs.UnitFile.{is_other_call}
+use Rattle.method_unit.specs.Built.{is_built}
 use Rattle.method_unit.specs.UnitSpelling.{IsBuilt}
 use Rattle.range_verdicts.specs.States.{after, shows_assert}
 use Rattle.range_verdicts.specs.Verdicts.{entry, has_obligation, obligations, state_at, verdict, verdicts, all_proved}
@@ -36,7 +37,7 @@ pub record Follows (unit : MethodUnit) (is : List Instr) (at : ℕ) (s : State) 
   pub code : CodeFrom at is bytes
   pub found : (k : ℕ) → at ≤ k → instr_at unit.instrs k ≡ instr_at is k
   pub known : (k : ℕ) → at ≤ k → state_at entry unit.instrs k ≡ state_at s is k
-  pub calls : AllByRecursion (λ i. is_other_call i.op ≡ false) is
+  pub built : AllByRecursion (λ i. is_built i.op ≡ true) is
   pub shown : AllByRecursion (IsShown unit.instrs) is
 
 -- All instructions follow from 0 on.
@@ -44,10 +45,10 @@ pub Follows-first : (unit : MethodUnit) → IsBuilt unit → all_proved (verdict
 Follows-first unit built proved =
     record {
       bytes = unit.code;
-      code = built.code;
+      code = built.code.spelled;
       found = λ k above. refl;
       known = λ k above. refl;
-      calls = built.calls;
+      built = built.instructions;
       shown = shown_all unit.instrs unit.instrs proved;
     }
 
@@ -65,11 +66,11 @@ module _ (unit : MethodUnit) (i : Instr) (is : List Instr) (at : ℕ) (s : State
   pub Follows-shown : has_obligation i.op ≡ true → shows_assert s ≡ true
   Follows-shown assert = sym (ap shows_assert knows) ∙ follows.shown.0 assert
 
-  pub Follows-spelled : (bytes : List ℕ) × Spells i bytes
+  Follows-spelled : (bytes : List ℕ) × Spells i bytes
   Follows-spelled = let (spelling, rest, spelled, whole, code) = follows.code.1 in (spelling, spelled)
 
   some_size : 0 < i.size
-  some_size = let spelled = Follows-spelled.1 in let some = spelling_some i.op Follows-spelled.0 spelled.0 in let size = spelled.1 in omega arith
+  some_size = let spelled = Follows-spelled.1 in let some = spelling_some i Follows-spelled.0 spelled in let size = spelled.size in omega arith
 
   -- A later place is not that of the first.
   passed : (k : ℕ) → i.at + i.size ≤ k → (i.at == k) ≡ false
@@ -85,6 +86,6 @@ module _ (unit : MethodUnit) (i : Instr) (is : List Instr) (at : ℕ) (s : State
         code = subst (λ (place : ℕ). CodeFrom (place + i.size) is rest) (sym first) code;
         found = λ k above. follows.found k (omega arith) ∙ rw (passed k above) refl;
         known = λ k above. follows.known k (omega arith) ∙ rw (passed k above) refl;
-        calls = follows.calls.1;
+        built = follows.built.1;
         shown = follows.shown.1;
       }

@@ -4,7 +4,7 @@ use Rattle.std.proofs.Math.ListN.{drop_of_length-le}
 use Rattle.std.proofs.Math.Seq.{drop-cons}
 use Rattle.std.specs.List.{AllByRecursion}
 use Rattle.std.proofs.lemmas.Bool.Decides.{nat_tests}
-use Rattle.cil_model.specs.Spells.{CodeFrom}
+use Rattle.cil_model.specs.Code.{CodeFrom}
 use Rattle.cil_model.specs.declared.instruction.Instr.{Instr}
 use Rattle.range_verdicts.specs.States.{after, shows_assert}
 use Rattle.range_verdicts.specs.Verdicts.{state_at, has_obligation, obligations, noted}
@@ -25,8 +25,8 @@ Rises-later a b (i ∷ is) le h = (omega arith, h.1)
 pub code_rises : (at : ℕ) (is : List Instr) (code : List ℕ) → CodeFrom at is code → Rises at is
 code_rises at [] code h = tt
 code_rises at (i ∷ is) code (place, (bytes, rest, spelled, split, others)) =
-    let some = spelling_some i.op bytes spelled.0 in
-    (omega arith, Rises-later (suc i.at) (at + i.size) is (omega (arith, spelled.1)) (code_rises (at + i.size) is rest others))
+    let some = spelling_some i bytes spelled in
+    (omega arith, Rises-later (suc i.at) (at + i.size) is (omega (arith, spelled.size)) (code_rises (at + i.size) is rest others))
 
 -- The verdicts that a walk from this state finds.
 abbrev pub judged : State → List Instr → List Verdict

@@ -25,13 +25,13 @@ use Rattle.cil_model.specs.declared.unit_numbers.UnitCall.{UnitCall}
 use Rattle.cil_model.specs.declared.unit_numbers.UnitCall.TheVariants as calls
 use Rattle.cil_model.proofs.Alone.{is_assert-true}
 use Rattle.method_unit.specs.Typing.{is_return, breaks, height_after, is_typed}
-use Rattle.method_unit.specs.UnitFile.{is_other_call}
+use Rattle.method_unit.specs.Built.{is_built}
 use Rattle.method_unit.specs.UnitSpelling.{IsBuilt}
 use Rattle.range_verdicts.specs.Verdicts.{entry, verdicts, all_proved}
 use Rattle.range_verdicts.specs.declared.range.Range.{Range}
 use Rattle.range_verdicts.specs.declared.state.State.TheVariants.{Known}
-use Rattle.range_verdicts.proofs.EffectSoundness.{AllInts, StackHolds, Goes, calls_assert, effects_go}
-use Rattle.range_verdicts.proofs.Following.{Follows, Follows-first, Follows-found, Follows-shown, Follows-spelled, Follows-next}
+use Rattle.range_verdicts.proofs.EffectSoundness.{AllInts, StackHolds, Goes, effects_go}
+use Rattle.range_verdicts.proofs.Following.{Follows, Follows-first, Follows-found, Follows-shown, Follows-next}
 
 -- The frame is at the first of these instructions, with values that are within these ranges.
 pub record Stands (unit : MethodUnit) (is : List Instr) (known : List Range) (f : Frame) (heap : Heap) : Type 0 where
@@ -94,15 +94,15 @@ module _ (Calls : CallRow) (callers : List Frame) (unit : MethodUnit) (i : Instr
   abbrev by_call : Option UnitCall → Type 0
   by_call call = CallsBy Calls call callers unit i f heap new
 
-  asserts : (number : ℕ) → is_other_call (ops.Call number) ≡ false → unit_call number ≡ Some (calls.Assert false)
-  asserts number passes = is_assert-true (unit_call number) (calls_assert number passes)
+  asserts : (number : ℕ) → is_built (ops.Call number) ≡ true → unit_call number ≡ Some (calls.Assert false)
+  asserts number passes = is_assert-true (unit_call number) passes
 
-  row_passes : (op : Op) → is_return op ≡ false → is_other_call op ≡ false → Row Calls op callers unit i f heap new → EffectRow callers unit i f heap new
+  row_passes : (op : Op) → is_return op ≡ false → is_built op ≡ true → Row Calls op callers unit i f heap new → EffectRow callers unit i f heap new
   row_passes ops.Return passes calls row = absurd (true≢false passes)
   row_passes (ops.Call number) passes calls row = subst by_call (asserts number calls) row
   row_passes _ passes calls row = row
 
-  passes_row : (op : Op) → is_return op ≡ false → is_other_call op ≡ false → EffectRow callers unit i f heap new → Row Calls op callers unit i f heap new
+  passes_row : (op : Op) → is_return op ≡ false → is_built op ≡ true → EffectRow callers unit i f heap new → Row Calls op callers unit i f heap new
   passes_row ops.Return passes calls row = absurd (true≢false passes)
   passes_row (ops.Call number) passes calls row = subst by_call (sym (asserts number calls)) row
   passes_row _ passes calls row = row
@@ -128,10 +128,9 @@ module _ (unit : MethodUnit) (i : Instr) (is : List Instr) (known : List Range) 
   stands_goes : AllInts unit.args → is_return i.op ≡ false → Goes i.op i f heap (effects unit i f heap) known f.stack
   stands_goes ints passes =
       let follows = stands.follows in
-      let spelled = Follows-spelled unit i is f.at (Known known) follows in
       let typed = typed_on (length unit.args) unit.max_stack (length f.stack) i is passes stands.typed in
       let shown = Follows-shown unit i is f.at (Known known) follows in
-      effects_go i.op spelled.0 unit i f heap unit.args unit.max_stack known spelled.1.0 passes follows.calls.0 typed.0 shown ints stands.fit stands.holds
+      effects_go i.op unit i f heap unit.args unit.max_stack known follows.built.0 passes typed.0 shown ints stands.fit stands.holds
 
   -- Where the frame then stands.
   Stands-next : is_return i.op ≡ false → (goes : Goes i.op i f heap (effects unit i f heap) known f.stack)
@@ -156,7 +155,7 @@ module _ (unit : MethodUnit) (i : Instr) (is : List Instr) (known : List Range) 
   IsFine-row : (new : Config) → IsBuilt unit → Row (FreeCall unit) i.op [] unit i f heap new → IsFine unit new
   IsFine-row new built row =
       ⊎_elim (λ returns. IsFine-return unit i f heap new built.clauses (row_returns (FreeCall unit) [] unit i f heap new i.op returns row))
-      (λ passes. IsFine-effect new built.args passes (row_passes (FreeCall unit) [] unit i f heap new i.op passes stands.follows.calls.0 row))
+      (λ passes. IsFine-effect new built.args passes (row_passes (FreeCall unit) [] unit i f heap new i.op passes stands.follows.built.0 row))
       (cases_Bool (is_return i.op))
 
   return_defined : IsBuilt unit → is_return i.op ≡ true → (new : Config) × Row (FreeCall unit) i.op [] unit i f heap new
@@ -175,7 +174,7 @@ module _ (unit : MethodUnit) (i : Instr) (is : List Instr) (known : List Range) 
       let new = configs.Live (next ∷ []) heap in
       let effect = GoesOn next heap in
       let has : HasEffect (effects unit i f heap) effect = subst (λ (es : List Effect). HasEffect es effect) (sym goes.goes) (inl refl) in
-      (new, passes_row (FreeCall unit) [] unit i f heap new i.op passes stands.follows.calls.0 (effect, has, refl))
+      (new, passes_row (FreeCall unit) [] unit i f heap new i.op passes stands.follows.built.0 (effect, has, refl))
 
   -- There is a row.
   row_defined : IsBuilt unit → (new : Config) × Row (FreeCall unit) i.op [] unit i f heap new

@@ -1,7 +1,7 @@
 //! The verdicts on a unit's obligations.
 
 ghost use Rattle.std.specs.Prelude.{◌≡◌, ◌++◌, ◌<◌, ◌≤◌, All, IfOk, IsTrue, OnOk, length};
-ghost use Rattle.cil_model.specs.Spells.{CodeOf};
+ghost use Rattle.cil_model.specs.Code.{CodeOf};
 ghost use Rattle.method_unit.specs.UnitSpelling.{IsBuilt};
 ghost use Rattle.range_verdicts.specs.Safety.{IsSafe};
 ghost use Rattle.range_verdicts.specs.Verdicts.{all_proved, has_obligation, noted, proved_count, verdicts};
