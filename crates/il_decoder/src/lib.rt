@@ -4,7 +4,12 @@
 mod body;
 mod decode;
 mod fault;
+mod label;
+mod names;
+mod text;
 
 pub use body::{Body, body_at};
 pub use decode::decode_one;
 pub use fault::{IlFault, IlRefusal};
+pub use label::put_label;
+pub use text::il_text;
