@@ -8,7 +8,8 @@ use Rattle.cc_base.specs.Tests.{first_of}
 use Rattle.cil_model.specs.declared.instruction.Instr.{Instr}
 use Rattle.il_decoder.specs.Body.{code_at, header_at}
 use Rattle.il_decoder.specs.Decoding.{code_tests, instructions_of}
-use Rattle.il_decoder.specs.Text.{label, instr_text}
+use Rattle.il_decoder.specs.Labels.{label}
+use Rattle.il_decoder.specs.Text.{instr_text}
 use Rattle.il_decoder.specs.declared.fault.IlFault.{IlFault}
 
 -- The line of an instruction: where it stands, and what it is.
