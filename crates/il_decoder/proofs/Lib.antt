@@ -1,2 +1,5 @@
+pub mod Carried
+pub mod Offsets
 pub mod Read
+pub mod Found
 pub mod Decoded

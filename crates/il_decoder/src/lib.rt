@@ -1,8 +1,10 @@
 //! Instructions of CIL, read from a method's code (ECMA-335 III).
 #![tactic(auto)]
 
-mod decode;
 mod fault;
+mod instruction;
+mod opcodes;
+mod operands;
 
-pub use decode::decode_one;
 pub use fault::{IlFault, IlRefusal};
+pub use instruction::decode_one;
