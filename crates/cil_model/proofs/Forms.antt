@@ -113,11 +113,11 @@ seconds b c i j bytes more (Some (width, meaning)) (Some (width', meaning')) (n,
     cc
 
 -- The two opcodes that have no row of one byte.
-no_long : (b : ℕ) (i : Instr) (bytes : List ℕ) → b ≡ 0xfe → SpellsForm (short_form b) (b ∷ []) i bytes → ⊥
+pub no_long : (b : ℕ) (i : Instr) (bytes : List ℕ) → b ≡ 0xfe → SpellsForm (short_form b) (b ∷ []) i bytes → ⊥
 unfolding short_form operator_of
 no_long b i bytes e form = rw e at form
 
-no_switch : (b : ℕ) (i : Instr) (bytes : List ℕ) → b ≡ 0x45 → SpellsForm (short_form b) (b ∷ []) i bytes → ⊥
+pub no_switch : (b : ℕ) (i : Instr) (bytes : List ℕ) → b ≡ 0x45 → SpellsForm (short_form b) (b ∷ []) i bytes → ⊥
 unfolding short_form operator_of
 no_switch b i bytes e form = rw e at form
 

@@ -1,3 +1,6 @@
+pub mod Carried
+pub mod Offsets
 pub mod Read
+pub mod Found
 pub mod Decoded
 pub mod Lookup

@@ -1,47 +1,48 @@
--- What is read is spelled so, what is spelled so is read, and what is short is cut off in a spelling.
-use Rattle.std.proofs.Common.{◌≡◌, ℕ, ◌+◌, ◌-◌, ◌^◌, ◌<◌, List, [], ◌∷◌, ◌++◌, length, drop, append_assoc, Option, Some, None, Result, Ok, Err, true, false, eqb, leb, refl, sym, ap, ◌∙◌, arith, inl, inr}
-use Rattle.std.proofs.lemmas.Bool.{cond_both, eqb-true, leb-true, leb-false, le-leb, lt-leb, ne_eqb, cases_eq}
-use Rattle.std.proofs.lemmas.List.{length-append, take-append-drop}
+-- What is read is spelled so, and what is short is cut off in a spelling.
+use Rattle.std.proofs.Common.{◌≡◌, ℕ, ◌+◌, ◌*◌, ◌-◌, ◌^◌, ◌<◌, ◌≤◌, List, [], ◌∷◌, ◌++◌, length, map, drop, append_assoc, append-nil, Option, Some, None, Result, Ok, Err, eqb, leb, refl, sym, ap, ◌∙◌, arith, inl, inr, ◌⊎◌}
+use Rattle.std.specs.List.{AllByRecursion}
+use Rattle.std.proofs.lemmas.Bool.{cond_both, eqb-true, leb-true, leb-false}
+use Rattle.std.proofs.lemmas.List.{length-append, drop_all, take-append-drop}
 use Rattle.byteorder.specs.Endian.{little_number, little_bytes}
 use Rattle.cc_base.specs.LittleEndian.{IsBytes}
-use Rattle.cc_base.proofs.ByteLemmas.{IsBytes-tail, IsBytes-append, IsBytes-little_bytes, length-little_bytes, number_back, bytes_back, bytes_back-take, little_number-lt}
-use Rattle.cil_model.specs.Opcodes.{Form, short_form, long_form}
-use Rattle.cil_model.specs.Spells.{SpellsOp}
+use Rattle.cc_base.proofs.ByteLemmas.{IsBytes-nil, IsBytes-tail, IsBytes-drop, IsBytes-append, IsBytes-little_bytes, length-little_bytes, bytes_back, bytes_back-take, little_number-lt}
+use Rattle.cil_model.specs.Opcodes.{Form, variable_form, short_form, long_form, target}
+use Rattle.cil_model.specs.Spells.{SpellsForm, SpellsShort, SpellsLong, SpellsSwitch, Spells, offset_bytes}
 use Rattle.cil_model.specs.declared.instruction.BinOp.TheVariants as operators
-use Rattle.cil_model.specs.declared.instruction.Op.{Op}
-use Rattle.cil_model.specs.declared.instruction.Op.TheVariants.{Nop, Bin}
-use Rattle.cil_model.proofs.Forms.{FormSpells, HasForm, IsByForm, short_form-spells, long_form-spells, spelled_by_form}
+use Rattle.cil_model.specs.declared.instruction.Instr.{Instr}
+use Rattle.cil_model.specs.declared.instruction.Op.TheVariants.{Nop, Bin, Switch}
 use Rattle.il_decoder.specs.declared.fault.IlFault.{IlFault}
 use Rattle.il_decoder.specs.declared.fault.IlFault.TheVariants.{Short, Opcode}
-use Rattle.il_decoder.specs.Decodes.{opcode_at}
-use Rattle.il_decoder.specs.Decoding.{Operation, by_form, two_byte, operation}
+use Rattle.il_decoder.specs.Decodes.{IsCut, opcode_at}
+use Rattle.il_decoder.specs.Decoding.{Operation, by_form, two_byte, offsets_in, switch_of, switch, operation}
+use Rattle.il_decoder.proofs.Offsets.{length-offsets_in, offsets_in-small, length-offset_bytes, offsets_spelled}
 
--- The bytes begin with a spelling of the operation, of this size.
-abbrev pub Begins : Op → ℕ → List ℕ → Type 0
-Begins op size rest = (bytes more : List ℕ) × SpellsOp op bytes × (size ≡ length bytes) × (rest ≡ bytes ++ more)
-
--- The bytes are the front of a spelling, some of which is missing.
-abbrev pub IsCutShort : List ℕ → Type 0
-IsCutShort rest = (op : Op) × ((bytes missing : List ℕ) × SpellsOp op bytes × (bytes ≡ rest ++ missing) × (0 < length missing))
+-- The bytes begin with a spelling of the instruction.
+abbrev pub Begins : Instr → List ℕ → Type 0
+Begins i rest = (bytes more : List ℕ) × Spells i bytes × (rest ≡ bytes ++ more)
 
 -- What an answer on these bytes says of them.
 abbrev pub Explains : ℕ → List ℕ → Result Operation IlFault → Type 0
-Explains at rest (Ok (op, size)) = Begins op size rest
-Explains at rest (Err (Short place)) = (place ≡ at) × IsCutShort rest
+Explains at rest (Ok (op, size)) = Begins (record { at = at; size = size; op = op }) rest
+Explains at rest (Err (Short place)) = (place ≡ at) × IsCut at rest
 Explains at rest (Err (Opcode place code)) = (place ≡ at) × (code ≡ opcode_at rest 0)
 Explains at rest (Err _) = ⊥
 
--- ---- what is read is spelled so
+-- The ways to spell an instruction.
+abbrev Row : Instr → List ℕ → Type 0
+Row i bytes = SpellsShort i bytes ⊎ (SpellsLong i bytes ⊎ SpellsSwitch i bytes)
+
+-- ---- numbers that are cut
 
 -- A number whose spelling begins with these bytes, and what they lack of it.
-record IsCut (width : ℕ) (rest : List ℕ) : Type 0 where
+record IsCutNumber (width : ℕ) (rest : List ℕ) : Type 0 where
   pub number : ℕ
   pub missing : List ℕ
   pub fits : number < 256 ^ width
   pub spelled : little_bytes width number ≡ rest ++ missing
   pub some_missing : 0 < length missing
 
-number_cut : (width : ℕ) (rest : List ℕ) → IsBytes rest → length rest < width → IsCut width rest
+number_cut : (width : ℕ) (rest : List ℕ) → IsBytes rest → length rest < width → IsCutNumber width rest
 number_cut width rest fits short =
     let zeros = little_bytes (width - length rest) 0 in
     let padded = rest ++ zeros in
@@ -56,111 +57,142 @@ number_cut width rest fits short =
       some_missing = omega (arith, missed);
     }
 
-by_form_explained : (at size number b : ℕ) (opcode : List ℕ) (form : Option Form) (rest : List ℕ) → FormSpells b opcode form → size ≡ length opcode
-    → number ≡ opcode_at (opcode ++ rest) 0 → IsBytes rest → Explains at (opcode ++ rest) (by_form at size number form rest)
-by_form_explained at size number b opcode None rest spells len is fits = (refl, is)
-by_form_explained at size number b opcode (Some (width, meaning)) rest spells len is fits =
-    cond_both (leb width (length rest)) (Ok (meaning (little_number width rest), size + width)) (Err (Short at)) (Explains at (opcode ++ rest))
+-- ---- a row
+
+number_there : (width : ℕ) (rest : List ℕ) → IsBytes rest → width ≤ length rest → little_bytes width (little_number width rest) ++ drop width rest ≡ rest
+number_there width rest fits enough = ap (λ (t : List ℕ). t ++ drop width rest) (bytes_back-take width rest enough fits) ∙ take-append-drop width rest
+
+by_form_explained : (at size number : ℕ) (opcode : List ℕ) (form : Option Form) (rest : List ℕ) → ((i : Instr) (bytes : List ℕ) → SpellsForm form opcode i bytes → Row i bytes)
+    → size ≡ length opcode → number ≡ opcode_at (opcode ++ rest) 0 → IsBytes rest → Explains at (opcode ++ rest) (by_form at size number form rest)
+by_form_explained at size number opcode None rest spells len is fits = (refl, is)
+by_form_explained at size number opcode (Some (width, meaning)) rest spells len is fits =
+    let spelling = λ (n : ℕ). opcode ++ little_bytes width n in
+    let instr : ℕ → Instr = λ n. record { at = at; size = size + width; op = meaning (at + (size + width)) n } in
+    let long = λ (n : ℕ). length-append opcode (little_bytes width n) in
+    let spelled : (n : ℕ) → n < 256 ^ width → Spells (instr n) (spelling n) = λ n small.
+    record { size = omega (arith, len, long n, length-little_bytes width n); row = spells (instr n) (spelling n) (n, small, refl, refl) } in
+    cond_both (leb width (length rest)) (Ok (meaning (at + (size + width)) (little_number width rest), size + width)) (Err (Short at)) (Explains at (opcode ++ rest))
     (λ enough.
     let n = little_number width rest in
-    let stands : little_bytes width n ++ drop width rest ≡ rest =
-    ap (λ (t : List ℕ). t ++ drop width rest) (bytes_back-take width rest (leb-true _ _ enough) fits) ∙ take-append-drop width rest in (
-      opcode ++ little_bytes width n,
-      drop width rest,
-      spells.1 n (little_number-lt width rest fits),
-      omega (arith, len, length-append opcode (little_bytes width n), length-little_bytes width n),
-      ap (λ (t : List ℕ). opcode ++ t) (sym stands) ∙ sym (append_assoc opcode (little_bytes width n) (drop width rest)),
-    ))
+    let there = number_there width rest fits (leb-true _ _ enough) in
+    (spelling n, drop width rest, spelled n (little_number-lt width rest fits), ap (λ (t : List ℕ). opcode ++ t) (sym there) ∙ sym (append_assoc opcode (little_bytes width n) (drop width rest))))
     (λ short.
     let c = number_cut width rest fits (leb-false _ _ short) in (
       refl,
-      (
-        meaning c.number,
-        (
-          opcode ++ little_bytes width c.number,
-          c.missing,
-          spells.1 c.number c.fits,
-          ap (λ (t : List ℕ). opcode ++ t) c.spelled ∙ sym (append_assoc opcode rest c.missing),
-          c.some_missing,
-        ),
-      ),
+      record {
+        instr = instr c.number;
+        place = refl;
+        bytes = spelling c.number;
+        missing = c.missing;
+        spelled = spelled c.number c.fits;
+        cut = ap (λ (t : List ℕ). opcode ++ t) c.spelled ∙ sym (append_assoc opcode rest c.missing);
+        some_missing = c.some_missing;
+      },
     ))
 
+-- ---- a switch
+
+spelled_switch : (at count : ℕ) (offsets : List ℕ) → length offsets ≡ count → count < 2 ^ 32 → AllByRecursion (λ offset. offset < 2 ^ 32) offsets
+    → Spells (record { at = at; size = 5 + 4 * count; op = Switch (map (target (at + (5 + 4 * count))) offsets) }) (0x45 ∷ little_bytes 4 count ++ offset_bytes offsets)
+spelled_switch at count offsets len few small =
+    record {
+      size = omega (arith, len, length-append (little_bytes 4 count) (offset_bytes offsets), length-little_bytes 4 count, length-offset_bytes offsets);
+      row = inr (inr (record { offsets = offsets; few = omega (arith, len); small = small; op = refl; spelled = rw len refl }));
+    }
+
+-- The count is cut.
+count_cut : (at : ℕ) (rest : List ℕ) → IsBytes rest → length rest < 4 → IsCut at (0x45 ∷ rest)
+count_cut at rest fits short =
+    let c = number_cut 4 rest fits short in
+    let offsets = offsets_in c.number [] in
+    let others = offset_bytes offsets in
+    record {
+      instr = record { at = at; size = 5 + 4 * c.number; op = Switch (map (target (at + (5 + 4 * c.number))) offsets) };
+      place = refl;
+      bytes = 0x45 ∷ little_bytes 4 c.number ++ others;
+      missing = c.missing ++ others;
+      spelled = spelled_switch at c.number offsets (length-offsets_in c.number []) c.fits (offsets_in-small c.number [] IsBytes-nil);
+      cut = ap (λ (t : List ℕ). 0x45 ∷ t) (ap (λ (t : List ℕ). t ++ others) c.spelled ∙ append_assoc rest c.missing others);
+      some_missing = omega (arith, c.some_missing, length-append c.missing others);
+    }
+
+module _ (at count : ℕ) (rest : List ℕ) (fits : IsBytes rest) (enough : 4 ≤ length rest) (is : count ≡ little_number 4 rest) where
+  count_few : count < 2 ^ 32
+  count_few = rw is (little_number-lt 4 rest fits)
+
+  count_there : little_bytes 4 count ++ drop 4 rest ≡ rest
+  count_there = rw is (number_there 4 rest fits enough)
+
+  -- An offset is cut.
+  offset_cut : length (drop 4 rest) < 4 * count → IsCut at (0x45 ∷ rest)
+  offset_cut short =
+      let zeros = little_bytes (4 * count - length (drop 4 rest)) 0 in
+      let missed : length zeros ≡ 4 * count - length (drop 4 rest) = length-little_bytes (4 * count - length (drop 4 rest)) 0 in
+      let padded = drop 4 rest ++ zeros in
+      let are_bytes : IsBytes padded = IsBytes-append (drop 4 rest) zeros (IsBytes-drop 4 rest fits) (IsBytes-little_bytes (4 * count - length (drop 4 rest)) 0) in
+      let full : length padded ≡ 4 * count = omega (arith, length-append (drop 4 rest) zeros, missed) in
+      let offsets = offsets_in count padded in
+      let none : drop (4 * count) padded ≡ [] = drop_all (4 * count) padded (omega (arith, full)) in
+      let whole : offset_bytes offsets ≡ padded =
+      sym (append-nil (offset_bytes offsets)) ∙ ap (λ (t : List ℕ). offset_bytes offsets ++ t) (sym none) ∙ offsets_spelled count padded (omega (arith, full)) are_bytes in
+      let front : little_bytes 4 count ++ padded ≡ rest ++ zeros = sym (append_assoc (little_bytes 4 count) (drop 4 rest) zeros) ∙ ap (λ (t : List ℕ). t ++ zeros) count_there in
+      record {
+        instr = record { at = at; size = 5 + 4 * count; op = Switch (map (target (at + (5 + 4 * count))) offsets) };
+        place = refl;
+        bytes = 0x45 ∷ little_bytes 4 count ++ offset_bytes offsets;
+        missing = zeros;
+        spelled = spelled_switch at count offsets (length-offsets_in count padded) count_few (offsets_in-small count padded are_bytes);
+        cut = ap (λ (t : List ℕ). 0x45 ∷ t) (ap (λ (t : List ℕ). little_bytes 4 count ++ t) whole ∙ front);
+        some_missing = omega (arith, missed);
+      }
+
+  switch_of_explained : Explains at (0x45 ∷ rest) (switch_of at count (drop 4 rest))
+  unfolding switch_of
+  switch_of_explained =
+      let offsets = offsets_in count (drop 4 rest) in
+      let op = Switch (map (target (at + (5 + 4 * count))) offsets) in
+      let more = drop (4 * count) (drop 4 rest) in
+      cond_both (leb (4 * count) (length (drop 4 rest))) (Ok (op, 5 + 4 * count)) (Err (Short at)) (Explains at (0x45 ∷ rest))
+      (λ long.
+      let there = offsets_spelled count (drop 4 rest) (leb-true _ _ long) (IsBytes-drop 4 rest fits) in
+      let all : (little_bytes 4 count ++ offset_bytes offsets) ++ more ≡ rest =
+      append_assoc (little_bytes 4 count) (offset_bytes offsets) more ∙ ap (λ (t : List ℕ). little_bytes 4 count ++ t) there ∙ count_there in (
+        0x45 ∷ little_bytes 4 count ++ offset_bytes offsets,
+        more,
+        spelled_switch at count offsets (length-offsets_in count (drop 4 rest)) count_few (offsets_in-small count (drop 4 rest) (IsBytes-drop 4 rest fits)),
+        ap (λ (t : List ℕ). 0x45 ∷ t) (sym all),
+      ))
+      (λ short. (refl, offset_cut (leb-false _ _ short)))
+
+switch_explained : (at : ℕ) (rest : List ℕ) → IsBytes rest → Explains at (0x45 ∷ rest) (switch at rest)
+unfolding switch
+switch_explained at rest fits =
+    cond_both (leb 4 (length rest)) (switch_of at (little_number 4 rest) (drop 4 rest)) (Err (Short at)) (Explains at (0x45 ∷ rest))
+    (λ enough. switch_of_explained at (little_number 4 rest) rest fits (leb-true _ _ enough) refl)
+    (λ short. (refl, count_cut at rest fits (leb-false _ _ short)))
+
+-- ---- each opcode
+
 two_byte_explained : (at : ℕ) (rest : List ℕ) → IsBytes rest → Explains at (0xfe ∷ rest) (two_byte at rest)
-unfolding two_byte
-two_byte_explained at [] fits = (refl, (Bin operators.Ceq, (0xfe ∷ 0x01 ∷ [], 0x01 ∷ [], refl, refl, omega arith)))
+unfolding two_byte long_form
+two_byte_explained at [] fits =
+    let ceq : Instr = record { at = at; size = 2; op = Bin operators.Ceq } in
+    let spelled : Spells ceq (0xfe ∷ 0x01 ∷ []) = record { size = refl; row = inr (inl (0x01, omega arith, (0, omega arith, refl, refl))) } in
+    (refl, record { instr = ceq; place = refl; bytes = 0xfe ∷ 0x01 ∷ []; missing = 0x01 ∷ []; spelled = spelled; cut = refl; some_missing = omega arith })
 two_byte_explained at (b ∷ rest) fits =
-    by_form_explained at 2 (0xfe00 + b) b (0xfe ∷ b ∷ []) (long_form b) rest (long_form-spells b) refl refl (IsBytes-tail b rest fits)
+    by_form_explained at 2 (0xfe00 + b) (0xfe ∷ b ∷ []) (long_form b) rest (λ i bytes form. inr (inl (b, fits 0, form))) refl refl (IsBytes-tail b rest fits)
 
 -- The answer tells what the bytes are.
 pub operation_explained : (at : ℕ) (rest : List ℕ) → IsBytes rest → Explains at rest (operation at rest)
-unfolding operation
-operation_explained at [] fits = (refl, (Nop, (0x00 ∷ [], 0x00 ∷ [], refl, refl, omega arith)))
+unfolding operation short_form variable_form
+operation_explained at [] fits =
+    let nop : Instr = record { at = at; size = 1; op = Nop } in
+    let spelled : Spells nop (0x00 ∷ []) = record { size = refl; row = inl (0x00, omega arith, (0, omega arith, refl, refl)) } in
+    (refl, record { instr = nop; place = refl; bytes = 0x00 ∷ []; missing = 0x00 ∷ []; spelled = spelled; cut = refl; some_missing = omega arith })
 operation_explained at (b ∷ rest) fits =
-    cond_both (eqb b 0xfe) (two_byte at rest) (by_form at 1 b (short_form b) rest) (Explains at (b ∷ rest))
-    (λ e. rw (eqb-true b 0xfe e) (two_byte_explained at rest (IsBytes-tail b rest fits)))
-    (λ other. by_form_explained at 1 b b (b ∷ []) (short_form b) rest (short_form-spells b) refl (rw other refl) (IsBytes-tail b rest fits))
-
--- ---- what is spelled so is read
-
-by_form_again : (at size number : ℕ) (form : Option Form) (op : Op) (operand more : List ℕ) (total : ℕ) → HasForm form op operand
-    → total ≡ size + length operand → by_form at size number form (operand ++ more) ≡ Ok (op, total)
-by_form_again at size number None op operand more total h sum = absurd h
-by_form_again at size number (Some (width, meaning)) op operand more total h sum =
-    let len = length-little_bytes width h.0 in
-    let whole : total ≡ size + width = omega (arith, sum, ap length h.3, len) in
-    let enough : leb width (length (little_bytes width h.0 ++ more)) ≡ true =
-    le-leb _ _ (omega (arith, len, length-append (little_bytes width h.0) more)) in
-    rw (h.2, h.3, enough, number_back width h.0 more h.1, whole) refl
-
-other_opcode : (b : ℕ) (op : Op) (operand : List ℕ) → HasForm (short_form b) op operand → eqb b 0xfe ≡ false
-unfolding short_form
-other_opcode b op operand h =
-    elim (cases_eq b 0xfe) [
-      | inl e ↦ absurd (rw e at h)
-      | inr other ↦ ne_eqb b 0xfe other
-    ]
-
-by_form_read : (at : ℕ) (op : Op) (bytes more : List ℕ) → IsByForm op bytes → operation at (bytes ++ more) ≡ Ok (op, length bytes)
-unfolding operation two_byte
-by_form_read at op bytes more (inl (b, (operand, e, h))) = rw (e, other_opcode b op operand h) (by_form_again at 1 b (short_form b) op operand more (length (b ∷ operand)) h (omega arith))
-by_form_read at op bytes more (inr (b, (operand, e, h))) = rw e (by_form_again at 2 (0xfe00 + b) (long_form b) op operand more (length (0xfe ∷ b ∷ operand)) h (omega arith))
-
--- A spelling is read, whatever follows it.
-pub spells_operation : (at : ℕ) (op : Op) (bytes more : List ℕ) → SpellsOp op bytes → operation at (bytes ++ more) ≡ Ok (op, length bytes)
-spells_operation at op bytes more h = by_form_read at op bytes more (spelled_by_form op bytes h)
-
--- ---- what is cut off in a spelling is short
-
-by_form_cut : (at size number : ℕ) (form : Option Form) (op : Op) (rest missing operand : List ℕ) → HasForm form op operand → operand ≡ rest ++ missing
-    → 0 < length missing → by_form at size number form rest ≡ Err (Short at)
-by_form_cut at size number None op rest missing operand h e some = absurd h
-by_form_cut at size number (Some (width, meaning)) op rest missing operand h e some =
-    let len : length rest < width = omega (arith, some, length-append rest missing, ap length (sym e ∙ h.3), length-little_bytes width h.0) in
-    rw (lt-leb _ _ len) refl
-
-parts_are : (a b : ℕ) (s t : List ℕ) → a ∷ s ≡ b ∷ t → (a ≡ b) × (s ≡ t)
-parts_are a b s t e = (cc, cc)
-
-two_byte_cut : (at b : ℕ) (op : Op) (rest missing operand : List ℕ) → HasForm (long_form b) op operand → b ∷ operand ≡ rest ++ missing → 0 < length missing
-    → two_byte at rest ≡ Err (Short at)
-unfolding two_byte
-two_byte_cut at b op [] missing operand h e some = refl
-two_byte_cut at b op (c ∷ rest) missing operand h e some =
-    let p = parts_are b c operand (rest ++ missing) e in
-    by_form_cut at 2 (0xfe00 + c) (long_form c) op rest missing operand (rw p.0 at h) p.1 some
-
-by_form_is_short : (at b : ℕ) (op : Op) (tail missing bytes : List ℕ) → IsByForm op bytes → bytes ≡ b ∷ tail ++ missing → 0 < length missing → operation at (b ∷ tail) ≡ Err (Short at)
-unfolding operation
-by_form_is_short at b op tail missing bytes (inl (a, (operand, e, h))) is some =
-    let p = parts_are a b operand (tail ++ missing) (sym e ∙ is) in
-    let here : HasForm (short_form b) op operand = rw p.0 at h in
-    rw (other_opcode b op operand here) (by_form_cut at 1 b (short_form b) op tail missing operand here p.1 some)
-by_form_is_short at b op tail missing bytes (inr (a, (operand, e, h))) is some =
-    let p = parts_are 0xfe b (a ∷ operand) (tail ++ missing) (sym e ∙ is) in
-    rw (← p.0) (two_byte_cut at a op tail missing operand h p.1 some)
-
-pub cut_is_short : (at : ℕ) (rest : List ℕ) → IsCutShort rest → operation at rest ≡ Err (Short at)
-unfolding operation
-cut_is_short at [] h = refl
-cut_is_short at (b ∷ tail) h = by_form_is_short at b h.0 tail h.1.1 h.1.0 (spelled_by_form h.0 h.1.0 h.1.2) h.1.3 h.1.4
+    let behind = IsBytes-tail b rest fits in
+    cond_both (eqb b 0xfe) (two_byte at rest) _ (Explains at (b ∷ rest))
+    (λ e. rw (eqb-true b 0xfe e) (two_byte_explained at rest behind))
+    (λ other. cond_both (eqb b 0x45) (switch at rest) (by_form at 1 b (short_form b) rest) (Explains at (b ∷ rest))
+    (λ e. rw (eqb-true b 0x45 e) (switch_explained at rest behind))
+    (λ more. by_form_explained at 1 b (b ∷ []) (short_form b) rest (λ i bytes form. inl (b, fits 0, form)) refl (rw other refl) behind))

@@ -12,15 +12,24 @@ use Rattle.il_decoder.specs.declared.fault.IlFault.{IlFault}
 abbrev pub StandsIn : Instr → List ℕ → Type 0
 StandsIn i code = (bytes rest : List ℕ) × Spells i bytes × (drop i.at code ≡ bytes ++ rest)
 
--- The code ends inside a spelling of an instruction at this IL offset.
-pub record EndsInside (code : List ℕ) (at : ℕ) : Type 0 where
+-- The bytes are the front of an instruction's spelling at this IL offset, some of which is missing.
+pub record IsCut (at : ℕ) (front : List ℕ) : Type 0 where
   pub instr : Instr
   pub place : instr.at ≡ at
   pub bytes : List ℕ
   pub missing : List ℕ
   pub spelled : Spells instr bytes
-  pub cut : bytes ≡ drop at code ++ missing
+  pub cut : bytes ≡ front ++ missing
   pub some_missing : 0 < length missing
+
+-- The code ends inside a spelling of an instruction at this IL offset.
+abbrev pub EndsInside : List ℕ → ℕ → Type 0
+EndsInside code at = IsCut at (drop at code)
+
+-- The code begins no instruction at this IL offset: none stands there, and it does not end inside one.
+pub record BeginsNone (code : List ℕ) (at : ℕ) : Type 0 where
+  pub not_whole : (i : Instr) → i.at ≡ at → StandsIn i code → ⊥
+  pub not_cut : EndsInside code at → ⊥
 
 -- The opcode at an IL offset: one byte, or FE and the byte behind it (III.1.2.1).
 abbrev pub opcode_at : List ℕ → ℕ → ℕ

@@ -2,14 +2,16 @@
 #![tactic(auto)]
 
 mod body;
-mod decode;
 mod fault;
+mod instruction;
 mod label;
 mod names;
+mod opcodes;
+mod operands;
 mod text;
 
 pub use body::{Body, body_at};
-pub use decode::decode_one;
 pub use fault::{IlFault, IlRefusal};
+pub use instruction::decode_one;
 pub use label::put_label;
 pub use text::il_text;
