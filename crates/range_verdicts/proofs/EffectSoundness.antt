@@ -113,7 +113,7 @@ operator_gives _ i f heap stack a b m n built hasM hasN = absurd (false≢true b
 binary_goes : (operator : BinOp) (i : Instr) (f : Frame) (heap : Heap) (known : List Range) (stack : List Value)
     → is_built_operator operator ≡ true → StackHolds known stack → 2 ≤ length stack → Goes (ops.Bin operator) i f heap (binary operator (comparison_of operator) i f heap stack) known stack
 binary_goes operator i f heap (b ∷ a ∷ known) (values.Int n ∷ values.Int m ∷ stack) built holds tall =
-    let given = operator_gives operator bytes i f heap stack a b m n built holds.1.0 holds.0 in
+    let given = operator_gives operator i f heap stack a b m n built holds.1.0 holds.0 in
     record {
       stack = values.Int given.number ∷ stack;
       ranges = given.range ∷ known;

@@ -13,7 +13,7 @@ pub returns-clause-value : goal.returns-clause-value
 returns-clause-value c =
     let unit = c.args.unit.now in
     judged-end c.loop-instr.found.items c.loop-instr.state c.as_slice-instrs.result.now c.loop-instr.instr-index _ c.loop-instr-test.false c.loop-instr.invariant
-    ∙ (ap (judged entry) c.as_slice-instrs.ensures ∙ judged_verdicts entry 0 unit.instrs (code_rises 0 unit.instrs unit.code c.requires))
+    ∙ (ap (judged entry) c.as_slice-instrs.ensures ∙ judged_verdicts entry 0 unit.instrs (code_rises 0 unit.instrs unit.code c.requires.spelled))
 
 pub returns-clause-few : goal.returns-clause-few
 returns-clause-few c = rw (returns-clause-value c) (verdicts_few c.args.unit.now)
