@@ -3,3 +3,6 @@ pub mod Offsets
 pub mod Read
 pub mod Found
 pub mod Decoded
+pub mod Reading
+pub mod Starts
+pub mod Sequence
