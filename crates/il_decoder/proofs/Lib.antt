@@ -4,3 +4,6 @@ pub mod Read
 pub mod Found
 pub mod Decoded
 pub mod Lookup
+pub mod Reading
+pub mod Starts
+pub mod Sequence

@@ -2,6 +2,7 @@
 #![tactic(auto)]
 
 mod body;
+mod code;
 mod fault;
 mod instruction;
 mod label;
@@ -11,6 +12,7 @@ mod operands;
 mod text;
 
 pub use body::{Body, body_at};
+pub use code::decode;
 pub use fault::{IlFault, IlRefusal};
 pub use instruction::decode_one;
 pub use label::put_label;
