@@ -6,7 +6,7 @@ use Rattle.asm_image.specs.Bodies.{has_il_body}
 use Rattle.asm_image.specs.declared.method_row.MethodRow.{MethodRow}
 use Rattle.cc_base.specs.Tests.{first_of}
 use Rattle.cil_model.specs.declared.instruction.Instr.{Instr}
-use Rattle.il_decoder.specs.Body.{code_at, header_at}
+use Rattle.il_decoder.specs.Body.{body_code}
 use Rattle.il_decoder.specs.Decoding.{code_tests, instructions_of}
 use Rattle.il_decoder.specs.Labels.{label}
 use Rattle.il_decoder.specs.Text.{instr_text}
@@ -19,10 +19,6 @@ il_line i = label i.at ++ codes " " ++ instr_text i ++ codes "\n"
 -- The lines of instructions.
 unfoldable pub il_text : List Instr → List ℕ
 il_text instrs = flat_map il_line instrs
-
--- The code of the body at an address, none where no body stands there whole.
-abbrev pub body_code : List ℕ → ℕ → Option (List ℕ)
-body_code image rva = option_and_then (code_at image rva) (header_at image rva)
 
 -- The instructions of code that has this first fault, or none.
 abbrev pub instrs_without : Option IlFault → List ℕ → Option (List Instr)

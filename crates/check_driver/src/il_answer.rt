@@ -26,7 +26,7 @@ use std::alloc::{AllocError, Global};
 fn append_line(alloc: Global, line: &mut Vec<u8>, instr: &Instr) -> Result<(), AllocError>
     ensures { OnOk result (line.new.items ≡ line.old.items ++ il_line instr.now) }
 {
-    put_label(alloc, instr.at, line)?;
+    put_label(alloc, line, instr.at)?;
     line.extend_from_slice(b" ")?;
     il_text(alloc, instr, line)?;
     line.extend_from_slice(b"\n")

@@ -48,6 +48,10 @@ header_at image rva = option_and_then (λ found. header_from image rva (slice_in
 unfoldable pub code_at : List ℕ → ℕ → Header → Option (List ℕ)
 code_at image rva header = option_map (drop header.len) (bytes_at image rva (header.len + header.code_len))
 
+-- The code of the body at an address. None where no header stands there whole, or no code behind it.
+unfoldable pub body_code : List ℕ → ℕ → Option (List ℕ)
+body_code image rva = option_and_then (code_at image rva) (header_at image rva)
+
 abbrev pub code_fault : List ℕ → ℕ → Option Header → Option IlFault
 code_fault image rva None = Some (faults.Header 0)
 code_fault image rva (Some header) = must (is_some (code_at image rva header)) (faults.Short 0)

@@ -1,10 +1,10 @@
 //! A method's body: its header, and its code behind it (II.25.4).
 
-ghost use Rattle.std.specs.Prelude.{◌≡◌, ◌<◌, ◌==◌, IfOk, length};
+ghost use Rattle.std.specs.Prelude.{◌≡◌, ◌<◌, ◌==◌, IfErr, IfOk, None, Some, length};
 ghost use Rattle.std.specs.Int.{bit_at};
 ghost use Rattle.cc_base.specs.Slices.{IsShort};
 ghost use Rattle.cc_base.specs.Tests.{Judges};
-ghost use Rattle.il_decoder.specs.Body.{tiny_header, fat_header, header_at, body_fault, IsBody};
+ghost use Rattle.il_decoder.specs.Body.{tiny_header, fat_header, header_at, body_code, body_fault, IsBody};
 
 use crate::fault::IlFault;
 use cc_base::{u16_at, u32_at};
@@ -110,9 +110,11 @@ fn header_at(image: &Image, rva: u32) -> Option<Header>
 ///
 /// `Header(0)` where no header stands there whole, and `Short(0)` where the code is not whole. Header and code
 /// have to stand in one section.
-#[tactic(auto, using(crate::proofs::Lookup::longer_none), unfolding(crate::specs::Body::body_fault, crate::specs::Body::code_at))]
+#[tactic(auto, using(crate::proofs::Lookup::longer_none), unfolding(crate::specs::Body::body_code, crate::specs::Body::body_fault, crate::specs::Body::code_at))]
 pub fn body_at<'a>(image: &Image<'a>, rva: u32) -> Result<Body<'a>, IlFault>
     ensures body { Judges result (body_fault image.now rva) (IsBody image.now rva) }
+    ensures code { IfOk result (λ body. body_code image.now rva ≡ Some body.code.now) }
+    ensures no_code { IfErr result (λ _. body_code image.now rva ≡ None) }
     ensures short { IfOk result (λ body. IsShort body.code.now) }
 {
     let header = header_at(image, rva).ok_or(IlFault::Header(0))?;
