@@ -88,6 +88,40 @@ fn code_instrs(alloc: Global, code: &[u8]) -> Result<Option<Vec<Instr>>, AllocEr
     }
 }
 
+/// The instructions of the method that a token names, none where it has none that read.
+fn token_instrs(
+    alloc: Global,
+    assembly: &Assembly<'_>,
+    token: Token,
+) -> Result<Option<Vec<Instr>>, AllocError>
+    ensures { IfOk result (λ found. option_map (λ instrs. instrs.items) found
+        ≡ option_and_then (method_instrs assembly.now) (method_of assembly.now token)) }
+{
+    match assembly.method(token) {
+        Some(method) => method_instrs(alloc, assembly, method),
+        None => Ok(None),
+    }
+}
+
+/// Answers for the instructions of a method, or that it has none that read.
+fn answer_instrs<O: Sink, E: Sink>(
+    alloc: Global,
+    instrs: Option<Vec<Instr>>,
+    out: &mut O,
+    err: &mut E,
+) -> Result<u8, Interrupt>
+    ensures { Gives (instrs_answer (option_map (λ instrs. instrs.items) instrs)) result
+        (change_of O.written O.faults out.old out.new) (change_of E.written E.faults err.old err.new) }
+{
+    match instrs {
+        None => answer_misfit(alloc, b"not analysed", err),
+        Some(instrs) => {
+            put_instrs(alloc, &instrs, out)?;
+            Ok(0)
+        }
+    }
+}
+
 /// Answers for what the name of a method means in an assembly.
 fn answer_found<O: Sink, E: Sink>(
     alloc: Global,
@@ -102,29 +136,11 @@ fn answer_found<O: Sink, E: Sink>(
     match found {
         None => answer_misfit(alloc, b"no method", err),
         Some(Found::Several) => answer_misfit(alloc, b"several methods", err),
-        Some(Found::One(token)) => answer_method(alloc, assembly, token, out, err),
+        Some(Found::One(token)) => {
+            let instrs = token_instrs(alloc, assembly, token)?;
+            answer_instrs(alloc, instrs, out, err)
+        }
     }
-}
-
-/// Answers for the method that a token names.
-fn answer_method<O: Sink, E: Sink>(
-    alloc: Global,
-    assembly: &Assembly<'_>,
-    token: Token,
-    out: &mut O,
-    err: &mut E,
-) -> Result<u8, Interrupt>
-    ensures { Gives (instrs_answer (option_and_then (method_instrs assembly.now) (method_of assembly.now token))) result
-        (change_of O.written O.faults out.old out.new) (change_of E.written E.faults err.old err.new) }
-{
-    let Some(method) = assembly.method(token) else {
-        return answer_misfit(alloc, b"not analysed", err);
-    };
-    let Some(instrs) = method_instrs(alloc, assembly, method)? else {
-        return answer_misfit(alloc, b"not analysed", err);
-    };
-    put_instrs(alloc, &instrs, out)?;
-    Ok(0)
 }
 
 /// Answers `il FILE METHOD` for the bytes of the file.

@@ -1,0 +1,10 @@
+use Rattle.std.proofs.Common.{codes}
+use Rattle.check_driver.specs.Expected.{misfit_line}
+use Rattle.check_driver.proofs.Writings.{gives_error}
+use Rattle.check_driver.proofs.il_answer.answer_instrs.Goals as goal
+
+pub returns-in-None : goal.returns-in-None
+returns-in-None g c =
+    rw c.in-None.is
+    (gives_error 11 (misfit_line (codes "not analysed")) c.answer_misfit.result (g.O.Sink.written c.args.out.now) (g.O.Sink.faults c.args.out.now) _
+    c.answer_misfit.ensures.status c.answer_misfit.ensures.written)
