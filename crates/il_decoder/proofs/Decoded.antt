@@ -49,7 +49,8 @@ decoded_found code at i fits e = rw e at (decoded_tells code at fits)
 pub decoded_only : (code : List ℕ) (at : ℕ) (i : Instr) → i.at ≡ at → StandsIn i code → decoded code at ≡ Ok i
 unfolding decoded
 decoded_only code at i e (bytes, rest, spells, there) =
-    let read : decoded code i.at ≡ Ok i = ap (λ (t : List ℕ). placed i.at (operation i.at t)) there ∙ ap (placed i.at) (spelling_read i bytes rest spells) in
+    let read : decoded code i.at ≡ Ok i = ap (λ (t : List ℕ). placed i.at (operation i.at t)) there
+    ∙ ap (placed i.at) (spelling_read i bytes rest spells) in
     subst (λ (a : ℕ). decoded code a ≡ Ok i) e read
 
 -- An instruction that stands in code takes some of its bytes, and no more than there are.
@@ -92,16 +93,21 @@ module _ (code : List ℕ) (at : ℕ) where
   fault_given (Err NoMemory) fault e is = absurd (rw is at e)
 
   -- What is returned with a fault was decoded so.
-  fault_decoded : (r : Result Instr (Refusal IlFault)) (fault : IlFault) → Gives r (decoded code at) → r ≡ Err (Bad fault) → decoded code at ≡ Err fault
+  fault_decoded : (r : Result Instr (Refusal IlFault)) (fault : IlFault) → Gives r (decoded code at) → r ≡ Err (Bad fault)
+      → decoded code at ≡ Err fault
   fault_decoded (Ok i) fault e is = absurd (cc)
   fault_decoded (Err (Bad other)) fault e is = cc
   fault_decoded (Err NoMemory) fault e is = absurd (cc)
 
   begins_none : (number : ℕ) → decoded code at ≡ Err (Opcode at number) → BeginsNone code at
   begins_none number e =
-      record { not_whole = λ i place there. let whole = decoded_only code at i place there in absurd (cc); not_cut = λ c. let cut = decoded_cut code at c in absurd (cc) }
+      record {
+        not_whole = λ i place there. let whole = decoded_only code at i place there in absurd (cc);
+        not_cut = λ c. let cut = decoded_cut code at c in absurd (cc);
+      }
 
-  pub answer_only : (r : Result Instr (Refusal IlFault)) → Gives r (decoded code at) → (i : Instr) → i.at ≡ at → StandsIn i code → (r ≡ Ok i) ⊎ ((r ≡ Err NoMemory) × IsSwitch i.op)
+  pub answer_only : (r : Result Instr (Refusal IlFault)) → Gives r (decoded code at) → (i : Instr) → i.at ≡ at → StandsIn i code
+      → (r ≡ Ok i) ⊎ ((r ≡ Err NoMemory) × IsSwitch i.op)
   answer_only (Ok found) e i place there = let is = decoded_only code at i place there in inl (cc)
   answer_only (Err (Bad fault)) e i place there = let is = decoded_only code at i place there in absurd (cc)
   answer_only (Err NoMemory) e i place there = inr (refl, rw (decoded_only code at i place there) at e)
@@ -121,7 +127,8 @@ module _ (code : List ℕ) (at : ℕ) where
     pub answer_short : (r : Result Instr (Refusal IlFault)) → Gives r (decoded code at) → (r ≡ Err (Bad (Short at))) ↔ EndsInside code at
     answer_short r e = (λ is. (rw (fault_decoded r (Short at) e is) at told).1, λ cut. fault_given r (Short at) e (decoded_cut code at cut))
 
-    pub answer_opcode : (r : Result Instr (Refusal IlFault)) → Gives r (decoded code at) → (r ≡ Err (Bad (Opcode at (opcode_at code at)))) ↔ BeginsNone code at
+    pub answer_opcode : (r : Result Instr (Refusal IlFault)) → Gives r (decoded code at)
+        → (r ≡ Err (Bad (Opcode at (opcode_at code at)))) ↔ BeginsNone code at
     answer_opcode r e =
         let opcode = opcode_at code at in
         (λ is. begins_none opcode (fault_decoded r (Opcode at opcode) e is), λ none. fault_given r (Opcode at opcode) e (none_in (decoded code at) told none))

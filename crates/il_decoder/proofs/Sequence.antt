@@ -32,7 +32,8 @@ rest_there code bytes rest at size there e =
 
 -- ---- what is decoded is spelled so
 
-spelled_more : (code : List ℕ) (at : ℕ) (i : Instr) (others : List Instr) → i.at ≡ at → StandsIn i code → CodeFrom (at + i.size) others (drop (at + i.size) code)
+spelled_more : (code : List ℕ) (at : ℕ) (i : Instr) (others : List Instr) → i.at ≡ at → StandsIn i code
+    → CodeFrom (at + i.size) others (drop (at + i.size) code)
     → CodeFrom at (i ∷ others) (drop at code)
 spelled_more code at i others place there behind =
     let here : drop at code ≡ there.0 ++ there.1 = ap (λ (k : ℕ). drop k code) (sym place) ∙ there.3 in
@@ -40,8 +41,10 @@ spelled_more code at i others place there behind =
     (place, (there.0, there.1, there.2, here, rw rest behind))
 
 spelled_step : (most : ℕ) (code : List ℕ) (at : ℕ) (r : Result Instr IlFault) → IsBytes code → decoded code at ≡ r → length code ≤ at + suc most
-    → ((next : ℕ) → length code ≤ next + most → AreFound (decodings most code next) → CodeFrom next (instructions (decodings most code next)) (drop next code))
-    → AreFound (r ∷ decodings most code (offset_behind code at r)) → CodeFrom at (instructions (r ∷ decodings most code (offset_behind code at r))) (drop at code)
+    → ((next : ℕ) → length code ≤ next + most → AreFound (decodings most code next)
+    → CodeFrom next (instructions (decodings most code next)) (drop next code))
+    → AreFound (r ∷ decodings most code (offset_behind code at r))
+    → CodeFrom at (instructions (r ∷ decodings most code (offset_behind code at r))) (drop at code)
 spelled_step most code at (Ok i) fits found enough later passed =
     let there = decoded_found code at i fits found in
     let reach = stands_reaches i code there.1 in
@@ -74,7 +77,8 @@ first_stands code at i is (place, (bytes, rest, spells, there, behind)) =
 abbrev IsAll : List Instr → List (Result Instr IlFault) → Type 0
 IsAll is found = AreFound found × (instructions found ≡ is)
 
-spelled_decodings : (most : ℕ) (code : List ℕ) (at : ℕ) (is : List Instr) → length code ≤ at + most → CodeFrom at is (drop at code) → IsAll is (decodings most code at)
+spelled_decodings : (most : ℕ) (code : List ℕ) (at : ℕ) (is : List Instr) → length code ≤ at + most → CodeFrom at is (drop at code)
+    → IsAll is (decodings most code at)
 spelled_decodings most code at [] enough spelled = rw (decodings-end most code at (nothing_there code at spelled)) (tt, refl)
 spelled_decodings zero code at (i ∷ is) enough spelled =
     let first = first_stands code at i is spelled in
@@ -89,7 +93,8 @@ spelled_decodings (suc most) code at (i ∷ is) enough spelled =
 
 -- ---- targets
 
-each_begins : (instrs : List Instr) (targets : List ℕ) → (list_all (begins_at instrs) targets ≡ true) ↔ AllByRecursion (λ target. begins_at instrs target ≡ true) targets
+each_begins : (instrs : List Instr) (targets : List ℕ)
+    → (list_all (begins_at instrs) targets ≡ true) ↔ AllByRecursion (λ target. begins_at instrs target ≡ true) targets
 each_begins instrs [] = (λ all. tt, λ all. refl)
 each_begins instrs (target ∷ targets) =
     let others = each_begins instrs targets in
@@ -130,7 +135,8 @@ module _ (code : List ℕ) where
       (tests_of_code.1 (all.0, rw all.1 meet), all.1)
 
   module _ {X : Type 0} (items : X → List Instr) where
-    pub answer_code : (r : Result X (Refusal IlFault)) → ((i : ℕ) → Fits w8 (slice_index code i)) → JudgesOrNoMemory r (first_of (code_tests code)) (λ x. items x ≡ instructions_of code)
+    pub answer_code : (r : Result X (Refusal IlFault)) → ((i : ℕ) → Fits w8 (slice_index code i))
+        → JudgesOrNoMemory r (first_of (code_tests code)) (λ x. items x ≡ instructions_of code)
         → IfOk r (λ x. CodeOf (items x) code)
     answer_code (Ok x) fits judged = rw judged.1 (code_found (IsBytes-from_fits code fits) judged.0)
     answer_code (Err refusal) fits judged = tt
