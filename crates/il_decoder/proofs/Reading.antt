@@ -74,7 +74,7 @@ read-next code read more at i so_far inside is found place reach =
       whole = rw long (append_assoc read (i ∷ []) _ ∙ sym (ap (λ ds. read ++ instructions ds) here) ∙ so_far.whole);
     })
 
-read-fault : (code : List ℕ) (read : List Instr) (at : ℕ) (fault : IlFault) → AreRead code read at → at < length code → decoded code at ≡ Err fault
+pub read-fault : (code : List ℕ) (read : List Instr) (at : ℕ) (fault : IlFault) → AreRead code read at → at < length code → decoded code at ≡ Err fault
     → first_of (decoding_tests code) ≡ Some fault
 read-fault code read at fault so_far inside failed =
     let few = so_far.few in

@@ -32,7 +32,7 @@ rest_there code bytes rest at size there e =
 
 -- ---- what is decoded is spelled so
 
-spelled_more : (code : List ℕ) (at : ℕ) (i : Instr) (others : List Instr) → i.at ≡ at → StandsIn i code
+pub spelled_more : (code : List ℕ) (at : ℕ) (i : Instr) (others : List Instr) → i.at ≡ at → StandsIn i code
     → CodeFrom (at + i.size) others (drop (at + i.size) code)
     → CodeFrom at (i ∷ others) (drop at code)
 spelled_more code at i others place there behind =
@@ -51,7 +51,7 @@ spelled_step most code at (Ok i) fits found enough later passed =
     spelled_more code at i _ there.0 there.1 (later (at + i.size) (omega (arith, reach.some)) passed.1)
 spelled_step most code at (Err fault) fits found enough later passed = absurd (let failed = passed.0 in cc)
 
-decodings_spell : (most : ℕ) (code : List ℕ) → IsBytes code → (at : ℕ) → length code ≤ at + most → AreFound (decodings most code at)
+pub decodings_spell : (most : ℕ) (code : List ℕ) → IsBytes code → (at : ℕ) → length code ≤ at + most → AreFound (decodings most code at)
     → CodeFrom at (instructions (decodings most code at)) (drop at code)
 decodings_spell zero code fits at enough passed = rw (decodings-end 0 code at (omega arith)) (drop_all at code (omega arith))
 decodings_spell (suc most) code fits at enough passed =
@@ -64,20 +64,20 @@ decodings_spell (suc most) code fits at enough passed =
 
 -- ---- what is spelled so is decoded
 
-nothing_there : (code : List ℕ) (at : ℕ) → drop at code ≡ [] → length code ≤ at
+pub nothing_there : (code : List ℕ) (at : ℕ) → drop at code ≡ [] → length code ≤ at
 nothing_there code at e = omega (arith, ap length e, length-drop at code)
 
 -- The first of some instructions that the code spells stands there, and the others behind it.
-first_stands : (code : List ℕ) (at : ℕ) (i : Instr) (is : List Instr) → CodeFrom at (i ∷ is) (drop at code)
+pub first_stands : (code : List ℕ) (at : ℕ) (i : Instr) (is : List Instr) → CodeFrom at (i ∷ is) (drop at code)
     → (i.at ≡ at) × (StandsIn i code × CodeFrom (at + i.size) is (drop (at + i.size) code))
 first_stands code at i is (place, (bytes, rest, spells, there, behind)) =
     (place, ((bytes, rest, spells, rw place there), rw (← rest_there code bytes rest at i.size there spells.size) behind))
 
 -- These instructions are all that is decoded, and without a fault.
-abbrev IsAll : List Instr → List (Result Instr IlFault) → Type 0
+abbrev pub IsAll : List Instr → List (Result Instr IlFault) → Type 0
 IsAll is found = AreFound found × (instructions found ≡ is)
 
-spelled_decodings : (most : ℕ) (code : List ℕ) (at : ℕ) (is : List Instr) → length code ≤ at + most → CodeFrom at is (drop at code)
+pub spelled_decodings : (most : ℕ) (code : List ℕ) (at : ℕ) (is : List Instr) → length code ≤ at + most → CodeFrom at is (drop at code)
     → IsAll is (decodings most code at)
 spelled_decodings most code at [] enough spelled = rw (decodings-end most code at (nothing_there code at spelled)) (tt, refl)
 spelled_decodings zero code at (i ∷ is) enough spelled =
@@ -100,7 +100,7 @@ each_begins instrs (target ∷ targets) =
     let others = each_begins instrs targets in
     (λ all. let both = and_parts _ _ all in (both.0, others.0 both.1), λ all. rw (all.0, others.1 all.1) refl)
 
-tests_meet : (all instrs : List Instr) → ArePassed (map (target_test all) instrs) ↔ AllByRecursion (MeetsStarts all) instrs
+pub tests_meet : (all instrs : List Instr) → ArePassed (map (target_test all) instrs) ↔ AllByRecursion (MeetsStarts all) instrs
 tests_meet all [] = (λ passed. tt, λ meet. tt)
 tests_meet all (i ∷ instrs) =
     let here = each_begins all (branch_targets i.op) in
@@ -118,7 +118,7 @@ module _ (code : List ℕ) where
       let both = passed-append (decoding_tests code) (target_tests (instructions_of code)) in
       (λ e. both.0 (none.0 e), λ passed. none.1 (both.1 passed))
 
-  code_found : IsBytes code → first_of (code_tests code) ≡ None → CodeOf (instructions_of code) code
+  pub code_found : IsBytes code → first_of (code_tests code) ≡ None → CodeOf (instructions_of code) code
   unfolding instructions_of all_decodings
   code_found fits none =
       let passed = tests_of_code.0 none in
@@ -127,7 +127,7 @@ module _ (code : List ℕ) where
         targets = (tests_meet (instructions_of code) (instructions_of code)).0 passed.1;
       }
 
-  code_only : (instrs : List Instr) → CodeOf instrs code → (first_of (code_tests code) ≡ None) × (instructions_of code ≡ instrs)
+  pub code_only : (instrs : List Instr) → CodeOf instrs code → (first_of (code_tests code) ≡ None) × (instructions_of code ≡ instrs)
   unfolding instructions_of all_decodings
   code_only instrs is =
       let all = spelled_decodings (length code) code 0 instrs (omega arith) is.spelled in
