@@ -10,7 +10,7 @@ use Rattle.cil_model.specs.declared.instruction.Instr.{Instr}
 use Rattle.cil_model.proofs.Forms.{spelling_some}
 use Rattle.il_decoder.specs.declared.fault.IlFault.{IlFault}
 use Rattle.il_decoder.specs.declared.fault.IlFault.TheVariants.{Short, Opcode}
-use Rattle.il_decoder.specs.Decodes.{StandsIn, EndsInside, BeginsNone, opcode_at, Reaches, IsSwitch, Gives}
+use Rattle.il_decoder.specs.Decodes.{StandsIn, EndsInside, BeginsNone, opcode_at, Reaches, IsSwitch, TakesMemory, Gives}
 use Rattle.il_decoder.specs.Decoding.{Operation, operation, placed, decoded}
 use Rattle.il_decoder.proofs.Read.{Explains, operation_explained}
 use Rattle.il_decoder.proofs.Found.{spelling_read, cut_is_short}
@@ -49,7 +49,8 @@ decoded_found code at i fits e = rw e at (decoded_tells code at fits)
 pub decoded_only : (code : List ℕ) (at : ℕ) (i : Instr) → i.at ≡ at → StandsIn i code → decoded code at ≡ Ok i
 unfolding decoded
 decoded_only code at i e (bytes, rest, spells, there) =
-    let read : decoded code i.at ≡ Ok i = ap (λ (t : List ℕ). placed i.at (operation i.at t)) there ∙ ap (placed i.at) (spelling_read i bytes rest spells) in
+    let read : decoded code i.at ≡ Ok i = ap (λ (t : List ℕ). placed i.at (operation i.at t)) there
+    ∙ ap (placed i.at) (spelling_read i bytes rest spells) in
     subst (λ (a : ℕ). decoded code a ≡ Ok i) e read
 
 -- An instruction that stands in code takes some of its bytes, and no more than there are.
@@ -75,42 +76,9 @@ abbrev WantsMemory : List ℕ → ℕ → Type 0
 WantsMemory code at = (i : Instr) × (i.at ≡ at) × StandsIn i code × IsSwitch i.op
 
 module _ (code : List ℕ) (at : ℕ) where
-  found_in : (r : Result Instr (Refusal IlFault)) (d : Result Instr IlFault) → Tells code at d → Gives r d → IfOk r (λ i. (i.at ≡ at) × StandsIn i code)
-  found_in (Ok i) d told e = rw e at told
-  found_in (Err refusal) d told e = tt
-
-  reach_in : (r : Result Instr (Refusal IlFault)) → IfOk r (λ i. (i.at ≡ at) × StandsIn i code) → IfOk r (λ i. Reaches i code)
-  reach_in (Ok i) found = stands_reaches i code found.1
-  reach_in (Err refusal) found = tt
-
-  only_in : (r : Result Instr (Refusal IlFault)) (d : Result Instr IlFault) (i : Instr) → Gives r d → d ≡ Ok i → (r ≡ Ok i) ⊎ ((r ≡ Err NoMemory) × IsSwitch i.op)
-  only_in (Ok found) d i e is = inl (cc)
-  only_in (Err (Bad fault)) d i e is = absurd (cc)
-  only_in (Err NoMemory) d i e is = inr (refl, rw is at e)
-
-  short_in : (r : Result Instr (Refusal IlFault)) (d : Result Instr IlFault) → Tells code at d → Gives r d → (r ≡ Err (Bad (Short at))) → EndsInside code at
-  short_in (Ok i) d told e is = absurd (cc)
-  short_in (Err (Bad fault)) d told e is = let same : fault ≡ Short at = cc in (rw (e, same) at told).1
-  short_in (Err NoMemory) d told e is = absurd (cc)
-
-  -- What is decoded with a fault is returned.
-  fault_in : (r : Result Instr (Refusal IlFault)) (d : Result Instr IlFault) (fault : IlFault) → Gives r d → d ≡ Err fault → r ≡ Err (Bad fault)
-  fault_in (Ok i) d fault e is = absurd (cc)
-  fault_in (Err (Bad other)) d fault e is = cc
-  fault_in (Err NoMemory) d fault e is = absurd (rw is at e)
-
-  refusal_in : (r : Result Instr (Refusal IlFault)) (d : Result Instr IlFault) → Tells code at d → Gives r d → IfErr r (IsRefusal code at)
-  refusal_in (Ok i) d told e = tt
-  refusal_in (Err (Bad (Short place))) d told e = inl (ap (λ (k : ℕ). Bad (Short k)) ((rw e at told).0))
-  refusal_in (Err (Bad (Opcode place number))) d told e = let h = rw e at told in inr (inl (rw (h.0, h.1) refl))
-  refusal_in (Err (Bad _)) d told e = absurd (rw e at told)
-  refusal_in (Err NoMemory) d told e = inr (inr refl)
-
-  memory_in : (r : Result Instr (Refusal IlFault)) (d : Result Instr IlFault) → Tells code at d → Gives r d → r ≡ Err NoMemory → WantsMemory code at
-  memory_in (Ok i) d told e is = absurd (cc)
-  memory_in (Err (Bad fault)) d told e is = absurd (cc)
-  memory_in (Err NoMemory) (Ok i) told e is = (i, told.0, told.1, e)
-  memory_in (Err NoMemory) (Err fault) told e is = absurd e
+  memory_in : (d : Result Instr IlFault) → Tells code at d → TakesMemory d → WantsMemory code at
+  memory_in (Ok i) told takes = (i, told.0, told.1, takes)
+  memory_in (Err fault) told takes = absurd takes
 
   none_in : (d : Result Instr IlFault) → Tells code at d → BeginsNone code at → d ≡ Err (Opcode at (opcode_at code at))
   none_in (Ok i) told none = absurd (none.not_whole i told.0 told.1)
@@ -118,37 +86,63 @@ module _ (code : List ℕ) (at : ℕ) where
   none_in (Err (Opcode place number)) told none = rw (told.0, told.1) refl
   none_in (Err _) told none = absurd told
 
-  no_opcode_in : (r : Result Instr (Refusal IlFault)) (number : ℕ) → Gives r (decoded code at) → r ≡ Err (Bad (Opcode at number)) → BeginsNone code at
-  no_opcode_in (Ok i) number e is = absurd (cc)
-  no_opcode_in (Err (Bad fault)) number e is =
-      let same : fault ≡ Opcode at number = cc in
-      record { not_whole = λ i place there. let whole = decoded_only code at i place there in absurd (cc); not_cut = λ c. let cut = decoded_cut code at c in absurd (cc) }
-  no_opcode_in (Err NoMemory) number e is = absurd (cc)
+  -- What is decoded with a fault is returned.
+  fault_given : (r : Result Instr (Refusal IlFault)) (fault : IlFault) → Gives r (decoded code at) → decoded code at ≡ Err fault → r ≡ Err (Bad fault)
+  fault_given (Ok i) fault e is = absurd (cc)
+  fault_given (Err (Bad other)) fault e is = cc
+  fault_given (Err NoMemory) fault e is = absurd (rw is at e)
 
-module _ (code : List ℕ) (at : ℕ) (r : Result Instr (Refusal IlFault)) (fits : (i : ℕ) → Fits w8 (slice_index code i)) (e : Gives r (decoded code at)) where
-  told : Tells code at (decoded code at)
-  told = decoded_tells code at (IsBytes-from_fits code fits)
+  -- What is returned with a fault was decoded so.
+  fault_decoded : (r : Result Instr (Refusal IlFault)) (fault : IlFault) → Gives r (decoded code at) → r ≡ Err (Bad fault)
+      → decoded code at ≡ Err fault
+  fault_decoded (Ok i) fault e is = absurd (cc)
+  fault_decoded (Err (Bad other)) fault e is = cc
+  fault_decoded (Err NoMemory) fault e is = absurd (cc)
 
-  pub answer_found : IfOk r (λ i. (i.at ≡ at) × StandsIn i code)
-  answer_found = found_in code at r (decoded code at) told e
+  begins_none : (number : ℕ) → decoded code at ≡ Err (Opcode at number) → BeginsNone code at
+  begins_none number e =
+      record {
+        not_whole = λ i place there. let whole = decoded_only code at i place there in absurd (cc);
+        not_cut = λ c. let cut = decoded_cut code at c in absurd (cc);
+      }
 
-  pub answer_reach : IfOk r (λ i. Reaches i code)
-  answer_reach = reach_in code at r answer_found
+  pub answer_only : (r : Result Instr (Refusal IlFault)) → Gives r (decoded code at) → (i : Instr) → i.at ≡ at → StandsIn i code
+      → (r ≡ Ok i) ⊎ ((r ≡ Err NoMemory) × IsSwitch i.op)
+  answer_only (Ok found) e i place there = let is = decoded_only code at i place there in inl (cc)
+  answer_only (Err (Bad fault)) e i place there = let is = decoded_only code at i place there in absurd (cc)
+  answer_only (Err NoMemory) e i place there = inr (refl, rw (decoded_only code at i place there) at e)
 
-  pub answer_only : (i : Instr) → i.at ≡ at → StandsIn i code → (r ≡ Ok i) ⊎ ((r ≡ Err NoMemory) × IsSwitch i.op)
-  answer_only i place there = only_in code at r (decoded code at) i e (decoded_only code at i place there)
+  module _ (fits : (i : ℕ) → Fits w8 (slice_index code i)) where
+    told : Tells code at (decoded code at)
+    told = decoded_tells code at (IsBytes-from_fits code fits)
 
-  pub answer_short : (r ≡ Err (Bad (Short at))) ↔ EndsInside code at
-  answer_short = (short_in code at r (decoded code at) told e, λ c. fault_in code at r (decoded code at) (Short at) e (decoded_cut code at c))
+    pub answer_found : (r : Result Instr (Refusal IlFault)) → Gives r (decoded code at) → IfOk r (λ i. (i.at ≡ at) × StandsIn i code)
+    answer_found (Ok i) e = rw e at told
+    answer_found (Err refusal) e = tt
 
-  pub answer_opcode : (r ≡ Err (Bad (Opcode at (opcode_at code at)))) ↔ BeginsNone code at
-  answer_opcode =
-      (no_opcode_in code at r (opcode_at code at) e, λ none. fault_in code at r (decoded code at) (Opcode at (opcode_at code at)) e (none_in code at (decoded code at) told none))
+    pub answer_reach : (r : Result Instr (Refusal IlFault)) → Gives r (decoded code at) → IfOk r (λ i. Reaches i code)
+    answer_reach (Ok i) e = stands_reaches i code (rw e at told).1
+    answer_reach (Err refusal) e = tt
 
-  pub answer_memory : r ≡ Err NoMemory → WantsMemory code at
-  answer_memory = memory_in code at r (decoded code at) told e
+    pub answer_short : (r : Result Instr (Refusal IlFault)) → Gives r (decoded code at) → (r ≡ Err (Bad (Short at))) ↔ EndsInside code at
+    answer_short r e = (λ is. (rw (fault_decoded r (Short at) e is) at told).1, λ cut. fault_given r (Short at) e (decoded_cut code at cut))
 
-  pub answer_refused : IfErr r (IsRefusal code at)
-  answer_refused = refusal_in code at r (decoded code at) told e
+    pub answer_opcode : (r : Result Instr (Refusal IlFault)) → Gives r (decoded code at)
+        → (r ≡ Err (Bad (Opcode at (opcode_at code at)))) ↔ BeginsNone code at
+    answer_opcode r e =
+        let opcode = opcode_at code at in
+        (λ is. begins_none opcode (fault_decoded r (Opcode at opcode) e is), λ none. fault_given r (Opcode at opcode) e (none_in (decoded code at) told none))
 
-pub ruleset decoding = (answer_found, answer_reach, answer_only, answer_short, answer_opcode, answer_memory, answer_refused)
+    pub answer_memory : (r : Result Instr (Refusal IlFault)) → Gives r (decoded code at) → r ≡ Err NoMemory → WantsMemory code at
+    answer_memory (Ok i) e is = absurd (cc)
+    answer_memory (Err (Bad fault)) e is = absurd (cc)
+    answer_memory (Err NoMemory) e is = memory_in (decoded code at) told e
+
+    pub answer_refused : (r : Result Instr (Refusal IlFault)) → Gives r (decoded code at) → IfErr r (IsRefusal code at)
+    answer_refused (Ok i) e = tt
+    answer_refused (Err (Bad (Short place))) e = inl (ap (λ (k : ℕ). Bad (Short k)) ((rw e at told).0))
+    answer_refused (Err (Bad (Opcode place number))) e = let h = rw e at told in inr (inl (rw (h.0, h.1) refl))
+    answer_refused (Err (Bad _)) e = absurd (rw e at told)
+    answer_refused (Err NoMemory) e = inr (inr refl)
+
+pub ruleset decoding = (answer_found, answer_reach, answer_opcode, answer_memory, answer_refused)

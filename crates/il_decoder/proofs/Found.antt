@@ -26,7 +26,8 @@ record IsRead (size number : ℕ) (form : Option Form) (opcode : List ℕ) (i : 
   pub stands : whole ≡ opcode ++ rest
   pub read : by_form i.at size number form rest ≡ Ok (i.op, i.size)
 
-by_form_read : (size number : ℕ) (form : Option Form) (opcode : List ℕ) (i : Instr) (bytes more : List ℕ) → SpellsForm form opcode i bytes → size ≡ length opcode → i.size ≡ length bytes
+by_form_read : (size number : ℕ) (form : Option Form) (opcode : List ℕ) (i : Instr) (bytes more : List ℕ) → SpellsForm form opcode i bytes
+    → size ≡ length opcode → i.size ≡ length bytes
     → IsRead size number form opcode i (bytes ++ more)
 by_form_read size number None opcode i bytes more spells len whole = absurd spells
 by_form_read size number (Some (width, meaning)) opcode i bytes more (n, small, op, are) len whole =
@@ -72,7 +73,8 @@ switch_read i bytes more len spells =
     let behind = offset_bytes offsets ++ more in
     let long = length-little_bytes 4 (length offsets) in
     let size : i.size ≡ 5 + 4 * length offsets = omega (arith, len, ap length spells.spelled, length-append count (offset_bytes offsets), long, length-offset_bytes offsets) in
-    let stands : bytes ++ more ≡ 0x45 ∷ (count ++ behind) = ap (λ (t : List ℕ). t ++ more) spells.spelled ∙ ap (λ (t : List ℕ). 0x45 ∷ t) (append_assoc count (offset_bytes offsets) more) in
+    let stands : bytes ++ more ≡ 0x45 ∷ (count ++ behind) = ap (λ (t : List ℕ). t ++ more) spells.spelled
+    ∙ ap (λ (t : List ℕ). 0x45 ∷ t) (append_assoc count (offset_bytes offsets) more) in
     let enough : leb 4 (length (count ++ behind)) ≡ true = le-leb _ _ (omega (arith, long, length-append count behind)) in
     let number : little_number 4 (count ++ behind) ≡ length offsets = number_back 4 (length offsets) behind spells.few in
     let rest : drop 4 (count ++ behind) ≡ behind = drop_at count behind 4 long in
@@ -95,10 +97,12 @@ abbrev IsNoOpcode : Result Operation IlFault → Type 0
 IsNoOpcode (Err (Opcode at opcode)) = Unit {0}
 IsNoOpcode _ = ⊥
 
-form_stays : (at size number : ℕ) (form : Option Form) (rest more : List ℕ) → IsNoOpcode (by_form at size number form rest) → IsNoOpcode (by_form at size number form (rest ++ more))
+form_stays : (at size number : ℕ) (form : Option Form) (rest more : List ℕ) → IsNoOpcode (by_form at size number form rest)
+    → IsNoOpcode (by_form at size number form (rest ++ more))
 form_stays at size number None rest more none = tt
 form_stays at size number (Some (width, meaning)) rest more none =
-    absurd (cond_both (leb width (length rest)) (Ok (meaning (at + (size + width)) (little_number width rest), size + width)) (Err (Short at)) (λ r. IsNoOpcode r → ⊥) (λ e h. h) (λ e h. h) none)
+    let read = Ok (meaning (at + (size + width)) (little_number width rest), size + width) in
+    absurd (cond_both (leb width (length rest)) read (Err (Short at)) (λ r. IsNoOpcode r → ⊥) (λ e h. h) (λ e h. h) none)
 
 two_byte_stays : (at : ℕ) (rest more : List ℕ) → IsNoOpcode (two_byte at rest) → IsNoOpcode (two_byte at (rest ++ more))
 unfolding two_byte
@@ -109,13 +113,15 @@ no_switch_fault : (at : ℕ) (rest : List ℕ) → IsNoOpcode (switch at rest) �
 unfolding switch switch_of
 no_switch_fault at rest none =
     cond_both (leb 4 (length rest)) (switch_of at (little_number 4 rest) (drop 4 rest)) (Err (Short at)) (λ r. IsNoOpcode r → ⊥)
-    (λ e. cond_both (leb (4 * little_number 4 rest) (length (drop 4 rest))) _ (Err (Short at)) (λ r. IsNoOpcode r → ⊥) (λ e h. h) (λ e h. h)) (λ e h. h) none
+    (λ e. cond_both (leb (4 * little_number 4 rest) (length (drop 4 rest))) _ (Err (Short at)) (λ r. IsNoOpcode r → ⊥) (λ e h. h) (λ e h. h))
+    (λ e h. h) none
 
 -- The answer behind the first byte, where that is FE or the opcode of a switch.
 abbrev behind_first : ℕ → ℕ → List ℕ → Bool → Bool → Result Operation IlFault
 behind_first at b rest long switches = cond long (two_byte at rest) (cond switches (switch at rest) (by_form at 1 b (short_form b) rest))
 
-behind_first_stays : (at b : ℕ) (rest more : List ℕ) (long switches : Bool) → IsNoOpcode (behind_first at b rest long switches) → IsNoOpcode (behind_first at b (rest ++ more) long switches)
+behind_first_stays : (at b : ℕ) (rest more : List ℕ) (long switches : Bool) → IsNoOpcode (behind_first at b rest long switches)
+    → IsNoOpcode (behind_first at b (rest ++ more) long switches)
 behind_first_stays at b rest more true switches none = two_byte_stays at rest more none
 behind_first_stays at b rest more false true none = absurd (no_switch_fault at rest none)
 behind_first_stays at b rest more false false none = form_stays at 1 b (short_form b) rest more none
@@ -126,7 +132,8 @@ unfolding operation
 opcode_stays at [] more none = absurd none
 opcode_stays at (b ∷ rest) more none = behind_first_stays at b rest more (eqb b 0xfe) (eqb b 0x45) none
 
-cut_answer : (at : ℕ) (rest : List ℕ) (c : IsCut at rest) (r : Result Operation IlFault) → operation at rest ≡ r → Explains at rest r → r ≡ Err (Short at)
+cut_answer : (at : ℕ) (rest : List ℕ) (c : IsCut at rest) (r : Result Operation IlFault) → operation at rest ≡ r → Explains at rest r
+    → r ≡ Err (Short at)
 cut_answer at rest c (Ok (op, size)) is (bytes, more, spells, there) =
     let whole : c.bytes ≡ bytes ++ (more ++ c.missing) = c.cut ∙ ap (λ (t : List ℕ). t ++ c.missing) there ∙ append_assoc bytes more c.missing in
     let same = no_front (record { at = at; size = size; op = op }) c.instr bytes (more ++ c.missing) (sym c.place) spells (rw whole at c.spelled) in

@@ -17,7 +17,8 @@ targets_more next zero bytes = refl
 targets_more next (suc n) bytes =
     let first = target next (little_number 4 bytes) in
     let there : drop (4 * n) (drop 4 bytes) ≡ drop (4 * suc n) bytes = drop-drop (4 * n) 4 bytes ∙ ap (λ (k : ℕ). drop k bytes) (omega arith) in
-    ap (λ (ts : List ℕ). first ∷ ts) (targets_more next n (drop 4 bytes) ∙ ap (λ (t : List ℕ). map (target next) (offsets_in n (drop 4 bytes)) ++ target next (little_number 4 t) ∷ []) there)
+    ap (λ (ts : List ℕ). first ∷ ts) (targets_more next n (drop 4 bytes)
+    ∙ ap (λ (t : List ℕ). map (target next) (offsets_in n (drop 4 bytes)) ++ target next (little_number 4 t) ∷ []) there)
 
 -- One target more, read at its place.
 pub target_by_target : (next n : ℕ) (bytes read : List ℕ) → read ≡ map (target next) (offsets_in n bytes)
@@ -43,7 +44,8 @@ length-offset_bytes (offset ∷ offsets) =
     omega (arith, length-append (little_bytes 4 offset) (offset_bytes offsets), length-little_bytes 4 offset, length-offset_bytes offsets)
 
 -- The bytes of the offsets that are in bytes are those bytes.
-pub offsets_spelled : (n : ℕ) (bytes : List ℕ) → 4 * n ≤ length bytes → IsBytes bytes → offset_bytes (offsets_in n bytes) ++ drop (4 * n) bytes ≡ bytes
+pub offsets_spelled : (n : ℕ) (bytes : List ℕ) → 4 * n ≤ length bytes → IsBytes bytes
+    → offset_bytes (offsets_in n bytes) ++ drop (4 * n) bytes ≡ bytes
 offsets_spelled zero bytes enough fits = refl
 offsets_spelled (suc n) bytes enough fits =
     let first = little_bytes 4 (little_number 4 bytes) in
@@ -52,10 +54,12 @@ offsets_spelled (suc n) bytes enough fits =
     let rest : others ++ drop (4 * n) (drop 4 bytes) ≡ drop 4 bytes = offsets_spelled n (drop 4 bytes) (omega (arith, length-drop 4 bytes)) (IsBytes-drop 4 bytes fits) in
     let behind : others ++ drop (4 * suc n) bytes ≡ drop 4 bytes = ap (λ (t : List ℕ). others ++ t) (sym there) ∙ rest in
     let front : first ≡ take 4 bytes = bytes_back-take 4 bytes (omega arith) fits in
-    append_assoc first others (drop (4 * suc n) bytes) ∙ ap (λ (t : List ℕ). first ++ t) behind ∙ ap (λ (t : List ℕ). t ++ drop 4 bytes) front ∙ take-append-drop 4 bytes
+    append_assoc first others (drop (4 * suc n) bytes) ∙ ap (λ (t : List ℕ). first ++ t) behind ∙ ap (λ (t : List ℕ). t ++ drop 4 bytes) front
+    ∙ take-append-drop 4 bytes
 
 -- The offsets in the bytes of offsets are those offsets.
-pub offsets_back : (offsets more : List ℕ) → AllByRecursion (λ offset. offset < 2 ^ 32) offsets → offsets_in (length offsets) (offset_bytes offsets ++ more) ≡ offsets
+pub offsets_back : (offsets more : List ℕ) → AllByRecursion (λ offset. offset < 2 ^ 32) offsets
+    → offsets_in (length offsets) (offset_bytes offsets ++ more) ≡ offsets
 offsets_back [] more small = refl
 offsets_back (offset ∷ offsets) more small =
     let bytes = little_bytes 4 offset in

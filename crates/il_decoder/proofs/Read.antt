@@ -59,10 +59,12 @@ number_cut width rest fits short =
 
 -- ---- a row
 
-number_there : (width : ℕ) (rest : List ℕ) → IsBytes rest → width ≤ length rest → little_bytes width (little_number width rest) ++ drop width rest ≡ rest
+number_there : (width : ℕ) (rest : List ℕ) → IsBytes rest → width ≤ length rest
+    → little_bytes width (little_number width rest) ++ drop width rest ≡ rest
 number_there width rest fits enough = ap (λ (t : List ℕ). t ++ drop width rest) (bytes_back-take width rest enough fits) ∙ take-append-drop width rest
 
-by_form_explained : (at size number : ℕ) (opcode : List ℕ) (form : Option Form) (rest : List ℕ) → ((i : Instr) (bytes : List ℕ) → SpellsForm form opcode i bytes → Row i bytes)
+by_form_explained : (at size number : ℕ) (opcode : List ℕ) (form : Option Form) (rest : List ℕ)
+    → ((i : Instr) (bytes : List ℕ) → SpellsForm form opcode i bytes → Row i bytes)
     → size ≡ length opcode → number ≡ opcode_at (opcode ++ rest) 0 → IsBytes rest → Explains at (opcode ++ rest) (by_form at size number form rest)
 by_form_explained at size number opcode None rest spells len is fits = (refl, is)
 by_form_explained at size number opcode (Some (width, meaning)) rest spells len is fits =
@@ -71,11 +73,14 @@ by_form_explained at size number opcode (Some (width, meaning)) rest spells len 
     let long = λ (n : ℕ). length-append opcode (little_bytes width n) in
     let spelled : (n : ℕ) → n < 256 ^ width → Spells (instr n) (spelling n) = λ n small.
     record { size = omega (arith, len, long n, length-little_bytes width n); row = spells (instr n) (spelling n) (n, small, refl, refl) } in
-    cond_both (leb width (length rest)) (Ok (meaning (at + (size + width)) (little_number width rest), size + width)) (Err (Short at)) (Explains at (opcode ++ rest))
+    let read = Ok (meaning (at + (size + width)) (little_number width rest), size + width) in
+    cond_both (leb width (length rest)) read (Err (Short at)) (Explains at (opcode ++ rest))
     (λ enough.
     let n = little_number width rest in
     let there = number_there width rest fits (leb-true _ _ enough) in
-    (spelling n, drop width rest, spelled n (little_number-lt width rest fits), ap (λ (t : List ℕ). opcode ++ t) (sym there) ∙ sym (append_assoc opcode (little_bytes width n) (drop width rest))))
+    let stands : opcode ++ rest ≡ spelling n ++ drop width rest =
+    ap (λ (t : List ℕ). opcode ++ t) (sym there) ∙ sym (append_assoc opcode (little_bytes width n) (drop width rest)) in
+    (spelling n, drop width rest, spelled n (little_number-lt width rest fits), stands))
     (λ short.
     let c = number_cut width rest fits (leb-false _ _ short) in (
       refl,
@@ -134,8 +139,10 @@ module _ (at count : ℕ) (rest : List ℕ) (fits : IsBytes rest) (enough : 4 �
       let offsets = offsets_in count padded in
       let none : drop (4 * count) padded ≡ [] = drop_all (4 * count) padded (omega (arith, full)) in
       let whole : offset_bytes offsets ≡ padded =
-      sym (append-nil (offset_bytes offsets)) ∙ ap (λ (t : List ℕ). offset_bytes offsets ++ t) (sym none) ∙ offsets_spelled count padded (omega (arith, full)) are_bytes in
-      let front : little_bytes 4 count ++ padded ≡ rest ++ zeros = sym (append_assoc (little_bytes 4 count) (drop 4 rest) zeros) ∙ ap (λ (t : List ℕ). t ++ zeros) count_there in
+      sym (append-nil (offset_bytes offsets)) ∙ ap (λ (t : List ℕ). offset_bytes offsets ++ t) (sym none)
+      ∙ offsets_spelled count padded (omega (arith, full)) are_bytes in
+      let front : little_bytes 4 count ++ padded ≡ rest ++ zeros = sym (append_assoc (little_bytes 4 count) (drop 4 rest) zeros)
+      ∙ ap (λ (t : List ℕ). t ++ zeros) count_there in
       record {
         instr = record { at = at; size = 5 + 4 * count; op = Switch (map (target (at + (5 + 4 * count))) offsets) };
         place = refl;

@@ -63,7 +63,8 @@ read-next code read more at i so_far inside is found place reach =
     let here : decodings (length code - length read) code at ≡ Ok i ∷ decodings most code (at + i.size) = rw left (one_more most code at i inside found) in
     let before = so_far.before in
     let some = reach.some in
-    let last : (d : Instr) → 0 < length read → (get_or read (length read - 1) d).at ≤ i.at = λ d h. omega (arith, before (length read - 1) d (omega arith)) in
+    let last : (d : Instr) → 0 < length read → (get_or read (length read - 1) d).at ≤ i.at =
+    λ d h. omega (arith, before (length read - 1) d (omega arith)) in
     rw is (record {
       inside = omega (arith, reach.inside, place);
       few = omega (arith, some, long);
@@ -73,7 +74,7 @@ read-next code read more at i so_far inside is found place reach =
       whole = rw long (append_assoc read (i ∷ []) _ ∙ sym (ap (λ ds. read ++ instructions ds) here) ∙ so_far.whole);
     })
 
-read-fault : (code : List ℕ) (read : List Instr) (at : ℕ) (fault : IlFault) → AreRead code read at → at < length code → decoded code at ≡ Err fault
+pub read-fault : (code : List ℕ) (read : List Instr) (at : ℕ) (fault : IlFault) → AreRead code read at → at < length code → decoded code at ≡ Err fault
     → first_of (decoding_tests code) ≡ Some fault
 read-fault code read at fault so_far inside failed =
     let few = so_far.few in
@@ -83,8 +84,9 @@ read-fault code read at fault so_far inside failed =
     sym so_far.tests ∙ ap (λ ds. first_of (map decoding_test ds)) here ∙ first_of-some _ _ fault (ap decoding_test failed)
 
 -- A refusal at an IL offset is that of the whole.
-pub read-refused : {X : Type 0} (r : Result X (Refusal IlFault)) (refusal : Refusal IlFault) (code : List ℕ) (read : List Instr) (at : ℕ) (P : X → Type 0)
-    → IsErrAnd r (λ same. same ≡ refusal) → AreRead code read at → at < length code → Gives (Err refusal) (decoded code at) → JudgesOrNoMemory r (first_of (decoding_tests code)) P
+pub read-refused : {X : Type 0} (r : Result X (Refusal IlFault)) (refusal : Refusal IlFault) (code : List ℕ) (read : List Instr) (at : ℕ)
+    (P : X → Type 0) → IsErrAnd r (λ same. same ≡ refusal) → AreRead code read at → at < length code → Gives (Err refusal) (decoded code at)
+    → JudgesOrNoMemory r (first_of (decoding_tests code)) P
 read-refused (Ok x) refusal code read at P is so_far inside gives = elim is [ ]
 read-refused (Err same) (Bad fault) code read at P is so_far inside gives = rw is (read-fault code read at fault so_far inside gives)
 read-refused (Err same) NoMemory code read at P is so_far inside gives = rw is tt
@@ -92,7 +94,9 @@ read-refused (Err same) NoMemory code read at P is so_far inside gives = rw is t
 pub read-all : (code : List ℕ) (read : List Instr) (at : ℕ) → AreRead code read at → length code ≤ at
     → (first_of (decoding_tests code) ≡ None) × (read ≡ instructions_of code)
 read-all code read at so_far past =
-    let none = decodings-end (length code - length read) code at past in
-    (sym so_far.tests ∙ ap (λ ds. first_of (map decoding_test ds)) none ∙ first_of-nil, sym (append-nil read) ∙ sym (ap (λ ds. read ++ instructions ds) none) ∙ so_far.whole)
+    let none = decodings-end (length code - length read) code at past in (
+      sym so_far.tests ∙ ap (λ ds. first_of (map decoding_test ds)) none ∙ first_of-nil,
+      sym (append-nil read) ∙ sym (ap (λ ds. read ++ instructions ds) none) ∙ so_far.whole,
+    )
 
 pub ruleset one_by_one = (read-next, read-all)

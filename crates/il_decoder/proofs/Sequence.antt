@@ -32,7 +32,8 @@ rest_there code bytes rest at size there e =
 
 -- ---- what is decoded is spelled so
 
-spelled_more : (code : List ℕ) (at : ℕ) (i : Instr) (others : List Instr) → i.at ≡ at → StandsIn i code → CodeFrom (at + i.size) others (drop (at + i.size) code)
+pub spelled_more : (code : List ℕ) (at : ℕ) (i : Instr) (others : List Instr) → i.at ≡ at → StandsIn i code
+    → CodeFrom (at + i.size) others (drop (at + i.size) code)
     → CodeFrom at (i ∷ others) (drop at code)
 spelled_more code at i others place there behind =
     let here : drop at code ≡ there.0 ++ there.1 = ap (λ (k : ℕ). drop k code) (sym place) ∙ there.3 in
@@ -40,15 +41,17 @@ spelled_more code at i others place there behind =
     (place, (there.0, there.1, there.2, here, rw rest behind))
 
 spelled_step : (most : ℕ) (code : List ℕ) (at : ℕ) (r : Result Instr IlFault) → IsBytes code → decoded code at ≡ r → length code ≤ at + suc most
-    → ((next : ℕ) → length code ≤ next + most → AreFound (decodings most code next) → CodeFrom next (instructions (decodings most code next)) (drop next code))
-    → AreFound (r ∷ decodings most code (offset_behind code at r)) → CodeFrom at (instructions (r ∷ decodings most code (offset_behind code at r))) (drop at code)
+    → ((next : ℕ) → length code ≤ next + most → AreFound (decodings most code next)
+    → CodeFrom next (instructions (decodings most code next)) (drop next code))
+    → AreFound (r ∷ decodings most code (offset_behind code at r))
+    → CodeFrom at (instructions (r ∷ decodings most code (offset_behind code at r))) (drop at code)
 spelled_step most code at (Ok i) fits found enough later passed =
     let there = decoded_found code at i fits found in
     let reach = stands_reaches i code there.1 in
     spelled_more code at i _ there.0 there.1 (later (at + i.size) (omega (arith, reach.some)) passed.1)
 spelled_step most code at (Err fault) fits found enough later passed = absurd (let failed = passed.0 in cc)
 
-decodings_spell : (most : ℕ) (code : List ℕ) → IsBytes code → (at : ℕ) → length code ≤ at + most → AreFound (decodings most code at)
+pub decodings_spell : (most : ℕ) (code : List ℕ) → IsBytes code → (at : ℕ) → length code ≤ at + most → AreFound (decodings most code at)
     → CodeFrom at (instructions (decodings most code at)) (drop at code)
 decodings_spell zero code fits at enough passed = rw (decodings-end 0 code at (omega arith)) (drop_all at code (omega arith))
 decodings_spell (suc most) code fits at enough passed =
@@ -61,20 +64,21 @@ decodings_spell (suc most) code fits at enough passed =
 
 -- ---- what is spelled so is decoded
 
-nothing_there : (code : List ℕ) (at : ℕ) → drop at code ≡ [] → length code ≤ at
+pub nothing_there : (code : List ℕ) (at : ℕ) → drop at code ≡ [] → length code ≤ at
 nothing_there code at e = omega (arith, ap length e, length-drop at code)
 
 -- The first of some instructions that the code spells stands there, and the others behind it.
-first_stands : (code : List ℕ) (at : ℕ) (i : Instr) (is : List Instr) → CodeFrom at (i ∷ is) (drop at code)
+pub first_stands : (code : List ℕ) (at : ℕ) (i : Instr) (is : List Instr) → CodeFrom at (i ∷ is) (drop at code)
     → (i.at ≡ at) × (StandsIn i code × CodeFrom (at + i.size) is (drop (at + i.size) code))
 first_stands code at i is (place, (bytes, rest, spells, there, behind)) =
     (place, ((bytes, rest, spells, rw place there), rw (← rest_there code bytes rest at i.size there spells.size) behind))
 
 -- These instructions are all that is decoded, and without a fault.
-abbrev IsAll : List Instr → List (Result Instr IlFault) → Type 0
+abbrev pub IsAll : List Instr → List (Result Instr IlFault) → Type 0
 IsAll is found = AreFound found × (instructions found ≡ is)
 
-spelled_decodings : (most : ℕ) (code : List ℕ) (at : ℕ) (is : List Instr) → length code ≤ at + most → CodeFrom at is (drop at code) → IsAll is (decodings most code at)
+pub spelled_decodings : (most : ℕ) (code : List ℕ) (at : ℕ) (is : List Instr) → length code ≤ at + most → CodeFrom at is (drop at code)
+    → IsAll is (decodings most code at)
 spelled_decodings most code at [] enough spelled = rw (decodings-end most code at (nothing_there code at spelled)) (tt, refl)
 spelled_decodings zero code at (i ∷ is) enough spelled =
     let first = first_stands code at i is spelled in
@@ -89,13 +93,14 @@ spelled_decodings (suc most) code at (i ∷ is) enough spelled =
 
 -- ---- targets
 
-each_begins : (instrs : List Instr) (targets : List ℕ) → (list_all (begins_at instrs) targets ≡ true) ↔ AllByRecursion (λ target. begins_at instrs target ≡ true) targets
+each_begins : (instrs : List Instr) (targets : List ℕ)
+    → (list_all (begins_at instrs) targets ≡ true) ↔ AllByRecursion (λ target. begins_at instrs target ≡ true) targets
 each_begins instrs [] = (λ all. tt, λ all. refl)
 each_begins instrs (target ∷ targets) =
     let others = each_begins instrs targets in
     (λ all. let both = and_parts _ _ all in (both.0, others.0 both.1), λ all. rw (all.0, others.1 all.1) refl)
 
-tests_meet : (all instrs : List Instr) → ArePassed (map (target_test all) instrs) ↔ AllByRecursion (MeetsStarts all) instrs
+pub tests_meet : (all instrs : List Instr) → ArePassed (map (target_test all) instrs) ↔ AllByRecursion (MeetsStarts all) instrs
 tests_meet all [] = (λ passed. tt, λ meet. tt)
 tests_meet all (i ∷ instrs) =
     let here = each_begins all (branch_targets i.op) in
@@ -113,7 +118,7 @@ module _ (code : List ℕ) where
       let both = passed-append (decoding_tests code) (target_tests (instructions_of code)) in
       (λ e. both.0 (none.0 e), λ passed. none.1 (both.1 passed))
 
-  code_found : IsBytes code → first_of (code_tests code) ≡ None → CodeOf (instructions_of code) code
+  pub code_found : IsBytes code → first_of (code_tests code) ≡ None → CodeOf (instructions_of code) code
   unfolding instructions_of all_decodings
   code_found fits none =
       let passed = tests_of_code.0 none in
@@ -122,7 +127,7 @@ module _ (code : List ℕ) where
         targets = (tests_meet (instructions_of code) (instructions_of code)).0 passed.1;
       }
 
-  code_only : (instrs : List Instr) → CodeOf instrs code → (first_of (code_tests code) ≡ None) × (instructions_of code ≡ instrs)
+  pub code_only : (instrs : List Instr) → CodeOf instrs code → (first_of (code_tests code) ≡ None) × (instructions_of code ≡ instrs)
   unfolding instructions_of all_decodings
   code_only instrs is =
       let all = spelled_decodings (length code) code 0 instrs (omega arith) is.spelled in
@@ -130,7 +135,8 @@ module _ (code : List ℕ) where
       (tests_of_code.1 (all.0, rw all.1 meet), all.1)
 
   module _ {X : Type 0} (items : X → List Instr) where
-    pub answer_code : (r : Result X (Refusal IlFault)) → ((i : ℕ) → Fits w8 (slice_index code i)) → JudgesOrNoMemory r (first_of (code_tests code)) (λ x. items x ≡ instructions_of code)
+    pub answer_code : (r : Result X (Refusal IlFault)) → ((i : ℕ) → Fits w8 (slice_index code i))
+        → JudgesOrNoMemory r (first_of (code_tests code)) (λ x. items x ≡ instructions_of code)
         → IfOk r (λ x. CodeOf (items x) code)
     answer_code (Ok x) fits judged = rw judged.1 (code_found (IsBytes-from_fits code fits) judged.0)
     answer_code (Err refusal) fits judged = tt

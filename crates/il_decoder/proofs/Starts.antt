@@ -24,7 +24,8 @@ begins-there (i ∷ instrs) at zero inside there = let here : i.at ≡ at = ther
 begins-there (i ∷ instrs) at (suc k) inside there = rw (begins-there instrs at k (omega arith) there) (grind arith)
 
 -- None begins where none does.
-begins-nowhere : (instrs : List Instr) (at : ℕ) → ((k : ℕ) (d : Instr) → k < length instrs → (get_or instrs k d).at ≡ at → ⊥) → begins_at instrs at ≡ false
+begins-nowhere : (instrs : List Instr) (at : ℕ) → ((k : ℕ) (d : Instr) → k < length instrs → (get_or instrs k d).at ≡ at → ⊥)
+    → begins_at instrs at ≡ false
 begins-nowhere [] at none = refl
 begins-nowhere (i ∷ instrs) at none =
     rw (ne_eqb i.at at (λ e. none 0 i (omega arith) e), begins-nowhere instrs at (λ k d inside e. none (suc k) d (omega arith) e)) refl
@@ -34,7 +35,8 @@ module _ (instrs : List Instr) (rise : IsNonDecreasingBy (λ i. i.at) instrs) (a
   comparisons_rise : IsNonDecreasingBy (λ i. ordering_index (nat_cmp i.at at)) instrs
   comparisons_rise i j d le inside = let keys = rise i j d le inside in grind (arith, nat_tests)
 
-  pub searched : (r : Result ℕ ℕ) → IsSearchInRange r (length instrs) → IsBinarySearchResult (λ i. nat_cmp i.at at) instrs r → is_ok r ≡ begins_at instrs at
+  pub searched : (r : Result ℕ ℕ) → IsSearchInRange r (length instrs) → IsBinarySearchResult (λ i. nat_cmp i.at at) instrs r
+      → is_ok r ≡ begins_at instrs at
   searched (Ok k) inside equal = sym (begins-there instrs at k inside (λ d. ranked _ at _ (sym (equal d))))
   searched (Err k) inside parted =
       let parts = parted comparisons_rise in
@@ -57,17 +59,22 @@ pub targets-start : (instrs : List Instr) → first_of (map (target_test instrs)
 unfolding target_tests
 targets-start instrs = refl
 
-pub targets-next : (instrs : List Instr) (k : ℕ) (i : Instr) (all : Option IlFault) → k < length instrs → i ≡ get_or instrs k i → list_all (begins_at instrs) (branch_targets i.op) ≡ true
+pub targets-next : (instrs : List Instr) (k : ℕ) (i : Instr) (all : Option IlFault) → k < length instrs → i ≡ get_or instrs k i
+    → list_all (begins_at instrs) (branch_targets i.op) ≡ true
     → first_of (map (target_test instrs) (drop k instrs)) ≡ all → first_of (map (target_test instrs) (drop (k + 1) instrs)) ≡ all
 targets-next instrs k i all inside is met so_far =
-    sym (must-passed _ (Target i.at) (map (target_test instrs) (drop (k + 1) instrs)) met) ∙ ap first_of (sym (left_before instrs instrs k i inside is)) ∙ so_far
+    sym (must-passed _ (Target i.at) (map (target_test instrs) (drop (k + 1) instrs)) met)
+    ∙ ap first_of (sym (left_before instrs instrs k i inside is)) ∙ so_far
 
-pub targets-stop : (instrs : List Instr) (k : ℕ) (i : Instr) (all : Option IlFault) → k < length instrs → i ≡ get_or instrs k i → list_all (begins_at instrs) (branch_targets i.op) ≡ false
+pub targets-stop : (instrs : List Instr) (k : ℕ) (i : Instr) (all : Option IlFault) → k < length instrs → i ≡ get_or instrs k i
+    → list_all (begins_at instrs) (branch_targets i.op) ≡ false
     → first_of (map (target_test instrs) (drop k instrs)) ≡ all → all ≡ Some (Target i.at)
 targets-stop instrs k i all inside is missed so_far =
-    sym so_far ∙ ap first_of (left_before instrs instrs k i inside is) ∙ must-failed _ (Target i.at) (map (target_test instrs) (drop (k + 1) instrs)) missed
+    sym so_far ∙ ap first_of (left_before instrs instrs k i inside is)
+    ∙ must-failed _ (Target i.at) (map (target_test instrs) (drop (k + 1) instrs)) missed
 
-pub targets-end : (instrs : List Instr) (k : ℕ) (all : Option IlFault) → length instrs ≤ k → first_of (map (target_test instrs) (drop k instrs)) ≡ all → all ≡ None
+pub targets-end : (instrs : List Instr) (k : ℕ) (all : Option IlFault) → length instrs ≤ k → first_of (map (target_test instrs) (drop k instrs)) ≡ all
+    → all ≡ None
 targets-end instrs k all past so_far = sym so_far ∙ ap (λ is. first_of (map (target_test instrs) is)) (drop_all k instrs past) ∙ first_of-nil
 
 pub ruleset target_by_target = (targets-start, targets-next, targets-stop, targets-end)

@@ -20,7 +20,8 @@ use std::alloc::Global;
 #[tactic(auto, using(crate::proofs::Reading::one_by_one))]
 fn read_instructions(alloc: Global, code: &[u8]) -> Result<Vec<Instr>, IlRefusal>
     requires { IsShort code.now }
-    ensures judged { JudgesOrNoMemory result (first_of (decoding_tests code.now)) (λ instrs. instrs.items ≡ instructions_of code.now) }
+    ensures judged { JudgesOrNoMemory result (first_of (decoding_tests code.now))
+        (λ instrs. instrs.items ≡ instructions_of code.now) }
     ensures rise { IfOk result (λ instrs. IsNonDecreasingBy (λ i. i.at) instrs.items) }
 {
     let mut instrs = Vec::new(alloc);
@@ -79,7 +80,8 @@ fn check_targets(instrs: &[Instr]) -> Result<(), IlFault>
 #[tactic(auto, using(cc_base::proofs::TestLemmas::carried, cc_base::proofs::TestLemmas::appended), unfolding(crate::specs::Decoding::code_tests))]
 fn read_code(alloc: Global, code: &[u8]) -> Result<Vec<Instr>, IlRefusal>
     requires { IsShort code.now }
-    ensures { JudgesOrNoMemory result (first_of (code_tests code.now)) (λ instrs. instrs.items ≡ instructions_of code.now) }
+    ensures { JudgesOrNoMemory result (first_of (code_tests code.now))
+        (λ instrs. instrs.items ≡ instructions_of code.now) }
 {
     let instrs = read_instructions(alloc, code)?;
     check_targets(instrs.as_slice())?;
@@ -94,7 +96,8 @@ fn read_code(alloc: Global, code: &[u8]) -> Result<Vec<Instr>, IlRefusal>
 pub fn decode(alloc: Global, code: &[u8]) -> Result<Vec<Instr>, IlRefusal>
     requires is_short { IsShort code.now }
     // The first fault is named.
-    ensures judged { JudgesOrNoMemory result (first_of (code_tests code.now)) (λ instrs. instrs.items ≡ instructions_of code.now) }
+    ensures judged { JudgesOrNoMemory result (first_of (code_tests code.now))
+        (λ instrs. instrs.items ≡ instructions_of code.now) }
     // The code is that of the instructions that are found.
     ensures found { IfOk result (λ instrs. CodeOf instrs.items code.now) }
     // Instructions whose code this is are found.

@@ -22,7 +22,8 @@ pub(crate) fn u8_operand(at: u32, rest: &[u8]) -> Result<u8, IlFault>
 
 /// An operand of one byte that has a sign.
 pub(crate) fn i8_operand(at: u32, rest: &[u8]) -> Result<i8, IlFault>
-    ensures { Judges result (must (nat_le 1 (length rest.now)) (Short at)) (λ n. n ≡ cast_signed w8 (little_number 1 rest.now)) }
+    ensures { Judges result (must (nat_le 1 (length rest.now)) (Short at))
+        (λ n. n ≡ cast_signed w8 (little_number 1 rest.now)) }
 {
     Ok(u8_operand(at, rest)?.cast_signed())
 }
@@ -49,7 +50,8 @@ pub(crate) fn u32_operand(at: u32, rest: &[u8]) -> Result<u32, IlFault>
 
 /// An operand of four bytes that has a sign.
 pub(crate) fn i32_operand(at: u32, rest: &[u8]) -> Result<i32, IlFault>
-    ensures { Judges result (must (nat_le 4 (length rest.now)) (Short at)) (λ n. n ≡ cast_signed w32 (little_number 4 rest.now)) }
+    ensures { Judges result (must (nat_le 4 (length rest.now)) (Short at))
+        (λ n. n ≡ cast_signed w32 (little_number 4 rest.now)) }
 {
     Ok(u32_operand(at, rest)?.cast_signed())
 }
@@ -67,7 +69,8 @@ pub(crate) fn near_target(at: u32, rest: &[u8]) -> Result<u32, IlFault>
 /// The IL offset that a branch of five bytes goes to.
 pub(crate) fn far_target(at: u32, rest: &[u8]) -> Result<u32, IlFault>
     requires { at < 2 ^ 31 }
-    ensures { Judges result (must (nat_le 4 (length rest.now)) (Short at)) (λ t. t ≡ target (at + 5) (little_number 4 rest.now)) }
+    ensures { Judges result (must (nat_le 4 (length rest.now)) (Short at))
+        (λ t. t ≡ target (at + 5) (little_number 4 rest.now)) }
 {
     let next = at + 5;
     Ok(next.wrapping_add(u32_operand(at, rest)?))
