@@ -1,3 +1,4 @@
 pub mod Read
 pub mod Decoded
 pub mod Lookup
+pub mod SpellingLemmas
