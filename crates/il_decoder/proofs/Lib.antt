@@ -7,3 +7,4 @@ pub mod Lookup
 pub mod Reading
 pub mod Starts
 pub mod Sequence
+pub mod SpellingLemmas

@@ -5,3 +5,4 @@ pub mod Body
 pub mod Labels
 pub mod Names
 pub mod Text
+pub mod Spelling

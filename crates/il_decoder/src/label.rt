@@ -1,6 +1,6 @@
 //! IL offsets as text.
 
-ghost use Rattle.std.specs.Prelude.{◌≡◌, ◌<◌, ◌≤◌, ◌^◌, ◌++◌, OnOk};
+ghost use Rattle.std.specs.Prelude.{◌≡◌, ◌<◌, ◌≤◌, ◌^◌, ◌++◌, OnOk, OnErr};
 ghost use Rattle.il_decoder.specs.Labels.{label_digits, label};
 
 use cc_base::{NoMemory, put_hex};
@@ -26,12 +26,14 @@ fn label_digits(at: u32) -> u8
     }
 }
 
-/// Appends the label of an IL offset: `IL_`, and at least four digits in base sixteen. Want of memory may leave
-/// the front of it.
+/// Appends the label of an IL offset: `IL_`, and at least four digits in base sixteen. Where memory runs out,
+/// nothing is appended.
 #[tactic(auto, unfolding(crate::specs::Labels::label))]
 pub fn put_label(alloc: Global, out: &mut Vec<u8>, at: u32) -> Result<(), NoMemory>
     ensures ok { OnOk result (out.new.items ≡ out.old.items ++ label at) }
+    ensures err { OnErr result (out.new.items ≡ out.old.items) }
 {
-    out.extend_from_slice(b"IL_")?;
-    put_hex(alloc, out, at, label_digits(at))
+    let mut label = Vec::from_slice(alloc, b"IL_")?;
+    put_hex(alloc, &mut label, at, label_digits(at))?;
+    out.extend_from_slice(&label)
 }

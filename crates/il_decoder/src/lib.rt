@@ -1,4 +1,4 @@
-//! Instructions of CIL, read from a method's code (ECMA-335 III).
+//! Instructions of CIL: read from a method's code, spelled and printed (ECMA-335 III).
 #![tactic(auto)]
 
 mod body;
@@ -9,6 +9,7 @@ mod label;
 mod names;
 mod opcodes;
 mod operands;
+mod spelling;
 mod text;
 
 pub use body::{Body, body_at};
@@ -16,4 +17,5 @@ pub use code::decode;
 pub use fault::{IlFault, IlRefusal};
 pub use instruction::decode_one;
 pub use label::put_label;
+pub use spelling::spell;
 pub use text::il_text;
