@@ -3,22 +3,58 @@
 #![tactic(auto)]
 
 #[cfg(test)]
+mod assembly;
+#[cfg(test)]
+mod assembly_calls;
+#[cfg(test)]
+mod assembly_faults;
+#[cfg(test)]
+mod assembly_methods;
+#[cfg(test)]
+mod base_rows;
+#[cfg(test)]
 mod chain;
 #[cfg(test)]
 mod changes;
+#[cfg(test)]
+mod decoder_rows;
+#[cfg(test)]
+mod demo_assembly;
 #[cfg(test)]
 mod devices;
 #[cfg(test)]
 mod domain_rows;
 #[cfg(test)]
+mod failing_devices;
+#[cfg(test)]
+mod fault_texts;
+#[cfg(test)]
 mod heap_rows;
+#[cfg(test)]
+mod image_rows;
+#[cfg(test)]
+mod limits;
+#[cfg(test)]
+mod list_answers;
 #[cfg(test)]
 mod model_rows;
 #[cfg(test)]
+mod pe_rows;
+#[cfg(test)]
 mod range_rows;
+#[cfg(test)]
+mod root_rows;
+#[cfg(test)]
+mod signature_rows;
+#[cfg(test)]
+mod table_rows;
+#[cfg(test)]
+mod unit_refusals;
 #[cfg(test)]
 mod unit_reports;
 #[cfg(test)]
 mod verdict_rows;
 #[cfg(test)]
 mod word_lists;
+#[cfg(test)]
+mod writer_rows;
