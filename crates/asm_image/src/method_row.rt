@@ -26,6 +26,7 @@ pub struct MethodRow {
 
 /// The bits of the column Flags that say that a method has no body here.
 const ABSTRACT: u16 = 0x0400;
+
 const PINVOKE_IMPL: u16 = 0x2000;
 
 impl MethodRow {

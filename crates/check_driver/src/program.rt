@@ -49,7 +49,14 @@ fn answer_bytes<O: Sink, E: Sink>(
         }
         Command::Il { file, method } => {
             let (name, method) = (word_at(words, file), word_at(words, method));
-            answer_il(alloc, name.as_bytes(), method.as_bytes(), &read[0], out, err)
+            answer_il(
+                alloc,
+                name.as_bytes(),
+                method.as_bytes(),
+                &read[0],
+                out,
+                err,
+            )
         }
     }
 }

@@ -8,10 +8,7 @@ use cil_model::{BinOp, Op, is_assert};
 fn is_built_operator(operator: BinOp) -> bool
     ensures { result ≡ is_built_operator operator }
 {
-    matches!(
-        operator,
-        BinOp::Add | BinOp::Ceq | BinOp::Cgt | BinOp::Clt
-    )
+    matches!(operator, BinOp::Add | BinOp::Ceq | BinOp::Cgt | BinOp::Clt)
 }
 
 /// Whether the operation is built. Of the calls Assert alone is.

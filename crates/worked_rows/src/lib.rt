@@ -17,8 +17,6 @@ mod chain;
 #[cfg(test)]
 mod changes;
 #[cfg(test)]
-mod decoder_rows;
-#[cfg(test)]
 mod demo_assembly;
 #[cfg(test)]
 mod devices;
@@ -31,7 +29,11 @@ mod fault_texts;
 #[cfg(test)]
 mod heap_rows;
 #[cfg(test)]
+mod il_answers;
+#[cfg(test)]
 mod image_rows;
+#[cfg(test)]
+mod instruction_rows;
 #[cfg(test)]
 mod limits;
 #[cfg(test)]

@@ -134,7 +134,7 @@ const FIELDS: [(&[u8], &[u8]); 61] = [
 const HEAD: &[u8] = b"CCU1\x04\0T::f\x02\x01\x02\0\x02\0\0";
 
 /// The code's length and the code behind the head, each with its fault. The code begins at 00000015.
-const CODES: [(&[u8], &[u8]); 37] = [
+const CODES: [(&[u8], &[u8]); 46] = [
     // A rest behind the code, and an instruction that is none in the code.
     (b"\x02\0\0\0\x02\x2a\0", b"unit form at 00000017"),
     (b"\x01\0\0\0\x25\0", b"unit form at 00000016"),
@@ -170,6 +170,20 @@ const CODES: [(&[u8], &[u8]); 37] = [
     (b"\x02\0\0\0\x02\x1f", b"unit form at 00000016"),
     (b"\x05\0\0\0\x02\x20\x01\0\0", b"unit form at 00000016"),
     (b"\x05\0\0\0\x02\x28\x05\0\0", b"unit form at 00000016"),
+    // It ends inside an instruction that is not built.
+    (b"\x02\0\0\0\x02\x10", b"unit not built at 00000016"),
+    (b"\x03\0\0\0\x02\x38\0", b"unit not built at 00000016"),
+    (b"\x02\0\0\0\x02\x45", b"unit not built at 00000016"),
+    (b"\x03\0\0\0\x02\x8d\x01", b"unit not built at 00000016"),
+    (b"\x04\0\0\0\x02\xfe\x0b\0", b"unit not built at 00000016"),
+    // Instructions next to built ones.
+    (b"\x03\0\0\0\x02\x06\x2a", b"unit not built at 00000016"),
+    (b"\x03\0\0\0\x02\x14\x2a", b"unit not built at 00000016"),
+    (b"\x04\0\0\0\x02\x02\x59\x2a", b"unit not built at 00000017"),
+    (
+        b"\x05\0\0\0\x02\x02\xfe\x05\x2a",
+        b"unit not built at 00000017",
+    ),
     // Each instruction is read before the first is typed, here an add without operands.
     (b"\x02\0\0\0\x58\x25", b"unit not built at 00000016"),
     (b"\x02\0\0\0\x58\x1f", b"unit form at 00000016"),

@@ -8,7 +8,7 @@ const USAGE: &[u8] =
     b"cccheck: usage: check FILE.. [--cache F] [--show] | run FILE METHOD ARG.. [--steps N] | list FILE | il FILE METHOD | unit FILE | gen SEED COUNT\n";
 
 /// Word lists that are no command.
-const NO_COMMANDS: [&[&str]; 15] = [
+const NO_COMMANDS: [&[&str]; 23] = [
     &[],
     &["unit"],
     &["unit", "a", "b"],
@@ -19,6 +19,14 @@ const NO_COMMANDS: [&[&str]; 15] = [
     &["list", "a.dll", "b.dll"],
     &["list", "-x"],
     &["list", ""],
+    &["il"],
+    &["il", "a.dll"],
+    &["il", "a.dll", ""],
+    &["il", "a.dll", "-M"],
+    &["il", "", "M"],
+    &["il", "-x", "M"],
+    &["il", "a.dll", "M", "N"],
+    &["IL", "a.dll", "M"],
     &["check"],
     &["check", "a.dll", "--show", "--show"],
     &["check", "--cache", "F"],
