@@ -4,6 +4,9 @@ pub mod AloneSafe
 pub mod ArithmeticFits
 pub mod ArithmeticRows
 pub mod AssumeRun
+pub mod BranchRows
+pub mod ClauseRows
+pub mod ComparisonRows
 pub mod EffectsKeep
 pub mod CallsDefined
 pub mod Forms
@@ -11,11 +14,14 @@ pub mod HeapsKept
 pub mod KindsRows
 pub mod Laid
 pub mod Lists
+pub mod MoveRows
 pub mod OldValueRun
 pub mod Options
 pub mod OverflowRun
+pub mod PairRun
 pub mod RoomRun
 pub mod Running
+pub mod SmallRuns
 pub mod StepKinds
 pub mod StepsKeep
 pub mod SumKinds
