@@ -3,6 +3,7 @@ pub mod Alone
 pub mod AloneSafe
 pub mod ArithmeticFits
 pub mod ArithmeticRows
+pub mod ArrayRows
 pub mod AssumeRun
 pub mod BranchRows
 pub mod ClauseRows
@@ -10,6 +11,8 @@ pub mod ComparisonRows
 pub mod EffectsKeep
 pub mod CallsDefined
 pub mod Forms
+pub mod FreeCallRun
+pub mod FreeCalls
 pub mod HeapsKept
 pub mod KindsRows
 pub mod Laid
