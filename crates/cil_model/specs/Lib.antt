@@ -21,3 +21,4 @@ pub mod Passes
 pub mod Blocks
 pub mod TreeKinds
 pub mod WellFormed
+pub mod FitKinds
