@@ -14,7 +14,9 @@ pub mod Forms
 pub mod FreeCallRun
 pub mod FreeCalls
 pub mod HeapsKept
+pub mod KindsGrow
 pub mod KindsRows
+pub mod KindsSettle
 pub mod Laid
 pub mod Lists
 pub mod MoveRows
