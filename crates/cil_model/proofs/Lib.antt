@@ -14,6 +14,7 @@ pub mod Forms
 pub mod FreeCallRun
 pub mod FreeCalls
 pub mod HeapsKept
+pub mod KindForms
 pub mod KindsGrow
 pub mod KindsRows
 pub mod KindsSettle
