@@ -15,6 +15,7 @@ pub mod FreeCallRun
 pub mod FreeCalls
 pub mod HeapsKept
 pub mod KindForms
+pub mod KindValues
 pub mod KindsGrow
 pub mod KindsRows
 pub mod KindsSettle
