@@ -1,5 +1,5 @@
 -- What values of kinds can be taken for: numbers, references, and what comparisons and tests take.
-use Rattle.std.proofs.Common.{◌≡◌, ◌⊎◌, ℕ, ℤ, pos, ◌<◌, int_lt, int_le, unsigned_abs, Bool, true, false, ◌&&◌, List, length, slice_get, Option, Some, None, refl, sym, ◌∙◌, arith, inl, inr}
+use Rattle.std.proofs.Common.{◌≡◌, ◌⊎◌, ℕ, ℤ, pos, ◌<◌, int_lt, int_le, unsigned_abs, Bool, true, false, ◌&&◌, List, length, slice_get, Option, Some, None, refl, arith, inl, inr}
 use Rattle.std.proofs.lemmas.Bool.{and_parts, false≢true, or_cases}
 use Rattle.std.proofs.lemmas.Int.{ints}
 use Rattle.std.proofs.lemmas.Option.{none-some, slice_get-get_or}
@@ -24,6 +24,11 @@ record IsReference (v : Value) : Type 0 where
   is : reference_of v ≡ Some target
   no_number : number_of v ≡ None
 
+abbrev pub IsNullOrArray : Value → Type 0
+IsNullOrArray values.Null = Unit {0}
+IsNullOrArray (values.Array i) = Unit {0}
+IsNullOrArray _ = ⊥
+
 module _ (heap : Heap) where
   pub number_is : (kind : Kind) (v : Value) → is_number kind ≡ true → HasForm heap kind v → (n : ℤ) × (number_of v ≡ Some n)
   number_is kinds.Int (values.Int n) e form = (n, refl)
@@ -38,12 +43,14 @@ module _ (heap : Heap) where
   reference_is kinds.Text values.Text e form = absurd (false≢true e)
   reference_is _ _ e form = absurd form
 
-  -- A reference is null or an array, and no number.
-  pub no_number : (kind : Kind) (v : Value) (n : ℤ) → is_reference kind ≡ true → HasForm heap kind v → number_of v ≡ Some n → ⊥
-  no_number kind v n e form is = none-some n (sym (reference_is kind v e form).no_number ∙ is)
-
-  pub no_text : (kind : Kind) → is_reference kind ≡ true → HasForm heap kind values.Text → ⊥
-  no_text kind e form = let r = reference_is kind values.Text e form in none-some r.target r.is
+  -- A value of a kind of references is null or an array.
+  pub null_or_array : (kind : Kind) (v : Value) → is_reference kind ≡ true → HasForm heap kind v → IsNullOrArray v
+  null_or_array kind v e form = by v (reference_is kind v e form)
+    where
+      by : (v : Value) → IsReference v → IsNullOrArray v
+      by values.Null r = tt
+      by (values.Array i) r = tt
+      by _ r = absurd (none-some r.target r.is)
 
   -- ---- comparisons
 
@@ -89,9 +96,7 @@ module _ (heap : Heap) where
       → (holds : Bool) × (pushed_comparison comparisons.GtUn v w ≡ Some holds)
   above_null a b (values.Array i) values.Null e fa fb = (true, refl)
   above_null a b values.Null values.Null e fa fb = (false, refl)
-  above_null a b (values.Int n) values.Null e fa fb = absurd (no_number a (values.Int n) n e fa refl)
-  above_null a b (values.Native n) values.Null e fa fb = absurd (no_number a (values.Native n) (pos n) e fa refl)
-  above_null a b values.Text values.Null e fa fb = absurd (no_text a e fa)
+  above_null a b v values.Null e fa fb = absurd (null_or_array a v e fa)
   above_null a b v _ e fa fb = absurd fb
 
   numbers_above : (v w : Value) (m n : ℤ) → number_of v ≡ Some m → number_of w ≡ Some n → (holds : Bool) × (pushed_comparison comparisons.GtUn v w ≡ Some holds)

@@ -8,6 +8,7 @@ pub mod AssumeRun
 pub mod BranchRows
 pub mod ClauseRows
 pub mod ComparisonRows
+pub mod EffectsFit
 pub mod EffectsKeep
 pub mod CallsDefined
 pub mod Forms
