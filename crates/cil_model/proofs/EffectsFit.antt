@@ -74,6 +74,34 @@ when_fits : (ats : List ℕ) (test : Bool) (kinds : List Kind) (es : List Effect
 when_fits ats true kinds es fit = fit refl
 when_fits ats false kinds es fit = tt
 
+-- ---- operations
+
+-- The operation is done in its own frame: it is no return and no call but of Assert and Assume.
+abbrev pub IsOwnCall : Option UnitCall → Type 0
+IsOwnCall (Some (calls.Assert message)) = Unit {0}
+IsOwnCall (Some (calls.Assume message)) = Unit {0}
+IsOwnCall None = Unit {0}
+IsOwnCall _ = ⊥
+
+abbrev pub IsOwn : Op → Type 0
+IsOwn ops.Return = ⊥
+IsOwn (ops.Call number) = IsOwnCall (unit_call number)
+IsOwn _ = Unit {0}
+
+-- The type of the arrays that newarr makes, if it names any.
+abbrev IsOfArrays : Option Place → Type 0
+IsOfArrays None = Unit {0}
+IsOfArrays (Some places.Bools) = Unit {0}
+IsOfArrays (Some places.Ints) = Unit {0}
+IsOfArrays _ = ⊥
+
+array_place_is : (number : ℕ) → IsOfArrays (array_place number)
+array_place_is number = cond_both (number == 1) _ _ IsOfArrays (λ one. tt) (λ other. cond_both (number == 2) _ _ IsOfArrays (λ two. tt) (λ others. tt))
+
+last_array : (old : Heap) (cell : ArrayCell) (place : Place) → same_place cell.place place ≡ true → has_array (old ++ cell ∷ []) place (length old) ≡ true
+last_array [] cell place same = same
+last_array (first ∷ old) cell place same = last_array old cell place same
+
 module _ (unit : MethodUnit) (i : Instr) (f : Frame) (heap : Heap) where
   abbrev next : List ℕ
   next = (i.at + i.size) ∷ []
@@ -216,20 +244,6 @@ module _ (unit : MethodUnit) (i : Instr) (f : Frame) (heap : Heap) where
 
   -- ---- arrays
 
-  -- The type of the arrays that newarr makes, if it names any.
-  abbrev IsOfArrays : Option Place → Type 0
-  IsOfArrays None = Unit {0}
-  IsOfArrays (Some places.Bools) = Unit {0}
-  IsOfArrays (Some places.Ints) = Unit {0}
-  IsOfArrays _ = ⊥
-
-  array_place_is : (number : ℕ) → IsOfArrays (array_place number)
-  array_place_is number = cond_both (number == 1) _ _ IsOfArrays (λ one. tt) (λ other. cond_both (number == 2) _ _ IsOfArrays (λ two. tt) (λ others. tt))
-
-  last_array : (old : Heap) (cell : ArrayCell) (place : Place) → same_place cell.place place ≡ true → has_array (old ++ cell ∷ []) place (length old) ≡ true
-  last_array [] cell place same = same
-  last_array (first ∷ old) cell place same = last_array old cell place same
-
   makes_fit : (place : Place) (kind : Kind) (n : ℤ) (rest : List Kind) (vs : List Value) → HaveForms heap rest vs
       → ((after : Heap) → has_array after place (length heap) ≡ true → HasForm after kind (values.Array (length heap))) → same_place place place ≡ true
       → AllFit next (kind ∷ rest) (makes place n i f heap vs)
@@ -334,19 +348,7 @@ module _ (unit : MethodUnit) (i : Instr) (f : Frame) (heap : Heap) where
 
   -- ---- all rows
 
-  -- The operation is done in its own frame: it is no return and no call but of Assert and Assume.
-  abbrev pub IsOwnCall : Option UnitCall → Type 0
-  IsOwnCall (Some (calls.Assert message)) = Unit {0}
-  IsOwnCall (Some (calls.Assume message)) = Unit {0}
-  IsOwnCall None = Unit {0}
-  IsOwnCall _ = ⊥
-
-  abbrev pub IsOwn : Op → Type 0
-  IsOwn ops.Return = ⊥
-  IsOwn (ops.Call number) = IsOwnCall (unit_call number)
-  IsOwn _ = Unit {0}
-
-  contract_call_fits : (call : Option UnitCall) (kinds : List Kind) → IsOwnCall call → HaveForms heap kinds f.stack
+  pub contract_call_fits : (call : Option UnitCall) (kinds : List Kind) → IsOwnCall call → HaveForms heap kinds f.stack
       → FitBehind next (behind_call (shape_of unit) call kinds) (contract_call call i f heap)
   contract_call_fits (Some (calls.Assert message)) kinds own h = condition_fits message (Faults faults.Assert) kinds f.stack (λ rest. tt) h
   contract_call_fits (Some (calls.Assume message)) kinds own h = condition_fits message Assumes kinds f.stack (λ rest. tt) h

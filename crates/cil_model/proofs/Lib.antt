@@ -31,7 +31,9 @@ pub mod RoomRun
 pub mod Running
 pub mod SmallRuns
 pub mod StepKinds
+pub mod StepsFit
 pub mod StepsKeep
 pub mod SumKinds
 pub mod SumRun
 pub mod SumUnit
+pub mod TypedCode
