@@ -124,7 +124,7 @@ followed shape is stacks i before (Ok after) long targets typed e =
           (no_conflicts is stacks after ats f.merge);
     }
 
-found_at : (is : List Instr) (at : ℕ) (i : Instr) → instr_at is at ≡ Some i → i.at ≡ at
+pub found_at : (is : List Instr) (at : ℕ) (i : Instr) → instr_at is at ≡ Some i → i.at ≡ at
 found_at [] at i e = absurd (none-some i e)
 found_at (j ∷ is) at i e =
     cond_both (j.at == at) _ _ (λ (found : Option Instr). found ≡ Some i → i.at ≡ at)

@@ -1,13 +1,14 @@
 -- Settled kinds are what typing is for: a frame that fits them has a step, and fits them where it goes on.
-use Rattle.std.proofs.Common.{◌≡◌, ◌⊎◌, ℕ, ◌+◌, List, [], ◌∷◌, ◌++◌, length, slice_get, Option, Some, None, refl, sym, ap, subst, subst₂, ◌∙◌, arith, length-append, inl, inr}
+use Rattle.std.proofs.Common.{◌≡◌, ◌⊎◌, ℕ, zero, suc, ◌+◌, ◌≤◌, true, List, [], ◌∷◌, ◌++◌, length, slice_get, Option, Some, None, refl, sym, ap, subst, subst₂, ◌∙◌, arith, length-append, inl, inr}
 use Rattle.std.specs.List.{AllByRecursion}
 use Rattle.std.proofs.lemmas.List.{append_cancel_left}
 use Rattle.std.proofs.lemmas.Option.{same_Some}
+use Rattle.cil_model.specs.Blocks.{branch_targets}
 use Rattle.cil_model.specs.Calls.{FreeCall, ReturnRow, Returned, WorldCall, args_of, behind_call, called, ensures_fault, entry_frame, pushed}
 use Rattle.cil_model.specs.Clauses.{false_requires}
-use Rattle.cil_model.specs.FitKinds.{FrameFits, HasCode, HaveOperands, IsConstant, IsExecutedAt, TypedCodeSteps}
+use Rattle.cil_model.specs.FitKinds.{FrameFits, HasBody, HasCode, HaveOperands, IsConstant, IsExecutedAt, NeverStuck, TypedCodeSteps, is_executed}
 use Rattle.cil_model.specs.Passes.{KindsOf, Stacks, stack_at, successors}
-use Rattle.cil_model.specs.Runs.{CallRow, LocalStep, Row, Step, instr_at}
+use Rattle.cil_model.specs.Runs.{CallRow, IsDefined, LocalStep, Row, Step, StepsTo, entry_config, instr_at}
 use Rattle.cil_model.specs.Shapes.{shape_of}
 use Rattle.cil_model.specs.Values.{Heap, FitPlaces, IsHeap}
 use Rattle.cil_model.specs.WellFormed.{HoldValues, called_by}
@@ -15,6 +16,7 @@ use Rattle.cil_model.specs.Worlds.{Agree}
 use Rattle.cil_model.specs.declared.instruction.Instr.{Instr}
 use Rattle.cil_model.specs.declared.instruction.Op.{Op}
 use Rattle.cil_model.specs.declared.instruction.Op.TheVariants as ops
+use Rattle.cil_model.specs.declared.instruction.Test.TheVariants as tests
 use Rattle.cil_model.specs.declared.machine.Config.{Config}
 use Rattle.cil_model.specs.declared.machine.Config.TheVariants as configs
 use Rattle.cil_model.specs.declared.machine.Frame.{Frame}
@@ -29,11 +31,12 @@ use Rattle.cil_model.specs.declared.unit.Unit.{Unit as MethodUnit}
 use Rattle.cil_model.proofs.CallsDefined.{free_call_defined, world_call_defined}
 use Rattle.cil_model.proofs.EffectsFit.{IsOneOf}
 use Rattle.cil_model.proofs.EffectsKeep.{OperandFits}
-use Rattle.cil_model.proofs.KindForms.{HaveForms-merged, fit_of, forms_of}
-use Rattle.cil_model.proofs.KindsSettle.{Absorbs, Settled, reached_begins, settled}
+use Rattle.cil_model.proofs.KindForms.{HaveForms, HaveForms-merged, fit_of, forms_of}
+use Rattle.cil_model.proofs.KindsSettle.{Absorbs, found_at, Settled, reached_begins, settled}
 use Rattle.cil_model.proofs.StepKinds.{StepKind, above, step_kind}
 use Rattle.cil_model.proofs.StepsFit.{comes, defined}
-use Rattle.cil_model.proofs.StepsKeep.{KeepsFrame, MakesValues, local_step_keeps}
+use Rattle.cil_model.proofs.StepsKeep.{KeepsFrame, entry_frame_is, local_step_keeps}
+use Rattle.cil_model.proofs.Lists.{all_append, of_found}
 
 -- ---- what is known of a unit
 
@@ -107,22 +110,92 @@ module _ (unit : MethodUnit) (stacks : Stacks) (operands : HaveOperands unit.ins
       world_call_defined w callers number named.index named.named args i f heap named.index_is named.named_is same) in
       (new, (callers, f, unit, i, refl, record { of = of; to = found }, row))
 
+  -- What a step keeps of any frame.
+  keeps : (f : Frame) (heap : Heap) → IsHeap heap → FrameFits unit stacks heap f → (new : Config) → LocalStep unit (configs.Live (f ∷ []) heap) new → KeepsFrame unit f heap new
+  keeps f heap is fits new step =
+      local_step_keeps unit f heap is fits.frame new
+      (record { locals = hold_values heap unit.locals f.locals fits.frame.locals; constants = constants_fit unit.instrs operands.constants }) step
+
+  -- A step that goes on goes to one of the instruction's successors, with values of the kinds behind it.
+  record GoesOn (i : Instr) (g : Frame) (after : Heap) : Type 0 where
+    left : List Kind
+    onward : AllByRecursion (λ at. Absorbs (stack_at unit.instrs stacks at) left) (successors i.op (i.at + i.size))
+    place : IsOneOf (successors i.op (i.at + i.size)) g.at
+    forms : HaveForms after left g.stack
+
+  goes_on : (f g : Frame) (heap after : Heap) → FrameFits unit stacks heap f → LocalStep unit (configs.Live (f ∷ []) heap) (configs.Live (g ∷ []) after)
+      → (i : Instr) × (instr_at unit.instrs f.at ≡ Some i) × GoesOn i g after
+  goes_on f g heap after fits (i, found, row) =
+      let typed = settled (shape_of unit) unit.instrs stacks f.at i fits.kinds operands kinds found fits.before in
+      let went = comes unit i f heap fits.kinds typed.after typed.typed fits.frame.args fits.frame.locals (forms_of heap fits.kinds f.stack fits.fit) (configs.Live (g ∷ []) after) row in
+      (i, found, record { left = typed.after; onward = typed.onward; place = went.0; forms = went.1 })
+
   step_kept : (f g : Frame) (heap after : Heap) → IsHeap heap → FrameFits unit stacks heap f → LocalStep unit (configs.Live (f ∷ []) heap) (configs.Live (g ∷ []) after)
       → FrameFits unit stacks after g
-  step_kept f g heap after is fits (i, found, row) =
-      let typed : Settled (shape_of unit) unit.instrs stacks i fits.kinds =
-      settled (shape_of unit) unit.instrs stacks f.at i fits.kinds operands kinds found fits.before in
-      let went = comes unit i f heap fits.kinds typed.after typed.typed fits.frame.args fits.frame.locals (forms_of heap fits.kinds f.stack fits.fit) (configs.Live (g ∷ []) after) row in
-      let absorbs = at_one (λ at. Absorbs (stack_at unit.instrs stacks at) typed.after) (successors i.op (i.at + i.size)) g.at typed.onward went.0 in
-      let makes : MakesValues unit = record { locals = hold_values heap unit.locals f.locals fits.frame.locals; constants = constants_fit unit.instrs operands.constants } in
-      let keeps : KeepsFrame unit f heap (configs.Live (g ∷ []) after) = local_step_keeps unit f heap is fits.frame (configs.Live (g ∷ []) after) makes (i, found, row) in
-      let forms = HaveForms-merged after absorbs.kinds typed.after absorbs.kinds g.stack absorbs.merge went.1 in
-      record {
-        frame = keeps.1;
-        kinds = absorbs.kinds;
-        before = absorbs.reached;
-        fit = fit_of after absorbs.kinds g.stack forms keeps.1.stack;
-      }
+  step_kept f g heap after is fits step =
+      let (i, found, on) = goes_on f g heap after fits step in
+      let absorbs = at_one (λ at. Absorbs (stack_at unit.instrs stacks at) on.left) (successors i.op (i.at + i.size)) g.at on.onward on.place in
+      let kept = keeps f heap is fits (configs.Live (g ∷ []) after) step in
+      let forms = HaveForms-merged after absorbs.kinds on.left absorbs.kinds g.stack absorbs.merge on.forms in
+      record { frame = kept.1; kinds = absorbs.kinds; before = absorbs.reached; fit = fit_of after absorbs.kinds g.stack forms kept.1.stack }
+
+  -- ---- runs of the unit by itself
+
+  -- A frame in the body that fits, or an end.
+  abbrev Runs : Config → Type 0
+  Runs (configs.Live (f ∷ []) heap) = IsHeap heap × FrameFits unit stacks heap f × (unit.body_start ≤ f.at)
+  Runs (configs.Live _ heap) = ⊥
+  Runs _ = Unit {0}
+
+  successors_inside : (start : ℕ) (op : Op) (next : ℕ) → start ≤ next → AllByRecursion (λ at. start ≤ at) (branch_targets op) → AllByRecursion (λ at. start ≤ at) (successors op next)
+  successors_inside start ops.Return next behind inside = tt
+  successors_inside start (ops.Branch tests.Always target) next behind inside = inside
+  successors_inside start (ops.Branch test target) next behind inside = (inside.0, (behind, tt))
+  successors_inside start (ops.Switch targets) next behind inside = all_append (λ at. start ≤ at) targets (next ∷ []) inside (behind, tt)
+  successors_inside start _ next behind inside = (behind, tt)
+
+  module _ (body : HasBody unit.instrs stacks unit.body_start) where
+    stays_inside : (f g : Frame) (heap after : Heap) → FrameFits unit stacks heap f → unit.body_start ≤ f.at
+        → LocalStep unit (configs.Live (f ∷ []) heap) (configs.Live (g ∷ []) after) → unit.body_start ≤ g.at
+    stays_inside f g heap after fits inside step =
+        let (i, found, on) = goes_on f g heap after fits step in
+        let here : i.at ≡ f.at = found_at unit.instrs f.at i found in
+        let targets = of_found (λ j. unit.body_start ≤ j.at → AllByRecursion (λ at. unit.body_start ≤ at) (branch_targets j.op)) unit.instrs f.at i body.inside found (omega arith) in
+        at_one (λ at. unit.body_start ≤ at) (successors i.op (i.at + i.size)) g.at (successors_inside unit.body_start i.op (i.at + i.size) (omega arith) targets) on.place
+
+    runs_on : (c new : Config) → Runs c → LocalStep unit c new → Runs new
+    runs_on (configs.Live (f ∷ []) heap) (configs.Live (g ∷ []) after) (is, fits, inside) step =
+        ((keeps f heap is fits (configs.Live (g ∷ []) after) step).0, step_kept f g heap after is fits step, stays_inside f g heap after fits inside step)
+    runs_on (configs.Live (f ∷ []) heap) (configs.Live [] after) (is, fits, inside) step = absurd (keeps f heap is fits (configs.Live [] after) step)
+    runs_on (configs.Live (f ∷ []) heap) (configs.Live (g ∷ h ∷ frames) after) (is, fits, inside) step =
+        absurd (keeps f heap is fits (configs.Live (g ∷ h ∷ frames) after) step)
+    runs_on (configs.Live (f ∷ []) heap) _ runs step = tt
+    runs_on (configs.Live [] heap) new runs step = absurd runs
+    runs_on (configs.Live (f ∷ g ∷ frames) heap) new runs step = absurd runs
+    runs_on _ new runs step = absurd step
+
+    run_defined : (c : Config) → Runs c → IsDefined (LocalStep unit) c
+    run_defined (configs.Live (f ∷ []) heap) (is, fits, inside) =
+        step_defined f heap fits
+        (λ i found. let here : i.at ≡ f.at = found_at unit.instrs f.at i found in
+        of_found (λ j. unit.body_start ≤ j.at → is_executed j.op ≡ true) unit.instrs f.at i body.executed found (omega arith))
+    run_defined (configs.Live [] heap) runs = absurd runs
+    run_defined (configs.Live (f ∷ g ∷ frames) heap) runs = absurd runs
+    run_defined _ runs = tt
+
+    runs_defined : HoldValues unit.locals → NeverStuck unit
+    runs_defined hold index args heap n c runs = run_defined c (to n c runs.steps)
+      where
+        begins : Runs (entry_config unit index args heap)
+        begins = (
+          runs.begins.heap_is,
+          record { frame = entry_frame_is unit index args heap hold runs.begins.heap_is runs.begins.fit; kinds = []; before = body.empty; fit = tt },
+          omega arith,
+        )
+
+        to : (n : ℕ) (c : Config) → StepsTo (LocalStep unit) (entry_config unit index args heap) n c → Runs c
+        to zero c same = subst Runs (sym same) begins
+        to (suc n) c (mid, steps, step) = runs_on mid c (to n mid steps) step
 
   -- ---- a step of a world that stays in its frame
 
@@ -190,6 +263,7 @@ typed_code_steps shape is stacks operands kinds = record {
   kept = λ unit f g heap after has is_heap fits step. step_kept unit stacks (operands_of unit has) (kinds_of unit has) f g heap after is_heap fits step;
   kept_in_worlds = λ w callers unit f g heap after of has is_heap fits step.
       world_step_kept unit stacks (operands_of unit has) (kinds_of unit has) w callers f g heap after of is_heap fits step;
+  runs = λ unit has hold body. runs_defined unit stacks (operands_of unit has) (kinds_of unit has) (body_of unit has body) hold;
 }
   where
     operands_of : (unit : MethodUnit) → HasCode shape is unit → HaveOperands unit.instrs
@@ -200,3 +274,6 @@ typed_code_steps shape is stacks operands kinds = record {
 
     executed_of : (unit : MethodUnit) (f : Frame) → HasCode shape is unit → IsExecutedAt is f.at → IsExecutedAt unit.instrs f.at
     executed_of unit f has executed = subst (λ (js : List Instr). IsExecutedAt js f.at) (sym has.instrs_are) executed
+
+    body_of : (unit : MethodUnit) → HasCode shape is unit → HasBody is stacks unit.body_start → HasBody unit.instrs stacks unit.body_start
+    body_of unit has body = subst (λ (js : List Instr). HasBody js stacks unit.body_start) (sym has.instrs_are) body

@@ -1,15 +1,16 @@
 -- What the kinds of stacks are for (ECMA-335 III.1.5 and III.1.8): where a frame's stack fits the kinds before its
 -- instruction, the frame has a step, and its stack fits the kinds wherever it goes on.
-use Rattle.std.specs.Prelude.{◌≡◌, ℕ, ◌^◌, ◌<◌, Bool, true, false, List, [], ◌∷◌, ◌++◌, Option, Some, slice_get, FitsSigned}
+use Rattle.std.specs.Prelude.{◌≡◌, ℕ, ◌^◌, ◌<◌, ◌≤◌, Bool, true, false, List, [], ◌∷◌, ◌++◌, Option, Some, slice_get, FitsSigned}
 use Rattle.std.specs.Int.{w32}
 use Rattle.std.specs.List.{AllByRecursion}
 use Rattle.cil_model.specs.Blocks.{branch_targets}
 use Rattle.cil_model.specs.Configs.{IsFrameOf}
 use Rattle.cil_model.specs.Passes.{Stacks, begins_at, stack_at}
-use Rattle.cil_model.specs.Runs.{LocalStep, Step, instr_at}
+use Rattle.cil_model.specs.Runs.{IsDefined, LocalRuns, LocalStep, Step, instr_at}
 use Rattle.cil_model.specs.Shapes.{shape_of}
 use Rattle.cil_model.specs.UnitCalls.{unit_call}
 use Rattle.cil_model.specs.Values.{Heap, IsHeap, has_array}
+use Rattle.cil_model.specs.WellFormed.{HoldValues}
 use Rattle.cil_model.specs.Worlds.{Agree}
 use Rattle.cil_model.specs.declared.instruction.Instr.{Instr}
 use Rattle.cil_model.specs.declared.instruction.Op.{Op}
@@ -84,7 +85,18 @@ is_executed _ = true
 abbrev pub IsExecutedAt : List Instr → ℕ → Type 0
 IsExecutedAt is at = (i : Instr) → instr_at is at ≡ Some i → is_executed i.op ≡ true
 
+-- The body can be run: it begins with an empty stack, and what stands from its start on is executed, and branches
+-- no further back.
+pub record HasBody (is : List Instr) (stacks : Stacks) (start : ℕ) : Type 0 where
+  pub empty : stack_at is stacks start ≡ Some []
+  pub executed : AllByRecursion (λ i. start ≤ i.at → is_executed i.op ≡ true) is
+  pub inside : AllByRecursion (λ i. start ≤ i.at → AllByRecursion (λ at. start ≤ at) (branch_targets i.op)) is
+
 -- ---- what typing is for
+
+-- No run of the unit by itself comes where nothing is defined.
+abbrev pub NeverStuck : MethodUnit → Type 0
+NeverStuck unit = (index : ℕ) (args : List Value) (heap : Heap) (n : ℕ) (c : Config) → LocalRuns unit index args heap n c → IsDefined (LocalStep unit) c
 
 -- The unit has this shape and these instructions.
 pub record HasCode (shape : Shape) (is : List Instr) (unit : MethodUnit) : Type 0 where
@@ -92,7 +104,7 @@ pub record HasCode (shape : Shape) (is : List Instr) (unit : MethodUnit) : Type 
   pub instrs_are : unit.instrs ≡ is
 
 -- Of every unit with this shape and these instructions: a frame that fits these stacks has a step by itself and
--- in each world whose units agree, and where it goes on, it fits them again.
+-- in each world whose units agree, and where it goes on, it fits them again. So no run of it is stuck.
 pub record TypedCodeSteps (shape : Shape) (is : List Instr) (stacks : Stacks) : Type 0 where
   pub defined : (unit : MethodUnit) (f : Frame) (heap : Heap) → HasCode shape is unit → FrameFits unit stacks heap f → IsExecutedAt is f.at
       → (new : Config) × LocalStep unit (Live (f ∷ []) heap) new
@@ -103,3 +115,4 @@ pub record TypedCodeSteps (shape : Shape) (is : List Instr) (stacks : Stacks) : 
   pub kept_in_worlds : (w : World) (callers : List Frame) (unit : MethodUnit) (f g : Frame) (heap after : Heap) → slice_get w.units f.unit ≡ Some unit
       → HasCode shape is unit → IsHeap heap → FrameFits unit stacks heap f → Step w (Live (callers ++ f ∷ []) heap) (Live (callers ++ g ∷ []) after)
       → FrameFits unit stacks after g
+  pub runs : (unit : MethodUnit) → HasCode shape is unit → HoldValues unit.locals → HasBody is stacks unit.body_start → NeverStuck unit
