@@ -52,7 +52,8 @@ array_of_minus_one : Does (ops.NewArray 2) (Int (negsuc 0) ∷ []) (Faults fault
 array_of_minus_one = refl
 
 array_of_a_length :
-    Does (ops.NewArray 1) (Native 2 ∷ []) (FindsNoRoom ∷ on (Array 2 ∷ []) (ints (pos 5 ∷ pos 6 ∷ []) ∷ bools (pos 1 ∷ []) ∷ bools (pos 0 ∷ pos 0 ∷ []) ∷ []))
+    Does (ops.NewArray 1) (Native 2 ∷ [])
+    (FindsNoRoom ∷ on (Array 2 ∷ []) (ints (pos 5 ∷ pos 6 ∷ []) ∷ bools (pos 1 ∷ []) ∷ bools (pos 0 ∷ pos 0 ∷ []) ∷ []))
 array_of_a_length = refl
 
 -- ---- ldelem: the index is the top

@@ -70,7 +70,8 @@ abbrev pub FitBehind : List ℕ → Option (List Kind) → List Effect → Type 
 FitBehind ats None es = Unit {0}
 FitBehind ats (Some kinds) es = AllFit ats kinds es
 
-when_fits : (ats : List ℕ) (test : Bool) (kinds : List Kind) (es : List Effect) → (test ≡ true → AllFit ats kinds es) → FitBehind ats (when test kinds) es
+when_fits : (ats : List ℕ) (test : Bool) (kinds : List Kind) (es : List Effect) → (test ≡ true → AllFit ats kinds es)
+    → FitBehind ats (when test kinds) es
 when_fits ats true kinds es fit = fit refl
 when_fits ats false kinds es fit = tt
 
@@ -96,9 +97,11 @@ IsOfArrays (Some places.Ints) = Unit {0}
 IsOfArrays _ = ⊥
 
 array_place_is : (number : ℕ) → IsOfArrays (array_place number)
-array_place_is number = cond_both (number == 1) _ _ IsOfArrays (λ one. tt) (λ other. cond_both (number == 2) _ _ IsOfArrays (λ two. tt) (λ others. tt))
+array_place_is number =
+    cond_both (number == 1) _ _ IsOfArrays (λ one. tt) (λ other. cond_both (number == 2) _ _ IsOfArrays (λ two. tt) (λ others. tt))
 
-last_array : (old : Heap) (cell : ArrayCell) (place : Place) → same_place cell.place place ≡ true → has_array (old ++ cell ∷ []) place (length old) ≡ true
+last_array : (old : Heap) (cell : ArrayCell) (place : Place) → same_place cell.place place ≡ true
+    → has_array (old ++ cell ∷ []) place (length old) ≡ true
 last_array [] cell place same = same
 last_array (first ∷ old) cell place same = last_array old cell place same
 
@@ -133,7 +136,8 @@ module _ (unit : MethodUnit) (i : Instr) (f : Frame) (heap : Heap) where
   stored_fits (Some place) kind rest v variables n done form goes =
       when_fits next (takes place kind) rest _
       (λ taken. let (w, is) = put_defined heap place kind v taken form in
-      subst (λ (o : Option Value). AllFit next rest (done (option_map (λ new. slice_set variables n new) o))) (sym is) (goes (slice_set variables n w)))
+      subst (λ (o : Option Value). AllFit next rest (done (option_map (λ new. slice_set variables n new) o))) (sym is)
+      (goes (slice_set variables n w)))
 
   nothing_stored : (place : Option Place) (es : List Effect) → FitBehind next (stored_kind place []) es
   nothing_stored None es = tt
@@ -153,7 +157,8 @@ module _ (unit : MethodUnit) (i : Instr) (f : Frame) (heap : Heap) where
   stores_local_fits n [] stack h = nothing_stored (slice_get unit.locals n) _
   stores_local_fits n (kind ∷ rest) [] h = absurd h
 
-  duplicates_fit : (kinds : List Kind) (stack : List Value) → HaveForms heap kinds stack → FitBehind next (duplicated kinds) (duplicates i f heap stack)
+  duplicates_fit : (kinds : List Kind) (stack : List Value) → HaveForms heap kinds stack
+      → FitBehind next (duplicated kinds) (duplicates i f heap stack)
   duplicates_fit (kind ∷ rest) (v ∷ vs) h = on (kind ∷ kind ∷ rest) (v ∷ v ∷ vs) (h.0, h)
   duplicates_fit [] stack h = tt
   duplicates_fit (kind ∷ rest) [] h = absurd h
@@ -165,7 +170,8 @@ module _ (unit : MethodUnit) (i : Instr) (f : Frame) (heap : Heap) where
 
   -- ---- numbers
 
-  gives_fit : (rest : List Kind) (vs : List Value) (outcome : Result ℤ FaultKind) → HaveForms heap rest vs → AllFit next (Int ∷ rest) (gives i f heap vs outcome)
+  gives_fit : (rest : List Kind) (vs : List Value) (outcome : Result ℤ FaultKind) → HaveForms heap rest vs
+      → AllFit next (Int ∷ rest) (gives i f heap vs outcome)
   gives_fit rest vs (Ok n) h = on (Int ∷ rest) (values.Int n ∷ vs) (tt, h)
   gives_fit rest vs (Err kind) h = (tt, tt)
 
@@ -190,7 +196,8 @@ module _ (unit : MethodUnit) (i : Instr) (f : Frame) (heap : Heap) where
   binary_fits operator None kinds stack h = arithmetic_fits operator kinds stack h
   binary_fits operator (Some op) kinds stack h = comparison_fits op kinds stack h
 
-  changes_fit : (operator : UnOp) (kinds : List Kind) (stack : List Value) → HaveForms heap kinds stack → FitBehind next (behind_number kinds) (changes operator i f heap stack)
+  changes_fit : (operator : UnOp) (kinds : List Kind) (stack : List Value) → HaveForms heap kinds stack
+      → FitBehind next (behind_number kinds) (changes operator i f heap stack)
   changes_fit operator (Int ∷ rest) (values.Int a ∷ vs) h = on (Int ∷ rest) (values.Int (operated_one operator a) ∷ vs) (tt, h.1)
   changes_fit operator (Int ∷ rest) _ h = absurd (search)
   changes_fit operator _ stack h = tt
@@ -199,16 +206,20 @@ module _ (unit : MethodUnit) (i : Instr) (f : Frame) (heap : Heap) where
   not_number : (kind : Kind) (v : Value) → number_of v ≡ None → HasForm heap kind v → is_number kind ≡ true → ⊥
   not_number kind v none form e = let (n, is) = number_is heap kind v e form in none-some n (cc)
 
-  converts_fits : (kinds : List Kind) (stack : List Value) → HaveForms heap kinds stack → FitBehind next (behind_conversion kinds) (converts i f heap stack)
-  converts_fits (kind ∷ rest) (values.Int n ∷ vs) h = when_fits next (is_number kind) (Int ∷ rest) _ (λ e. on (Int ∷ rest) (values.Int n ∷ vs) (tt, h.1))
-  converts_fits (kind ∷ rest) (values.Native n ∷ vs) h = when_fits next (is_number kind) (Int ∷ rest) _ (λ e. on (Int ∷ rest) (values.Int (pos n) ∷ vs) (tt, h.1))
+  converts_fits : (kinds : List Kind) (stack : List Value) → HaveForms heap kinds stack
+      → FitBehind next (behind_conversion kinds) (converts i f heap stack)
+  converts_fits (kind ∷ rest) (values.Int n ∷ vs) h =
+      when_fits next (is_number kind) (Int ∷ rest) _ (λ e. on (Int ∷ rest) (values.Int n ∷ vs) (tt, h.1))
+  converts_fits (kind ∷ rest) (values.Native n ∷ vs) h =
+      when_fits next (is_number kind) (Int ∷ rest) _ (λ e. on (Int ∷ rest) (values.Int (pos n) ∷ vs) (tt, h.1))
   converts_fits (kind ∷ rest) (v ∷ vs) h = when_fits next (is_number kind) (Int ∷ rest) _ (λ e. absurd (not_number kind v refl h.0 e))
   converts_fits (kind ∷ rest) [] h = absurd h
   converts_fits [] stack h = tt
 
   -- ---- branches
 
-  branches_fit : (target : ℕ) (rest : List Kind) (vs : List Value) (test : Option Bool) → HaveForms heap rest vs → ((holds : Bool) × (test ≡ Some holds))
+  branches_fit : (target : ℕ) (rest : List Kind) (vs : List Value) (test : Option Bool) → HaveForms heap rest vs
+      → ((holds : Bool) × (test ≡ Some holds))
       → AllFit (target ∷ next) rest (branches target i f heap vs test)
   branches_fit target rest vs (Some true) h known = ((inl refl, h), tt)
   branches_fit target rest vs (Some false) h known = ((inr (inl refl), h), tt)
@@ -231,7 +242,8 @@ module _ (unit : MethodUnit) (i : Instr) (f : Frame) (heap : Heap) where
   branches_by_fits (tests.Cmp op) target (b ∷ []) stack h = tt
   branches_by_fits _ target _ _ h = absurd (search)
 
-  switches_to_fits : (targets : List ℕ) (n : ℕ) (target : Option ℕ) (rest : List Kind) (vs : List Value) → HaveForms heap rest vs → slice_get targets n ≡ target
+  switches_to_fits : (targets : List ℕ) (n : ℕ) (target : Option ℕ) (rest : List Kind) (vs : List Value) → HaveForms heap rest vs
+      → slice_get targets n ≡ target
       → AllFit (targets ++ next) rest (switches_to i f heap vs target)
   switches_to_fits targets n None rest vs h e = ((last_is_one targets (i.at + i.size), h), tt)
   switches_to_fits targets n (Some target) rest vs h e = ((found_is_one targets next n target e, h), tt)
@@ -245,7 +257,8 @@ module _ (unit : MethodUnit) (i : Instr) (f : Frame) (heap : Heap) where
   -- ---- arrays
 
   makes_fit : (place : Place) (kind : Kind) (n : ℤ) (rest : List Kind) (vs : List Value) → HaveForms heap rest vs
-      → ((after : Heap) → has_array after place (length heap) ≡ true → HasForm after kind (values.Array (length heap))) → same_place place place ≡ true
+      → ((after : Heap) → has_array after place (length heap) ≡ true → HasForm after kind (values.Array (length heap)))
+      → same_place place place ≡ true
       → AllFit next (kind ∷ rest) (makes place n i f heap vs)
   makes_fit place kind n rest vs h form same =
       let after : Heap = heap ++ zeros place (unsigned_abs n) ∷ [] in
@@ -255,7 +268,8 @@ module _ (unit : MethodUnit) (i : Instr) (f : Frame) (heap : Heap) where
       let others : HaveForms after rest vs = HaveForms-kept heap after (keeps_before heap (zeros place (unsigned_abs n) ∷ [])) rest vs h in
       (tt, ((inl refl, (made, others)), tt)))
 
-  makes_number_fits : (place : Option Place) (kind : Kind) (n : Option ℤ) (rest : List Kind) (vs : List Value) → IsOfArrays place → HaveForms heap rest vs
+  makes_number_fits : (place : Option Place) (kind : Kind) (n : Option ℤ) (rest : List Kind) (vs : List Value) → IsOfArrays place
+      → HaveForms heap rest vs
       → (is_number kind ≡ true → (m : ℤ) × (n ≡ Some m)) → FitBehind next (behind_new_array place (kind ∷ rest)) (makes_number place n i f heap vs)
   makes_number_fits None kind n rest vs arrays h known = tt
   makes_number_fits (Some places.Bools) kind (Some n) rest vs arrays h known =
@@ -277,7 +291,8 @@ module _ (unit : MethodUnit) (i : Instr) (f : Frame) (heap : Heap) where
       none (Some place) = tt
   new_array_fits number (kind ∷ rest) [] h = absurd h
 
-  array_length_fits : (kinds : List Kind) (stack : List Value) → HaveForms heap kinds stack → FitBehind next (behind_length kinds) (array_length i f heap stack)
+  array_length_fits : (kinds : List Kind) (stack : List Value) → HaveForms heap kinds stack
+      → FitBehind next (behind_length kinds) (array_length i f heap stack)
   array_length_fits (kind ∷ rest) (values.Null ∷ vs) h = when_fits next (is_reference kind) (Native ∷ rest) _ (λ e. (tt, tt))
   array_length_fits (kind ∷ rest) (values.Array a ∷ vs) h =
       when_fits next (is_reference kind) (Native ∷ rest) _
@@ -302,7 +317,8 @@ module _ (unit : MethodUnit) (i : Instr) (f : Frame) (heap : Heap) where
       cond_both (int_lt n (pos 0)) _ _ (AllFit next kinds) (λ below. (tt, tt))
       (λ above. cond_both (int_le (pos (length cell.items)) n) _ _ (AllFit next kinds) (λ beyond. (tt, tt)) (λ within. fit above within))
 
-  loads_fit : (place : Place) (kinds : List Kind) (stack : List Value) → HaveForms heap kinds stack → FitBehind next (behind_load place kinds) (loads place i f heap stack)
+  loads_fit : (place : Place) (kinds : List Kind) (stack : List Value) → HaveForms heap kinds stack
+      → FitBehind next (behind_load place kinds) (loads place i f heap stack)
   loads_fit place (Int ∷ kind ∷ rest) (values.Int n ∷ values.Null ∷ vs) h = when_fits next (is_array_of place kind) (Int ∷ rest) _ (λ e. (tt, tt))
   loads_fit place (Int ∷ kind ∷ rest) (values.Int n ∷ values.Array a ∷ vs) h =
       when_fits next (is_array_of place kind) (Int ∷ rest) _
@@ -312,12 +328,15 @@ module _ (unit : MethodUnit) (i : Instr) (f : Frame) (heap : Heap) where
       subst (λ (o : Option ℤ). AllFit next (Int ∷ rest) (pushes i f heap vs (option_map values.Int o))) (sym there)
       (on (Int ∷ rest) (values.Int item ∷ vs) (tt, h.1.1)))))
   loads_fit place (Int ∷ kind ∷ rest) (values.Int n ∷ v ∷ vs) h =
-      when_fits next (is_array_of place kind) (Int ∷ rest) _ (λ e. absurd (null_or_array heap kind v (and_parts (is_reference kind) (takes place kind) e).0 h.1.0))
+      when_fits next (is_array_of place kind) (Int ∷ rest) _
+      (λ e. absurd (null_or_array heap kind v (and_parts (is_reference kind) (takes place kind) e).0 h.1.0))
   loads_fit place (Int ∷ kind ∷ rest) _ h = absurd (search)
   loads_fit place _ stack h = tt
 
-  stores_fit : (place : Place) (kinds : List Kind) (stack : List Value) → HaveForms heap kinds stack → FitBehind next (behind_store place kinds) (stores place i f heap stack)
-  stores_fit place (Int ∷ Int ∷ kind ∷ rest) (values.Int v ∷ values.Int n ∷ values.Null ∷ vs) h = when_fits next (is_array_of place kind) rest _ (λ e. (tt, tt))
+  stores_fit : (place : Place) (kinds : List Kind) (stack : List Value) → HaveForms heap kinds stack
+      → FitBehind next (behind_store place kinds) (stores place i f heap stack)
+  stores_fit place (Int ∷ Int ∷ kind ∷ rest) (values.Int v ∷ values.Int n ∷ values.Null ∷ vs) h =
+      when_fits next (is_array_of place kind) rest _ (λ e. (tt, tt))
   stores_fit place (Int ∷ Int ∷ kind ∷ rest) (values.Int v ∷ values.Int n ∷ values.Array a ∷ vs) h =
       when_fits next (is_array_of place kind) rest _
       (λ e. of_place_fits place kind a rest _ e h.1.1.0
@@ -327,7 +346,8 @@ module _ (unit : MethodUnit) (i : Instr) (f : Frame) (heap : Heap) where
       let kept = keeps_others heap a cell (record cell { items = items }) found refl (length-set cell.items (unsigned_abs n) (item_of place v)) in
       ((inl refl, HaveForms-kept heap (slice_set heap a (record cell { items = items })) kept rest vs h.1.1.1), tt))))
   stores_fit place (Int ∷ Int ∷ kind ∷ rest) (values.Int v ∷ values.Int n ∷ w ∷ vs) h =
-      when_fits next (is_array_of place kind) rest _ (λ e. absurd (null_or_array heap kind w (and_parts (is_reference kind) (takes place kind) e).0 h.1.1.0))
+      when_fits next (is_array_of place kind) rest _
+      (λ e. absurd (null_or_array heap kind w (and_parts (is_reference kind) (takes place kind) e).0 h.1.1.0))
   stores_fit place (Int ∷ Int ∷ kind ∷ rest) _ h = absurd (search)
   stores_fit place _ stack h = tt
 
@@ -337,8 +357,10 @@ module _ (unit : MethodUnit) (i : Instr) (f : Frame) (heap : Heap) where
       → AllFit next rest (tests_condition otherwise i f heap (Some (values.Int n ∷ vs)))
   tests_fit otherwise rest n vs ends h = cond_both (int_eq n (pos 0)) _ _ (AllFit next rest) (λ no_condition. (ends, tt)) (λ holds. on rest vs h)
 
-  condition_fits : (message : Bool) (otherwise : Effect) (kinds : List Kind) (stack : List Value) → ((rest : List Kind) → EffectFits next rest otherwise)
-      → HaveForms heap kinds stack → FitBehind next (behind_condition message kinds) (tests_condition otherwise i f heap (below_message message stack))
+  condition_fits : (message : Bool) (otherwise : Effect) (kinds : List Kind) (stack : List Value)
+      → ((rest : List Kind) → EffectFits next rest otherwise)
+      → HaveForms heap kinds stack
+      → FitBehind next (behind_condition message kinds) (tests_condition otherwise i f heap (below_message message stack))
   condition_fits false otherwise (Int ∷ rest) (values.Int n ∷ vs) ends h = tests_fit otherwise rest n vs (ends rest) h.1
   condition_fits true otherwise (Text ∷ Int ∷ rest) (values.Text ∷ values.Int n ∷ vs) ends h = tests_fit otherwise rest n vs (ends rest) h.1.1
   condition_fits false otherwise (Int ∷ rest) _ ends h = absurd (search)
@@ -355,7 +377,8 @@ module _ (unit : MethodUnit) (i : Instr) (f : Frame) (heap : Heap) where
   contract_call_fits None kinds own h = tt
   contract_call_fits (Some _) kinds own h = absurd own
 
-  pub effects_fit : (op : Op) (kinds : List Kind) → IsOwn op → FitPlaces heap unit.args f.args → FitPlaces heap unit.locals f.locals → HaveForms heap kinds f.stack
+  pub effects_fit : (op : Op) (kinds : List Kind) → IsOwn op → FitPlaces heap unit.args f.args → FitPlaces heap unit.locals f.locals
+      → HaveForms heap kinds f.stack
       → FitBehind (successors op (i.at + i.size)) (behind (shape_of unit) op kinds) (effects_of op unit i f heap)
   effects_fit ops.Nop kinds own args locals h = on kinds f.stack h
   effects_fit (ops.LoadArg n) kinds own args locals h = load_fits unit.args f.args n kinds args h

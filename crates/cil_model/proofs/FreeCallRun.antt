@@ -121,7 +121,9 @@ first_item = Elem places.Ints (Arg 0) (Const (pos 0))
 
 -- void F(int[] a) with Ensures(a[0] == OldValue(a[0]) + 1)
 abbrev counts : CalleeInfo
-counts = entry places.Void (places.Ints ∷ []) (record { kind = Ensures; tree = Bin operators.Ceq first_item (Bin operators.Add (Old first_item) (Const (pos 1))) } ∷ [])
+counts =
+    entry places.Void (places.Ints ∷ [])
+    (record { kind = Ensures; tree = Bin operators.Ceq first_item (Bin operators.Add (Old first_item) (Const (pos 1))) } ∷ [])
 
 six_follows_five : Gives counts passed heap [] (ints_of (pos 6 ∷ []) ∷ ints_of (pos 7 ∷ []) ∷ [])
 unfolding value_of int_wrap

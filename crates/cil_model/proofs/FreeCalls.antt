@@ -36,7 +36,8 @@ abbrev pub Gives : CalleeInfo → List Value → Heap → List Value → Heap �
 Gives callee stack heap new after = Leads callee stack heap (Live (frame 5 new ∷ []) after)
 
 module _ (callee : CalleeInfo) (stack args : List Value) (heap : Heap) (are : args_of heap callee.args stack ≡ Some args) where
-  freely_leads : (fault : Option ℕ) (new : Config) → false_requires callee.clauses args heap ≡ fault → FreelyCalled callee args call (frame 0 stack) heap fault new
+  freely_leads : (fault : Option ℕ) (new : Config) → false_requires callee.clauses args heap ≡ fault
+      → FreelyCalled callee args call (frame 0 stack) heap fault new
       → Leads callee stack heap new
   unfolding unit_call
   freely_leads fault new is freely = (
@@ -70,11 +71,13 @@ module _ (callee : CalleeInfo) (stack args : List Value) (heap : Heap) (are : ar
       subst (λ (j : Instr). Row (FreeCall (caller callee)) j.op [] (caller callee) j (frame 0 stack) heap new) (sym (same_Some call i found)) row in
       let same : made.callee ≡ callee = sym (same_Some callee made.callee made.callee_is) in
       let passed : made.args ≡ args = same_Some made.args args (sym made.args_are ∙ ap (λ (c : CalleeInfo). args_of heap c.args stack) same ∙ are) in
-      let freely = subst₂ (λ (c : CalleeInfo) (vs : List Value). FreelyCalled c vs call (frame 0 stack) heap (false_requires c.clauses vs heap) new) same passed made.freely in
+      let freely = subst₂
+      (λ (c : CalleeInfo) (vs : List Value). FreelyCalled c vs call (frame 0 stack) heap (false_requires c.clauses vs heap) new) same passed made.freely in
       subst (λ (k : Option ℕ). FreelyCalled callee args call (frame 0 stack) heap k new) is freely
 
   -- Nothing else comes of it.
-  pub only_fault : (k : ℕ) (new : Config) → false_requires callee.clauses args heap ≡ Some k → Leads callee stack heap new → new ≡ Fault (faults.Requires k) 0 0
+  pub only_fault : (k : ℕ) (new : Config) → false_requires callee.clauses args heap ≡ Some k → Leads callee stack heap new
+      → new ≡ Fault (faults.Requires k) 0 0
   only_fault k new broken leads = leads_freely (Some k) new broken leads
 
   no_value : (rest : List Value) (result : Option Value) → frame 5 rest ≡ pushed (frame 5 rest) result → result ≡ None
@@ -93,13 +96,15 @@ module _ (callee : CalleeInfo) (stack args : List Value) (heap : Heap) (are : ar
       let frames : g ≡ pushed (frame 5 (drop (length callee.args) stack)) result = cc in
       (result, subst (λ (h : Heap). FreeReturn callee args heap h result) heaps free, frames)
 
-  pub allows_nothing : (after : Heap) → false_requires callee.clauses args heap ≡ None → Gives callee stack heap (drop (length callee.args) stack) after
+  pub allows_nothing : (after : Heap) → false_requires callee.clauses args heap ≡ None
+      → Gives callee stack heap (drop (length callee.args) stack) after
       → FreeReturn callee args heap after None
   allows_nothing after required gives =
       let (result, free, same) = given (frame 5 (drop (length callee.args) stack)) after (leads_freely None _ required gives) in
       subst (FreeReturn callee args heap after) (no_value (drop (length callee.args) stack) result same) free
 
-  pub allows_value : (after : Heap) (v : Value) → false_requires callee.clauses args heap ≡ None → Gives callee stack heap (v ∷ drop (length callee.args) stack) after
+  pub allows_value : (after : Heap) (v : Value) → false_requires callee.clauses args heap ≡ None
+      → Gives callee stack heap (v ∷ drop (length callee.args) stack) after
       → FreeReturn callee args heap after (Some v)
   allows_value after v required gives =
       let (result, free, same) = given (frame 5 (v ∷ drop (length callee.args) stack)) after (leads_freely None _ required gives) in

@@ -107,8 +107,10 @@ module _ (heap : Heap) where
   HasForm-merged kinds.Text kinds.Text c v e form = subst (λ (k : Kind). HasForm heap k v) (same_Some kinds.Text c e) form
   HasForm-merged kinds.NullRef kinds.Ints c v e form = subst (λ (k : Kind). HasForm heap k v) (same_Some kinds.Ints c e) form
   HasForm-merged kinds.NullRef kinds.Bools c v e form = subst (λ (k : Kind). HasForm heap k v) (same_Some kinds.Bools c e) form
-  HasForm-merged kinds.Ints kinds.NullRef c v e form = subst (λ (k : Kind). HasForm heap k v) (same_Some kinds.Ints c e) (null_is_array kinds.Ints v form tt)
-  HasForm-merged kinds.Bools kinds.NullRef c v e form = subst (λ (k : Kind). HasForm heap k v) (same_Some kinds.Bools c e) (null_is_array kinds.Bools v form tt)
+  HasForm-merged kinds.Ints kinds.NullRef c v e form =
+      subst (λ (k : Kind). HasForm heap k v) (same_Some kinds.Ints c e) (null_is_array kinds.Ints v form tt)
+  HasForm-merged kinds.Bools kinds.NullRef c v e form =
+      subst (λ (k : Kind). HasForm heap k v) (same_Some kinds.Bools c e) (null_is_array kinds.Bools v form tt)
   HasForm-merged _ _ c v e form = absurd (none-some c e)
 
   -- What comes to a stack that absorbs it has the stack's forms.
@@ -154,11 +156,13 @@ module _ (heap : Heap) where
 
   -- ---- places
 
-  put_array : (place : Place) (i : ℕ) → has_array heap place i ≡ true → (w : Value) × ((if has_array heap place i then Some (values.Array i) else None) ≡ Some w)
+  put_array : (place : Place) (i : ℕ) → has_array heap place i ≡ true
+      → (w : Value) × ((if has_array heap place i then Some (values.Array i) else None) ≡ Some w)
   put_array place i has = (values.Array i, rw has refl)
 
   -- A place takes what it is typed to take.
-  pub put_defined : (place : Place) (kind : Kind) (v : Value) → takes place kind ≡ true → HasForm heap kind v → (w : Value) × (put heap place v ≡ Some w)
+  pub put_defined : (place : Place) (kind : Kind) (v : Value) → takes place kind ≡ true → HasForm heap kind v
+      → (w : Value) × (put heap place v ≡ Some w)
   put_defined places.Bool kinds.Int (values.Int n) e form = (_, refl)
   put_defined places.Int kinds.Int (values.Int n) e form = (_, refl)
   put_defined places.Bools kinds.Bools values.Null e form = (_, refl)
@@ -185,7 +189,8 @@ module _ (heap : Heap) where
   put_all_defined (place ∷ places) [] vs e h = absurd (false≢true e)
 
   -- A call finds the arguments that it is typed to find.
-  pub args_defined : (places : List Place) (ks : List Kind) (vs : List Value) → take_each places (reverse (take (length places) ks)) ≡ true → HaveForms heap ks vs
+  pub args_defined : (places : List Place) (ks : List Kind) (vs : List Value) → take_each places (reverse (take (length places) ks)) ≡ true
+      → HaveForms heap ks vs
       → (args : List Value) × (args_of heap places vs ≡ Some args)
   args_defined places ks vs e h =
       put_all_defined places (reverse (take (length places) ks)) (reverse (take (length places) vs)) e
@@ -205,7 +210,8 @@ module _ (heap : Heap) where
   -- ---- references
 
   -- The array of a value that has the form of its kind.
-  pub array_is : (place : Place) (i : ℕ) → has_array heap place i ≡ true → (cell : ArrayCell) × (slice_get heap i ≡ Some cell) × (same_place cell.place place ≡ true)
+  pub array_is : (place : Place) (i : ℕ) → has_array heap place i ≡ true
+      → (cell : ArrayCell) × (slice_get heap i ≡ Some cell) × (same_place cell.place place ≡ true)
   array_is place i has = by (slice_get heap i) has
     where
       by : (found : Option ArrayCell) → option_map_or (λ (cell : ArrayCell). same_place cell.place place) found false ≡ true

@@ -82,7 +82,8 @@ module _ (heap : Heap) where
       → (holds : Bool) × (compares_values op v w ≡ Some holds)
   compares_defined op a b v w e fa fb = by (or_cases (is_number a && is_number b) (is_equality op && are_comparable a b) e)
     where
-      by : ((is_number a && is_number b) ≡ true) ⊎ ((is_equality op && are_comparable a b) ≡ true) → (holds : Bool) × (compares_values op v w ≡ Some holds)
+      by : ((is_number a && is_number b) ≡ true) ⊎ ((is_equality op && are_comparable a b) ≡ true)
+          → (holds : Bool) × (compares_values op v w ≡ Some holds)
       by (inl both) = let parts = and_parts (is_number a) (is_number b) both in numbers_compared op a b v w parts.0 parts.1 fa fb
       by (inr both) =
           let parts = and_parts (is_equality op) (are_comparable a b) both in
@@ -99,7 +100,8 @@ module _ (heap : Heap) where
   above_null a b v values.Null e fa fb = absurd (null_or_array a v e fa)
   above_null a b v _ e fa fb = absurd fb
 
-  numbers_above : (v w : Value) (m n : ℤ) → number_of v ≡ Some m → number_of w ≡ Some n → (holds : Bool) × (pushed_comparison comparisons.GtUn v w ≡ Some holds)
+  numbers_above : (v w : Value) (m n : ℤ) → number_of v ≡ Some m → number_of w ≡ Some n
+      → (holds : Bool) × (pushed_comparison comparisons.GtUn v w ≡ Some holds)
   numbers_above (values.Int a) (values.Int b) m n e f = (_, refl)
   numbers_above (values.Int a) (values.Native b) m n e f = (_, refl)
   numbers_above (values.Native a) (values.Int b) m n e f = (_, refl)
@@ -153,10 +155,12 @@ module _ (heap : Heap) where
   array_taken _ _ a e form = absurd (first_of (search, cc))
 
   -- An array that is typed to be of this type is.
-  pub array_of : (place : Place) (kind : Kind) (a : ℕ) → is_array_of place kind ≡ true → HasForm heap kind (values.Array a) → has_array heap place a ≡ true
+  pub array_of : (place : Place) (kind : Kind) (a : ℕ) → is_array_of place kind ≡ true → HasForm heap kind (values.Array a)
+      → has_array heap place a ≡ true
   array_of place kind a e form = array_taken place kind a (and_parts (is_reference kind) (takes place kind) e).1 form
 
 -- An index within the length has an item.
-pub item_there : (items : List ℤ) (n : ℤ) → int_lt n (pos 0) ≡ false → int_le (pos (length items)) n ≡ false → (item : ℤ) × (slice_get items (unsigned_abs n) ≡ Some item)
+pub item_there : (items : List ℤ) (n : ℤ) → int_lt n (pos 0) ≡ false → int_le (pos (length items)) n ≡ false
+    → (item : ℤ) × (slice_get items (unsigned_abs n) ≡ Some item)
 item_there items n above below =
     let within : unsigned_abs n < length items = omega (arith, ints, above, below) in (_, slice_get-get_or items (unsigned_abs n) (pos 0) within)

@@ -81,7 +81,8 @@ pub record Parts (kind : Option Kind) (kinds : Option (List Kind)) (all : List K
   pub all_is : all ≡ first ∷ others
 
 pub parts : (kind : Option Kind) (kinds : Option (List Kind)) (all : List Kind) → with_kind kind kinds ≡ Some all → Parts kind kinds all
-parts (Some kind) (Some kinds) all e = record { first = kind; others = kinds; first_is = refl; others_are = refl; all_is = sym (same_Some (kind ∷ kinds) all e) }
+parts (Some kind) (Some kinds) all e =
+    record { first = kind; others = kinds; first_is = refl; others_are = refl; all_is = sym (same_Some (kind ∷ kinds) all e) }
 parts None kinds all e = absurd (none-some all e)
 parts (Some kind) None all e = absurd (none-some all e)
 
@@ -92,7 +93,8 @@ stack_grows (a ∷ xs) (b ∷ ys) c e =
     subst (λ (all : List Kind). (a ∷ xs ≡ all) ⊎ (weights (a ∷ xs) < weights all)) (sym p.all_is)
     (both p.first p.others (kind_grows a b p.first p.first_is) (stack_grows xs ys p.others p.others_are))
   where
-    both : (k : Kind) (ks : List Kind) → (a ≡ k) ⊎ (weight a < weight k) → (xs ≡ ks) ⊎ (weights xs < weights ks) → (a ∷ xs ≡ k ∷ ks) ⊎ (weights (a ∷ xs) < weights (k ∷ ks))
+    both : (k : Kind) (ks : List Kind) → (a ≡ k) ⊎ (weight a < weight k) → (xs ≡ ks) ⊎ (weights xs < weights ks)
+        → (a ∷ xs ≡ k ∷ ks) ⊎ (weights (a ∷ xs) < weights (k ∷ ks))
     both k ks (inl e) (inl f) = inl cc
     both k ks (inl e) (inr f) = inr (let same = ap weight e in omega arith)
     both k ks (inr e) (inl f) = inr (let same = ap weights f in omega arith)
@@ -100,7 +102,8 @@ stack_grows (a ∷ xs) (b ∷ ys) c e =
 stack_grows [] (b ∷ ys) c e = absurd (none-some c e)
 stack_grows (a ∷ xs) [] c e = absurd (none-some c e)
 
-entry_grows : (before : Option (List Kind)) (stack : List Kind) → (before ≡ option_or (arrived before stack) before) ⊎ (known before < known (option_or (arrived before stack) before))
+entry_grows : (before : Option (List Kind)) (stack : List Kind)
+    → (before ≡ option_or (arrived before stack) before) ⊎ (known before < known (option_or (arrived before stack) before))
 entry_grows None stack = inr (omega arith)
 entry_grows (Some kinds) stack = by (merged kinds stack) (λ c e. stack_grows kinds stack c e)
   where
@@ -124,7 +127,8 @@ others_grow first old new h = record { long = ap suc h.long; more = by h.more }
 
 come_to_grows : (is : List Instr) (s : Stacks) (at : ℕ) (stack : List Kind) → Grows s (come_to is s at stack)
 come_to_grows (i ∷ is) (before ∷ s) at stack =
-    cond_both (i.at == at) _ _ (Grows (before ∷ s)) (λ here. first_grows before (option_or (arrived before stack) before) s (entry_grows before stack))
+    cond_both (i.at == at) _ _ (Grows (before ∷ s))
+    (λ here. first_grows before (option_or (arrived before stack) before) s (entry_grows before stack))
     (λ later. others_grow before s (come_to is s at stack) (come_to_grows is s at stack))
 come_to_grows [] s at stack = stays s
 come_to_grows (i ∷ is) [] at stack = stays []
@@ -132,10 +136,12 @@ come_to_grows (i ∷ is) [] at stack = stays []
 come_to_all_grows : (is : List Instr) (s : Stacks) (stack : List Kind) (ats : List ℕ) → Grows s (come_to_all is s stack ats)
 come_to_all_grows is s stack [] = stays s
 come_to_all_grows is s stack (at ∷ ats) =
-    grows_on s (come_to is s at stack) (come_to_all is (come_to is s at stack) stack ats) (come_to_grows is s at stack) (come_to_all_grows is (come_to is s at stack) stack ats)
+    grows_on s (come_to is s at stack) (come_to_all is (come_to is s at stack) stack ats) (come_to_grows is s at stack)
+    (come_to_all_grows is (come_to is s at stack) stack ats)
 
 -- Where the stacks stay after all, they stay at each.
-pub come_to_each : (is : List Instr) (s : Stacks) (stack : List Kind) (ats : List ℕ) → come_to_all is s stack ats ≡ s → AllByRecursion (λ at. come_to is s at stack ≡ s) ats
+pub come_to_each : (is : List Instr) (s : Stacks) (stack : List Kind) (ats : List ℕ) → come_to_all is s stack ats ≡ s
+    → AllByRecursion (λ at. come_to is s at stack ≡ s) ats
 come_to_each is s stack [] e = tt
 come_to_each is s stack (at ∷ ats) e =
     let back = subst (Grows (come_to is s at stack)) e (come_to_all_grows is (come_to is s at stack) stack ats) in
@@ -174,7 +180,8 @@ follow_grows is s t i (Err fault) e = absurd cc
 follow_grows is s t i (Ok stack) e =
     subst (Grows s) (follow_from is s t i stack e).comes (come_to_all_grows is s stack (successors i.op (i.at + i.size)))
 
-visited_grows : (shape : Shape) (is : List Instr) (s t : Stacks) (i : Instr) (before : Option (List Kind)) → visited shape is s i before ≡ Ok t → Grows s t
+visited_grows : (shape : Shape) (is : List Instr) (s t : Stacks) (i : Instr) (before : Option (List Kind)) → visited shape is s i before ≡ Ok t
+    → Grows s t
 visited_grows shape is s t i None e = subst (Grows s) (same_ok s t e) (stays s)
 visited_grows shape is s t i (Some stack) e = follow_grows is s t i (typed shape i stack) e
 
@@ -196,7 +203,8 @@ module _ (shape : Shape) (is : List Instr) where
       grows_on s mid t grows (pass_over_grows rest mid t others)
 
   -- A pass that changes nothing changes nothing at any instruction.
-  pub visit_each : (rest : List Instr) (s : Stacks) → pass_over shape is rest (Ok s) ≡ Ok s → AllByRecursion (λ i. visited shape is s i (stack_at is s i.at) ≡ Ok s) rest
+  pub visit_each : (rest : List Instr) (s : Stacks) → pass_over shape is rest (Ok s) ≡ Ok s
+      → AllByRecursion (λ i. visited shape is s i (stack_at is s i.at) ≡ Ok s) rest
   visit_each [] s e = tt
   visit_each (i ∷ rest) s e =
       let (mid, is_mid, grows, others) = visit rest i s s (visited shape is s i (stack_at is s i.at)) refl e in
@@ -217,6 +225,7 @@ module _ (shape : Shape) (is : List Instr) where
   stacks_long zero s e = first_long s e
   stacks_long (suc n) s e = by (after_passes shape is n) (stacks_long n) e
     where
-      by : (r : Result Stacks TypeFault) → ((mid : Stacks) → r ≡ Ok mid → length mid ≡ length is) → after_pass shape is r ≡ Ok s → length s ≡ length is
+      by : (r : Result Stacks TypeFault) → ((mid : Stacks) → r ≡ Ok mid → length mid ≡ length is) → after_pass shape is r ≡ Ok s
+          → length s ≡ length is
       by (Err fault) before e = absurd cc
       by (Ok mid) before e = (pass_over_grows is mid s e).long ∙ before mid refl

@@ -5,7 +5,7 @@ use Rattle.std.specs.Option.{option_or}
 use Rattle.std.proofs.lemmas.Bool.{cond_both, eqb-true, false≢true}
 use Rattle.std.proofs.lemmas.Option.{none-some, same_Some}
 use Rattle.cil_model.specs.Blocks.{branch_targets}
-use Rattle.cil_model.specs.FitKinds.{HaveOperands}
+use Rattle.cil_model.specs.FitKinds.{AreDecoded}
 use Rattle.cil_model.specs.Kinds.{behind, operand_count, typed, within_size}
 use Rattle.cil_model.specs.Passes.{KindsOf, Stacks, arrived, begins_at, come_to, conflicts, follow, goes_behind, lowest_conflict, merged, stack_at, successors, visited}
 use Rattle.cil_model.specs.Runs.{instr_at}
@@ -59,7 +59,8 @@ no_conflicts : (is : List Instr) (stacks : Stacks) (stack : List Kind) (ats : Li
     → AllByRecursion (λ at. conflicts is stacks stack at ≡ false) ats
 no_conflicts is stacks stack [] none = tt
 no_conflicts is stacks stack (at ∷ ats) none =
-    cond_both (conflicts is stacks stack at) _ _ (λ (lowest : Option ℕ). lowest ≡ None → (conflicts is stacks stack at ≡ false) × AllByRecursion (λ at. conflicts is stacks stack at ≡ false) ats)
+    cond_both (conflicts is stacks stack at) _ _
+    (λ (lowest : Option ℕ). lowest ≡ None → (conflicts is stacks stack at ≡ false) × AllByRecursion (λ at. conflicts is stacks stack at ≡ false) ats)
     (λ yes e. absurd cc) (λ no e. (no, no_conflicts is stacks stack ats e)) none
 
 each_absorbs : (is : List Instr) (stacks : Stacks) (stack : List Kind) (ats : List ℕ) → length stacks ≡ length is
@@ -94,10 +95,12 @@ pub record Settled (shape : Shape) (is : List Instr) (stacks : Stacks) (i : Inst
   pub typed : behind shape i.op before ≡ Some after
   pub onward : AllByRecursion (λ at. Absorbs (stack_at is stacks at) after) (successors i.op (i.at + i.size))
 
-within_size-some : (shape : Shape) (at : ℕ) (stack : Option (List Kind)) (after : List Kind) → within_size shape at stack ≡ Ok after → stack ≡ Some after
+within_size-some : (shape : Shape) (at : ℕ) (stack : Option (List Kind)) (after : List Kind) → within_size shape at stack ≡ Ok after
+    → stack ≡ Some after
 within_size-some shape at None after e = absurd cc
 within_size-some shape at (Some stack) after e =
-    cond_both (nat_lt shape.max_stack (length stack)) _ _ (λ (r : Result (List Kind) TypeFault). r ≡ Ok after → Some stack ≡ Some after) (λ deep f. absurd cc) (λ fits f. cc) e
+    cond_both (nat_lt shape.max_stack (length stack)) _ _ (λ (r : Result (List Kind) TypeFault). r ≡ Ok after → Some stack ≡ Some after)
+    (λ deep f. absurd cc) (λ fits f. cc) e
 
 abbrev refused : TypeFault → Result (List Kind) TypeFault
 refused fault = Err fault
@@ -107,7 +110,8 @@ refused_typed fault after e = cc
 
 typed-some : (shape : Shape) (i : Instr) (stack after : List Kind) → typed shape i stack ≡ Ok after → behind shape i.op stack ≡ Some after
 typed-some shape i stack after e =
-    cond_both (nat_lt (length stack) (operand_count shape i.op)) _ _ (λ (r : Result (List Kind) TypeFault). r ≡ Ok after → behind shape i.op stack ≡ Some after)
+    cond_both (nat_lt (length stack) (operand_count shape i.op)) _ _
+    (λ (r : Result (List Kind) TypeFault). r ≡ Ok after → behind shape i.op stack ≡ Some after)
     (λ lacks f. absurd (refused_typed (Underflow i.at) after f)) (λ has f. within_size-some shape i.at (behind shape i.op stack) after f) e
 
 followed : (shape : Shape) (is : List Instr) (stacks : Stacks) (i : Instr) (before : List Kind) (outcome : Result (List Kind) TypeFault)
@@ -120,7 +124,8 @@ followed shape is stacks i before (Ok after) long targets typed e =
     record {
       after = after;
       typed = typed-some shape i before after (sym typed);
-      onward = each_absorbs is stacks after ats long (successors_begin is i.op (i.at + i.size) f.behind targets) (come_to_each is stacks after ats f.comes)
+      onward =
+          each_absorbs is stacks after ats long (successors_begin is i.op (i.at + i.size) f.behind targets) (come_to_each is stacks after ats f.comes)
           (no_conflicts is stacks after ats f.merge);
     }
 
@@ -131,23 +136,25 @@ found_at (j ∷ is) at i e =
     (λ here f. ap (λ (k : Instr). k.at) (sym (same_Some j i f)) ∙ eqb-true j.at at here) (λ later f. found_at is at i f) e
 
 -- Settled kinds are settled at each instruction that they reach.
-pub settled : (shape : Shape) (is : List Instr) (stacks : Stacks) (at : ℕ) (i : Instr) (before : List Kind) → HaveOperands is → KindsOf shape is stacks
+pub settled : (shape : Shape) (is : List Instr) (stacks : Stacks) (at : ℕ) (i : Instr) (before : List Kind) → AreDecoded is → KindsOf shape is stacks
     → instr_at is at ≡ Some i → stack_at is stacks at ≡ Some before → Settled shape is stacks i before
-settled shape is stacks at i before operands kinds found reached =
+settled shape is stacks at i before decoded kinds found reached =
     let each = visit_each shape is is stacks kinds.settled in
     let visit = of_found (λ j. visited shape is stacks j (stack_at is stacks j.at) ≡ Ok stacks) is at i each found in
     let here : stack_at is stacks i.at ≡ Some before = ap (stack_at is stacks) (found_at is at i found) ∙ reached in
-    let targets = of_found (λ j. AllByRecursion (λ at. begins_at is at ≡ true) (branch_targets j.op)) is at i operands.targets found in
+    let targets = of_found (λ j. AllByRecursion (λ at. begins_at is at ≡ true) (branch_targets j.op)) is at i decoded.targets found in
     followed shape is stacks i before (typed shape i before) (stacks_long shape is kinds.passes stacks kinds.brought) targets refl
     (subst (λ (stack : Option (List Kind)). visited shape is stacks i stack ≡ Ok stacks) here visit)
 
 -- Where a stack stands, an instruction does.
-pub reached_begins : (is : List Instr) (stacks : Stacks) (at : ℕ) (kinds : List Kind) → stack_at is stacks at ≡ Some kinds → (i : Instr) × (instr_at is at ≡ Some i)
+pub reached_begins : (is : List Instr) (stacks : Stacks) (at : ℕ) (kinds : List Kind) → stack_at is stacks at ≡ Some kinds
+    → (i : Instr) × (instr_at is at ≡ Some i)
 reached_begins [] stacks at kinds e = absurd (none-some kinds e)
 reached_begins (i ∷ is) [] at kinds e = absurd (none-some kinds e)
 reached_begins (i ∷ is) (stack ∷ stacks) at kinds e = by (i.at == at) (reached_begins is stacks at kinds) e
   where
-    by : (here : Bool) → (stack_at is stacks at ≡ Some kinds → (j : Instr) × (instr_at is at ≡ Some j)) → (if here then stack else stack_at is stacks at) ≡ Some kinds
+    by : (here : Bool) → (stack_at is stacks at ≡ Some kinds → (j : Instr) × (instr_at is at ≡ Some j))
+        → (if here then stack else stack_at is stacks at) ≡ Some kinds
         → (j : Instr) × ((if here then Some i else instr_at is at) ≡ Some j)
     by true later e = (i, refl)
     by false later e = later e

@@ -22,6 +22,7 @@ pub mod KindsRows
 pub mod KindsSettle
 pub mod Laid
 pub mod Lists
+pub mod LoopTyped
 pub mod MoveRows
 pub mod OldValueRun
 pub mod Options

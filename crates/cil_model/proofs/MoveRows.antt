@@ -37,14 +37,16 @@ pop_drops_the_top = refl
 
 -- int M(int a, bool b) { b = 258; return b; }
 abbrev to_argument : MethodUnit
-to_argument = small places.Int (places.Int ∷ places.Bool ∷ []) [] ((5, ops.Const (pos 258)) ∷ (2, ops.StoreArg 1) ∷ (1, ops.LoadArg 1) ∷ (1, ops.Return) ∷ [])
+to_argument =
+    small places.Int (places.Int ∷ places.Bool ∷ []) [] ((5, ops.Const (pos 258)) ∷ (2, ops.StoreArg 1) ∷ (1, ops.LoadArg 1) ∷ (1, ops.Return) ∷ [])
 
 bool_argument : Comes to_argument (Int (pos 7) ∷ Int (pos 1) ∷ []) [] 4 (Returned (Some (Int (pos 2))))
 bool_argument = computed to_argument (Int (pos 7) ∷ Int (pos 1) ∷ []) [] 4 (Returned (Some (Int (pos 2)))) refl
 
 -- int M(bool b, int a) { a = 258; return a; }
 abbrev to_number : MethodUnit
-to_number = small places.Int (places.Bool ∷ places.Int ∷ []) [] ((5, ops.Const (pos 258)) ∷ (2, ops.StoreArg 1) ∷ (1, ops.LoadArg 1) ∷ (1, ops.Return) ∷ [])
+to_number =
+    small places.Int (places.Bool ∷ places.Int ∷ []) [] ((5, ops.Const (pos 258)) ∷ (2, ops.StoreArg 1) ∷ (1, ops.LoadArg 1) ∷ (1, ops.Return) ∷ [])
 
 int_argument : Comes to_number (Int (pos 1) ∷ Int (pos 7) ∷ []) [] 4 (Returned (Some (Int (pos 258))))
 int_argument = computed to_number (Int (pos 1) ∷ Int (pos 7) ∷ []) [] 4 (Returned (Some (Int (pos 258)))) refl
@@ -82,7 +84,8 @@ same = record { kind = kinds.Ensures; tree = terms.Bin operators.Ceq terms.Resul
 
 -- int M(int n) with this Ensures { n = 9; return n; }
 abbrev stores_first : MethodUnit
-stores_first = small places.Int (places.Int ∷ []) (same ∷ []) ((2, ops.Const (pos 9)) ∷ (2, ops.StoreArg 0) ∷ (1, ops.LoadArg 0) ∷ (1, ops.Return) ∷ [])
+stores_first =
+    small places.Int (places.Int ∷ []) (same ∷ []) ((2, ops.Const (pos 9)) ∷ (2, ops.StoreArg 0) ∷ (1, ops.LoadArg 0) ∷ (1, ops.Return) ∷ [])
 
 -- In the clause n is 5, as at entry.
 result_is_not_n : Comes stores_first (Int (pos 5) ∷ []) [] 4 (Fault (faults.Ensures 1) 0 5)
@@ -91,7 +94,8 @@ result_is_not_n = computed stores_first (Int (pos 5) ∷ []) [] 4 (Fault (faults
 
 -- int M(int n) with this Ensures { int r = n; n = 9; return r; }
 abbrev loads_first : MethodUnit
-loads_first = small places.Int (places.Int ∷ []) (same ∷ []) ((1, ops.LoadArg 0) ∷ (2, ops.Const (pos 9)) ∷ (2, ops.StoreArg 0) ∷ (1, ops.Return) ∷ [])
+loads_first =
+    small places.Int (places.Int ∷ []) (same ∷ []) ((1, ops.LoadArg 0) ∷ (2, ops.Const (pos 9)) ∷ (2, ops.StoreArg 0) ∷ (1, ops.Return) ∷ [])
 
 result_is_n : Comes loads_first (Int (pos 5) ∷ []) [] 4 (Returned (Some (Int (pos 5))))
 unfolding value_of

@@ -18,7 +18,8 @@ use Rattle.cil_model.proofs.SmallRuns.{small}
 
 -- int M(int a, bool b) { return a - b; }
 abbrev minus : MethodUnit
-minus = small places.Int (places.Int ∷ places.Bool ∷ []) [] ((1, ops.LoadArg 0) ∷ (1, ops.LoadArg 1) ∷ (1, ops.Bin operators.Sub) ∷ (1, ops.Return) ∷ [])
+minus =
+    small places.Int (places.Int ∷ places.Bool ∷ []) [] ((1, ops.LoadArg 0) ∷ (1, ops.LoadArg 1) ∷ (1, ops.Bin operators.Sub) ∷ (1, ops.Return) ∷ [])
 
 abbrev minus_info : CalleeInfo
 minus_info = record { name = codes "Demo.Calc::M"; result = places.Int; args = places.Int ∷ places.Bool ∷ []; clauses = [] }

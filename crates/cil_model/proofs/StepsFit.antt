@@ -44,7 +44,8 @@ typed_call : (callee : Option CalleeInfo) (kinds after : List Kind) → behind_c
 typed_call None kinds after e = absurd (none-some after e)
 typed_call (Some info) kinds after e = let both = cond_some _ _ after e in record { info = info; is = refl; taken = both.0; after_is = sym both.1 }
 
-result_defined : (heap : Heap) (place : Place) (kinds after : List Kind) (stack : List Value) → behind_return place kinds ≡ Some after → HaveForms heap kinds stack
+result_defined : (heap : Heap) (place : Place) (kinds after : List Kind) (stack : List Value) → behind_return place kinds ≡ Some after
+    → HaveForms heap kinds stack
     → (result : Option Value) × (result_of heap place stack ≡ Some result)
 result_defined heap places.Void [] after [] e h = (None, refl)
 result_defined heap places.Bool [] after stack e h = absurd (none-some after e)
@@ -58,7 +59,8 @@ result_defined heap place (kind ∷ other ∷ kinds) after stack e h = absurd (n
 result_defined heap place _ after _ e h = absurd (search)
 
 -- A result has the form of its place's kind.
-result_forms : (heap : Heap) (place : Place) (result : Option Value) (rest : List Kind) (f : Frame) → FitsResult heap place result → HaveForms heap rest f.stack
+result_forms : (heap : Heap) (place : Place) (result : Option Value) (rest : List Kind) (f : Frame) → FitsResult heap place result
+    → HaveForms heap rest f.stack
     → HaveForms heap (pushed_kind (kind_of place) rest) (pushed f result).stack
 result_forms heap places.Void None rest f fits h = h
 result_forms heap places.Void (Some v) rest f fits h = absurd fits
@@ -96,9 +98,11 @@ ConfigFits ats kinds _ = Unit {0}
 module _ (unit : MethodUnit) (i : Instr) (f : Frame) (heap : Heap) (kinds after : List Kind)
     (typed : behind (shape_of unit) i.op kinds ≡ Some after) (args : FitPlaces heap unit.args f.args) (locals : FitPlaces heap unit.locals f.locals)
     (forms : HaveForms heap kinds f.stack) where
-  own_fit : (op : Op) → IsOwn op → behind (shape_of unit) op kinds ≡ Some after → AllFit (successors op (i.at + i.size)) after (effects_of op unit i f heap)
+  own_fit : (op : Op) → IsOwn op → behind (shape_of unit) op kinds ≡ Some after
+      → AllFit (successors op (i.at + i.size)) after (effects_of op unit i f heap)
   own_fit op own e =
-      subst (λ (o : Option (List Kind)). FitBehind (successors op (i.at + i.size)) o (effects_of op unit i f heap)) e (effects_fit unit i f heap op kinds own args locals forms)
+      subst (λ (o : Option (List Kind)). FitBehind (successors op (i.at + i.size)) o (effects_of op unit i f heap)) e
+      (effects_fit unit i f heap op kinds own args locals forms)
 
   own_defined : (callers : List Frame) → IsOwn i.op → (new : Config) × EffectRow callers unit i f heap new
   own_defined callers own =
@@ -110,11 +114,14 @@ module _ (unit : MethodUnit) (i : Instr) (f : Frame) (heap : Heap) (kinds after 
   -- A call of a callee has a row where it finds its arguments.
   abbrev CallsDefined : CallRow → Type 0
   CallsDefined A =
-      (number : ℕ) (callee : CalleeInfo) (args : List Value) → slice_get unit.callees number ≡ Some callee → args_of heap callee.args f.stack ≡ Some args
+      (number : ℕ) (callee : CalleeInfo) (args : List Value) → slice_get unit.callees number ≡ Some callee
+      → args_of heap callee.args f.stack ≡ Some args
       → (new : Config) × A number i f heap new
 
-  call_defined : (A : CallRow) (callers : List Frame) (call : Option UnitCall) → behind_call (shape_of unit) call kinds ≡ Some after → is_executed_call call ≡ true
-      → CallsDefined A → (IsOwnCall call → (new : Config) × EffectRow callers unit i f heap new) → (new : Config) × CallsBy A call callers unit i f heap new
+  call_defined : (A : CallRow) (callers : List Frame) (call : Option UnitCall) → behind_call (shape_of unit) call kinds ≡ Some after
+      → is_executed_call call ≡ true
+      → CallsDefined A → (IsOwnCall call → (new : Config) × EffectRow callers unit i f heap new)
+      → (new : Config) × CallsBy A call callers unit i f heap new
   call_defined A callers (Some (calls.Callee number)) e executed defined own =
       let t = typed_call (slice_get unit.callees number) kinds after e in
       let (args, are) = args_defined heap t.info.args kinds f.stack t.taken forms in
@@ -131,12 +138,14 @@ module _ (unit : MethodUnit) (i : Instr) (f : Frame) (heap : Heap) (kinds after 
   row_defined A callers (ops.Call number) e executed defined own = call_defined A callers (unit_call number) e executed defined own
   row_defined A callers _ e executed defined own = own tt
 
-  pub defined : (A : CallRow) (callers : List Frame) → is_executed i.op ≡ true → CallsDefined A → (new : Config) × Row A i.op callers unit i f heap new
+  pub defined : (A : CallRow) (callers : List Frame) → is_executed i.op ≡ true → CallsDefined A
+      → (new : Config) × Row A i.op callers unit i f heap new
   defined A callers executed calls = row_defined A callers i.op typed executed calls (own_defined callers)
 
   -- ---- what a row comes to
 
-  each_own : (op : Op) → IsOwn op → behind (shape_of unit) op kinds ≡ Some after → AllByRecursion (EffectFits (successors op (i.at + i.size)) after) (effects_of op unit i f heap)
+  each_own : (op : Op) → IsOwn op → behind (shape_of unit) op kinds ≡ Some after
+      → AllByRecursion (EffectFits (successors op (i.at + i.size)) after) (effects_of op unit i f heap)
   each_own op own e = each_effect (successors op (i.at + i.size)) after (effects_of op unit i f heap) (own_fit op own e)
 
   each_own_call : (call : Option UnitCall) → IsOwnCall call → behind_call (shape_of unit) call kinds ≡ Some after
@@ -145,12 +154,14 @@ module _ (unit : MethodUnit) (i : Instr) (f : Frame) (heap : Heap) (kinds after 
       each_effect ((i.at + i.size) ∷ []) after (contract_call call i f heap)
       (subst (λ (o : Option (List Kind)). FitBehind ((i.at + i.size) ∷ []) o (contract_call call i f heap)) e (contract_call_fits unit i f heap call kinds own forms))
 
-  each_call : (call : Option UnitCall) → behind_call (shape_of unit) call kinds ≡ Some after → AllByRecursion (EffectFits ((i.at + i.size) ∷ []) after) (contract_call call i f heap)
+  each_call : (call : Option UnitCall) → behind_call (shape_of unit) call kinds ≡ Some after
+      → AllByRecursion (EffectFits ((i.at + i.size) ∷ []) after) (contract_call call i f heap)
   each_call (Some (calls.Assert message)) e = each_own_call (Some (calls.Assert message)) tt e
   each_call (Some (calls.Assume message)) e = each_own_call (Some (calls.Assume message)) tt e
   each_call _ e = tt
 
-  each_fits : (op : Op) → behind (shape_of unit) op kinds ≡ Some after → AllByRecursion (EffectFits (successors op (i.at + i.size)) after) (effects_of op unit i f heap)
+  each_fits : (op : Op) → behind (shape_of unit) op kinds ≡ Some after
+      → AllByRecursion (EffectFits (successors op (i.at + i.size)) after) (effects_of op unit i f heap)
   each_fits ops.Return e = tt
   each_fits (ops.Call number) e = each_call (unit_call number) e
   each_fits op e = each_own op tt e
@@ -187,7 +198,8 @@ module _ (unit : MethodUnit) (i : Instr) (f : Frame) (heap : Heap) (kinds after 
       subst (ConfigFits ((i.at + i.size) ∷ []) after) (sym to)
       (inl (pushed_at behind_frame result), subst (λ (ks : List Kind). HaveForms heap_after ks (pushed behind_frame result).stack) kinds_are made)
 
-  call_comes : (call : Option UnitCall) (new : Config) → behind_call (shape_of unit) call kinds ≡ Some after → CallsBy (FreeCall unit) call [] unit i f heap new
+  call_comes : (call : Option UnitCall) (new : Config) → behind_call (shape_of unit) call kinds ≡ Some after
+      → CallsBy (FreeCall unit) call [] unit i f heap new
       → (EffectRow [] unit i f heap new → ConfigFits ((i.at + i.size) ∷ []) after new) → ConfigFits ((i.at + i.size) ∷ []) after new
   call_comes (Some (calls.Callee number)) new e row own =
       let t = typed_call (slice_get unit.callees number) kinds after e in

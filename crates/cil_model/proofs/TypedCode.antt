@@ -6,11 +6,11 @@ use Rattle.std.proofs.lemmas.Option.{same_Some}
 use Rattle.cil_model.specs.Blocks.{branch_targets}
 use Rattle.cil_model.specs.Calls.{FreeCall, ReturnRow, Returned, WorldCall, args_of, behind_call, called, ensures_fault, entry_frame, pushed}
 use Rattle.cil_model.specs.Clauses.{false_requires}
-use Rattle.cil_model.specs.FitKinds.{FrameFits, HasBody, HasCode, HaveOperands, IsConstant, IsExecutedAt, NeverStuck, TypedCodeSteps, is_executed}
+use Rattle.cil_model.specs.FitKinds.{FrameFits, HasBody, HasCode, AreDecoded, IsConstant, IsExecutedAt, NeverStuck, TypedCodeSteps, is_executed}
 use Rattle.cil_model.specs.Passes.{KindsOf, Stacks, stack_at, successors}
 use Rattle.cil_model.specs.Runs.{CallRow, IsDefined, LocalStep, Row, Step, StepsTo, entry_config, instr_at}
 use Rattle.cil_model.specs.Shapes.{shape_of}
-use Rattle.cil_model.specs.Values.{Heap, FitPlaces, IsHeap}
+use Rattle.cil_model.specs.Values.{Heap, FitPlaces}
 use Rattle.cil_model.specs.WellFormed.{HoldValues, called_by}
 use Rattle.cil_model.specs.Worlds.{Agree}
 use Rattle.cil_model.specs.declared.instruction.Instr.{Instr}
@@ -70,7 +70,7 @@ same_last (a ∷ xs) (b ∷ ys) x y e =
 same_last [] (b ∷ ys) x y e = absurd (let long = ap length e in omega (arith, length-append ys (y ∷ [])))
 same_last (a ∷ xs) [] x y e = absurd (let long = ap length e in omega (arith, length-append xs (x ∷ [])))
 
-module _ (unit : MethodUnit) (stacks : Stacks) (operands : HaveOperands unit.instrs) (kinds : KindsOf (shape_of unit) unit.instrs stacks) where
+module _ (unit : MethodUnit) (stacks : Stacks) (decoded : AreDecoded unit.instrs) (kinds : KindsOf (shape_of unit) unit.instrs stacks) where
   -- The instruction before which a frame is that fits.
   record Before (f : Frame) (before : List Kind) : Type 0 where
     instr : Instr
@@ -80,7 +80,7 @@ module _ (unit : MethodUnit) (stacks : Stacks) (operands : HaveOperands unit.ins
   before : (f : Frame) (heap : Heap) (fits : FrameFits unit stacks heap f) → Before f fits.kinds
   before f heap fits =
       let (i, found) = reached_begins unit.instrs stacks f.at fits.kinds fits.before in
-      record { instr = i; found = found; typed = settled (shape_of unit) unit.instrs stacks f.at i fits.kinds operands kinds found fits.before }
+      record { instr = i; found = found; typed = settled (shape_of unit) unit.instrs stacks f.at i fits.kinds decoded kinds found fits.before }
 
   row_defined : (A : CallRow) (callers : List Frame) (f : Frame) (heap : Heap) → FrameFits unit stacks heap f → IsExecutedAt unit.instrs f.at
       → ((number : ℕ) (callee : CalleeInfo) (args : List Value) (i : Instr) → slice_get unit.callees number ≡ Some callee → args_of heap callee.args f.stack ≡ Some args
@@ -91,16 +91,20 @@ module _ (unit : MethodUnit) (stacks : Stacks) (operands : HaveOperands unit.ins
       let i = b.instr in (
         i,
         b.found,
-        defined unit i f heap fits.kinds b.typed.after b.typed.typed fits.frame.args fits.frame.locals (forms_of heap fits.kinds f.stack fits.fit) A callers
+        defined unit i f heap fits.kinds b.typed.after b.typed.typed fits.frame.args fits.frame.locals
+            (forms_of heap fits.kinds f.stack fits.fit) A callers
             (executed i b.found) (λ number callee args is are. calls number callee args i is are),
       )
 
-  step_defined : (f : Frame) (heap : Heap) → FrameFits unit stacks heap f → IsExecutedAt unit.instrs f.at → (new : Config) × LocalStep unit (configs.Live (f ∷ []) heap) new
+  step_defined : (f : Frame) (heap : Heap) → FrameFits unit stacks heap f → IsExecutedAt unit.instrs f.at
+      → (new : Config) × LocalStep unit (configs.Live (f ∷ []) heap) new
   step_defined f heap fits executed =
-      let (i, found, (new, row)) = row_defined (FreeCall unit) [] f heap fits executed (λ number callee args i is are. free_call_defined unit number callee args i f heap is are) in
+      let (i, found, (new, row)) = row_defined (FreeCall unit) [] f heap fits executed
+      (λ number callee args i is are. free_call_defined unit number callee args i f heap is are) in
       (new, (i, found, row))
 
-  world_step_defined : (w : World) (callers : List Frame) (f : Frame) (heap : Heap) → Agree w → slice_get w.units f.unit ≡ Some unit → FrameFits unit stacks heap f
+  world_step_defined : (w : World) (callers : List Frame) (f : Frame) (heap : Heap) → Agree w → slice_get w.units f.unit ≡ Some unit
+      → FrameFits unit stacks heap f
       → IsExecutedAt unit.instrs f.at → (new : Config) × Step w (configs.Live (callers ++ f ∷ []) heap) new
   world_step_defined w callers f heap agree of fits executed =
       let (i, found, (new, row)) = row_defined (WorldCall w callers) callers f heap fits executed
@@ -111,10 +115,11 @@ module _ (unit : MethodUnit) (stacks : Stacks) (operands : HaveOperands unit.ins
       (new, (callers, f, unit, i, refl, record { of = of; to = found }, row))
 
   -- What a step keeps of any frame.
-  keeps : (f : Frame) (heap : Heap) → IsHeap heap → FrameFits unit stacks heap f → (new : Config) → LocalStep unit (configs.Live (f ∷ []) heap) new → KeepsFrame unit f heap new
-  keeps f heap is fits new step =
-      local_step_keeps unit f heap is fits.frame new
-      (record { locals = hold_values heap unit.locals f.locals fits.frame.locals; constants = constants_fit unit.instrs operands.constants }) step
+  keeps : (f : Frame) (heap : Heap) → FrameFits unit stacks heap f → (new : Config) → LocalStep unit (configs.Live (f ∷ []) heap) new
+      → KeepsFrame unit f heap new
+  keeps f heap fits new step =
+      local_step_keeps unit f heap fits.heap_is fits.frame new
+      (record { locals = hold_values heap unit.locals f.locals fits.frame.locals; constants = constants_fit unit.instrs decoded.constants }) step
 
   -- A step that goes on goes to one of the instruction's successors, with values of the kinds behind it.
   record GoesOn (i : Instr) (g : Frame) (after : Heap) : Type 0 where
@@ -123,31 +128,35 @@ module _ (unit : MethodUnit) (stacks : Stacks) (operands : HaveOperands unit.ins
     place : IsOneOf (successors i.op (i.at + i.size)) g.at
     forms : HaveForms after left g.stack
 
-  goes_on : (f g : Frame) (heap after : Heap) → FrameFits unit stacks heap f → LocalStep unit (configs.Live (f ∷ []) heap) (configs.Live (g ∷ []) after)
+  goes_on : (f g : Frame) (heap after : Heap) → FrameFits unit stacks heap f
+      → LocalStep unit (configs.Live (f ∷ []) heap) (configs.Live (g ∷ []) after)
       → (i : Instr) × (instr_at unit.instrs f.at ≡ Some i) × GoesOn i g after
   goes_on f g heap after fits (i, found, row) =
-      let typed = settled (shape_of unit) unit.instrs stacks f.at i fits.kinds operands kinds found fits.before in
-      let went = comes unit i f heap fits.kinds typed.after typed.typed fits.frame.args fits.frame.locals (forms_of heap fits.kinds f.stack fits.fit) (configs.Live (g ∷ []) after) row in
+      let typed = settled (shape_of unit) unit.instrs stacks f.at i fits.kinds decoded kinds found fits.before in
+      let went = comes unit i f heap fits.kinds typed.after typed.typed fits.frame.args fits.frame.locals
+      (forms_of heap fits.kinds f.stack fits.fit) (configs.Live (g ∷ []) after) row in
       (i, found, record { left = typed.after; onward = typed.onward; place = went.0; forms = went.1 })
 
-  step_kept : (f g : Frame) (heap after : Heap) → IsHeap heap → FrameFits unit stacks heap f → LocalStep unit (configs.Live (f ∷ []) heap) (configs.Live (g ∷ []) after)
+  step_kept : (f g : Frame) (heap after : Heap) → FrameFits unit stacks heap f
+      → LocalStep unit (configs.Live (f ∷ []) heap) (configs.Live (g ∷ []) after)
       → FrameFits unit stacks after g
-  step_kept f g heap after is fits step =
+  step_kept f g heap after fits step =
       let (i, found, on) = goes_on f g heap after fits step in
       let absorbs = at_one (λ at. Absorbs (stack_at unit.instrs stacks at) on.left) (successors i.op (i.at + i.size)) g.at on.onward on.place in
-      let kept = keeps f heap is fits (configs.Live (g ∷ []) after) step in
+      let kept = keeps f heap fits (configs.Live (g ∷ []) after) step in
       let forms = HaveForms-merged after absorbs.kinds on.left absorbs.kinds g.stack absorbs.merge on.forms in
-      record { frame = kept.1; kinds = absorbs.kinds; before = absorbs.reached; fit = fit_of after absorbs.kinds g.stack forms kept.1.stack }
+      record { heap_is = kept.0; frame = kept.1; kinds = absorbs.kinds; before = absorbs.reached; fit = fit_of after absorbs.kinds g.stack forms kept.1.stack }
 
   -- ---- runs of the unit by itself
 
   -- A frame in the body that fits, or an end.
   abbrev Runs : Config → Type 0
-  Runs (configs.Live (f ∷ []) heap) = IsHeap heap × FrameFits unit stacks heap f × (unit.body_start ≤ f.at)
+  Runs (configs.Live (f ∷ []) heap) = FrameFits unit stacks heap f × (unit.body_start ≤ f.at)
   Runs (configs.Live _ heap) = ⊥
   Runs _ = Unit {0}
 
-  successors_inside : (start : ℕ) (op : Op) (next : ℕ) → start ≤ next → AllByRecursion (λ at. start ≤ at) (branch_targets op) → AllByRecursion (λ at. start ≤ at) (successors op next)
+  successors_inside : (start : ℕ) (op : Op) (next : ℕ) → start ≤ next → AllByRecursion (λ at. start ≤ at) (branch_targets op)
+      → AllByRecursion (λ at. start ≤ at) (successors op next)
   successors_inside start ops.Return next behind inside = tt
   successors_inside start (ops.Branch tests.Always target) next behind inside = inside
   successors_inside start (ops.Branch test target) next behind inside = (inside.0, (behind, tt))
@@ -160,22 +169,25 @@ module _ (unit : MethodUnit) (stacks : Stacks) (operands : HaveOperands unit.ins
     stays_inside f g heap after fits inside step =
         let (i, found, on) = goes_on f g heap after fits step in
         let here : i.at ≡ f.at = found_at unit.instrs f.at i found in
-        let targets = of_found (λ j. unit.body_start ≤ j.at → AllByRecursion (λ at. unit.body_start ≤ at) (branch_targets j.op)) unit.instrs f.at i body.inside found (omega arith) in
-        at_one (λ at. unit.body_start ≤ at) (successors i.op (i.at + i.size)) g.at (successors_inside unit.body_start i.op (i.at + i.size) (omega arith) targets) on.place
+        let targets = of_found
+        (λ j. unit.body_start ≤ j.at → AllByRecursion (λ at. unit.body_start ≤ at) (branch_targets j.op)) unit.instrs f.at i body.inside found
+        (omega arith) in
+        at_one (λ at. unit.body_start ≤ at) (successors i.op (i.at + i.size)) g.at
+        (successors_inside unit.body_start i.op (i.at + i.size) (omega arith) targets) on.place
 
     runs_on : (c new : Config) → Runs c → LocalStep unit c new → Runs new
-    runs_on (configs.Live (f ∷ []) heap) (configs.Live (g ∷ []) after) (is, fits, inside) step =
-        ((keeps f heap is fits (configs.Live (g ∷ []) after) step).0, step_kept f g heap after is fits step, stays_inside f g heap after fits inside step)
-    runs_on (configs.Live (f ∷ []) heap) (configs.Live [] after) (is, fits, inside) step = absurd (keeps f heap is fits (configs.Live [] after) step)
-    runs_on (configs.Live (f ∷ []) heap) (configs.Live (g ∷ h ∷ frames) after) (is, fits, inside) step =
-        absurd (keeps f heap is fits (configs.Live (g ∷ h ∷ frames) after) step)
+    runs_on (configs.Live (f ∷ []) heap) (configs.Live (g ∷ []) after) (fits, inside) step =
+        (step_kept f g heap after fits step, stays_inside f g heap after fits inside step)
+    runs_on (configs.Live (f ∷ []) heap) (configs.Live [] after) (fits, inside) step = absurd (keeps f heap fits (configs.Live [] after) step)
+    runs_on (configs.Live (f ∷ []) heap) (configs.Live (g ∷ h ∷ frames) after) (fits, inside) step =
+        absurd (keeps f heap fits (configs.Live (g ∷ h ∷ frames) after) step)
     runs_on (configs.Live (f ∷ []) heap) _ runs step = tt
     runs_on (configs.Live [] heap) new runs step = absurd runs
     runs_on (configs.Live (f ∷ g ∷ frames) heap) new runs step = absurd runs
     runs_on _ new runs step = absurd step
 
     run_defined : (c : Config) → Runs c → IsDefined (LocalStep unit) c
-    run_defined (configs.Live (f ∷ []) heap) (is, fits, inside) =
+    run_defined (configs.Live (f ∷ []) heap) (fits, inside) =
         step_defined f heap fits
         (λ i found. let here : i.at ≡ f.at = found_at unit.instrs f.at i found in
         of_found (λ j. unit.body_start ≤ j.at → is_executed j.op ≡ true) unit.instrs f.at i body.executed found (omega arith))
@@ -188,8 +200,7 @@ module _ (unit : MethodUnit) (stacks : Stacks) (operands : HaveOperands unit.ins
       where
         begins : Runs (entry_config unit index args heap)
         begins = (
-          runs.begins.heap_is,
-          record { frame = entry_frame_is unit index args heap hold runs.begins.heap_is runs.begins.fit; kinds = []; before = body.empty; fit = tt },
+          record { heap_is = runs.begins.heap_is; frame = entry_frame_is unit index args heap hold runs.begins.heap_is runs.begins.fit; kinds = []; before = body.empty; fit = tt },
           omega arith,
         )
 
@@ -221,7 +232,8 @@ module _ (unit : MethodUnit) (stacks : Stacks) (operands : HaveOperands unit.ins
       omega (arith, length-append callers (g ∷ []), length-append callers (caller ∷ entry ∷ []))
 
   -- A step of the frame by itself that comes to this with the callers below.
-  local_of : (callers : List Frame) (g : Frame) (after : Heap) (local : Config) → configs.Live (callers ++ g ∷ []) after ≡ above callers local → local ≡ configs.Live (g ∷ []) after
+  local_of : (callers : List Frame) (g : Frame) (after : Heap) (local : Config) → configs.Live (callers ++ g ∷ []) after ≡ above callers local
+      → local ≡ configs.Live (g ∷ []) after
   local_of callers g after (configs.Live frames heap) same =
       let all : callers ++ g ∷ [] ≡ callers ++ frames = cc in
       let heaps : after ≡ heap = cc in
@@ -235,39 +247,46 @@ module _ (unit : MethodUnit) (stacks : Stacks) (operands : HaveOperands unit.ins
       ⊎ (((i.op ≡ ops.Return) × ReturnRow callers other i f heap new) ⊎ ((number : ℕ) × (called_by i.op ≡ Some number) × WorldCall w callers number i f heap new))
 
   stays_local : (w : World) (callers : List Frame) (other : MethodUnit) (i : Instr) (f g : Frame) (heap after : Heap)
-      → IsStep w callers other i f heap (configs.Live (callers ++ g ∷ []) after) → LocalStep other (configs.Live (f ∷ []) heap) (configs.Live (g ∷ []) after)
-  stays_local w callers other i f g heap after (inl (local, step, same)) = subst (LocalStep other (configs.Live (f ∷ []) heap)) (local_of callers g after local same) step
+      → IsStep w callers other i f heap (configs.Live (callers ++ g ∷ []) after)
+      → LocalStep other (configs.Live (f ∷ []) heap) (configs.Live (g ∷ []) after)
+  stays_local w callers other i f g heap after (inl (local, step, same)) =
+      subst (LocalStep other (configs.Live (f ∷ []) heap)) (local_of callers g after local same) step
   stays_local w callers other i f g heap after (inr (inl (return, (result, is, returned)))) =
       absurd (no_return callers i f g heap after result (ensures_fault other f heap result) returned)
   stays_local w callers other i f g heap after (inr (inr (number, call, row))) =
       absurd (no_call callers row.callee row.index row.args i f g heap after (false_requires row.callee.clauses row.args heap) row.new_is)
 
-  world_step_kept : (w : World) (callers : List Frame) (f g : Frame) (heap after : Heap) → slice_get w.units f.unit ≡ Some unit → IsHeap heap
-      → FrameFits unit stacks heap f → Step w (configs.Live (callers ++ f ∷ []) heap) (configs.Live (callers ++ g ∷ []) after) → FrameFits unit stacks after g
-  world_step_kept w callers f g heap after of is fits step =
-      let s : StepKind w (callers ++ f ∷ []) heap (configs.Live (callers ++ g ∷ []) after) = step_kind w (callers ++ f ∷ []) heap (configs.Live (callers ++ g ∷ []) after) step in
+  world_step_kept : (w : World) (callers : List Frame) (f g : Frame) (heap after : Heap) → slice_get w.units f.unit ≡ Some unit
+      → FrameFits unit stacks heap f → Step w (configs.Live (callers ++ f ∷ []) heap) (configs.Live (callers ++ g ∷ []) after)
+      → FrameFits unit stacks after g
+  world_step_kept w callers f g heap after of fits step =
+      let s : StepKind w (callers ++ f ∷ []) heap (configs.Live (callers ++ g ∷ []) after) = step_kind w (callers ++ f ∷ []) heap
+      (configs.Live (callers ++ g ∷ []) after) step in
       let (below, last) = same_last callers s.callers f s.last s.frames_are in
       let one : s.unit ≡ unit = same_Some s.unit unit (sym s.about.of ∙ ap (λ (h : Frame). slice_get w.units h.unit) (sym last) ∙ of) in
       let local : LocalStep s.unit (configs.Live (s.last ∷ []) heap) (configs.Live (g ∷ []) after) =
       stays_local w s.callers s.unit s.instr s.last g heap after
       (subst (λ (fs : List Frame). IsStep w s.callers s.unit s.instr s.last heap (configs.Live (fs ++ g ∷ []) after)) below s.kind) in
-      step_kept f g heap after is fits (subst₂ (λ (u : MethodUnit) (h : Frame). LocalStep u (configs.Live (h ∷ []) heap) (configs.Live (g ∷ []) after)) one (sym last) local)
+      step_kept f g heap after fits
+      (subst₂ (λ (u : MethodUnit) (h : Frame). LocalStep u (configs.Live (h ∷ []) heap) (configs.Live (g ∷ []) after)) one (sym last) local)
 
 -- ---- what typing is for
 
-pub typed_code_steps : (shape : Shape) (is : List Instr) (stacks : Stacks) → HaveOperands is → KindsOf shape is stacks → TypedCodeSteps shape is stacks
-typed_code_steps shape is stacks operands kinds = record {
-  defined = λ unit f heap has fits executed. step_defined unit stacks (operands_of unit has) (kinds_of unit has) f heap fits (executed_of unit f has executed);
+pub typed_code_steps : (shape : Shape) (is : List Instr) (stacks : Stacks) → AreDecoded is → KindsOf shape is stacks → TypedCodeSteps shape is stacks
+typed_code_steps shape is stacks decoded kinds = record {
+  defined =
+      λ unit f heap has fits executed. step_defined unit stacks (decoded_of unit has) (kinds_of unit has) f heap fits
+      (executed_of unit f has executed);
   defined_in_worlds = λ w callers unit f heap agree of has fits executed.
-      world_step_defined unit stacks (operands_of unit has) (kinds_of unit has) w callers f heap agree of fits (executed_of unit f has executed);
-  kept = λ unit f g heap after has is_heap fits step. step_kept unit stacks (operands_of unit has) (kinds_of unit has) f g heap after is_heap fits step;
-  kept_in_worlds = λ w callers unit f g heap after of has is_heap fits step.
-      world_step_kept unit stacks (operands_of unit has) (kinds_of unit has) w callers f g heap after of is_heap fits step;
-  runs = λ unit has hold body. runs_defined unit stacks (operands_of unit has) (kinds_of unit has) (body_of unit has body) hold;
+      world_step_defined unit stacks (decoded_of unit has) (kinds_of unit has) w callers f heap agree of fits (executed_of unit f has executed);
+  kept = λ unit f g heap after has fits step. step_kept unit stacks (decoded_of unit has) (kinds_of unit has) f g heap after fits step;
+  kept_in_worlds = λ w callers unit f g heap after of has fits step.
+      world_step_kept unit stacks (decoded_of unit has) (kinds_of unit has) w callers f g heap after of fits step;
+  runs = λ unit has hold body. runs_defined unit stacks (decoded_of unit has) (kinds_of unit has) (body_of unit has body) hold;
 }
   where
-    operands_of : (unit : MethodUnit) → HasCode shape is unit → HaveOperands unit.instrs
-    operands_of unit has = subst HaveOperands (sym has.instrs_are) operands
+    decoded_of : (unit : MethodUnit) → HasCode shape is unit → AreDecoded unit.instrs
+    decoded_of unit has = subst AreDecoded (sym has.instrs_are) decoded
 
     kinds_of : (unit : MethodUnit) → HasCode shape is unit → KindsOf (shape_of unit) unit.instrs stacks
     kinds_of unit has = subst₂ (λ (s : Shape) (js : List Instr). KindsOf s js stacks) (sym has.shape_is) (sym has.instrs_are) kinds

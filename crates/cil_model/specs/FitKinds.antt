@@ -51,6 +51,7 @@ FitKinds heap _ _ = ⊥
 
 -- A frame of this unit over a heap, before an instruction that these stacks reach, with values of its kinds.
 pub record FrameFits (unit : MethodUnit) (stacks : Stacks) (heap : Heap) (f : Frame) : Type 0 where
+  pub heap_is : IsHeap heap
   pub frame : IsFrameOf unit heap f
   pub kinds : List Kind
   pub before : stack_at unit.instrs stacks f.at ≡ Some kinds
@@ -63,8 +64,8 @@ abbrev pub IsConstant : Op → Type 0
 IsConstant (ops.Const n) = FitsSigned w32 n
 IsConstant _ = Unit {0}
 
--- What decoding tells of operands: constants are int32, and each branch goes to an instruction.
-pub record HaveOperands (is : List Instr) : Type 0 where
+-- What decoding tells of instructions: constants are int32, and each branch goes to an instruction.
+pub record AreDecoded (is : List Instr) : Type 0 where
   pub constants : AllByRecursion (λ i. IsConstant i.op) is
   pub targets : AllByRecursion (λ i. AllByRecursion (λ at. begins_at is at ≡ true) (branch_targets i.op)) is
 
@@ -110,9 +111,9 @@ pub record TypedCodeSteps (shape : Shape) (is : List Instr) (stacks : Stacks) : 
       → (new : Config) × LocalStep unit (Live (f ∷ []) heap) new
   pub defined_in_worlds : (w : World) (callers : List Frame) (unit : MethodUnit) (f : Frame) (heap : Heap) → Agree w → slice_get w.units f.unit ≡ Some unit
       → HasCode shape is unit → FrameFits unit stacks heap f → IsExecutedAt is f.at → (new : Config) × Step w (Live (callers ++ f ∷ []) heap) new
-  pub kept : (unit : MethodUnit) (f g : Frame) (heap after : Heap) → HasCode shape is unit → IsHeap heap → FrameFits unit stacks heap f
+  pub kept : (unit : MethodUnit) (f g : Frame) (heap after : Heap) → HasCode shape is unit → FrameFits unit stacks heap f
       → LocalStep unit (Live (f ∷ []) heap) (Live (g ∷ []) after) → FrameFits unit stacks after g
   pub kept_in_worlds : (w : World) (callers : List Frame) (unit : MethodUnit) (f g : Frame) (heap after : Heap) → slice_get w.units f.unit ≡ Some unit
-      → HasCode shape is unit → IsHeap heap → FrameFits unit stacks heap f → Step w (Live (callers ++ f ∷ []) heap) (Live (callers ++ g ∷ []) after)
+      → HasCode shape is unit → FrameFits unit stacks heap f → Step w (Live (callers ++ f ∷ []) heap) (Live (callers ++ g ∷ []) after)
       → FrameFits unit stacks after g
   pub runs : (unit : MethodUnit) → HasCode shape is unit → HoldValues unit.locals → HasBody is stacks unit.body_start → NeverStuck unit
