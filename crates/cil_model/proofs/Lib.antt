@@ -37,4 +37,5 @@ pub mod StepsKeep
 pub mod SumKinds
 pub mod SumRun
 pub mod SumUnit
+pub mod TakenKinds
 pub mod TypedCode
