@@ -5,6 +5,7 @@ pub mod ArithmeticFits
 pub mod ArithmeticRows
 pub mod ArrayRows
 pub mod AssumeRun
+pub mod BlockRows
 pub mod BranchRows
 pub mod ClauseRows
 pub mod ComparisonRows
@@ -38,4 +39,5 @@ pub mod SumKinds
 pub mod SumRun
 pub mod SumUnit
 pub mod TakenKinds
+pub mod TreeKindRows
 pub mod TypedCode
