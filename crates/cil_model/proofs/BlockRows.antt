@@ -57,3 +57,6 @@ within_a_block = refl
 -- What no way reaches has its block too, behind a branch that is always taken.
 blocks_not_reached : block_count (small places.Void [] [] ((2, Branch Always 3) ∷ (1, Nop) ∷ (1, Return) ∷ [])) ≡ 3
 blocks_not_reached = refl
+
+blocks_behind_returns : block_count (small places.Void [] [] ((1, Return) ∷ (1, Nop) ∷ (1, Return) ∷ [])) ≡ 2
+blocks_behind_returns = refl

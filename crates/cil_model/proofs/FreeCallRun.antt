@@ -24,7 +24,6 @@ use Rattle.cil_model.proofs.FreeCalls.{Gives, Leads, allows_nothing, allows_valu
 abbrev entry : Place → List Place → List Clause → CalleeInfo
 entry result args clauses = record { name = codes "Demo.Calc::Callee"; result = result; args = args; clauses = clauses }
 
--- The first clause is false.
 some_is_none : {X : Type 0} (x : X) → Some x ≡ None → ⊥
 some_is_none x e = none-some x (sym e)
 
@@ -185,6 +184,22 @@ new_array_is_given =
       ensured = refl;
     } in
     may_give makes [] [] heap refl _ (Some (Array 2)) refl free
+
+-- int[] F(int[] a)
+abbrev gives_back : CalleeInfo
+gives_back = entry places.Ints (places.Ints ∷ []) []
+
+-- It can have one that was passed, and here its items change too.
+passed_array_is_given : Gives gives_back passed heap (Array 0 ∷ []) (ints_of (pos 9 ∷ []) ∷ ints_of (pos 7 ∷ []) ∷ [])
+passed_array_is_given =
+    let free : FreeReturn gives_back passed heap (ints_of (pos 9 ∷ []) ∷ ints_of (pos 7 ∷ []) ∷ []) (Some (Array 0)) = record {
+      heap_is = (one_is (pos 9) (omega (arith, ints)), (one_is (pos 7) (omega (arith, ints)), tt));
+      keeps = first_changes (pos 9);
+      fits = refl;
+      passed_or_new = inl (zero, omega arith, refl);
+      ensured = refl;
+    } in
+    may_give gives_back passed passed heap refl _ (Some (Array 0)) refl free
 
 -- ---- a Requires that is false
 

@@ -9,6 +9,7 @@ pub mod BlockRows
 pub mod BranchRows
 pub mod ClauseRows
 pub mod ComparisonRows
+pub mod ConflictRows
 pub mod EffectsFit
 pub mod EffectsKeep
 pub mod CallsDefined

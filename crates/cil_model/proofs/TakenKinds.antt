@@ -1,35 +1,45 @@
 -- Kinds of operands that instructions take, and some that they do not: lengths, references, null and messages.
-use Rattle.std.proofs.Common.{◌≡◌, List, [], ◌∷◌, Some, None, codes, refl}
-use Rattle.cil_model.specs.Kinds.{behind}
+use Rattle.std.proofs.Common.{◌≡◌, pos, List, [], ◌∷◌, Some, None, Ok, Err, codes, refl}
+use Rattle.cil_model.specs.Kinds.{behind, typed}
 use Rattle.cil_model.specs.Passes.{merged}
 use Rattle.cil_model.specs.UnitCalls.{unit_call}
 use Rattle.cil_model.specs.declared.instruction.BinOp.TheVariants as operators
 use Rattle.cil_model.specs.declared.instruction.CmpOp.TheVariants as comparisons
+use Rattle.cil_model.specs.declared.instruction.Instr.{Instr}
 use Rattle.cil_model.specs.declared.instruction.Op.{Op}
-use Rattle.cil_model.specs.declared.instruction.Op.TheVariants.{StoreArg, Dup, Pop, Call, Return, Branch, Switch, Bin, Neg, ConvI4, NewArray, Length, LoadElem, StoreElem}
-use Rattle.cil_model.specs.declared.instruction.Test.TheVariants.{True, False, Cmp}
+use Rattle.cil_model.specs.declared.instruction.Op.TheVariants.{LoadArg, StoreArg, LoadLocal, StoreLocal, Null, Const, Dup, Pop, Call, Return, Branch, Switch, Bin, Neg, Not, ConvI4, Text as TextOf, NewArray, Length, LoadElem, StoreElem}
+use Rattle.cil_model.specs.declared.instruction.Test.TheVariants.{Always, True, False, Cmp}
 use Rattle.cil_model.specs.declared.place.Kind.{Kind}
 use Rattle.cil_model.specs.declared.place.Kind.TheVariants.{Int, Native, Ints, Bools, NullRef, Text}
 use Rattle.cil_model.specs.declared.place.Place.TheVariants as places
 use Rattle.cil_model.specs.declared.shape.Shape.{Shape}
+use Rattle.cil_model.specs.declared.type_fault.TypeFault.TheVariants.{Underflow, WrongKind}
 
--- int[] M(int[] a, bool b), which calls void F(int[] a, bool b).
+-- int[] M(int[] a, bool b) with a local of bool, which calls void F(int[] a, bool b).
 abbrev shape : Shape
 shape = record {
   result = places.Ints;
   args = places.Ints ∷ places.Bool ∷ [];
-  locals = [];
+  locals = places.Bool ∷ [];
   max_stack = 8;
   callees = record { name = codes "Demo.Calc::F"; result = places.Void; args = places.Ints ∷ places.Bool ∷ []; clauses = [] } ∷ [];
 }
 
+-- The operation as an instruction.
+abbrev instr : Op → Instr
+instr op = record { at = 4; size = 1; op = op }
+
 -- Of operands of these kinds, the first of which is the top, the operation leaves these.
 abbrev Leaves : Op → List Kind → List Kind → Type 0
-Leaves op before after = behind shape op before ≡ Some after
+Leaves op before after = typed shape (instr op) before ≡ Ok after
 
--- It does not take them.
+-- One of them has a kind that it does not take.
 abbrev Refuses : Op → List Kind → Type 0
-Refuses op before = behind shape op before ≡ None
+Refuses op before = typed shape (instr op) before ≡ Err (WrongKind 4)
+
+-- It lacks one.
+abbrev Lacks : Op → List Kind → Type 0
+Lacks op before = typed shape (instr op) before ≡ Err (Underflow 4)
 
 -- ---- lengths
 
@@ -175,6 +185,170 @@ message_is_not_tested = refl
 length_is_no_condition : Refuses (Call 5) (Native ∷ [])
 unfolding unit_call
 length_is_no_condition = refl
+
+-- ---- operands that are missing
+
+dup_of_nothing : Lacks Dup []
+dup_of_nothing = refl
+
+pop_of_nothing : Lacks Pop []
+pop_of_nothing = refl
+
+nothing_is_stored : Lacks (StoreArg 1) []
+nothing_is_stored = refl
+
+nothing_is_put_into_a_local : Lacks (StoreLocal 0) []
+nothing_is_put_into_a_local = refl
+
+one_is_added : Lacks (Bin operators.Add) (Int ∷ [])
+one_is_added = refl
+
+nothing_is_negated : Lacks Neg []
+nothing_is_negated = refl
+
+nothing_is_turned : Lacks Not []
+nothing_is_turned = refl
+
+nothing_is_converted : Lacks ConvI4 []
+nothing_is_converted = refl
+
+nothing_is_tested : Lacks (Branch True 9) []
+nothing_is_tested = refl
+
+one_is_compared : Lacks (Branch (Cmp comparisons.Eq) 9) (Int ∷ [])
+one_is_compared = refl
+
+nothing_chooses : Lacks (Switch (9 ∷ [])) []
+nothing_chooses = refl
+
+nothing_is_made : Lacks (NewArray 1) []
+nothing_is_made = refl
+
+length_of_nothing : Lacks Length []
+length_of_nothing = refl
+
+index_is_missing : Lacks (LoadElem places.Ints) (Ints ∷ [])
+index_is_missing = refl
+
+item_is_missing : Lacks (StoreElem places.Ints) (Int ∷ Ints ∷ [])
+item_is_missing = refl
+
+argument_is_missing : Lacks (Call 100) (Int ∷ [])
+unfolding unit_call
+argument_is_missing = refl
+
+arguments_are_counted : behind shape (Call 100) (Int ∷ []) ≡ None
+unfolding unit_call
+arguments_are_counted = refl
+
+condition_is_missing : Lacks (Call 5) []
+unfolding unit_call
+condition_is_missing = refl
+
+message_is_missing : Lacks (Call 8) (Int ∷ [])
+unfolding unit_call
+message_is_missing = refl
+
+required_condition_is_missing : Lacks (Call 1) []
+unfolding unit_call
+required_condition_is_missing = refl
+
+ensured_message_is_missing : Lacks (Call 4) (Int ∷ [])
+unfolding unit_call
+ensured_message_is_missing = refl
+
+old_value_is_missing : Lacks (Call 22) []
+unfolding unit_call
+old_value_is_missing = refl
+
+result_is_missing : Lacks Return []
+result_is_missing = refl
+
+-- ---- just as many as are taken
+
+numbers_are_added : Leaves (Bin operators.Add) (Int ∷ Int ∷ []) (Int ∷ [])
+numbers_are_added = refl
+
+number_is_turned : Leaves Not (Int ∷ []) (Int ∷ [])
+number_is_turned = refl
+
+number_chooses : Leaves (Switch (9 ∷ [])) (Int ∷ []) []
+number_chooses = refl
+
+always_takes_nothing : Leaves (Branch Always 9) [] []
+always_takes_nothing = refl
+
+local_takes_one : Leaves (StoreLocal 0) (Int ∷ []) []
+local_takes_one = refl
+
+required_condition : Leaves (Call 1) (Int ∷ []) []
+unfolding unit_call
+required_condition = refl
+
+required_message : Leaves (Call 2) (Text ∷ Int ∷ []) []
+unfolding unit_call
+required_message = refl
+
+ensured_condition : Leaves (Call 3) (Int ∷ []) []
+unfolding unit_call
+ensured_condition = refl
+
+ensured_message : Leaves (Call 4) (Text ∷ Int ∷ []) []
+unfolding unit_call
+ensured_message = refl
+
+asserted_condition : Leaves (Call 5) (Int ∷ []) []
+unfolding unit_call
+asserted_condition = refl
+
+assumed_condition : Leaves (Call 7) (Int ∷ []) []
+unfolding unit_call
+assumed_condition = refl
+
+assumed_message : Leaves (Call 8) (Text ∷ Int ∷ []) []
+unfolding unit_call
+assumed_message = refl
+
+end_of_the_block : Leaves (Call 9) (Int ∷ []) (Int ∷ [])
+unfolding unit_call
+end_of_the_block = refl
+
+-- Result of bool, and of int32[].
+bool_result : Leaves (Call 11) [] (Int ∷ [])
+unfolding unit_call
+bool_result = refl
+
+array_result : Leaves (Call 14) [] (Ints ∷ [])
+unfolding unit_call
+array_result = refl
+
+argument_is_loaded : Leaves (LoadArg 0) [] (Ints ∷ [])
+argument_is_loaded = refl
+
+local_is_loaded : Leaves (LoadLocal 0) [] (Int ∷ [])
+local_is_loaded = refl
+
+local_is_not_there : Refuses (LoadLocal 1) []
+local_is_not_there = refl
+
+no_place_there : Refuses (StoreLocal 1) (Int ∷ [])
+no_place_there = refl
+
+null_is_pushed : Leaves Null [] (NullRef ∷ [])
+null_is_pushed = refl
+
+message_is_pushed : Leaves (TextOf 0) [] (Text ∷ [])
+message_is_pushed = refl
+
+number_is_pushed : Leaves (Const (pos 1)) [] (Int ∷ [])
+number_is_pushed = refl
+
+nothing_names : Refuses (Call 10) []
+unfolding unit_call
+nothing_names = refl
+
+no_array_of_that : Refuses (NewArray 0) (Int ∷ [])
+no_array_of_that = refl
 
 -- ---- merging
 
