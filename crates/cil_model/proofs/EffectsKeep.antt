@@ -9,6 +9,7 @@ use Rattle.std.proofs.lemmas.Option.{none-some, same_Some}
 use Rattle.cil_model.specs.Arithmetic.{operated, operated_one, truth, unsigned}
 use Rattle.cil_model.specs.Comparisons.{comparison_of, comparison_value, compares_values, is_true, number_of, pushed_comparison}
 use Rattle.cil_model.specs.Effects.{Effect, GoesOn, Faults, Assumes, HasEffect, arithmetic, array_length, at_index, below_message, binary, branches, branches_by, changes, comparison, contract_call, converts, duplicates, effects, effects_of, gives, goes_to, item_of, item_value, loads, makes, makes_number, new_array, of_place, pops, pushes, stored, stores, stores_arg, stores_local, switches, switches_to, tests_condition, with_args, with_item, with_locals, zeros}
+use Rattle.cil_model.specs.FitKinds.{OperandFits}
 use Rattle.cil_model.specs.UnitCalls.{array_place, unit_call}
 use Rattle.cil_model.specs.Values.{Heap, FitItems, FitPlaces, IsArray, IsByte, IsHeap, IsValue, KeepsForms, put, same_place}
 use Rattle.cil_model.specs.declared.instruction.BinOp.{BinOp}
@@ -115,11 +116,6 @@ EffectKeeps unit f heap stack _ = Unit {0}
 
 abbrev pub EachKeeps : MethodUnit → Frame → Heap → List Value → List Effect → Type 0
 EachKeeps unit f heap stack es = AllByRecursion (EffectKeeps unit f heap stack) es
-
--- A constant of the code is an int32.
-abbrev pub OperandFits : Op → Type 0
-OperandFits (ops.Const n) = FitsSigned w32 n
-OperandFits op = Unit {0}
 
 -- ---- forms of rows
 

@@ -1,9 +1,12 @@
 -- What holds of each row of the opcodes holds of every instruction that is spelled.
 use Rattle.std.proofs.Common.{◌≡◌, ℕ, ◌+◌, ◌-◌, ◌^◌, ◌<◌, ◌≤◌, ◌-ℤ◌, pos, FitsSigned, Fits, w8, w32, Bool, true, false, List, ◌∷◌, [], Option, Some, None, option_map, ◌&&◌, cond, eqb, leb, refl, sym, subst, arith, inl, inr}
 use Rattle.std.specs.Int.{cast_signed}
+use Rattle.std.specs.List.{AllByRecursion}
 use Rattle.std.proofs.lemmas.Bool.{cond_both, eqb-true, leb-true, leb-false, and_parts}
 use Rattle.std.proofs.lemmas.Int.{ints}
 use Rattle.std.proofs.Math.Facts.{sfits_to_z}
+use Rattle.cil_model.specs.Code.{CodeFrom, CodeOf}
+use Rattle.cil_model.specs.FitKinds.{AreDecoded, OperandFits}
 use Rattle.cil_model.specs.Opcodes.{Form, variable_form, constant_form, test_of, branch_form, operator_of, object_form, short_form, long_form, near, far, operator_form}
 use Rattle.cil_model.specs.Spells.{SpellsForm, Spells}
 use Rattle.cil_model.specs.declared.instruction.BinOp.{BinOp}
@@ -11,7 +14,6 @@ use Rattle.cil_model.specs.declared.instruction.Instr.{Instr}
 use Rattle.cil_model.specs.declared.instruction.Op.{Op}
 use Rattle.cil_model.specs.declared.instruction.Op.TheVariants as ops
 use Rattle.cil_model.specs.declared.instruction.Test.{Test}
-use Rattle.cil_model.proofs.EffectsKeep.{OperandFits}
 
 -- ---- one row, and then the others
 
@@ -107,3 +109,11 @@ operand_fits i bytes spells =
       | inr (inl (b, below, form)) ↦ made OperandFits (long_form b) (0xfe ∷ b ∷ []) i bytes (long_fits b) form
       | inr (inr switch) ↦ subst OperandFits (sym switch.op) tt
     ]
+
+constants_fit : (at : ℕ) (is : List Instr) (code : List ℕ) → CodeFrom at is code → AllByRecursion (λ i. OperandFits i.op) is
+constants_fit at [] code h = tt
+constants_fit at (i ∷ is) code (place, (bytes, rest, spelled, split, others)) = (operand_fits i bytes spelled, constants_fit (at + i.size) is rest others)
+
+-- What code spells is decoded.
+pub code_is_decoded : (is : List Instr) (code : List ℕ) → CodeOf is code → AreDecoded is
+code_is_decoded is code h = record { constants = constants_fit 0 is code h.spelled; targets = h.targets }

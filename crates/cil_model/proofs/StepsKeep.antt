@@ -8,8 +8,9 @@ use Rattle.cil_model.specs.Calls.{FreeCall, FreelyCalled, FitsResult, Returned, 
 use Rattle.cil_model.specs.Clauses.{false_requires}
 use Rattle.cil_model.specs.Configs.{ArraysKept, IsConfig, IsFrame, IsFrameOf}
 use Rattle.cil_model.specs.Effects.{Effect, GoesOn, Faults, Assumes, FindsNoRoom}
+use Rattle.cil_model.specs.FitKinds.{OperandFits}
 use Rattle.cil_model.specs.Runs.{CallsBy, EffectRow, LocalStep, Row, Runs, Step, StepsTo, config_after, entry_config}
-use Rattle.cil_model.specs.Code.{CodeFrom, CodeOf}
+use Rattle.cil_model.specs.Code.{CodeOf}
 use Rattle.cil_model.specs.UnitCalls.{unit_call}
 use Rattle.cil_model.specs.Values.{Heap, FitPlaces, IsHeap, IsValue, KeepsForms, put, zero_of}
 use Rattle.cil_model.specs.WellFormed.{HoldValues}
@@ -27,11 +28,11 @@ use Rattle.cil_model.specs.declared.unit.CalleeInfo.{CalleeInfo}
 use Rattle.cil_model.specs.declared.unit.Unit.{Unit as MethodUnit}
 use Rattle.cil_model.specs.declared.unit_numbers.UnitCall.{UnitCall}
 use Rattle.cil_model.specs.declared.unit_numbers.UnitCall.TheVariants as calls
-use Rattle.cil_model.proofs.EffectsKeep.{Continues, EffectKeeps, OperandFits, effect_keeps}
+use Rattle.cil_model.proofs.EffectsKeep.{Continues, EffectKeeps, effect_keeps}
 use Rattle.cil_model.proofs.HeapsKept.{AreValues-kept, FitPlaces-kept, keeps_itself, keeps_on, put_all_fit, put_fits, value_of_place}
 use Rattle.cil_model.proofs.Lists.{all_append, all_drop, all_reverse, all_split, all_take, of_found}
 use Rattle.cil_model.proofs.Options.{map_from}
-use Rattle.cil_model.proofs.Rows.{operand_fits}
+use Rattle.cil_model.proofs.Rows.{code_is_decoded}
 use Rattle.cil_model.proofs.StepKinds.{StepKind, above, step_kind}
 
 -- ---- units
@@ -41,12 +42,8 @@ pub record MakesValues (unit : MethodUnit) : Type 0 where
   pub locals : HoldValues unit.locals
   pub constants : AllByRecursion (λ i. OperandFits i.op) unit.instrs
 
-constants_fit : (at : ℕ) (is : List Instr) (code : List ℕ) → CodeFrom at is code → AllByRecursion (λ i. OperandFits i.op) is
-constants_fit at [] code h = tt
-constants_fit at (i ∷ is) code (place, (bytes, rest, spelled, split, others)) = (operand_fits i bytes spelled, constants_fit (at + i.size) is rest others)
-
 pub code_makes_values : (unit : MethodUnit) → CodeOf unit.instrs unit.code → HoldValues unit.locals → MakesValues unit
-code_makes_values unit code hold = record { locals = hold; constants = constants_fit 0 unit.instrs unit.code code.spelled }
+code_makes_values unit code hold = record { locals = hold; constants = (code_is_decoded unit.instrs unit.code code).constants }
 
 -- ---- frames
 

@@ -22,3 +22,4 @@ pub mod Passes
 pub mod Blocks
 pub mod TreeKinds
 pub mod WellFormed
+pub mod FitKinds
