@@ -1,10 +1,10 @@
 -- What every spelling of an instruction is: it is not empty, it is a list of bytes, and it is the front of no other.
 use Rattle.std.proofs.Common.{◌≡◌, ℕ, ◌+◌, ◌^◌, ◌<◌, List, [], ◌∷◌, ◌++◌, length, map, append_assoc, append-nil, Option, Some, None, refl, sym, ap, subst, ◌∙◌, arith, inl, inr}
 use Rattle.std.specs.List.{AllByRecursion}
-use Rattle.std.proofs.lemmas.List.{length-append, append_cancel_left}
+use Rattle.std.proofs.lemmas.List.{append_cancel_left}
 use Rattle.byteorder.specs.Endian.{little_bytes, little_number}
 use Rattle.cc_base.specs.LittleEndian.{IsBytes}
-use Rattle.cc_base.proofs.ByteLemmas.{IsBytes-nil, IsBytes-cons, IsBytes-append, IsBytes-little_bytes, length-little_bytes, number_back}
+use Rattle.cc_base.proofs.ByteLemmas.{IsBytes-nil, IsBytes-cons, IsBytes-append, IsBytes-little_bytes, number_back}
 use Rattle.cil_model.specs.Opcodes.{Form, short_form, long_form, operator_of, target}
 use Rattle.cil_model.specs.Spells.{SpellsForm, SpellsShort, SpellsLong, SpellsSwitch, Spells, offset_bytes}
 use Rattle.cil_model.specs.declared.instruction.Instr.{Instr}

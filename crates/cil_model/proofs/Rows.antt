@@ -1,5 +1,5 @@
 -- What holds of each row of the opcodes holds of every instruction that is spelled.
-use Rattle.std.proofs.Common.{◌≡◌, ℕ, ◌+◌, ◌-◌, ◌^◌, ◌<◌, ◌≤◌, ◌-ℤ◌, pos, FitsSigned, Fits, w8, w32, Bool, true, false, List, ◌∷◌, [], Option, Some, None, option_map, ◌&&◌, cond, eqb, leb, refl, sym, subst, arith, inl, inr}
+use Rattle.std.proofs.Common.{◌≡◌, ℕ, ◌+◌, ◌-◌, ◌^◌, ◌<◌, ◌≤◌, ◌-ℤ◌, pos, FitsSigned, Fits, w8, w32, List, ◌∷◌, [], Option, Some, None, option_map, ◌&&◌, cond, eqb, leb, sym, subst, arith, inl, inr}
 use Rattle.std.specs.Int.{cast_signed}
 use Rattle.std.specs.List.{AllByRecursion}
 use Rattle.std.proofs.lemmas.Bool.{cond_both, eqb-true, leb-true, leb-false, and_parts}
@@ -12,7 +12,6 @@ use Rattle.cil_model.specs.Spells.{SpellsForm, Spells}
 use Rattle.cil_model.specs.declared.instruction.BinOp.{BinOp}
 use Rattle.cil_model.specs.declared.instruction.Instr.{Instr}
 use Rattle.cil_model.specs.declared.instruction.Op.{Op}
-use Rattle.cil_model.specs.declared.instruction.Op.TheVariants as ops
 use Rattle.cil_model.specs.declared.instruction.Test.{Test}
 
 -- ---- one row, and then the others

@@ -1,6 +1,6 @@
 -- Steps keep configurations: values stay values, variables hold values of their types, and no array changes its
 -- type or its length.
-use Rattle.std.proofs.Common.{◌≡◌, ℕ, zero, suc, ◌+◌, ℤ, FitsSigned, List, [], ◌∷◌, ◌++◌, length, map, reverse, take, drop, option_map, Option, Some, None, slice_get, refl, sym, ap, subst, ◌∙◌, w32, arith, length-append, inl, inr}
+use Rattle.std.proofs.Common.{◌≡◌, ℕ, zero, suc, ◌+◌, List, [], ◌∷◌, ◌++◌, length, map, reverse, take, drop, option_map, Option, Some, None, slice_get, refl, sym, ap, subst, ◌∙◌, arith, length-append, inl, inr}
 use Rattle.std.specs.List.{AllByRecursion}
 use Rattle.std.proofs.lemmas.Int.{ints}
 use Rattle.std.proofs.lemmas.Option.{none-some, same_Some}

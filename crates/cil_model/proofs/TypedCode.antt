@@ -10,7 +10,6 @@ use Rattle.cil_model.specs.FitKinds.{FrameFits, HasBody, HasCode, AreDecoded, Op
 use Rattle.cil_model.specs.Passes.{KindsOf, Stacks, stack_at, successors}
 use Rattle.cil_model.specs.Runs.{CallRow, IsDefined, LocalStep, Row, Step, StepsTo, entry_config, instr_at}
 use Rattle.cil_model.specs.Shapes.{shape_of}
-use Rattle.cil_model.specs.Spells.{CodeOf}
 use Rattle.cil_model.specs.Values.{Heap, FitPlaces}
 use Rattle.cil_model.specs.WellFormed.{HoldValues, called_by}
 use Rattle.cil_model.specs.Worlds.{Agree}
@@ -31,12 +30,11 @@ use Rattle.cil_model.specs.declared.unit.CalleeInfo.{CalleeInfo}
 use Rattle.cil_model.specs.declared.unit.Unit.{Unit as MethodUnit}
 use Rattle.cil_model.proofs.CallsDefined.{free_call_defined, world_call_defined}
 use Rattle.cil_model.proofs.EffectsFit.{IsOneOf}
-use Rattle.cil_model.proofs.EffectsKeep.{OperandFits}
 use Rattle.cil_model.proofs.KindForms.{HaveForms, HaveForms-merged, fit_of, forms_of}
 use Rattle.cil_model.proofs.KindsSettle.{Absorbs, found_at, Settled, reached_begins, settled}
 use Rattle.cil_model.proofs.StepKinds.{StepKind, above, step_kind}
 use Rattle.cil_model.proofs.StepsFit.{comes, defined}
-use Rattle.cil_model.proofs.StepsKeep.{KeepsFrame, code_makes_values, entry_frame_is, local_step_keeps}
+use Rattle.cil_model.proofs.StepsKeep.{KeepsFrame, entry_frame_is, local_step_keeps}
 use Rattle.cil_model.proofs.Lists.{all_append, of_found}
 
 -- ---- what is known of a unit
@@ -297,17 +295,3 @@ typed_code_steps shape is stacks decoded kinds = record {
 
     body_of : (unit : MethodUnit) → HasCode shape is unit → HasBody is stacks unit.body_start → HasBody unit.instrs stacks unit.body_start
     body_of unit has body = subst (λ (js : List Instr). HasBody js stacks unit.body_start) (sym has.instrs_are) body
-
--- ---- what is decoded
-
-int_constant : (op : Op) → OperandFits op → OperandFits op
-int_constant (ops.Const n) fits = fits
-int_constant _ fits = tt
-
-int_constants : (is : List Instr) → AllByRecursion (λ i. OperandFits i.op) is → AllByRecursion (λ i. OperandFits i.op) is
-int_constants [] all = tt
-int_constants (i ∷ is) all = (int_constant i.op all.0, int_constants is all.1)
-
--- Constants that are spelled in code are int32.
-pub code_constants : (unit : MethodUnit) → CodeOf unit.instrs unit.code → HoldValues unit.locals → AllByRecursion (λ i. OperandFits i.op) unit.instrs
-code_constants unit code hold = int_constants unit.instrs (code_makes_values unit code hold).constants
