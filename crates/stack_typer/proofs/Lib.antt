@@ -1,2 +1,3 @@
 pub mod MergeLemmas
 pub mod TakeLemmas
+pub mod TurnedLemmas

@@ -66,6 +66,7 @@ impl Stack {
     }
 
     /// Takes so many from the top, or all.
+    #[tactic(auto, using(crate::proofs::TurnedLemmas::rest_turned))]
     pub fn pop_many(&mut self, count: usize)
         ensures { self.new ≡ drop count self.old }
     {
@@ -74,6 +75,7 @@ impl Stack {
     }
 
     /// Whether parameters of these places take the topmost values, the last of them the top.
+    #[tactic(auto, using(crate::proofs::TurnedLemmas::top_turned))]
     pub fn fits(&self, places: &[Place]) -> bool
         ensures { result ≡ take_each places.now (reverse (take (length places.now) self.now)) }
     {
@@ -99,6 +101,7 @@ impl Stack {
     }
 
     /// Whether the two stacks merge.
+    #[tactic(auto, using(crate::proofs::TurnedLemmas::merges_turned))]
     pub fn merges_with(&self, other: &Stack) -> bool
         ensures { result ≡ is_some (merged self.now other.now) }
     {
@@ -106,6 +109,7 @@ impl Stack {
     }
 
     /// Merges another stack into this one, where they merge, and says whether a kind changed.
+    #[tactic(auto, using(crate::proofs::TurnedLemmas::arrived_turned, crate::proofs::TurnedLemmas::nulls_turned))]
     pub fn merge(&mut self, other: &Stack) -> bool
         ensures stack { Some self.new ≡ option_or (merged self.old other.now) (Some self.old) }
         ensures same { result ≡ false → self.new ≡ self.old }
