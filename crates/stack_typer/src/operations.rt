@@ -2,6 +2,7 @@
 
 ghost use Rattle.std.specs.Prelude.{◌≡◌, ◌∷◌, IfOk, Some, slice_get};
 ghost use Rattle.cil_model.specs.Comparisons.{comparison_of};
+ghost use Rattle.stack_typer.specs.Arrays.{behind_array};
 ghost use Rattle.cil_model.specs.Kinds.{when, loaded, stored_kind, behind_arithmetic, behind_comparison, behind_operator, behind_number, behind_conversion, behind_new_array, behind_length, behind_load, behind_store, duplicated, popped, behind};
 
 use crate::branches::{take_int, take_result, take_tested};
