@@ -1,3 +1,4 @@
 pub mod MergeLemmas
+pub mod OffsetLemmas
 pub mod TakeLemmas
 pub mod TurnedLemmas

@@ -1,4 +1,5 @@
 pub mod Answers
 pub mod Arrays
+pub mod LaidOut
 pub mod Room
 pub mod Successors

@@ -7,6 +7,7 @@ mod follow;
 mod kind_rules;
 mod kinds;
 mod merging;
+mod offsets;
 mod operands;
 mod operations;
 mod passes;
