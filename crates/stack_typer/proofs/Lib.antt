@@ -1,3 +1,4 @@
+pub mod ConflictLemmas
 pub mod MergeLemmas
 pub mod OffsetLemmas
 pub mod TakeLemmas

@@ -1,5 +1,5 @@
 -- Instructions by their IL offsets.
-use Rattle.std.proofs.Common.{◌≡◌, ◌≢◌, ℕ, zero, suc, ◌+◌, ◌<◌, ◌≤◌, ◌==◌, Bool, true, false, not, ◌||◌, List, [], ◌∷◌, length, get_or, set, Option, Some, None, Result, Ok, Err, MatchOption, nat_lt, slice_get, refl, sym, ap, ◌∙◌, arith, inl, inr}
+use Rattle.std.proofs.Common.{◌≡◌, ◌≢◌, ℕ, zero, suc, ◌+◌, ◌<◌, ◌≤◌, ◌==◌, Bool, true, false, not, ◌||◌, List, [], ◌∷◌, length, get_or, set, Option, Some, None, Result, Ok, Err, MatchOption, nat_lt, slice_get, refl, sym, ap, add-one, ◌∙◌, arith, inl, inr}
 use Rattle.std.specs.Option.{option_or}
 use Rattle.std.specs.Result.{result_ok}
 use Rattle.std.proofs.lemmas.Bool.{cases_eq, cases_lt, eq-eqb, ne_eqb}
@@ -7,11 +7,13 @@ use Rattle.std.proofs.lemmas.Bool.Decides.{nat_tests}
 use Rattle.std.proofs.lemmas.Cmp.{ranked}
 use Rattle.std.specs.List.Sorted.{IsSearchInRange, IsBinarySearchResult, IsNonDecreasingBy}
 use Rattle.std.specs.Ordering.{nat_cmp, ordering_index}
+use Rattle.std.proofs.lemmas.List.{get_or_read}
 use Rattle.std.proofs.lemmas.Option.{slice_get_within, get_or_from_slice_get, slice_get-get_or}
-use Rattle.cil_model.specs.Passes.{Stacks, begins_at, arrived, stack_at, come_to}
+use Rattle.cil_model.specs.Passes.{Stacks, goes_behind, begins_at, arrived, stack_at, come_to}
 use Rattle.cil_model.specs.declared.instruction.Instr.{Instr}
 use Rattle.cil_model.specs.declared.place.Kind.{Kind}
 use Rattle.stack_typer.specs.LaidOut.{LieFrom, AreLaidOut, BeginsAt}
+use Rattle.stack_typer.specs.Successors.{next_offset}
 
 not_below : (start : ℕ) (is : List Instr) (k : ℕ) (d : Instr) → LieFrom start is → k < length is → start ≤ (get_or is k d).at
 not_below start [] k d lie within = absurd (omega arith)
@@ -50,6 +52,12 @@ stack_from start (i ∷ is) (stack ∷ stacks) at (suc k) lie there =
 
 pub stack_there : (is : List Instr) (stacks : Stacks) (at k : ℕ) → AreLaidOut is → BeginsAt is at k → stack_at is stacks at ≡ get_or stacks k None
 stack_there is stacks at k laid there = stack_from 0 is stacks at k laid.lie there
+
+-- As it is read there.
+pub stack_read : (is : List Instr) (stacks : Stacks) (at k : ℕ) (before : Option (List Kind)) → AreLaidOut is → BeginsAt is at k → length stacks ≡ length is
+    → before ≡ get_or stacks k before → stack_at is stacks at ≡ before
+stack_read is stacks at k before laid there same read =
+    stack_there is stacks at k laid there ∙ sym (get_or_read stacks k before (omega (arith, there.within)) read None)
 
 -- What comes of a stack that is there and one that comes.
 abbrev pub joined : Option (List Kind) → List Kind → Option (List Kind)
@@ -124,3 +132,39 @@ searched is at (Err k) laid within parted =
           | inl below ↦ (let h = ranked _ at _ (sym (parts.0 n d (omega arith) below)) in omega (arith, h, e))
           | inr above ↦ (let h = ranked _ at _ (sym (parts.1 n d above inside)) in omega (arith, h, e))
         ])
+
+
+-- ---- the next instruction
+
+next_from : (start : ℕ) (is : List Instr) (k : ℕ) (d : Instr) → LieFrom start is → suc k < length is → (get_or is (suc k) d).at ≡ (get_or is k d).at + (get_or is k d).size
+next_from start [] k d lie within = absurd (omega arith)
+next_from start (i ∷ []) k d lie within = absurd (omega arith)
+next_from start (i ∷ j ∷ is) zero d lie within = lie.2.0 ∙ ap (λ n. n + i.size) (sym lie.0)
+next_from start (i ∷ j ∷ is) (suc k) d lie within = next_from (start + i.size) (j ∷ is) k d lie.2 (omega arith)
+
+has_bytes : (start : ℕ) (is : List Instr) (k : ℕ) (d : Instr) → LieFrom start is → k < length is → 0 < (get_or is k d).size
+has_bytes start [] k d lie within = absurd (omega arith)
+has_bytes start (i ∷ is) zero d lie within = lie.1
+has_bytes start (i ∷ is) (suc k) d lie within = has_bytes (start + i.size) is k d lie.2 (omega arith)
+
+-- What stands next.
+pub goes_on : (is : List Instr) (k : ℕ) (i j : Instr) → AreLaidOut is → slice_get is k ≡ Some i → k + 1 < length is → j ≡ get_or is (k + 1) j → goes_behind i.op ≡ true
+    → next_offset is i ≡ Some (j.at ∷ [])
+goes_on is k i j laid here within read goes =
+    let e = next_from 0 is k i laid.lie (omega arith) in
+    let f = rw (← add-one k, ← get_or_read is (k + 1) j within read i, get_or_from_slice_get is k i i here) at e in
+    let begins = one_begins is (i.at + i.size) (k + 1) (record { within = within; offset = λ d. rw (← get_or_read is (k + 1) j within read d) f }) in
+    rw (goes, begins) (ap (λ (at : ℕ). Some (at ∷ [])) (sym f))
+
+-- Behind the last instruction none begins.
+none_next : (is : List Instr) (k : ℕ) (i : Instr) → AreLaidOut is → slice_get is k ≡ Some i → length is ≤ k + 1 → begins_at is (i.at + i.size) ≡ false
+none_next is k i laid here end =
+    let within = slice_get_within is k i here in
+    let some = rw (get_or_from_slice_get is k i i here) at (has_bytes 0 is k i laid.lie within) in
+    none_begins is (i.at + i.size) (λ n d inside same.
+        let low = rw (get_or_from_slice_get is k i d here) at (not_falling is n k d laid (omega arith) within) in
+        omega (arith, low, some, same))
+
+pub ends_there : (is : List Instr) (k : ℕ) (i : Instr) → AreLaidOut is → slice_get is k ≡ Some i → length is ≤ k + 1 → goes_behind i.op ≡ true
+    → next_offset is i ≡ None
+ends_there is k i laid here end goes = rw (goes, none_next is k i laid here end) refl

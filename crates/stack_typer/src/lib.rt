@@ -3,16 +3,15 @@
 
 mod branches;
 mod calls;
-mod follow;
+mod conflicts;
 mod kind_rules;
 mod kinds;
 mod merging;
 mod offsets;
 mod operands;
 mod operations;
-mod passes;
 mod stack;
+mod successors;
 mod type_instr;
 
 pub use kinds::{Kinds, TypeRefusal};
-pub use passes::type_code;
