@@ -1,5 +1,7 @@
+pub mod ArrivalLemmas
 pub mod ConflictLemmas
 pub mod MergeLemmas
 pub mod OffsetLemmas
+pub mod RoomLemmas
 pub mod TakeLemmas
 pub mod TurnedLemmas

@@ -60,7 +60,7 @@ stack_read is stacks at k before laid there same read =
     stack_there is stacks at k laid there ∙ sym (get_or_read stacks k before (omega (arith, there.within)) read None)
 
 -- What comes of a stack that is there and one that comes.
-abbrev pub joined : Option (List Kind) → List Kind → Option (List Kind)
+abbrev joined : Option (List Kind) → List Kind → Option (List Kind)
 joined before stack = option_or (arrived before stack) before
 
 come_from : (start : ℕ) (is : List Instr) (stacks : Stacks) (at k : ℕ) (stack : List Kind) → LieFrom start is → BeginsAt is at k
@@ -71,9 +71,15 @@ come_from start (i ∷ is) (before ∷ stacks) at zero stack lie there = rw (fir
 come_from start (i ∷ is) (before ∷ stacks) at (suc k) stack lie there =
     rw (later start i is at k lie there) (ap (λ others. before ∷ others) (come_from (start + i.size) is stacks at k stack lie.2 (below_first i is at k there)))
 
-pub come_there : (is : List Instr) (stacks : Stacks) (at k : ℕ) (stack : List Kind) → AreLaidOut is → BeginsAt is at k
+come_there : (is : List Instr) (stacks : Stacks) (at k : ℕ) (stack : List Kind) → AreLaidOut is → BeginsAt is at k
     → come_to is stacks at stack ≡ set stacks k (joined (get_or stacks k None) stack)
 come_there is stacks at k stack laid there = come_from 0 is stacks at k stack laid.lie there
+
+pub come_read : (is : List Instr) (stacks : Stacks) (at k : ℕ) (stack : List Kind) (before now : Option (List Kind)) → AreLaidOut is → BeginsAt is at k → length stacks ≡ length is
+    → before ≡ get_or stacks k before → now ≡ option_or (arrived before stack) before → come_to is stacks at stack ≡ set stacks k now
+come_read is stacks at k stack before now laid there same read e =
+    let f : before ≡ get_or stacks k None = get_or_read stacks k before (omega (arith, there.within)) read None in
+    come_there is stacks at k stack laid there ∙ ap (λ b. set stacks k (joined b stack)) (sym f) ∙ ap (set stacks k) (sym e)
 
 -- ---- an offset where none begins
 

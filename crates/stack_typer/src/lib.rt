@@ -1,6 +1,7 @@
 //! The kinds of values on the stack before each instruction of a method's code (ECMA-335 III.1.7.5).
 #![tactic(auto)]
 
+mod arrivals;
 mod branches;
 mod calls;
 mod conflicts;
