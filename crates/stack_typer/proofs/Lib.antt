@@ -1,5 +1,6 @@
 pub mod ArrivalLemmas
 pub mod ConflictLemmas
+pub mod FollowLemmas
 pub mod MergeLemmas
 pub mod OffsetLemmas
 pub mod RoomLemmas

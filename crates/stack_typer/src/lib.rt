@@ -5,14 +5,17 @@ mod arrivals;
 mod branches;
 mod calls;
 mod conflicts;
+mod follow;
 mod kind_rules;
 mod kinds;
 mod merging;
 mod offsets;
 mod operands;
 mod operations;
+mod passes;
 mod stack;
 mod successors;
 mod type_instr;
 
 pub use kinds::{Kinds, TypeRefusal};
+pub use passes::type_code;

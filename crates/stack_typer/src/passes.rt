@@ -1,0 +1,93 @@
+//! The typing of a method's code, in passes.
+
+ghost use Rattle.std.specs.Prelude.{◌≡◌, Some, length, slice_get, IfOk, OnOk};
+ghost use Rattle.cil_model.specs.Passes.{KindsOf, HasTypeFault, visited, stack_at, pass, first_stacks};
+ghost use Rattle.stack_typer.specs.Answers.{Leaves, IfFault};
+ghost use Rattle.stack_typer.specs.LaidOut.{AreLaidOut};
+ghost use Rattle.stack_typer.specs.Room.{Tells};
+
+use crate::follow::follow;
+use crate::kinds::{Kinds, TypeRefusal};
+use crate::stack::Stack;
+use crate::type_instr::type_instr;
+use cc_base::Refusal;
+use cil_model::{Instr, Shape, TypeFault};
+use std::alloc::Global;
+
+/// The stacks before the first pass: the first instruction alone is reached, with an empty stack.
+fn first_stacks(alloc: Global, instrs: &[Instr]) -> Result<Vec<Option<Stack>>, TypeRefusal>
+    ensures ok { IfOk result (λ stacks. first_stacks instrs.now ≡ Ok stacks.items) }
+    ensures err { IfFault result (λ fault. first_stacks instrs.now ≡ Err fault) }
+    ensures same_length { IfOk result (λ stacks. length stacks.items ≡ length instrs.now) }
+{
+    if instrs.is_empty() {
+        return Err(Refusal::Bad(TypeFault::FallsOff(0)));
+    }
+    let mut stacks = Vec::with_capacity(alloc, instrs.len())?;
+    stacks.push(Some(Stack::new(alloc)))?;
+    for _ in 1..instrs.len() {
+        stacks.push(None)?;
+    }
+    Ok(stacks)
+}
+
+/// Types an instruction, which has this index, if it is reached, and says whether that changed a stack.
+///
+/// `stack` is room to work in.
+fn visit(
+    alloc: Global,
+    shape: &Shape,
+    instrs: &[Instr],
+    stacks: &mut [Option<Stack>],
+    index: usize,
+    instr: &Instr,
+    stack: &mut Stack,
+) -> Result<bool, TypeRefusal>
+    requires laid_out { AreLaidOut instrs.now }
+    requires same_length { length stacks.old ≡ length instrs.now }
+    requires there { slice_get instrs.now index ≡ Some instr.now }
+    ensures stacks { Leaves result (visited shape.now instrs.now stacks.old instr.now
+        (stack_at instrs.now stacks.old instr.now.at)) stacks.new }
+    ensures told { IfOk result (Tells shape.now.max_stack stacks.old stacks.new) }
+{
+    let Some(before) = &stacks[index] else {
+        return Ok(false);
+    };
+    stack.copy_from(before)?;
+    type_instr(shape, instr, stack)?;
+    follow(alloc, instrs, stacks, index, instr, stack)
+}
+
+/// Types each reached instruction once, in rising order, and says whether that changed a stack.
+///
+/// `stack` is room to work in.
+fn pass(
+    alloc: Global,
+    shape: &Shape,
+    instrs: &[Instr],
+    stacks: &mut [Option<Stack>],
+    stack: &mut Stack,
+) -> Result<bool, TypeRefusal>
+    requires laid_out { AreLaidOut instrs.now }
+    requires same_length { length stacks.old ≡ length instrs.now }
+    ensures stacks { Leaves result (pass shape.now instrs.now stacks.old) stacks.new }
+    ensures told { IfOk result (Tells shape.now.max_stack stacks.old stacks.new) }
+{
+    let mut changed = false;
+    for (index, instr) in instrs.iter().enumerate() {
+        changed |= visit(alloc, shape, instrs, stacks, index, instr, stack)?;
+    }
+    Ok(changed)
+}
+
+/// The kinds on the stack before each instruction, or the first fault of the code.
+pub fn type_code(alloc: Global, instrs: &[Instr], shape: &Shape) -> Result<Kinds, TypeRefusal>
+    requires { AreLaidOut instrs.now }
+    ensures ok { IfOk result (KindsOf shape.now instrs.now) }
+    ensures err { IfFault result (HasTypeFault shape.now instrs.now) }
+{
+    let mut stacks = first_stacks(alloc, instrs)?;
+    let mut stack = Stack::new(alloc);
+    while pass(alloc, shape, instrs, &mut stacks, &mut stack)? {}
+    Ok(Kinds::from_stacks(stacks))
+}
