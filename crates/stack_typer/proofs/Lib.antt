@@ -1,8 +1,10 @@
+pub mod AnswerLemmas
 pub mod ArrivalLemmas
 pub mod ConflictLemmas
 pub mod FollowLemmas
 pub mod MergeLemmas
 pub mod OffsetLemmas
+pub mod PassLemmas
 pub mod RoomLemmas
 pub mod TakeLemmas
 pub mod TurnedLemmas

@@ -34,6 +34,7 @@ fn first_stacks(alloc: Global, instrs: &[Instr]) -> Result<Vec<Option<Stack>>, T
 /// Types an instruction, which has this index, if it is reached, and says whether that changed a stack.
 ///
 /// `stack` is room to work in.
+#[tactic(auto, using(crate::proofs::OffsetLemmas::stack_before))]
 fn visit(
     alloc: Global,
     shape: &Shape,
