@@ -29,10 +29,10 @@ goes_on false offsets next e = (refl, cc)
 pub follow_none : (is : List Instr) (stacks : Stacks) (i : Instr) (stack : List Kind) → next_offset is i ≡ None → follow is stacks i (Ok stack) ≡ Err (FallsOff i.at)
 follow_none is stacks i stack none = by_test (falls_off is i) none
   where
-  by_test : (falls : Bool) → (if falls then None else Some (offset_behind i.op (i.at + i.size))) ≡ None
-      → (if falls then Err (FallsOff i.at) else going_on is stacks (lowest_conflict is stacks stack (successors i.op (i.at + i.size))) stack (successors i.op (i.at + i.size))) ≡ Err (FallsOff i.at)
-  by_test true e = refl
-  by_test false e = absurd (cc)
+    by_test : (falls : Bool) → (if falls then None else Some (offset_behind i.op (i.at + i.size))) ≡ None
+        → (if falls then Err (FallsOff i.at) else going_on is stacks (lowest_conflict is stacks stack (successors i.op (i.at + i.size))) stack (successors i.op (i.at + i.size))) ≡ Err (FallsOff i.at)
+    by_test true e = refl
+    by_test false e = absurd (cc)
 
 -- What it comes to where the code does not end there.
 follow_some : (is : List Instr) (stacks : Stacks) (i : Instr) (stack : List Kind) (next : List ℕ) → next_offset is i ≡ Some next

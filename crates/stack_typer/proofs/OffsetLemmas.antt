@@ -119,9 +119,9 @@ one_begins [] at k there = absurd (omega (arith, there.within))
 one_begins (i ∷ is) at zero there = rw (first_there i is at there) refl
 one_begins (i ∷ is) at (suc k) there = rw (one_begins is at k (below_first i is at k there)) (or_true (i.at == at))
   where
-  or_true : (a : Bool) → (a || true) ≡ true
-  or_true true = refl
-  or_true false = refl
+    or_true : (a : Bool) → (a || true) ≡ true
+    or_true true = refl
+    or_true false = refl
 
 -- ---- the search for an offset
 
@@ -141,11 +141,10 @@ searched is at (Ok k) laid within equal = record { within = within; offset = λ 
 searched is at (Err k) laid within parted =
     let parts = parted (λ j k d le inside. compared_rise _ _ at (not_falling is j k d laid le inside)) in
     none_begins is at (λ n d inside e.
-        elim (cases_lt n k) [
-          | inl below ↦ (let h = ranked _ at _ (sym (parts.0 n d (omega arith) below)) in omega (arith, h, e))
-          | inr above ↦ (let h = ranked _ at _ (sym (parts.1 n d above inside)) in omega (arith, h, e))
-        ])
-
+    elim (cases_lt n k) [
+      | inl below ↦ (let h = ranked _ at _ (sym (parts.0 n d (omega arith) below)) in omega (arith, h, e))
+      | inr above ↦ (let h = ranked _ at _ (sym (parts.1 n d above inside)) in omega (arith, h, e))
+    ])
 
 -- ---- the next instruction
 
@@ -175,8 +174,8 @@ none_next is k i laid here end =
     let within = slice_get_within is k i here in
     let some = rw (get_or_from_slice_get is k i i here) at (has_bytes 0 is k i laid.lie within) in
     none_begins is (i.at + i.size) (λ n d inside same.
-        let low = rw (get_or_from_slice_get is k i d here) at (not_falling is n k d laid (omega arith) within) in
-        omega (arith, low, some, same))
+    let low = rw (get_or_from_slice_get is k i d here) at (not_falling is n k d laid (omega arith) within) in
+    omega (arith, low, some, same))
 
 pub ends_there : (is : List Instr) (k : ℕ) (i : Instr) → AreLaidOut is → slice_get is k ≡ Some i → length is ≤ k + 1 → goes_behind i.op ≡ true
     → next_offset is i ≡ None

@@ -6,6 +6,7 @@ use Rattle.cil_model.specs.declared.instruction.Instr.{Instr}
 use Rattle.cil_model.specs.declared.place.Kind.{Kind}
 use Rattle.cil_model.specs.declared.shape.Shape.{Shape}
 use Rattle.cil_model.specs.declared.type_fault.TypeFault.{TypeFault}
+use Rattle.stack_typer.specs.Brought.{AreBrought}
 
 -- ---- one pass
 
@@ -30,3 +31,25 @@ pub stacks_met : (shape : Shape) (is : List Instr) (first stacks now : Stacks) (
     → pass_over shape is (drop (k + 1) is) (Ok now) ≡ pass shape is first
 stacks_met shape is first stacks now k i within read so_far met =
     ap (pass_over shape is (drop (k + 1) is)) (sym met) ∙ sym (one_more_visited shape is stacks k i within read) ∙ so_far
+
+-- ---- all passes
+
+pub first_brought : (shape : Shape) (is : List Instr) (stacks : Stacks) → first_stacks is ≡ Ok stacks → AreBrought shape is stacks
+first_brought shape is stacks first = record { passes = 0; brought = first }
+
+pub first_at_fault : (shape : Shape) (is : List Instr) (fault : TypeFault) → first_stacks is ≡ Err fault → HasTypeFault shape is fault
+first_at_fault shape is fault first = record { passes = 0; met = first }
+
+pub next_brought : (shape : Shape) (is : List Instr) (before stacks : Stacks) → AreBrought shape is before → pass shape is before ≡ Ok stacks → AreBrought shape is stacks
+next_brought shape is before stacks b next = record { passes = suc b.passes; brought = ap (after_pass shape is) b.brought ∙ next }
+
+pub next_at_fault : (shape : Shape) (is : List Instr) (before : Stacks) (fault : TypeFault) → AreBrought shape is before → pass shape is before ≡ Err fault
+    → HasTypeFault shape is fault
+next_at_fault shape is before fault b next = record { passes = suc b.passes; met = ap (after_pass shape is) b.brought ∙ next }
+
+pub settled : (shape : Shape) (is : List Instr) (before stacks : Stacks) → AreBrought shape is before → pass shape is before ≡ Ok stacks → stacks ≡ before → KindsOf shape is stacks
+settled shape is before stacks b next same = record {
+  passes = suc b.passes;
+  brought = ap (after_pass shape is) b.brought ∙ next;
+  settled = ap (pass shape is) same ∙ next;
+}

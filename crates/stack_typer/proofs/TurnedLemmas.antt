@@ -58,9 +58,9 @@ with_then (Some k) (Some kinds) (Some kind) = refl
 merged-push : (before stack : List Kind) (a b : Kind) → length before ≡ length stack → merged (before ++ a ∷ []) (stack ++ b ∷ []) ≡ then_kind (merged before stack) (merged_kind a b)
 merged-push [] [] a b e = one (merged_kind a b)
   where
-  one : (k : Option Kind) → with_kind k (Some []) ≡ then_kind (Some []) k
-  one None = refl
-  one (Some kind) = refl
+    one : (k : Option Kind) → with_kind k (Some []) ≡ then_kind (Some []) k
+    one None = refl
+    one (Some kind) = refl
 merged-push [] (y ∷ stack) a b e = absurd (omega (arith, e))
 merged-push (x ∷ before) [] a b e = absurd (omega (arith, e))
 merged-push (x ∷ before) (y ∷ stack) a b e =

@@ -12,11 +12,7 @@ use cil_model::Instr;
 use std::alloc::{AllocError, Global};
 
 /// Merges a stack into what came before, where both merge, and says whether that changed anything.
-fn arrive(
-    alloc: Global,
-    before: &mut Option<Stack>,
-    stack: &Stack,
-) -> Result<bool, AllocError>
+fn arrive(alloc: Global, before: &mut Option<Stack>, stack: &Stack) -> Result<bool, AllocError>
     ensures stack { OnOk result (before.new ≡ option_or (arrived before.old stack.now) before.old) }
     ensures same { IfOk result (λ changed. changed ≡ false → before.new ≡ before.old) }
     ensures fewer { (most : ℕ) → length stack.now ≤ most

@@ -12,11 +12,7 @@ use cil_model::Instr;
 
 /// The stack before the instruction at an IL offset, if one came there.
 #[tactic(auto, using(crate::proofs::OffsetLemmas::stack_read, crate::proofs::OffsetLemmas::no_stack_there))]
-fn stack_at<'a>(
-    instrs: &[Instr],
-    stacks: &'a [Option<Stack>],
-    at: u32,
-) -> Option<&'a Stack>
+fn stack_at<'a>(instrs: &[Instr], stacks: &'a [Option<Stack>], at: u32) -> Option<&'a Stack>
     requires laid_out { AreLaidOut instrs.now }
     requires same_length { length stacks.now ≡ length instrs.now }
     ensures { option_copied result ≡ stack_at instrs.now stacks.now at }
@@ -26,12 +22,7 @@ fn stack_at<'a>(
 }
 
 /// The offset, where the stack does not merge with the one there.
-fn conflict_at(
-    instrs: &[Instr],
-    stacks: &[Option<Stack>],
-    stack: &Stack,
-    at: u32,
-) -> Option<u32>
+fn conflict_at(instrs: &[Instr], stacks: &[Option<Stack>], stack: &Stack, at: u32) -> Option<u32>
     requires laid_out { AreLaidOut instrs.now }
     requires same_length { length stacks.now ≡ length instrs.now }
     ensures { result ≡ conflict_at instrs.now stacks.now stack.now at }

@@ -51,7 +51,9 @@ pub fn merge_into(before: &mut [Kind], stack: &[Kind]) -> bool
     }
     let mut changed = false;
     for index in 0..before.len() {
-        if let Some(kind) = merged_kind(before[index], stack[index]) && kind != before[index] {
+        if let Some(kind) = merged_kind(before[index], stack[index])
+            && kind != before[index]
+        {
             before[index] = kind;
             changed = true;
         }

@@ -3,6 +3,7 @@
 ghost use Rattle.std.specs.Prelude.{◌≡◌, Some, length, slice_get, IfOk, OnOk};
 ghost use Rattle.cil_model.specs.Passes.{KindsOf, HasTypeFault, visited, stack_at, pass, first_stacks};
 ghost use Rattle.stack_typer.specs.Answers.{Leaves, IfFault};
+ghost use Rattle.stack_typer.specs.Brought.{AreBrought};
 ghost use Rattle.stack_typer.specs.LaidOut.{AreLaidOut};
 ghost use Rattle.stack_typer.specs.Room.{Tells};
 
@@ -20,12 +21,12 @@ fn first_stacks(alloc: Global, instrs: &[Instr]) -> Result<Vec<Option<Stack>>, T
     ensures err { IfFault result (λ fault. first_stacks instrs.now ≡ Err fault) }
     ensures same_length { IfOk result (λ stacks. length stacks.items ≡ length instrs.now) }
 {
-    if instrs.is_empty() {
+    let [_, others @ ..] = instrs else {
         return Err(Refusal::Bad(TypeFault::FallsOff(0)));
-    }
+    };
     let mut stacks = Vec::with_capacity(alloc, instrs.len())?;
     stacks.push(Some(Stack::new(alloc)))?;
-    for _ in 1..instrs.len() {
+    for _other in others {
         stacks.push(None)?;
     }
     Ok(stacks)
@@ -81,6 +82,24 @@ fn pass(
     Ok(changed)
 }
 
+/// Makes passes until one changes nothing.
+fn settle(
+    alloc: Global,
+    shape: &Shape,
+    instrs: &[Instr],
+    stacks: &mut [Option<Stack>],
+) -> Result<(), TypeRefusal>
+    requires laid_out { AreLaidOut instrs.now }
+    requires same_length { length stacks.old ≡ length instrs.now }
+    requires brought { AreBrought shape.now instrs.now stacks.old }
+    ensures ok { OnOk result (KindsOf shape.now instrs.now stacks.new) }
+    ensures err { IfFault result (HasTypeFault shape.now instrs.now) }
+{
+    let mut stack = Stack::new(alloc);
+    'passes: while pass(alloc, shape, instrs, stacks, &mut stack)? {}
+    Ok(())
+}
+
 /// The kinds on the stack before each instruction, or the first fault of the code.
 pub fn type_code(alloc: Global, instrs: &[Instr], shape: &Shape) -> Result<Kinds, TypeRefusal>
     requires { AreLaidOut instrs.now }
@@ -88,7 +107,6 @@ pub fn type_code(alloc: Global, instrs: &[Instr], shape: &Shape) -> Result<Kinds
     ensures err { IfFault result (HasTypeFault shape.now instrs.now) }
 {
     let mut stacks = first_stacks(alloc, instrs)?;
-    let mut stack = Stack::new(alloc);
-    while pass(alloc, shape, instrs, &mut stacks, &mut stack)? {}
+    settle(alloc, shape, instrs, &mut stacks)?;
     Ok(Kinds::from_stacks(stacks))
 }
