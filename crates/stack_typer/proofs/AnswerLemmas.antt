@@ -1,5 +1,5 @@
 -- What a part refuses, the whole refuses.
-use Rattle.std.proofs.Common.{◌≡◌, Result, Ok, Err, refl}
+use Rattle.std.proofs.Common.{◌≡◌, Result, Ok, Err}
 use Rattle.std.specs.Result.{IsErrAnd}
 use Rattle.cc_base.specs.declared.refusal.Refusal.{Refusal}
 use Rattle.cc_base.specs.declared.refusal.Refusal.TheVariants.{Bad, NoMemory}

@@ -1,7 +1,6 @@
 -- How the stack behind an instruction goes on, by the two parts of its successors.
-use Rattle.std.proofs.Common.{◌≡◌, ℕ, ◌+◌, Bool, true, false, List, [], ◌∷◌, ◌++◌, Option, Some, None, Ok, Err, if◌then◌else◌, refl, sym, ap, ◌∙◌}
-use Rattle.std.proofs.lemmas.List.{append-nil}
-use Rattle.cil_model.specs.Passes.{Stacks, successors, goes_behind, lowest_conflict, come_to_all, going_on, follow}
+use Rattle.std.proofs.Common.{◌≡◌, ℕ, ◌+◌, Bool, true, false, List, ◌++◌, Some, None, Ok, Err, if◌then◌else◌, refl, ap, ◌∙◌}
+use Rattle.cil_model.specs.Passes.{Stacks, successors, lowest_conflict, come_to_all, going_on, follow}
 use Rattle.cil_model.specs.declared.instruction.Instr.{Instr}
 use Rattle.cil_model.specs.declared.instruction.Op.{Op}
 use Rattle.cil_model.specs.declared.instruction.Op.TheVariants as ops

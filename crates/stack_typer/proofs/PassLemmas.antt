@@ -1,9 +1,8 @@
 -- Passes over the code.
-use Rattle.std.proofs.Common.{◌≡◌, ℕ, zero, suc, ◌+◌, ◌<◌, ◌≤◌, List, [], ◌∷◌, length, drop, get_or, Option, Some, None, Result, Ok, Err, refl, sym, ap, ◌∙◌, arith}
+use Rattle.std.proofs.Common.{◌≡◌, ℕ, suc, ◌+◌, ◌<◌, List, [], ◌∷◌, length, drop, get_or, Ok, Err, refl, sym, ap, ◌∙◌}
 use Rattle.std.proofs.lemmas.List.{drop_more}
-use Rattle.cil_model.specs.Passes.{Stacks, stack_at, visited, pass_over, pass, first_stacks, after_pass, after_passes, KindsOf, HasTypeFault}
+use Rattle.cil_model.specs.Passes.{Stacks, stack_at, visited, pass_over, pass, first_stacks, after_pass, KindsOf, HasTypeFault}
 use Rattle.cil_model.specs.declared.instruction.Instr.{Instr}
-use Rattle.cil_model.specs.declared.place.Kind.{Kind}
 use Rattle.cil_model.specs.declared.shape.Shape.{Shape}
 use Rattle.cil_model.specs.declared.type_fault.TypeFault.{TypeFault}
 use Rattle.stack_typer.specs.Brought.{AreBrought}

@@ -1,10 +1,10 @@
 -- Steps that tell whether they changed the stacks.
-use Rattle.std.proofs.Common.{◌≡◌, ℕ, ◌+◌, ◌<◌, ◌≤◌, Bool, true, false, ◌||◌, List, length, get_or, set, Option, refl, sym, ap, ◌∙◌, arith}
+use Rattle.std.proofs.Common.{◌≡◌, ℕ, ◌<◌, Bool, true, false, ◌||◌, List, length, get_or, set, Option, refl, ap, ◌∙◌, arith}
 use Rattle.std.proofs.lemmas.List.{set-get_or}
 use Rattle.std.proofs.lemmas.List.Sums.{sum_by-set}
 use Rattle.cil_model.specs.Passes.{Stacks}
 use Rattle.cil_model.specs.declared.place.Kind.{Kind}
-use Rattle.stack_typer.specs.Room.{changes_left, all_changes_left, Tells}
+use Rattle.stack_typer.specs.Room.{changes_left, Tells}
 
 pub tells_nothing : (most : ℕ) (stacks : Stacks) → Tells most stacks stacks false
 tells_nothing most stacks = record { same = λ e. refl; fewer = λ e. absurd (cc) }

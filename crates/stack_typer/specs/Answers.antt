@@ -1,5 +1,5 @@
 -- What the steps of the typing answer, where memory does not run out.
-use Rattle.std.specs.Prelude.{◌≡◌, List, Result, Ok, Err}
+use Rattle.std.specs.Prelude.{◌≡◌, Result, Ok, Err}
 use Rattle.cc_base.specs.declared.refusal.Refusal.{Refusal}
 use Rattle.cc_base.specs.declared.refusal.Refusal.TheVariants.{Bad, NoMemory}
 use Rattle.cil_model.specs.declared.type_fault.TypeFault.{TypeFault}

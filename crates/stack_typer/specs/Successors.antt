@@ -1,5 +1,5 @@
 -- What may follow an instruction, in the two parts that the code reads: what it names, and what stands next.
-use Rattle.std.specs.Prelude.{ℕ, ◌+◌, Bool, true, false, not, ◌&&◌, List, [], ◌∷◌, Option, Some, None, min, if◌then◌else◌}
+use Rattle.std.specs.Prelude.{ℕ, ◌+◌, Bool, not, ◌&&◌, List, [], ◌∷◌, Option, Some, None, min, if◌then◌else◌}
 use Rattle.cil_model.specs.Passes.{Stacks, goes_behind, begins_at, conflicts}
 use Rattle.cil_model.specs.declared.instruction.Instr.{Instr}
 use Rattle.cil_model.specs.declared.instruction.Op.{Op}

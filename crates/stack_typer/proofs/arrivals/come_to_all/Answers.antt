@@ -1,4 +1,4 @@
-use Rattle.std.proofs.Common.{◌≡◌, ◌∙◌, arith}
+use Rattle.std.proofs.Common.{◌∙◌, arith}
 use Rattle.stack_typer.proofs.ArrivalLemmas.{one_more_comes}
 use Rattle.stack_typer.proofs.RoomLemmas.{tells_both}
 use Rattle.stack_typer.proofs.arrivals.come_to_all.Goals as goal

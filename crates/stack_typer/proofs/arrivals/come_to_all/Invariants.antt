@@ -1,7 +1,6 @@
 use Rattle.std.proofs.Common.{◌≡◌, ℕ, ◌≤◌, length, drop}
 use Rattle.cil_model.specs.Passes.{come_to_all}
 use Rattle.stack_typer.specs.Room.{Tells}
-use Rattle.stack_typer.proofs.RoomLemmas.{tells_nothing, tells_both}
 use Rattle.stack_typer.proofs.arrivals.come_to_all.Given as goal
 
 abbrev pub invariant-loop-at : goal.invariant-loop-at

@@ -1,6 +1,5 @@
 use Rattle.std.proofs.Common.{◌≡◌, take}
 use Rattle.cil_model.specs.Passes.{lowest_conflict}
-use Rattle.stack_typer.proofs.ConflictLemmas.{lowest_conflict-append}
 use Rattle.stack_typer.proofs.conflicts.lowest_conflict.Given as goal
 
 abbrev pub invariant-loop-at : goal.invariant-loop-at

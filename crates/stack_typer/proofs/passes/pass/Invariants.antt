@@ -1,7 +1,6 @@
 use Rattle.std.proofs.Common.{◌≡◌, Ok, length, drop}
 use Rattle.cil_model.specs.Passes.{pass, pass_over}
 use Rattle.stack_typer.specs.Room.{Tells}
-use Rattle.stack_typer.proofs.PassLemmas.{one_more_visited}
 use Rattle.stack_typer.proofs.passes.pass.Given as goal
 
 abbrev pub invariant-loop-index : goal.invariant-loop-index

@@ -1,7 +1,6 @@
 use Rattle.std.proofs.Common.{◌≡◌, length}
 use Rattle.stack_typer.specs.Brought.{AreBrought}
 use Rattle.stack_typer.specs.Room.{all_changes_left}
-use Rattle.stack_typer.proofs.PassLemmas.{next_brought}
 use Rattle.stack_typer.proofs.passes.settle.Given as goal
 
 abbrev pub invariant-passes : goal.invariant-passes
