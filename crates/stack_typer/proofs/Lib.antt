@@ -1,5 +1,6 @@
 pub mod AnswerLemmas
 pub mod ArrivalLemmas
+pub mod CodeLies
 pub mod ConflictLemmas
 pub mod FollowLemmas
 pub mod MergeLemmas
@@ -8,3 +9,4 @@ pub mod PassLemmas
 pub mod RoomLemmas
 pub mod TakeLemmas
 pub mod TurnedLemmas
+pub mod Unique

@@ -123,6 +123,8 @@ one_begins (i ∷ is) at (suc k) there = rw (one_begins is at k (below_first i i
     or_true true = refl
     or_true false = refl
 
+pub ruleset coming = (come_read, none_come_there)
+
 -- ---- the search for an offset
 
 compared_rise : (a b at : ℕ) → a ≤ b → ordering_index (nat_cmp a at) ≤ ordering_index (nat_cmp b at)

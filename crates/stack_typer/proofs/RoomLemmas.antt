@@ -35,4 +35,4 @@ tells_both most a b c true true first second = record {
   fewer = λ e. omega (arith, first.fewer refl, second.fewer refl);
 }
 
-pub ruleset tellings = (tells_nothing, tells_set, tells_both)
+pub ruleset one_step = (tells_nothing, tells_set)

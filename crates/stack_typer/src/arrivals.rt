@@ -9,10 +9,10 @@ ghost use Rattle.stack_typer.specs.Room.{changes_left, Tells};
 use crate::offsets::index_of;
 use crate::stack::Stack;
 use cil_model::Instr;
-use std::alloc::{AllocError, Global};
+use std::alloc::AllocError;
 
 /// Merges a stack into what came before, where both merge, and says whether that changed anything.
-fn arrive(alloc: Global, before: &mut Option<Stack>, stack: &Stack) -> Result<bool, AllocError>
+fn arrive(before: &mut Option<Stack>, stack: &Stack) -> Result<bool, AllocError>
     ensures stack { OnOk result (before.new ≡ option_or (arrived before.old stack.now) before.old) }
     ensures same { IfOk result (λ changed. changed ≡ false → before.new ≡ before.old) }
     ensures fewer { (most : ℕ) → length stack.now ≤ most
@@ -21,16 +21,15 @@ fn arrive(alloc: Global, before: &mut Option<Stack>, stack: &Stack) -> Result<bo
     match before {
         Some(before) => Ok(before.merge(stack)),
         None => {
-            *before = Some(stack.copied(alloc)?);
+            *before = Some(stack.copied()?);
             Ok(true)
         }
     }
 }
 
 /// Brings a stack to the instruction at an IL offset, if there is one, and says whether that changed anything.
-#[tactic(auto, using(crate::proofs::OffsetLemmas::come_read, crate::proofs::OffsetLemmas::none_come_there, crate::proofs::RoomLemmas::tells_nothing, crate::proofs::RoomLemmas::tells_set))]
+#[tactic(auto, using(crate::proofs::OffsetLemmas::coming, crate::proofs::RoomLemmas::one_step))]
 fn come_to(
-    alloc: Global,
     instrs: &[Instr],
     stacks: &mut [Option<Stack>],
     stack: &Stack,
@@ -42,14 +41,13 @@ fn come_to(
     ensures told { (most : ℕ) → length stack.now ≤ most → IfOk result (Tells most stacks.old stacks.new) }
 {
     match index_of(instrs, at) {
-        Some(index) => arrive(alloc, &mut stacks[index], stack),
+        Some(index) => arrive(&mut stacks[index], stack),
         None => Ok(false),
     }
 }
 
 /// Brings a stack to the instructions at the IL offsets, and says whether that changed anything.
 pub fn come_to_all(
-    alloc: Global,
     instrs: &[Instr],
     stacks: &mut [Option<Stack>],
     stack: &Stack,
@@ -62,7 +60,7 @@ pub fn come_to_all(
 {
     let mut changed = false;
     for at in offsets {
-        changed |= come_to(alloc, instrs, stacks, stack, *at)?;
+        changed |= come_to(instrs, stacks, stack, *at)?;
     }
     Ok(changed)
 }

@@ -13,13 +13,11 @@ use crate::stack::Stack;
 use crate::successors::{next_offset, targets};
 use cc_base::Refusal;
 use cil_model::{Instr, TypeFault};
-use std::alloc::Global;
 
 /// Brings the stack behind an instruction, which has this index, to all that may follow, and says whether that
 /// changed anything.
 #[tactic(auto, using(crate::proofs::FollowLemmas::follow_rules))]
 pub fn follow(
-    alloc: Global,
     instrs: &[Instr],
     stacks: &mut [Option<Stack>],
     index: usize,
@@ -41,7 +39,7 @@ pub fn follow(
     if let Some(at) = lower(at_targets, at_next) {
         return Err(Refusal::Bad(TypeFault::Conflict(at)));
     }
-    let by_targets = come_to_all(alloc, instrs, stacks, stack, targets)?;
-    let by_next = come_to_all(alloc, instrs, stacks, stack, next)?;
+    let by_targets = come_to_all(instrs, stacks, stack, targets)?;
+    let by_next = come_to_all(instrs, stacks, stack, next)?;
     Ok(by_targets | by_next)
 }

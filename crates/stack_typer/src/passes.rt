@@ -37,7 +37,6 @@ fn first_stacks(alloc: Global, instrs: &[Instr]) -> Result<Vec<Option<Stack>>, T
 /// `stack` is room to work in.
 #[tactic(auto, using(crate::proofs::OffsetLemmas::stack_before))]
 fn visit(
-    alloc: Global,
     shape: &Shape,
     instrs: &[Instr],
     stacks: &mut [Option<Stack>],
@@ -57,14 +56,13 @@ fn visit(
     };
     stack.copy_from(before)?;
     type_instr(shape, instr, stack)?;
-    follow(alloc, instrs, stacks, index, instr, stack)
+    follow(instrs, stacks, index, instr, stack)
 }
 
 /// Types each reached instruction once, in rising order, and says whether that changed a stack.
 ///
 /// `stack` is room to work in.
 fn pass(
-    alloc: Global,
     shape: &Shape,
     instrs: &[Instr],
     stacks: &mut [Option<Stack>],
@@ -77,7 +75,7 @@ fn pass(
 {
     let mut changed = false;
     for (index, instr) in instrs.iter().enumerate() {
-        changed |= visit(alloc, shape, instrs, stacks, index, instr, stack)?;
+        changed |= visit(shape, instrs, stacks, index, instr, stack)?;
     }
     Ok(changed)
 }
@@ -96,11 +94,28 @@ fn settle(
     ensures err { IfFault result (HasTypeFault shape.now instrs.now) }
 {
     let mut stack = Stack::new(alloc);
-    'passes: while pass(alloc, shape, instrs, stacks, &mut stack)? {}
+    'passes: while pass(shape, instrs, stacks, &mut stack)? {}
     Ok(())
 }
 
-/// The kinds on the stack before each instruction, or the first fault of the code.
+/// The kinds on the stack before each instruction of a method's code, or the first fault of the code
+/// (ECMA-335 III.1.7.5 and III.1.8.1.3).
+///
+/// The instructions lie one after another, as in code that was decoded. A branch may go anywhere: where no
+/// instruction begins, it brings nothing.
+///
+/// # Errors
+///
+/// The first fault that the passes meet, or that memory ran out. At one instruction a missing operand comes first,
+/// then an operand of a wrong kind, then a stack that is too deep, then the end of the code behind it, and last a
+/// conflict at one of its successors, the lowest.
+///
+/// # Cost
+///
+/// A pass visits each reached instruction once. A visit goes over the stack before the instruction once for
+/// itself and twice for each successor, which it finds by halving. It takes memory only for an instruction that
+/// was not reached before. Passes are made until one changes nothing: two for code that only branches forward,
+/// and one more each time that code reached or changed by a backward branch is followed by another such branch.
 pub fn type_code(alloc: Global, instrs: &[Instr], shape: &Shape) -> Result<Kinds, TypeRefusal>
     requires { AreLaidOut instrs.now }
     ensures ok { IfOk result (KindsOf shape.now instrs.now) }

@@ -92,11 +92,11 @@ impl Stack {
     }
 
     /// A stack of its own with the same kinds.
-    pub fn copied(&self, alloc: Global) -> Result<Stack, AllocError>
+    pub fn copied(&self) -> Result<Stack, AllocError>
         ensures { IfOk result (λ stack. stack ≡ self.now) }
     {
         Ok(Stack {
-            kinds: Vec::from_slice(alloc, &self.kinds)?,
+            kinds: self.kinds.clone()?,
         })
     }
 
