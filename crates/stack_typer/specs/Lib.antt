@@ -4,3 +4,4 @@ pub mod Brought
 pub mod LaidOut
 pub mod Room
 pub mod Successors
+pub mod TypedCode
