@@ -1,6 +1,6 @@
 //! What a call does to the stack (ECMA-335 III.3.19).
 
-ghost use Rattle.std.specs.Prelude.{◌≡◌, IfOk, OnOk, slice_get};
+ghost use Rattle.std.specs.Prelude.{◌≡◌, IfOk, OnOk};
 ghost use Rattle.std.specs.Option.{option_copied};
 ghost use Rattle.cil_model.specs.Kinds.{when, pushed_kind, kind_of, behind_condition, behind_callee, behind_old, behind_call};
 

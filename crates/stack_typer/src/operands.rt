@@ -1,8 +1,8 @@
 //! How many values an operation takes from the stack (ECMA-335 III.1.5).
 
-ghost use Rattle.std.specs.Prelude.{◌≡◌, ◌+◌, ◌≤◌, ◌<◌, ◌^◌, length, slice_get};
+ghost use Rattle.std.specs.Prelude.{◌≡◌, slice_get};
 ghost use Rattle.std.specs.Option.{option_copied};
-ghost use Rattle.cil_model.specs.Kinds.{take_each, one_if, result_count, param_count, call_operands, test_operands, operand_count};
+ghost use Rattle.cil_model.specs.Kinds.{take_each, result_count, call_operands, test_operands, operand_count};
 
 use crate::kind_rules::takes;
 use cil_model::{CalleeInfo, Kind, Op, Place, Shape, Test, UnitCall, unit_call};

@@ -112,10 +112,10 @@ fn settle(
 ///
 /// # Cost
 ///
-/// A pass visits each reached instruction once. A visit goes over the stack before the instruction once for
-/// itself and twice for each successor, which it finds by halving. It takes memory only for an instruction that
-/// was not reached before. Passes are made until one changes nothing: two for code that only branches forward,
-/// and one more each time that code reached or changed by a backward branch is followed by another such branch.
+/// A pass visits each reached instruction once. A visit goes over the stack before the instruction, and over the
+/// one before each successor, which it finds by halving. It takes memory for a successor that was not reached
+/// before, and for nothing else. Passes are made until one changes nothing: two for code that only branches
+/// forward, and one more for each backward branch that brings what a pass did not know, where one leads to another.
 pub fn type_code(alloc: Global, instrs: &[Instr], shape: &Shape) -> Result<Kinds, TypeRefusal>
     requires { AreLaidOut instrs.now }
     ensures ok { IfOk result (KindsOf shape.now instrs.now) }

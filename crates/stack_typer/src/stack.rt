@@ -1,6 +1,6 @@
 //! Stacks of kinds.
 
-ghost use Rattle.std.specs.Prelude.{◌≡◌, ◌+◌, ◌<◌, List, [], ◌∷◌, ◌++◌, length, reverse, take, drop, Some, None, IfOk, OnOk, MatchOption, is_some, false, true};
+ghost use Rattle.std.specs.Prelude.{◌≡◌, ◌<◌, [], ◌∷◌, length, reverse, take, drop, Some, IfOk, OnOk, MatchOption, is_some, false, true};
 ghost use Rattle.std.specs.Option.{option_or};
 ghost use Rattle.cil_model.specs.Kinds.{take_each};
 ghost use Rattle.cil_model.specs.Passes.{merged};
@@ -75,7 +75,6 @@ impl Stack {
     }
 
     /// Whether parameters of these places take the topmost values, the last of them the top.
-    #[tactic(auto, using(crate::proofs::TurnedLemmas::top_turned))]
     pub fn fits(&self, places: &[Place]) -> bool
         ensures { result ≡ take_each places.now (reverse (take (length places.now) self.now)) }
     {
@@ -109,7 +108,6 @@ impl Stack {
     }
 
     /// Merges another stack into this one, where they merge, and says whether a kind changed.
-    #[tactic(auto, using(crate::proofs::TurnedLemmas::arrived_turned, crate::proofs::TurnedLemmas::nulls_turned))]
     pub fn merge(&mut self, other: &Stack) -> bool
         ensures stack { Some self.new ≡ option_or (merged self.old other.now) (Some self.old) }
         ensures same { result ≡ false → self.new ≡ self.old }
