@@ -23,3 +23,15 @@ abbrev pub JudgesOrNoMemory : {X F : Type 0} → Result X (Refusal F) → Option
 JudgesOrNoMemory (Ok x) first P = (first ≡ None) × P x
 JudgesOrNoMemory (Err (Bad fault)) first P = first ≡ Some fault
 JudgesOrNoMemory (Err NoMemory) first P = Unit {0}
+
+-- The value is one of which P holds, unless memory ran out.
+abbrev pub GivesOnly : {X F : Type 0} → Result X (Refusal F) → (X → Type 0) → Type 0
+GivesOnly (Ok x) P = P x
+GivesOnly (Err (Bad fault)) P = ⊥
+GivesOnly (Err NoMemory) P = Unit {0}
+
+-- The fault is one of which P holds, unless memory ran out.
+abbrev pub RefusesOnly : {X F : Type 0} → Result X (Refusal F) → (F → Type 0) → Type 0
+RefusesOnly (Ok x) P = ⊥
+RefusesOnly (Err (Bad fault)) P = P fault
+RefusesOnly (Err NoMemory) P = Unit {0}

@@ -5,7 +5,7 @@ use Rattle.std.specs.List.{AllByRecursion, list_all}
 use Rattle.std.proofs.lemmas.Bool.{cases_lt, and_parts}
 use Rattle.std.proofs.lemmas.List.{drop_all, drop_at, drop-drop}
 use Rattle.cc_base.specs.LittleEndian.{IsBytes}
-use Rattle.cc_base.specs.Tests.{first_of, JudgesOrNoMemory}
+use Rattle.cc_base.specs.Tests.{first_of, JudgesOrNoMemory, GivesOnly}
 use Rattle.cc_base.specs.declared.refusal.Refusal.{Refusal}
 use Rattle.cc_base.specs.declared.refusal.Refusal.TheVariants.{Bad, NoMemory}
 use Rattle.cc_base.proofs.ByteLemmas.{IsBytes-from_fits}
@@ -15,7 +15,7 @@ use Rattle.cil_model.specs.Code.{CodeFrom, CodeOf, MeetsStarts, begins_at}
 use Rattle.cil_model.specs.declared.instruction.Instr.{Instr}
 use Rattle.il_decoder.specs.declared.fault.IlFault.{IlFault}
 use Rattle.il_decoder.specs.declared.fault.IlFault.TheVariants.{Target}
-use Rattle.il_decoder.specs.Decodes.{StandsIn, GivesOnly}
+use Rattle.il_decoder.specs.Decodes.{StandsIn}
 use Rattle.il_decoder.specs.Decoding.{decoded, offset_behind, decodings, all_decodings, decoding_test, decoding_tests, instructions, instructions_of, target_test, target_tests, code_tests}
 use Rattle.il_decoder.proofs.Decoded.{decoded_found, decoded_only, stands_reaches}
 use Rattle.il_decoder.proofs.Reading.{decodings-more, decodings-end, one_more}

@@ -54,9 +54,3 @@ abbrev pub Gives : Result Instr (Refusal IlFault) → Result Instr IlFault → T
 Gives (Ok i) decoded = decoded ≡ Ok i
 Gives (Err (Bad fault)) decoded = decoded ≡ Err fault
 Gives (Err NoMemory) decoded = TakesMemory decoded
-
--- What was returned is such an answer, unless memory ran out.
-abbrev pub GivesOnly : {X : Type 0} → Result X (Refusal IlFault) → (X → Type 0) → Type 0
-GivesOnly (Ok x) P = P x
-GivesOnly (Err (Bad fault)) P = ⊥
-GivesOnly (Err NoMemory) P = Unit {0}

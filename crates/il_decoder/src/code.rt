@@ -4,11 +4,10 @@ ghost use Rattle.std.specs.Prelude.{◌≡◌, ⊤, length, IfOk, List};
 ghost use Rattle.std.specs.List.{list_all};
 ghost use Rattle.std.specs.List.Sorted.{IsNonDecreasingBy};
 ghost use Rattle.cc_base.specs.Slices.{IsShort};
-ghost use Rattle.cc_base.specs.Tests.{first_of, Judges, JudgesOrNoMemory};
+ghost use Rattle.cc_base.specs.Tests.{first_of, GivesOnly, Judges, JudgesOrNoMemory};
 ghost use Rattle.cil_model.specs.Blocks.{branch_targets};
 ghost use Rattle.cil_model.specs.Code.{begins_at, CodeOf};
 ghost use Rattle.cil_model.specs.declared.instruction.Instr.{Instr};
-ghost use Rattle.il_decoder.specs.Decodes.{GivesOnly};
 ghost use Rattle.il_decoder.specs.Decoding.{decoding_tests, target_tests, code_tests, instructions_of};
 
 use crate::fault::{IlFault, IlRefusal};

@@ -9,7 +9,7 @@ use Rattle.byteorder.specs.Endian.{little_bytes}
 use Rattle.cc_base.specs.LittleEndian.{IsBytes}
 use Rattle.cc_base.proofs.ByteLemmas.{IsBytes-nil, IsBytes-cons, IsBytes-take, IsBytes-drop, IsBytes-append, IsBytes-little_bytes, IsBytes-from_fits}
 use Rattle.cc_base.proofs.TestLemmas.{ArePassed, none_failed, passed-append}
-use Rattle.cc_base.specs.Tests.{JudgesOrNoMemory}
+use Rattle.cc_base.specs.Tests.{GivesOnly, JudgesOrNoMemory}
 use Rattle.cc_base.specs.declared.refusal.Refusal.{Refusal}
 use Rattle.cc_base.specs.declared.refusal.Refusal.TheVariants.{Bad, NoMemory}
 use Rattle.cil_model.specs.Places.{place_number}
@@ -26,7 +26,7 @@ use Rattle.il_decoder.specs.Decoding.{all_decodings, instructions_of}
 use Rattle.method_unit.specs.Built.{is_built}
 use Rattle.method_unit.specs.Typing.{typing_tests}
 use Rattle.method_unit.specs.UnitFile.{arg_count, max_stack, code_offset, code_of, field_tests, decoding_tests, limit_tests, unit_tests, first_unit_fault, is_printable, unit_of}
-use Rattle.method_unit.specs.UnitSpelling.{unit_bytes, IsBuilt, ReadsOnly}
+use Rattle.method_unit.specs.UnitSpelling.{unit_bytes, IsBuilt}
 use Rattle.method_unit.specs.declared.unit_fault.UnitFault.{UnitFault}
 use Rattle.method_unit.proofs.Passed.{at_most}
 use Rattle.method_unit.proofs.Taken.{FieldsTaken, fields_taken}
@@ -237,11 +237,11 @@ answer_spelled bytes (Ok unit) fits (none, is) = rw is (unit_taken bytes (IsByte
 answer_spelled bytes (Err refusal) fits h = tt
 
 only_this : (unit : MethodUnit) (r : Result MethodUnit (Refusal UnitFault)) → IsBuilt unit
-    → JudgesOrNoMemory r (first_unit_fault (unit_bytes unit)) (λ found. found ≡ unit_of (unit_bytes unit)) → ReadsOnly unit r
+    → JudgesOrNoMemory r (first_unit_fault (unit_bytes unit)) (λ found. found ≡ unit_of (unit_bytes unit)) → GivesOnly r (λ found. found ≡ unit)
 only_this unit (Ok found) built (none, is) = is ∙ (unit_again unit built).1
 only_this unit (Err (Bad fault)) built e = let none = (unit_again unit built).0 in cc
 only_this unit (Err NoMemory) built e = tt
 
 pub answer_only : (bytes : List ℕ) (r : Result MethodUnit (Refusal UnitFault)) (unit : MethodUnit)
-    → JudgesOrNoMemory r (first_unit_fault bytes) (λ found. found ≡ unit_of bytes) → IsBuilt unit → unit_bytes unit ≡ bytes → ReadsOnly unit r
+    → JudgesOrNoMemory r (first_unit_fault bytes) (λ found. found ≡ unit_of bytes) → IsBuilt unit → unit_bytes unit ≡ bytes → GivesOnly r (λ found. found ≡ unit)
 answer_only bytes r unit read built spelled = only_this unit r built (rw spelled read)

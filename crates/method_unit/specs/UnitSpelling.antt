@@ -1,9 +1,7 @@
 -- Units that are built, and the one spelling of each as a file.
-use Rattle.std.specs.Prelude.{◌≡◌, ℕ, ◌+◌, ◌^◌, ◌<◌, ◌≤◌, true, List, [], ◌∷◌, ◌++◌, length, map, Result, Ok, Err, codes}
+use Rattle.std.specs.Prelude.{◌≡◌, ℕ, ◌+◌, ◌^◌, ◌<◌, ◌≤◌, true, List, [], ◌∷◌, ◌++◌, length, map, codes}
 use Rattle.std.specs.List.{AllByRecursion}
 use Rattle.byteorder.specs.Endian.{little_bytes}
-use Rattle.cc_base.specs.declared.refusal.Refusal.{Refusal}
-use Rattle.cc_base.specs.declared.refusal.Refusal.TheVariants as refusals
 use Rattle.cil_model.specs.Limits.{MAX_CODE_BYTES, MAX_INSTRUCTIONS, MAX_VARIABLES}
 use Rattle.cil_model.specs.Places.{place_number}
 use Rattle.cil_model.specs.Code.{CodeOf}
@@ -13,7 +11,6 @@ use Rattle.cil_model.specs.declared.unit.Unit.{Unit as MethodUnit}
 use Rattle.method_unit.specs.Built.{is_built}
 use Rattle.method_unit.specs.Typing.{is_typed}
 use Rattle.method_unit.specs.UnitFile.{is_printable}
-use Rattle.method_unit.specs.declared.unit_fault.UnitFault.{UnitFault}
 
 -- A list of places: their number, and a byte for each.
 abbrev pub spelled_places : List Place → List ℕ
@@ -43,9 +40,3 @@ pub record IsBuilt (unit : MethodUnit) : Type 0 where
   pub few : length unit.instrs ≤ MAX_INSTRUCTIONS
   pub instructions : AllByRecursion (λ i. is_built i.op ≡ true) unit.instrs
   pub typed : is_typed (length unit.args) unit.max_stack 0 unit.instrs ≡ true
-
--- What was returned is this unit, unless memory ran out.
-abbrev pub ReadsOnly : MethodUnit → Result MethodUnit (Refusal UnitFault) → Type 0
-ReadsOnly unit (Ok found) = found ≡ unit
-ReadsOnly unit (Err (refusals.Bad fault)) = ⊥
-ReadsOnly unit (Err refusals.NoMemory) = Unit {0}

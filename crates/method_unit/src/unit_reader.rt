@@ -2,11 +2,11 @@
 
 ghost use Rattle.std.specs.Prelude.{◌≡◌, List, IfOk, Err, Some, None, replicate};
 ghost use Rattle.cc_base.specs.LittleEndian.{IsBytes};
-ghost use Rattle.cc_base.specs.Tests.{JudgesOrNoMemory};
+ghost use Rattle.cc_base.specs.Tests.{GivesOnly, JudgesOrNoMemory};
 ghost use Rattle.cc_base.specs.declared.refusal.Refusal.TheVariants.{Bad};
 ghost use Rattle.cil_model.specs.declared.unit.Unit.{Unit as MethodUnit};
 ghost use Rattle.method_unit.specs.UnitFile.{unit_with, unit_of, first_unit_fault};
-ghost use Rattle.method_unit.specs.UnitSpelling.{IsBuilt, unit_bytes, ReadsOnly};
+ghost use Rattle.method_unit.specs.UnitSpelling.{IsBuilt, unit_bytes};
 ghost use Rattle.method_unit.specs.declared.unit_fault.UnitFault.{UnitFault};
 
 use crate::typing::check_typing;
@@ -64,7 +64,7 @@ pub fn read_unit(alloc: Global, bytes: &[u8]) -> Result<Unit, UnitRefusal>
     ensures built { IfOk result IsBuilt }
     ensures spelled { IfOk result (λ unit. unit_bytes unit ≡ bytes.now) }
     // A built unit that is spelled so is read, unless memory runs out.
-    ensures only { (unit : MethodUnit) → IsBuilt unit → unit_bytes unit ≡ bytes.now → ReadsOnly unit result }
+    ensures only { (unit : MethodUnit) → IsBuilt unit → unit_bytes unit ≡ bytes.now → GivesOnly result (λ found. found ≡ unit) }
     // The spelling of a built unit is a list of bytes, and that of no other one.
     ensures bytes { (unit : MethodUnit) → IsBuilt unit → IsBytes (unit_bytes unit) }
     ensures one { (a b : MethodUnit) → IsBuilt a → IsBuilt b → unit_bytes a ≡ unit_bytes b → a ≡ b }

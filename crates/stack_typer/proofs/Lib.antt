@@ -1,0 +1,16 @@
+pub mod AnswerLemmas
+pub mod Answered
+pub mod ArrivalLemmas
+pub mod CodeLies
+pub mod ConflictLemmas
+pub mod Falling
+pub mod FollowLemmas
+pub mod Lengths
+pub mod MergeLemmas
+pub mod OffsetLemmas
+pub mod PassLemmas
+pub mod RoomLemmas
+pub mod StepParts
+pub mod TakeLemmas
+pub mod TurnedLemmas
+pub mod Unique

@@ -1,0 +1,6 @@
+pub mod Answers
+pub mod Arrays
+pub mod Brought
+pub mod LaidOut
+pub mod Room
+pub mod Successors

@@ -1,0 +1,21 @@
+//! The kinds of values on the stack before each instruction of a method's code (ECMA-335 III.1.7.5).
+#![tactic(auto)]
+
+mod arrivals;
+mod branches;
+mod calls;
+mod conflicts;
+mod follow;
+mod kind_rules;
+mod kinds;
+mod merging;
+mod offsets;
+mod operands;
+mod operations;
+mod passes;
+mod stack;
+mod successors;
+mod type_instr;
+
+pub use kinds::{Kinds, TypeRefusal};
+pub use passes::type_code;

@@ -1,0 +1,62 @@
+//! What comes of two stacks that meet at an instruction (ECMA-335 III.1.8.1.3).
+
+ghost use Rattle.std.specs.Prelude.{◌≡◌, ◌<◌, Some, is_some, false, true};
+ghost use Rattle.std.specs.Option.{option_or};
+ghost use Rattle.cil_model.specs.Passes.{merged_kind, merged};
+ghost use Rattle.stack_typer.specs.Room.{nulls};
+
+use cil_model::Kind;
+
+/// What two kinds merge to: a kind with itself to itself, and null with an array to the array.
+fn merged_kind(a: Kind, b: Kind) -> Option<Kind>
+    ensures { result ≡ merged_kind a b }
+{
+    match (a, b) {
+        (Kind::Int, Kind::Int) => Some(Kind::Int),
+        (Kind::Native, Kind::Native) => Some(Kind::Native),
+        (Kind::Text, Kind::Text) => Some(Kind::Text),
+        (Kind::NullRef, Kind::NullRef) => Some(Kind::NullRef),
+        (Kind::Ints, Kind::Ints | Kind::NullRef) | (Kind::NullRef, Kind::Ints) => Some(Kind::Ints),
+        (Kind::Bools, Kind::Bools | Kind::NullRef) | (Kind::NullRef, Kind::Bools) => {
+            Some(Kind::Bools)
+        }
+        _ => None,
+    }
+}
+
+/// Whether each kind merges with the one at its place.
+#[tactic(auto, using(crate::proofs::MergeLemmas::merges_rules))]
+pub fn merges(before: &[Kind], stack: &[Kind]) -> bool
+    ensures { result ≡ is_some (merged before.now stack.now) }
+{
+    if before.len() != stack.len() {
+        return false;
+    }
+    for index in 0..before.len() {
+        if merged_kind(before[index], stack[index]).is_none() {
+            return false;
+        }
+    }
+    true
+}
+
+/// Merges each kind with the one at its place, where all merge, and says whether one changed.
+pub fn merge_into(before: &mut [Kind], stack: &[Kind]) -> bool
+    ensures stack { Some before.new ≡ option_or (merged before.old stack.now) (Some before.old) }
+    ensures same { result ≡ false → before.new ≡ before.old }
+    ensures fewer { result ≡ true → nulls before.new < nulls before.old }
+{
+    if !merges(before, stack) {
+        return false;
+    }
+    let mut changed = false;
+    for index in 0..before.len() {
+        if let Some(kind) = merged_kind(before[index], stack[index])
+            && kind != before[index]
+        {
+            before[index] = kind;
+            changed = true;
+        }
+    }
+    changed
+}
