@@ -78,8 +78,14 @@ load_of_another_type = refl
 
 -- ---- stelem: the value is the top, and the index stands below it
 
-item_is_stored : Does (ops.StoreElem Ints) (Int (pos 9) ∷ Int (pos 1) ∷ Array 0 ∷ []) (on [] (ints (pos 5 ∷ pos 9 ∷ []) ∷ bools (pos 1 ∷ []) ∷ []))
+item_is_stored : Does (ops.StoreElem Ints) (Int (pos 258) ∷ Int (pos 1) ∷ Array 0 ∷ []) (on [] (ints (pos 5 ∷ pos 258 ∷ []) ∷ bools (pos 1 ∷ []) ∷ []))
 item_is_stored = refl
+
+bool_is_stored : Does (ops.StoreElem Bools) (Int (pos 258) ∷ Int (pos 0) ∷ Array 1 ∷ []) (on [] (ints (pos 5 ∷ pos 6 ∷ []) ∷ bools (pos 2 ∷ []) ∷ []))
+bool_is_stored = refl
+
+store_to_another_type : Does (ops.StoreElem Ints) (Int (pos 0) ∷ Int (pos 0) ∷ Array 1 ∷ []) []
+store_to_another_type = refl
 
 null_takes_no_item : Does (ops.StoreElem Ints) (Int (pos 9) ∷ Int (negsuc 0) ∷ Null ∷ []) (Faults faults.NullUse ∷ [])
 null_takes_no_item = refl

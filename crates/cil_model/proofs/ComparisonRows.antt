@@ -16,11 +16,17 @@ others_are_not_equal = refl
 equal_is_at_least : compares Ge (pos 2) (pos 2) ≡ true
 equal_is_at_least = refl
 
+zero_is_at_least_minus_one : compares Ge (pos 0) (negsuc 0) ≡ true
+zero_is_at_least_minus_one = refl
+
 minus_one_is_not_at_least_0 : compares Ge (negsuc 0) (pos 0) ≡ false
 minus_one_is_not_at_least_0 = refl
 
 equal_is_not_greater : compares Gt (pos 2) (pos 2) ≡ false
 equal_is_not_greater = refl
+
+minus_one_is_not_greater_than_0 : compares Gt (negsuc 0) (pos 0) ≡ false
+minus_one_is_not_greater_than_0 = refl
 
 zero_is_greater_than_minus_one : compares Gt (pos 0) (negsuc 0) ≡ true
 zero_is_greater_than_minus_one = refl
@@ -28,11 +34,17 @@ zero_is_greater_than_minus_one = refl
 equal_is_at_most : compares Le (pos 2) (pos 2) ≡ true
 equal_is_at_most = refl
 
+minus_one_is_at_most_0 : compares Le (negsuc 0) (pos 0) ≡ true
+minus_one_is_at_most_0 = refl
+
 zero_is_not_at_most_minus_one : compares Le (pos 0) (negsuc 0) ≡ false
 zero_is_not_at_most_minus_one = refl
 
 equal_is_not_less : compares Lt (pos 2) (pos 2) ≡ false
 equal_is_not_less = refl
+
+zero_is_not_less_than_minus_one : compares Lt (pos 0) (negsuc 0) ≡ false
+zero_is_not_less_than_minus_one = refl
 
 minus_one_is_less_than_0 : compares Lt (negsuc 0) (pos 0) ≡ true
 minus_one_is_less_than_0 = refl
@@ -57,11 +69,17 @@ zero_is_not_at_least_minus_one_without_sign = refl
 equal_is_at_most_without_sign : compares LeUn (pos 2) (pos 2) ≡ true
 equal_is_at_most_without_sign = refl
 
+zero_is_at_most_minus_one_without_sign : compares LeUn (pos 0) (negsuc 0) ≡ true
+zero_is_at_most_minus_one_without_sign = refl
+
 minus_one_is_not_at_most_0_without_sign : compares LeUn (negsuc 0) (pos 0) ≡ false
 minus_one_is_not_at_most_0_without_sign = refl
 
 equal_is_not_greater_without_sign : compares GtUn (pos 2) (pos 2) ≡ false
 equal_is_not_greater_without_sign = refl
+
+zero_is_not_greater_than_minus_one_without_sign : compares GtUn (pos 0) (negsuc 0) ≡ false
+zero_is_not_greater_than_minus_one_without_sign = refl
 
 minus_one_is_greater_than_0_without_sign : compares GtUn (negsuc 0) (pos 0) ≡ true
 minus_one_is_greater_than_0_without_sign = refl

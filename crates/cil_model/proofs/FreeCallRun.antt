@@ -44,6 +44,10 @@ eight_is_not_given : Gives seven [] [] (Int (pos 8) ∷ []) [] → ⊥
 unfolding value_of
 eight_is_not_given gives = let free = allows_value seven [] [] [] refl [] (Int (pos 8)) refl gives in some_is_none 1 free.ensured
 
+-- It gives a value.
+nothing_is_not_given : Gives seven [] [] [] [] → ⊥
+nothing_is_not_given gives = (allows_nothing seven [] [] [] refl [] refl gives).fits
+
 -- It may also not come back.
 seven_may_end : Leads seven [] [] NoRoom
 seven_may_end = may_end seven [] [] [] refl refl
@@ -108,6 +112,24 @@ other_array_stays : Gives changes passed heap [] (ints_of (pos 5 ∷ []) ∷ int
 other_array_stays gives =
     let free = allows_nothing changes passed passed heap refl _ refl gives in
     let eight_is_seven = same_item 8 7 (free.keeps.items 1 (omega arith) second_is_not_passed) in omega arith
+
+-- A void result is no value.
+no_value_is_given : Gives changes passed heap (Int (pos 0) ∷ []) heap → ⊥
+no_value_is_given gives = (allows_value changes passed passed heap refl heap (Int (pos 0)) refl gives).fits
+
+-- No array goes.
+arrays_stay : Gives changes passed heap [] (ints_of (pos 5 ∷ []) ∷ []) → ⊥
+arrays_stay gives = (allows_nothing changes passed passed heap refl _ refl gives).keeps.forms.2
+
+-- The passed one keeps its type, whatever it holds.
+type_stays : Gives changes passed heap [] (record { place = places.Bools; items = pos 5 ∷ [] } ∷ ints_of (pos 7 ∷ []) ∷ []) → ⊥
+type_stays gives = let same : places.Bools ≡ places.Ints = (allows_nothing changes passed passed heap refl _ refl gives).keeps.forms.0 in cc
+
+-- What it holds are items of its type.
+items_are_int32 : Gives changes passed heap [] (ints_of (pos 2147483648 ∷ []) ∷ ints_of (pos 7 ∷ []) ∷ []) → ⊥
+items_are_int32 gives =
+    let free = allows_nothing changes passed passed heap refl _ refl gives in
+    let fits : FitsSigned w32 (pos 2147483648) = free.heap_is.0.0.0 in omega (arith, ints)
 
 -- The passed one keeps its length.
 length_stays : Gives changes passed heap [] (ints_of (pos 5 ∷ pos 5 ∷ []) ∷ ints_of (pos 7 ∷ []) ∷ []) → ⊥

@@ -12,6 +12,7 @@ pub mod ComparisonRows
 pub mod ConflictRows
 pub mod EffectsFit
 pub mod EffectsKeep
+pub mod CalleeRows
 pub mod CallsDefined
 pub mod Forms
 pub mod Rows
@@ -31,6 +32,8 @@ pub mod OldValueRun
 pub mod Options
 pub mod OverflowRun
 pub mod PairRun
+pub mod PlaceRows
+pub mod PushRows
 pub mod RoomRun
 pub mod Running
 pub mod SmallRuns

@@ -15,14 +15,17 @@ use Rattle.cil_model.specs.declared.place.Place.TheVariants as places
 use Rattle.cil_model.specs.declared.shape.Shape.{Shape}
 use Rattle.cil_model.specs.declared.type_fault.TypeFault.TheVariants.{Underflow, WrongKind}
 
--- int[] M(int[] a, bool b) with a local of bool, which calls void F(int[] a, bool b).
+-- A method with an argument of each type, a local of bool and a result of int32[], which calls three others.
 abbrev shape : Shape
 shape = record {
   result = places.Ints;
-  args = places.Ints ∷ places.Bool ∷ [];
+  args = places.Ints ∷ places.Bool ∷ places.Int ∷ places.Bools ∷ [];
   locals = places.Bool ∷ [];
   max_stack = 8;
-  callees = record { name = codes "Demo.Calc::F"; result = places.Void; args = places.Ints ∷ places.Bool ∷ []; clauses = [] } ∷ [];
+  callees =
+      record { name = codes "Demo.Calc::F"; result = places.Void; args = places.Ints ∷ places.Bool ∷ []; clauses = [] }
+      ∷ record { name = codes "Demo.Calc::G"; result = places.Bool; args = []; clauses = [] }
+      ∷ record { name = codes "Demo.Calc::H"; result = places.Bools; args = []; clauses = [] } ∷ [];
 }
 
 -- The operation as an instruction.
@@ -164,6 +167,93 @@ old_bool = refl
 old_array_of_another_type : Refuses (Call 23) (Ints ∷ [])
 unfolding unit_call
 old_array_of_another_type = refl
+
+-- ---- places
+
+ints_are_loaded : Leaves (LoadArg 0) [] (Ints ∷ [])
+ints_are_loaded = refl
+
+bool_is_loaded : Leaves (LoadArg 1) [] (Int ∷ [])
+bool_is_loaded = refl
+
+int_is_loaded : Leaves (LoadArg 2) [] (Int ∷ [])
+int_is_loaded = refl
+
+bools_are_loaded : Leaves (LoadArg 3) [] (Bools ∷ [])
+bools_are_loaded = refl
+
+no_more_are : Refuses (LoadArg 4) []
+no_more_are = refl
+
+ints_are_stored : Leaves (StoreArg 0) (Ints ∷ []) []
+ints_are_stored = refl
+
+bool_is_stored : Leaves (StoreArg 1) (Int ∷ []) []
+bool_is_stored = refl
+
+int_is_stored : Leaves (StoreArg 2) (Int ∷ []) []
+int_is_stored = refl
+
+bools_are_stored : Leaves (StoreArg 3) (Bools ∷ []) []
+bools_are_stored = refl
+
+null_is_stored_as_bools : Leaves (StoreArg 3) (NullRef ∷ []) []
+null_is_stored_as_bools = refl
+
+bools_are_no_ints : Refuses (StoreArg 0) (Bools ∷ [])
+bools_are_no_ints = refl
+
+ints_are_no_bools : Refuses (StoreArg 3) (Ints ∷ [])
+ints_are_no_bools = refl
+
+null_is_no_number : Refuses (StoreArg 2) (NullRef ∷ [])
+null_is_no_number = refl
+
+bools_have_a_length : Leaves Length (Bools ∷ []) (Native ∷ [])
+bools_have_a_length = refl
+
+numbers_have_none : Refuses Length (Int ∷ [])
+numbers_have_none = refl
+
+item_of_ints : Leaves (LoadElem places.Ints) (Int ∷ Ints ∷ []) (Int ∷ [])
+item_of_ints = refl
+
+item_of_bools : Leaves (LoadElem places.Bools) (Int ∷ Bools ∷ []) (Int ∷ [])
+item_of_bools = refl
+
+item_of_the_other_type : Refuses (LoadElem places.Ints) (Int ∷ Bools ∷ [])
+item_of_the_other_type = refl
+
+item_to_bools : Leaves (StoreElem places.Bools) (Int ∷ Int ∷ Bools ∷ []) []
+item_to_bools = refl
+
+item_to_the_other_type : Refuses (StoreElem places.Bools) (Int ∷ Int ∷ Ints ∷ [])
+item_to_the_other_type = refl
+
+array_is_returned : Leaves Return (Ints ∷ []) []
+array_is_returned = refl
+
+other_array_is_not : Refuses Return (Bools ∷ [])
+other_array_is_not = refl
+
+-- Nothing is pushed of void.
+void_is_returned : typed (record shape { result = places.Void }) (instr Return) [] ≡ Ok []
+void_is_returned = refl
+
+void_is_no_value : typed (record shape { result = places.Void }) (instr Return) (Int ∷ []) ≡ Err (WrongKind 4)
+void_is_no_value = refl
+
+bool_comes_of_a_call : Leaves (Call 101) (Text ∷ []) (Int ∷ Text ∷ [])
+unfolding unit_call
+bool_comes_of_a_call = refl
+
+bools_come_of_a_call : Leaves (Call 102) [] (Bools ∷ [])
+unfolding unit_call
+bools_come_of_a_call = refl
+
+no_such_callee : Refuses (Call 103) []
+unfolding unit_call
+no_such_callee = refl
 
 -- ---- messages
 
@@ -322,9 +412,6 @@ array_result : Leaves (Call 14) [] (Ints ∷ [])
 unfolding unit_call
 array_result = refl
 
-argument_is_loaded : Leaves (LoadArg 0) [] (Ints ∷ [])
-argument_is_loaded = refl
-
 local_is_loaded : Leaves (LoadLocal 0) [] (Int ∷ [])
 local_is_loaded = refl
 
@@ -352,11 +439,12 @@ no_array_of_that = refl
 
 -- ---- merging
 
-null_merges : merged (NullRef ∷ Ints ∷ []) (Bools ∷ NullRef ∷ []) ≡ Some (Bools ∷ Ints ∷ [])
-null_merges = refl
-
-messages_merge : merged (Text ∷ []) (Text ∷ []) ≡ Some (Text ∷ [])
-messages_merge = refl
+-- A kind with itself, and null with an array.
+all_that_merge :
+    merged (Int ∷ Native ∷ Ints ∷ Bools ∷ NullRef ∷ Text ∷ Ints ∷ Bools ∷ NullRef ∷ NullRef ∷ [])
+    (Int ∷ Native ∷ Ints ∷ Bools ∷ NullRef ∷ Text ∷ NullRef ∷ NullRef ∷ Ints ∷ Bools ∷ [])
+    ≡ Some (Int ∷ Native ∷ Ints ∷ Bools ∷ NullRef ∷ Text ∷ Ints ∷ Bools ∷ Ints ∷ Bools ∷ [])
+all_that_merge = refl
 
 arrays_do_not : merged (Ints ∷ []) (Bools ∷ []) ≡ None
 arrays_do_not = refl
@@ -364,5 +452,15 @@ arrays_do_not = refl
 lengths_do_not : merged (Native ∷ []) (Int ∷ []) ≡ None
 lengths_do_not = refl
 
+null_and_number_do_not : merged (NullRef ∷ []) (Int ∷ []) ≡ None
+null_and_number_do_not = refl
+
 heights_do_not : merged (Int ∷ []) [] ≡ None
 heights_do_not = refl
+
+other_heights_do_not : merged [] (Int ∷ []) ≡ None
+other_heights_do_not = refl
+
+-- One that does not merge is enough, wherever it stands.
+below_the_top : merged (Int ∷ Ints ∷ []) (Int ∷ Bools ∷ []) ≡ None
+below_the_top = refl
