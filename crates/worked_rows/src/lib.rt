@@ -51,6 +51,8 @@ mod signature_rows;
 #[cfg(test)]
 mod table_rows;
 #[cfg(test)]
+mod typing_rows;
+#[cfg(test)]
 mod unit_refusals;
 #[cfg(test)]
 mod unit_reports;
