@@ -40,6 +40,7 @@ pub mod SmallRuns
 pub mod StepKinds
 pub mod StepsFit
 pub mod StepsKeep
+pub mod StuckRun
 pub mod SumKinds
 pub mod SumRun
 pub mod SumUnit

@@ -1,7 +1,7 @@
 -- What places take and hold, and what values are.
 use Rattle.std.proofs.Common.{◌≡◌, pos, negsuc, [], ◌∷◌, Some, None, refl, arith}
 use Rattle.std.proofs.lemmas.Int.{ints}
-use Rattle.cil_model.specs.Calls.{FitsResult}
+use Rattle.cil_model.specs.Calls.{FitsResult, args_of, result_of}
 use Rattle.cil_model.specs.Values.{Heap, FitPlaces, FitsPlace, IsArray, IsValue, put, put_all, zero_of}
 use Rattle.cil_model.specs.declared.machine.Value.TheVariants.{Int, Native, Null, Array}
 use Rattle.cil_model.specs.declared.place.Place.TheVariants as places
@@ -92,6 +92,15 @@ int_holds_no_more fits = omega (arith, ints)
 bools_hold_null : FitsPlace heap places.Bools Null
 bools_hold_null = tt
 
+bools_hold_their_array : FitsPlace heap places.Bools (Array 1)
+bools_hold_their_array = refl
+
+bools_hold_no_other : FitsPlace heap places.Bools (Array 0) → ⊥
+bools_hold_no_other has = cc
+
+ints_hold_null : FitsPlace heap places.Ints Null
+ints_hold_null = tt
+
 ints_hold_their_array : FitsPlace heap places.Ints (Array 0)
 ints_hold_their_array = refl
 
@@ -109,6 +118,32 @@ one_value_is_missing fit = fit
 
 one_value_is_too_many : FitPlaces heap [] (Null ∷ []) → ⊥
 one_value_is_too_many fit = fit
+
+-- ---- what calls and returns take from the stack
+
+last_is_the_top : args_of heap (places.Int ∷ places.Bool ∷ []) (Int (pos 513) ∷ Int (pos 7) ∷ Int (pos 9) ∷ []) ≡ Some (Int (pos 7) ∷ Int (pos 1) ∷ [])
+last_is_the_top = refl
+
+argument_is_missing : args_of heap (places.Int ∷ places.Bool ∷ []) (Int (pos 513) ∷ []) ≡ None
+argument_is_missing = refl
+
+result_is_put : result_of heap places.Bool (Int (pos 513) ∷ []) ≡ Some (Some (Int (pos 1)))
+result_is_put = refl
+
+void_is_returned : result_of heap places.Void [] ≡ Some None
+void_is_returned = refl
+
+value_is_not_void : result_of heap places.Void (Int (pos 0) ∷ []) ≡ None
+value_is_not_void = refl
+
+result_is_missing : result_of heap places.Int [] ≡ None
+result_is_missing = refl
+
+result_stands_alone : result_of heap places.Int (Int (pos 0) ∷ Int (pos 0) ∷ []) ≡ None
+result_stands_alone = refl
+
+result_of_another_type : result_of heap places.Ints (Array 1 ∷ []) ≡ None
+result_of_another_type = refl
 
 -- ---- what results are
 

@@ -111,6 +111,15 @@ arrays_of_two_types = refl
 array_and_number : Refuses (Bin operators.Ceq) (Int ∷ Ints ∷ [])
 array_and_number = refl
 
+null_and_number : Refuses (Bin operators.Ceq) (Int ∷ NullRef ∷ [])
+null_and_number = refl
+
+number_and_null : Refuses (Bin operators.Ceq) (NullRef ∷ Int ∷ [])
+number_and_null = refl
+
+null_and_message : Refuses (Branch (Cmp comparisons.Eq) 9) (Text ∷ NullRef ∷ [])
+null_and_message = refl
+
 -- Null is the second operand here, and pushed alone.
 array_above_null : Leaves (Bin operators.CgtUn) (NullRef ∷ Ints ∷ []) (Int ∷ [])
 array_above_null = refl
