@@ -49,6 +49,8 @@ mod root_rows;
 #[cfg(test)]
 mod signature_rows;
 #[cfg(test)]
+mod steps;
+#[cfg(test)]
 mod table_rows;
 #[cfg(test)]
 mod typing_rows;

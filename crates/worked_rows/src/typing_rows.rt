@@ -3,40 +3,13 @@
 //! Each instruction has one byte, so that an IL offset is the index of an instruction. Expected values were worked
 //! out by hand from the rules of ECMA-335 III.1.5, III.1.7.5 and III.1.8.1.
 
+use crate::steps::{Step, code, shape};
 use cc_base::Refusal;
-use cil_model::{BinOp, CalleeInfo, CmpOp, Instr, Kind, List, Op, Place, Shape, Test, TypeFault};
+use cil_model::{BinOp, CmpOp, Kind, Place, Test, TypeFault};
 use stack_typer::type_code;
 use std::alloc::{AllocError, Global};
 use std::process::Abort;
 use std::test::Fail;
-
-/// An operation in a table.
-#[derive(Clone, Copy)]
-enum Step {
-    Nop,
-    LoadArg(u16),
-    StoreArg(u16),
-    LoadLocal(u16),
-    StoreLocal(u16),
-    Null,
-    Const(i32),
-    Dup,
-    Pop,
-    Call(u32),
-    Return,
-    Goto(u32),
-    Branch(Test, u32),
-    Switch(&'static [u32]),
-    Bin(BinOp),
-    Neg,
-    Not,
-    ConvI4,
-    Text,
-    NewArray(u32),
-    Length,
-    LoadElem(Place),
-    StoreElem(Place),
-}
 
 /// Code that has no fault, with the kinds on the stack before one instruction, the bottom first, or none.
 struct Typed {
@@ -738,73 +711,6 @@ const FAULTY: [Faulty; 54] = [
         fault: TypeFault::WrongKind(3),
     },
 ];
-
-fn op(alloc: Global, step: Step) -> Result<Op, AllocError> {
-    Ok(match step {
-        Step::Nop => Op::Nop,
-        Step::LoadArg(number) => Op::LoadArg(number),
-        Step::StoreArg(number) => Op::StoreArg(number),
-        Step::LoadLocal(number) => Op::LoadLocal(number),
-        Step::StoreLocal(number) => Op::StoreLocal(number),
-        Step::Null => Op::Null,
-        Step::Const(number) => Op::Const(number),
-        Step::Dup => Op::Dup,
-        Step::Pop => Op::Pop,
-        Step::Call(number) => Op::Call(number),
-        Step::Return => Op::Return,
-        Step::Goto(at) => Op::Branch(Test::Always, at),
-        Step::Branch(test, at) => Op::Branch(test, at),
-        Step::Switch(targets) => Op::Switch(List::from_vec(Vec::from_slice(alloc, targets)?)),
-        Step::Bin(operator) => Op::Bin(operator),
-        Step::Neg => Op::Neg,
-        Step::Not => Op::Not,
-        Step::ConvI4 => Op::ConvI4,
-        Step::Text => Op::Text(0x7000_0001),
-        Step::NewArray(number) => Op::NewArray(number),
-        Step::Length => Op::Length,
-        Step::LoadElem(place) => Op::LoadElem(place),
-        Step::StoreElem(place) => Op::StoreElem(place),
-    })
-}
-
-fn code(alloc: Global, steps: &[Step]) -> Result<Vec<Instr>, AllocError> {
-    let mut instrs = Vec::new(alloc);
-    for (index, step) in steps.iter().enumerate() {
-        let at = index as u32;
-        instrs.push(Instr {
-            at,
-            size: 1,
-            op: op(alloc, *step)?,
-        })?;
-    }
-    Ok(instrs)
-}
-
-fn places(alloc: Global, places: &[Place]) -> Result<List<Place>, AllocError> {
-    Ok(List::from_vec(Vec::from_slice(alloc, places)?))
-}
-
-fn callee(alloc: Global, result_place: Place, args: &[Place]) -> Result<CalleeInfo, AllocError> {
-    Ok(CalleeInfo {
-        name: List::from_vec(Vec::new(alloc)),
-        result: result_place,
-        args: places(alloc, args)?,
-        clauses: List::from_vec(Vec::new(alloc)),
-    })
-}
-
-/// Arguments int32, int32[], bool[] and bool; locals int32 and int32[]; callees f and g.
-fn shape(alloc: Global, result_place: Place, max_stack: u16) -> Result<Shape, AllocError> {
-    let f = callee(alloc, Place::Bools, &[Place::Int, Place::Ints])?;
-    let g = callee(alloc, Place::Void, &[])?;
-    Ok(Shape {
-        result: result_place,
-        args: places(alloc, &[Place::Int, Place::Ints, Place::Bools, Place::Bool])?,
-        locals: places(alloc, &[Place::Int, Place::Ints])?,
-        max_stack,
-        callees: List::from_vec(vec![in alloc; f, g]?),
-    })
-}
 
 fn assert_typed(rt: &impl Abort, alloc: Global, row: &Typed) -> Result<(), AllocError> {
     let instrs = code(alloc, row.code)?;
