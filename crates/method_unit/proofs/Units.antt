@@ -23,6 +23,7 @@ use Rattle.cil_model.specs.declared.place.Place.TheVariants as places
 use Rattle.cil_model.specs.declared.unit.Unit.{Unit as MethodUnit}
 use Rattle.cil_model.proofs.Forms.{spelling_bytes}
 use Rattle.il_decoder.specs.Decoding.{all_decodings, instructions_of}
+use Rattle.il_decoder.proofs.Sequence.{decodings_spell, spelled_decodings}
 use Rattle.method_unit.specs.Built.{is_built}
 use Rattle.method_unit.specs.Typing.{typing_tests}
 use Rattle.method_unit.specs.UnitFile.{arg_count, max_stack, code_offset, code_of, field_tests, decoding_tests, limit_tests, unit_tests, first_unit_fault, is_printable, unit_of}
@@ -31,7 +32,7 @@ use Rattle.method_unit.specs.declared.unit_fault.UnitFault.{UnitFault}
 use Rattle.method_unit.proofs.Passed.{at_most}
 use Rattle.method_unit.proofs.Taken.{FieldsTaken, fields_taken}
 use Rattle.method_unit.proofs.Again.{spelled, FieldsAgain, fields_again}
-use Rattle.method_unit.proofs.Sequence.{IsCode, decodings_spell, spelled_decodings}
+use Rattle.method_unit.proofs.Sequence.{IsCode, found_and_built}
 use Rattle.method_unit.proofs.Typed.{typed}
 
 -- ---- the tests of a unit file
@@ -68,11 +69,15 @@ within_limit base is = (λ passed. (at_most (length is) 4096 _).0 passed.0, λ f
 
 code_taken : (base : ℕ) (code : List ℕ) → IsBytes code → ArePassed (decoding_tests base code) → IsCode code 0 (instructions_of code)
 unfolding decoding_tests instructions_of all_decodings
-code_taken base code fits passed = decodings_spell (length code) base code fits 0 (omega arith) passed
+code_taken base code fits passed =
+    let both = (found_and_built base code (all_decodings code)).0 passed in
+    (decodings_spell (length code) code fits 0 (omega arith) both.0, both.1)
 
 code_again : (base : ℕ) (code : List ℕ) (is : List Instr) → IsCode code 0 is → ArePassed (decoding_tests base code) × (instructions_of code ≡ is)
 unfolding decoding_tests instructions_of all_decodings
-code_again base code is spelled = spelled_decodings (length code) base code 0 is (omega arith) spelled
+code_again base code is spelled =
+    let all = spelled_decodings (length code) code 0 is (omega arith) spelled.0 in
+    ((found_and_built base code (all_decodings code)).1 (all.0, rw all.1 spelled.1), all.1)
 
 -- ---- int32 arguments
 
