@@ -8,6 +8,7 @@ pub mod AssumeRun
 pub mod BlockRows
 pub mod BranchRows
 pub mod ClauseRows
+pub mod ClauseTreeRows
 pub mod ComparisonRows
 pub mod ConflictRows
 pub mod EffectsFit

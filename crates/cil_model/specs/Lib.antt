@@ -21,5 +21,6 @@ pub mod Kinds
 pub mod Passes
 pub mod Blocks
 pub mod TreeKinds
+pub mod ClauseTrees
 pub mod WellFormed
 pub mod FitKinds

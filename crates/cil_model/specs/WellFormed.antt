@@ -1,15 +1,17 @@
 -- Units as the rest of the project takes them: those that files spell and that methods of assemblies make.
-use Rattle.std.specs.Prelude.{◌≡◌, ◌≢◌, ◌⊎◌, ℕ, ◌+◌, ◌<◌, ◌≤◌, List, [], ◌∷◌, length, sum_by, filter_map, Option, None, IsSome}
+use Rattle.std.specs.Prelude.{◌≡◌, ◌≢◌, ◌⊎◌, ℕ, ◌+◌, ◌<◌, ◌≤◌, List, [], ◌∷◌, length, map, sum_by, filter_map, Option, Some, None, IsSome}
 use Rattle.std.specs.List.{AllByRecursion}
 use Rattle.cil_model.specs.Blocks.{block_count, start_of_body}
+use Rattle.cil_model.specs.ClauseTrees.{clauses_in}
 use Rattle.cil_model.specs.Code.{CodeOf}
 use Rattle.cil_model.specs.Limits.{MAX_BLOCKS, MAX_CLAUSES, MAX_CODE_BYTES, MAX_CONDITIONS, MAX_INSTRUCTIONS, MAX_NAME_BYTES, MAX_NODES, MAX_OLD_VALUES, MAX_VARIABLES}
 use Rattle.cil_model.specs.Passes.{Stacks, KindsOf}
 use Rattle.cil_model.specs.Shapes.{shape_of}
-use Rattle.cil_model.specs.Terms.{term_size, condition_depth, old_count}
+use Rattle.cil_model.specs.Terms.{Term, term_size, condition_depth, old_count}
 use Rattle.cil_model.specs.TreeKinds.{IsNumberClause}
 use Rattle.cil_model.specs.UnitCalls.{unit_call, array_place, callee_of}
 use Rattle.cil_model.specs.declared.clause.Clause.{Clause}
+use Rattle.cil_model.specs.declared.clause.ClauseKind.{ClauseKind}
 use Rattle.cil_model.specs.declared.instruction.Op.{Op}
 use Rattle.cil_model.specs.declared.instruction.Op.TheVariants as ops
 use Rattle.cil_model.specs.declared.place.Place.{Place}
@@ -71,8 +73,11 @@ pub record IsCallee (callee : CalleeInfo) : Type 0 where
   pub clauses : ClausesWithinLimits callee.clauses
   pub numbers : AllByRecursion (IsNumberClause callee.args callee.result) callee.clauses
 
--- A well formed unit. That its clauses are the trees of its contract block is to be said here too, once there
--- is a definition of the tree of a clause.
+-- A clause as code tells it: its kind and its tree.
+abbrev pub told_by_code : Clause → ClauseKind × Option Term
+told_by_code clause = (clause.kind, Some clause.tree)
+
+-- A well formed unit.
 pub record IsWellFormed (unit : MethodUnit) : Type 0 where
   pub name : IsUnitName unit.name
   pub code : CodeOf unit.instrs unit.code
@@ -80,6 +85,7 @@ pub record IsWellFormed (unit : MethodUnit) : Type 0 where
   pub args : HoldValues unit.args
   pub locals : HoldValues unit.locals
   pub named : AllByRecursion (λ i. NamesSomething i.op) unit.instrs
+  pub clauses : clauses_in unit.instrs ≡ map told_by_code unit.clauses
   pub order : InOrderOfUse 0 (length unit.callees) (filter_map (λ i. called_by i.op) unit.instrs)
   pub callees : AllByRecursion IsCallee unit.callees
   pub numbers : AllByRecursion (IsNumberClause unit.args unit.result) unit.clauses
