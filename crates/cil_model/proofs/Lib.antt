@@ -42,6 +42,7 @@ pub mod StepKinds
 pub mod StepsFit
 pub mod StepsKeep
 pub mod StuckRun
+pub mod SumFormed
 pub mod SumKinds
 pub mod SumRun
 pub mod SumUnit

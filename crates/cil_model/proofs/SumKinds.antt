@@ -7,7 +7,7 @@ use Rattle.cil_model.specs.declared.place.Kind.TheVariants.{Int}
 use Rattle.cil_model.proofs.SumUnit.{sum}
 
 -- Of the contract block, and then of the body.
-abbrev stacks : Stacks
+abbrev pub stacks : Stacks
 stacks =
     Some [] ∷ Some (Int ∷ []) ∷ Some (Int ∷ Int ∷ []) ∷ Some (Int ∷ []) ∷ Some (Int ∷ Int ∷ []) ∷ Some (Int ∷ [])
     ∷ Some [] ∷ Some (Int ∷ []) ∷ Some [] ∷ Some (Int ∷ []) ∷ Some [] ∷ Some (Int ∷ []) ∷ Some (Int ∷ Int ∷ []) ∷ Some (Int ∷ Int ∷ Int ∷ [])

@@ -21,7 +21,7 @@ not_negative = record {
   tree = terms.Bin operators.Ceq (terms.Bin operators.Clt (terms.Arg 0) (terms.Const (pos 0))) (terms.Const (pos 0));
 }
 
-abbrev sum_info : CalleeInfo
+abbrev pub sum_info : CalleeInfo
 sum_info = record { name = codes "Demo.Calc::Sum"; result = places.Int; args = places.Int ∷ []; clauses = not_negative ∷ [] }
 
 -- int Sum(int n) { Contract.Requires(n >= 0); if (n == 0) return 0; return n + Sum(n - 1); }
