@@ -227,6 +227,44 @@ fn plans_are_read_back(rt: HostRuntime) -> Result<(), Fail> {
     Ok(())
 }
 
+/// Tokens, and whether each names a method of `BODIES`, of which there are seven.
+const TOKENS: [(u32, bool); 15] = [
+    (0x0600_0001, true),
+    (0x0600_0002, true),
+    (0x0600_0007, true),
+    // The row behind the last, row 0, and rows that have these in their low bytes.
+    (0x0600_0008, false),
+    (0x0600_0000, false),
+    (0x0600_0101, false),
+    (0x0601_0001, false),
+    (0x06ff_ffff, false),
+    // Other tables, of which one has the low bits of MethodDef.
+    (0x0000_0001, false),
+    (0x0200_0001, false),
+    (0x0400_0001, false),
+    (0x0700_0001, false),
+    (0x0a00_0001, false),
+    (0x8600_0001, false),
+    (0xffff_ffff, false),
+];
+
+#[test]
+fn a_token_names_a_method(rt: HostRuntime) -> Result<(), Fail> {
+    let alloc = rt.alloc();
+    let mut plans = Vec::new(alloc);
+    for (plan, _, _) in BODIES {
+        plans.push(plan)?;
+    }
+    let bytes = file(alloc, false, &plans)?;
+    let assembly = Assembly::read(alloc, &bytes)?;
+    for (token, is_method) in TOKENS {
+        let token = Token(token);
+        let found = assembly.method(token).map(|method| method.token);
+        assert_eq!(rt; found, is_method.then_some(token), "{token:?}");
+    }
+    Ok(())
+}
+
 /// Other bytes in the narrow file of `DIV`, and the name that is printed.
 const CHANGED: [(&[Change], &[u8]); 10] = [
     // Runs of methods: the cells MethodList of `<Module>` and of the class. A method before the first run has no

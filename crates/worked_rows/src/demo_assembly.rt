@@ -61,7 +61,7 @@ pub const CONSTRUCTOR: Method = Method {
 };
 
 /// The plan of a method.
-fn plan_of(alloc: Global, method: Method) -> Result<MethodPlan, AllocError> {
+pub fn plan_of(alloc: Global, method: Method) -> Result<MethodPlan, AllocError> {
     Ok(MethodPlan {
         name: Vec::from_slice(alloc, method.name)?,
         is_static: method.is_static,
@@ -84,11 +84,20 @@ fn plans_of(alloc: Global, methods: &[Method]) -> Result<Vec<MethodPlan>, AllocE
 
 /// The file of the class with these methods, PE32+ where it is wide and PE32 else.
 pub fn file(alloc: Global, wide: bool, methods: &[Method]) -> Result<Vec<u8>, WriteRefusal> {
+    file_of(alloc, wide, plans_of(alloc, methods)?)
+}
+
+/// The file of the class with the methods of these plans.
+pub fn file_of(
+    alloc: Global,
+    wide: bool,
+    methods: Vec<MethodPlan>,
+) -> Result<Vec<u8>, WriteRefusal> {
     let plan = AsmPlan {
         namespace: Vec::from_slice(alloc, b"Demo")?,
         class: Vec::from_slice(alloc, b"Calc")?,
         wide,
-        methods: plans_of(alloc, methods)?,
+        methods,
     };
     write_assembly(alloc, &plan)
 }

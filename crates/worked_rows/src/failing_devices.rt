@@ -27,7 +27,7 @@ type Row = (
     &'static [u8],
 );
 
-const FAILING: [Row; 11] = [
+const FAILING: [Row; 13] = [
     // Each line of the report; the line that tells it too.
     (UNIT_WORDS, &[1], &[], b"", UNWRITTEN),
     (
@@ -50,6 +50,8 @@ const FAILING: [Row; 11] = [
     (&["unit", "v.bin"], &[], &[1], b"", UNWRITTEN),
     (&["unit", "bad"], &[], &[1], b"", UNWRITTEN),
     (&["list", "bad"], &[], &[1], b"", UNWRITTEN),
+    (&["il", "bad", "M"], &[], &[1], b"", UNWRITTEN),
+    (&["il", "v.bin", "M"], &[], &[1], b"", UNWRITTEN),
     // The line that tells it too.
     (&["unit"], &[], &[1, 2], b"", b""),
     (&["unit", "v.bin"], &[], &[1, 2], b"", b""),
@@ -127,9 +129,10 @@ const LACKING: [Row; 12] = [
 ];
 
 /// Words that read a file, the puts of the errors that lack memory, and what is written there.
-const READS: [(&[&str], &[u8], &[u8]); 4] = [
+const READS: [(&[&str], &[u8], &[u8]); 5] = [
     (&["unit", "u.bin"], &[], NO_MEMORY),
     (&["list", "u.bin"], &[], NO_MEMORY),
+    (&["il", "u.bin", "M"], &[], NO_MEMORY),
     (&["unit", "u.bin"], &[1], b""),
     (&["list", "u.bin"], &[1], b""),
 ];
@@ -182,6 +185,29 @@ fn a_read_that_lacks_memory_is_told(rt: HostRuntime) -> Result<(), Fail> {
             written_err,
             "the errors of {words:?}"
         );
+    }
+    Ok(())
+}
+
+/// Words that read one file.
+const READERS: [&[&str]; 3] = [
+    &["unit", "u.bin"],
+    &["list", "u.bin"],
+    &["il", "u.bin", "M"],
+];
+
+#[test]
+fn a_read_that_fails_is_told(rt: HostRuntime) -> Result<(), Fail> {
+    let alloc = rt.alloc();
+    for words in READERS {
+        let mut devices = Devices::with_file(alloc, "u.bin", UNIT)?;
+        devices.files.fail_reads.push(1)?;
+        let want = Answer {
+            status: 4,
+            out: b"",
+            err: UNREAD,
+        };
+        devices.assert_answer(&rt, alloc, words, want)?;
     }
     Ok(())
 }

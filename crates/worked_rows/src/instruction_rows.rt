@@ -1,8 +1,11 @@
 //! Every instruction: how it is spelled, what it does and how it is printed (ECMA-335 III).
 
+ghost use Rattle.std.specs.Prelude.{ℕ, List};
+ghost use Rattle.cil_model.specs.Spells.{Spells};
+
 use crate::changes::joined;
 use cil_model::{BinOp, CmpOp, Instr, Op, Place, Test};
-use il_decoder::{IlFault, IlRefusal, decode, decode_one, il_text, spell};
+use il_decoder::{IlFault, IlRefusal, decode, decode_one, il_text, put_label, spell};
 use std::alloc::Global;
 use std::process::Abort;
 use std::test::Fail;
@@ -70,9 +73,9 @@ struct Row {
     text: &'static [u8],
 }
 
-/// Every instruction in each of its spellings. Operands are at the ends of their ranges, or tell one byte
-/// from another.
-const ROWS: [Row; 117] = [
+/// Arguments, locals, null, and nop, each in all of its spellings. Operands are
+/// at the ends of their ranges, or tell one byte from another. The next tables likewise.
+const MOVES: [Row; 22] = [
     Row {
         spelling: b"\x00",
         told: Told::Nop,
@@ -183,6 +186,10 @@ const ROWS: [Row; 117] = [
         told: Told::Null,
         text: b"ldnull",
     },
+];
+
+/// Constants, what changes the stack alone, calls and returns.
+const CONSTANTS: [Row; 22] = [
     Row {
         spelling: b"\x15",
         told: Told::Const(-1),
@@ -293,6 +300,10 @@ const ROWS: [Row; 117] = [
         told: Told::Return,
         text: b"ret",
     },
+];
+
+/// Branches, near and far.
+const BRANCHES: [Row; 31] = [
     Row {
         spelling: b"\x2b\x00",
         told: Told::Branch(Test::Always, 3),
@@ -448,6 +459,10 @@ const ROWS: [Row; 117] = [
         told: Told::Branch(Test::False, 0x1_0006),
         text: b"brfalse IL_10006",
     },
+];
+
+/// Operators, strings and arrays.
+const OPERATORS: [Row; 26] = [
     Row {
         spelling: b"\x58",
         told: Told::Bin(BinOp::Add),
@@ -578,6 +593,10 @@ const ROWS: [Row; 117] = [
         told: Told::Bin(BinOp::SubOvf),
         text: b"sub.ovf",
     },
+];
+
+/// What FE begins, and switches.
+const LONG: [Row; 16] = [
     Row {
         spelling: b"\xfe\x01",
         told: Told::Bin(BinOp::Ceq),
@@ -661,7 +680,7 @@ const ROWS: [Row; 117] = [
 ];
 
 /// Codes and offsets in them, each with the fault of what stands there.
-const FAULTS: [(&[u8], u32, IlFault); 17] = [
+const FAULTS: [(&[u8], u32, IlFault); 22] = [
     // Nothing, and nothing at the end or behind it.
     (b"", 0, IlFault::Short(0)),
     (b"\x00", 1, IlFault::Short(1)),
@@ -683,6 +702,28 @@ const FAULTS: [(&[u8], u32, IlFault); 17] = [
         0,
         IlFault::Short(0),
     ),
+    // As many targets as each byte of the count tells alone, and as make 2^32 bytes and 4 more.
+    (
+        b"\x45\x00\x01\x00\x00\x00\x00\x00\x00",
+        0,
+        IlFault::Short(0),
+    ),
+    (
+        b"\x45\x00\x00\x01\x00\x00\x00\x00\x00",
+        0,
+        IlFault::Short(0),
+    ),
+    (
+        b"\x45\x00\x00\x00\x01\x00\x00\x00\x00",
+        0,
+        IlFault::Short(0),
+    ),
+    (b"\x45\x00\x00\x00\x40", 0, IlFault::Short(0)),
+    (
+        b"\x45\x01\x00\x00\x40\x00\x00\x00\x00",
+        0,
+        IlFault::Short(0),
+    ),
     // No instruction.
     (b"\x00\xff", 1, IlFault::Opcode(1, 0xff)),
     (b"\xfe\x00", 0, IlFault::Opcode(0, 0xfe00)),
@@ -690,24 +731,41 @@ const FAULTS: [(&[u8], u32, IlFault); 17] = [
 ];
 
 /// Whole codes, each with how many instructions it has or its first fault.
-const CODES: [(&[u8], Result<usize, IlFault>); 16] = [
+const CODES: [(&[u8], Result<usize, IlFault>); 26] = [
     (b"", Ok(0)),
     (b"\x2a", Ok(1)),
     // A branch to the next instruction, to its own start, and to the last one.
     (b"\x2b\x00\x2a", Ok(2)),
     (b"\x2b\xfe\x2a", Ok(2)),
     (b"\x2c\x05\x20\x00\x00\x00\x00\x2a", Ok(3)),
+    // A far one to its own start, to the end, and to the farthest places.
+    (b"\x38\xfb\xff\xff\xff", Ok(1)),
+    (b"\x38\x00\x00\x00\x00", Err(IlFault::Target(0))),
+    (b"\x38\xfb\xff\xff\x7f", Err(IlFault::Target(0))),
+    (b"\x38\x00\x00\x00\x80", Err(IlFault::Target(0))),
     // A branch into the middle of an instruction, to the end of the code, behind it and before the code.
     (b"\x2b\x01\x20\x00\x00\x00\x00\x2a", Err(IlFault::Target(0))),
     (b"\x2b\x01\x2a", Err(IlFault::Target(0))),
     (b"\x00\x2b\x02\x2a", Err(IlFault::Target(1))),
     (b"\x2b\xfd\x2a", Err(IlFault::Target(0))),
+    // Behind FE, and into the operand of a switch.
+    (b"\x2b\x01\xfe\x01", Err(IlFault::Target(0))),
+    (b"\x45\x00\x00\x00\x00\x2b\xfa", Err(IlFault::Target(5))),
     // The first of two.
     (b"\x00\x2b\x09\x2b\x0a\x2a", Err(IlFault::Target(1))),
     // What stands later and is no instruction, or is cut off, comes before where branches go.
     (b"\x2b\x05\xff", Err(IlFault::Opcode(2, 0xff))),
     (b"\x2b\x05\x20\x01", Err(IlFault::Short(2))),
     (b"\xff\x20\x01", Err(IlFault::Opcode(0, 0xff))),
+    // The first of two that are no instruction.
+    (b"\x00\xfe\x06\xff", Err(IlFault::Opcode(1, 0xfe06))),
+    (b"\xff\xfe\x06", Err(IlFault::Opcode(0, 0xff))),
+    // A switch without targets, and one to the end.
+    (b"\x45\x00\x00\x00\x00", Ok(1)),
+    (
+        b"\x45\x01\x00\x00\x00\x00\x00\x00\x00",
+        Err(IlFault::Target(0)),
+    ),
     // A switch whose two targets are met, whose first is not, and whose last is not.
     (
         b"\x45\x02\x00\x00\x00\x00\x00\x00\x00\x01\x00\x00\x00\x00\x2a",
@@ -723,7 +781,24 @@ const CODES: [(&[u8], Result<usize, IlFault>); 16] = [
     ),
 ];
 
-/// Asserts that a row's spelling is decoded behind other bytes and before others, printed, and spelled again.
+/// IL offsets as they are printed.
+const LABELS: [(u32, &[u8]); 12] = [
+    (0, b"IL_0000"),
+    (0xa, b"IL_000a"),
+    (0xffff, b"IL_ffff"),
+    (0x1_0000, b"IL_10000"),
+    (0xf_ffff, b"IL_fffff"),
+    (0x10_0000, b"IL_100000"),
+    (0xff_ffff, b"IL_ffffff"),
+    (0x100_0000, b"IL_1000000"),
+    (0xfff_ffff, b"IL_fffffff"),
+    (0x1000_0000, b"IL_10000000"),
+    (0x1234_5678, b"IL_12345678"),
+    (0xffff_ffff, b"IL_ffffffff"),
+];
+
+/// Asserts that a row's spelling is decoded behind other bytes and before others, printed, and spelled again, and
+/// that no front of it is an instruction.
 fn assert_row(rt: &impl Abort, alloc: Global, row: &Row) -> Result<(), Fail> {
     let code = joined(alloc, &[b"\x2a", row.spelling, b"\xfe"])?;
     assert!(rt; code.len() <= 100);
@@ -732,7 +807,27 @@ fn assert_row(rt: &impl Abort, alloc: Global, row: &Row) -> Result<(), Fail> {
     assert_eq!(rt; instr.size as usize, row.spelling.len());
     assert_eq!(rt; tell(&instr.op), row.told, "{:?}", row.spelling);
     assert_text(rt, alloc, &instr, row.text)?;
-    assert_spelled(rt, alloc, &instr, row.spelling)
+    assert_spelled(rt, alloc, &instr, row.spelling)?;
+    assert_cut(rt, alloc, row.spelling)
+}
+
+/// Asserts that each front of a spelling that is not all of it is too short.
+fn assert_cut(rt: &impl Abort, alloc: Global, spelling: &[u8]) -> Result<(), Fail> {
+    assert!(rt; spelling.len() <= 100);
+    for length in 0..spelling.len() {
+        let fault = decode_one(alloc, &spelling[..length], 0).err();
+        let want = IlRefusal::Bad(IlFault::Short(0));
+        assert_eq!(rt; fault, Some(want), "{length} of {spelling:?}");
+    }
+    Ok(())
+}
+
+/// Asserts each row of a table.
+fn assert_rows(rt: &impl Abort, alloc: Global, rows: &[Row]) -> Result<(), Fail> {
+    for row in rows {
+        assert_row(rt, alloc, row)?;
+    }
+    Ok(())
 }
 
 /// Asserts what is printed of an instruction.
@@ -749,7 +844,9 @@ fn assert_spelled(
     alloc: Global,
     instr: &Instr,
     spelling: &[u8],
-) -> Result<(), Fail> {
+) -> Result<(), Fail>
+    requires { (bytes : List ℕ) × Spells instr.now bytes }
+{
     let mut spelled = Vec::new(alloc);
     spell(alloc, instr, &mut spelled)?;
     assert_eq!(rt; spelled.as_slice(), spelling);
@@ -785,12 +882,37 @@ fn assert_opcode(
 }
 
 #[test]
-fn instructions_are_decoded(rt: HostRuntime) -> Result<(), Fail> {
+fn arguments_and_locals_are_decoded(rt: HostRuntime) -> Result<(), Fail> {
+    assert_rows(&rt, rt.alloc(), &MOVES)
+}
+
+#[test]
+fn constants_and_calls_are_decoded(rt: HostRuntime) -> Result<(), Fail> {
+    assert_rows(&rt, rt.alloc(), &CONSTANTS)
+}
+
+#[test]
+fn branches_are_decoded(rt: HostRuntime) -> Result<(), Fail> {
+    assert_rows(&rt, rt.alloc(), &BRANCHES)
+}
+
+#[test]
+fn operators_are_decoded(rt: HostRuntime) -> Result<(), Fail> {
+    assert_rows(&rt, rt.alloc(), &OPERATORS)
+}
+
+#[test]
+fn long_opcodes_and_switches_are_decoded(rt: HostRuntime) -> Result<(), Fail> {
+    assert_rows(&rt, rt.alloc(), &LONG)
+}
+
+#[test]
+fn a_switch_counts_from_its_end(rt: HostRuntime) -> Result<(), Fail> {
     let alloc = rt.alloc();
-    for row in &ROWS {
-        assert_row(&rt, alloc, row)?;
-    }
-    Ok(())
+    let code = b"\x45\x02\x00\x00\x00\x00\x00\x00\x00\x00\x00\x00\x00";
+    let instr = decode_one(alloc, code, 0)?;
+    assert_eq!(rt; tell(&instr.op), Told::Switch(&[0xd, 0xd]));
+    assert_text(&rt, alloc, &instr, b"switch IL_000d IL_000d")
 }
 
 #[test]
@@ -818,6 +940,17 @@ fn the_fault_of_an_instruction_is_told(rt: HostRuntime) -> Result<(), Fail> {
         assert!(rt; code.len() <= 100);
         let found = decode_one(alloc, code, at).err();
         assert_eq!(rt; found, Some(IlRefusal::Bad(fault)), "at {at} of {code:?}");
+    }
+    Ok(())
+}
+
+#[test]
+fn labels_have_four_digits_or_more(rt: HostRuntime) -> Result<(), Fail> {
+    let alloc = rt.alloc();
+    for (at, text) in LABELS {
+        let mut label = Vec::new(alloc);
+        put_label(alloc, &mut label, at)?;
+        assert_eq!(rt; label.as_slice(), text);
     }
     Ok(())
 }

@@ -13,6 +13,8 @@ mod assembly_methods;
 #[cfg(test)]
 mod base_rows;
 #[cfg(test)]
+mod body_rows;
+#[cfg(test)]
 mod chain;
 #[cfg(test)]
 mod changes;

@@ -2,6 +2,8 @@
 
 use crate::changes::joined;
 use crate::devices::{Answer, Devices};
+use std::alloc::Global;
+use std::process::Abort;
 use std::test::Fail;
 
 /// Files that are refused before their code is read, each with its fault. Behind the first fault nothing stands, or
@@ -219,6 +221,131 @@ const CODES: [(&[u8], &[u8]); 46] = [
     (b"\x01\0\0\0\x02", b"unit form at 00000015"),
     (b"\0\0\0\0", b"unit form at 00000015"),
 ];
+
+/// The instructions that are not built, each in a spelling.
+const NOT_BUILT: [&[u8]; 58] = [
+    // Arguments, locals, null, and what changes the stack alone.
+    b"\x10\0",
+    b"\xfe\x0b\0\0",
+    b"\x06",
+    b"\x09",
+    b"\x11\0",
+    b"\xfe\x0c\0\0",
+    b"\x0a",
+    b"\x0d",
+    b"\x13\0",
+    b"\xfe\x0e\0\0",
+    b"\x14",
+    b"\x25",
+    b"\x26",
+    // Branches, of both forms the first and the last, and switches.
+    b"\x2b\0",
+    b"\x2c\0",
+    b"\x2d\0",
+    b"\x2e\0",
+    b"\x37\0",
+    b"\x38\0\0\0\0",
+    b"\x44\0\0\0\0",
+    b"\x45\0\0\0\0",
+    b"\x45\x01\0\0\0\0\0\0\0",
+    // Operators, strings and arrays.
+    b"\x59",
+    b"\x5a",
+    b"\x5b",
+    b"\x5c",
+    b"\x5d",
+    b"\x5e",
+    b"\x5f",
+    b"\x60",
+    b"\x61",
+    b"\x62",
+    b"\x63",
+    b"\x64",
+    b"\x65",
+    b"\x66",
+    b"\x69",
+    b"\x72\0\0\0\0",
+    b"\x8d\x01\0\0\0",
+    b"\x8e",
+    b"\x91",
+    b"\x94",
+    b"\x9c",
+    b"\x9e",
+    b"\xd6",
+    b"\xd8",
+    b"\xda",
+    b"\xfe\x03",
+    b"\xfe\x05",
+    // Opcodes that are none, next to built ones.
+    b"\x01",
+    b"\x0f",
+    b"\x21",
+    b"\x27",
+    b"\x29",
+    b"\x57",
+    b"\xfe\0",
+    b"\xfe\x06",
+    b"\xfe\x08",
+];
+
+/// Built instructions that have operands, and an opcode of two bytes.
+const BUILT: [&[u8]; 6] = [
+    b"\x0e\0",
+    b"\x1f\0",
+    b"\x20\0\0\0\0",
+    b"\x28\x05\0\0\0",
+    b"\xfe\x09\0\0",
+    b"\xfe\x01",
+];
+
+/// Numbers of calls that are not built. Of those below 256 Assert without a message alone is.
+const CALLS: [u8; 14] = [0, 1, 2, 3, 4, 6, 7, 8, 9, 11, 12, 22, 100, 255];
+
+/// Asserts that a unit whose code is an ldarg.0 and these bytes is refused with a fault at them.
+fn assert_code(rt: &impl Abort, alloc: Global, code: &[u8], fault: &[u8]) -> Result<(), Fail> {
+    assert!(rt; code.len() <= 100);
+    let length = (code.len() as u32 + 1).to_le_bytes();
+    let unit = joined(alloc, &[HEAD, &length, b"\x02", code])?;
+    let line = joined(
+        alloc,
+        &[b"cccheck: refused u.bin: ", fault, b" at 00000016\n"],
+    )?;
+    let want = Answer {
+        status: 5,
+        out: b"",
+        err: &line,
+    };
+    let mut devices = Devices::with_file(alloc, "u.bin", &unit)?;
+    devices.assert_answer(rt, alloc, &["unit", "u.bin"], want)?;
+    Ok(())
+}
+
+/// How many bytes the opcode has that stands before others.
+fn opcode_len(code: &[u8]) -> usize {
+    if code.first() == Some(&0xfe) { 2 } else { 1 }
+}
+
+#[test]
+fn what_is_not_built_is_told(rt: HostRuntime) -> Result<(), Fail> {
+    let alloc = rt.alloc();
+    for code in NOT_BUILT {
+        assert_code(&rt, alloc, code, b"unit not built")?;
+        // As much of it as tells the opcode.
+        for length in opcode_len(code)..code.len() {
+            assert_code(&rt, alloc, &code[..length], b"unit not built")?;
+        }
+    }
+    for number in CALLS {
+        let call = [0x28, number, 0, 0, 0];
+        assert_code(&rt, alloc, &call, b"unit not built")?;
+    }
+    for code in BUILT {
+        for length in 1..code.len() {
+            assert_code(&rt, alloc, &code[..length], b"unit form")?;
+        }
+    }
+    Ok(())
+}
 
 #[test]
 fn the_first_fault_of_a_unit_is_told(rt: HostRuntime) -> Result<(), Fail> {

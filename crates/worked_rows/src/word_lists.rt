@@ -1,6 +1,6 @@
 //! Words that are no command, and names of files that are not there.
 
-use crate::devices::{Answer, Devices};
+use crate::devices::{Answer, Devices, owned};
 use check_driver::{Command, parse_words};
 use std::test::Fail;
 
@@ -71,6 +71,7 @@ fn a_missing_file_is_named(rt: HostRuntime) -> Result<(), Fail> {
         for command in FILE_COMMANDS {
             Devices::new(alloc).assert_answer(&rt, alloc, &[command, name], want)?;
         }
+        Devices::new(alloc).assert_answer(&rt, alloc, &["il", name, "M"], want)?;
     }
     Ok(())
 }
@@ -78,11 +79,14 @@ fn a_missing_file_is_named(rt: HostRuntime) -> Result<(), Fail> {
 #[test]
 fn a_command_names_its_file_by_its_index(rt: HostRuntime) -> Result<(), Fail> {
     let alloc = rt.alloc();
-    for (word, command) in [("unit", Command::Unit(1)), ("list", Command::List(1))] {
-        let words = vec![in alloc;
-            String::from_str(alloc, word)?,
-            String::from_str(alloc, "a.bin")?,
-        ]?;
+    let il = Command::Il { file: 1, method: 2 };
+    let rows: [(&[&str], Command); 3] = [
+        (&["unit", "a.bin"], Command::Unit(1)),
+        (&["list", "a.bin"], Command::List(1)),
+        (&["il", "a.bin", "M"], il),
+    ];
+    for (words, command) in rows {
+        let words = owned(alloc, words)?;
         assert_eq!(rt; parse_words(&words), Some(command));
         assert_eq!(rt; command.files(), [1].as_slice());
     }
