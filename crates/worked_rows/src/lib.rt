@@ -19,6 +19,8 @@ mod chain;
 #[cfg(test)]
 mod changes;
 #[cfg(test)]
+mod code_rows;
+#[cfg(test)]
 mod demo_assembly;
 #[cfg(test)]
 mod devices;
