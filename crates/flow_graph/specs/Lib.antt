@@ -1,0 +1,5 @@
+pub mod BlocksOf
+pub mod EdgesOf
+pub mod GraphOf
+pub mod HeadsOf
+pub mod Following

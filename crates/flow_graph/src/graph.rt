@@ -1,0 +1,47 @@
+//! Flow graphs.
+
+use crate::blocks::{blocks, body};
+use crate::edges::edges;
+use crate::heads::heads;
+use cc_base::NoMemory;
+use cil_model::{List, Unit};
+use std::alloc::Global;
+
+/// An edge of a flow graph.
+#[derive(Clone, Copy, Debug, PartialEq, Eq)]
+pub struct Edge {
+    /// The place of the block that it leaves.
+    pub from: u32,
+    /// The place of the block to which it goes.
+    pub to: u32,
+    /// Its number among the edges of the block that it leaves, from 0: that of a branch to its target comes
+    /// before the one to the next instruction, those of a switch to its targets in order before that one.
+    pub number: u32,
+}
+
+/// The flow graph of a method's body. A place is an index in `blocks`.
+#[derive(Drop)]
+pub struct Graph {
+    /// The IL offsets at which the blocks start. They rise.
+    pub blocks: List<u32>,
+    /// The edges, by the blocks that they leave and then by their numbers.
+    pub edges: List<Edge>,
+    /// The places of the heads of loops: the blocks to which an edge goes from themselves or from one behind.
+    /// They rise.
+    pub heads: List<u32>,
+}
+
+impl Graph {
+    /// The flow graph of the unit's body, also of instructions that no path reaches.
+    pub fn of(alloc: Global, unit: &Unit) -> Result<Graph, NoMemory> {
+        let body = body(unit);
+        let blocks = blocks(alloc, body, unit.body_start)?;
+        let edges = edges(alloc, body, blocks.as_slice())?;
+        let heads = heads(alloc, blocks.len() as u32, edges.as_slice())?;
+        Ok(Graph {
+            blocks: List::from_vec(blocks),
+            edges: List::from_vec(edges),
+            heads: List::from_vec(heads),
+        })
+    }
+}
