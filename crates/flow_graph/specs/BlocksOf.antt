@@ -1,6 +1,6 @@
 -- The blocks of a unit's body, and places in their list. A branch goes to the start of an instruction
 -- (ECMA-335 III.1.7.2), so a block starts only where an instruction does.
-use Rattle.std.specs.Prelude.{ℕ, zero, suc, ◌-◌, ◌==◌, nat_le, List, [], ◌∷◌, map, filter, count_by, Option, Some, None, option_map, if◌then◌else◌}
+use Rattle.std.specs.Prelude.{ℕ, zero, suc, ◌==◌, nat_le, List, [], ◌∷◌, length, map, filter, Option, Some, None, option_map, if◌then◌else◌}
 use Rattle.cil_model.specs.Blocks.{body_of, is_block_start}
 use Rattle.cil_model.specs.declared.unit.Unit.{Unit as MethodUnit}
 
@@ -13,6 +13,11 @@ abbrev pub place_of : List ℕ → ℕ → Option ℕ
 place_of [] at = None
 place_of (start ∷ starts) at = if start == at then Some 0 else option_map suc (place_of starts at)
 
--- The place of the block in which an IL offset lies: the last one that starts there or before.
-abbrev pub block_at : List ℕ → ℕ → ℕ
-block_at blocks at = count_by (λ start. nat_le start at) blocks - 1
+-- The last of so many places, if there is one.
+abbrev pub last_place : ℕ → Option ℕ
+last_place zero = None
+last_place (suc n) = Some n
+
+-- The place of the block in which an IL offset lies: the last one that starts there or before, if one does.
+abbrev pub block_at : List ℕ → ℕ → Option ℕ
+block_at blocks at = last_place (length (filter (λ start. nat_le start at) blocks))

@@ -1,7 +1,8 @@
 -- The edges between blocks: where control may go from the last instruction of each (ECMA-335 III.1.7.2 and
 -- III.3). The target of a branch comes before the next instruction, and the targets of a switch are in order.
-use Rattle.std.specs.Prelude.{ℕ, ◌+◌, List, [], ◌∷◌, Option, option_map}
-use Rattle.std.specs.List.{cons_option, flat_map}
+use Rattle.std.specs.Prelude.{◌≡◌, ◌⊎◌, ◌<◌, ℕ, ◌+◌, List, [], ◌∷◌, ◌++◌, length, Option, Some, None, option_map}
+use Rattle.std.specs.List.{flat_map}
+use Rattle.std.specs.Option.{option_to_list}
 use Rattle.cil_model.specs.Blocks.{body_of}
 use Rattle.cil_model.specs.Passes.{successors}
 use Rattle.cil_model.specs.declared.instruction.Instr.{Instr}
@@ -17,13 +18,29 @@ edge_to blocks from number at = option_map (λ to. record { from = from; to = to
 -- starts has a number too, but no edge.
 abbrev pub edges_to : List ℕ → ℕ → ℕ → List ℕ → List Edge
 edges_to blocks from number [] = []
-edges_to blocks from number (at ∷ ats) = cons_option (edge_to blocks from number at) (edges_to blocks from (number + 1) ats)
+edges_to blocks from number (at ∷ ats) = option_to_list (edge_to blocks from number at) ++ edges_to blocks from (number + 1) ats
+
+-- The edges from a block along which control may go from an instruction in it.
+abbrev pub edges_out : List ℕ → Option ℕ → Instr → List Edge
+edges_out blocks None i = []
+edges_out blocks (Some from) i = edges_to blocks from 0 (successors i.op (i.at + i.size))
 
 -- The edges along which control may go from an instruction. From one that is not the last of its block it goes
 -- to the next alone, where no block starts, so that there is no edge.
 abbrev pub edges_from : List ℕ → Instr → List Edge
-edges_from blocks i = edges_to blocks (block_at blocks i.at) 0 (successors i.op (i.at + i.size))
+edges_from blocks i = edges_out blocks (block_at blocks i.at) i
 
 -- The edges of the body, in order.
 abbrev pub edges_of : MethodUnit → List Edge
 edges_of unit = flat_map (edges_from (blocks_of unit)) (body_of unit)
+
+-- ---- what is said of edges
+
+-- Both ends are places in the list of blocks.
+pub record JoinsBlocks (blocks : List ℕ) (edge : Edge) : Type 0 where
+  pub from : edge.from < length blocks
+  pub to : edge.to < length blocks
+
+-- An edge comes before another: by the blocks that they leave, and then by their numbers.
+abbrev pub ComesBefore : Edge → Edge → Type 0
+ComesBefore a b = (a.from < b.from) ⊎ ((a.from ≡ b.from) × (a.number < b.number))

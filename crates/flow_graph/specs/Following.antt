@@ -14,27 +14,30 @@ use Rattle.flow_graph.specs.BlocksOf.{block_at}
 use Rattle.flow_graph.specs.declared.graph.Edge.{Edge}
 use Rattle.flow_graph.specs.declared.graph.Graph.{Graph}
 
--- From the instruction, the last of its block, to an IL offset, the start of a block: one of the edges goes there.
--- Its number is that of the offset among those to which the instruction goes on.
-pub record IsAlongEdge (graph : Graph) (i : Instr) (at : ℕ) : Type 0 where
+-- From an instruction of a block to an IL offset where a block starts: one of the edges of the first goes to the
+-- second. Its number is that of the offset among those to which the instruction goes on.
+pub record IsAlongEdge (graph : Graph) (block : ℕ) (i : Instr) (at : ℕ) : Type 0 where
   pub edge : Edge
   pub is : Contains graph.edges edge
-  pub from : edge.from ≡ block_at graph.blocks i.at
+  pub from : edge.from ≡ block
   pub to : slice_get graph.blocks edge.to ≡ Some at
   pub number : slice_get (successors i.op (i.at + i.size)) edge.number ≡ Some at
 
--- From the instruction to the next one, which is of the same block.
-pub record IsWithinBlock (graph : Graph) (i : Instr) (at : ℕ) : Type 0 where
+-- From an instruction of a block to the next one, which is of the same block.
+pub record IsWithinBlock (graph : Graph) (block : ℕ) (i : Instr) (at : ℕ) : Type 0 where
   pub next : at ≡ i.at + i.size
-  pub same : block_at graph.blocks at ≡ block_at graph.blocks i.at
+  pub same : block_at graph.blocks at ≡ Some block
 
--- An instruction of the body begins at the IL offset.
-abbrev pub IsInBody : MethodUnit → ℕ → Type 0
-IsInBody unit at = begins_at (body_of unit) at ≡ true
+-- A frame steps from an instruction of a block to another of the body.
+pub record StepsInBody (unit : MethodUnit) (graph : Graph) (block : ℕ) (i : Instr) (f new : Frame) (heap after : Heap) : Type 0 where
+  pub step : LocalStep unit (Live (f ∷ []) heap) (Live (new ∷ []) after)
+  pub instr : instr_at unit.instrs f.at ≡ Some i
+  pub block_is : block_at graph.blocks f.at ≡ Some block
+  pub in_body : begins_at (body_of unit) new.at ≡ true
 
--- Where a step of a frame goes on in it, from an instruction of the body to one of the body: to the start of a
--- block it goes along an edge, and anywhere else it goes to the next instruction of the block.
+-- A frame that goes on in the body goes along an edge where it comes to the start of a block, and anywhere else
+-- to the next instruction of its block.
 abbrev pub StepsFollow : MethodUnit → Graph → Type 0
-StepsFollow unit graph = (f new : Frame) (heap after : Heap) (i : Instr) → LocalStep unit (Live (f ∷ []) heap) (Live (new ∷ []) after)
-    → instr_at unit.instrs f.at ≡ Some i → IsInBody unit f.at → IsInBody unit new.at
-    → ((is_block_start unit new.at ≡ true) × IsAlongEdge graph i new.at) ⊎ ((is_block_start unit new.at ≡ false) × IsWithinBlock graph i new.at)
+StepsFollow unit graph = (block : ℕ) (i : Instr) (f new : Frame) (heap after : Heap) → StepsInBody unit graph block i f new heap after
+    → ((is_block_start unit new.at ≡ true) × IsAlongEdge graph block i new.at)
+    ⊎ ((is_block_start unit new.at ≡ false) × IsWithinBlock graph block i new.at)

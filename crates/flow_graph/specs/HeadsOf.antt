@@ -3,10 +3,10 @@ use Rattle.std.specs.Prelude.{ℕ, ◌==◌, nat_le, Bool, ◌&&◌, List, filte
 use Rattle.std.specs.List.{list_any, range_with_len}
 use Rattle.flow_graph.specs.declared.graph.Edge.{Edge}
 
--- The edge goes to this block from itself, or from one behind it.
-abbrev pub goes_back_to : ℕ → Edge → Bool
-goes_back_to block edge = edge.to == block && nat_le block edge.from
+-- The edge goes to its own block, or to one before.
+abbrev pub goes_back : Edge → Bool
+goes_back edge = nat_le edge.to edge.from
 
 -- The places of the heads among so many blocks, in order.
 abbrev pub heads_of : ℕ → List Edge → List ℕ
-heads_of count edges = filter (λ block. list_any (goes_back_to block) edges) (range_with_len 0 count)
+heads_of count edges = filter (λ block. list_any (λ edge. edge.to == block && goes_back edge) edges) (range_with_len 0 count)

@@ -3,3 +3,4 @@ pub mod EdgesOf
 pub mod GraphOf
 pub mod HeadsOf
 pub mod Following
+pub mod ShortCode

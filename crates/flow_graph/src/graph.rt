@@ -32,10 +32,32 @@ pub struct Graph {
 }
 
 impl Graph {
+    ghost use Rattle.std.specs.Prelude.{◌≡◌, ◌<◌, length, IfOk};
+    ghost use Rattle.std.specs.List.{All, AllPairs};
+    ghost use Rattle.std.specs.List.Sorted.{IsStrictlyIncreasing};
+    ghost use Rattle.cc_base.specs.Slices.{IsShort};
+    ghost use Rattle.cil_model.specs.Blocks.{block_count};
+    ghost use Rattle.cil_model.specs.Code.{CodeOf};
+    ghost use Rattle.flow_graph.specs.EdgesOf.{ComesBefore, JoinsBlocks};
+    ghost use Rattle.flow_graph.specs.Following.{StepsFollow};
+    ghost use Rattle.flow_graph.specs.GraphOf.{graph_of};
+
     /// The flow graph of the unit's body, also of instructions that no path reaches.
-    pub fn of(alloc: Global, unit: &Unit) -> Result<Graph, NoMemory> {
+    pub fn of(alloc: Global, unit: &Unit) -> Result<Graph, NoMemory>
+        requires code { CodeOf unit.now.instrs unit.now.code }
+        requires is_short { IsShort unit.now.code }
+        ensures exact { IfOk result (λ graph. graph ≡ graph_of unit.now) }
+        ensures count { IfOk result (λ graph. length graph.blocks ≡ block_count unit.now) }
+        ensures blocks_rise { IfOk result (λ graph. IsStrictlyIncreasing graph.blocks) }
+        ensures edges_join_blocks { IfOk result (λ graph. All (JoinsBlocks graph.blocks) graph.edges) }
+        ensures edges_in_order { IfOk result (λ graph. AllPairs ComesBefore graph.edges) }
+        ensures heads_are_blocks { IfOk result (λ graph. All (λ head. head < length graph.blocks) graph.heads) }
+        ensures heads_rise { IfOk result (λ graph. IsStrictlyIncreasing graph.heads) }
+        // The edges are where the machine's steps go.
+        ensures steps { IfOk result (StepsFollow unit.now) }
+    {
         let body = body(unit);
-        let blocks = blocks(alloc, body, unit.body_start)?;
+        let blocks = blocks(alloc, unit)?;
         let edges = edges(alloc, body, blocks.as_slice())?;
         let heads = heads(alloc, blocks.len() as u32, edges.as_slice())?;
         Ok(Graph {
