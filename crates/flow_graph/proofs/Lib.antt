@@ -1,3 +1,5 @@
 pub mod Searches
 pub mod Pushes
 pub mod Marks
+pub mod TargetRows
+pub mod Lying

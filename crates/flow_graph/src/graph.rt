@@ -1,5 +1,16 @@
 //! Flow graphs.
 
+ghost use Rattle.std.specs.Prelude.{◌≡◌, ◌<◌, length, IfOk};
+ghost use Rattle.std.specs.List.{All, AllPairs};
+ghost use Rattle.std.specs.List.Sorted.{IsStrictlyIncreasing};
+ghost use Rattle.cc_base.specs.Slices.{IsShort};
+ghost use Rattle.cil_model.specs.Blocks.{block_count};
+ghost use Rattle.cil_model.specs.Code.{CodeOf};
+ghost use Rattle.flow_graph.specs.EdgesOf.{ComesBefore, JoinsBlocks};
+ghost use Rattle.flow_graph.specs.Following.{StepsFollow};
+ghost use Rattle.flow_graph.specs.GraphOf.{graph_of};
+ghost use Rattle.flow_graph.specs.ShortCode.{AreOfShortCode};
+
 use crate::blocks::{blocks, body};
 use crate::edges::edges;
 use crate::heads::heads;
@@ -32,16 +43,6 @@ pub struct Graph {
 }
 
 impl Graph {
-    ghost use Rattle.std.specs.Prelude.{◌≡◌, ◌<◌, length, IfOk};
-    ghost use Rattle.std.specs.List.{All, AllPairs};
-    ghost use Rattle.std.specs.List.Sorted.{IsStrictlyIncreasing};
-    ghost use Rattle.cc_base.specs.Slices.{IsShort};
-    ghost use Rattle.cil_model.specs.Blocks.{block_count};
-    ghost use Rattle.cil_model.specs.Code.{CodeOf};
-    ghost use Rattle.flow_graph.specs.EdgesOf.{ComesBefore, JoinsBlocks};
-    ghost use Rattle.flow_graph.specs.Following.{StepsFollow};
-    ghost use Rattle.flow_graph.specs.GraphOf.{graph_of};
-
     /// The flow graph of the unit's body, also of instructions that no path reaches.
     pub fn of(alloc: Global, unit: &Unit) -> Result<Graph, NoMemory>
         requires code { CodeOf unit.now.instrs unit.now.code }
@@ -56,14 +57,22 @@ impl Graph {
         // The edges are where the machine's steps go.
         ensures steps { IfOk result (StepsFollow unit.now) }
     {
-        let body = body(unit);
-        let blocks = blocks(alloc, unit)?;
-        let edges = edges(alloc, body, blocks.as_slice())?;
-        let heads = heads(alloc, blocks.len() as u32, edges.as_slice())?;
-        Ok(Graph {
-            blocks: List::from_vec(blocks),
-            edges: List::from_vec(edges),
-            heads: List::from_vec(heads),
-        })
+        make_graph(alloc, unit)
     }
+}
+
+/// The flow graph of the unit's body.
+fn make_graph(alloc: Global, unit: &Unit) -> Result<Graph, NoMemory>
+    requires { AreOfShortCode unit.now.instrs }
+    ensures { IfOk result (λ graph. graph ≡ graph_of unit.now) }
+{
+    let body = body(unit);
+    let blocks = blocks(alloc, unit)?;
+    let edges = edges(alloc, body, blocks.as_slice())?;
+    let heads = heads(alloc, blocks.len() as u32, edges.as_slice())?;
+    Ok(Graph {
+        blocks: List::from_vec(blocks),
+        edges: List::from_vec(edges),
+        heads: List::from_vec(heads),
+    })
 }
