@@ -1,5 +1,5 @@
 -- The edges join blocks, and come in order.
-use Rattle.std.proofs.Common.{◌≡◌, ◌⊎◌, ℕ, zero, suc, ◌+◌, ◌<◌, ◌≤◌, ◌==◌, Bool, true, false, nat_le, ◌&&◌, ◌||◌, List, [], ◌∷◌, ◌++◌, length, map, filter, slice_get, Option, Some, None, option_map, refl, sym, ap, subst, ◌∙◌, arith, inl, inr}
+use Rattle.std.proofs.Common.{◌≡◌, ℕ, zero, suc, ◌+◌, ◌<◌, ◌≤◌, ◌==◌, Bool, true, false, nat_le, List, [], ◌∷◌, ◌++◌, length, filter, slice_get, Option, Some, None, option_map, refl, sym, ap, subst, arith, inl, inr}
 use Rattle.std.specs.List.{AllByRecursion, flat_map, list_any}
 use Rattle.std.specs.Option.{option_to_list}
 use Rattle.std.proofs.lemmas.Bool.{cond_both, eqb-true, false≢true}
@@ -179,6 +179,7 @@ all_in_order blocks at (i ∷ []) lie each ends = order_append (edges_from block
     alone : (place : Option ℕ) → InOrder (edges_out blocks place i)
     alone None = tt
     alone (Some from) = edges_order blocks from 0 (successors i.op (i.at + i.size))
+
     nothing : (es : List Edge) → AllByRecursion (λ x. AllByRecursion (ComesBefore x) []) es
     nothing [] = tt
     nothing (e ∷ es) = (tt, nothing es)

@@ -6,3 +6,5 @@ pub mod Lying
 pub mod EdgeOrder
 pub mod EffectsGo
 pub mod StepsGo
+pub mod AlongEdges
+pub mod GraphFacts

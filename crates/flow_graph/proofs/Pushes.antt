@@ -1,6 +1,5 @@
 -- Edges that are appended one after another.
 use Rattle.std.proofs.Common.{◌≡◌, ℕ, ◌+◌, ◌<◌, false, true, List, [], ◌∷◌, ◌++◌, length, get_or, take, append_assoc, append-nil, Some, refl, sym, ap, ◌∙◌, arith}
-use Rattle.std.specs.List.{flat_map}
 use Rattle.std.specs.Option.{option_to_list}
 use Rattle.std.proofs.lemmas.Bool.{false≢true}
 use Rattle.std.proofs.lemmas.List.{length-take-le, take_more}
@@ -10,8 +9,7 @@ use Rattle.cil_model.specs.declared.instruction.Instr.{Instr}
 use Rattle.cil_model.specs.declared.instruction.Op.{Op}
 use Rattle.cil_model.specs.declared.instruction.Op.TheVariants as ops
 use Rattle.cil_model.specs.declared.instruction.Test.TheVariants as tests
-use Rattle.flow_graph.specs.BlocksOf.{block_at}
-use Rattle.flow_graph.specs.EdgesOf.{edge_to, edges_to, edges_out, edges_from}
+use Rattle.flow_graph.specs.EdgesOf.{edge_to, edges_to, edges_out}
 use Rattle.flow_graph.specs.declared.graph.Edge.{Edge}
 
 -- The list and its next item, as they are read.

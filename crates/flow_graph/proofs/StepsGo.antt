@@ -1,7 +1,7 @@
 -- A step of a frame within itself goes to one of the offsets to which its instruction goes on.
-use Rattle.std.proofs.Common.{◌≡◌, ℕ, ◌+◌, List, [], ◌∷◌, ◌++◌, length, slice_get, Option, Some, None, refl, sym, subst, ◌∙◌, inl, inr}
+use Rattle.std.proofs.Common.{◌≡◌, ℕ, ◌+◌, List, [], ◌∷◌, ◌++◌, length, Option, Some, None, refl, sym, subst, ◌∙◌, inl, inr}
 use Rattle.std.proofs.lemmas.Option.{same_Some}
-use Rattle.cil_model.specs.Calls.{FreeCall, FreelyCalled, ReturnRow, Returned, Returns, behind_call, pushed, ensures_fault}
+use Rattle.cil_model.specs.Calls.{FreeCall, FreelyCalled, Returned, behind_call, pushed, ensures_fault}
 use Rattle.cil_model.specs.Clauses.{false_requires}
 use Rattle.cil_model.specs.Effects.{Effect, GoesOn, Faults, Assumes, FindsNoRoom}
 use Rattle.cil_model.specs.Passes.{successors}

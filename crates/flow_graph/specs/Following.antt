@@ -1,5 +1,5 @@
 -- Steps of the machine go along the edges of the graph, and within its blocks.
-use Rattle.std.specs.Prelude.{◌≡◌, ◌⊎◌, ℕ, ◌+◌, true, false, List, [], ◌∷◌, Option, Some, slice_get}
+use Rattle.std.specs.Prelude.{◌≡◌, ◌⊎◌, ℕ, ◌+◌, true, false, [], ◌∷◌, Some, slice_get}
 use Rattle.std.specs.List.{Contains}
 use Rattle.cil_model.specs.Blocks.{body_of, is_block_start}
 use Rattle.cil_model.specs.Code.{begins_at}

@@ -1,11 +1,11 @@
 //! Flow graphs.
 
-ghost use Rattle.std.specs.Prelude.{◌≡◌, ◌<◌, length, IfOk};
+ghost use Rattle.std.specs.Prelude.{◌≡◌, ◌<◌, true, length, slice_get, IfOk};
 ghost use Rattle.std.specs.List.{All, AllPairs};
 ghost use Rattle.std.specs.List.Sorted.{IsStrictlyIncreasing};
 ghost use Rattle.cc_base.specs.Slices.{IsShort};
 ghost use Rattle.cil_model.specs.Blocks.{block_count};
-ghost use Rattle.cil_model.specs.Code.{CodeOf};
+ghost use Rattle.cil_model.specs.Code.{begins_at, CodeOf};
 ghost use Rattle.flow_graph.specs.EdgesOf.{ComesBefore, JoinsBlocks};
 ghost use Rattle.flow_graph.specs.Following.{StepsFollow};
 ghost use Rattle.flow_graph.specs.GraphOf.{graph_of};
@@ -50,6 +50,9 @@ impl Graph {
         ensures exact { IfOk result (λ graph. graph ≡ graph_of unit.now) }
         ensures count { IfOk result (λ graph. length graph.blocks ≡ block_count unit.now) }
         ensures blocks_rise { IfOk result (λ graph. IsStrictlyIncreasing graph.blocks) }
+        // The first block starts where the body does, if an instruction begins there.
+        ensures first { IfOk result (λ graph. begins_at unit.now.instrs unit.now.body_start ≡ true →
+            slice_get graph.blocks 0 ≡ Some unit.now.body_start) }
         ensures edges_join_blocks { IfOk result (λ graph. All (JoinsBlocks graph.blocks) graph.edges) }
         ensures edges_in_order { IfOk result (λ graph. AllPairs ComesBefore graph.edges) }
         ensures heads_are_blocks { IfOk result (λ graph. All (λ head. head < length graph.blocks) graph.heads) }

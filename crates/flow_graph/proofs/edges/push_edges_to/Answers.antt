@@ -1,4 +1,4 @@
-use Rattle.std.proofs.Common.{◌++◌, get_or, refl, ap, ◌∙◌}
+use Rattle.std.proofs.Common.{◌++◌, get_or, ap, ◌∙◌}
 use Rattle.std.proofs.lemmas.List.{get_or_default}
 use Rattle.std.specs.Option.{option_to_list}
 use Rattle.flow_graph.specs.EdgesOf.{edge_to}

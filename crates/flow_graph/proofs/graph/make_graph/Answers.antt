@@ -4,8 +4,6 @@ use Rattle.std.specs.List.Sorted.{IsStrictlyIncreasing}
 use Rattle.cil_model.specs.declared.instruction.Instr.{Instr}
 use Rattle.flow_graph.specs.ShortCode.{IsOfShortCode}
 use Rattle.flow_graph.proofs.Lying.{blocks_increase, body_short, few_blocks, offsets_rise}
-use Rattle.flow_graph.proofs.EdgeOrder.{all_in_order}
-use Rattle.flow_graph.proofs.StepsGo.{step_goes}
 use Rattle.flow_graph.proofs.graph.make_graph.Goals as goal
 
 pub body-body-requires : goal.body-body-requires
@@ -19,4 +17,5 @@ pub edges-requires-clause-short : goal.edges-requires-clause-short
 edges-requires-clause-short c = subst (λ (is : List Instr). All IsOfShortCode is) (sym c.body-body.ensures) (body_short c.args.unit.now c.requires)
 
 pub overflow_cast-len : goal.overflow_cast-len
-overflow_cast-len c = let e = c.len.ensures in ?
+overflow_cast-len c =
+    omega (arith, few_blocks c.args.unit.now c.requires, c.len.ensures, c.as_slice.ensures.len, ap length (c.as_slice.ensures.value ∙ c.in_ok-blocks.ensures))
