@@ -31,6 +31,8 @@ mod failing_devices;
 #[cfg(test)]
 mod fault_texts;
 #[cfg(test)]
+mod graph_rows;
+#[cfg(test)]
 mod heap_rows;
 #[cfg(test)]
 mod il_answers;

@@ -1,0 +1,10 @@
+pub mod Searches
+pub mod Pushes
+pub mod Marks
+pub mod TargetRows
+pub mod Lying
+pub mod EdgeOrder
+pub mod EffectsGo
+pub mod StepsGo
+pub mod AlongEdges
+pub mod GraphFacts

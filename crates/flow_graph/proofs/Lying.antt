@@ -1,0 +1,132 @@
+-- Instructions that lie one after another: their offsets, and those of the blocks.
+use Rattle.std.proofs.Common.{◌≡◌, ℕ, zero, suc, ◌+◌, ◌^◌, ◌<◌, ◌≤◌, Bool, true, false, nat_le, List, [], ◌∷◌, length, map, filter, get_or, refl, sym, ap, subst, add-one, ◌∙◌, arith, cond}
+use Rattle.std.specs.List.{All, AllByRecursion}
+use Rattle.std.specs.List.Sorted.{IsNonDecreasingBy, IsStrictlyIncreasing}
+use Rattle.std.proofs.lemmas.Bool.{cond_both}
+use Rattle.std.proofs.lemmas.Bool.Decides.{nat_tests}
+use Rattle.std.proofs.lemmas.List.{get_or-map, length-append, length-map}
+use Rattle.std.proofs.lemmas.List.Kept.{AllPairs-from_increasing, IsStrictlyIncreasing-filter}
+use Rattle.std.proofs.lemmas.List.Sums.{count_by-le-length, length-filter}
+use Rattle.cc_base.specs.Slices.{IsShort}
+use Rattle.cil_model.specs.Blocks.{body_of, is_block_start}
+use Rattle.cil_model.specs.Code.{CodeFrom, CodeOf}
+use Rattle.cil_model.specs.declared.instruction.Instr.{Instr}
+use Rattle.cil_model.specs.declared.unit.Unit.{Unit as MethodUnit}
+use Rattle.cil_model.proofs.Forms.{spelling_some}
+use Rattle.flow_graph.specs.BlocksOf.{blocks_of}
+use Rattle.flow_graph.specs.ShortCode.{AreOfShortCode, IsOfShortCode, LieFrom}
+use Rattle.flow_graph.proofs.Searches.{not_falling}
+use Rattle.flow_graph.proofs.TargetRows.{few_targets}
+
+-- ---- code
+
+code_lies : (at : ℕ) (is : List Instr) (code : List ℕ) → CodeFrom at is code → at + length code ≤ 2147483647 → LieFrom at is × AllByRecursion IsOfShortCode is
+code_lies at [] code spelled short = (tt, tt)
+code_lies at (i ∷ is) code (begins, (bytes, rest, spells, parts, others)) short =
+    let whole : length code ≡ length bytes + length rest = ap length parts ∙ length-append bytes rest in
+    let size : i.size ≡ length bytes = spells.size in
+    let behind = code_lies (at + i.size) is rest others (omega (arith, whole, size, short)) in (
+      (begins, behind.0),
+      (
+        record {
+          some = omega (arith, size, spelling_some i bytes spells);
+          end = omega (arith, begins, whole, size, short);
+          targets = few_targets i bytes spells;
+        },
+        behind.1,
+      ),
+    )
+
+pub code_is_short : (is : List Instr) (code : List ℕ) → CodeOf is code → IsShort code → AreOfShortCode is
+code_is_short is code spelled short = let parts = code_lies 0 is code spelled.spelled (omega (arith, short)) in record { lie = parts.0; each = parts.1 }
+
+-- ---- what holds of each instruction
+
+module _ {X : Type 0} (P : X → Type 0) where
+  pub all_by_index : (xs : List X) → AllByRecursion P xs → All P xs
+  all_by_index [] all k d inside = absurd (omega arith)
+  all_by_index (x ∷ xs) all zero d inside = all.0
+  all_by_index (x ∷ xs) all (suc k) d inside = all_by_index xs all.1 k d (omega arith)
+
+  pub all_passing : (p : X → Bool) (xs : List X) → AllByRecursion P xs → AllByRecursion P (filter p xs)
+  all_passing p [] all = tt
+  all_passing p (x ∷ xs) all = cond_both (p x) _ _ (AllByRecursion P) (λ e. (all.0, all_passing p xs all.1)) (λ e. all_passing p xs all.1)
+
+pub length-passing : {X : Type 0} (p : X → Bool) (xs : List X) → length (filter p xs) ≤ length xs
+length-passing p xs = omega (arith, length-filter p xs, count_by-le-length p xs)
+
+-- ---- offsets
+
+rises : (at : ℕ) (is : List Instr) (k : ℕ) → LieFrom at is → AllByRecursion IsOfShortCode is → suc k < length is → get_or (map (λ i. i.at) is) k 0 < get_or (map (λ i. i.at) is) (suc k) 0
+rises at [] k lie each inside = absurd (omega arith)
+rises at (i ∷ []) k lie each inside = absurd (omega arith)
+rises at (i ∷ j ∷ is) zero lie each inside = omega (arith, lie.0, lie.1.0, each.0.some)
+rises at (i ∷ j ∷ is) (suc k) lie each inside = rises (at + i.size) (j ∷ is) k lie.1 each.1 (omega arith)
+
+pub offsets_increase : (at : ℕ) (is : List Instr) → LieFrom at is → AllByRecursion IsOfShortCode is → IsStrictlyIncreasing (map (λ i. i.at) is)
+offsets_increase at is lie each k inside =
+    let offsets = map (λ (i : Instr). i.at) is in
+    subst (λ (n : ℕ). get_or offsets k 0 < get_or offsets n 0) (sym (add-one k)) (rises at is k lie each (omega (arith, inside, length-map is (λ (i : Instr). i.at))))
+
+pub offsets_rise : (is : List Instr) → AreOfShortCode is → IsNonDecreasingBy (λ i. i.at) is
+offsets_rise is short i j d le inside =
+    let offsets = map (λ (i : Instr). i.at) is in
+    let same = length-map is (λ (i : Instr). i.at) in
+    let up = not_falling offsets (AllPairs-from_increasing offsets (offsets_increase 0 is short.lie short.each)) i j 0 le (omega (arith, same, inside)) in
+    omega (arith, up, get_or-map (λ (i : Instr). i.at) is i d 0 (omega arith), get_or-map (λ (i : Instr). i.at) is j d 0 inside)
+
+count_short : (at : ℕ) (is : List Instr) → LieFrom at is → AllByRecursion IsOfShortCode is → at ≤ 2147483647 → at + length is ≤ 2147483647
+count_short at [] lie each low = omega arith
+count_short at (i ∷ is) lie each low =
+    omega (arith, lie.0, each.0.some, each.0.end, count_short (at + i.size) is lie.1 each.1 (omega (arith, lie.0, each.0.end)))
+
+-- ---- the body
+
+all_behind : (start at : ℕ) (is : List Instr) → start ≤ at → LieFrom at is → filter (λ i. nat_le start i.at) is ≡ is
+all_behind start at [] le lie = refl
+all_behind start at (i ∷ is) le lie =
+    let test : nat_le start i.at ≡ true = let e = lie.0 in grind (arith, nat_tests) in
+    rw test (ap (λ (js : List Instr). i ∷ js) (all_behind start (at + i.size) is (omega arith) lie.1))
+
+-- The instructions from some offset on lie one after another.
+rest_lies : (start at : ℕ) (is : List Instr) → LieFrom at is → (from : ℕ) × LieFrom from (filter (λ i. nat_le start i.at) is)
+rest_lies start at [] lie = (at, tt)
+rest_lies start at (i ∷ is) lie =
+    cond_both (nat_le start i.at) _ _ (λ (rest : List Instr). (from : ℕ) × LieFrom from rest)
+    (λ e. let le : start ≤ at + i.size = (let f = lie.0 in grind (arith, nat_tests)) in
+    (at, (lie.0, subst (LieFrom (at + i.size)) (sym (all_behind start (at + i.size) is le lie.1)) lie.1)))
+    (λ e. rest_lies start (at + i.size) is lie.1)
+
+module _ (unit : MethodUnit) (short : AreOfShortCode unit.instrs) where
+  pub body_lies : (from : ℕ) × LieFrom from (body_of unit)
+  body_lies = rest_lies unit.body_start 0 unit.instrs short.lie
+
+  pub body_each : AllByRecursion IsOfShortCode (body_of unit)
+  body_each = all_passing IsOfShortCode (λ i. nat_le unit.body_start i.at) unit.instrs short.each
+
+  pub body_short : All IsOfShortCode (body_of unit)
+  body_short = all_by_index IsOfShortCode (body_of unit) body_each
+
+  pub blocks_increase : IsStrictlyIncreasing (blocks_of unit)
+  blocks_increase =
+      let (from, lie) = body_lies in
+      subst IsStrictlyIncreasing (sym (passing_offsets (is_block_start unit) (body_of unit)))
+      (IsStrictlyIncreasing-filter (is_block_start unit) (map (λ i. i.at) (body_of unit)) (offsets_increase from (body_of unit) lie body_each))
+    where
+      passing_offsets : (p : ℕ → Bool) (is : List Instr) → map (λ i. i.at) (filter (λ i. p i.at) is) ≡ filter p (map (λ i. i.at) is)
+      passing_offsets p [] = refl
+      passing_offsets p (i ∷ is) =
+          elim (p i.at) as (λ b. map (λ (j : Instr). j.at) (cond b (i ∷ filter (λ j. p j.at) is) (filter (λ j. p j.at) is)) ≡ cond b (i.at ∷ filter p (map (λ j. j.at) is)) (filter p (map (λ j. j.at) is))) [
+            | true ↦ ap (λ (ns : List ℕ). i.at ∷ ns) (passing_offsets p is)
+            | false ↦ passing_offsets p is
+          ]
+
+  pub few_blocks : length (blocks_of unit) < 2 ^ 32
+  few_blocks =
+      omega (
+        arith,
+        length-map (filter (λ i. is_block_start unit i.at) (body_of unit)) (λ (i : Instr). i.at),
+        length-passing (λ i. is_block_start unit i.at) (body_of unit),
+        length-passing (λ i. nat_le unit.body_start i.at) unit.instrs,
+        count_short 0 unit.instrs short.lie short.each (omega arith),
+      )

@@ -1,0 +1,6 @@
+pub mod BlocksOf
+pub mod EdgesOf
+pub mod GraphOf
+pub mod HeadsOf
+pub mod Following
+pub mod ShortCode
