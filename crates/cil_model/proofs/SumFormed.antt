@@ -16,24 +16,151 @@ alone b i small size form = record { size = size; row = inl (b, small, form) }
 
 code_from : CodeFrom 0 sum.instrs sum.code
 unfolding short_form long_form variable_form constant_form branch_form test_of operator_of object_form
-code_from =
-    (refl, (0x02 ∷ [], _, alone 0x02 _ (omega arith) refl (0, omega arith, refl, refl), refl,
-    (refl, (0x16 ∷ [], _, alone 0x16 _ (omega arith) refl (0, omega arith, refl, refl), refl,
-    (refl, (0xfe ∷ 0x04 ∷ [], _, record { size = refl; row = inr (inl (0x04, omega arith, (0, omega arith, refl, refl))) }, refl,
-    (refl, (0x16 ∷ [], _, alone 0x16 _ (omega arith) refl (0, omega arith, refl, refl), refl,
-    (refl, (0xfe ∷ 0x01 ∷ [], _, record { size = refl; row = inr (inl (0x01, omega arith, (0, omega arith, refl, refl))) }, refl,
-    (refl, (0x28 ∷ 1 ∷ 0 ∷ 0 ∷ 0 ∷ [], _, record { size = refl; row = inl (0x28, omega arith, (1, omega arith, refl, refl)) }, refl,
-    (refl, (0x02 ∷ [], _, alone 0x02 _ (omega arith) refl (0, omega arith, refl, refl), refl,
-    (refl, (0x2d ∷ 2 ∷ [], _, record { size = refl; row = inl (0x2d, omega arith, (2, omega arith, refl, refl)) }, refl,
-    (refl, (0x16 ∷ [], _, alone 0x16 _ (omega arith) refl (0, omega arith, refl, refl), refl,
-    (refl, (0x2a ∷ [], _, alone 0x2a _ (omega arith) refl (0, omega arith, refl, refl), refl,
-    (refl, (0x02 ∷ [], _, alone 0x02 _ (omega arith) refl (0, omega arith, refl, refl), refl,
-    (refl, (0x02 ∷ [], _, alone 0x02 _ (omega arith) refl (0, omega arith, refl, refl), refl,
-    (refl, (0x17 ∷ [], _, alone 0x17 _ (omega arith) refl (0, omega arith, refl, refl), refl,
-    (refl, (0x59 ∷ [], _, alone 0x59 _ (omega arith) refl (0, omega arith, refl, refl), refl,
-    (refl, (0x28 ∷ 0x64 ∷ 0 ∷ 0 ∷ 0 ∷ [], _, record { size = refl; row = inl (0x28, omega arith, (100, omega arith, refl, refl)) }, refl,
-    (refl, (0x58 ∷ [], _, alone 0x58 _ (omega arith) refl (0, omega arith, refl, refl), refl,
-    (refl, (0x2a ∷ [], _, alone 0x2a _ (omega arith) refl (0, omega arith, refl, refl), refl, refl))))))))))))))))))))))))))))))))))
+code_from = (
+  refl,
+  (
+    0x02 ∷ [],
+    _,
+    alone 0x02 _ (omega arith) refl (0, omega arith, refl, refl),
+    refl,
+    (
+      refl,
+      (
+        0x16 ∷ [],
+        _,
+        alone 0x16 _ (omega arith) refl (0, omega arith, refl, refl),
+        refl,
+        (
+          refl,
+          (
+            0xfe ∷ 0x04 ∷ [],
+            _,
+            record { size = refl; row = inr (inl (0x04, omega arith, (0, omega arith, refl, refl))) },
+            refl,
+            (
+              refl,
+              (
+                0x16 ∷ [],
+                _,
+                alone 0x16 _ (omega arith) refl (0, omega arith, refl, refl),
+                refl,
+                (
+                  refl,
+                  (
+                    0xfe ∷ 0x01 ∷ [],
+                    _,
+                    record { size = refl; row = inr (inl (0x01, omega arith, (0, omega arith, refl, refl))) },
+                    refl,
+                    (
+                      refl,
+                      (
+                        0x28 ∷ 1 ∷ 0 ∷ 0 ∷ 0 ∷ [],
+                        _,
+                        record { size = refl; row = inl (0x28, omega arith, (1, omega arith, refl, refl)) },
+                        refl,
+                        (
+                          refl,
+                          (
+                            0x02 ∷ [],
+                            _,
+                            alone 0x02 _ (omega arith) refl (0, omega arith, refl, refl),
+                            refl,
+                            (
+                              refl,
+                              (
+                                0x2d ∷ 2 ∷ [],
+                                _,
+                                record { size = refl; row = inl (0x2d, omega arith, (2, omega arith, refl, refl)) },
+                                refl,
+                                (
+                                  refl,
+                                  (
+                                    0x16 ∷ [],
+                                    _,
+                                    alone 0x16 _ (omega arith) refl (0, omega arith, refl, refl),
+                                    refl,
+                                    (
+                                      refl,
+                                      (
+                                        0x2a ∷ [],
+                                        _,
+                                        alone 0x2a _ (omega arith) refl (0, omega arith, refl, refl),
+                                        refl,
+                                        (
+                                          refl,
+                                          (
+                                            0x02 ∷ [],
+                                            _,
+                                            alone 0x02 _ (omega arith) refl (0, omega arith, refl, refl),
+                                            refl,
+                                            (
+                                              refl,
+                                              (
+                                                0x02 ∷ [],
+                                                _,
+                                                alone 0x02 _ (omega arith) refl (0, omega arith, refl, refl),
+                                                refl,
+                                                (
+                                                  refl,
+                                                  (
+                                                    0x17 ∷ [],
+                                                    _,
+                                                    alone 0x17 _ (omega arith) refl (0, omega arith, refl, refl),
+                                                    refl,
+                                                    (
+                                                      refl,
+                                                      (
+                                                        0x59 ∷ [],
+                                                        _,
+                                                        alone 0x59 _ (omega arith) refl (0, omega arith, refl, refl),
+                                                        refl,
+                                                        (
+                                                          refl,
+                                                          (
+                                                            0x28 ∷ 0x64 ∷ 0 ∷ 0 ∷ 0 ∷ [],
+                                                            _,
+                                                            record { size = refl; row = inl (0x28, omega arith, (100, omega arith, refl, refl)) },
+                                                            refl,
+                                                            (
+                                                              refl,
+                                                              (
+                                                                0x58 ∷ [],
+                                                                _,
+                                                                alone 0x58 _ (omega arith) refl (0, omega arith, refl, refl),
+                                                                refl,
+                                                                (refl, (0x2a ∷ [], _, alone 0x2a _ (omega arith) refl (0, omega arith, refl, refl), refl, refl)),
+                                                              ),
+                                                            ),
+                                                          ),
+                                                        ),
+                                                      ),
+                                                    ),
+                                                  ),
+                                                ),
+                                              ),
+                                            ),
+                                          ),
+                                        ),
+                                      ),
+                                    ),
+                                  ),
+                                ),
+                              ),
+                            ),
+                          ),
+                        ),
+                      ),
+                    ),
+                  ),
+                ),
+              ),
+            ),
+          ),
+        ),
+      ),
+    ),
+  ),
+)
 
 code_is : CodeOf sum.instrs sum.code
 code_is = record { spelled = code_from; targets = (tt, (tt, (tt, (tt, (tt, (tt, (tt, ((refl, tt), (tt, (tt, (tt, (tt, (tt, (tt, (tt, (tt, (tt, tt))))))))))))))))) }
