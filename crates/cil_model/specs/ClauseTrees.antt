@@ -106,7 +106,7 @@ branch_tree from _ target next _ = None
 -- What a call that closes a clause finds: the tree, below the message where it takes one, and nothing else.
 abbrev pub closed_tree : Bool → List Item → Option Term
 closed_tree false (Tree a ∷ []) = Some a
-closed_tree true (message ∷ Tree a ∷ []) = Some a
+closed_tree true (top ∷ Tree a ∷ []) = Some a
 closed_tree _ _ = None
 
 -- The clause that a call closes: its kind, and whether it takes a message.

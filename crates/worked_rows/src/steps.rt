@@ -1,5 +1,8 @@
 //! What the tests of typing share: operations in tables, and the code and the shapes that are made of them.
 
+ghost use Rattle.std.specs.Prelude.{◌≡◌, true};
+ghost use Rattle.stack_typer.specs.LaidOut.{AreLaidOut, LieFrom};
+
 use cil_model::{BinOp, CalleeInfo, Instr, List, Op, Place, Shape, Test};
 use std::alloc::{AllocError, Global};
 
@@ -64,7 +67,7 @@ fn op(alloc: Global, step: Step) -> Result<Op, AllocError> {
 pub fn code(alloc: Global, steps: &[Step]) -> Result<Vec<Instr>, AllocError> {
     let mut instrs = Vec::new(alloc);
     for (index, step) in steps.iter().enumerate() {
-        let at = index as u32;
+        let at = u32::try_from(index).unwrap_or(u32::MAX);
         instrs.push(Instr {
             at,
             size: 1,
@@ -72,6 +75,30 @@ pub fn code(alloc: Global, steps: &[Step]) -> Result<Vec<Instr>, AllocError> {
         })?;
     }
     Ok(instrs)
+}
+
+/// Whether the instructions lie one behind another, from this IL offset on.
+fn lie_from(instrs: &[Instr], at: u32) -> bool
+    ensures { result ≡ true → LieFrom at instrs.now }
+{
+    match instrs {
+        [] => true,
+        [first, others @ ..] => {
+            first.at == at
+                && first.size > 0
+                && match at.checked_add(first.size) {
+                    Some(next) => lie_from(others, next),
+                    None => false,
+                }
+        }
+    }
+}
+
+/// Whether the instructions lie one behind another, from the start of the code on.
+pub fn are_laid_out(instrs: &[Instr]) -> bool
+    ensures { result ≡ true → AreLaidOut instrs.now }
+{
+    lie_from(instrs, 0)
 }
 
 /// A list of places.

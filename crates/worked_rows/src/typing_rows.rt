@@ -3,7 +3,7 @@
 //! Each instruction has one byte, so that an IL offset is the index of an instruction. Expected values were worked
 //! out by hand from the rules of ECMA-335 III.1.5, III.1.7.5 and III.1.8.1.
 
-use crate::steps::{Step, code, shape};
+use crate::steps::{Step, are_laid_out, code, shape};
 use cc_base::Refusal;
 use cil_model::{BinOp, CmpOp, Kind, Place, Test, TypeFault};
 use stack_typer::type_code;
@@ -714,6 +714,7 @@ const FAULTY: [Faulty; 54] = [
 
 fn assert_typed(rt: &impl Abort, alloc: Global, row: &Typed) -> Result<(), AllocError> {
     let instrs = code(alloc, row.code)?;
+    assert!(rt; are_laid_out(&instrs));
     let shape = shape(alloc, row.result_place, row.max_stack)?;
     match type_code(alloc, &instrs, &shape) {
         Ok(kinds) => assert_eq!(rt; kinds.before(row.index), row.kinds),
@@ -729,6 +730,7 @@ fn assert_typed(rt: &impl Abort, alloc: Global, row: &Typed) -> Result<(), Alloc
 
 fn assert_faulty(rt: &impl Abort, alloc: Global, row: &Faulty) -> Result<(), AllocError> {
     let instrs = code(alloc, row.code)?;
+    assert!(rt; are_laid_out(&instrs));
     let shape = shape(alloc, row.result_place, row.max_stack)?;
     match type_code(alloc, &instrs, &shape) {
         Ok(_) => assert!(rt; false, "no fault, and not {:?}", row.fault),
