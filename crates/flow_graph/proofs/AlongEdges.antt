@@ -54,7 +54,8 @@ found_in_rest start (i ∷ is) at le =
       | inr dropped ↦ (let e : (i.at == at) ≡ false = grind (arith, nat_tests) in rw (dropped, e) (found_in_rest start is at le))
     ]
 
-flat_map_found : (f : Instr → List Edge) (is : List Instr) (at : ℕ) (i : Instr) (e : Edge) → instr_at is at ≡ Some i → Contains (f i) e → Contains (flat_map f is) e
+flat_map_found : (f : Instr → List Edge) (is : List Instr) (at : ℕ) (i : Instr) (e : Edge) → instr_at is at ≡ Some i → Contains (f i) e
+    → Contains (flat_map f is) e
 flat_map_found f [] at i e found has = absurd (none-some i found)
 flat_map_found f (j ∷ is) at i e found has =
     cond_both (j.at == at) _ _ (λ (other : Option Instr). other ≡ Some i → Contains (f j ++ flat_map f is) e)
@@ -80,7 +81,8 @@ edges_to_has blocks from number (a ∷ ats) (suc n) at to there placed =
     (subst (λ (k : ℕ). Contains (edges_to blocks from (number + 1) ats) (record { from = from; to = to; number = k })) e
     (edges_to_has blocks from (number + 1) ats n at to there placed))
 
-edges_from_has : (blocks : List ℕ) (block : ℕ) (i : Instr) (n at to : ℕ) → block_at blocks i.at ≡ Some block → slice_get (successors i.op (i.at + i.size)) n ≡ Some at
+edges_from_has : (blocks : List ℕ) (block : ℕ) (i : Instr) (n at to : ℕ) → block_at blocks i.at ≡ Some block
+    → slice_get (successors i.op (i.at + i.size)) n ≡ Some at
     → place_of blocks at ≡ Some to → Contains (edges_from blocks i) (record { from = block; to = to; number = n })
 edges_from_has blocks block i n at to is there placed =
     let e : 0 + n ≡ n = omega arith in
@@ -90,7 +92,8 @@ edges_from_has blocks block i n at to is there placed =
 
 -- ---- what holds of each block
 
-blocks_all : (P : ℕ → Type 0) (q : ℕ → Bool) (is : List Instr) → AllByRecursion (λ i. q i.at ≡ true → P i.at) is → AllByRecursion P (map (λ i. i.at) (filter (λ i. q i.at) is))
+blocks_all : (P : ℕ → Type 0) (q : ℕ → Bool) (is : List Instr) → AllByRecursion (λ i. q i.at ≡ true → P i.at) is
+    → AllByRecursion P (map (λ i. i.at) (filter (λ i. q i.at) is))
 blocks_all P q [] all = tt
 blocks_all P q (i ∷ is) all =
     cond_both (q i.at) _ _ (λ (js : List Instr). AllByRecursion P (map (λ (j : Instr). j.at) js)) (λ e. (all.0 e, blocks_all P q is all.1)) (λ e. blocks_all P q is all.1)
@@ -148,7 +151,8 @@ one_of_last (x ∷ xs) next (suc n) at e =
     elim (one_of_last xs next n at e) [ inl has ↦ inl (or_right (x == at) (list_any (λ y. y == at) xs) has) | inr same ↦ inr same ]
 
 -- An offset to which the operation goes on is a target or the next one.
-target_or_next : (op : Op) (next n at : ℕ) → slice_get (successors op next) n ≡ Some at → (list_any (λ x. x == at) (branch_targets op) ≡ true) ⊎ (at ≡ next)
+target_or_next : (op : Op) (next n at : ℕ) → slice_get (successors op next) n ≡ Some at
+    → (list_any (λ x. x == at) (branch_targets op) ≡ true) ⊎ (at ≡ next)
 target_or_next ops.Return next n at e = absurd (none-some at e)
 target_or_next (ops.Branch tests.Always target) next n at e = inl (rw (eq-eqb target at (only target n at e)) refl)
   where
@@ -222,7 +226,8 @@ module _ (unit : MethodUnit) (short : AreOfShortCode unit.instrs) where
           | inr e ↦ e
         ]
 
-    same_test : is_block_start unit at ≡ false → at ≡ i.at + i.size → (s : ℕ) → is_block_start unit s ≡ true → IsApart i s → nat_le s at ≡ nat_le s i.at
+    same_test : is_block_start unit at ≡ false → at ≡ i.at + i.size → (s : ℕ) → is_block_start unit s ≡ true → IsApart i s
+        → nat_le s at ≡ nat_le s i.at
     same_test none next s starts (inl before) = grind (arith, nat_tests)
     same_test none next s starts (inr behind) =
         elim (cases_Bool (s == at)) [

@@ -26,7 +26,8 @@ all_weaker P Q weaker (x ∷ xs) all = (weaker x all.0, all_weaker P Q weaker xs
 
 module _ {X : Type 0} (p q : X → Bool) (sub : (x : X) → p x ≡ true → q x ≡ true) where
   -- What passes the wider test is no fewer, and stays so by as many with one more item.
-  passing_one : (x : X) (xs : List X) (more : ℕ) → length (filter p xs) + more ≤ length (filter q xs) → length (filter p (x ∷ xs)) + more ≤ length (filter q (x ∷ xs))
+  passing_one : (x : X) (xs : List X) (more : ℕ) → length (filter p xs) + more ≤ length (filter q xs)
+      → length (filter p (x ∷ xs)) + more ≤ length (filter q (x ∷ xs))
   passing_one x xs more h =
       cond_both (p x) _ _ (λ (ys : List X). length ys + more ≤ length (filter q (x ∷ xs))) (λ e. rw (sub x e) (omega (arith, h)))
       (λ e. cond_both (q x) _ _ (λ (ys : List X). length (filter p xs) + more ≤ length ys) (λ f. omega (arith, h)) (λ f. h))
@@ -90,7 +91,8 @@ module _ (blocks : List ℕ) (from : ℕ) where
       all_append P (option_to_list (edge_to blocks from number at)) (edges_to blocks from (number + 1) ats)
       (edge_all P number (place_of blocks at) (λ to e. holds number at to (omega arith) e)) (edges_all P (number + 1) ats (λ n at to le e. holds n at to (omega arith) e))
 
-edges_join : (blocks : List ℕ) (place : Option ℕ) (i : Instr) → ((from : ℕ) → place ≡ Some from → from < length blocks) → AllByRecursion (JoinsBlocks blocks) (edges_out blocks place i)
+edges_join : (blocks : List ℕ) (place : Option ℕ) (i : Instr) → ((from : ℕ) → place ≡ Some from → from < length blocks)
+    → AllByRecursion (JoinsBlocks blocks) (edges_out blocks place i)
 edges_join blocks None i within = tt
 edges_join blocks (Some from) i within =
     edges_all blocks from (JoinsBlocks blocks) 0 (successors i.op (i.at + i.size))
@@ -159,7 +161,8 @@ module _ (blocks : List ℕ) (i j : Instr) (later : List Edge) (some : 0 < i.siz
       (λ e. absurd (none-some (ends e).0 (ends e).1))
       (λ e. rw (next_alone i.op (i.at + i.size) e, found) order)
 
-edges_leave : (blocks : List ℕ) (i : Instr) (place : Option ℕ) → last_place (Starts blocks i.at) ≡ place → LeaveFrom blocks i.at (edges_out blocks place i)
+edges_leave : (blocks : List ℕ) (i : Instr) (place : Option ℕ) → last_place (Starts blocks i.at) ≡ place
+    → LeaveFrom blocks i.at (edges_out blocks place i)
 edges_leave blocks i None is = tt
 edges_leave blocks i (Some from) is =
     edges_all blocks from (λ e. Starts blocks i.at ≤ suc e.from) 0 (successors i.op (i.at + i.size)) (λ n at to le e. omega (arith, last_place_is (Starts blocks i.at) from is))
@@ -172,7 +175,8 @@ all_leave blocks at (i ∷ is) lie =
     (subst (λ (n : ℕ). LeaveFrom blocks n (edges_from blocks i)) lie.0 (edges_leave blocks i (block_at blocks i.at) refl))
     (all_weaker _ (λ e. Starts blocks at ≤ suc e.from) (λ e h. omega (arith, h, le)) (flat_map (edges_from blocks) is) (all_leave blocks (at + i.size) is lie.1))
 
-pub all_in_order : (blocks : List ℕ) (at : ℕ) (is : List Instr) → LieFrom at is → AllByRecursion IsOfShortCode is → EndBefore blocks is → InOrder (flat_map (edges_from blocks) is)
+pub all_in_order : (blocks : List ℕ) (at : ℕ) (is : List Instr) → LieFrom at is → AllByRecursion IsOfShortCode is → EndBefore blocks is
+    → InOrder (flat_map (edges_from blocks) is)
 all_in_order blocks at [] lie each ends = tt
 all_in_order blocks at (i ∷ []) lie each ends = order_append (edges_from blocks i) [] (alone (block_at blocks i.at)) tt (nothing (edges_from blocks i))
   where

@@ -20,7 +20,8 @@ use Rattle.flow_graph.proofs.TargetRows.{few_targets}
 
 -- ---- code
 
-code_lies : (at : ℕ) (is : List Instr) (code : List ℕ) → CodeFrom at is code → at + length code ≤ 2147483647 → LieFrom at is × AllByRecursion IsOfShortCode is
+code_lies : (at : ℕ) (is : List Instr) (code : List ℕ) → CodeFrom at is code → at + length code ≤ 2147483647
+    → LieFrom at is × AllByRecursion IsOfShortCode is
 code_lies at [] code spelled short = (tt, tt)
 code_lies at (i ∷ is) code (begins, (bytes, rest, spells, parts, others)) short =
     let whole : length code ≡ length bytes + length rest = ap length parts ∙ length-append bytes rest in
@@ -57,7 +58,8 @@ length-passing p xs = omega (arith, length-filter p xs, count_by-le-length p xs)
 
 -- ---- offsets
 
-rises : (at : ℕ) (is : List Instr) (k : ℕ) → LieFrom at is → AllByRecursion IsOfShortCode is → suc k < length is → get_or (map (λ i. i.at) is) k 0 < get_or (map (λ i. i.at) is) (suc k) 0
+rises : (at : ℕ) (is : List Instr) (k : ℕ) → LieFrom at is → AllByRecursion IsOfShortCode is → suc k < length is
+    → get_or (map (λ i. i.at) is) k 0 < get_or (map (λ i. i.at) is) (suc k) 0
 rises at [] k lie each inside = absurd (omega arith)
 rises at (i ∷ []) k lie each inside = absurd (omega arith)
 rises at (i ∷ j ∷ is) zero lie each inside = omega (arith, lie.0, lie.1.0, each.0.some)

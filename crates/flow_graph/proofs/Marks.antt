@@ -37,7 +37,8 @@ list_any-numbers number p n (x ∷ xs) =
     and_false false = refl
 
 -- Numbers that were put in order and then seen.
-ordered : (n : ℕ) (numbers sorted seen : List ℕ) → IsPermutation numbers sorted → seen ≡ sorted → list_any (λ m. m == n) seen ≡ list_any (λ m. m == n) numbers
+ordered : (n : ℕ) (numbers sorted seen : List ℕ) → IsPermutation numbers sorted → seen ≡ sorted
+    → list_any (λ m. m == n) seen ≡ list_any (λ m. m == n) numbers
 ordered n numbers sorted seen same are = ap (list_any (λ m. m == n)) are ∙ sym (list_any-IsPermutation (λ m. m == n) numbers sorted same)
 
 -- The places that are among the numbers to which edges go back, in any order.
@@ -55,7 +56,8 @@ abbrev pub AreStarts : ℕ → List Instr → List ℕ → Type 0
 AreStarts start is offsets = (at : ℕ) → list_any (λ n. n == at) offsets ≡ (at == start || list_any (starts_at at) is)
 
 -- The offsets of the instructions that begin at one of those.
-pub blocks_by_numbers : (unit : MethodUnit) (body : List Instr) (offsets sorted seen : List ℕ) → body ≡ body_of unit → AreStarts unit.body_start body offsets
+pub blocks_by_numbers : (unit : MethodUnit) (body : List Instr) (offsets sorted seen : List ℕ) → body ≡ body_of unit
+    → AreStarts unit.body_start body offsets
     → IsPermutation offsets sorted → seen ≡ sorted → map (λ i. i.at) (filter (λ i. list_any (λ n. n == i.at) seen) body) ≡ blocks_of unit
 blocks_by_numbers unit body offsets sorted seen is starts same in_order =
     let test : (i : Instr) → list_any (λ n. n == i.at) seen ≡ is_block_start unit i.at =
@@ -68,7 +70,8 @@ starts_first start at = ap (λ (b : Bool). b || false) (same_either_way start at
     same_either_way : (a b : ℕ) → (a == b) ≡ (b == a)
     same_either_way a b = grind (arith, nat_tests)
 
-pub starts_next : (start : ℕ) (is : List Instr) (k : ℕ) (i : Instr) (offsets new : List ℕ) → AreStarts start (take k is) offsets → k < length is → i ≡ get_or is k i
+pub starts_next : (start : ℕ) (is : List Instr) (k : ℕ) (i : Instr) (offsets new : List ℕ) → AreStarts start (take k is) offsets → k < length is
+    → i ≡ get_or is k i
     → ((at : ℕ) → list_any (λ n. n == at) new ≡ (list_any (λ n. n == at) offsets || starts_at at i)) → AreStarts start (take (k + 1) is) new
 starts_next start is k i offsets new so_far inside read more at =
     let one : list_any (starts_at at) (take (k + 1) is) ≡ (list_any (starts_at at) (take k is) || starts_at at i) =

@@ -43,7 +43,8 @@ among xs x (Ok k) found = sym (list_any_at (λ n. n == x) xs k 0 found.0 (eq-eqb
 among xs x (Err i) parted =
     sym (list_any_none (λ n. n == x) xs (λ k d inside. ne_eqb (get_or xs k d) x (nowhere xs x i parted.1 parted.2 k d inside)))
 
-pub found_among : (xs : List ℕ) (x : ℕ) (r : Result ℕ ℕ) → IsBinarySearchResult (λ y. nat_cmp y x) xs r → IsNonDecreasing xs → is_ok r ≡ list_any (λ n. n == x) xs
+pub found_among : (xs : List ℕ) (x : ℕ) (r : Result ℕ ℕ) → IsBinarySearchResult (λ y. nat_cmp y x) xs r → IsNonDecreasing xs
+    → is_ok r ≡ list_any (λ n. n == x) xs
 found_among xs x r search rise = among xs x r (searched xs x r search (λ i j le inside. rise i j 0 le inside))
 
 -- ---- the place of a number
@@ -66,7 +67,8 @@ placed : (xs : List ℕ) (x : ℕ) (r : Result ℕ ℕ) → Rises xs
 placed xs x (Ok k) rise found = sym (place_there xs x k rise found.0 found.1)
 placed xs x (Err i) rise parted = sym (place_nowhere xs x (nowhere xs x i parted.1 parted.2))
 
-pub found_place : (xs : List ℕ) (x : ℕ) (r : Result ℕ ℕ) → IsBinarySearchResult (λ y. nat_cmp y x) xs r → IsStrictlyIncreasing xs → result_ok r ≡ place_of xs x
+pub found_place : (xs : List ℕ) (x : ℕ) (r : Result ℕ ℕ) → IsBinarySearchResult (λ y. nat_cmp y x) xs r → IsStrictlyIncreasing xs
+    → result_ok r ≡ place_of xs x
 found_place xs x r search increase =
     let rise = AllPairs-from_increasing xs increase in
     placed xs x r rise (searched xs x r search (λ i j le inside. not_falling xs rise i j 0 le inside))
@@ -105,7 +107,8 @@ pub ruleset block_places = (block_place_fits, block_is_none, block_is_last)
 
 module _ {X : Type 0} (p : X → Bool) where
   -- What passes is a front.
-  pub length-passing_front : (xs : List X) (k : ℕ) → k ≤ length xs → AllWithin (λ x. p x ≡ true) xs 0 k → AllWithin (λ x. p x ≡ false) xs k (length xs)
+  pub length-passing_front : (xs : List X) (k : ℕ) → k ≤ length xs → AllWithin (λ x. p x ≡ true) xs 0 k
+      → AllWithin (λ x. p x ≡ false) xs k (length xs)
       → length (filter p xs) ≡ k
   length-passing_front [] k le front behind = omega arith
   length-passing_front (x ∷ xs) zero le front behind =
@@ -115,7 +118,8 @@ module _ {X : Type 0} (p : X → Bool) where
       (ap suc (length-passing_front xs k (omega arith) (λ i d low high. front (suc i) d (omega arith) (omega arith)) (λ i d low high. behind (suc i) d (omega arith) (omega arith))))
 
   -- What passes is a rest.
-  pub passing_rest : (xs : List X) (k : ℕ) → k ≤ length xs → AllWithin (λ x. p x ≡ false) xs 0 k → AllWithin (λ x. p x ≡ true) xs k (length xs) → filter p xs ≡ drop k xs
+  pub passing_rest : (xs : List X) (k : ℕ) → k ≤ length xs → AllWithin (λ x. p x ≡ false) xs 0 k → AllWithin (λ x. p x ≡ true) xs k (length xs)
+      → filter p xs ≡ drop k xs
   passing_rest [] zero le front behind = refl
   passing_rest [] (suc k) le front behind = refl
   passing_rest (x ∷ xs) zero le front behind =
@@ -126,7 +130,8 @@ module _ {X : Type 0} (p : X → Bool) where
       (passing_rest xs k (omega arith) (λ i d low high. front (suc i) d (omega arith) (omega arith)) (λ i d low high. behind (suc i) d (omega arith) (omega arith)))
 
 -- What begins at an offset or behind it is a rest.
-pub rest_from : (is : List Instr) (at start : ℕ) → start ≤ length is → AllWithin (λ i. nat_lt i.at at ≡ true) is 0 start → AllWithin (λ i. nat_lt i.at at ≡ false) is start (length is)
+pub rest_from : (is : List Instr) (at start : ℕ) → start ≤ length is → AllWithin (λ i. nat_lt i.at at ≡ true) is 0 start
+    → AllWithin (λ i. nat_lt i.at at ≡ false) is start (length is)
     → take (length is - start) (drop start is) ≡ filter (λ i. nat_le at i.at) is
 rest_from is at start le front behind =
     take_all (length is - start) (drop start is) (omega (arith, length-drop start is))
