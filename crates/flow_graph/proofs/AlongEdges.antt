@@ -77,7 +77,8 @@ edges_to_has blocks from number (a ∷ ats) zero at to there placed =
     (subst (λ (o : Option Edge). Contains (option_to_list o) (record { from = from; to = to; number = number + 0 })) (sym is) (0, omega arith, refl))
 edges_to_has blocks from number (a ∷ ats) (suc n) at to there placed =
     let e : number + 1 + n ≡ number + suc n = omega arith in
-    Contains-append_right (option_to_list (edge_to blocks from number a)) (edges_to blocks from (number + 1) ats) (record { from = from; to = to; number = number + suc n })
+    Contains-append_right (option_to_list (edge_to blocks from number a)) (edges_to blocks from (number + 1) ats)
+    (record { from = from; to = to; number = number + suc n })
     (subst (λ (k : ℕ). Contains (edges_to blocks from (number + 1) ats) (record { from = from; to = to; number = k })) e
     (edges_to_has blocks from (number + 1) ats n at to there placed))
 
@@ -186,7 +187,8 @@ module _ (unit : MethodUnit) (short : AreOfShortCode unit.instrs) where
 
   start_placed : (at : ℕ) → is_block_start unit at ≡ true → begins_at (body_of unit) at ≡ true → (k : ℕ) × (place_of Blocks at ≡ Some k)
   start_placed at is begins =
-      has_place Blocks at (list_any-numbers (λ (i : Instr). i.at) (λ i. is_block_start unit i.at) at (body_of unit) ∙ begins_and_passes (is_block_start unit) (body_of unit) at is begins)
+      has_place Blocks at (list_any-numbers (λ (i : Instr). i.at) (λ i. is_block_start unit i.at) at (body_of unit)
+      ∙ begins_and_passes (is_block_start unit) (body_of unit) at is begins)
 
   -- A block starts in the body.
   starts_in_body : AllByRecursion (λ s. unit.body_start ≤ s) Blocks
@@ -199,7 +201,9 @@ module _ (unit : MethodUnit) (short : AreOfShortCode unit.instrs) where
   block_in_body at block is =
       elim (cases_Bool (nat_le unit.body_start at)) [
         | inl e ↦ grind (arith, nat_tests)
-        | inr e ↦ absurd (let low : at < unit.body_start = grind (arith, nat_tests) in omega (arith, none_before Blocks unit.body_start at starts_in_body low, last_place_is (Starts Blocks at) block is))
+        | inr e ↦
+            let low : at < unit.body_start = grind (arith, nat_tests) in
+            absurd (omega (arith, none_before Blocks unit.body_start at starts_in_body low, last_place_is (Starts Blocks at) block is))
       ]
 
   module _ (block : ℕ) (i : Instr) (at n : ℕ) (found : instr_at unit.instrs i.at ≡ Some i) (is : block_at Blocks i.at ≡ Some block)
@@ -211,9 +215,10 @@ module _ (unit : MethodUnit) (short : AreOfShortCode unit.instrs) where
     pub along_edge : is_block_start unit at ≡ true → begins_at (body_of unit) at ≡ true → IsAlongEdge (graph_of unit) block i at
     along_edge starts begins =
         let (to, placed) = start_placed at starts begins in
+        let edge : Edge = record { from = block; to = to; number = n } in
         record {
-          edge = record { from = block; to = to; number = n };
-          is = flat_map_found (edges_from Blocks) (body_of unit) i.at i (record { from = block; to = to; number = n }) in_body (edges_from_has Blocks block i n at to is there placed);
+          edge = edge;
+          is = flat_map_found (edges_from Blocks) (body_of unit) i.at i edge in_body (edges_from_has Blocks block i n at to is there placed);
           from = refl;
           to = (place_within Blocks at to placed).1;
           number = there;
@@ -221,8 +226,9 @@ module _ (unit : MethodUnit) (short : AreOfShortCode unit.instrs) where
 
     no_start : is_block_start unit at ≡ false → starts_at at i ≡ false
     no_start none =
+        let body = body_of unit in
         elim (cases_Bool (starts_at at i)) [
-          | inl e ↦ absurd (false≢true (sym none ∙ or_right (at == unit.body_start) (list_any (starts_at at) (body_of unit)) (found_passes (starts_at at) (body_of unit) i.at i in_body e)))
+          | inl e ↦ absurd (false≢true (sym none ∙ or_right (at == unit.body_start) (list_any (starts_at at) body) (found_passes (starts_at at) body i.at i in_body e)))
           | inr e ↦ e
         ]
 

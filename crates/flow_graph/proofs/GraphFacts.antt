@@ -111,7 +111,7 @@ module _ (unit : MethodUnit) where
   ends_start : AllByRecursion (λ i. ends_block i.op ≡ true → is_block_start unit (i.at + i.size) ≡ true) (body_of unit)
   ends_start =
       all_weaker _ (λ i. ends_block i.op ≡ true → is_block_start unit (i.at + i.size) ≡ true)
-      (λ i found e. or_right (i.at + i.size == unit.body_start) (list_any (starts_at (i.at + i.size)) (body_of unit)) (found (starts_at (i.at + i.size)) (ends_here i e)))
+      (λ i found e. let next = i.at + i.size in or_right (next == unit.body_start) (list_any (starts_at next) (body_of unit)) (found (starts_at next) (ends_here i e)))
       (body_of unit) (each_found (body_of unit))
     where
       ends_here : (i : Instr) → ends_block i.op ≡ true → starts_at (i.at + i.size) i ≡ true
@@ -121,7 +121,8 @@ module _ (unit : MethodUnit) where
   starts_placed =
       all_weaker _ (λ i. is_block_start unit i.at ≡ true → (k : ℕ) × (place_of (blocks_of unit) i.at ≡ Some k))
       (λ i found e. has_place (blocks_of unit) i.at
-      (list_any-numbers (λ (j : Instr). j.at) (λ j. is_block_start unit j.at) i.at (body_of unit) ∙ found (λ j. j.at == i.at && is_block_start unit j.at) (rw (eq-eqb i.at i.at refl, e) refl)))
+      (list_any-numbers (λ (j : Instr). j.at) (λ j. is_block_start unit j.at) i.at (body_of unit)
+      ∙ found (λ j. j.at == i.at && is_block_start unit j.at) (rw (eq-eqb i.at i.at refl, e) refl)))
       (body_of unit) (each_found (body_of unit))
 
   pub edges_join : All (JoinsBlocks (blocks_of unit)) (edges_of unit)

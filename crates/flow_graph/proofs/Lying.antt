@@ -1,8 +1,8 @@
 -- Instructions that lie one after another: their offsets, and those of the blocks.
-use Rattle.std.proofs.Common.{◌≡◌, ℕ, zero, suc, ◌+◌, ◌^◌, ◌<◌, ◌≤◌, Bool, true, false, nat_le, List, [], ◌∷◌, length, map, filter, get_or, refl, sym, ap, subst, add-one, ◌∙◌, arith, cond}
+use Rattle.std.proofs.Common.{◌≡◌, ℕ, zero, suc, ◌+◌, ◌^◌, ◌<◌, ◌≤◌, Bool, true, nat_le, List, [], ◌∷◌, length, map, filter, get_or, refl, sym, ap, subst, add-one, ◌∙◌, arith, inl, inr}
 use Rattle.std.specs.List.{All, AllByRecursion}
 use Rattle.std.specs.List.Sorted.{IsNonDecreasingBy, IsStrictlyIncreasing}
-use Rattle.std.proofs.lemmas.Bool.{cond_both}
+use Rattle.std.proofs.lemmas.Bool.{cases_Bool, cond_both}
 use Rattle.std.proofs.lemmas.Bool.Decides.{nat_tests}
 use Rattle.std.proofs.lemmas.List.{get_or-map, length-append, length-map}
 use Rattle.std.proofs.lemmas.List.Kept.{AllPairs-from_increasing, IsStrictlyIncreasing-filter}
@@ -118,9 +118,9 @@ module _ (unit : MethodUnit) (short : AreOfShortCode unit.instrs) where
       passing_offsets : (p : ℕ → Bool) (is : List Instr) → map (λ i. i.at) (filter (λ i. p i.at) is) ≡ filter p (map (λ i. i.at) is)
       passing_offsets p [] = refl
       passing_offsets p (i ∷ is) =
-          elim (p i.at) as (λ b. map (λ (j : Instr). j.at) (cond b (i ∷ filter (λ j. p j.at) is) (filter (λ j. p j.at) is)) ≡ cond b (i.at ∷ filter p (map (λ j. j.at) is)) (filter p (map (λ j. j.at) is))) [
-            | true ↦ ap (λ (ns : List ℕ). i.at ∷ ns) (passing_offsets p is)
-            | false ↦ passing_offsets p is
+          elim (cases_Bool (p i.at)) [
+            | inl e ↦ rw e (ap (λ (ns : List ℕ). i.at ∷ ns) (passing_offsets p is))
+            | inr e ↦ rw e (passing_offsets p is)
           ]
 
   pub few_blocks : length (blocks_of unit) < 2 ^ 32

@@ -1,8 +1,9 @@
 -- Numbers that are found in a list after it is sorted, and what passes by them.
-use Rattle.std.proofs.Common.{◌≡◌, ℕ, ◌+◌, ◌<◌, ◌==◌, Bool, true, false, ◌&&◌, ◌||◌, List, [], ◌∷◌, ◌++◌, length, get_or, take, map, filter, refl, sym, ap, ◌∙◌, cond, arith}
+use Rattle.std.proofs.Common.{◌≡◌, ℕ, ◌+◌, ◌<◌, ◌==◌, Bool, true, false, ◌&&◌, ◌||◌, List, [], ◌∷◌, ◌++◌, length, get_or, take, map, filter, refl, sym, ap, ◌∙◌, arith, inl, inr}
 use Rattle.std.specs.List.{list_any, range_with_len}
 use Rattle.std.specs.List.Sorted.{IsPermutation}
 use Rattle.std.proofs.lemmas.List.Sorted.{list_any-IsPermutation}
+use Rattle.std.proofs.lemmas.Bool.{cases_Bool}
 use Rattle.std.proofs.lemmas.Bool.Decides.{nat_tests}
 use Rattle.std.proofs.lemmas.List.Folds.{list_any-append, list_any_more}
 use Rattle.cil_model.specs.Blocks.{body_of, branch_targets, ends_block, is_block_start, starts_at}
@@ -23,9 +24,9 @@ pub list_any-numbers : {X : Type 0} (number : X → ℕ) (p : X → Bool) (n : �
 list_any-numbers number p n [] = refl
 list_any-numbers number p n (x ∷ xs) =
     let rest = list_any-numbers number p n xs in
-    elim (p x) as (λ b. list_any (λ m. m == n) (map number (cond b (x ∷ filter p xs) (filter p xs))) ≡ ((number x == n && b) || list_any (λ x. number x == n && p x) xs)) [
-      | true ↦ rw (rest, and_true (number x == n)) refl
-      | false ↦ rw (rest, and_false (number x == n)) refl
+    elim (cases_Bool (p x)) [
+      | inl e ↦ rw (e, rest, and_true (number x == n)) refl
+      | inr e ↦ rw (e, rest, and_false (number x == n)) refl
     ]
   where
     and_true : (a : Bool) → (a && true) ≡ a
