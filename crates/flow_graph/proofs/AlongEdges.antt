@@ -54,7 +54,8 @@ found_in_rest start (i ∷ is) at le =
       | inr dropped ↦ (let e : (i.at == at) ≡ false = grind (arith, nat_tests) in rw (dropped, e) (found_in_rest start is at le))
     ]
 
-flat_map_found : (f : Instr → List Edge) (is : List Instr) (at : ℕ) (i : Instr) (e : Edge) → instr_at is at ≡ Some i → Contains (f i) e → Contains (flat_map f is) e
+flat_map_found : (f : Instr → List Edge) (is : List Instr) (at : ℕ) (i : Instr) (e : Edge) → instr_at is at ≡ Some i → Contains (f i) e
+    → Contains (flat_map f is) e
 flat_map_found f [] at i e found has = absurd (none-some i found)
 flat_map_found f (j ∷ is) at i e found has =
     cond_both (j.at == at) _ _ (λ (other : Option Instr). other ≡ Some i → Contains (f j ++ flat_map f is) e)
@@ -76,11 +77,13 @@ edges_to_has blocks from number (a ∷ ats) zero at to there placed =
     (subst (λ (o : Option Edge). Contains (option_to_list o) (record { from = from; to = to; number = number + 0 })) (sym is) (0, omega arith, refl))
 edges_to_has blocks from number (a ∷ ats) (suc n) at to there placed =
     let e : number + 1 + n ≡ number + suc n = omega arith in
-    Contains-append_right (option_to_list (edge_to blocks from number a)) (edges_to blocks from (number + 1) ats) (record { from = from; to = to; number = number + suc n })
+    Contains-append_right (option_to_list (edge_to blocks from number a)) (edges_to blocks from (number + 1) ats)
+    (record { from = from; to = to; number = number + suc n })
     (subst (λ (k : ℕ). Contains (edges_to blocks from (number + 1) ats) (record { from = from; to = to; number = k })) e
     (edges_to_has blocks from (number + 1) ats n at to there placed))
 
-edges_from_has : (blocks : List ℕ) (block : ℕ) (i : Instr) (n at to : ℕ) → block_at blocks i.at ≡ Some block → slice_get (successors i.op (i.at + i.size)) n ≡ Some at
+edges_from_has : (blocks : List ℕ) (block : ℕ) (i : Instr) (n at to : ℕ) → block_at blocks i.at ≡ Some block
+    → slice_get (successors i.op (i.at + i.size)) n ≡ Some at
     → place_of blocks at ≡ Some to → Contains (edges_from blocks i) (record { from = block; to = to; number = n })
 edges_from_has blocks block i n at to is there placed =
     let e : 0 + n ≡ n = omega arith in
@@ -90,7 +93,8 @@ edges_from_has blocks block i n at to is there placed =
 
 -- ---- what holds of each block
 
-blocks_all : (P : ℕ → Type 0) (q : ℕ → Bool) (is : List Instr) → AllByRecursion (λ i. q i.at ≡ true → P i.at) is → AllByRecursion P (map (λ i. i.at) (filter (λ i. q i.at) is))
+blocks_all : (P : ℕ → Type 0) (q : ℕ → Bool) (is : List Instr) → AllByRecursion (λ i. q i.at ≡ true → P i.at) is
+    → AllByRecursion P (map (λ i. i.at) (filter (λ i. q i.at) is))
 blocks_all P q [] all = tt
 blocks_all P q (i ∷ is) all =
     cond_both (q i.at) _ _ (λ (js : List Instr). AllByRecursion P (map (λ (j : Instr). j.at) js)) (λ e. (all.0 e, blocks_all P q is all.1)) (λ e. blocks_all P q is all.1)
@@ -148,7 +152,8 @@ one_of_last (x ∷ xs) next (suc n) at e =
     elim (one_of_last xs next n at e) [ inl has ↦ inl (or_right (x == at) (list_any (λ y. y == at) xs) has) | inr same ↦ inr same ]
 
 -- An offset to which the operation goes on is a target or the next one.
-target_or_next : (op : Op) (next n at : ℕ) → slice_get (successors op next) n ≡ Some at → (list_any (λ x. x == at) (branch_targets op) ≡ true) ⊎ (at ≡ next)
+target_or_next : (op : Op) (next n at : ℕ) → slice_get (successors op next) n ≡ Some at
+    → (list_any (λ x. x == at) (branch_targets op) ≡ true) ⊎ (at ≡ next)
 target_or_next ops.Return next n at e = absurd (none-some at e)
 target_or_next (ops.Branch tests.Always target) next n at e = inl (rw (eq-eqb target at (only target n at e)) refl)
   where
@@ -182,7 +187,8 @@ module _ (unit : MethodUnit) (short : AreOfShortCode unit.instrs) where
 
   start_placed : (at : ℕ) → is_block_start unit at ≡ true → begins_at (body_of unit) at ≡ true → (k : ℕ) × (place_of Blocks at ≡ Some k)
   start_placed at is begins =
-      has_place Blocks at (list_any-numbers (λ (i : Instr). i.at) (λ i. is_block_start unit i.at) at (body_of unit) ∙ begins_and_passes (is_block_start unit) (body_of unit) at is begins)
+      has_place Blocks at (list_any-numbers (λ (i : Instr). i.at) (λ i. is_block_start unit i.at) at (body_of unit)
+      ∙ begins_and_passes (is_block_start unit) (body_of unit) at is begins)
 
   -- A block starts in the body.
   starts_in_body : AllByRecursion (λ s. unit.body_start ≤ s) Blocks
@@ -195,7 +201,9 @@ module _ (unit : MethodUnit) (short : AreOfShortCode unit.instrs) where
   block_in_body at block is =
       elim (cases_Bool (nat_le unit.body_start at)) [
         | inl e ↦ grind (arith, nat_tests)
-        | inr e ↦ absurd (let low : at < unit.body_start = grind (arith, nat_tests) in omega (arith, none_before Blocks unit.body_start at starts_in_body low, last_place_is (Starts Blocks at) block is))
+        | inr e ↦
+            let low : at < unit.body_start = grind (arith, nat_tests) in
+            absurd (omega (arith, none_before Blocks unit.body_start at starts_in_body low, last_place_is (Starts Blocks at) block is))
       ]
 
   module _ (block : ℕ) (i : Instr) (at n : ℕ) (found : instr_at unit.instrs i.at ≡ Some i) (is : block_at Blocks i.at ≡ Some block)
@@ -207,9 +215,10 @@ module _ (unit : MethodUnit) (short : AreOfShortCode unit.instrs) where
     pub along_edge : is_block_start unit at ≡ true → begins_at (body_of unit) at ≡ true → IsAlongEdge (graph_of unit) block i at
     along_edge starts begins =
         let (to, placed) = start_placed at starts begins in
+        let edge : Edge = record { from = block; to = to; number = n } in
         record {
-          edge = record { from = block; to = to; number = n };
-          is = flat_map_found (edges_from Blocks) (body_of unit) i.at i (record { from = block; to = to; number = n }) in_body (edges_from_has Blocks block i n at to is there placed);
+          edge = edge;
+          is = flat_map_found (edges_from Blocks) (body_of unit) i.at i edge in_body (edges_from_has Blocks block i n at to is there placed);
           from = refl;
           to = (place_within Blocks at to placed).1;
           number = there;
@@ -217,12 +226,14 @@ module _ (unit : MethodUnit) (short : AreOfShortCode unit.instrs) where
 
     no_start : is_block_start unit at ≡ false → starts_at at i ≡ false
     no_start none =
+        let body = body_of unit in
         elim (cases_Bool (starts_at at i)) [
-          | inl e ↦ absurd (false≢true (sym none ∙ or_right (at == unit.body_start) (list_any (starts_at at) (body_of unit)) (found_passes (starts_at at) (body_of unit) i.at i in_body e)))
+          | inl e ↦ absurd (false≢true (sym none ∙ or_right (at == unit.body_start) (list_any (starts_at at) body) (found_passes (starts_at at) body i.at i in_body e)))
           | inr e ↦ e
         ]
 
-    same_test : is_block_start unit at ≡ false → at ≡ i.at + i.size → (s : ℕ) → is_block_start unit s ≡ true → IsApart i s → nat_le s at ≡ nat_le s i.at
+    same_test : is_block_start unit at ≡ false → at ≡ i.at + i.size → (s : ℕ) → is_block_start unit s ≡ true → IsApart i s
+        → nat_le s at ≡ nat_le s i.at
     same_test none next s starts (inl before) = grind (arith, nat_tests)
     same_test none next s starts (inr behind) =
         elim (cases_Bool (s == at)) [

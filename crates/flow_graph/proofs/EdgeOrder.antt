@@ -26,7 +26,8 @@ all_weaker P Q weaker (x ∷ xs) all = (weaker x all.0, all_weaker P Q weaker xs
 
 module _ {X : Type 0} (p q : X → Bool) (sub : (x : X) → p x ≡ true → q x ≡ true) where
   -- What passes the wider test is no fewer, and stays so by as many with one more item.
-  passing_one : (x : X) (xs : List X) (more : ℕ) → length (filter p xs) + more ≤ length (filter q xs) → length (filter p (x ∷ xs)) + more ≤ length (filter q (x ∷ xs))
+  passing_one : (x : X) (xs : List X) (more : ℕ) → length (filter p xs) + more ≤ length (filter q xs)
+      → length (filter p (x ∷ xs)) + more ≤ length (filter q (x ∷ xs))
   passing_one x xs more h =
       cond_both (p x) _ _ (λ (ys : List X). length ys + more ≤ length (filter q (x ∷ xs))) (λ e. rw (sub x e) (omega (arith, h)))
       (λ e. cond_both (q x) _ _ (λ (ys : List X). length (filter p xs) + more ≤ length ys) (λ f. omega (arith, h)) (λ f. h))
@@ -84,13 +85,16 @@ module _ (blocks : List ℕ) (from : ℕ) where
   edge_all P number (Some to) holds = (holds to refl, tt)
 
   edges_all : (P : Edge → Type 0) (number : ℕ) (ats : List ℕ)
-      → ((n at to : ℕ) → number ≤ n → place_of blocks at ≡ Some to → P (record { from = from; to = to; number = n })) → AllByRecursion P (edges_to blocks from number ats)
+      → ((n at to : ℕ) → number ≤ n → place_of blocks at ≡ Some to → P (record { from = from; to = to; number = n }))
+      → AllByRecursion P (edges_to blocks from number ats)
   edges_all P number [] holds = tt
   edges_all P number (at ∷ ats) holds =
       all_append P (option_to_list (edge_to blocks from number at)) (edges_to blocks from (number + 1) ats)
-      (edge_all P number (place_of blocks at) (λ to e. holds number at to (omega arith) e)) (edges_all P (number + 1) ats (λ n at to le e. holds n at to (omega arith) e))
+      (edge_all P number (place_of blocks at) (λ to e. holds number at to (omega arith) e))
+      (edges_all P (number + 1) ats (λ n at to le e. holds n at to (omega arith) e))
 
-edges_join : (blocks : List ℕ) (place : Option ℕ) (i : Instr) → ((from : ℕ) → place ≡ Some from → from < length blocks) → AllByRecursion (JoinsBlocks blocks) (edges_out blocks place i)
+edges_join : (blocks : List ℕ) (place : Option ℕ) (i : Instr) → ((from : ℕ) → place ≡ Some from → from < length blocks)
+    → AllByRecursion (JoinsBlocks blocks) (edges_out blocks place i)
 edges_join blocks None i within = tt
 edges_join blocks (Some from) i within =
     edges_all blocks from (JoinsBlocks blocks) 0 (successors i.op (i.at + i.size))
@@ -139,6 +143,11 @@ next_alone (ops.Switch targets) next e = absurd (false≢true (sym e))
 next_alone ops.Return next e = absurd (false≢true (sym e))
 next_alone _ next e = refl
 
+-- An instruction that ends no block, behind which none starts, has no edges: the last of a block alone has some.
+pub no_edges : (blocks : List ℕ) (place : Option ℕ) (i : Instr) → ends_block i.op ≡ false → place_of blocks (i.at + i.size) ≡ None → edges_out blocks place i ≡ []
+no_edges blocks None i stays none = refl
+no_edges blocks (Some from) i stays none = rw (next_alone i.op (i.at + i.size) stays, none) refl
+
 -- Edges that leave blocks that are not before the one at an offset.
 abbrev LeaveFrom : List ℕ → ℕ → List Edge → Type 0
 LeaveFrom blocks at es = AllByRecursion (λ e. Starts blocks at ≤ suc e.from) es
@@ -157,12 +166,14 @@ module _ (blocks : List ℕ) (i j : Instr) (later : List Edge) (some : 0 < i.siz
   joined (Some from) None is found ends =
       cond_both (ends_block i.op) 0 0 (λ (n : ℕ). InOrder (edges_out blocks (Some from) i ++ later))
       (λ e. absurd (none-some (ends e).0 (ends e).1))
-      (λ e. rw (next_alone i.op (i.at + i.size) e, found) order)
+      (λ e. subst (λ (es : List Edge). InOrder (es ++ later)) (sym (no_edges blocks (Some from) i e found)) order)
 
-edges_leave : (blocks : List ℕ) (i : Instr) (place : Option ℕ) → last_place (Starts blocks i.at) ≡ place → LeaveFrom blocks i.at (edges_out blocks place i)
+edges_leave : (blocks : List ℕ) (i : Instr) (place : Option ℕ) → last_place (Starts blocks i.at) ≡ place
+    → LeaveFrom blocks i.at (edges_out blocks place i)
 edges_leave blocks i None is = tt
 edges_leave blocks i (Some from) is =
-    edges_all blocks from (λ e. Starts blocks i.at ≤ suc e.from) 0 (successors i.op (i.at + i.size)) (λ n at to le e. omega (arith, last_place_is (Starts blocks i.at) from is))
+    edges_all blocks from (λ e. Starts blocks i.at ≤ suc e.from) 0 (successors i.op (i.at + i.size))
+    (λ n at to le e. omega (arith, last_place_is (Starts blocks i.at) from is))
 
 all_leave : (blocks : List ℕ) (at : ℕ) (is : List Instr) → LieFrom at is → LeaveFrom blocks at (flat_map (edges_from blocks) is)
 all_leave blocks at [] lie = tt
@@ -172,7 +183,8 @@ all_leave blocks at (i ∷ is) lie =
     (subst (λ (n : ℕ). LeaveFrom blocks n (edges_from blocks i)) lie.0 (edges_leave blocks i (block_at blocks i.at) refl))
     (all_weaker _ (λ e. Starts blocks at ≤ suc e.from) (λ e h. omega (arith, h, le)) (flat_map (edges_from blocks) is) (all_leave blocks (at + i.size) is lie.1))
 
-pub all_in_order : (blocks : List ℕ) (at : ℕ) (is : List Instr) → LieFrom at is → AllByRecursion IsOfShortCode is → EndBefore blocks is → InOrder (flat_map (edges_from blocks) is)
+pub all_in_order : (blocks : List ℕ) (at : ℕ) (is : List Instr) → LieFrom at is → AllByRecursion IsOfShortCode is → EndBefore blocks is
+    → InOrder (flat_map (edges_from blocks) is)
 all_in_order blocks at [] lie each ends = tt
 all_in_order blocks at (i ∷ []) lie each ends = order_append (edges_from blocks i) [] (alone (block_at blocks i.at)) tt (nothing (edges_from blocks i))
   where

@@ -71,7 +71,8 @@ module _ (ats : List ℕ) (unit : MethodUnit) (i : Instr) (f : Frame) (heap : He
   at_index_goes cell n done go =
       cond_both (int_lt n (pos 0)) _ _ Go (λ e. (tt, tt)) (λ e. cond_both (int_le (pos (length cell.items)) n) _ _ Go (λ h. (tt, tt)) (λ h. go))
 
-  of_place_goes : (place : Place) (found : Option ArrayCell) (done : ArrayCell → List Effect) → ((cell : ArrayCell) → Go (done cell)) → Go (of_place place found done)
+  of_place_goes : (place : Place) (found : Option ArrayCell) (done : ArrayCell → List Effect) → ((cell : ArrayCell) → Go (done cell))
+      → Go (of_place place found done)
   of_place_goes place None done go = tt
   of_place_goes place (Some cell) done go = cond_both (same_place cell.place place) _ _ Go (λ e. go cell) (λ e. tt)
 
@@ -167,7 +168,8 @@ module _ (ats : List ℕ) (unit : MethodUnit) (i : Instr) (f : Frame) (heap : He
   switches_to_goes rest None there = (next, tt)
   switches_to_goes rest (Some target) there = (there target refl, tt)
 
-  switches_go : (targets : List ℕ) (stack : List Value) → ((n at : ℕ) → slice_get targets n ≡ Some at → IsOneOf ats at) → Go (switches targets i f heap stack)
+  switches_go : (targets : List ℕ) (stack : List Value) → ((n at : ℕ) → slice_get targets n ≡ Some at → IsOneOf ats at)
+      → Go (switches targets i f heap stack)
   switches_go targets (Int n ∷ rest) there = switches_to_goes rest (slice_get targets (unsigned n)) (λ at e. there (unsigned n) at e)
   switches_go targets _ there = tt
 

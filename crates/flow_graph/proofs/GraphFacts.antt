@@ -63,7 +63,8 @@ begins_low : (low at : ℕ) (is : List Instr) → at < low → AllByRecursion (�
 begins_low low at [] less all = refl
 begins_low low at (i ∷ is) less all = let high = all.0 in let e : (i.at == at) ≡ false = grind (arith, nat_tests) in rw e (begins_low low at is less all.1)
 
-first_is : (q : ℕ → Bool) (start from : ℕ) (is : List Instr) → q start ≡ true → LieFrom from is → AllByRecursion IsOfShortCode is → AllByRecursion (λ i. nat_le start i.at ≡ true) is
+first_is : (q : ℕ → Bool) (start from : ℕ) (is : List Instr) → q start ≡ true → LieFrom from is → AllByRecursion IsOfShortCode is
+    → AllByRecursion (λ i. nat_le start i.at ≡ true) is
     → begins_at is start ≡ true → slice_get (map (λ i. i.at) (filter (λ i. q i.at) is)) 0 ≡ Some start
 first_is q start from [] passes lie each high begins = absurd (false≢true begins)
 first_is q start from (i ∷ is) passes lie each high begins =
@@ -76,7 +77,8 @@ first_is q start from (i ∷ is) passes lie each high begins =
     ]
 
 -- The first block starts where the body does, if an instruction begins there.
-pub first_block : (unit : MethodUnit) → AreOfShortCode unit.instrs → begins_at unit.instrs unit.body_start ≡ true → slice_get (blocks_of unit) 0 ≡ Some unit.body_start
+pub first_block : (unit : MethodUnit) → AreOfShortCode unit.instrs → begins_at unit.instrs unit.body_start ≡ true
+    → slice_get (blocks_of unit) 0 ≡ Some unit.body_start
 first_block unit short begins =
     let (from, lie) = body_lies unit short in
     let passes : is_block_start unit unit.body_start ≡ true = rw (eq-eqb unit.body_start unit.body_start refl) refl in
@@ -94,7 +96,8 @@ each_found : {X : Type 0} (xs : List X) → AllByRecursion (λ x. (q : X → Boo
 each_found [] = tt
 each_found (x ∷ xs) = (λ q e. rw e refl, all_weaker _ _ (λ y h q e. or_right (q x) (list_any q xs) (h q e)) xs (each_found xs))
 
-end_before : (blocks : List ℕ) (q : ℕ → Bool) (from : ℕ) (is : List Instr) → LieFrom from is → AllByRecursion (λ i. ends_block i.op ≡ true → q (i.at + i.size) ≡ true) is
+end_before : (blocks : List ℕ) (q : ℕ → Bool) (from : ℕ) (is : List Instr) → LieFrom from is
+    → AllByRecursion (λ i. ends_block i.op ≡ true → q (i.at + i.size) ≡ true) is
     → AllByRecursion (λ i. q i.at ≡ true → (k : ℕ) × (place_of blocks i.at ≡ Some k)) is → EndBefore blocks is
 end_before blocks q from [] lie ends placed = tt
 end_before blocks q from (i ∷ []) lie ends placed = tt
@@ -108,7 +111,7 @@ module _ (unit : MethodUnit) where
   ends_start : AllByRecursion (λ i. ends_block i.op ≡ true → is_block_start unit (i.at + i.size) ≡ true) (body_of unit)
   ends_start =
       all_weaker _ (λ i. ends_block i.op ≡ true → is_block_start unit (i.at + i.size) ≡ true)
-      (λ i found e. or_right (i.at + i.size == unit.body_start) (list_any (starts_at (i.at + i.size)) (body_of unit)) (found (starts_at (i.at + i.size)) (ends_here i e)))
+      (λ i found e. let next = i.at + i.size in or_right (next == unit.body_start) (list_any (starts_at next) (body_of unit)) (found (starts_at next) (ends_here i e)))
       (body_of unit) (each_found (body_of unit))
     where
       ends_here : (i : Instr) → ends_block i.op ≡ true → starts_at (i.at + i.size) i ≡ true
@@ -118,7 +121,8 @@ module _ (unit : MethodUnit) where
   starts_placed =
       all_weaker _ (λ i. is_block_start unit i.at ≡ true → (k : ℕ) × (place_of (blocks_of unit) i.at ≡ Some k))
       (λ i found e. has_place (blocks_of unit) i.at
-      (list_any-numbers (λ (j : Instr). j.at) (λ j. is_block_start unit j.at) i.at (body_of unit) ∙ found (λ j. j.at == i.at && is_block_start unit j.at) (rw (eq-eqb i.at i.at refl, e) refl)))
+      (list_any-numbers (λ (j : Instr). j.at) (λ j. is_block_start unit j.at) i.at (body_of unit)
+      ∙ found (λ j. j.at == i.at && is_block_start unit j.at) (rw (eq-eqb i.at i.at refl, e) refl)))
       (body_of unit) (each_found (body_of unit))
 
   pub edges_join : All (JoinsBlocks (blocks_of unit)) (edges_of unit)
@@ -131,5 +135,6 @@ module _ (unit : MethodUnit) where
       (end_before (blocks_of unit) (is_block_start unit) from (body_of unit) lie ends_start starts_placed))
 
 -- What holds of the graph of the unit holds of an answer that is that graph.
-pub of_answer : {E : Type 0} (r : Result Graph E) (unit : MethodUnit) (P : Graph → Type 0) → IfOk r (λ graph. graph ≡ graph_of unit) → P (graph_of unit) → IfOk r P
+pub of_answer : {E : Type 0} (r : Result Graph E) (unit : MethodUnit) (P : Graph → Type 0) → IfOk r (λ graph. graph ≡ graph_of unit)
+    → P (graph_of unit) → IfOk r P
 of_answer r unit P exact holds = IfOk-weaker r _ P (λ graph is. subst P (sym is) holds) exact

@@ -8,3 +8,4 @@ pub mod EffectsGo
 pub mod StepsGo
 pub mod AlongEdges
 pub mod GraphFacts
+pub mod GraphRows

@@ -1,8 +1,8 @@
 -- Instructions that lie one after another: their offsets, and those of the blocks.
-use Rattle.std.proofs.Common.{◌≡◌, ℕ, zero, suc, ◌+◌, ◌^◌, ◌<◌, ◌≤◌, Bool, true, false, nat_le, List, [], ◌∷◌, length, map, filter, get_or, refl, sym, ap, subst, add-one, ◌∙◌, arith, cond}
+use Rattle.std.proofs.Common.{◌≡◌, ℕ, zero, suc, ◌+◌, ◌^◌, ◌<◌, ◌≤◌, Bool, true, nat_le, List, [], ◌∷◌, length, map, filter, get_or, refl, sym, ap, subst, add-one, ◌∙◌, arith, inl, inr}
 use Rattle.std.specs.List.{All, AllByRecursion}
 use Rattle.std.specs.List.Sorted.{IsNonDecreasingBy, IsStrictlyIncreasing}
-use Rattle.std.proofs.lemmas.Bool.{cond_both}
+use Rattle.std.proofs.lemmas.Bool.{cases_Bool, cond_both}
 use Rattle.std.proofs.lemmas.Bool.Decides.{nat_tests}
 use Rattle.std.proofs.lemmas.List.{get_or-map, length-append, length-map}
 use Rattle.std.proofs.lemmas.List.Kept.{AllPairs-from_increasing, IsStrictlyIncreasing-filter}
@@ -20,7 +20,8 @@ use Rattle.flow_graph.proofs.TargetRows.{few_targets}
 
 -- ---- code
 
-code_lies : (at : ℕ) (is : List Instr) (code : List ℕ) → CodeFrom at is code → at + length code ≤ 2147483647 → LieFrom at is × AllByRecursion IsOfShortCode is
+code_lies : (at : ℕ) (is : List Instr) (code : List ℕ) → CodeFrom at is code → at + length code ≤ 2147483647
+    → LieFrom at is × AllByRecursion IsOfShortCode is
 code_lies at [] code spelled short = (tt, tt)
 code_lies at (i ∷ is) code (begins, (bytes, rest, spells, parts, others)) short =
     let whole : length code ≡ length bytes + length rest = ap length parts ∙ length-append bytes rest in
@@ -57,7 +58,8 @@ length-passing p xs = omega (arith, length-filter p xs, count_by-le-length p xs)
 
 -- ---- offsets
 
-rises : (at : ℕ) (is : List Instr) (k : ℕ) → LieFrom at is → AllByRecursion IsOfShortCode is → suc k < length is → get_or (map (λ i. i.at) is) k 0 < get_or (map (λ i. i.at) is) (suc k) 0
+rises : (at : ℕ) (is : List Instr) (k : ℕ) → LieFrom at is → AllByRecursion IsOfShortCode is → suc k < length is
+    → get_or (map (λ i. i.at) is) k 0 < get_or (map (λ i. i.at) is) (suc k) 0
 rises at [] k lie each inside = absurd (omega arith)
 rises at (i ∷ []) k lie each inside = absurd (omega arith)
 rises at (i ∷ j ∷ is) zero lie each inside = omega (arith, lie.0, lie.1.0, each.0.some)
@@ -116,9 +118,9 @@ module _ (unit : MethodUnit) (short : AreOfShortCode unit.instrs) where
       passing_offsets : (p : ℕ → Bool) (is : List Instr) → map (λ i. i.at) (filter (λ i. p i.at) is) ≡ filter p (map (λ i. i.at) is)
       passing_offsets p [] = refl
       passing_offsets p (i ∷ is) =
-          elim (p i.at) as (λ b. map (λ (j : Instr). j.at) (cond b (i ∷ filter (λ j. p j.at) is) (filter (λ j. p j.at) is)) ≡ cond b (i.at ∷ filter p (map (λ j. j.at) is)) (filter p (map (λ j. j.at) is))) [
-            | true ↦ ap (λ (ns : List ℕ). i.at ∷ ns) (passing_offsets p is)
-            | false ↦ passing_offsets p is
+          elim (cases_Bool (p i.at)) [
+            | inl e ↦ rw e (ap (λ (ns : List ℕ). i.at ∷ ns) (passing_offsets p is))
+            | inr e ↦ rw e (passing_offsets p is)
           ]
 
   pub few_blocks : length (blocks_of unit) < 2 ^ 32

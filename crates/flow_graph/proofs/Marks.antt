@@ -1,8 +1,9 @@
 -- Numbers that are found in a list after it is sorted, and what passes by them.
-use Rattle.std.proofs.Common.{◌≡◌, ℕ, ◌+◌, ◌<◌, ◌==◌, Bool, true, false, ◌&&◌, ◌||◌, List, [], ◌∷◌, ◌++◌, length, get_or, take, map, filter, refl, sym, ap, ◌∙◌, cond, arith}
+use Rattle.std.proofs.Common.{◌≡◌, ℕ, ◌+◌, ◌<◌, ◌==◌, Bool, true, false, ◌&&◌, ◌||◌, List, [], ◌∷◌, ◌++◌, length, get_or, take, map, filter, refl, sym, ap, ◌∙◌, arith, inl, inr}
 use Rattle.std.specs.List.{list_any, range_with_len}
 use Rattle.std.specs.List.Sorted.{IsPermutation}
 use Rattle.std.proofs.lemmas.List.Sorted.{list_any-IsPermutation}
+use Rattle.std.proofs.lemmas.Bool.{cases_Bool}
 use Rattle.std.proofs.lemmas.Bool.Decides.{nat_tests}
 use Rattle.std.proofs.lemmas.List.Folds.{list_any-append, list_any_more}
 use Rattle.cil_model.specs.Blocks.{body_of, branch_targets, ends_block, is_block_start, starts_at}
@@ -23,9 +24,9 @@ pub list_any-numbers : {X : Type 0} (number : X → ℕ) (p : X → Bool) (n : �
 list_any-numbers number p n [] = refl
 list_any-numbers number p n (x ∷ xs) =
     let rest = list_any-numbers number p n xs in
-    elim (p x) as (λ b. list_any (λ m. m == n) (map number (cond b (x ∷ filter p xs) (filter p xs))) ≡ ((number x == n && b) || list_any (λ x. number x == n && p x) xs)) [
-      | true ↦ rw (rest, and_true (number x == n)) refl
-      | false ↦ rw (rest, and_false (number x == n)) refl
+    elim (cases_Bool (p x)) [
+      | inl e ↦ rw (e, rest, and_true (number x == n)) refl
+      | inr e ↦ rw (e, rest, and_false (number x == n)) refl
     ]
   where
     and_true : (a : Bool) → (a && true) ≡ a
@@ -37,7 +38,8 @@ list_any-numbers number p n (x ∷ xs) =
     and_false false = refl
 
 -- Numbers that were put in order and then seen.
-ordered : (n : ℕ) (numbers sorted seen : List ℕ) → IsPermutation numbers sorted → seen ≡ sorted → list_any (λ m. m == n) seen ≡ list_any (λ m. m == n) numbers
+ordered : (n : ℕ) (numbers sorted seen : List ℕ) → IsPermutation numbers sorted → seen ≡ sorted
+    → list_any (λ m. m == n) seen ≡ list_any (λ m. m == n) numbers
 ordered n numbers sorted seen same are = ap (list_any (λ m. m == n)) are ∙ sym (list_any-IsPermutation (λ m. m == n) numbers sorted same)
 
 -- The places that are among the numbers to which edges go back, in any order.
@@ -55,7 +57,8 @@ abbrev pub AreStarts : ℕ → List Instr → List ℕ → Type 0
 AreStarts start is offsets = (at : ℕ) → list_any (λ n. n == at) offsets ≡ (at == start || list_any (starts_at at) is)
 
 -- The offsets of the instructions that begin at one of those.
-pub blocks_by_numbers : (unit : MethodUnit) (body : List Instr) (offsets sorted seen : List ℕ) → body ≡ body_of unit → AreStarts unit.body_start body offsets
+pub blocks_by_numbers : (unit : MethodUnit) (body : List Instr) (offsets sorted seen : List ℕ) → body ≡ body_of unit
+    → AreStarts unit.body_start body offsets
     → IsPermutation offsets sorted → seen ≡ sorted → map (λ i. i.at) (filter (λ i. list_any (λ n. n == i.at) seen) body) ≡ blocks_of unit
 blocks_by_numbers unit body offsets sorted seen is starts same in_order =
     let test : (i : Instr) → list_any (λ n. n == i.at) seen ≡ is_block_start unit i.at =
@@ -68,7 +71,8 @@ starts_first start at = ap (λ (b : Bool). b || false) (same_either_way start at
     same_either_way : (a b : ℕ) → (a == b) ≡ (b == a)
     same_either_way a b = grind (arith, nat_tests)
 
-pub starts_next : (start : ℕ) (is : List Instr) (k : ℕ) (i : Instr) (offsets new : List ℕ) → AreStarts start (take k is) offsets → k < length is → i ≡ get_or is k i
+pub starts_next : (start : ℕ) (is : List Instr) (k : ℕ) (i : Instr) (offsets new : List ℕ) → AreStarts start (take k is) offsets → k < length is
+    → i ≡ get_or is k i
     → ((at : ℕ) → list_any (λ n. n == at) new ≡ (list_any (λ n. n == at) offsets || starts_at at i)) → AreStarts start (take (k + 1) is) new
 starts_next start is k i offsets new so_far inside read more at =
     let one : list_any (starts_at at) (take (k + 1) is) ≡ (list_any (starts_at at) (take k is) || starts_at at i) =

@@ -17,7 +17,8 @@ next_item : {X : Type 0} (xs : List X) (k : ℕ) (x : X) → k < length xs → x
 next_item xs k x inside is = take_more xs k x inside ∙ ap (λ y. take k xs ++ y ∷ []) (sym is)
 
 module _ (blocks : List ℕ) (from : ℕ) where
-  pub edges_to-append : (number : ℕ) (xs ys : List ℕ) → edges_to blocks from number (xs ++ ys) ≡ edges_to blocks from number xs ++ edges_to blocks from (number + length xs) ys
+  pub edges_to-append : (number : ℕ) (xs ys : List ℕ)
+      → edges_to blocks from number (xs ++ ys) ≡ edges_to blocks from number xs ++ edges_to blocks from (number + length xs) ys
   edges_to-append number [] ys = let e : number ≡ number + 0 = omega arith in ap (λ (n : ℕ). edges_to blocks from n ys) e
   edges_to-append number (x ∷ xs) ys =
       let first = option_to_list (edge_to blocks from number x) in

@@ -39,7 +39,8 @@ module _ (unit : MethodUnit) (i : Instr) (f : Frame) (heap : Heap) (new : Config
       subst (LivesAtOne ats) (sym is) (after_effect ats effect (effect_goes unit i f heap effect has))
 
   module _ (ats : List ℕ) (next : IsOneOf ats (i.at + i.size)) where
-    pushed_lives : (count : ℕ) (result : Option Value) (after : Heap) → LivesAtOne ats (configs.Live (pushed (behind_call i count f) result ∷ []) after)
+    pushed_lives : (count : ℕ) (result : Option Value) (after : Heap)
+        → LivesAtOne ats (configs.Live (pushed (behind_call i count f) result ∷ []) after)
     pushed_lives count None after = next
     pushed_lives count (Some value) after = next
 
@@ -48,7 +49,8 @@ module _ (unit : MethodUnit) (i : Instr) (f : Frame) (heap : Heap) (new : Config
     freely callee args None (inl is) = subst (LivesAtOne ats) (sym is) tt
     freely callee args None (inr (after, result, returned, is)) = subst (LivesAtOne ats) (sym is) (pushed_lives (length callee.args) result after)
 
-    called : (call : Option UnitCall) → (EffectRow [] unit i f heap new → LivesAtOne ats new) → CallsBy (FreeCall unit) call [] unit i f heap new → LivesAtOne ats new
+    called : (call : Option UnitCall) → (EffectRow [] unit i f heap new → LivesAtOne ats new) → CallsBy (FreeCall unit) call [] unit i f heap new
+        → LivesAtOne ats new
     called (Some (calls.Callee number)) others row = freely row.callee row.args (false_requires row.callee.clauses row.args heap) row.freely
     called _ others row = others row
 
@@ -67,7 +69,8 @@ module _ (unit : MethodUnit) (i : Instr) (f : Frame) (heap : Heap) (new : Config
       called ((i.at + i.size) ∷ []) (0, refl) (unit_call number) (λ others. subst (λ (op : Op). LivesAtOne (successors op (i.at + i.size)) new) is (by_effect others)) row
   by_row op is row = subst (λ (op : Op). LivesAtOne (successors op (i.at + i.size)) new) is (by_effect row)
 
-pub step_goes : (unit : MethodUnit) (i : Instr) (f new : Frame) (heap after : Heap) → LocalStep unit (configs.Live (f ∷ []) heap) (configs.Live (new ∷ []) after)
+pub step_goes : (unit : MethodUnit) (i : Instr) (f new : Frame) (heap after : Heap)
+    → LocalStep unit (configs.Live (f ∷ []) heap) (configs.Live (new ∷ []) after)
     → instr_at unit.instrs f.at ≡ Some i → IsOneOf (successors i.op (i.at + i.size)) new.at
 step_goes unit i f new heap after (j, found, row) about =
     let same : j ≡ i = same_Some j i (sym found ∙ about) in

@@ -43,7 +43,10 @@ pub struct Graph {
 }
 
 impl Graph {
-    /// The flow graph of the unit's body, also of instructions that no path reaches.
+    /// The flow graph of the unit's body, also of instructions that no path reaches (ECMA-335 III.1.7.2).
+    ///
+    /// An edge goes only where a block starts: a branch out of the body has none, nor has code that runs off its end.
+    /// `NoMemory` where memory runs out. Its time is n log n in the number of instructions and targets.
     pub fn of(alloc: Global, unit: &Unit) -> Result<Graph, NoMemory>
         requires code { CodeOf unit.now.instrs unit.now.code }
         requires is_short { IsShort unit.now.code }

@@ -16,5 +16,6 @@ start_offsets-requires c = subst (λ (is : List Instr). All IsOfShortCode is) (s
 pub returns : goal.returns
 returns c =
     IfOk-weaker c.offsets_among.result _ _
-    (λ offsets are. are ∙ blocks_by_numbers c.args.unit.now _ _ _ _ c.body-body.ensures c.in_ok-start_offsets.ensures c.sorted-offsets.ensures.same c.as_slice.ensures.value)
+    (λ offsets are. are ∙ blocks_by_numbers c.args.unit.now _ _ _ _ c.body-body.ensures c.in_ok-start_offsets.ensures c.sorted-offsets.ensures.same
+    c.as_slice.ensures.value)
     c.offsets_among.ensures

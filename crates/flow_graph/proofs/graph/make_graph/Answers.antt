@@ -11,7 +11,8 @@ body-body-requires c = offsets_rise c.args.unit.now.instrs c.requires
 
 pub edges-requires-clause-rise : goal.edges-requires-clause-rise
 edges-requires-clause-rise c =
-    subst (λ (starts : List ℕ). IsStrictlyIncreasing starts) (sym (c.as_slice.ensures.value ∙ c.in_ok-blocks.ensures)) (blocks_increase c.args.unit.now c.requires)
+    subst (λ (starts : List ℕ). IsStrictlyIncreasing starts) (sym (c.as_slice.ensures.value ∙ c.in_ok-blocks.ensures))
+    (blocks_increase c.args.unit.now c.requires)
 
 pub edges-requires-clause-short : goal.edges-requires-clause-short
 edges-requires-clause-short c = subst (λ (is : List Instr). All IsOfShortCode is) (sym c.body-body.ensures) (body_short c.args.unit.now c.requires)
