@@ -1,0 +1,10 @@
+pub mod Narrow
+pub mod Stored
+pub mod Symbols
+pub mod Products
+pub mod Lost
+pub mod Meaning
+pub mod GapLaws
+pub mod AssumeLaws
+pub mod Wrapping
+pub mod SumLaws
