@@ -19,6 +19,7 @@ use Rattle.number_facts.specs.Keeps.{SomeAllows, SomeHolds}
 use Rattle.number_facts.specs.Spans.{is_one, is_not_negative}
 use Rattle.number_facts.proofs.Lost.{range_without_allows, without_allows}
 use Rattle.number_facts.proofs.Meaning.{symbol_allowed, range_has, changed_holds}
+use Rattle.number_facts.proofs.ConstantValues.{constant_value}
 use Rattle.number_facts.proofs.GapLaws.{at_most_holds, equal_holds}
 
 -- one step behind another
@@ -105,3 +106,97 @@ unsigned_less m n first second above less = (grind (arith, ints, first, second, 
 
 unsigned_at_most : (m n : ℤ) → FitsSigned w32 m → FitsSigned w32 n → pos 0 ≤ℤ n → nat_lt (unsigned n) (unsigned m) ≡ false → (pos 0 ≤ℤ m) × (m ≤ℤ n)
 unsigned_at_most m n first second above less = (grind (arith, ints, first, second, above, less), grind (arith, ints, first, second, above, less))
+
+zero_is : (ns : List ℤ) → value ns (constant (pos 0)) ≡ pos 0
+zero_is ns = constant_value ns (constant (pos 0)) refl
+
+not_less : (m n : ℕ) → m ≡ n → nat_lt m n ≡ true → ⊥
+not_less m n is less = grind (arith, is, less)
+
+le-true : (m n : ℤ) → int_le m n ≡ true → m ≤ℤ n
+le-true m n e = omega (arith, ints)
+
+lt-true : (m n : ℤ) → int_lt m n ≡ true → m <ℤ n
+lt-true m n e = omega (arith, ints)
+
+not-true : (b : Bool) → not b ≡ true → b ≡ false
+not-true true e = grind (arith, e)
+not-true false e = refl
+
+not-false : (b : Bool) → not b ≡ false → b ≡ true
+not-false true e = refl
+not-false false e = grind (arith, e)
+
+not-le : (m n : ℤ) → int_le n m ≡ false → int_lt m n ≡ true
+not-le m n e = grind (arith, ints, e)
+
+not-lt : (m n : ℤ) → int_lt n m ≡ false → int_le m n ≡ true
+not-lt m n e = grind (arith, ints, e)
+
+less_unsigned_kept : (facts : Facts) (ns : List ℤ) (a b : Expr) → Holds facts ns → FitsSigned w32 (value ns a) → FitsSigned w32 (value ns b)
+    → nat_lt (unsigned (value ns a)) (unsigned (value ns b)) ≡ true → SomeHolds (assumed_less_unsigned facts a b) ns
+unfolding assumed_less_unsigned
+less_unsigned_kept facts ns a b holds first second less =
+    cond_both (is_not_negative (range_of facts b)) _ _ (λ o. SomeHolds o ns)
+    (λ e.
+    let order = unsigned_less (value ns a) (value ns b) first second (not_negative facts ns b holds e) less in
+    then_holds _ _ ns (le_kept facts ns (constant (pos 0)) a holds (rw (zero_is ns) order.0)) (λ f kept. less_kept f ns a b kept order.1))
+    (λ e. cond_both ((a.sym == 0) && int_eq a.k (pos 0)) _ _ (λ o. SomeHolds o ns)
+    (λ f. apart_kept facts ns b (constant (pos 0)) holds (λ is. above_zero is (first_is f)))
+    (λ f. holds))
+  where
+    first_is : ((a.sym == 0) && int_eq a.k (pos 0)) ≡ true → value ns a ≡ pos 0
+    first_is f = let parts = and_parts (a.sym == 0) _ f in constant_value ns a parts.0 ∙ (Decides-int_eq a.k (pos 0)).0 parts.1
+
+    above_zero : value ns b ≡ value ns (constant (pos 0)) → value ns a ≡ pos 0 → ⊥
+    above_zero is zero = not_less (unsigned (value ns a)) (unsigned (value ns b)) (ap unsigned (zero ∙ sym (zero_is ns) ∙ sym is)) less
+
+at_most_unsigned_kept : (facts : Facts) (ns : List ℤ) (a b : Expr) → Holds facts ns → FitsSigned w32 (value ns a) → FitsSigned w32 (value ns b)
+    → nat_lt (unsigned (value ns b)) (unsigned (value ns a)) ≡ false → SomeHolds (assumed_at_most_unsigned facts a b) ns
+unfolding assumed_at_most_unsigned
+at_most_unsigned_kept facts ns a b holds first second not_less =
+    cond_both (is_not_negative (range_of facts b)) _ _ (λ o. SomeHolds o ns)
+    (λ e.
+    let order = unsigned_at_most (value ns a) (value ns b) first second (not_negative facts ns b holds e) not_less in
+    then_holds _ _ ns (le_kept facts ns (constant (pos 0)) a holds (rw (zero_is ns) order.0)) (λ f kept. le_kept f ns a b kept order.1))
+    (λ e. holds)
+
+-- ---- all comparisons
+
+int_eq-apart : (m n : ℤ) → not (int_eq m n) ≡ true → m ≢ n
+int_eq-apart m n e = λ is. grind (arith, (Decides-int_eq m n).1 is, e)
+
+-- a comparison that is true of the numbers is assumed of expressions that are worth them
+holding_kept : (op : CmpOp) (facts : Facts) (ns : List ℤ) (a b : Expr) → Holds facts ns → FitsSigned w32 (value ns a) → FitsSigned w32 (value ns b)
+    → compares op (value ns a) (value ns b) ≡ true → SomeHolds (holding op facts a b) ns
+unfolding holding
+holding_kept comparisons.Eq facts ns a b holds first second e = equal_kept facts ns a b holds ((Decides-int_eq (value ns a) (value ns b)).0 e)
+holding_kept comparisons.Ge facts ns a b holds first second e = le_kept facts ns b a holds (le-true (value ns b) (value ns a) e)
+holding_kept comparisons.Gt facts ns a b holds first second e = less_kept facts ns b a holds (lt-true (value ns b) (value ns a) e)
+holding_kept comparisons.Le facts ns a b holds first second e = le_kept facts ns a b holds (le-true (value ns a) (value ns b) e)
+holding_kept comparisons.Lt facts ns a b holds first second e = less_kept facts ns a b holds (lt-true (value ns a) (value ns b) e)
+holding_kept comparisons.NeUn facts ns a b holds first second e = apart_kept facts ns a b holds (int_eq-apart (value ns a) (value ns b) e)
+holding_kept comparisons.GeUn facts ns a b holds first second e = at_most_unsigned_kept facts ns b a holds second first (not-true _ e)
+holding_kept comparisons.GtUn facts ns a b holds first second e = less_unsigned_kept facts ns b a holds second first e
+holding_kept comparisons.LeUn facts ns a b holds first second e = at_most_unsigned_kept facts ns a b holds first second (not-true _ e)
+holding_kept comparisons.LtUn facts ns a b holds first second e = less_unsigned_kept facts ns a b holds first second e
+
+-- the contrary of a comparison is true where it is false
+contrary_true : (op : CmpOp) (m n : ℤ) → compares op m n ≡ false → compares (contrary op) m n ≡ true
+contrary_true comparisons.Eq m n e = ap not e
+contrary_true comparisons.Ge m n e = not-le m n e
+contrary_true comparisons.Gt m n e = not-lt m n e
+contrary_true comparisons.Le m n e = not-le n m e
+contrary_true comparisons.Lt m n e = not-lt n m e
+contrary_true comparisons.NeUn m n e = not-false (int_eq m n) e
+contrary_true comparisons.GeUn m n e = not-false _ e
+contrary_true comparisons.GtUn m n e = ap not e
+contrary_true comparisons.LeUn m n e = not-false _ e
+contrary_true comparisons.LtUn m n e = ap not e
+
+-- what is assumed of a comparison keeps the numbers of which it is so
+pub assumed_kept : (op : CmpOp) (facts : Facts) (ns : List ℤ) (a b : Expr) (true_there : Bool) → Holds facts ns → FitsSigned w32 (value ns a) → FitsSigned w32 (value ns b)
+    → compares op (value ns a) (value ns b) ≡ true_there → SomeHolds (assumed op facts a b true_there) ns
+unfolding assumed
+assumed_kept op facts ns a b true holds first second e = holding_kept op facts ns a b holds first second e
+assumed_kept op facts ns a b false holds first second e = holding_kept (contrary op) facts ns a b holds first second (contrary_true op _ _ e)

@@ -1,10 +1,14 @@
+pub mod ConstantValues
 pub mod Narrow
 pub mod Stored
 pub mod Symbols
 pub mod Products
+pub mod Ones
 pub mod Lost
 pub mod Meaning
 pub mod GapLaws
 pub mod AssumeLaws
+pub mod CompareLaws
 pub mod Wrapping
 pub mod SumLaws
+pub mod ProductLaws

@@ -16,24 +16,28 @@ sums r q = between (r.lo +ℤ q.lo) (r.hi +ℤ q.hi)
 abbrev pub differences : Span → Span → Span
 differences r q = between (r.lo -ℤ q.hi) (r.hi -ℤ q.lo)
 
--- The numbers are int32 also with k added.
-abbrev pub stays : Span → ℤ → Bool
-stays r k = int_le LEAST (r.lo +ℤ k) && int_le (r.hi +ℤ k) GREATEST
+-- The expression is a constant, and the numbers are int32 also with it added.
+abbrev pub takes : Span → Expr → Bool
+takes r e = (e.sym == 0) && (int_le LEAST (r.lo +ℤ e.k) && int_le (r.hi +ℤ e.k) GREATEST)
 
-abbrev pub plus : Expr → ℤ → Expr
-plus e k = record { sym = e.sym; k = e.k +ℤ k }
+-- An expression with a constant added.
+abbrev pub plus : Expr → Expr → Expr
+plus e constant = record { sym = e.sym; k = e.k +ℤ constant.k }
+
+abbrev pub negated : Expr → Expr
+negated e = record { sym = e.sym; k = neg_ℤ e.k }
 
 -- With a constant that does not wrap, the sum is an expression of the same symbol.
 unfoldable pub sum : Facts → Expr → Expr → Outcome
 sum facts a b =
-    if (b.sym == 0) && stays (range_of facts a) b.k then Is (plus a b.k)
-    else if (a.sym == 0) && stays (range_of facts b) a.k then Is (plus b a.k)
+    if takes (range_of facts a) b then Is (plus a b)
+    else if takes (range_of facts b) a then Is (plus b a)
     else Within (wrapped (sums (range_of facts a) (range_of facts b)))
 
 -- So it is for a difference, and that of two expressions of one symbol is known.
 unfoldable pub difference : Facts → Expr → Expr → Outcome
 difference facts a b =
-    if (b.sym == 0) && stays (range_of facts a) (neg_ℤ b.k) then Is (plus a (neg_ℤ b.k))
+    if takes (range_of facts a) (negated b) then Is (plus a (negated b))
     else if a.sym == b.sym then Is (constant (wrap32 (a.k -ℤ b.k)))
     else Within (wrapped (differences (range_of facts a) (range_of facts b)))
 

@@ -1,6 +1,6 @@
 -- Bits of two numbers (ECMA-335 III.3.3, III.3.54 and III.3.67).
-use Rattle.std.specs.Prelude.{ℕ, ◌^◌, ◌-◌, ℤ, pos, Bool, ◌&&◌, int_le, unsigned_abs, if◌then◌else◌}
-use Rattle.std.specs.Int.{w128, int_min, int_max, leading_zeros}
+use Rattle.std.specs.Prelude.{ℕ, ◌^◌, ◌-◌, ◌/◌, ℤ, pos, Bool, ◌&&◌, int_le, unsigned_abs, if◌then◌else◌}
+use Rattle.std.specs.Int.{w64, int_min, int_max, leading_zeros}
 use Rattle.domain_api.specs.declared.expr.Expr.{Expr}
 use Rattle.number_facts.specs.Facts.{Facts, range_of}
 use Rattle.number_facts.specs.Spans.{between, full, is_not_negative}
@@ -16,9 +16,9 @@ common_bits r q =
     else if is_not_negative q then between (pos 0) q.hi
     else full
 
--- The number of all ones that has as many bits as n.
+-- The number of all ones that has as many places as n: of 64 ones, as many are dropped as n has zeros in front.
 unfoldable pub all_ones : ℤ → ℤ
-all_ones n = pos (2 ^ (128 - leading_zeros w128 (unsigned_abs n)) - 1)
+all_ones n = pos ((2 ^ 64 - 1) / 2 ^ leading_zeros w64 (unsigned_abs n))
 
 -- The numbers are 0 and 1, or one of them.
 abbrev pub is_bit : Span → Bool

@@ -1,3 +1,4 @@
+pub mod Sizes
 pub mod Spans
 pub mod Facts
 pub mod Fresh

@@ -1,5 +1,5 @@
 -- Shifts (ECMA-335 III.3.58 to III.3.60).
-use Rattle.std.specs.Prelude.{ℕ, ◌==◌, ◌^◌, ◌-◌, ℤ, pos, negsuc, ◌≤ℤ◌, Bool, int_le, unsigned_abs, if◌then◌else◌}
+use Rattle.std.specs.Prelude.{ℕ, ◌==◌, ◌^◌, ◌/◌, ◌-◌, ℤ, pos, negsuc, ◌≤ℤ◌, Bool, int_le, unsigned_abs, if◌then◌else◌}
 use Rattle.std.specs.Int.{int_min, int_max, int_shr}
 use Rattle.domain_api.specs.declared.expr.Expr.{Expr}
 use Rattle.number_facts.specs.Facts.{Facts, constant, range_of}
@@ -25,9 +25,9 @@ shifted_right r b =
     if b.sym == 0 then between (int_shr r.lo (unsigned_abs b.k)) (int_shr r.hi (unsigned_abs b.k))
     else between (int_min r.lo (pos 0)) (int_max r.hi (negsuc 0))
 
--- An unsigned number that is not negative is shifted as it is. By a constant n other than 0, another has 32 - n places.
+-- An unsigned number that is not negative is shifted as it is. By a constant n other than 0, another has n ones less than 32.
 unfoldable pub shifted_right_unsigned : Facts → Expr → Expr → Outcome
 shifted_right_unsigned facts a b =
     if is_not_negative (range_of facts a) then Within (shifted_right (range_of facts a) b)
-    else if b.sym == 0 then (if unsigned_abs b.k == 0 then Is a else Within (between (pos 0) (pos (2 ^ (32 - unsigned_abs b.k) - 1))))
+    else if b.sym == 0 then (if unsigned_abs b.k == 0 then Is a else Within (between (pos 0) (pos ((2 ^ 32 - 1) / 2 ^ unsigned_abs b.k))))
     else Within full

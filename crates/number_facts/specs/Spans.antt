@@ -16,27 +16,6 @@ pub record Has (r : Span) (n : ℤ) : Type 0 where
   pub below : n ≤ℤ r.hi
   pub no_hole : r.hole ≢ Some n
 
--- The ends are in order, and have 65 bits.
-pub record IsLong (r : Span) : Type 0 where
-  pub least : negsuc 18446744073709551615 ≤ℤ r.lo
-  pub ordered : r.lo ≤ℤ r.hi
-  pub greatest : r.hi ≤ℤ pos 18446744073709551616
-
--- They have 34 bits, as those of each variable have.
-pub record IsSmall (r : Span) : Type 0 where
-  pub least : negsuc 8589934591 ≤ℤ r.lo
-  pub ordered : r.lo ≤ℤ r.hi
-  pub greatest : r.hi ≤ℤ pos 8589934592
-
--- A number of 34 bits, and of 71.
-pub record IsEnd (n : ℤ) : Type 0 where
-  pub least : negsuc 8589934591 ≤ℤ n
-  pub greatest : n ≤ℤ pos 8589934592
-
-pub record IsBounded (n : ℤ) : Type 0 where
-  pub least : negsuc 590295810358705651711 ≤ℤ n
-  pub greatest : n ≤ℤ pos 590295810358705651712
-
 -- Every int32.
 abbrev pub full : Span
 full = between LEAST GREATEST

@@ -7,19 +7,20 @@ ghost use Rattle.cil_model.specs.Arithmetic as arithmetic;
 ghost use Rattle.interval_domain.specs.Arithmetic.{near};
 ghost use Rattle.number_facts.specs.Facts.{AreNarrow, IsThere};
 ghost use Rattle.number_facts.specs.Fresh.{expr_made, facts_made, fresh, noted, settled, range_without};
-ghost use Rattle.number_facts.specs.Spans.{full, IsBounded};
+ghost use Rattle.number_facts.specs.Spans.{full};
 ghost use Rattle.number_facts.specs.Arith as rule;
 ghost use Rattle.number_facts.specs.Owed.{Divides, Shifts};
 
 use crate::addition::sums;
 use crate::bits::{bits_of_either, common_bits};
+use crate::comparisons::is_constant;
 use crate::constants::operated;
+use crate::exact::int32;
 use crate::numbers::{Numbers, constant, range_without};
 use crate::outcome::Outcome;
 use crate::product::corners;
 use crate::shifts::shifted_right;
 use crate::span::{GREATEST, LEAST, Span};
-use crate::comparisons::is_constant;
 use cil_model::BinOp;
 use domain_api::{Expr, NoMemory};
 use interval_domain::Range;
@@ -29,7 +30,7 @@ fn of_constants(op: BinOp, a: Expr, b: Expr) -> Option<i32>
     ensures { result ≡ rule.of_constants op a b }
 {
     if is_constant(a) && is_constant(b) {
-        operated(op, a.k as i32, b.k as i32)
+        operated(op, int32(a.k), int32(b.k))
     } else {
         None
     }
@@ -91,9 +92,18 @@ impl Numbers {
             BinOp::DivUn => self.unsigned_quotient(a, b),
             BinOp::Rem => self.remainder(a, b),
             BinOp::RemUn => self.unsigned_remainder(a, b),
-            BinOp::And => Outcome::Within(common_bits(self.small_range_of(a), self.small_range_of(b))),
-            BinOp::Or => Outcome::Within(bits_of_either(self.small_range_of(a), self.small_range_of(b))),
-            BinOp::Xor => Outcome::Within(bits_of_either(self.small_range_of(a), self.small_range_of(b))),
+            BinOp::And => Outcome::Within(common_bits(
+                self.small_range_of(a),
+                self.small_range_of(b),
+            )),
+            BinOp::Or => Outcome::Within(bits_of_either(
+                self.small_range_of(a),
+                self.small_range_of(b),
+            )),
+            BinOp::Xor => Outcome::Within(bits_of_either(
+                self.small_range_of(a),
+                self.small_range_of(b),
+            )),
             BinOp::Shl => self.shifted_left(a, b),
             BinOp::Shr => Outcome::Within(shifted_right(self.small_range_of(a), b)),
             BinOp::ShrUn => self.shifted_right_unsigned(a, b),
@@ -130,7 +140,7 @@ impl Numbers {
     }
 
     /// The result of an operator, of which this is known.
-    #[tactic(auto, unfolding(crate::specs::Fresh::settled))]
+    #[tactic(auto, unfolding(crate::specs::Fresh::settled, crate::specs::Fresh::fresh))]
     fn settled(&mut self, outcome: Outcome) -> Result<Option<Expr>, NoMemory>
         ensures value { IfOk result (λ e. e ≡ expr_made (settled self.old outcome)) }
         ensures facts { OnOk result (self.new ≡ facts_made self.old (settled self.old outcome)) }
@@ -180,6 +190,7 @@ impl Numbers {
 }
 
 /// The int32 of a range, as they are stored.
+#[tactic(auto, using(crate::proofs::Stored::none_below))]
 fn range_within(span: Span) -> Option<Range>
     ensures { result ≡ range_without (int_max span.lo arithmetic.LEAST) (int_min span.hi arithmetic.GREATEST) None }
 {

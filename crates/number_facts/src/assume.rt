@@ -5,9 +5,10 @@ ghost use Rattle.std.specs.Option.{is_some};
 ghost use Rattle.std.specs.Int.{int_min, int_max};
 ghost use Rattle.interval_domain.specs.Interval.{without};
 ghost use Rattle.number_facts.specs.Fresh.{range_without};
-ghost use Rattle.number_facts.specs.Spans.{IsBounded};
+ghost use Rattle.number_facts.specs.Sizes.{IsBounded};
 ghost use Rattle.number_facts.specs.Assume as rule;
 
+use crate::exact::{below, less_by};
 use crate::numbers::{Numbers, constant, range_without};
 use cil_model::CmpOp;
 use domain_api::{Expr, NoMemory};
@@ -39,7 +40,11 @@ fn range_upto(range: Range, hi: i128) -> Option<Range>
     if hi < i128::from(range.lo()) {
         return None;
     }
-    range_without(range.lo(), i128::from(range.hi()).min(hi) as i64, range.hole())
+    range_without(
+        range.lo(),
+        i128::from(range.hi()).min(hi) as i64,
+        range.hole(),
+    )
 }
 
 /// The numbers of a range from a number on.
@@ -50,7 +55,11 @@ fn range_from(range: Range, lo: i128) -> Option<Range>
     if i128::from(range.hi()) < lo {
         return None;
     }
-    range_without(i128::from(range.lo()).max(lo) as i64, range.hi(), range.hole())
+    range_without(
+        i128::from(range.lo()).max(lo) as i64,
+        range.hi(),
+        range.hole(),
+    )
 }
 
 /// The numbers of a range but for one.
@@ -66,11 +75,7 @@ fn range_but_for(range: Range, n: i128) -> Option<Range>
 
 impl Numbers {
     /// Gives a symbol another range. That of symbol 0 is never changed.
-    #[tactic(
-        auto,
-        using(crate::proofs::Symbols::changed_none, crate::proofs::Symbols::changed_some),
-        unfolding(crate::specs::Assume::changed)
-    )]
+    #[tactic(auto, using(crate::proofs::Symbols::changed_none, crate::proofs::Symbols::changed_some), unfolding(crate::specs::Assume::changed))]
     fn change(&mut self, sym: u32, range: Option<Range>) -> bool
         requires there { sym ≤ length self.old.ranges }
         ensures reached { result ≡ is_some (rule.changed self.old sym range) }
@@ -96,7 +101,7 @@ impl Numbers {
         ensures facts { result ≡ true → rule.lowered self.old e n ≡ Some self.new }
         ensures count { length self.new.ranges ≡ length self.old.ranges }
     {
-        self.change(e.sym, range_upto(self.range_at(e.sym), n - i128::from(e.k)))
+        self.change(e.sym, range_upto(self.range_at(e.sym), below(n, e.k)))
     }
 
     /// The expression is at least a number.
@@ -108,7 +113,7 @@ impl Numbers {
         ensures facts { result ≡ true → rule.raised self.old e n ≡ Some self.new }
         ensures count { length self.new.ranges ≡ length self.old.ranges }
     {
-        self.change(e.sym, range_from(self.range_at(e.sym), n - i128::from(e.k)))
+        self.change(e.sym, range_from(self.range_at(e.sym), below(n, e.k)))
     }
 
     /// The first expression and a number more, 0 or 1, are at most the second.
@@ -121,11 +126,11 @@ impl Numbers {
         ensures facts { result ≡ true → rule.assumed_at_most self.old a more b ≡ Some self.new }
         ensures count { length self.new.ranges ≡ length self.old.ranges }
     {
-        if self.is_at_most(b, 1 - more, a) {
+        if self.is_beyond(a, more, b) {
             return false;
         }
-        let hi = self.range_of(b).hi - i128::from(more);
-        let lo = self.range_of(a).lo + i128::from(more);
+        let hi = self.end_below(b, more);
+        let lo = self.end_above(a, more);
         self.lower(a, hi) && self.raise(b, lo)
     }
 
@@ -165,7 +170,10 @@ impl Numbers {
         if !r.is_one() {
             return true;
         }
-        self.change(a.sym, range_but_for(self.range_at(a.sym), r.lo - i128::from(a.k)))
+        self.change(
+            a.sym,
+            range_but_for(self.range_at(a.sym), less_by(r.lo, a.k)),
+        )
     }
 
     /// Of two that differ one is less, where the other order is ruled out.

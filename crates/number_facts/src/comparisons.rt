@@ -26,7 +26,7 @@ pub(crate) fn is_constant(e: Expr) -> bool
 }
 
 /// The numbers of a truth value.
-#[tactic(auto, unfolding(interval_domain::specs::Joins::hull))]
+#[tactic(auto, unfolding(interval_domain::specs::Joins::hull, interval_domain::specs::Joins::kept_hole, interval_domain::specs::Interval::holed, interval_domain::specs::Interval::inner_hole))]
 fn bit() -> Range
     ensures { result ≡ between (pos 0) (pos 1) }
 {

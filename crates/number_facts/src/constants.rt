@@ -1,12 +1,13 @@
 //! What operators give of constants (ECMA-335 III.3).
 
-ghost use Rattle.std.specs.Prelude.{◌≡◌, ◌<◌, ◌^◌, ◌*ℤ◌, pos, FitsSigned};
+ghost use Rattle.std.specs.Prelude.{◌≡◌, ◌<◌, ◌^◌, ◌*ℤ◌, ◌≤ℤ◌, unsigned_abs, pos, FitsSigned};
 ghost use Rattle.std.specs.Int.{w32};
 ghost use Rattle.std.specs.Result.{result_ok};
 ghost use Rattle.cc_base.specs.Wrap.{wrap32};
 ghost use Rattle.cil_model.specs.Arithmetic as arithmetic;
 ghost use Rattle.cil_model.specs.declared.instruction.BinOp.TheVariants as operators;
 
+use crate::exact::{power, times};
 use crate::span::{is_int32, wrap};
 use cil_model::BinOp;
 
@@ -65,6 +66,33 @@ fn unsigned_remainder(a: i32, b: i32) -> Option<i32>
     Some((a.cast_unsigned() % b.cast_unsigned()).cast_signed())
 }
 
+/// A power of 2.
+fn power_of(n: i32) -> i64
+    requires least { pos 0 ≤ℤ n }
+    requires greatest { n ≤ℤ pos 31 }
+    ensures value { result ≡ pos (2 ^ unsigned_abs n) }
+    ensures bound { (pos 1 ≤ℤ result) × (result ≤ℤ pos 2147483648) }
+{
+    power(i64::from(n))
+}
+
+/// A number times a power of 2.
+fn scaled(a: i32, power: i64) -> i128
+    requires { (pos 1 ≤ℤ power) × (power ≤ℤ pos 2147483648) }
+    ensures value { result ≡ a *ℤ power }
+{
+    times(i128::from(a), i128::from(power))
+}
+
+/// A number shifted to the left, wrapped.
+fn shifted_by(a: i32, n: i32) -> i32
+    requires least { pos 0 ≤ℤ n }
+    requires greatest { n ≤ℤ pos 31 }
+    ensures { result ≡ wrap32 (a *ℤ pos (2 ^ unsigned_abs n)) }
+{
+    wrap(scaled(a, power_of(n)))
+}
+
 /// A shift to the left.
 fn shifted_left(a: i32, n: i32) -> Option<i32>
     ensures { result ≡ result_ok (arithmetic.operated operators.Shl a n) }
@@ -72,7 +100,7 @@ fn shifted_left(a: i32, n: i32) -> Option<i32>
     if n < 0 || 32 <= n {
         return None;
     }
-    Some(wrap(i128::from(a) * 2i128.pow(n as u32)))
+    Some(shifted_by(a, n))
 }
 
 /// A shift to the right, which copies the sign.
@@ -96,11 +124,10 @@ fn shifted_right_unsigned(a: i32, n: i32) -> Option<i32>
 }
 
 /// The product of two int32.
-#[tactic(auto, using(crate::proofs::Products::product_fits))]
 fn product(a: i32, b: i32) -> i128
     ensures { result ≡ a *ℤ b }
 {
-    i128::from(a) * i128::from(b)
+    times(i128::from(a), i128::from(b))
 }
 
 /// What an operator gives of two int32. None exactly where it faults.

@@ -7,6 +7,7 @@ mod assume;
 mod bits;
 mod comparisons;
 mod constants;
+mod exact;
 mod gap;
 mod numbers;
 mod outcome;

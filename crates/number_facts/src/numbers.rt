@@ -2,7 +2,7 @@
 
 ghost use Rattle.std.specs.Prelude.{◌≡◌, ◌≤◌, ◌≤ℤ◌, ◌+◌, length, IfOk, OnOk, OnErr};
 ghost use Rattle.number_facts.specs.Facts.{Facts, AreNarrow, IsThere, range_at, range_of};
-ghost use Rattle.number_facts.specs.Spans.{IsLong, IsSmall};
+ghost use Rattle.number_facts.specs.Sizes.{IsLong, IsSmall};
 ghost use Rattle.number_facts.specs.Fresh.{range_without, noted};
 
 use crate::span::Span;
@@ -72,12 +72,13 @@ impl Numbers {
     }
 
     /// The numbers that an expression of a variable may have.
-    #[tactic(auto, using(crate::proofs::Narrow::small), unfolding(crate::specs::Facts::range_of))]
+    #[tactic(auto, using(crate::proofs::Narrow::small_ordered), unfolding(crate::specs::Facts::range_of))]
     pub(crate) fn small_range_of(&self, e: Expr) -> Span
         requires there { IsThere self.now e }
         requires narrow { AreNarrow self.now }
         ensures value { result ≡ range_of self.now e }
         ensures ends { IsSmall result }
+        ensures ordered { result.lo ≤ℤ result.hi }
     {
         self.range_of(e)
     }

@@ -1,43 +1,42 @@
 //! Products.
 
-ghost use Rattle.std.specs.Prelude.{◌≡◌, ◌≤ℤ◌, ◌*ℤ◌};
+ghost use Rattle.std.specs.Prelude.{◌≡◌};
 ghost use Rattle.number_facts.specs.Facts.{AreNarrow, IsThere};
-ghost use Rattle.number_facts.specs.Spans.{between, IsSmall, IsEnd, IsBounded};
+ghost use Rattle.number_facts.specs.Spans.{between};
+ghost use Rattle.number_facts.specs.Sizes.{IsSmall, IsBounded};
 ghost use Rattle.number_facts.specs.Product as rule;
 ghost use Rattle.interval_domain.specs.Arithmetic.{least, greatest};
 
+use crate::exact::times;
 use crate::numbers::Numbers;
 use crate::outcome::Outcome;
 use crate::span::Span;
 use domain_api::Expr;
 
-/// The product of two ends.
-#[tactic(auto, using(crate::proofs::Products::product_bounded))]
-fn corner(m: i128, n: i128) -> i128
-    requires first { IsEnd m }
-    requires second { IsEnd n }
-    ensures value { result ≡ m *ℤ n }
-    ensures bound { IsBounded result }
+/// The least of four numbers.
+#[tactic(auto, unfolding(interval_domain::specs::Arithmetic::least))]
+fn least(a: i128, b: i128, c: i128, d: i128) -> i128
+    ensures { result ≡ least a b c d }
 {
-    m * n
+    a.min(b).min(c.min(d))
+}
+
+/// The greatest of four numbers.
+#[tactic(auto, unfolding(interval_domain::specs::Arithmetic::greatest))]
+fn greatest(a: i128, b: i128, c: i128, d: i128) -> i128
+    ensures { result ≡ greatest a b c d }
+{
+    a.max(b).max(c.max(d))
 }
 
 /// The numbers from the least of four to the greatest.
-#[tactic(auto, unfolding(interval_domain::specs::Arithmetic::least, interval_domain::specs::Arithmetic::greatest))]
 fn spanned(a: i128, b: i128, c: i128, d: i128) -> Span
-    requires first { IsBounded a }
-    requires second { IsBounded b }
-    requires third { IsBounded c }
-    requires fourth { IsBounded d }
-    ensures value { result ≡ between (least a b c d) (greatest a b c d) }
-    ensures low { IsBounded result.lo }
-    ensures high { IsBounded result.hi }
+    ensures { result ≡ between (least a b c d) (greatest a b c d) }
 {
-    Span::between(a.min(b).min(c.min(d)), a.max(b).max(c.max(d)))
+    Span::between(least(a, b, c, d), greatest(a, b, c, d))
 }
 
 /// From the least to the greatest product of two ends.
-#[tactic(auto, unfolding(crate::specs::Product::corners))]
 pub(crate) fn corners(r: Span, q: Span) -> Span
     requires first { IsSmall r }
     requires second { IsSmall q }
@@ -46,10 +45,10 @@ pub(crate) fn corners(r: Span, q: Span) -> Span
     ensures high { IsBounded result.hi }
 {
     spanned(
-        corner(r.lo, q.lo),
-        corner(r.lo, q.hi),
-        corner(r.hi, q.lo),
-        corner(r.hi, q.hi),
+        times(r.lo, q.lo),
+        times(r.lo, q.hi),
+        times(r.hi, q.lo),
+        times(r.hi, q.hi),
     )
 }
 

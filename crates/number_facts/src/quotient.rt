@@ -1,8 +1,10 @@
 //! Truncated quotients.
 
-ghost use Rattle.std.specs.Prelude.{◌≡◌, ◌≢◌, ◌==◌, pos, true, ◌≤ℤ◌, ◌+ℤ◌};
+ghost use Rattle.std.specs.Prelude.{◌≡◌, ◌≢◌, pos, true, ◌≤ℤ◌, neg_ℤ, int_div};
+ghost use Rattle.std.specs.Int.{int_min, int_max};
 ghost use Rattle.number_facts.specs.Facts.{AreNarrow, IsThere};
-ghost use Rattle.number_facts.specs.Spans.{IsSmall};
+ghost use Rattle.number_facts.specs.Spans.{between};
+ghost use Rattle.number_facts.specs.Sizes.{IsSmall, IsEnd};
 ghost use Rattle.number_facts.specs.Quotient as rule;
 
 use crate::numbers::Numbers;
@@ -21,6 +23,30 @@ pub(crate) fn size(r: Span) -> i128
     r.lo.abs().max(r.hi.abs())
 }
 
+/// No quotient of a number of the range is less.
+fn least_quotient(r: Span) -> i128
+    requires { IsSmall r }
+    ensures { result ≡ neg_ℤ (rule.size r) }
+{
+    -size(r)
+}
+
+/// The truncated quotient.
+fn divided(m: i128, n: i128) -> i128
+    requires dividend { IsEnd m }
+    requires divisor { n ≢ pos 0 }
+    ensures { result ≡ int_div m n }
+{
+    m / n
+}
+
+/// The numbers from the lesser of two to the greater.
+fn spanned(a: i128, b: i128) -> Span
+    ensures { result ≡ between (int_min a b) (int_max a b) }
+{
+    Span::between(a.min(b), a.max(b))
+}
+
 /// The quotients by a constant.
 #[tactic(auto, unfolding(crate::specs::Quotient::quotients_by))]
 fn quotients_by(r: Span, n: i128) -> Span
@@ -28,8 +54,7 @@ fn quotients_by(r: Span, n: i128) -> Span
     requires divisor { n ≢ pos 0 }
     ensures { result ≡ rule.quotients_by r n }
 {
-    let (a, b) = (r.lo / n, r.hi / n);
-    Span::between(a.min(b), a.max(b))
+    spanned(divided(r.lo, n), divided(r.hi, n))
 }
 
 /// The quotients of numbers that are not negative by positive ones.
@@ -55,13 +80,13 @@ fn quotients(r: Span, q: Span, by_constant: bool) -> Span
     } else if by_constant {
         quotients_by(r, q.lo)
     } else {
-        Span::between(-size(r), size(r))
+        Span::between(least_quotient(r), size(r))
     }
 }
 
 impl Numbers {
     /// The quotient.
-    #[tactic(auto, unfolding(crate::specs::Quotient::quotient))]
+    #[tactic(auto, using(crate::proofs::Narrow::divides), unfolding(crate::specs::Quotient::quotient))]
     pub(crate) fn quotient(&self, a: Expr, b: Expr) -> Outcome
         requires first { IsThere self.now a }
         requires second { IsThere self.now b }

@@ -1,8 +1,10 @@
 //! Remainders, with the sign of the dividend.
 
-ghost use Rattle.std.specs.Prelude.{◌≡◌, ◌≤ℤ◌, pos, negsuc};
+ghost use Rattle.std.specs.Prelude.{◌≡◌, ◌≤ℤ◌, pos, negsuc, neg_ℤ, ◌-ℤ◌, int_lt, if◌then◌else◌};
+ghost use Rattle.std.specs.Int.{int_min, int_max};
 ghost use Rattle.number_facts.specs.Facts.{AreNarrow, IsThere};
-ghost use Rattle.number_facts.specs.Spans.{IsSmall};
+ghost use Rattle.number_facts.specs.Sizes.{IsSmall};
+ghost use Rattle.number_facts.specs.Quotient.{size};
 ghost use Rattle.number_facts.specs.Remainder as rule;
 
 use crate::numbers::Numbers;
@@ -11,14 +13,28 @@ use crate::quotient::size;
 use crate::span::Span;
 use domain_api::Expr;
 
-/// The remainders of dividends from `lo` to `hi`, where none is larger than `greatest`.
-fn remainders_upto(lo: i128, hi: i128, greatest: i128) -> Span
-    requires least { negsuc 0 ≤ℤ greatest }
-    ensures { result ≡ rule.remainders_upto lo hi greatest }
+/// No remainder by a number of the range is larger.
+fn greatest_remainder(q: Span) -> i128
+    requires { IsSmall q }
+    ensures value { result ≡ size q -ℤ pos 1 }
+    ensures bound { negsuc 0 ≤ℤ result }
 {
-    let least = if lo < 0 { lo.max(-greatest) } else { 0 };
-    let most = if 0 < hi { hi.min(greatest) } else { 0 };
-    Span::between(least, most)
+    size(q) - 1
+}
+
+/// The least remainder of numbers from `lo` on, where none is larger than `greatest`.
+fn least_of(lo: i128, greatest: i128) -> i128
+    requires { negsuc 0 ≤ℤ greatest }
+    ensures { result ≡ (if int_lt lo (pos 0) then int_max lo (neg_ℤ greatest) else pos 0) }
+{
+    if lo < 0 { lo.max(-greatest) } else { 0 }
+}
+
+/// The greatest remainder of numbers up to `hi`.
+fn greatest_of(hi: i128, greatest: i128) -> i128
+    ensures { result ≡ (if int_lt (pos 0) hi then int_min hi greatest else pos 0) }
+{
+    if 0 < hi { hi.min(greatest) } else { 0 }
 }
 
 /// The remainders.
@@ -27,7 +43,8 @@ fn remainders(r: Span, q: Span) -> Span
     requires second { IsSmall q }
     ensures { result ≡ rule.remainders r q }
 {
-    remainders_upto(r.lo, r.hi, size(q) - 1)
+    let greatest = greatest_remainder(q);
+    Span::between(least_of(r.lo, greatest), greatest_of(r.hi, greatest))
 }
 
 impl Numbers {

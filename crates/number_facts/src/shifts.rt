@@ -5,6 +5,7 @@ ghost use Rattle.number_facts.specs.Facts.{AreNarrow, IsThere};
 ghost use Rattle.number_facts.specs.Shifts.{IsAmount};
 ghost use Rattle.number_facts.specs.Shifts as rule;
 
+use crate::exact::power;
 use crate::numbers::{Numbers, constant};
 use crate::outcome::Outcome;
 use crate::span::Span;
@@ -34,7 +35,7 @@ impl Numbers {
         ensures { result ≡ rule.shifted_left self.now a b }
     {
         if b.sym == 0 {
-            self.product(a, constant(1i64 << b.k as u32))
+            self.product(a, constant(power(b.k)))
         } else {
             Outcome::Within(Span::full())
         }
@@ -57,6 +58,6 @@ impl Numbers {
         if b.k == 0 {
             return Outcome::Is(a);
         }
-        Outcome::Within(Span::between(0, (1i128 << (32 - b.k as u32)) - 1))
+        Outcome::Within(Span::between(0, i128::from(u32::MAX >> b.k as u32)))
     }
 }

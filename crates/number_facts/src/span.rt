@@ -3,8 +3,10 @@
 ghost use Rattle.std.specs.Prelude.{◌≡◌, ◌≤ℤ◌, ◌+ℤ◌, ◌-ℤ◌, neg_ℤ, pos, ◌^◌};
 ghost use Rattle.std.specs.Int.{w64};
 ghost use Rattle.cc_base.specs.Wrap.{wrap32};
-ghost use Rattle.number_facts.specs.Spans.{between, full, is_int32, is_one, is_not_negative, is_hole, excludes, moved, moved_hole, wrapped, IsLong, IsBounded};
+ghost use Rattle.number_facts.specs.Spans.{between, full, is_int32, is_one, is_not_negative, is_hole, excludes, moved, moved_hole, wrapped};
+ghost use Rattle.number_facts.specs.Sizes.{IsLong, IsBounded};
 
+use crate::exact::{moved_along, sum_of};
 use interval_domain::Range;
 
 /// The least int32.
@@ -45,10 +47,9 @@ impl Span {
         ensures value { result ≡ moved range k }
         ensures ends { IsLong result }
     {
-        let k = i128::from(k);
         Span {
-            lo: i128::from(range.lo()) + k,
-            hi: i128::from(range.hi()) + k,
+            lo: sum_of(range.lo(), k),
+            hi: sum_of(range.hi(), k),
             hole: moved_hole(range.hole(), k),
         }
     }
@@ -83,10 +84,10 @@ impl Span {
         requires high { IsBounded self.hi }
         ensures { result ≡ wrapped self }
     {
-        let lo = i128::from(wrap(self.lo));
-        let hi = lo + (self.hi - self.lo);
+        let lo = wrap(self.lo);
+        let hi = moved_along(lo, self.lo, self.hi);
         if is_int32(hi) {
-            Span::between(lo, hi)
+            Span::between(i128::from(lo), hi)
         } else {
             Span::full()
         }
@@ -109,12 +110,12 @@ pub(crate) fn wrap(n: i128) -> i32
 }
 
 /// A hole with k added.
-fn moved_hole(hole: Option<i64>, k: i128) -> Option<i128>
+fn moved_hole(hole: Option<i64>, k: i64) -> Option<i128>
     ensures { result ≡ moved_hole hole k }
 {
     match hole {
         None => None,
-        Some(hole) => Some(i128::from(hole) + k),
+        Some(hole) => Some(sum_of(hole, k)),
     }
 }
 
