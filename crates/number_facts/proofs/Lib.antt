@@ -12,3 +12,7 @@ pub mod CompareLaws
 pub mod Wrapping
 pub mod SumLaws
 pub mod ProductLaws
+pub mod QuotientLaws
+pub mod RemainderLaws
+pub mod ShiftLaws
+pub mod BitLaws

@@ -46,7 +46,7 @@ pub small_ordered : (facts : Facts) (e : Expr) (r : Span) → r ≡ range_of fac
 unfolding range_of
 small_ordered facts e r is all = rw is (moved_ordered (range_at facts e.sym) e.k (narrow_range facts e.sym all))
 
-constant_low : (facts : Facts) (e : Expr) → e.sym ≡ 0 → (range_of facts e).lo ≡ e.k
+pub constant_low : (facts : Facts) (e : Expr) → e.sym ≡ 0 → (range_of facts e).lo ≡ e.k
 unfolding range_of range_at moved
 constant_low facts e is = rw is (omega (arith, ints))
 

@@ -101,13 +101,14 @@ the_constant ns e k is = let parts = and_parts (e.sym == 0) _ is in constant_val
 by_one : (m n : ℤ) → FitsSigned w32 m → n ≡ pos 1 → m ≡ wrap32 (m *ℤ n)
 by_one m n fits is = rw is (rw (times_one m) (sym (int_wrap_fits w32 m fits)))
 
-pub product_covers : (facts : Facts) (ns : List ℤ) (a b : Expr) → Holds facts ns → FitsSigned w32 (value ns a) → FitsSigned w32 (value ns b)
+pub product_covers : (facts : Facts) (ns : List ℤ) (a b : Expr) → Holds facts ns → FitsSigned w32 (value ns a)
+    → (is_the_constant a (pos 1) ≡ true → FitsSigned w32 (value ns b))
     → Covers ns (product facts a b) (wrap32 (value ns a *ℤ value ns b))
 unfolding product
 product_covers facts ns a b holds first second =
     cond_both (is_the_constant b (pos 1)) _ _ (λ o. Covers ns o (wrap32 (value ns a *ℤ value ns b)))
     (λ e. by_one (value ns a) (value ns b) first (the_constant ns b (pos 1) e))
     (λ e. cond_both (is_the_constant a (pos 1)) _ _ (λ o. Covers ns o (wrap32 (value ns a *ℤ value ns b)))
-    (λ f. rw (*ℤ_comm (value ns a) (value ns b)) (by_one (value ns b) (value ns a) second (the_constant ns a (pos 1) f)))
+    (λ f. rw (*ℤ_comm (value ns a) (value ns b)) (by_one (value ns b) (value ns a) (second f) (the_constant ns a (pos 1) f)))
     (λ f. let has = corners_have (range_of facts a) (range_of facts b) (value ns a) (value ns b) (range_has facts ns a holds) (range_has facts ns b holds) in
     wrapped_has (corners (range_of facts a) (range_of facts b)) _ has.above has.below))

@@ -1,5 +1,5 @@
 -- Numbers modulo 2^32.
-use Rattle.std.proofs.Common.{◌≡◌, ℤ, ◌+ℤ◌, ◌-ℤ◌, ◌≤ℤ◌, true, ◌&&◌, int_le, FitsSigned, sym, ap, ◌∙◌, arith, w32, None}
+use Rattle.std.proofs.Common.{◌≡◌, ℕ, ◌<◌, to_z, ℤ, ◌+ℤ◌, ◌-ℤ◌, ◌≤ℤ◌, true, ◌&&◌, int_le, FitsSigned, sym, ap, ◌∙◌, arith, w32, None}
 use Rattle.std.proofs.lemmas.Bool.{cond_both, and_parts}
 use Rattle.std.proofs.lemmas.Int.{ints, int_wrap_fits, int_wrap-add_left, SFits-int_wrap}
 use Rattle.cc_base.specs.Wrap.{wrap32}
@@ -12,6 +12,10 @@ between_has lo hi n above below = record { above = above; below = below; no_hole
 
 pub full_has : (n : ℤ) → FitsSigned w32 n → Has full n
 full_has n fits = between_has _ _ n (omega (arith, ints, fits)) (omega (arith, ints, fits))
+
+-- the bits of an int32, taken as a number
+pub bits_of : (x : ℕ) → x < 4294967296 → FitsSigned w32 (to_z w32 x)
+bits_of x h = omega (arith, ints)
 
 pub int32_fits : (n : ℤ) → is_int32 n ≡ true → FitsSigned w32 n
 int32_fits n e = grind (arith, ints, e)
