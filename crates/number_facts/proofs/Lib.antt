@@ -16,3 +16,5 @@ pub mod QuotientLaws
 pub mod RemainderLaws
 pub mod ShiftLaws
 pub mod BitLaws
+pub mod ArithLaws
+pub mod Examples
