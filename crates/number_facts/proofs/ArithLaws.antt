@@ -1,5 +1,5 @@
 -- What is known of the result of an operator is true of it.
-use Rattle.std.proofs.Common.{◌≡◌, ◌≢◌, ℕ, ◌==◌, ◌/◌, ◌%◌, ◌^◌, ◌<◌, ◌≤◌, ℤ, pos, negsuc, ◌+ℤ◌, ◌-ℤ◌, ◌*ℤ◌, ◌≤ℤ◌, Bool, true, false, ◌&&◌, cond, int_le, int_lt, int_eq, int_div, int_rem, unsigned_abs, Option, Some, None, Result, Ok, Err, List, FitsSigned, refl, sym, ap, ◌∙◌, w32, arith}
+use Rattle.std.proofs.Common.{◌≡◌, ◌≢◌, ℕ, ◌==◌, ◌/◌, ◌%◌, ◌^◌, ◌<◌, ℤ, pos, negsuc, ◌+ℤ◌, ◌-ℤ◌, ◌*ℤ◌, ◌≤ℤ◌, Bool, true, false, ◌&&◌, cond, int_le, int_lt, int_eq, int_div, int_rem, unsigned_abs, Option, Result, Ok, Err, List, FitsSigned, refl, sym, ◌∙◌, w32, arith}
 use Rattle.std.specs.Result.{result_ok}
 use Rattle.std.specs.Int.{int_shr}
 use Rattle.std.proofs.lemmas.Bool.{cond_both, and_parts}
@@ -21,7 +21,7 @@ use Rattle.number_facts.specs.Keeps.{Covers, Yields}
 use Rattle.number_facts.specs.Product.{is_the_constant}
 use Rattle.number_facts.specs.Quotient.{quotient, unsigned_quotient}
 use Rattle.number_facts.specs.Remainder.{remainder, unsigned_remainder}
-use Rattle.number_facts.specs.Spans.{Has, full, is_int32, is_not_negative}
+use Rattle.number_facts.specs.Spans.{is_int32, is_not_negative}
 use Rattle.number_facts.specs.declared.outcome.Outcome.{Outcome}
 use Rattle.number_facts.proofs.BitLaws.{common_bits_have, bits_of_either_have, bits_of_one_have}
 use Rattle.number_facts.proofs.ConstantValues.{zero_value, constant_value, no_symbol}

@@ -2,20 +2,17 @@
 use Rattle.std.proofs.Common.{◌≡◌, ◌≢◌, ℕ, ◌==◌, ℤ, pos, ◌+ℤ◌, ◌-ℤ◌, ◌≤ℤ◌, ◌<ℤ◌, Bool, true, false, not, ◌&&◌, Option, Some, None, List, int_le, int_lt, int_eq, refl, sym, ap, ◌∙◌, arith, FitsSigned, w32}
 use Rattle.std.specs.Prelude.{nat_lt}
 use Rattle.std.specs.Option.{option_and_then}
-use Rattle.std.specs.Int.{int_min, int_max}
 use Rattle.std.proofs.lemmas.Int.{ints, clamps}
-use Rattle.std.proofs.lemmas.Grind.{common_steps}
 use Rattle.std.proofs.lemmas.Bool.{cond_both, and_parts}
 use Rattle.std.proofs.lemmas.Bool.Decides.{Decides-int_eq}
 use Rattle.domain_api.specs.declared.expr.Expr.{Expr}
 use Rattle.cil_model.specs.Arithmetic.{compares, unsigned}
 use Rattle.cil_model.specs.declared.instruction.CmpOp.{CmpOp}
 use Rattle.cil_model.specs.declared.instruction.CmpOp.TheVariants as comparisons
-use Rattle.interval_domain.specs.Interval.{Interval, without}
-use Rattle.number_facts.specs.Assume.{changed, lowered, raised, assumed_at_most, assumed_less, assumed_equal, lost, ordered, assumed_apart, assumed_less_unsigned, assumed_at_most_unsigned, holding, contrary, assumed}
-use Rattle.number_facts.specs.Facts.{Facts, Allows, Holds, constant, number_of, range_at, range_of, value}
+use Rattle.number_facts.specs.Assume.{lowered, raised, assumed_at_most, assumed_less, assumed_equal, lost, ordered, assumed_apart, assumed_less_unsigned, assumed_at_most_unsigned, holding, contrary, assumed}
+use Rattle.number_facts.specs.Facts.{Facts, Holds, constant, number_of, range_of, value}
 use Rattle.number_facts.specs.Gap.{at_most, equal}
-use Rattle.number_facts.specs.Keeps.{SomeAllows, SomeHolds}
+use Rattle.number_facts.specs.Keeps.{SomeHolds}
 use Rattle.number_facts.specs.Spans.{is_one, is_not_negative}
 use Rattle.number_facts.proofs.Lost.{range_without_allows, without_allows}
 use Rattle.number_facts.proofs.Meaning.{symbol_allowed, range_has, changed_holds}

@@ -1,13 +1,13 @@
 -- What is known of the bits of two numbers is true of them.
-use Rattle.std.proofs.Common.{◌≡◌, ℕ, suc, ◌+◌, ◌-◌, ◌*◌, ◌/◌, ◌^◌, ◌<◌, ◌≤◌, ℤ, pos, negsuc, ◌≤ℤ◌, true, ◌&&◌, ◌⊎◌, int_le, bit_and, FitsSigned, refl, sym, ap, ◌∙◌, w32, to_z, of_z, arith}
-use Rattle.std.specs.Int.{w64, int_min, int_max, int_bit_and, int_bit_or, int_bit_xor, leading_zeros}
+use Rattle.std.proofs.Common.{◌≡◌, ℕ, ◌+◌, ◌-◌, ◌*◌, ◌/◌, ◌^◌, ◌<◌, ◌≤◌, ℤ, pos, negsuc, ◌≤ℤ◌, true, ◌&&◌, int_le, bit_and, FitsSigned, sym, ap, ◌∙◌, w32, to_z, of_z, arith}
+use Rattle.std.specs.Int.{w64, int_max, int_bit_and, int_bit_or, int_bit_xor, leading_zeros}
 use Rattle.std.specs.Int.Bits.{bit_or, bit_xor}
 use Rattle.std.proofs.lemmas.Bool.{cond_both, and_parts}
 use Rattle.std.proofs.lemmas.Int.{ints, clamps, to_z_pos}
 use Rattle.std.proofs.lemmas.Nat.{and_le_l, and_le_r, or_lt, xor_lt, leading_length, le-div, mul-le, pow-add, pow_pos}
 use Rattle.number_facts.specs.Bits.{common_bits, all_ones, is_bit, bits_of_either}
 use Rattle.number_facts.specs.Sizes.{IsSmall}
-use Rattle.number_facts.specs.Spans.{Has, between, full, is_not_negative}
+use Rattle.number_facts.specs.Spans.{Has, between, is_not_negative}
 use Rattle.number_facts.specs.declared.span.Span.{Span}
 use Rattle.number_facts.proofs.Wrapping.{between_has, full_has}
 

@@ -1,5 +1,5 @@
 -- What is known of comparisons is so.
-use Rattle.std.proofs.Common.{◌≡◌, ◌≢◌, ℤ, pos, ◌+ℤ◌, ◌≤ℤ◌, ◌<ℤ◌, Bool, true, false, ◌&&◌, ◌||◌, int_lt, int_eq, Option, Some, None, List, refl, sym, ap, ◌∙◌, inl, inr, ⊎_elim, FitsSigned, w32, arith}
+use Rattle.std.proofs.Common.{◌≡◌, ◌≢◌, ℤ, pos, ◌≤ℤ◌, ◌<ℤ◌, Bool, true, false, ◌&&◌, ◌||◌, int_lt, int_eq, Option, Some, None, List, refl, sym, ap, ◌∙◌, inl, ⊎_elim, FitsSigned, w32, arith}
 use Rattle.std.specs.Prelude.{nat_lt}
 use Rattle.std.proofs.lemmas.Bool.{cond_both, and_parts, or_cases, false_from_ne_true, true_from_ne_false}
 use Rattle.std.proofs.lemmas.Bool.Decides.{Decides-int_eq}
@@ -10,10 +10,9 @@ use Rattle.cil_model.specs.Comparisons.{comparison_of}
 use Rattle.cil_model.specs.declared.instruction.BinOp.{BinOp}
 use Rattle.cil_model.specs.declared.instruction.BinOp.TheVariants as operators
 use Rattle.cil_model.specs.declared.instruction.CmpOp.{CmpOp}
-use Rattle.cil_model.specs.declared.instruction.CmpOp.TheVariants as comparisons
 use Rattle.interval_domain.specs.Interval.{between}
 use Rattle.number_facts.specs.Comparisons.{less_known, one_excluded, apart, equal_known, is_constant, less_unsigned_known, known, pushed, compared}
-use Rattle.number_facts.specs.Facts.{Facts, Allows, Holds, HoldsWith, constant, range_of, value}
+use Rattle.number_facts.specs.Facts.{Facts, Allows, Holds, HoldsWith, range_of, value}
 use Rattle.number_facts.specs.Gap.{at_most, less, equal}
 use Rattle.number_facts.specs.Spans.{Has, is_hole, is_one, is_not_negative, excludes}
 use Rattle.number_facts.specs.declared.span.Span.{Span}

@@ -2,24 +2,22 @@
 use Rattle.std.proofs.Common.{◌≡◌, ℕ, ℤ, pos, negsuc, List, [], ◌∷◌, Option, Some, None, true, false, refl}
 use Rattle.std.specs.Int.{int_wrap}
 use Rattle.domain_api.specs.declared.expr.Expr.{Expr}
-use Rattle.cc_base.specs.Wrap.{wrap32}
 use Rattle.cil_model.specs.declared.instruction.BinOp.TheVariants as operators
 use Rattle.cil_model.specs.declared.instruction.CmpOp.TheVariants as comparisons
 use Rattle.interval_domain.specs.Interval.{Interval, interval, between, without, lost, raised, lowered}
 use Rattle.interval_domain.specs.Arithmetic.{least, greatest}
 use Rattle.number_facts.specs.Addition.{sum, difference}
-use Rattle.number_facts.specs.Arith.{exact, by_ranges, outcome}
+use Rattle.number_facts.specs.Arith.{by_ranges, outcome}
 use Rattle.number_facts.specs.Assume as rule
 use Rattle.number_facts.specs.Assume.{assumed, holding, changed, assumed_at_most, assumed_equal, assumed_apart, ordered, assumed_less_unsigned, assumed_at_most_unsigned}
-use Rattle.number_facts.specs.Bits.{common_bits, bits_of_either, all_ones}
-use Rattle.number_facts.specs.Comparisons.{less_known, apart, equal_known, less_unsigned_known, known, compared}
-use Rattle.number_facts.specs.Facts.{Facts, constant, range_at, range_of}
+use Rattle.number_facts.specs.Comparisons.{less_unsigned_known, known}
+use Rattle.number_facts.specs.Facts.{Facts, range_at, range_of}
 use Rattle.number_facts.specs.Fresh.{Made, range_without, noted, fresh, settled}
 use Rattle.number_facts.specs.Gap.{gap, at_most, equal}
 use Rattle.number_facts.specs.Product.{corners, product}
 use Rattle.number_facts.specs.Quotient.{size, quotients_by, quotients, quotient}
 use Rattle.number_facts.specs.Remainder.{remainders, remainder}
-use Rattle.number_facts.specs.Shifts.{shifted_left, shifted_right, shifted_right_unsigned}
+use Rattle.number_facts.specs.Shifts.{shifted_left, shifted_right_unsigned}
 use Rattle.number_facts.specs.Spans as spans
 use Rattle.number_facts.specs.Spans.{moved, wrapped, excludes}
 use Rattle.number_facts.specs.declared.outcome.Outcome.{Outcome}

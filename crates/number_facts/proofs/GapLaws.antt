@@ -1,10 +1,10 @@
 -- How expressions are known to lie to each other is how their numbers lie.
-use Rattle.std.proofs.Common.{◌≡◌, ℕ, ◌==◌, ℤ, pos, ◌+ℤ◌, ◌-ℤ◌, ◌≤ℤ◌, ◌<ℤ◌, true, ◌&&◌, List, arith, int_le, ap}
+use Rattle.std.proofs.Common.{◌≡◌, ℕ, ◌==◌, ℤ, pos, ◌+ℤ◌, ◌-ℤ◌, ◌≤ℤ◌, true, List, arith, int_le, ap}
 use Rattle.std.proofs.lemmas.Int.{ints}
 use Rattle.std.proofs.lemmas.Bool.{cond_both, and_parts}
 use Rattle.std.proofs.lemmas.Grind.{common_steps}
 use Rattle.domain_api.specs.declared.expr.Expr.{Expr}
-use Rattle.number_facts.specs.Facts.{Facts, Holds, number_of, range_at, value}
+use Rattle.number_facts.specs.Facts.{Facts, Holds, number_of, value}
 use Rattle.number_facts.specs.Gap.{gap, at_most, equal}
 use Rattle.number_facts.proofs.Meaning.{symbol_allowed}
 

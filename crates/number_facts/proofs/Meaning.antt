@@ -1,11 +1,10 @@
 -- What facts say of the numbers that they hold of.
-use Rattle.std.proofs.Common.{◌≡◌, ◌≢◌, ℕ, zero, suc, ◌+◌, ◌-◌, ℤ, pos, ◌+ℤ◌, ◌≤ℤ◌, Option, Some, None, List, [], ◌∷◌, ◌++◌, length, get_or, inl, inr, refl, sym, ap, ◌∙◌, add-one, FitsSigned, w32, arith}
+use Rattle.std.proofs.Common.{◌≡◌, ◌≢◌, ℕ, zero, suc, ◌+◌, ℤ, pos, ◌+ℤ◌, ◌≤ℤ◌, Option, Some, None, List, [], ◌∷◌, ◌++◌, length, get_or, inl, inr, refl, ap, add-one, FitsSigned, w32, arith}
 use Rattle.std.specs.Int.{int_min, int_max}
 use Rattle.std.specs.Prelude.{set}
 use Rattle.std.specs.Option.{option_map}
 use Rattle.std.specs.Ordering.{int_eq}
 use Rattle.std.proofs.lemmas.Int.{ints, clamps}
-use Rattle.std.proofs.lemmas.Grind.{common_steps}
 use Rattle.std.proofs.lemmas.Bool.{cond_both}
 use Rattle.std.proofs.lemmas.Bool.Decides.{Decides-int_eq}
 use Rattle.domain_api.specs.declared.expr.Expr.{Expr}
@@ -13,7 +12,7 @@ use Rattle.cil_model.specs.Arithmetic.{LEAST, GREATEST}
 use Rattle.interval_domain.specs.Interval.{Interval, one}
 use Rattle.number_facts.specs.Assume.{changed}
 use Rattle.number_facts.specs.Facts.{Facts, Allows, AllowAll, Holds, HoldsWith, constant, range_at, range_of, number_of, value}
-use Rattle.number_facts.specs.Fresh.{Made, range_without, noted, fresh, settled}
+use Rattle.number_facts.specs.Fresh.{Made, noted, fresh, settled}
 use Rattle.number_facts.specs.Keeps.{SomeAllows, SomeHolds, Yields, Covers}
 use Rattle.number_facts.specs.Spans.{Has, moved_hole, moved}
 use Rattle.number_facts.specs.declared.outcome.Outcome.{Outcome}

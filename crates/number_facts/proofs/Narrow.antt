@@ -1,5 +1,5 @@
 -- Ranges of int32, and of expressions of variables.
-use Rattle.std.proofs.Common.{◌≡◌, ◌≢◌, ◌==◌, true, sym, ap, ◌∙◌, ◌≤◌, ℕ, zero, suc, ◌-◌, ℤ, pos, negsuc, ◌+ℤ◌, ◌≤ℤ◌, List, [], ◌∷◌, length, get_or, arith}
+use Rattle.std.proofs.Common.{◌≡◌, ◌≢◌, ◌==◌, true, sym, ap, ◌∙◌, ℕ, zero, suc, ℤ, pos, negsuc, ◌+ℤ◌, ◌≤ℤ◌, List, [], ◌∷◌, get_or, arith}
 use Rattle.std.proofs.lemmas.Int.{ints}
 use Rattle.std.specs.List.{AllByRecursion}
 use Rattle.domain_api.specs.declared.expr.Expr.{Expr}

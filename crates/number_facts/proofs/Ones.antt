@@ -1,7 +1,7 @@
 -- Zeros in front of a number.
-use Rattle.std.proofs.Common.{◌≡◌, ℕ, suc, ◌+◌, ◌^◌, ◌<◌, pos, refl, ap, arith}
+use Rattle.std.proofs.Common.{◌≡◌, ℕ, ◌^◌, ◌<◌, pos, refl, arith}
 use Rattle.std.specs.Int.{w64, leading_zeros}
-use Rattle.std.specs.Int.Count.{count_leading_zeros, leading_of_zero}
+use Rattle.std.specs.Int.Count.{count_leading_zeros}
 use Rattle.std.proofs.lemmas.Nat.{leading_top}
 use Rattle.number_facts.specs.Bits.{all_ones}
 

@@ -1,5 +1,5 @@
 -- What is known of products is true of them.
-use Rattle.std.proofs.Common.{◌≡◌, ℕ, suc, ◌==◌, ℤ, pos, negsuc, ◌*ℤ◌, ◌≤ℤ◌, ◌⊎◌, inl, inr, true, ◌&&◌, int_eq, List, FitsSigned, refl, sym, ap, ◌∙◌, arith, w32}
+use Rattle.std.proofs.Common.{◌≡◌, ℕ, suc, ◌==◌, ℤ, pos, negsuc, ◌*ℤ◌, ◌≤ℤ◌, ◌⊎◌, inl, inr, true, List, FitsSigned, sym, ◌∙◌, arith, w32}
 use Rattle.std.proofs.lemmas.Bool.{cond_both, and_parts}
 use Rattle.std.proofs.lemmas.Bool.Decides.{Decides-int_eq}
 use Rattle.std.proofs.lemmas.Int.{ints, clamps, int_wrap_fits}
@@ -11,7 +11,7 @@ use Rattle.interval_domain.specs.Arithmetic.{least, greatest}
 use Rattle.number_facts.specs.Facts.{Facts, Holds, range_of, value}
 use Rattle.number_facts.specs.Keeps.{Covers}
 use Rattle.number_facts.specs.Product.{corners, is_the_constant, product}
-use Rattle.number_facts.specs.Spans.{Has, wrapped}
+use Rattle.number_facts.specs.Spans.{Has}
 use Rattle.number_facts.specs.declared.span.Span.{Span}
 use Rattle.number_facts.proofs.ConstantValues.{constant_value}
 use Rattle.number_facts.proofs.Meaning.{range_has}

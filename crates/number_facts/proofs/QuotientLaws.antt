@@ -1,18 +1,13 @@
 -- What is known of truncated quotients is true of them.
-use Rattle.std.proofs.Common.{◌≡◌, ◌≢◌, ℕ, zero, suc, ◌==◌, ◌/◌, ◌≤◌, ◌^◌, max, ℤ, pos, negsuc, neg_ℤ, ◌≤ℤ◌, ◌⊎◌, inl, inr, true, ◌&&◌, cond, Bool, false, int_eq, int_le, int_div, unsigned_abs, List, FitsSigned, refl, sym, ap, ◌∙◌, arith, w32}
-use Rattle.std.specs.Int.{int_min, int_max, cast_signed, cast_unsigned}
+use Rattle.std.proofs.Common.{◌≡◌, ◌≢◌, ℕ, zero, suc, ◌/◌, ◌≤◌, max, ℤ, pos, negsuc, neg_ℤ, ◌≤ℤ◌, ◌⊎◌, inl, inr, true, ◌&&◌, cond, Bool, false, int_le, int_div, unsigned_abs, refl, arith}
+use Rattle.std.specs.Int.{int_min, int_max}
 use Rattle.std.proofs.lemmas.Bool.{cond_both, and_parts}
 use Rattle.std.proofs.lemmas.Int.{ints, clamps}
 use Rattle.std.proofs.lemmas.Nat.{mul-le, le-div}
 use Rattle.std.proofs.Math.Nat.{div-mul-le_self, div-le_self}
-use Rattle.domain_api.specs.declared.expr.Expr.{Expr}
-use Rattle.number_facts.specs.Facts.{Facts, Holds, range_of, value}
-use Rattle.number_facts.specs.Keeps.{Covers}
-use Rattle.number_facts.specs.Quotient.{size, quotients_by, plain_quotients, quotients, quotient, unsigned_quotient}
-use Rattle.number_facts.specs.Spans.{Has, between, is_not_negative}
+use Rattle.number_facts.specs.Quotient.{size, quotients_by, plain_quotients, quotients}
+use Rattle.number_facts.specs.Spans.{Has, between}
 use Rattle.number_facts.specs.declared.span.Span.{Span}
-use Rattle.number_facts.proofs.ConstantValues.{constant_value}
-use Rattle.number_facts.proofs.Meaning.{range_has}
 use Rattle.number_facts.proofs.Wrapping.{between_has}
 
 div_rises : (a b k : ℕ) → a ≤ b → a / suc k ≤ b / suc k

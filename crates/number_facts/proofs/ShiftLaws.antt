@@ -1,7 +1,7 @@
 -- What is known of shifts is true of them.
-use Rattle.std.proofs.Common.{◌≡◌, ℕ, zero, suc, ◌==◌, ◌-◌, ◌/◌, ◌^◌, ◌*◌, ◌<◌, ◌≤◌, ℤ, pos, negsuc, ◌*ℤ◌, ◌≤ℤ◌, true, false, ◌&&◌, int_le, unsigned_abs, List, FitsSigned, refl, sym, ap, ◌∙◌, w32, to_z-of_z, arith}
+use Rattle.std.proofs.Common.{◌≡◌, ℕ, ◌==◌, ◌-◌, ◌/◌, ◌^◌, ◌<◌, ◌≤◌, ℤ, pos, negsuc, ◌*ℤ◌, ◌≤ℤ◌, true, false, unsigned_abs, List, FitsSigned, sym, ap, ◌∙◌, w32, to_z-of_z, arith}
 use Rattle.std.specs.Int.{int_min, int_max, int_shr}
-use Rattle.std.proofs.lemmas.Bool.{cond_both, and_parts}
+use Rattle.std.proofs.lemmas.Bool.{cond_both}
 use Rattle.std.proofs.lemmas.Int.{ints, clamps, to_z_pos}
 use Rattle.std.proofs.lemmas.Nat.{le-div, mul-le, pow_pos, shr_le}
 use Rattle.std.proofs.lemmas.Grind.{common_steps}

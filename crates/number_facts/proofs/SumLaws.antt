@@ -1,5 +1,5 @@
 -- What is known of sums and differences is true of them.
-use Rattle.std.proofs.Common.{◌≡◌, ◌≢◌, ℕ, ◌==◌, ℤ, pos, neg_ℤ, ◌+ℤ◌, ◌-ℤ◌, ◌≤ℤ◌, true, ◌&&◌, int_le, List, FitsSigned, refl, sym, ap, ◌∙◌, arith, w32}
+use Rattle.std.proofs.Common.{◌≡◌, ℕ, ◌==◌, ℤ, ◌+ℤ◌, ◌-ℤ◌, true, ◌&&◌, int_le, List, FitsSigned, sym, ap, ◌∙◌, arith, w32}
 use Rattle.std.proofs.lemmas.Bool.{cond_both, and_parts}
 use Rattle.std.proofs.lemmas.Grind.{common_steps}
 use Rattle.std.proofs.lemmas.Int.{ints, int_wrap_fits}
@@ -7,10 +7,9 @@ use Rattle.domain_api.specs.declared.expr.Expr.{Expr}
 use Rattle.cc_base.specs.Wrap.{wrap32}
 use Rattle.cil_model.specs.Arithmetic.{LEAST, GREATEST}
 use Rattle.number_facts.specs.Addition.{sum, sums, difference, differences, exact_difference, takes, plus, negated}
-use Rattle.number_facts.specs.Facts.{Facts, Holds, constant, number_of, range_of, value}
+use Rattle.number_facts.specs.Facts.{Facts, Holds, number_of, range_of, value}
 use Rattle.number_facts.specs.Keeps.{Covers}
-use Rattle.number_facts.specs.Spans.{Has, wrapped}
-use Rattle.number_facts.specs.declared.outcome.Outcome.{Outcome}
+use Rattle.number_facts.specs.Spans.{Has}
 use Rattle.number_facts.specs.declared.span.Span.{Span}
 use Rattle.number_facts.proofs.ConstantValues.{zero_value, constant_value}
 use Rattle.number_facts.proofs.Meaning.{range_has}

@@ -1,5 +1,5 @@
 -- Symbols by the place of their range.
-use Rattle.std.proofs.Common.{◌≡◌, ◌≢◌, ℕ, zero, suc, ◌-◌, pos, get_or, refl, ap, arith, Option, Some, None}
+use Rattle.std.proofs.Common.{◌≡◌, ◌≢◌, ℕ, zero, suc, ◌-◌, pos, get_or, refl, ap, arith, Some, None}
 use Rattle.std.specs.Prelude.{set}
 use Rattle.interval_domain.specs.Interval.{Interval, one}
 use Rattle.number_facts.specs.Assume.{changed}

@@ -1,9 +1,8 @@
 -- Numbers modulo 2^32.
-use Rattle.std.proofs.Common.{◌≡◌, ℕ, ◌<◌, to_z, ℤ, ◌+ℤ◌, ◌-ℤ◌, ◌≤ℤ◌, true, ◌&&◌, int_le, FitsSigned, sym, ap, ◌∙◌, arith, w32, None}
-use Rattle.std.proofs.lemmas.Bool.{cond_both, and_parts}
+use Rattle.std.proofs.Common.{◌≡◌, ℕ, ◌<◌, to_z, ℤ, ◌+ℤ◌, ◌-ℤ◌, ◌≤ℤ◌, true, FitsSigned, sym, ap, ◌∙◌, arith, w32}
+use Rattle.std.proofs.lemmas.Bool.{cond_both}
 use Rattle.std.proofs.lemmas.Int.{ints, int_wrap_fits, int_wrap-add_left, SFits-int_wrap}
 use Rattle.cc_base.specs.Wrap.{wrap32}
-use Rattle.cil_model.specs.Arithmetic.{LEAST, GREATEST}
 use Rattle.number_facts.specs.Spans.{Has, between, full, is_int32, wrapped}
 use Rattle.number_facts.specs.declared.span.Span.{Span}
 

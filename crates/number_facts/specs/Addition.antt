@@ -1,5 +1,5 @@
 -- Sums and differences (ECMA-335 III.3.1 and III.3.64).
-use Rattle.std.specs.Prelude.{◌==◌, ℤ, neg_ℤ, ◌+ℤ◌, ◌-ℤ◌, Bool, ◌&&◌, int_le, if◌then◌else◌}
+use Rattle.std.specs.Prelude.{◌==◌, neg_ℤ, ◌+ℤ◌, ◌-ℤ◌, Bool, ◌&&◌, int_le, if◌then◌else◌}
 use Rattle.domain_api.specs.declared.expr.Expr.{Expr}
 use Rattle.cc_base.specs.Wrap.{wrap32}
 use Rattle.cil_model.specs.Arithmetic.{LEAST, GREATEST}

@@ -1,5 +1,5 @@
 -- What is known where a comparison is assumed to hold, or not to hold. None: nothing is reached.
-use Rattle.std.specs.Prelude.{ℕ, zero, suc, ◌==◌, ℤ, pos, negsuc, ◌+ℤ◌, ◌-ℤ◌, Bool, true, false, not, ◌&&◌, set, Option, Some, None, if◌then◌else◌}
+use Rattle.std.specs.Prelude.{ℕ, zero, suc, ◌==◌, ℤ, pos, ◌+ℤ◌, ◌-ℤ◌, Bool, ◌&&◌, set, Option, Some, None, if◌then◌else◌}
 use Rattle.std.specs.Option.{option_and_then}
 use Rattle.std.specs.Ordering.{int_eq}
 use Rattle.std.specs.Int.{int_min, int_max}
@@ -9,7 +9,7 @@ use Rattle.cil_model.specs.declared.instruction.CmpOp.TheVariants as comparisons
 use Rattle.interval_domain.specs.Interval.{Interval, without}
 use Rattle.number_facts.specs.Facts.{Facts, constant, range_at, range_of}
 use Rattle.number_facts.specs.Fresh.{range_without}
-use Rattle.number_facts.specs.Gap.{at_most, less, equal}
+use Rattle.number_facts.specs.Gap.{at_most, equal}
 use Rattle.number_facts.specs.Spans.{is_one, is_not_negative}
 
 -- The facts with another range for a symbol. That of symbol 0 is never changed.

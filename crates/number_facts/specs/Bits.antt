@@ -1,11 +1,7 @@
 -- Bits of two numbers (ECMA-335 III.3.3, III.3.54 and III.3.67).
-use Rattle.std.specs.Prelude.{ℕ, ◌^◌, ◌-◌, ◌/◌, ℤ, pos, Bool, ◌&&◌, int_le, unsigned_abs, if◌then◌else◌}
+use Rattle.std.specs.Prelude.{◌^◌, ◌-◌, ◌/◌, ℤ, pos, Bool, ◌&&◌, int_le, unsigned_abs, if◌then◌else◌}
 use Rattle.std.specs.Int.{w64, int_min, int_max, leading_zeros}
-use Rattle.domain_api.specs.declared.expr.Expr.{Expr}
-use Rattle.number_facts.specs.Facts.{Facts, range_of}
 use Rattle.number_facts.specs.Spans.{between, full, is_not_negative}
-use Rattle.number_facts.specs.declared.outcome.Outcome.{Outcome}
-use Rattle.number_facts.specs.declared.outcome.Outcome.TheVariants.{Is, Within}
 use Rattle.number_facts.specs.declared.span.Span.{Span}
 
 -- The bits in common are no more than those of a number that is not negative.

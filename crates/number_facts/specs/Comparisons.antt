@@ -1,5 +1,5 @@
 -- What is known of comparisons of numbers, where they are pushed (ECMA-335 III.3.21 to III.3.26).
-use Rattle.std.specs.Prelude.{◌==◌, ℤ, pos, Bool, true, false, ◌&&◌, ◌||◌, nat_lt, Option, Some, None, if◌then◌else◌}
+use Rattle.std.specs.Prelude.{◌==◌, pos, Bool, true, false, ◌&&◌, ◌||◌, nat_lt, Option, Some, None, if◌then◌else◌}
 use Rattle.domain_api.specs.declared.expr.Expr.{Expr}
 use Rattle.cil_model.specs.Arithmetic.{unsigned, truth}
 use Rattle.cil_model.specs.declared.instruction.BinOp.{BinOp}

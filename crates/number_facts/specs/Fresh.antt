@@ -1,6 +1,6 @@
 -- New symbols.
-use Rattle.std.specs.Prelude.{ℕ, ◌+◌, ℤ, pos, Bool, int_le, Option, Some, None, List, [], ◌∷◌, ◌++◌, length, if◌then◌else◌}
-use Rattle.std.specs.Option.{option_map, option_and_then}
+use Rattle.std.specs.Prelude.{◌+◌, ℤ, pos, int_le, Option, Some, None, [], ◌∷◌, ◌++◌, length, if◌then◌else◌}
+use Rattle.std.specs.Option.{option_map}
 use Rattle.std.specs.Ordering.{int_eq}
 use Rattle.std.specs.Int.{int_min, int_max}
 use Rattle.domain_api.specs.declared.expr.Expr.{Expr}

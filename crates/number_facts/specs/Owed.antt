@@ -1,5 +1,5 @@
 -- What a caller owes who asks for the result of an operator.
-use Rattle.std.specs.Prelude.{◌≡◌, ◌≢◌, ℤ, pos}
+use Rattle.std.specs.Prelude.{◌≡◌, ◌≢◌, pos}
 use Rattle.domain_api.specs.declared.expr.Expr.{Expr}
 use Rattle.cil_model.specs.declared.instruction.BinOp.{BinOp}
 use Rattle.cil_model.specs.declared.instruction.BinOp.TheVariants as operators

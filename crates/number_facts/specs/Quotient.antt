@@ -5,7 +5,7 @@ use Rattle.domain_api.specs.declared.expr.Expr.{Expr}
 use Rattle.number_facts.specs.Facts.{Facts, range_of}
 use Rattle.number_facts.specs.Spans.{between, full, is_not_negative}
 use Rattle.number_facts.specs.declared.outcome.Outcome.{Outcome}
-use Rattle.number_facts.specs.declared.outcome.Outcome.TheVariants.{Is, Within}
+use Rattle.number_facts.specs.declared.outcome.Outcome.TheVariants.{Within}
 use Rattle.number_facts.specs.declared.span.Span.{Span}
 
 -- The greatest size of an end.

@@ -6,7 +6,7 @@ use Rattle.number_facts.specs.Facts.{Facts, range_of}
 use Rattle.number_facts.specs.Quotient.{size}
 use Rattle.number_facts.specs.Spans.{between, full, is_not_negative}
 use Rattle.number_facts.specs.declared.outcome.Outcome.{Outcome}
-use Rattle.number_facts.specs.declared.outcome.Outcome.TheVariants.{Is, Within}
+use Rattle.number_facts.specs.declared.outcome.Outcome.TheVariants.{Within}
 use Rattle.number_facts.specs.declared.span.Span.{Span}
 
 -- The remainders of dividends from lo to hi, where none is larger than m.

@@ -1,5 +1,5 @@
 -- Shifts (ECMA-335 III.3.58 to III.3.60).
-use Rattle.std.specs.Prelude.{ℕ, ◌==◌, ◌^◌, ◌/◌, ◌-◌, ℤ, pos, negsuc, ◌≤ℤ◌, Bool, int_le, unsigned_abs, if◌then◌else◌}
+use Rattle.std.specs.Prelude.{◌==◌, ◌^◌, ◌/◌, ◌-◌, ℤ, pos, negsuc, ◌≤ℤ◌, unsigned_abs, if◌then◌else◌}
 use Rattle.std.specs.Int.{int_min, int_max, int_shr}
 use Rattle.domain_api.specs.declared.expr.Expr.{Expr}
 use Rattle.number_facts.specs.Facts.{Facts, constant, range_of}

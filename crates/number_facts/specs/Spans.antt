@@ -1,5 +1,5 @@
 -- Ranges of exact numbers, which may be empty.
-use Rattle.std.specs.Prelude.{◌≡◌, ◌≢◌, ℤ, pos, negsuc, ◌+ℤ◌, ◌-ℤ◌, ◌≤ℤ◌, Bool, false, ◌&&◌, ◌||◌, int_lt, int_le, Option, Some, None, if◌then◌else◌}
+use Rattle.std.specs.Prelude.{◌≢◌, ℤ, pos, ◌+ℤ◌, ◌-ℤ◌, ◌≤ℤ◌, Bool, false, ◌&&◌, ◌||◌, int_lt, int_le, Option, Some, None, if◌then◌else◌}
 use Rattle.std.specs.Ordering.{int_eq}
 use Rattle.cc_base.specs.Wrap.{wrap32}
 use Rattle.cil_model.specs.Arithmetic.{LEAST, GREATEST}
