@@ -18,3 +18,4 @@ pub mod ShiftLaws
 pub mod BitLaws
 pub mod ArithLaws
 pub mod Examples
+pub mod NarrowLaws

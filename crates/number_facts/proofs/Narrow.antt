@@ -12,7 +12,7 @@ use Rattle.number_facts.specs.Sizes.{IsEnd, IsSmall}
 use Rattle.number_facts.specs.Spans.{moved}
 
 narrow_zero : IsNarrow (one (pos 0))
-narrow_zero = record { least = omega (arith, ints); ordered = omega (arith, ints); greatest = omega (arith, ints) }
+narrow_zero = record { least = omega (arith, ints); ordered = omega (arith, ints); greatest = omega (arith, ints); inner = tt }
 
 narrow_at : (rs : List Interval) (i : ℕ) → AllByRecursion IsNarrow rs → IsNarrow (get_or rs i (one (pos 0)))
 narrow_at [] i all = narrow_zero

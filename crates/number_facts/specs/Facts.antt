@@ -1,5 +1,5 @@
 -- What is known of the numbers of a frame, and what it means.
-use Rattle.std.specs.Prelude.{◌≡◌, ◌≢◌, ◌⊎◌, ℕ, zero, suc, ◌≤◌, ℤ, pos, negsuc, ◌+ℤ◌, ◌≤ℤ◌, length, List, [], ◌∷◌, ◌++◌, get_or, Some}
+use Rattle.std.specs.Prelude.{◌≡◌, ◌≢◌, ◌⊎◌, ℕ, zero, suc, ◌≤◌, ℤ, pos, negsuc, ◌+ℤ◌, ◌≤ℤ◌, ◌<ℤ◌, length, List, [], ◌∷◌, ◌++◌, get_or, Option, Some, None}
 use Rattle.std.specs.List.{AllByRecursion}
 use Rattle.domain_api.specs.declared.expr.Expr.{Expr}
 use Rattle.cil_model.specs.Arithmetic.{LEAST, GREATEST}
@@ -24,11 +24,17 @@ range_at facts (suc s) = get_or facts.ranges s (one (pos 0))
 unfoldable pub range_of : Facts → Expr → Span
 range_of facts e = moved (range_at facts e.sym) e.k
 
--- The numbers of the range are int32.
+-- A hole lies strictly between the ends.
+abbrev pub IsInner : ℤ → ℤ → Option ℤ → Type 0
+IsInner lo hi None = Unit {0}
+IsInner lo hi (Some hole) = (lo <ℤ hole) × (hole <ℤ hi)
+
+-- The form of a range that is kept: its numbers are int32, and there is one.
 pub record IsNarrow (r : Interval) : Type 0 where
   pub least : LEAST ≤ℤ r.lo
   pub ordered : r.lo ≤ℤ r.hi
   pub greatest : r.hi ≤ℤ GREATEST
+  pub inner : IsInner r.lo r.hi r.hole
 
 -- Each symbol's numbers are int32.
 abbrev pub AreNarrow : Facts → Type 0

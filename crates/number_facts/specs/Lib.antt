@@ -14,3 +14,4 @@ pub mod Bits
 pub mod Shifts
 pub mod Arith
 pub mod Owed
+pub mod KnownGap
