@@ -1,5 +1,5 @@
 -- The rules keep ranges of int32.
-use Rattle.std.proofs.Common.{◌≡◌, ℕ, zero, suc, ℤ, pos, negsuc, ◌+ℤ◌, ◌-ℤ◌, ◌≤ℤ◌, ◌<ℤ◌, ◌==◌, Bool, true, false, ◌||◌, ◌&&◌, int_lt, int_le, int_eq, Option, Some, None, List, [], ◌∷◌, ◌++◌, refl, arith}
+use Rattle.std.proofs.Common.{◌≡◌, ℕ, zero, suc, ℤ, pos, ◌+ℤ◌, ◌-ℤ◌, ◌≤ℤ◌, ◌<ℤ◌, ◌==◌, Bool, true, false, ◌||◌, ◌&&◌, int_lt, int_le, int_eq, Option, Some, None, List, [], ◌∷◌, ◌++◌, arith}
 use Rattle.std.specs.Prelude.{set}
 use Rattle.std.specs.Option.{option_map, option_and_then}
 use Rattle.std.specs.List.{AllByRecursion}
@@ -11,9 +11,9 @@ use Rattle.domain_api.specs.declared.expr.Expr.{Expr}
 use Rattle.cil_model.specs.Arithmetic.{LEAST, GREATEST}
 use Rattle.cil_model.specs.declared.instruction.CmpOp.{CmpOp}
 use Rattle.cil_model.specs.declared.instruction.CmpOp.TheVariants as comparisons
-use Rattle.interval_domain.specs.Interval.{Interval, interval, between, is_hole, raised, lowered, lost, without}
+use Rattle.interval_domain.specs.Interval.{Interval, interval, between, raised, lowered, lost, without}
 use Rattle.number_facts.specs.Assume as rule
-use Rattle.number_facts.specs.Facts.{Facts, IsInner, IsNarrow, AreNarrow, constant, range_at, range_of}
+use Rattle.number_facts.specs.Facts.{Facts, IsInner, IsNarrow, AreNarrow, constant, range_of}
 use Rattle.number_facts.specs.Fresh.{Made, range_without, noted, fresh, settled, facts_made}
 use Rattle.number_facts.specs.Gap.{at_most, equal}
 use Rattle.number_facts.specs.Spans.{is_one, is_not_negative}

@@ -20,7 +20,7 @@ fn rest(more: i64) -> i64
 impl Numbers {
     /// How far the second symbol is known to lie above the first.
     #[tactic(auto, unfolding(crate::specs::Gap::gap))]
-    fn distance(&self, s: u32, t: u32) -> i128
+    pub(crate) fn distance(&self, s: u32, t: u32) -> i128
         requires first { s ≤ length self.now.ranges }
         requires second { t ≤ length self.now.ranges }
         ensures { result ≡ gap self.now s t }

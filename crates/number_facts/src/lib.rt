@@ -10,6 +10,7 @@ mod constants;
 mod exact;
 mod gap;
 mod numbers;
+mod order;
 mod outcome;
 mod product;
 mod quotient;
