@@ -19,3 +19,4 @@ pub mod BitLaws
 pub mod ArithLaws
 pub mod Examples
 pub mod NarrowLaws
+pub mod NumberLaws

@@ -11,3 +11,5 @@ no_ones = refl
 
 pub some_ones : (n : ℕ) → 0 < n → n < 2 ^ 64 → leading_zeros w64 n < 64
 some_ones n some fits = let top = leading_top 64 n some fits in omega (arith, top.1)
+
+pub ruleset ones = (no_ones, some_ones)

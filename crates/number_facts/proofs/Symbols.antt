@@ -22,3 +22,5 @@ pub changed_some : (facts : Facts) (s : ℕ) (r : Interval) → s ≢ 0 → chan
 unfolding changed
 changed_some facts zero r other = elim (other refl) [ ]
 changed_some facts (suc s) r other = ap (λ k. Some (record { ranges = set facts.ranges k r })) (back s)
+
+pub ruleset changes = (changed_none, changed_some)

@@ -75,7 +75,7 @@ fn range_but_for(range: Range, n: i128) -> Option<Range>
 
 impl Numbers {
     /// Gives a symbol another range. That of symbol 0 is never changed.
-    #[tactic(auto, using(crate::proofs::Symbols::changed_none, crate::proofs::Symbols::changed_some), unfolding(crate::specs::Assume::changed))]
+    #[tactic(auto, using(crate::proofs::Symbols::changes), unfolding(crate::specs::Assume::changed))]
     fn change(&mut self, sym: u32, range: Option<Range>) -> bool
         requires there { sym ≤ length self.old.ranges }
         ensures reached { result ≡ is_some (rule.changed self.old sym range) }

@@ -22,7 +22,7 @@ pub(crate) fn common_bits(r: Span, q: Span) -> Span
 }
 
 /// The number of all ones that has as many bits as n.
-#[tactic(auto, using(crate::proofs::Ones::no_ones, crate::proofs::Ones::some_ones), unfolding(crate::specs::Bits::all_ones))]
+#[tactic(auto, using(crate::proofs::Ones::ones), unfolding(crate::specs::Bits::all_ones))]
 fn all_ones(n: i128) -> i128
     requires least { pos 0 ≤ℤ n }
     requires end { IsEnd n }

@@ -2,7 +2,8 @@
 
 ghost use Rattle.std.specs.Prelude.{◌≡◌, ◌≤◌, ◌==◌, ◌&&◌, length, pos, IfOk, OnOk, OnErr};
 ghost use Rattle.interval_domain.specs.Interval.{between};
-ghost use Rattle.number_facts.specs.Comparisons.{less_known, one_excluded, apart, equal_known, is_constant, less_unsigned_known, known, compared};
+ghost use Rattle.number_facts.specs.Comparisons.{less_known, one_excluded, apart, equal_known};
+ghost use Rattle.number_facts.specs.Comparisons.{is_constant, less_unsigned_known, known, compared};
 
 use crate::constants::unsigned;
 use crate::numbers::{Numbers, constant};
@@ -26,7 +27,7 @@ pub(crate) fn is_constant(e: Expr) -> bool
 }
 
 /// The numbers of a truth value.
-#[tactic(auto, unfolding(interval_domain::specs::Joins::hull, interval_domain::specs::Joins::kept_hole, interval_domain::specs::Interval::holed, interval_domain::specs::Interval::inner_hole))]
+#[tactic(auto, using(crate::proofs::Stored::hull_of_bits))]
 fn bit() -> Range
     ensures { result ≡ between (pos 0) (pos 1) }
 {

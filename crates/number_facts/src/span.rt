@@ -3,7 +3,8 @@
 ghost use Rattle.std.specs.Prelude.{◌≡◌, ◌≤ℤ◌, ◌+ℤ◌, ◌-ℤ◌, neg_ℤ, pos, ◌^◌};
 ghost use Rattle.std.specs.Int.{w64};
 ghost use Rattle.cc_base.specs.Wrap.{wrap32};
-ghost use Rattle.number_facts.specs.Spans.{between, full, is_int32, is_one, is_not_negative, is_hole, excludes, moved, moved_hole, wrapped};
+ghost use Rattle.number_facts.specs.Spans.{between, full, is_int32, is_one, is_not_negative};
+ghost use Rattle.number_facts.specs.Spans.{is_hole, excludes, moved, moved_hole, wrapped};
 ghost use Rattle.number_facts.specs.Sizes.{IsLong, IsBounded};
 
 use crate::exact::{moved_along, sum_of};
