@@ -1,0 +1,17 @@
+pub mod Sizes
+pub mod Spans
+pub mod Facts
+pub mod Fresh
+pub mod Keeps
+pub mod Gap
+pub mod Comparisons
+pub mod Assume
+pub mod Addition
+pub mod Product
+pub mod Quotient
+pub mod Remainder
+pub mod Bits
+pub mod Shifts
+pub mod Arith
+pub mod Owed
+pub mod KnownGap
