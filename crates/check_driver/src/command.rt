@@ -13,8 +13,8 @@ pub enum Command {
     Unit(u32),
     /// The methods of the assembly in a file.
     List(u32),
-    /// The instructions of a method of the assembly in a file.
-    Il { file: u32, method: u32 },
+    /// The instructions of a method: the file of its assembly, then the method.
+    Il(u32, u32),
 }
 
 impl Command {
@@ -23,7 +23,7 @@ impl Command {
         ensures { result.now ≡ file_indexes self.now }
     {
         match self {
-            Command::Unit(file) | Command::List(file) | Command::Il { file, .. } => {
+            Command::Unit(file) | Command::List(file) | Command::Il(file, _) => {
                 slice::from_ref(file)
             }
         }
@@ -61,7 +61,7 @@ fn command_of_three(word: &str, file: &str, method: &str) -> Option<Command>
     ensures command { result ≡ command_of_three word.now file.now method.now }
 {
     if word == "il" && is_name_word(file) && is_name_word(method) {
-        return Some(Command::Il { file: 1, method: 2 });
+        return Some(Command::Il(1, 2));
     }
     None
 }

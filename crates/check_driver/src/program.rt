@@ -47,7 +47,7 @@ fn answer_bytes<O: Sink, E: Sink>(
         Command::List(file) => {
             answer_list(alloc, word_at(words, file).as_bytes(), &read[0], out, err)
         }
-        Command::Il { file, method } => {
+        Command::Il(file, method) => {
             let (name, method) = (word_at(words, file), word_at(words, method));
             answer_il(
                 alloc,

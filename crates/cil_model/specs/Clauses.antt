@@ -88,7 +88,7 @@ value_of (terms.Un operator a) r = option_and_then (unary_value operator) (value
 value_of (terms.Old a) r = value_of a (at_entry r)
 value_of (terms.Cond test a b) r = chosen (option_and_then is_true (value_of test r)) (value_of a r) (value_of b r)
 
--- A clause is true where its value is a number other than 0.
+-- What makes a clause hold: any number but zero. No value, null and an array do not.
 abbrev pub is_number_true : Option Value → Bool
 is_number_true (Some (Int n)) = not (int_eq n (pos 0))
 is_number_true _ = false

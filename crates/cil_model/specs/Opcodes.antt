@@ -27,7 +27,7 @@ abbrev pub with_operand : ℕ → (ℕ → Op) → Option Form
 with_operand width meaning = Some (width, λ next n. meaning n)
 
 -- The IL offset to which a branch goes: its operand counts, with a sign, from the next instruction
--- (III.1.7.1). The number is the operand in 32 bits.
+-- (III.3.15). The number is the operand in 32 bits.
 abbrev pub target : ℕ → ℕ → ℕ
 target next offset = (next + offset) % 2 ^ 32
 

@@ -52,7 +52,7 @@ merged [] [] = Some []
 merged (a ∷ others) (b ∷ more) = with_kind (merged_kind a b) (merged others more)
 merged _ _ = None
 
--- For each instruction the stack before it, or none where it was not reached.
+-- What a pass knows so far, an entry an instruction: the kinds on its stack, if a path to it is known.
 abbrev pub Stacks : Type 0
 Stacks = List (Option (List Kind))
 

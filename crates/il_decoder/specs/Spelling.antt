@@ -78,7 +78,7 @@ constant_bytes size n =
     else if size == 2 then 0x1f ∷ little_bytes 1 (cast_unsigned w32 n)
     else 0x20 ∷ little_bytes 4 (cast_unsigned w32 n)
 
--- How far a target lies from the next instruction (III.1.7.1). Offsets and distances are of 32 bits.
+-- How far a target lies from the next instruction (III.3.15). Offsets and distances are of 32 bits.
 abbrev pub distance : ℕ → ℕ → ℕ
 distance next target = (target + (2 ^ 32 - next)) % 2 ^ 32
 

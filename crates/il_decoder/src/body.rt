@@ -108,8 +108,8 @@ fn header_at(image: &Image, rva: u32) -> Option<Header>
 
 /// The body at an address (RVA). Nothing is copied, and no alignment is tested.
 ///
-/// `Header(0)` where no header stands there whole, and `Short(0)` where the code is not whole. Header and code
-/// have to stand in one section.
+/// It refuses by `Header(0)` bytes that begin no header or end inside one, and by `Short(0)` code that ends before
+/// its length: the section that has the header has to have all of the code.
 #[tactic(auto, using(crate::proofs::Lookup::longer_none), unfolding(crate::specs::Body::body_code, crate::specs::Body::body_fault, crate::specs::Body::code_at))]
 pub fn body_at<'a>(image: &Image<'a>, rva: u32) -> Result<Body<'a>, IlFault>
     ensures body { Judges result (body_fault image.now rva) (IsBody image.now rva) }

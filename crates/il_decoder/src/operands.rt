@@ -56,7 +56,7 @@ pub(crate) fn i32_operand(at: u32, rest: &[u8]) -> Result<i32, IlFault>
     Ok(u32_operand(at, rest)?.cast_signed())
 }
 
-/// The IL offset that a branch of two bytes goes to (III.1.7.1).
+/// The IL offset that a branch of two bytes goes to (III.3.15).
 pub(crate) fn near_target(at: u32, rest: &[u8]) -> Result<u32, IlFault>
     requires { at < 2 ^ 31 }
     ensures { Judges result (must (nat_le 1 (length rest.now)) (Short at))

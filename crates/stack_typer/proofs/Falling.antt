@@ -1,5 +1,5 @@
 -- A step changes no stack, or leaves fewer changes.
-use Rattle.std.proofs.Common.{◌≡◌, ℕ, ◌+◌, ◌<◌, ◌≤◌, ◌==◌, Bool, true, false, List, [], ◌∷◌, length, Option, Some, None, if◌then◌else◌, ◌⊎◌, inl, inr, refl, sym, ap, ◌∙◌, arith}
+use Rattle.std.proofs.Common.{◌≡◌, ℕ, ◌+◌, ◌<◌, ◌≤◌, ◌==◌, Bool, true, false, List, [], ◌∷◌, length, Option, Some, None, if◌then◌else◌, ◌⊎◌, inl, inr, refl, ap, ◌∙◌, arith}
 use Rattle.std.specs.Option.{option_or}
 use Rattle.std.proofs.lemmas.List.Sums.{sum_by-cons, count_by-le-length}
 use Rattle.cil_model.specs.Kinds.{one_if}
@@ -17,12 +17,6 @@ falls_on size a b c (inl e) (inl f) = inl (f ∙ e)
 falls_on size a b c (inl e) (inr l) = inr (rw (← e) l)
 falls_on size a b c (inr k) (inl f) = inr (rw f k)
 falls_on size a b c (inr k) (inr l) = inr (omega (arith, k, l))
-
--- What comes back was never left.
-pub falls_back : {X : Type 0} (size : X → ℕ) (a b : X) → Falls size a b → Falls size b a → b ≡ a
-falls_back size a b (inl e) there = e
-falls_back size a b (inr k) (inl e) = sym e
-falls_back size a b (inr k) (inr l) = absurd (omega (arith, k, l))
 
 kind_falls : (a b kind : Kind) → merged_kind a b ≡ Some kind → Falls (λ k. one_if (is_null k)) a kind
 kind_falls Int Int kind e = inl (cc)

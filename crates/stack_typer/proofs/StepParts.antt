@@ -11,23 +11,6 @@ use Rattle.cil_model.specs.declared.type_fault.TypeFault.TheVariants.{Underflow,
 use Rattle.stack_typer.specs.Successors.{falls_off}
 use Rattle.stack_typer.proofs.PassLemmas.{fault_passes}
 
-pub typed_within : (shape : Shape) (i : Instr) (before after : List Kind) → typed shape i before ≡ Ok after → length after ≤ shape.max_stack
-typed_within shape i before after e = by_count (nat_lt (length before) (operand_count shape i.op)) e
-  where
-    by_depth : (stack : List Kind) (deep : Bool) → nat_lt shape.max_stack (length stack) ≡ deep → (if deep then Err (Deep i.at) else Ok stack) ≡ Ok after → length after ≤ shape.max_stack
-    by_depth stack true t e = absurd (cc)
-    by_depth stack false t e =
-        let same : stack ≡ after = cc in
-        rw (← same) (ltb-false _ _ t)
-
-    by_stack : (stack : Option (List Kind)) → within_size shape i.at stack ≡ Ok after → length after ≤ shape.max_stack
-    by_stack None e = absurd (cc)
-    by_stack (Some stack) e = by_depth stack (nat_lt shape.max_stack (length stack)) refl e
-
-    by_count : (few : Bool) → (if few then Err (Underflow i.at) else within_size shape i.at (behind shape i.op before)) ≡ Ok after → length after ≤ shape.max_stack
-    by_count true e = absurd (cc)
-    by_count false e = by_stack (behind shape i.op before) e
-
 pub record Follows (is : List Instr) (stacks : Stacks) (i : Instr) (after : List Kind) (now : Stacks) : Type 0 where
   pub inside : falls_off is i ≡ false
   pub free : lowest_conflict is stacks after (successors i.op (i.at + i.size)) ≡ None

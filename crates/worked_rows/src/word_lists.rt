@@ -79,7 +79,7 @@ fn a_missing_file_is_named(rt: HostRuntime) -> Result<(), Fail> {
 #[test]
 fn a_command_names_its_file_by_its_index(rt: HostRuntime) -> Result<(), Fail> {
     let alloc = rt.alloc();
-    let il = Command::Il { file: 1, method: 2 };
+    let il = Command::Il(1, 2);
     let rows: [(&[&str], Command); 3] = [
         (&["unit", "a.bin"], Command::Unit(1)),
         (&["list", "a.bin"], Command::List(1)),
