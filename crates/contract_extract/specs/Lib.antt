@@ -1,0 +1,5 @@
+pub mod ClauseCodes
+pub mod PureCode
+pub mod Ways
+pub mod TooLarge
+pub mod Faults

@@ -1,0 +1,6 @@
+//! The clauses of a method's contract, read from the code of its contract block.
+#![tactic(auto)]
+
+mod clause_fault;
+
+pub use clause_fault::{ClauseFault, ClauseRefusal};
