@@ -1,5 +1,5 @@
 -- The codes of a method's clauses, as they stand one behind another in its contract block.
-use Rattle.std.specs.Prelude.{ℕ, ◌+◌, Bool, true, false, ◌&&◌, nat_lt, nat_le, List, [], ◌∷◌, Option, Some, None, if◌then◌else◌}
+use Rattle.std.specs.Prelude.{ℕ, ◌+◌, Bool, ◌&&◌, nat_lt, nat_le, List, [], ◌∷◌, Option, Some, None, if◌then◌else◌}
 use Rattle.cil_model.specs.Blocks.{closes}
 use Rattle.cil_model.specs.declared.instruction.Instr.{Instr}
 

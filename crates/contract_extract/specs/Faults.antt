@@ -1,12 +1,11 @@
 -- The first fault of a method's clauses.
-use Rattle.std.specs.Prelude.{ℕ, ◌+◌, Bool, true, false, not, ◌&&◌, ◌||◌, nat_lt, nat_le, ◌==◌, List, [], ◌∷◌, ◌++◌, Option, Some, None, if◌then◌else◌}
+use Rattle.std.specs.Prelude.{ℕ, Bool, true, false, not, ◌&&◌, ◌||◌, nat_lt, nat_le, ◌==◌, List, [], ◌∷◌, ◌++◌, flat_map, Option, Some, None, if◌then◌else◌}
 use Rattle.std.specs.List.{list_any}
 use Rattle.std.specs.Option.{option_map_or}
 use Rattle.cil_model.specs.Blocks.{branch_targets, closes, start_of_body}
 use Rattle.cil_model.specs.ClauseTrees.{closing, tree_of}
 use Rattle.cil_model.specs.Places.{place_number}
 use Rattle.cil_model.specs.Terms.{Term}
-use Rattle.cil_model.specs.UnitCalls.{unit_call}
 use Rattle.cil_model.specs.declared.clause.ClauseKind.{ClauseKind}
 use Rattle.cil_model.specs.declared.clause.ClauseKind.TheVariants as kinds
 use Rattle.cil_model.specs.declared.instruction.Instr.{Instr}
@@ -77,6 +76,10 @@ abbrev pub faults_of : List Instr → Shape → ℕ → Instr → Instr → List
 faults_of is shape start closing_call i =
     fault_if (not (is_pure is i)) (NotPure i.at) ++ branch_faults start closing_call i
     ++ fault_if (is_misplaced shape.result (closing closing_call.op) i) (OldForm i.at)
+
+-- All that is wrong with the code of a clause, of these instructions up to its closing call, but for its size.
+abbrev pub code_faults : List Instr → Shape → ℕ → Instr → List Instr → List ClauseFault
+code_faults is shape start closing_call code = flat_map (faults_of is shape start closing_call) code ++ way_faults is shape start closing_call
 
 -- What is wrong with an instruction of the body: it goes into the block, or asks for a result or an old value.
 abbrev pub body_faults : ℕ → Instr → List ClauseFault

@@ -1,5 +1,5 @@
 -- The instructions that the code of a clause may have.
-use Rattle.std.specs.Prelude.{ℕ, ◌+◌, Bool, true, false, List, Option, Some, None, if◌then◌else◌}
+use Rattle.std.specs.Prelude.{◌+◌, Bool, true, false, List, Option, Some}
 use Rattle.std.specs.Option.{option_map_or}
 use Rattle.cil_model.specs.Runs.{instr_at}
 use Rattle.cil_model.specs.UnitCalls.{unit_call}

@@ -1,5 +1,5 @@
 -- The limits of a method's clauses.
-use Rattle.std.specs.Prelude.{ℕ, Bool, false, ◌||◌, nat_lt, List, length, sum_by, Option}
+use Rattle.std.specs.Prelude.{ℕ, ◌+◌, Bool, false, ◌||◌, nat_lt, List, [], ◌∷◌, length, Option}
 use Rattle.std.specs.Option.{option_map_or}
 use Rattle.cil_model.specs.Limits.{MAX_CLAUSES, MAX_CONDITIONS, MAX_NODES, MAX_OLD_VALUES}
 use Rattle.cil_model.specs.Terms.{Term, term_size, condition_depth, old_count}
@@ -12,7 +12,8 @@ is_too_large tree = nat_lt MAX_NODES (term_size tree) || nat_lt MAX_CONDITIONS (
 
 -- How many old values these clauses have together.
 abbrev pub old_values_in : List (ClauseKind × Option Term) → ℕ
-old_values_in clauses = sum_by (λ clause. option_map_or old_count (second clause) 0) clauses
+old_values_in [] = 0
+old_values_in ((kind, tree) ∷ clauses) = option_map_or old_count tree 0 + old_values_in clauses
 
 -- These are more clauses than a method may have, or more old values.
 abbrev pub are_too_many : List (ClauseKind × Option Term) → Bool
