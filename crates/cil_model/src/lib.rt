@@ -4,6 +4,7 @@
 
 mod clause;
 mod instruction;
+mod kind_rules;
 mod limits;
 mod list;
 mod machine;
@@ -11,12 +12,17 @@ mod parameters;
 mod place;
 mod shape;
 mod tree;
+mod tree_kinds;
 mod type_fault;
 mod unit;
 mod unit_numbers;
 
 pub use clause::{Clause, ClauseKind};
 pub use instruction::{BinOp, CmpOp, Instr, Op, Targets, Test, UnOp};
+pub use kind_rules::{
+    compares_kinds, comparison_of, is_array_of, is_number, is_reference, is_tested, kind_of,
+    merged_kind, pushes_comparison, takes,
+};
 pub use limits::{
     MAX_BLOCKS, MAX_CLAUSES, MAX_CODE_BYTES, MAX_CONDITIONS, MAX_FILE_BYTES, MAX_INSTRUCTIONS,
     MAX_NAME_BYTES, MAX_NODES, MAX_OLD_VALUES, MAX_VARIABLES,
@@ -27,6 +33,7 @@ pub use parameters::append_parameters;
 pub use place::{Kind, Place};
 pub use shape::Shape;
 pub use tree::{Node, Tree};
+pub use tree_kinds::{branch_kind, element_kind, length_kind, operator_kind, unary_kind};
 pub use type_fault::TypeFault;
 pub use unit::{CalleeInfo, Unit};
 pub use unit_numbers::{UnitCall, array_place, is_assert, unit_call};

@@ -3,9 +3,8 @@
 ghost use Rattle.std.specs.Prelude.{◌≡◌};
 ghost use Rattle.cil_model.specs.Kinds.{when, behind_switch, behind_return, behind_test};
 
-use crate::kind_rules::{compares_kinds, is_tested, takes};
 use crate::stack::Stack;
-use cil_model::{Kind, Place, Test};
+use cil_model::{Kind, Place, Test, compares_kinds, is_tested, takes};
 
 /// Takes the top, and says whether it was an int32.
 pub fn take_int(stack: &mut Stack) -> bool

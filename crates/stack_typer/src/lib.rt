@@ -6,7 +6,6 @@ mod branches;
 mod calls;
 mod conflicts;
 mod follow;
-mod kind_rules;
 mod kinds;
 mod merging;
 mod offsets;

@@ -2,27 +2,10 @@
 
 ghost use Rattle.std.specs.Prelude.{◌≡◌, ◌<◌, Some, is_some, false, true};
 ghost use Rattle.std.specs.Option.{option_or};
-ghost use Rattle.cil_model.specs.Passes.{merged_kind, merged};
+ghost use Rattle.cil_model.specs.Passes.{merged};
 ghost use Rattle.stack_typer.specs.Room.{nulls};
 
-use cil_model::Kind;
-
-/// What two kinds merge to: a kind with itself to itself, and null with an array to the array.
-fn merged_kind(a: Kind, b: Kind) -> Option<Kind>
-    ensures { result ≡ merged_kind a b }
-{
-    match (a, b) {
-        (Kind::Int, Kind::Int) => Some(Kind::Int),
-        (Kind::Native, Kind::Native) => Some(Kind::Native),
-        (Kind::Text, Kind::Text) => Some(Kind::Text),
-        (Kind::NullRef, Kind::NullRef) => Some(Kind::NullRef),
-        (Kind::Ints, Kind::Ints | Kind::NullRef) | (Kind::NullRef, Kind::Ints) => Some(Kind::Ints),
-        (Kind::Bools, Kind::Bools | Kind::NullRef) | (Kind::NullRef, Kind::Bools) => {
-            Some(Kind::Bools)
-        }
-        _ => None,
-    }
-}
+use cil_model::{Kind, merged_kind};
 
 /// Whether each kind merges with the one at its place.
 #[tactic(auto, using(crate::proofs::MergeLemmas::merges_rules))]

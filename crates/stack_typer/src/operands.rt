@@ -4,8 +4,7 @@ ghost use Rattle.std.specs.Prelude.{◌≡◌, slice_get};
 ghost use Rattle.std.specs.Option.{option_copied};
 ghost use Rattle.cil_model.specs.Kinds.{take_each, result_count, call_operands, test_operands, operand_count};
 
-use crate::kind_rules::takes;
-use cil_model::{CalleeInfo, Kind, Op, Place, Shape, Test, UnitCall, unit_call};
+use cil_model::{CalleeInfo, Kind, Op, Place, Shape, Test, UnitCall, takes, unit_call};
 
 /// Whether each place takes the kind at its index, and there are as many of both.
 #[tactic(auto, using(crate::proofs::TakeLemmas::lengths))]

@@ -7,11 +7,11 @@ ghost use Rattle.cil_model.specs.Kinds.{when, loaded, stored_kind, behind_arithm
 
 use crate::branches::{take_int, take_result, take_tested};
 use crate::calls::{call, push_place};
-use crate::kind_rules::{
-    comparison_of, is_array_of, is_number, is_reference, kind_of, pushes_comparison, takes,
-};
 use crate::stack::Stack;
-use cil_model::{BinOp, CmpOp, Kind, Op, Place, Shape, array_place, unit_call};
+use cil_model::{
+    BinOp, CmpOp, Kind, Op, Place, Shape, array_place, comparison_of, is_array_of, is_number,
+    is_reference, kind_of, pushes_comparison, takes, unit_call,
+};
 use std::alloc::AllocError;
 
 /// Pushes a variable of this place, if it is there.

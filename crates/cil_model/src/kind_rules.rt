@@ -3,8 +3,10 @@
 ghost use Rattle.std.specs.Prelude.{◌≡◌};
 ghost use Rattle.cil_model.specs.Comparisons.{comparison_of};
 ghost use Rattle.cil_model.specs.Kinds.{kind_of, takes, is_number, is_reference, is_array_of, are_comparable, is_equality, compares_kinds, pushes_comparison, is_tested};
+ghost use Rattle.cil_model.specs.Passes.{merged_kind};
 
-use cil_model::{BinOp, CmpOp, Kind, Place};
+use crate::instruction::{BinOp, CmpOp};
+use crate::place::{Kind, Place};
 
 /// What is pushed of a place: none of void.
 pub fn kind_of(place: Place) -> Option<Kind>
@@ -30,12 +32,14 @@ pub fn takes(place: Place, kind: Kind) -> bool
     }
 }
 
+/// Whether the kind is that of numbers.
 pub fn is_number(kind: Kind) -> bool
     ensures { result ≡ is_number kind }
 {
     matches!(kind, Kind::Int | Kind::Native)
 }
 
+/// Whether the kind is that of references.
 pub fn is_reference(kind: Kind) -> bool
     ensures { result ≡ is_reference kind }
 {
@@ -100,6 +104,23 @@ pub fn comparison_of(operator: BinOp) -> Option<CmpOp>
         BinOp::CgtUn => Some(CmpOp::GtUn),
         BinOp::Clt => Some(CmpOp::Lt),
         BinOp::CltUn => Some(CmpOp::LtUn),
+        _ => None,
+    }
+}
+
+/// What two kinds merge to: a kind with itself to itself, and null with an array to the array.
+pub fn merged_kind(a: Kind, b: Kind) -> Option<Kind>
+    ensures { result ≡ merged_kind a b }
+{
+    match (a, b) {
+        (Kind::Int, Kind::Int) => Some(Kind::Int),
+        (Kind::Native, Kind::Native) => Some(Kind::Native),
+        (Kind::Text, Kind::Text) => Some(Kind::Text),
+        (Kind::NullRef, Kind::NullRef) => Some(Kind::NullRef),
+        (Kind::Ints, Kind::Ints | Kind::NullRef) | (Kind::NullRef, Kind::Ints) => Some(Kind::Ints),
+        (Kind::Bools, Kind::Bools | Kind::NullRef) | (Kind::NullRef, Kind::Bools) => {
+            Some(Kind::Bools)
+        }
         _ => None,
     }
 }

@@ -1,0 +1,94 @@
+-- What a unit file says of the methods that are called, as it is read.
+use Rattle.std.specs.Prelude.{ℕ, zero, suc, ◌+◌, Bool, true, false, ◌&&◌, ◌||◌, ◌==◌, nat_le, List, [], ◌∷◌, ◌++◌, length, Option, Some, None, if◌then◌else◌}
+use Rattle.cc_base.specs.Tests.{must}
+use Rattle.cil_model.specs.Clauses.{is_kind}
+use Rattle.cil_model.specs.Limits.{MAX_CLAUSES, MAX_CONDITIONS, MAX_NODES, MAX_OLD_VALUES}
+use Rattle.cil_model.specs.TermCodes.{Root}
+use Rattle.cil_model.specs.Terms.{Term, term_size, condition_depth, old_count}
+use Rattle.cil_model.specs.TreeKinds.{is_int, kind_in}
+use Rattle.cil_model.specs.declared.clause.Clause.{Clause}
+use Rattle.cil_model.specs.declared.clause.ClauseKind.{ClauseKind}
+use Rattle.cil_model.specs.declared.clause.ClauseKind.TheVariants as kinds
+use Rattle.cil_model.specs.declared.place.Kind.{Kind}
+use Rattle.cil_model.specs.declared.place.Place.{Place}
+use Rattle.cil_model.specs.declared.unit.CalleeInfo.{CalleeInfo}
+use Rattle.unit_form.specs.Fields.{name_field, place_field, u8_field, variables_field}
+use Rattle.unit_form.specs.Parses.{Parse, many}
+use Rattle.unit_form.specs.TreeFields.{tree_of_roots, tree_roots}
+use Rattle.unit_form.specs.declared.field_fault.FieldFault.TheVariants.{Form}
+
+-- ---- clauses
+
+abbrev pub is_number_kind : Option Kind → Bool
+is_number_kind (Some kind) = is_int kind
+is_number_kind None = false
+
+-- The number of a kind of clauses, and the kind of a number: 1 and 2.
+abbrev pub kind_number : ClauseKind → ℕ
+kind_number kinds.Requires = 1
+kind_number kinds.Ensures = 2
+
+abbrev pub kind_numbered : ℕ → ClauseKind
+kind_numbered number = if number == 1 then kinds.Requires else kinds.Ensures
+
+-- The tree keeps the limits of a clause, behind clauses with so many old values.
+abbrev pub keeps_limits : ℕ → Term → Bool
+keeps_limits olds tree =
+    nat_le (term_size tree) MAX_NODES && nat_le (condition_depth tree) MAX_CONDITIONS && nat_le (olds + old_count tree) MAX_OLD_VALUES
+
+-- A clause of a method of these arguments and this result may have the tree.
+abbrev pub is_clause_tree : List Place → Place → ClauseKind → ℕ → Term → Bool
+is_clause_tree args result kind olds tree =
+    keeps_limits olds tree && is_number_kind (kind_in args result (is_kind kinds.Ensures kind) tree)
+
+-- A clause: the number of its kind, and its tree, which is read to its end before it is judged.
+unfoldable pub clause_field : List Place → Place → ℕ → List ℕ → ℕ → Parse Clause
+clause_field args result olds bytes at =
+    let number = u8_field bytes at in
+    let roots = tree_roots bytes number.next in
+    let kind = kind_numbered number.value in
+    let tree = tree_of_roots roots.value in
+    record {
+      tests = number.tests ++ (must (number.value == 1 || number.value == 2) (Form at) ∷ (roots.tests ++ (must (is_clause_tree args result kind olds tree) (Form number.next) ∷ [])));
+      value = record { kind = kind; tree = tree };
+      next = roots.next;
+    }
+
+-- So many clauses, behind clauses with so many old values.
+unfoldable pub clause_fields : ℕ → List Place → Place → ℕ → List ℕ → ℕ → Parse (List Clause)
+clause_fields zero args result olds bytes at = record { tests = []; value = []; next = at }
+clause_fields (suc count) args result olds bytes at =
+    let first = clause_field args result olds bytes at in
+    let others = clause_fields count args result (olds + old_count first.value.tree) bytes first.next in
+    record { tests = first.tests ++ others.tests; value = first.value ∷ others.value; next = others.next }
+
+-- The clauses of a method, behind their count.
+unfoldable pub clauses_field : List Place → Place → List ℕ → ℕ → Parse (List Clause)
+clauses_field args result bytes at =
+    let count = u8_field bytes at in
+    let clauses = clause_fields count.value args result 0 bytes count.next in
+    record { tests = count.tests ++ (must (nat_le count.value MAX_CLAUSES) (Form at) ∷ clauses.tests); value = clauses.value; next = clauses.next }
+
+-- ---- callees
+
+-- A callee: its name, its result, its arguments and its clauses.
+unfoldable pub callee_field : List ℕ → ℕ → Parse CalleeInfo
+callee_field bytes at =
+    let name = name_field bytes at in
+    let result = place_field bytes name.next in
+    let args = variables_field 0 bytes result.next in
+    let clauses = clauses_field args.value result.value bytes args.next in
+    record {
+      tests = name.tests ++ (result.tests ++ (args.tests ++ clauses.tests));
+      value = record { name = name.value; result = result.value; args = args.value; clauses = clauses.value };
+      next = clauses.next;
+    }
+
+-- So many callees.
+abbrev pub callee_fields : ℕ → List ℕ → ℕ → Parse (List CalleeInfo)
+callee_fields count bytes at = many (callee_field bytes) count at
+
+-- The offsets at which so many callees begin.
+unfoldable pub callee_offsets : ℕ → List ℕ → ℕ → List ℕ
+callee_offsets zero bytes at = []
+callee_offsets (suc count) bytes at = at ∷ callee_offsets count bytes (callee_field bytes at).next

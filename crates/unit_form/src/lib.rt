@@ -1,0 +1,11 @@
+//! The form of unit files: their fields, read and written.
+#![tactic(auto)]
+
+mod field_fault;
+mod names;
+mod numbers;
+mod places;
+mod root;
+mod root_reader;
+
+pub use field_fault::{FieldFault, FieldRefusal};
