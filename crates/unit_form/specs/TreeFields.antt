@@ -1,5 +1,5 @@
 -- Trees, as they are read from a unit file.
-use Rattle.std.specs.Prelude.{ℕ, zero, suc, ◌+◌, Bool, ◌==◌, ◌||◌, ◌&&◌, nat_le, is_some, List, [], ◌∷◌, ◌++◌, length, take, drop, slice_index, Option, Some, None, option_map, if◌then◌else◌}
+use Rattle.std.specs.Prelude.{ℕ, zero, suc, ◌+◌, Bool, ◌==◌, ◌||◌, ◌&&◌, nat_le, nat_lt, is_some, List, [], ◌∷◌, ◌++◌, length, take, drop, slice_index, Option, Some, None, option_map, if◌then◌else◌}
 use Rattle.std.specs.Option.{option_map_or}
 use Rattle.cc_base.specs.LittleEndian.{little_number}
 use Rattle.cc_base.specs.Tests.{must}
@@ -132,3 +132,7 @@ tree_roots bytes at = roots_field (length bytes) 1 bytes at
 -- The tree of these roots.
 abbrev pub tree_of_roots : List Root → Term
 tree_of_roots roots = first_term (terms_of roots)
+
+-- The first 4,097 of some roots, one more than the nodes that a clause may have: with the next one, while there are not so many.
+unfoldable pub kept_with : {X : Type 0} → List X → X → List X
+kept_with roots root = if nat_lt (length roots) 4097 then roots ++ root ∷ [] else roots

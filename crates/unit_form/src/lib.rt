@@ -7,5 +7,6 @@ mod numbers;
 mod places;
 mod root;
 mod root_reader;
+mod tree_reader;
 
 pub use field_fault::{FieldFault, FieldRefusal};

@@ -1,6 +1,6 @@
 //! The roots of trees: a node without the trees below it.
 
-ghost use Rattle.std.specs.Prelude.{◌≡◌, option_map};
+ghost use Rattle.std.specs.Prelude.{◌≡◌, ◌≤◌};
 ghost use Rattle.unit_form.specs.Roots.{told};
 ghost use Rattle.unit_form.specs.TreeFields.{arity, bare_root, bitwise_of_byte, comparison_of_byte, operand_size, operator_of_byte, unary_of_byte};
 
@@ -24,7 +24,8 @@ pub enum Root {
 impl Root {
     /// How many trees stand below it.
     pub fn arity(self) -> usize
-        ensures { result ≡ arity (told self) }
+        ensures arity { result ≡ arity (told self) }
+        ensures few { result ≤ 3 }
     {
         match self {
             Root::Const(_) | Root::Arg(_) | Root::Null | Root::Result => 0,
