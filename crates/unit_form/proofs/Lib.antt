@@ -1,3 +1,5 @@
 mod Counted
 mod Operands
 mod RootsRead
+mod Taking
+mod WholeTrees

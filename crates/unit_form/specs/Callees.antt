@@ -1,5 +1,5 @@
 -- What a unit file says of the methods that are called, as it is read.
-use Rattle.std.specs.Prelude.{ℕ, zero, suc, ◌+◌, Bool, true, false, ◌&&◌, ◌||◌, ◌==◌, nat_le, List, [], ◌∷◌, ◌++◌, length, Option, Some, None, if◌then◌else◌}
+use Rattle.std.specs.Prelude.{ℕ, zero, suc, ◌+◌, Bool, true, false, ◌&&◌, ◌||◌, ◌==◌, nat_le, List, [], ◌∷◌, ◌++◌, length, sum_by, Option, Some, None, if◌then◌else◌}
 use Rattle.cc_base.specs.Tests.{must}
 use Rattle.cil_model.specs.Clauses.{is_kind}
 use Rattle.cil_model.specs.Limits.{MAX_CLAUSES, MAX_CONDITIONS, MAX_NODES, MAX_OLD_VALUES}
@@ -54,19 +54,19 @@ clause_field args result olds bytes at =
       next = roots.next;
     }
 
--- So many clauses, behind clauses with so many old values.
-unfoldable pub clause_fields : ℕ → List Place → Place → ℕ → List ℕ → ℕ → Parse (List Clause)
-clause_fields zero args result olds bytes at = record { tests = []; value = []; next = at }
-clause_fields (suc count) args result olds bytes at =
-    let first = clause_field args result olds bytes at in
-    let others = clause_fields count args result (olds + old_count first.value.tree) bytes first.next in
-    record { tests = first.tests ++ others.tests; value = first.value ∷ others.value; next = others.next }
+-- How many old values these clauses have together.
+abbrev pub olds_in : List Clause → ℕ
+olds_in clauses = sum_by (λ clause. old_count clause.tree) clauses
+
+-- So many clauses.
+abbrev pub clause_fields : ℕ → List Place → Place → List ℕ → ℕ → Parse (List Clause)
+clause_fields count args result bytes at = many (λ read. clause_field args result (olds_in read) bytes) [] count at
 
 -- The clauses of a method, behind their count.
 unfoldable pub clauses_field : List Place → Place → List ℕ → ℕ → Parse (List Clause)
 clauses_field args result bytes at =
     let count = u8_field bytes at in
-    let clauses = clause_fields count.value args result 0 bytes count.next in
+    let clauses = clause_fields count.value args result bytes count.next in
     record { tests = count.tests ++ (must (nat_le count.value MAX_CLAUSES) (Form at) ∷ clauses.tests); value = clauses.value; next = clauses.next }
 
 -- ---- callees
@@ -86,7 +86,7 @@ callee_field bytes at =
 
 -- So many callees.
 abbrev pub callee_fields : ℕ → List ℕ → ℕ → Parse (List CalleeInfo)
-callee_fields count bytes at = many (callee_field bytes) count at
+callee_fields count bytes at = many (λ read. callee_field bytes) [] count at
 
 -- The offsets at which so many callees begin.
 unfoldable pub callee_offsets : ℕ → List ℕ → ℕ → List ℕ

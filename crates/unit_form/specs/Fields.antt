@@ -64,7 +64,7 @@ variable_field bytes at =
 
 -- The places of so many variables.
 abbrev pub variable_fields : ℕ → List ℕ → ℕ → Parse (List Place)
-variable_fields count bytes at = many (variable_field bytes) count at
+variable_fields count bytes at = many (λ read. variable_field bytes) [] count at
 
 -- The places of variables, behind their count. With so many others they keep the limit on the variables of a method.
 unfoldable pub variables_field : ℕ → List ℕ → ℕ → Parse (List Place)

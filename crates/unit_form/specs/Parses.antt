@@ -18,10 +18,10 @@ IsRead bytes parse value next = (value ≡ parse.value) × (next ≡ parse.next)
 unfoldable pub field : List ℕ → ℕ → ℕ → Option FieldFault
 field bytes at size = must (nat_le (at + size) (length bytes)) (Short at)
 
--- So many fields of one form, one behind another.
-unfoldable pub many : {X : Type 0} → (ℕ → Parse X) → ℕ → ℕ → Parse (List X)
-many one zero at = record { tests = []; value = []; next = at }
-many one (suc count) at =
-    let first = one at in
-    let others = many one count first.next in
+-- So many fields, one behind another, where those that were read before tell the form of the next.
+unfoldable pub many : {X : Type 0} → (List X → ℕ → Parse X) → List X → ℕ → ℕ → Parse (List X)
+many one read zero at = record { tests = []; value = []; next = at }
+many one read (suc count) at =
+    let first = one read at in
+    let others = many one (read ++ first.value ∷ []) count first.next in
     record { tests = first.tests ++ others.tests; value = first.value ∷ others.value; next = others.next }

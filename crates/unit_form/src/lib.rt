@@ -7,6 +7,7 @@ mod numbers;
 mod places;
 mod root;
 mod root_reader;
+mod tree_builder;
 mod tree_reader;
 
 pub use field_fault::{FieldFault, FieldRefusal};

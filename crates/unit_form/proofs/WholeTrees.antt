@@ -1,0 +1,101 @@
+-- Roots that were read to their end are those of trees.
+use Rattle.std.proofs.Common.{◌≡◌, ℕ, zero, suc, ◌+◌, ◌≤◌, ◌<◌, Bool, true, false, nat_lt, if◌then◌else◌, List, [], ◌∷◌, ◌++◌, length, take, Option, None, Some, refl, arith, ap, ◌∙◌, sym, append_assoc, append-nil, length-append}
+use Rattle.std.specs.List.{flat_map}
+use Rattle.cc_base.specs.Tests.{first_of}
+use Rattle.cc_base.proofs.TestLemmas.{none_behind, first_of-one}
+use Rattle.cil_model.specs.TermCodes.{Root, ConstRoot, ArgRoot, NullRoot, ResultRoot, LenRoot, ElemRoot, BinRoot, UnRoot, OldRoot, CondRoot, preorder, terms_of, terms_of-preorder, first_term}
+use Rattle.cil_model.specs.Terms.{Term, Const, Arg, Null, Result, Len, Elem, Bin, Un, Old, Cond, term_size}
+use Rattle.unit_form.specs.Parses.{Parse}
+use Rattle.unit_form.specs.declared.field_fault.FieldFault.TheVariants.{Short}
+use Rattle.unit_form.specs.TreeFields.{arity, root_field, roots_field, tree_of_roots, tree_roots}
+
+-- These are the roots of so many trees, one behind another.
+abbrev pub Complete : ℕ → List Root → Type 0
+Complete trees [] = trees ≡ 0
+Complete trees (root ∷ roots) = (others : ℕ) × (trees ≡ suc others) × Complete (arity root + others) roots
+
+no_fault : {F : Type 0} {fault : F} → Some fault ≡ None → ⊥
+no_fault e = absurd (cc)
+
+pub read_complete : (most trees : ℕ) (bytes : List ℕ) (at : ℕ) → first_of (roots_field most trees bytes at).tests ≡ None → Complete trees (roots_field most trees bytes at).value
+unfolding roots_field
+read_complete zero zero bytes at passed = refl
+read_complete (suc most) zero bytes at passed = refl
+read_complete zero (suc trees) bytes at passed = absurd (no_fault (sym (first_of-one (Some (Short at))) ∙ passed))
+read_complete (suc most) (suc trees) bytes at passed =
+    (trees, refl, read_complete most (arity (root_field bytes at).value + trees) bytes (root_field bytes at).next (none_behind (root_field bytes at).tests (roots_field most (arity (root_field bytes at).value + trees) bytes (root_field bytes at).next).tests passed))
+
+-- So many trees have these roots.
+pub record TreesOf (count : ℕ) (roots : List Root) : Type 0 where
+  pub trees : List Term
+  pub many : length trees ≡ count
+  pub same : flat_map preorder trees ≡ roots
+
+under : (root : Root) (roots : List Root) (others : ℕ) (trees : List Term) → length trees ≡ arity root + others → flat_map preorder trees ≡ roots → TreesOf (suc others) (root ∷ roots)
+under (ConstRoot n) roots others trees e same = record { trees = Const n ∷ trees; many = omega (arith, e); same = ap (λ rest. ConstRoot n ∷ rest) same }
+under (ArgRoot n) roots others trees e same = record { trees = Arg n ∷ trees; many = omega (arith, e); same = ap (λ rest. ArgRoot n ∷ rest) same }
+under NullRoot roots others trees e same = record { trees = Null ∷ trees; many = omega (arith, e); same = ap (λ rest. NullRoot ∷ rest) same }
+under ResultRoot roots others trees e same = record { trees = Result ∷ trees; many = omega (arith, e); same = ap (λ rest. ResultRoot ∷ rest) same }
+under LenRoot roots others (a ∷ trees) e same = record { trees = Len a ∷ trees; many = omega (arith, e); same = ap (λ rest. LenRoot ∷ rest) same }
+under LenRoot roots others [] e same = absurd (omega (arith, e))
+under (ElemRoot place) roots others (a ∷ b ∷ trees) e same =
+    record { trees = Elem place a b ∷ trees; many = omega (arith, e); same = ap (λ rest. ElemRoot place ∷ rest) (append_assoc (preorder a) (preorder b) _ ∙ same) }
+under (ElemRoot place) roots others (a ∷ []) e same = absurd (omega (arith, e))
+under (ElemRoot place) roots others [] e same = absurd (omega (arith, e))
+under (BinRoot operator) roots others (a ∷ b ∷ trees) e same =
+    record { trees = Bin operator a b ∷ trees; many = omega (arith, e); same = ap (λ rest. BinRoot operator ∷ rest) (append_assoc (preorder a) (preorder b) _ ∙ same) }
+under (BinRoot operator) roots others (a ∷ []) e same = absurd (omega (arith, e))
+under (BinRoot operator) roots others [] e same = absurd (omega (arith, e))
+under (UnRoot operator) roots others (a ∷ trees) e same = record { trees = Un operator a ∷ trees; many = omega (arith, e); same = ap (λ rest. UnRoot operator ∷ rest) same }
+under (UnRoot operator) roots others [] e same = absurd (omega (arith, e))
+under OldRoot roots others (a ∷ trees) e same = record { trees = Old a ∷ trees; many = omega (arith, e); same = ap (λ rest. OldRoot ∷ rest) same }
+under OldRoot roots others [] e same = absurd (omega (arith, e))
+under CondRoot roots others (a ∷ b ∷ c ∷ trees) e same =
+    record {
+      trees = Cond a b c ∷ trees;
+      many = omega (arith, e);
+      same = ap (λ rest. CondRoot ∷ rest) (append_assoc (preorder a) (preorder b ++ preorder c) _ ∙ ap (λ rest. preorder a ++ rest) (append_assoc (preorder b) (preorder c) _) ∙ same);
+    }
+under CondRoot roots others (a ∷ b ∷ []) e same = absurd (omega (arith, e))
+under CondRoot roots others (a ∷ []) e same = absurd (omega (arith, e))
+under CondRoot roots others [] e same = absurd (omega (arith, e))
+
+pub whole_trees : (count : ℕ) (roots : List Root) → Complete count roots → TreesOf count roots
+whole_trees count [] e = record { trees = []; many = sym e; same = refl }
+whole_trees count (root ∷ roots) (others, e, rest) =
+    let below = whole_trees (arity root + others) roots rest in
+    rw e (under root roots others below.trees below.many below.same)
+
+-- The roots are those of one tree.
+pub record OneTree (roots : List Root) : Type 0 where
+  pub tree : Term
+  pub same : preorder tree ≡ roots
+  pub is : tree_of_roots roots ≡ tree
+
+one_of : (roots : List Root) (trees : List Term) → length trees ≡ 1 → flat_map preorder trees ≡ roots → OneTree roots
+one_of roots [] e same = absurd (omega (arith, e))
+one_of roots (tree ∷ []) e same =
+    record { tree = tree; same = sym (append-nil (preorder tree)) ∙ same; is = ap (λ roots. first_term (terms_of roots)) (sym same) ∙ ap first_term (terms_of-preorder tree []) }
+one_of roots (tree ∷ other ∷ trees) e same = absurd (omega (arith, e))
+
+pub one_tree : (bytes : List ℕ) (at : ℕ) → first_of (tree_roots bytes at).tests ≡ None → OneTree (tree_roots bytes at).value
+unfolding tree_roots
+one_tree bytes at passed =
+    let whole = whole_trees 1 _ (read_complete (length bytes) 1 bytes at passed) in
+    one_of _ whole.trees whole.many whole.same
+
+pub length-preorder : (t : Term) → length (preorder t) ≡ term_size t
+length-preorder (Const n) = refl
+length-preorder (Arg n) = refl
+length-preorder Null = refl
+length-preorder Result = refl
+length-preorder (Len a) = omega (arith, length-preorder a)
+length-preorder (Elem place a b) = omega (arith, length-preorder a, length-preorder b, length-append (preorder a) (preorder b))
+length-preorder (Bin operator a b) = omega (arith, length-preorder a, length-preorder b, length-append (preorder a) (preorder b))
+length-preorder (Un operator a) = omega (arith, length-preorder a)
+length-preorder (Old a) = omega (arith, length-preorder a)
+length-preorder (Cond a b c) =
+    omega (arith, length-preorder a, length-preorder b, length-preorder c, length-append (preorder a) (preorder b ++ preorder c), length-append (preorder b) (preorder c))
+
+pub size_of_roots : (roots : List Root) → OneTree roots → term_size (tree_of_roots roots) ≡ length roots
+size_of_roots roots one = ap term_size one.is ∙ sym (length-preorder one.tree) ∙ ap length one.same
