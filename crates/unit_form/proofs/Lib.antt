@@ -3,3 +3,4 @@ mod Operands
 mod RootsRead
 mod Taking
 mod WholeTrees
+mod ClausesRead

@@ -1,5 +1,5 @@
 -- What a unit file says of the methods that are called, as it is read.
-use Rattle.std.specs.Prelude.{ℕ, zero, suc, ◌+◌, Bool, true, false, ◌&&◌, ◌||◌, ◌==◌, nat_le, List, [], ◌∷◌, ◌++◌, length, sum_by, Option, Some, None, if◌then◌else◌}
+use Rattle.std.specs.Prelude.{ℕ, zero, suc, ◌+◌, Bool, true, false, ◌&&◌, ◌||◌, ◌==◌, nat_le, nat_lt, List, [], ◌∷◌, ◌++◌, length, sum_by, Option, Some, None, if◌then◌else◌}
 use Rattle.cc_base.specs.Tests.{must}
 use Rattle.cil_model.specs.Clauses.{is_kind}
 use Rattle.cil_model.specs.Limits.{MAX_CLAUSES, MAX_CONDITIONS, MAX_NODES, MAX_OLD_VALUES}
@@ -41,26 +41,44 @@ abbrev pub is_clause_tree : List Place → Place → ClauseKind → ℕ → Term
 is_clause_tree args result kind olds tree =
     keeps_limits olds tree && is_number_kind (kind_in args result (is_kind kinds.Ensures kind) tree)
 
--- A clause: the number of its kind, and its tree, which is read to its end before it is judged.
+-- The tree of these roots, where there are not too many and a clause may have it.
+abbrev pub kept_tree : List Place → Place → ClauseKind → ℕ → List Root → Option Term
+kept_tree args result kind olds roots =
+    if nat_lt MAX_NODES (length roots) then None
+    else if is_clause_tree args result kind olds (tree_of_roots roots) then Some (tree_of_roots roots) else None
+
+-- The tree of a clause, which is read to its end before it is judged.
+unfoldable pub clause_tree : List Place → Place → ClauseKind → ℕ → List ℕ → ℕ → Parse Term
+clause_tree args result kind olds bytes at =
+    let roots = tree_roots bytes at in
+    let tree = tree_of_roots roots.value in
+    record { tests = roots.tests ++ (must (is_clause_tree args result kind olds tree) (Form at) ∷ []); value = tree; next = roots.next }
+
+abbrev pub is_kind_number : ℕ → Bool
+is_kind_number number = number == 1 || number == 2
+
+-- A clause: the number of its kind, and its tree.
 unfoldable pub clause_field : List Place → Place → ℕ → List ℕ → ℕ → Parse Clause
 clause_field args result olds bytes at =
     let number = u8_field bytes at in
-    let roots = tree_roots bytes number.next in
-    let kind = kind_numbered number.value in
-    let tree = tree_of_roots roots.value in
+    let tree = clause_tree args result (kind_numbered number.value) olds bytes number.next in
     record {
-      tests = number.tests ++ (must (number.value == 1 || number.value == 2) (Form at) ∷ (roots.tests ++ (must (is_clause_tree args result kind olds tree) (Form number.next) ∷ [])));
-      value = record { kind = kind; tree = tree };
-      next = roots.next;
+      tests = number.tests ++ (must (is_kind_number number.value) (Form at) ∷ tree.tests);
+      value = record { kind = kind_numbered number.value; tree = tree.value };
+      next = tree.next;
     }
 
 -- How many old values these clauses have together.
 abbrev pub olds_in : List Clause → ℕ
 olds_in clauses = sum_by (λ clause. old_count clause.tree) clauses
 
+-- The clause behind these.
+abbrev pub next_clause : List Place → Place → List ℕ → List Clause → ℕ → Parse Clause
+next_clause args result bytes clauses at = clause_field args result (olds_in clauses) bytes at
+
 -- So many clauses.
 abbrev pub clause_fields : ℕ → List Place → Place → List ℕ → ℕ → Parse (List Clause)
-clause_fields count args result bytes at = many (λ read. clause_field args result (olds_in read) bytes) [] count at
+clause_fields count args result bytes at = many (next_clause args result bytes) [] count at
 
 -- The clauses of a method, behind their count.
 unfoldable pub clauses_field : List Place → Place → List ℕ → ℕ → Parse (List Clause)
@@ -84,9 +102,13 @@ callee_field bytes at =
       next = clauses.next;
     }
 
+-- The callee behind these.
+abbrev pub next_callee : List ℕ → List CalleeInfo → ℕ → Parse CalleeInfo
+next_callee bytes callees at = callee_field bytes at
+
 -- So many callees.
 abbrev pub callee_fields : ℕ → List ℕ → ℕ → Parse (List CalleeInfo)
-callee_fields count bytes at = many (λ read. callee_field bytes) [] count at
+callee_fields count bytes at = many (next_callee bytes) [] count at
 
 -- The offsets at which so many callees begin.
 unfoldable pub callee_offsets : ℕ → List ℕ → ℕ → List ℕ

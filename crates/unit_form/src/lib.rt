@@ -1,6 +1,8 @@
 //! The form of unit files: their fields, read and written.
 #![tactic(auto)]
 
+mod callees;
+mod clauses;
 mod field_fault;
 mod names;
 mod numbers;

@@ -25,7 +25,7 @@ fn keep(roots: &mut Vec<Root>, root: Root) -> Result<(), AllocError>
 /// The roots of the tree at an offset, in preorder, and the offset behind it. Of a tree with more roots than a clause may
 /// have nodes only so many are kept, and one more.
 #[tactic(auto, using(crate::proofs::RootsRead::reading))]
-fn read_roots(alloc: Global, bytes: &[u8], start: u32) -> Result<(Vec<Root>, u32), FieldRefusal>
+pub fn read_roots(alloc: Global, bytes: &[u8], start: u32) -> Result<(Vec<Root>, u32), FieldRefusal>
     requires short { length bytes.now ≤ 2147483647 }
     requires inside { start ≤ length bytes.now }
     ensures { JudgesOrNoMemory result (first_of (tree_roots bytes.now start).tests)
