@@ -4,3 +4,4 @@ mod RootsRead
 mod Taking
 mod WholeTrees
 mod ClausesRead
+mod CalleesRead

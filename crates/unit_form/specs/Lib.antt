@@ -6,3 +6,4 @@ pub mod TreeFields
 pub mod Callees
 pub mod UnitFields
 pub mod Spelling
+pub mod FieldsRead

@@ -30,3 +30,28 @@ fn read_callee(alloc: Global, bytes: &[u8], at: u32) -> Result<(CalleeInfo, u32)
     };
     Ok((callee, at))
 }
+
+/// So many callees from this offset on, the offsets at which they begin, and the offset behind them.
+#[tactic(auto, using(crate::proofs::Counted::none_read, crate::proofs::Counted::all_read, crate::proofs::CalleesRead::offsets_left))]
+pub fn read_callees(
+    alloc: Global,
+    bytes: &[u8],
+    start: u32,
+    count: u16,
+) -> Result<(Vec<CalleeInfo>, Vec<u32>, u32), FieldRefusal>
+    requires short { length bytes.now ≤ 2147483647 }
+    requires inside { start ≤ length bytes.now }
+    ensures { JudgesOrNoMemory result (first_of (callee_fields count bytes.now start).tests)
+        (λ read. IsRead bytes.now (callee_fields count bytes.now start) read.0.items read.2 × (read.1.items ≡ callee_offsets count bytes.now start)) }
+{
+    let mut callees = Vec::new(alloc);
+    let mut offsets = Vec::new(alloc);
+    let mut at = start;
+    for _callee in 0..count {
+        let (callee, next) = read_callee(alloc, bytes, at)?;
+        callees.push(callee)?;
+        offsets.push(at)?;
+        at = next;
+    }
+    Ok((callees, offsets, at))
+}

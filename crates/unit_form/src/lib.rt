@@ -11,5 +11,7 @@ mod root;
 mod root_reader;
 mod tree_builder;
 mod tree_reader;
+mod unit_fields;
 
 pub use field_fault::{FieldFault, FieldRefusal};
+pub use unit_fields::{UnitFields, read_fields};
