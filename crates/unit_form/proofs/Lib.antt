@@ -5,3 +5,6 @@ mod Taking
 mod WholeTrees
 mod ClausesRead
 mod CalleesRead
+mod Stands
+mod Taken
+mod TreesTaken

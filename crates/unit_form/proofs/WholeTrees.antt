@@ -14,7 +14,7 @@ abbrev pub Complete : ℕ → List Root → Type 0
 Complete trees [] = trees ≡ 0
 Complete trees (root ∷ roots) = (others : ℕ) × (trees ≡ suc others) × Complete (arity root + others) roots
 
-no_fault : {F : Type 0} {fault : F} → Some fault ≡ None → ⊥
+pub no_fault : {F : Type 0} {fault : F} → Some fault ≡ None → ⊥
 no_fault e = absurd (cc)
 
 pub read_complete : (most trees : ℕ) (bytes : List ℕ) (at : ℕ) → first_of (roots_field most trees bytes at).tests ≡ None → Complete trees (roots_field most trees bytes at).value
