@@ -187,6 +187,7 @@ callee_is = record {
   few_args = omega arith;
   name = name_is;
   clauses = within.clauses;
+  ints = search (arith);
   numbers = (refl, tt);
 }
 

@@ -1,5 +1,6 @@
 -- Units as the rest of the project takes them: those that files spell and that methods of assemblies make.
-use Rattle.std.specs.Prelude.{◌≡◌, ◌≢◌, ◌⊎◌, ℕ, ◌+◌, ◌<◌, ◌≤◌, List, [], ◌∷◌, length, map, sum_by, filter_map, Option, Some, None, IsSome}
+use Rattle.std.specs.Prelude.{FitsSigned, ◌≡◌, ◌≢◌, ◌⊎◌, ℕ, ◌+◌, ◌<◌, ◌≤◌, List, [], ◌∷◌, length, map, sum_by, filter_map, Option, Some, None, IsSome}
+use Rattle.std.specs.Int.{w32}
 use Rattle.std.specs.List.{AllByRecursion}
 use Rattle.cil_model.specs.Blocks.{block_count, start_of_body}
 use Rattle.cil_model.specs.ClauseTrees.{clauses_in}
@@ -7,6 +8,7 @@ use Rattle.cil_model.specs.Code.{CodeOf}
 use Rattle.cil_model.specs.Limits.{MAX_BLOCKS, MAX_CLAUSES, MAX_CODE_BYTES, MAX_CONDITIONS, MAX_INSTRUCTIONS, MAX_NAME_BYTES, MAX_NODES, MAX_OLD_VALUES, MAX_VARIABLES}
 use Rattle.cil_model.specs.Passes.{Stacks, KindsOf}
 use Rattle.cil_model.specs.Shapes.{shape_of}
+use Rattle.cil_model.specs.TermCodes.{Root, ConstRoot, preorder}
 use Rattle.cil_model.specs.Terms.{Term, term_size, condition_depth, old_count}
 use Rattle.cil_model.specs.TreeKinds.{IsNumberClause}
 use Rattle.cil_model.specs.UnitCalls.{unit_call, array_place, callee_of}
@@ -65,12 +67,21 @@ pub record IsUnitName (name : List ℕ) : Type 0 where
 abbrev pub HoldValues : List Place → Type 0
 HoldValues types = AllByRecursion (λ place. place ≢ places.Void) types
 
+-- The constants of a clause's tree are int32.
+abbrev pub IsIntRoot : Root → Type 0
+IsIntRoot (ConstRoot n) = FitsSigned w32 n
+IsIntRoot root = Unit {0}
+
+abbrev pub HasInts : Clause → Type 0
+HasInts clause = AllByRecursion IsIntRoot (preorder clause.tree)
+
 -- What a unit says of a callee is what a well formed unit may say of itself.
 pub record IsCallee (callee : CalleeInfo) : Type 0 where
   pub args : HoldValues callee.args
   pub few_args : length callee.args ≤ MAX_VARIABLES
   pub name : IsUnitName callee.name
   pub clauses : ClausesWithinLimits callee.clauses
+  pub ints : AllByRecursion HasInts callee.clauses
   pub numbers : AllByRecursion (IsNumberClause callee.args callee.result) callee.clauses
 
 -- A clause as code tells it: its kind and its tree.

@@ -8,3 +8,7 @@ mod CalleesRead
 mod Stands
 mod Taken
 mod TreesTaken
+mod CalleesTaken
+mod UnitTaken
+mod Again
+mod TreesAgain

@@ -70,7 +70,7 @@ graphic at (b ∷ text) passed =
     let here = both_true _ _ (holds _ _ (none_here (must (is_graphic b) _) (graphic_tests (at + 1) text) passed)) in
     ((leb-true _ _ here.0, leb-true _ _ here.1), graphic (at + 1) text (none_behind (must (is_graphic b) _ ∷ []) (graphic_tests (at + 1) text) passed))
 
-u16_small : (bytes : List ℕ) (at : ℕ) → IsBytes bytes → (u16_field bytes at).value < 2 ^ 16
+pub u16_small : (bytes : List ℕ) (at : ℕ) → IsBytes bytes → (u16_field bytes at).value < 2 ^ 16
 unfolding u16_field
 u16_small bytes at fits = u16_at-lt bytes at fits
 

@@ -1,9 +1,10 @@
 -- Trees whose tests are passed are spelled where they stand.
 use Rattle.std.proofs.Common.{◌≡◌, ℕ, ℤ, zero, suc, ◌+◌, ◌^◌, ◌<◌, ◌≤◌, Bool, true, false, List, [], ◌∷◌, ◌++◌, length, take, drop, slice_index, leb, cond, eqb, Option, None, Some, option_map, refl, sym, subst, ap, ◌∙◌, arith, length-drop, drop-drop, append_assoc}
 use Rattle.std.specs.Prelude.{is_some, ◌&&◌, ◌||◌, ◌==◌, nat_le, ⊤}
-use Rattle.std.specs.List.{flat_map}
+use Rattle.std.specs.List.{flat_map, AllByRecursion}
 use Rattle.std.specs.Option.{option_map_or}
 use Rattle.std.specs.Int.{w32}
+use Rattle.std.proofs.Math.Facts.{sfits_to_z, Fits-of_lt}
 use Rattle.std.proofs.lemmas.Int.{of_z-to_z}
 use Rattle.byteorder.specs.Endian.{little_bytes, little_number}
 use Rattle.cc_base.specs.LittleEndian.{IsBytes}
@@ -13,6 +14,7 @@ use Rattle.cc_base.proofs.TestLemmas.{none_before, none_behind, none_here, first
 use Rattle.cil_model.specs.Arithmetic.{signed, unsigned}
 use Rattle.cil_model.specs.Places.{place_number, place_of_number}
 use Rattle.cil_model.specs.TermCodes.{Root, ConstRoot, ArgRoot, NullRoot, ResultRoot, LenRoot, ElemRoot, BinRoot, UnRoot, OldRoot, CondRoot, preorder}
+use Rattle.cil_model.specs.WellFormed.{IsIntRoot}
 use Rattle.cil_model.specs.declared.instruction.BinOp.{BinOp}
 use Rattle.cil_model.specs.declared.instruction.UnOp.{UnOp}
 use Rattle.cil_model.specs.declared.place.Place.{Place}
@@ -108,15 +110,68 @@ spells tag operand fits size =
     (case_of (Spells tag operand) tag 8 _ _ (λ e. with_byte tag 8 operand _ e (size ∙ ap operand_size e) (un (slice_index operand 0) _ (unaries (slice_index operand 0))))
     (bare tag operand size)))))
 
+-- ---- the constants of roots
+
+operand_fits : (tag from : ℕ) (bytes : List ℕ) → IsBytes bytes → IsBytes (bytes_field (operand_size tag) bytes from).value
+unfolding bytes_field
+operand_fits tag from bytes fits = IsBytes-take (operand_size tag) (drop from bytes) (IsBytes-drop from bytes fits)
+
+abbrev AreInts : Option Root → Type 0
+AreInts None = ⊤
+AreInts (Some root) = IsIntRoot root
+
+bare_ints : (tag : ℕ) → AreInts (bare_root tag)
+bare_ints tag = case_of AreInts tag 3 _ _ (λ e. tt) (case_of AreInts tag 4 _ _ (λ e. tt) (case_of AreInts tag 5 _ _ (λ e. tt) (case_of AreInts tag 9 _ _ (λ e. tt) (case_of AreInts tag 10 _ _ (λ e. tt) tt))))
+
+elem_ints : (found : Option Place) → AreInts (option_map ElemRoot found)
+elem_ints None = tt
+elem_ints (Some place) = tt
+
+bin_ints : (found : Option BinOp) → AreInts (option_map BinRoot found)
+bin_ints None = tt
+bin_ints (Some operator) = tt
+
+un_ints : (found : Option UnOp) → AreInts (option_map UnRoot found)
+un_ints None = tt
+un_ints (Some operator) = tt
+
+are_ints : (tag : ℕ) (operand : List ℕ) → IsBytes operand → AreInts (root_of tag operand)
+are_ints tag operand fits =
+    case_of AreInts tag 1 _ _ (λ e. sfits_to_z {w = w32} {n = little_number 4 operand} (Fits-of_lt {w = w32} {n = little_number 4 operand} (little_number-lt 4 operand fits))) (case_of AreInts tag 2 _ _ (λ e. tt)
+    (case_of AreInts tag 6 _ _ (λ e. elem_ints _) (case_of AreInts tag 7 _ _ (λ e. bin_ints _) (case_of AreInts tag 8 _ _ (λ e. un_ints _) (bare_ints tag)))))
+
+found_int : (found : Option Root) → AreInts found → IsIntRoot (option_map_or (λ root. root) found NullRoot)
+found_int (Some root) is = is
+found_int None is = tt
+
+root_int : (bytes : List ℕ) (at : ℕ) → IsBytes bytes → IsIntRoot (root_field bytes at).value
+unfolding root_field operand_field
+root_int bytes at fits =
+    let tag = (u8_field bytes at).value in
+    found_int _ (are_ints tag _ (operand_fits tag (u8_field bytes at).next bytes fits))
+
+root_ints : (most trees : ℕ) (bytes : List ℕ) (at : ℕ) → IsBytes bytes → AllByRecursion IsIntRoot (roots_field most trees bytes at).value
+unfolding roots_field
+root_ints zero zero bytes at fits = tt
+root_ints (suc most) zero bytes at fits = tt
+root_ints zero (suc trees) bytes at fits = tt
+root_ints (suc most) (suc trees) bytes at fits =
+    (root_int bytes at fits, root_ints most (arity (root_field bytes at).value + trees) bytes (root_field bytes at).next fits)
+
+tree_root_ints : (bytes : List ℕ) (at : ℕ) → IsBytes bytes → AllByRecursion IsIntRoot (tree_roots bytes at).value
+unfolding tree_roots
+tree_root_ints bytes at fits = root_ints (length bytes) 1 bytes at fits
+
+pub tree_ints : (bytes : List ℕ) (at : ℕ) → IsBytes bytes → first_of (tree_roots bytes at).tests ≡ None → AllByRecursion IsIntRoot (preorder (tree_of_roots (tree_roots bytes at).value))
+tree_ints bytes at fits passed =
+    let one = one_tree bytes at passed in
+    rw (one.is, one.same) (tree_root_ints bytes at fits)
+
 -- ---- roots and trees
 
 found_root : (found : Option Root) (tag : ℕ) (operand : List ℕ) → is_some found ≡ true → Spells tag operand found → root_bytes (option_map_or (λ root. root) found NullRoot) ≡ tag ∷ operand
 found_root (Some root) tag operand some is = is
 found_root None tag operand some is = absurd (cc)
-
-operand_fits : (tag from : ℕ) (bytes : List ℕ) → IsBytes bytes → IsBytes (bytes_field (operand_size tag) bytes from).value
-unfolding bytes_field
-operand_fits tag from bytes fits = IsBytes-take (operand_size tag) (drop from bytes) (IsBytes-drop from bytes fits)
 
 root_taken : (bytes : List ℕ) (at : ℕ) → IsBytes bytes → first_of (root_field bytes at).tests ≡ None → Stands bytes at (root_field bytes at) (root_bytes (root_field bytes at).value)
 unfolding root_field operand_field
