@@ -34,7 +34,7 @@ one_test test fault e = first_of-none _ [] ((must_hold test fault).1 e) ∙ firs
 pub test_before : (test : Bool) (fault : FieldFault) (tests : List (Option FieldFault)) → test ≡ true → first_of tests ≡ None → first_of (must test fault ∷ tests) ≡ None
 test_before test fault tests e passed = first_of-none _ tests ((must_hold test fault).1 e) ∙ passed
 
-field_inside : (bytes : List ℕ) (at size : ℕ) → at + size ≤ length bytes → first_of (field bytes at size ∷ []) ≡ None
+pub field_inside : (bytes : List ℕ) (at size : ℕ) → at + size ≤ length bytes → first_of (field bytes at size ∷ []) ≡ None
 unfolding field
 field_inside bytes at size inside = one_test _ _ (le-leb _ _ inside)
 

@@ -12,3 +12,5 @@ mod CalleesTaken
 mod UnitTaken
 mod Again
 mod TreesAgain
+mod CalleesAgain
+mod UnitAgain

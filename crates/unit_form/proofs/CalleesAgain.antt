@@ -1,0 +1,144 @@
+-- The spelling of clauses and callees passes their tests, and they are read from it again.
+use Rattle.std.proofs.Common.{◌≡◌, ℕ, zero, suc, ◌+◌, ◌≤◌, Bool, true, false, List, [], ◌∷◌, ◌++◌, length, drop, leb, Option, None, Some, refl, sym, subst, ap, ap₂, ◌∙◌, arith, append_assoc}
+use Rattle.std.specs.Prelude.{◌&&◌, ◌||◌, ◌==◌, nat_le, sum_by, ⊤}
+use Rattle.std.specs.List.{flat_map, AllByRecursion}
+use Rattle.std.proofs.lemmas.Bool.{le-leb}
+use Rattle.std.proofs.lemmas.List.Sums.{sum_by-cons, sum_by_push}
+use Rattle.cc_base.specs.Tests.{first_of, must}
+use Rattle.cc_base.proofs.TestLemmas.{first_of-append_none}
+use Rattle.cil_model.specs.Clauses.{is_kind}
+use Rattle.cil_model.specs.Limits.{MAX_CONDITIONS, MAX_NODES, MAX_OLD_VALUES}
+use Rattle.cil_model.specs.Places.{place_number}
+use Rattle.cil_model.specs.TermCodes.{preorder, first_back}
+use Rattle.cil_model.specs.Terms.{Term, term_size, condition_depth, old_count}
+use Rattle.cil_model.specs.TreeKinds.{kind_in, IsNumberClause}
+use Rattle.cil_model.specs.WellFormed.{ClausesWithinLimits, HasInts, HoldValues, IsCallee, IsIntRoot}
+use Rattle.cil_model.specs.declared.clause.Clause.{Clause}
+use Rattle.cil_model.specs.declared.clause.ClauseKind.{ClauseKind}
+use Rattle.cil_model.specs.declared.clause.ClauseKind.TheVariants as kinds
+use Rattle.cil_model.specs.declared.place.Place.{Place}
+use Rattle.cil_model.specs.declared.unit.CalleeInfo.{CalleeInfo}
+use Rattle.unit_form.specs.Callees.{callee_field, callee_fields, clause_field, clause_fields, clause_tree, clauses_field, is_clause_tree, is_kind_number, is_number_kind, keeps_limits, kind_number, kind_numbered, next_callee, next_clause, olds_in}
+use Rattle.unit_form.specs.Fields.{name_field, place_field, u8_field, variables_field}
+use Rattle.unit_form.specs.Parses.{Parse, many}
+use Rattle.unit_form.specs.Spelling.{callee_bytes, clause_bytes, clauses_bytes, name_bytes, places_bytes}
+use Rattle.unit_form.specs.TreeFields.{tree_of_roots, tree_roots}
+use Rattle.unit_form.specs.TreeSpelling.{tree_bytes}
+use Rattle.unit_form.proofs.Again.{ReadsBack, many_again, name_again, one_test, place_again, test_before, u8_again, variables_again}
+use Rattle.unit_form.proofs.CalleesTaken.{GoodClause}
+use Rattle.unit_form.proofs.Taken.{AllGood}
+use Rattle.unit_form.proofs.TreesAgain.{tree_again}
+
+both : (a b : Bool) → a ≡ true → b ≡ true → (a && b) ≡ true
+both a b e f = rw (e, f) refl
+
+numbered_kind : (kind : ClauseKind) → kind_numbered (kind_number kind) ≡ kind
+numbered_kind kinds.Requires = refl
+numbered_kind kinds.Ensures = refl
+
+is_numbered : (kind : ClauseKind) → is_kind_number (kind_number kind) ≡ true
+is_numbered kinds.Requires = refl
+is_numbered kinds.Ensures = refl
+
+is_good : (args : List Place) (result : Place) (before : List Clause) (clause : Clause) → GoodClause args result before clause → is_clause_tree args result clause.kind (olds_in before) clause.tree ≡ true
+is_good args result before clause good =
+    both _ _ (both _ _ (both _ _ (le-leb _ _ good.nodes) (le-leb _ _ good.conditions)) (le-leb _ _ good.olds)) (ap is_number_kind good.number)
+
+tree_judged : (args : List Place) (result : Place) (kind : ClauseKind) (olds : ℕ) (bytes : List ℕ) (at : ℕ) (tree : Term) (rest : List ℕ) → AllByRecursion IsIntRoot (preorder tree)
+    → is_clause_tree args result kind olds tree ≡ true → at ≤ length bytes → drop at bytes ≡ tree_bytes tree ++ rest → ReadsBack bytes (clause_tree args result kind olds bytes at) tree rest
+unfolding clause_tree
+tree_judged args result kind olds bytes at tree rest ints good before there =
+    let roots = tree_roots bytes at in
+    let one = tree_again bytes at tree rest ints before there in
+    let same : tree_of_roots roots.value ≡ tree = ap tree_of_roots one.value ∙ first_back tree in
+    record {
+      passed = first_of-append_none roots.tests _ one.passed ∙ one_test _ _ (ap (is_clause_tree args result kind olds) same ∙ good);
+      value = same;
+      behind = one.behind;
+      inside = one.inside;
+    }
+
+clause_again : (args : List Place) (result : Place) (bytes : List ℕ) (before : List Clause) (at : ℕ) (clause : Clause) (rest : List ℕ) → GoodClause args result before clause
+    → drop at bytes ≡ clause_bytes clause ++ rest → ReadsBack bytes (next_clause args result bytes before at) clause rest
+unfolding clause_field
+clause_again args result bytes before at clause rest good there =
+    let number = u8_field bytes at in
+    let one = u8_again bytes at (kind_number clause.kind) (tree_bytes clause.tree ++ rest) there in
+    let two = tree_judged args result clause.kind (olds_in before) bytes number.next clause.tree rest good.ints (is_good args result before clause good) one.inside one.behind in
+    let kind : kind_numbered number.value ≡ clause.kind = ap kind_numbered one.value ∙ numbered_kind clause.kind in
+    let tree = clause_tree args result (kind_numbered number.value) (olds_in before) bytes number.next in
+    let same : tree ≡ clause_tree args result clause.kind (olds_in before) bytes number.next = ap (λ k. clause_tree args result k (olds_in before) bytes number.next) kind in
+    let value : tree.value ≡ clause.tree = ap (λ parse. parse.value) same ∙ two.value in
+    record {
+      passed = first_of-append_none number.tests _ one.passed ∙ test_before _ _ tree.tests (ap is_kind_number one.value ∙ is_numbered clause.kind) (ap (λ parse. first_of parse.tests) same ∙ two.passed);
+      value = record_path kind value;
+      behind = ap (λ parse. drop parse.next bytes) same ∙ two.behind;
+      inside = subst (λ parse. parse.next ≤ length bytes) (sym same) two.inside;
+    }
+  where
+    record_path : {k : ClauseKind} {t : Term} → k ≡ clause.kind → t ≡ clause.tree → ◌≡◌ {A = Clause} (record { kind = k; tree = t }) clause
+    record_path e f = rw (e, f) refl
+
+all_good : (args : List Place) (result : Place) (before clauses : List Clause) → AllByRecursion (λ clause. term_size clause.tree ≤ MAX_NODES) clauses
+    → AllByRecursion (λ clause. condition_depth clause.tree ≤ MAX_CONDITIONS) clauses → olds_in before + olds_in clauses ≤ MAX_OLD_VALUES
+    → AllByRecursion HasInts clauses → AllByRecursion (IsNumberClause args result) clauses → AllGood (GoodClause args result) before clauses
+all_good args result before [] nodes conditions olds ints numbers = tt
+all_good args result before (clause ∷ clauses) nodes conditions olds ints numbers =
+    let first = sum_by-cons (λ clause. old_count clause.tree) clause clauses in
+    let pushed = sum_by_push (λ clause. old_count clause.tree) before clause in
+    (record { nodes = nodes.0; conditions = conditions.0; olds = omega (arith, olds, first); ints = ints.0; number = numbers.0 },
+    all_good args result (before ++ clause ∷ []) clauses nodes.1 conditions.1 (omega (arith, olds, first, pushed)) ints.1 numbers.1)
+
+clauses_again : (args : List Place) (result : Place) (bytes : List ℕ) (at : ℕ) (clauses : List Clause) (rest : List ℕ) → ClausesWithinLimits clauses → AllByRecursion HasInts clauses
+    → AllByRecursion (IsNumberClause args result) clauses → drop at bytes ≡ clauses_bytes clauses ++ rest → ReadsBack bytes (clauses_field args result bytes at) clauses rest
+unfolding clauses_field
+clauses_again args result bytes at clauses rest limits ints numbers there =
+    let count = u8_field bytes at in
+    let one = u8_again bytes at (length clauses) (flat_map clause_bytes clauses ++ rest) there in
+    let good = all_good args result [] clauses limits.nodes limits.conditions (omega (arith, limits.old_values)) ints numbers in
+    let all = many_again bytes (next_clause args result bytes) clause_bytes (GoodClause args result) (clause_again args result bytes) [] clauses count.next rest good one.inside one.behind in
+    let parse = clause_fields count.value args result bytes count.next in
+    let same : parse ≡ clause_fields (length clauses) args result bytes count.next = ap (λ (n : ℕ). clause_fields n args result bytes count.next) one.value in
+    record {
+      passed = first_of-append_none count.tests _ one.passed
+        ∙ test_before _ _ parse.tests (ap (λ (n : ℕ). nat_le n 16) one.value ∙ le-leb _ _ limits.count) (ap (λ parse. first_of parse.tests) same ∙ all.passed);
+      value = ap (λ parse. parse.value) same ∙ all.value;
+      behind = ap (λ parse. drop parse.next bytes) same ∙ all.behind;
+      inside = subst (λ parse. parse.next ≤ length bytes) (sym same) all.inside;
+    }
+
+callee_again : (bytes : List ℕ) (before : List CalleeInfo) (at : ℕ) (callee : CalleeInfo) (rest : List ℕ) → IsCallee callee → drop at bytes ≡ callee_bytes callee ++ rest
+    → ReadsBack bytes (next_callee bytes before at) callee rest
+unfolding callee_field
+callee_again bytes before at callee rest is there =
+    let name = name_field bytes at in
+    let result = place_field bytes name.next in
+    let args = variables_field 0 bytes result.next in
+    let clauses = clauses_field args.value result.value bytes args.next in
+    let behind_args = clauses_bytes callee.clauses ++ rest in
+    let one = name_again bytes at callee.name (place_number callee.result ∷ (places_bytes callee.args ++ behind_args)) is.name
+        (there ∙ append_assoc (name_bytes callee.name) _ rest ∙ ap (λ (t : List ℕ). name_bytes callee.name ++ (place_number callee.result ∷ t)) (append_assoc (places_bytes callee.args) (clauses_bytes callee.clauses) rest)) in
+    let two = place_again bytes name.next callee.result (places_bytes callee.args ++ behind_args) one.behind in
+    let three = variables_again 0 bytes result.next callee.args behind_args is.args (omega (arith, is.few_args)) two.behind in
+    let four = clauses_again callee.args callee.result bytes args.next callee.clauses rest is.clauses is.ints is.numbers three.behind in
+    let same : clauses ≡ clauses_field callee.args callee.result bytes args.next = ap₂ (λ places place. clauses_field places place bytes args.next) three.value two.value in
+    let last : clauses.value ≡ callee.clauses = ap (λ parse. parse.value) same ∙ four.value in
+    record {
+      passed = first_of-append_none name.tests _ one.passed ∙ first_of-append_none result.tests _ two.passed ∙ first_of-append_none args.tests _ three.passed ∙ ap (λ parse. first_of parse.tests) same ∙ four.passed;
+      value = record_path one.value two.value three.value last;
+      behind = ap (λ parse. drop parse.next bytes) same ∙ four.behind;
+      inside = subst (λ parse. parse.next ≤ length bytes) (sym same) four.inside;
+    }
+  where
+    record_path : {name : List ℕ} {result : Place} {args : List Place} {clauses : List Clause} → name ≡ callee.name → result ≡ callee.result → args ≡ callee.args → clauses ≡ callee.clauses
+        → ◌≡◌ {A = CalleeInfo} (record { name = name; result = result; args = args; clauses = clauses }) callee
+    record_path e f g h = rw (e, f, g, h) refl
+
+good_callees : (before callees : List CalleeInfo) → AllByRecursion IsCallee callees → AllGood (λ earlier callee. IsCallee callee) before callees
+good_callees before [] all = tt
+good_callees before (callee ∷ callees) all = (all.0, good_callees (before ++ callee ∷ []) callees all.1)
+
+pub callees_again : (bytes : List ℕ) (at : ℕ) (callees : List CalleeInfo) (rest : List ℕ) → AllByRecursion IsCallee callees → at ≤ length bytes → drop at bytes ≡ flat_map callee_bytes callees ++ rest
+    → ReadsBack bytes (callee_fields (length callees) bytes at) callees rest
+callees_again bytes at callees rest all before there =
+    many_again bytes (next_callee bytes) callee_bytes (λ earlier callee. IsCallee callee) (callee_again bytes) [] callees at rest (good_callees [] callees all) before there

@@ -1,0 +1,108 @@
+-- The spelling of a unit passes the tests of its fields, and they are read from it again.
+use Rattle.std.proofs.Common.{◌≡◌, ℕ, ◌+◌, ◌≤◌, ◌<◌, ◌^◌, Bool, true, List, [], ◌∷◌, ◌++◌, length, take, drop, leb, codes, None, refl, sym, subst, ap, ap₂, ◌∙◌, arith, append_assoc, append-nil, length-drop, length-append}
+use Rattle.std.specs.Prelude.{nat_le, slice_index, ◌==◌}
+use Rattle.std.specs.List.{flat_map}
+use Rattle.std.proofs.lemmas.Bool.{le-leb}
+use Rattle.byteorder.specs.Endian.{little_bytes}
+use Rattle.cc_base.specs.Tests.{first_of, must}
+use Rattle.cc_base.proofs.TestLemmas.{first_of-append_none}
+use Rattle.cil_model.specs.Limits.{MAX_CODE_BYTES}
+use Rattle.cil_model.specs.Places.{place_number}
+use Rattle.cil_model.specs.declared.unit.Unit.{Unit as MethodUnit}
+use Rattle.unit_form.specs.Callees.{callee_fields}
+use Rattle.unit_form.specs.Fields.{bytes_field, name_field, place_field, u16_field, u32_field, u8_field, variables_field}
+use Rattle.unit_form.specs.Parses.{Parse, field}
+use Rattle.unit_form.specs.Spelling.{HasFields, callee_bytes, name_bytes, places_bytes, unit_bytes}
+use Rattle.unit_form.specs.UnitFields.{FieldsOfUnit, code_field, magic_tests, max_stack_field, unit_fields}
+use Rattle.unit_form.specs.declared.field_fault.FieldFault.TheVariants.{Form, Version}
+use Rattle.unit_form.proofs.Again.{ReadsBack, bytes_again, field_inside, name_again, one_test, place_again, test_before, u16_again, u32_again, u8_again, variables_again}
+use Rattle.unit_form.proofs.CalleesAgain.{callees_again}
+use Rattle.unit_form.proofs.Stands.{behind, lies}
+use Rattle.unit_form.proofs.UnitTaken.{HasRead}
+
+magic_again : (bytes rest : List ℕ) → bytes ≡ codes "CCU1" ++ rest → first_of (magic_tests bytes) ≡ None
+unfolding magic_tests
+magic_again bytes rest there =
+    let long : 4 ≤ length bytes = omega (arith, lies bytes 0 (codes "CCU1") rest there (omega arith)) in
+    first_of-append_none (field bytes 0 4 ∷ []) _ (field_inside bytes 0 4 long)
+    ∙ test_before (slice_index bytes 0 == 67) _ _ (rw there refl) (test_before (slice_index bytes 1 == 67) _ _ (rw there refl)
+    (test_before (slice_index bytes 2 == 85) _ _ (rw there refl) (one_test (slice_index bytes 3 == 49) _ (rw there refl))))
+
+stack_again : (variables : ℕ) (bytes : List ℕ) (at size : ℕ) (rest : List ℕ) → variables + size ≤ 128 → drop at bytes ≡ size ∷ rest → ReadsBack bytes (max_stack_field variables bytes at) size rest
+unfolding max_stack_field
+stack_again variables bytes at size rest few there =
+    let found = u8_field bytes at in
+    let one = u8_again bytes at size rest there in
+    record {
+      passed = first_of-append_none found.tests _ one.passed ∙ one_test _ _ (ap (λ (n : ℕ). nat_le (variables + n) 128) one.value ∙ le-leb _ _ few);
+      value = one.value;
+      behind = one.behind;
+      inside = one.inside;
+    }
+
+code_again : (bytes : List ℕ) (at : ℕ) (code : List ℕ) → length code ≤ MAX_CODE_BYTES → drop at bytes ≡ little_bytes 4 (length code) ++ code → ReadsBack bytes (code_field bytes at) code []
+unfolding code_field
+code_again bytes at code few there =
+    let count = u32_field bytes at in
+    let one = u32_again bytes at (length code) code (omega (arith, few)) there in
+    let two = bytes_again bytes count.next count.value code [] one.value one.inside (one.behind ∙ sym (append-nil code)) in
+    let text = bytes_field count.value bytes count.next in
+    let ends : length bytes ≤ text.next = omega (arith, ap length two.behind, length-drop text.next bytes) in
+    record {
+      passed = first_of-append_none count.tests _ one.passed ∙ test_before _ _ _ (ap (λ (n : ℕ). nat_le n MAX_CODE_BYTES) one.value ∙ le-leb _ _ few)
+        (first_of-append_none text.tests _ two.passed ∙ one_test _ _ (le-leb _ _ ends));
+      value = two.value;
+      behind = two.behind;
+      inside = two.inside;
+    }
+
+pub record UnitAgain (bytes : List ℕ) (unit : MethodUnit) : Type 0 where
+  pub passed : first_of (unit_fields bytes).tests ≡ None
+  pub has : HasRead unit (unit_fields bytes).value
+
+pub unit_again : (bytes : List ℕ) (unit : MethodUnit) → HasFields unit → bytes ≡ unit_bytes unit → UnitAgain bytes unit
+unfolding unit_fields unit_bytes
+unit_again bytes unit is there =
+    let name = name_field bytes 4 in
+    let result = place_field bytes name.next in
+    let args = variables_field 0 bytes result.next in
+    let locals = variables_field (length args.value) bytes args.next in
+    let max_stack = max_stack_field (length args.value + length locals.value) bytes locals.next in
+    let count = u16_field bytes max_stack.next in
+    let callees = callee_fields count.value bytes count.next in
+    let code = code_field bytes callees.next in
+    let part8 = little_bytes 4 (length unit.code) ++ unit.code in
+    let part7 = flat_map callee_bytes unit.callees ++ part8 in
+    let part6 = little_bytes 2 (length unit.callees) ++ part7 in
+    let part5 = unit.max_stack ∷ part6 in
+    let part4 = places_bytes unit.locals ++ part5 in
+    let part3 = places_bytes unit.args ++ part4 in
+    let part2 = place_number unit.result ∷ part3 in
+    let part1 = name_bytes unit.name ++ part2 in
+    let d1 : drop 4 bytes ≡ part1 = ap (drop 4) there in
+    let one = name_again bytes 4 unit.name part2 is.name d1 in
+    let two = place_again bytes name.next unit.result part3 one.behind in
+    let three = variables_again 0 bytes result.next unit.args part4 is.args (omega (arith, is.variables)) two.behind in
+    let locals_there : ReadsBack bytes (variables_field (length unit.args) bytes args.next) unit.locals part5 = variables_again (length unit.args) bytes args.next unit.locals part5 is.locals (omega (arith, is.variables)) three.behind in
+    let four : ReadsBack bytes locals unit.locals part5 = subst (λ places. ReadsBack bytes (variables_field (length places) bytes args.next) unit.locals part5) (sym three.value) locals_there in
+    let stack_there : ReadsBack bytes (max_stack_field (length unit.args + length unit.locals) bytes locals.next) unit.max_stack part6 = stack_again (length unit.args + length unit.locals) bytes locals.next unit.max_stack part6 is.variables four.behind in
+    let variables : length args.value + length locals.value ≡ length unit.args + length unit.locals = ap₂ (λ a b. length a + length b) three.value four.value in
+    let five : ReadsBack bytes max_stack unit.max_stack part6 = subst (λ n. ReadsBack bytes (max_stack_field n bytes locals.next) unit.max_stack part6) (sym variables) stack_there in
+    let six = u16_again bytes max_stack.next (length unit.callees) part7 (omega (arith, is.count)) five.behind in
+    let callees_there : ReadsBack bytes (callee_fields (length unit.callees) bytes count.next) unit.callees part8 = callees_again bytes count.next unit.callees part8 is.callees six.inside six.behind in
+    let seven : ReadsBack bytes callees unit.callees part8 = subst (λ n. ReadsBack bytes (callee_fields n bytes count.next) unit.callees part8) (sym six.value) callees_there in
+    let eight = code_again bytes callees.next unit.code is.code seven.behind in
+    record {
+      passed = first_of-append_none (magic_tests bytes) _ (magic_again bytes part1 there) ∙ first_of-append_none name.tests _ one.passed ∙ first_of-append_none result.tests _ two.passed
+        ∙ first_of-append_none args.tests _ three.passed ∙ first_of-append_none locals.tests _ four.passed ∙ first_of-append_none max_stack.tests _ five.passed
+        ∙ first_of-append_none count.tests _ six.passed ∙ first_of-append_none callees.tests _ seven.passed ∙ eight.passed;
+      has = record {
+        name = sym one.value;
+        result = sym two.value;
+        args = sym three.value;
+        locals = sym four.value;
+        max_stack = sym five.value;
+        callees = sym seven.value;
+        code = sym eight.value;
+      };
+    }
