@@ -1,24 +1,30 @@
 -- The spelling of a unit passes the tests of its fields, and they are read from it again.
-use Rattle.std.proofs.Common.{◌≡◌, ℕ, ◌+◌, ◌≤◌, ◌<◌, ◌^◌, Bool, true, List, [], ◌∷◌, ◌++◌, length, take, drop, leb, codes, None, refl, sym, subst, ap, ap₂, ◌∙◌, arith, append_assoc, append-nil, length-drop, length-append}
-use Rattle.std.specs.Prelude.{nat_le, slice_index, ◌==◌}
+use Rattle.std.proofs.Common.{◌≡◌, ℕ, ◌+◌, ◌≤◌, ◌<◌, ◌^◌, Bool, true, List, [], ◌∷◌, ◌++◌, length, take, drop, leb, codes, None, Result, Ok, Err, refl, sym, subst, ap, ap₂, ◌∙◌, arith, append_assoc, append-nil, length-drop, length-append}
+use Rattle.std.specs.Prelude.{IfOk, nat_le, slice_index, ◌==◌}
 use Rattle.std.specs.List.{flat_map}
 use Rattle.std.proofs.lemmas.Bool.{le-leb}
 use Rattle.byteorder.specs.Endian.{little_bytes}
-use Rattle.cc_base.specs.Tests.{first_of, must}
+use Rattle.cc_base.specs.LittleEndian.{IsBytes}
+use Rattle.cc_base.specs.Tests.{first_of, must, GivesOnly, JudgesOrNoMemory}
+use Rattle.cc_base.specs.declared.refusal.Refusal.{Refusal}
+use Rattle.cc_base.specs.declared.refusal.Refusal.TheVariants.{Bad, NoMemory}
 use Rattle.cc_base.proofs.TestLemmas.{first_of-append_none}
 use Rattle.cil_model.specs.Limits.{MAX_CODE_BYTES}
 use Rattle.cil_model.specs.Places.{place_number}
 use Rattle.cil_model.specs.declared.unit.Unit.{Unit as MethodUnit}
 use Rattle.unit_form.specs.Callees.{callee_fields}
+use Rattle.unit_form.specs.FieldsRead.{HasRead}
 use Rattle.unit_form.specs.Fields.{bytes_field, name_field, place_field, u16_field, u32_field, u8_field, variables_field}
 use Rattle.unit_form.specs.Parses.{Parse, field}
 use Rattle.unit_form.specs.Spelling.{HasFields, callee_bytes, name_bytes, places_bytes, unit_bytes}
 use Rattle.unit_form.specs.UnitFields.{FieldsOfUnit, code_field, magic_tests, max_stack_field, unit_fields}
+use Rattle.unit_form.specs.declared.field_fault.FieldFault.{FieldFault}
 use Rattle.unit_form.specs.declared.field_fault.FieldFault.TheVariants.{Form, Version}
 use Rattle.unit_form.proofs.Again.{ReadsBack, bytes_again, field_inside, name_again, one_test, place_again, test_before, u16_again, u32_again, u8_again, variables_again}
 use Rattle.unit_form.proofs.CalleesAgain.{callees_again}
+use Rattle.unit_form.proofs.UnitTaken.{unit_taken}
+use Rattle.unit_form.proofs.WholeTrees.{no_fault}
 use Rattle.unit_form.proofs.Stands.{behind, lies}
-use Rattle.unit_form.proofs.UnitTaken.{HasRead}
 
 magic_again : (bytes rest : List ℕ) → bytes ≡ codes "CCU1" ++ rest → first_of (magic_tests bytes) ≡ None
 unfolding magic_tests
@@ -106,3 +112,21 @@ unit_again bytes unit is there =
         code = sym eight.value;
       };
     }
+
+-- ---- answers
+
+-- The fields that are read are those of a unit that the bytes spell.
+pub fields_spelled : {F : Type 0} (bytes : List ℕ) (told : F → FieldsOfUnit) (answer : Result F (Refusal FieldFault)) → IsBytes bytes
+    → JudgesOrNoMemory answer (first_of (unit_fields bytes).tests) (λ f. told f ≡ (unit_fields bytes).value)
+    → IfOk answer (λ f. (unit : MethodUnit) → HasRead unit (told f) → (unit_bytes unit ≡ bytes) × HasFields unit)
+fields_spelled bytes told (Ok f) fits judged = λ unit has.
+    let taken = unit_taken bytes unit fits judged.0 (subst (λ g. HasRead unit g) judged.1 has) in
+    (taken.spelled, taken.fields)
+fields_spelled bytes told (Err refusal) fits judged = tt
+
+-- A unit that the bytes spell has the fields that are read.
+pub fields_only : {F : Type 0} (bytes : List ℕ) (unit : MethodUnit) (told : F → FieldsOfUnit) (answer : Result F (Refusal FieldFault)) → HasFields unit → unit_bytes unit ≡ bytes
+    → JudgesOrNoMemory answer (first_of (unit_fields bytes).tests) (λ f. told f ≡ (unit_fields bytes).value) → GivesOnly answer (λ f. HasRead unit (told f))
+fields_only bytes unit told (Ok f) is spelled judged = subst (λ g. HasRead unit g) (sym judged.1) (unit_again bytes unit is (sym spelled)).has
+fields_only bytes unit told (Err (Bad fault)) is spelled judged = no_fault (sym judged ∙ (unit_again bytes unit is (sym spelled)).passed)
+fields_only bytes unit told (Err NoMemory) is spelled judged = tt

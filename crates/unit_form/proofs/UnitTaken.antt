@@ -12,6 +12,7 @@ use Rattle.cil_model.specs.Limits.{MAX_CODE_BYTES}
 use Rattle.cil_model.specs.Places.{place_number}
 use Rattle.cil_model.specs.declared.unit.Unit.{Unit as MethodUnit}
 use Rattle.unit_form.specs.Callees.{callee_fields, next_callee}
+use Rattle.unit_form.specs.FieldsRead.{HasRead}
 use Rattle.unit_form.specs.Fields.{bytes_field, name_field, place_field, u16_field, u32_field, u8_field, variables_field}
 use Rattle.unit_form.specs.Parses.{Parse, field}
 use Rattle.unit_form.specs.Spelling.{HasFields, callee_bytes, name_bytes, places_bytes, unit_bytes}
@@ -70,16 +71,6 @@ code_taken bytes at fits passed =
     ((u32_taken bytes at fits (none_before count.tests _ passed)).there ∙ ap (λ (n : ℕ). little_bytes 4 n ++ drop count.next bytes) (sym size)
     ∙ ap (λ (t : List ℕ). little_bytes 4 (length code.value) ++ t) ((bytes_taken count.value bytes count.next).there ∙ ap (λ (t : List ℕ). code.value ++ t) nothing ∙ append-nil code.value),
     omega (arith, size, few))
-
--- The unit has the fields that were read.
-pub record HasRead (unit : MethodUnit) (fields : FieldsOfUnit) : Type 0 where
-  pub name : unit.name ≡ fields.name
-  pub result : unit.result ≡ fields.result
-  pub args : unit.args ≡ fields.args
-  pub locals : unit.locals ≡ fields.locals
-  pub max_stack : unit.max_stack ≡ fields.max_stack
-  pub callees : unit.callees ≡ fields.callees
-  pub code : unit.code ≡ fields.code
 
 pub record UnitTaken (bytes : List ℕ) (unit : MethodUnit) : Type 0 where
   pub spelled : unit_bytes unit ≡ bytes

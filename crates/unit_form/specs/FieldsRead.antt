@@ -1,4 +1,6 @@
 -- The fields that were read from a unit file, and those that they are.
+use Rattle.std.specs.Prelude.{◌≡◌}
+use Rattle.cil_model.specs.declared.unit.Unit.{Unit as MethodUnit}
 use Rattle.unit_form.specs.UnitFields.{FieldsOfUnit}
 use Rattle.unit_form.specs.declared.unit_fields.UnitFields.{UnitFields}
 
@@ -14,3 +16,13 @@ fields_told fields = record {
   code = fields.code.now;
   code_offset = fields.code_offset;
 }
+
+-- The unit has the fields that were read.
+pub record HasRead (unit : MethodUnit) (fields : FieldsOfUnit) : Type 0 where
+  pub name : unit.name ≡ fields.name
+  pub result : unit.result ≡ fields.result
+  pub args : unit.args ≡ fields.args
+  pub locals : unit.locals ≡ fields.locals
+  pub max_stack : unit.max_stack ≡ fields.max_stack
+  pub callees : unit.callees ≡ fields.callees
+  pub code : unit.code ≡ fields.code

@@ -1,10 +1,12 @@
 //! The fields of a whole unit file.
 
-ghost use Rattle.std.specs.Prelude.{◌≡◌, ◌+◌, ◌≤◌, ⊤, length};
-ghost use Rattle.cc_base.specs.Tests.{first_of, Judges, JudgesOrNoMemory};
+ghost use Rattle.std.specs.Prelude.{◌≡◌, ◌+◌, ◌≤◌, ⊤, length, IfOk};
+ghost use Rattle.cc_base.specs.Tests.{first_of, GivesOnly, Judges, JudgesOrNoMemory};
 ghost use Rattle.cil_model.specs.Limits.{MAX_CODE_BYTES};
-ghost use Rattle.unit_form.specs.FieldsRead.{fields_told};
+ghost use Rattle.unit_form.specs.FieldsRead.{fields_told, HasRead};
+ghost use Rattle.cil_model.specs.declared.unit.Unit.{Unit as MethodUnit};
 ghost use Rattle.unit_form.specs.Parses.{IsRead};
+ghost use Rattle.unit_form.specs.Spelling.{HasFields, unit_bytes};
 ghost use Rattle.unit_form.specs.UnitFields.{code_field, magic_tests, max_stack_field, unit_fields};
 
 use crate::callees::read_callees;
@@ -87,11 +89,9 @@ fn read_code(bytes: &[u8], at: u32) -> Result<&[u8], FieldFault>
     Ok(code)
 }
 
-/// The fields of a unit file, or the first fault among them.
-///
-/// Cost: linear in the length of the file. The name and the code are not copied.
+/// The fields, or the first fault among them.
 #[tactic(auto, using(cc_base::proofs::TestLemmas::appended, cc_base::proofs::TestLemmas::carried), unfolding(crate::specs::UnitFields::unit_fields))]
-pub fn read_fields(alloc: Global, bytes: &[u8]) -> Result<UnitFields<'_>, FieldRefusal>
+fn read_first(alloc: Global, bytes: &[u8]) -> Result<UnitFields<'_>, FieldRefusal>
     requires short { length bytes.now ≤ 2147483647 }
     ensures { JudgesOrNoMemory result (first_of (unit_fields bytes.now).tests) (λ fields. fields_told fields ≡ (unit_fields bytes.now).value) }
 {
@@ -115,4 +115,19 @@ pub fn read_fields(alloc: Global, bytes: &[u8]) -> Result<UnitFields<'_>, FieldR
         code,
         code_offset: at + 4,
     })
+}
+
+/// The fields of a unit file, or the first fault among them.
+///
+/// Cost: linear in the length of the file. The name and the code are not copied.
+pub fn read_fields(alloc: Global, bytes: &[u8]) -> Result<UnitFields<'_>, FieldRefusal>
+    requires short { length bytes.now ≤ 2147483647 }
+    // They are read where no test of the list fails; a fault is that of the first test that does.
+    ensures judged { JudgesOrNoMemory result (first_of (unit_fields bytes.now).tests) (λ fields. fields_told fields ≡ (unit_fields bytes.now).value) }
+    // What is read is spelled by the bytes.
+    ensures spelled { IfOk result (λ fields. (unit : MethodUnit) → HasRead unit (fields_told fields) → (unit_bytes unit ≡ bytes.now) × HasFields unit) }
+    // Where the bytes spell a unit, its fields are read, unless memory runs out.
+    ensures only { (unit : MethodUnit) → HasFields unit → unit_bytes unit ≡ bytes.now → GivesOnly result (λ fields. HasRead unit (fields_told fields)) }
+{
+    read_first(alloc, bytes)
 }
