@@ -14,3 +14,4 @@ mod Again
 mod TreesAgain
 mod CalleesAgain
 mod UnitAgain
+mod TreesWritten

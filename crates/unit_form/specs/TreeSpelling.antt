@@ -1,6 +1,6 @@
 -- How a tree is spelled in a unit file: the roots of it and of the trees below it, in preorder.
-use Rattle.std.specs.Prelude.{ℕ, ℤ, ◌==◌, List, [], ◌∷◌, Option, Some, None, if◌then◌else◌}
-use Rattle.std.specs.List.{flat_map}
+use Rattle.std.specs.Prelude.{ℕ, ℤ, ◌<◌, ◌==◌, List, [], ◌∷◌, Option, Some, None, if◌then◌else◌}
+use Rattle.std.specs.List.{flat_map, AllByRecursion}
 use Rattle.byteorder.specs.Endian.{little_bytes}
 use Rattle.cil_model.specs.Arithmetic.{unsigned}
 use Rattle.cil_model.specs.Places.{place_number}
@@ -54,3 +54,11 @@ root_bytes CondRoot = 10 ∷ []
 
 abbrev pub tree_bytes : Term → List ℕ
 tree_bytes tree = flat_map root_bytes (preorder tree)
+
+-- The arguments that a tree names are numbers of one byte.
+abbrev pub IsByteArg : Root → Type 0
+IsByteArg (ArgRoot n) = n < 256
+IsByteArg root = Unit {0}
+
+abbrev pub ByteArgs : Term → Type 0
+ByteArgs tree = AllByRecursion IsByteArg (preorder tree)

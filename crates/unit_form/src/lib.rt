@@ -11,6 +11,7 @@ mod root;
 mod root_reader;
 mod tree_builder;
 mod tree_reader;
+mod tree_writer;
 mod unit_fields;
 
 pub use field_fault::{FieldFault, FieldRefusal};
