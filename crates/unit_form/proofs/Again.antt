@@ -1,8 +1,7 @@
 -- The spelling of fields passes their tests, and they are read from it again: numbers, names and places.
-use Rattle.std.proofs.Common.{◌≡◌, ◌≢◌, ℕ, zero, suc, ◌+◌, ◌*◌, ◌^◌, ◌<◌, ◌≤◌, Bool, true, false, List, [], ◌∷◌, ◌++◌, length, map, take, drop, slice_index, Option, None, Some, refl, sym, subst, ap, ◌∙◌, arith, length-append, length-drop, append_assoc}
-use Rattle.std.specs.Prelude.{is_some, ◌&&◌, ◌==◌, not, nat_le, ⊤}
+use Rattle.std.proofs.Common.{◌≡◌, ◌≢◌, ℕ, ◌+◌, ◌^◌, ◌<◌, ◌≤◌, Bool, true, List, [], ◌∷◌, ◌++◌, length, map, take, drop, Option, None, refl, sym, subst, ap, ◌∙◌, arith, length-append, length-drop, append_assoc}
+use Rattle.std.specs.Prelude.{is_some, ◌&&◌, ◌==◌, not, nat_le}
 use Rattle.std.specs.List.{AllByRecursion, flat_map}
-use Rattle.std.specs.Option.{option_map_or}
 use Rattle.std.proofs.lemmas.Bool.{le-leb}
 use Rattle.std.proofs.lemmas.List.{take_at}
 use Rattle.byteorder.specs.Endian.{little_bytes}
@@ -19,7 +18,7 @@ use Rattle.unit_form.specs.Parses.{Parse, field, many}
 use Rattle.unit_form.specs.Spelling.{name_bytes, places_bytes}
 use Rattle.unit_form.specs.declared.field_fault.FieldFault.{FieldFault}
 use Rattle.unit_form.proofs.Stands.{behind, lies, byte_read, number_read}
-use Rattle.unit_form.proofs.Taken.{AllGood}
+use Rattle.unit_form.proofs.Taken.{AllGood, one_each}
 
 -- A value is read back, and this stands behind it.
 pub record ReadsBack {X : Type 0} (bytes : List ℕ) (parse : Parse X) (x : X) (rest : List ℕ) : Type 0 where
@@ -73,13 +72,13 @@ bytes_again bytes at count text rest size before there =
 
 -- ---- names
 
+pub both : (a b : Bool) → a ≡ true → b ≡ true → (a && b) ≡ true
+both a b e f = rw (e, f) refl
+
 graphic_again : (at : ℕ) (text : List ℕ) → AllByRecursion (λ b. (0x21 ≤ b) × (b ≤ 0x7e)) text → first_of (graphic_tests at text) ≡ None
 unfolding graphic_tests
 graphic_again at [] all = first_of-nil
 graphic_again at (b ∷ text) all = test_before (is_graphic b) _ (graphic_tests (at + 1) text) (both (nat_le 0x21 b) (nat_le b 0x7e) (le-leb _ _ all.0.0) (le-leb _ _ all.0.1)) (graphic_again (at + 1) text all.1)
-  where
-    both : (a b : Bool) → a ≡ true → b ≡ true → (a && b) ≡ true
-    both a b e f = rw (e, f) refl
 
 pub name_again : (bytes : List ℕ) (at : ℕ) (name rest : List ℕ) → IsUnitName name → drop at bytes ≡ name_bytes name ++ rest → ReadsBack bytes (name_field bytes at) name rest
 unfolding name_field
@@ -170,10 +169,6 @@ good_places : (read variables : List Place) → HoldValues variables → AllGood
 good_places read [] hold = tt
 good_places read (place ∷ others) hold = (hold.0, good_places (read ++ place ∷ []) others hold.1)
 
-pub one_each : (variables : List Place) → flat_map (λ place. place_number place ∷ []) variables ≡ map place_number variables
-one_each [] = refl
-one_each (place ∷ others) = ap (λ (t : List ℕ). place_number place ∷ t) (one_each others)
-
 pub variables_again : (others : ℕ) (bytes : List ℕ) (at : ℕ) (variables : List Place) (rest : List ℕ) → HoldValues variables → others + length variables ≤ 128
     → drop at bytes ≡ places_bytes variables ++ rest → ReadsBack bytes (variables_field others bytes at) variables rest
 unfolding variables_field
@@ -186,7 +181,7 @@ variables_again others bytes at variables rest hold few there =
     let same : parse ≡ variable_fields (length variables) bytes count.next = ap (λ (n : ℕ). variable_fields n bytes count.next) one.value in
     record {
       passed = first_of-append_none count.tests _ one.passed
-        ∙ test_before _ _ parse.tests (ap (λ (n : ℕ). nat_le (others + n) 128) one.value ∙ le-leb _ _ few) (ap (λ parse. first_of parse.tests) same ∙ all.passed);
+          ∙ test_before _ _ parse.tests (ap (λ (n : ℕ). nat_le (others + n) 128) one.value ∙ le-leb _ _ few) (ap (λ parse. first_of parse.tests) same ∙ all.passed);
       value = ap (λ parse. parse.value) same ∙ all.value;
       behind = ap (λ parse. drop parse.next bytes) same ∙ all.behind;
       inside = subst (λ parse. parse.next ≤ length bytes) (sym same) all.inside;

@@ -1,36 +1,31 @@
 -- The spelling of clauses and callees passes their tests, and they are read from it again.
-use Rattle.std.proofs.Common.{◌≡◌, ℕ, zero, suc, ◌+◌, ◌≤◌, Bool, true, false, List, [], ◌∷◌, ◌++◌, length, drop, leb, Option, None, Some, refl, sym, subst, ap, ap₂, ◌∙◌, arith, append_assoc}
-use Rattle.std.specs.Prelude.{◌&&◌, ◌||◌, ◌==◌, nat_le, sum_by, ⊤}
+use Rattle.std.proofs.Common.{◌≡◌, ℕ, ◌+◌, ◌≤◌, true, List, [], ◌∷◌, ◌++◌, length, drop, refl, sym, subst, ap, ap₂, ◌∙◌, arith, append_assoc}
+use Rattle.std.specs.Prelude.{nat_le}
 use Rattle.std.specs.List.{flat_map, AllByRecursion}
 use Rattle.std.proofs.lemmas.Bool.{le-leb}
 use Rattle.std.proofs.lemmas.List.Sums.{sum_by-cons, sum_by_push}
-use Rattle.cc_base.specs.Tests.{first_of, must}
+use Rattle.cc_base.specs.Tests.{first_of}
 use Rattle.cc_base.proofs.TestLemmas.{first_of-append_none}
-use Rattle.cil_model.specs.Clauses.{is_kind}
 use Rattle.cil_model.specs.Limits.{MAX_CONDITIONS, MAX_NODES, MAX_OLD_VALUES}
 use Rattle.cil_model.specs.Places.{place_number}
 use Rattle.cil_model.specs.TermCodes.{preorder, first_back}
 use Rattle.cil_model.specs.Terms.{Term, term_size, condition_depth, old_count}
-use Rattle.cil_model.specs.TreeKinds.{kind_in, IsNumberClause}
-use Rattle.cil_model.specs.WellFormed.{ClausesWithinLimits, HasInts, HoldValues, IsCallee, IsIntRoot}
+use Rattle.cil_model.specs.TreeKinds.{IsNumberClause}
+use Rattle.cil_model.specs.WellFormed.{ClausesWithinLimits, HasInts, IsCallee, IsIntRoot}
 use Rattle.cil_model.specs.declared.clause.Clause.{Clause}
 use Rattle.cil_model.specs.declared.clause.ClauseKind.{ClauseKind}
 use Rattle.cil_model.specs.declared.clause.ClauseKind.TheVariants as kinds
 use Rattle.cil_model.specs.declared.place.Place.{Place}
 use Rattle.cil_model.specs.declared.unit.CalleeInfo.{CalleeInfo}
-use Rattle.unit_form.specs.Callees.{callee_field, callee_fields, clause_field, clause_fields, clause_tree, clauses_field, is_clause_tree, is_kind_number, is_number_kind, keeps_limits, kind_number, kind_numbered, next_callee, next_clause, olds_in}
+use Rattle.unit_form.specs.Callees.{callee_field, callee_fields, clause_field, clause_fields, clause_tree, clauses_field, is_clause_tree, is_kind_number, is_number_kind, kind_number, kind_numbered, next_callee, next_clause, olds_in}
 use Rattle.unit_form.specs.Fields.{name_field, place_field, u8_field, variables_field}
-use Rattle.unit_form.specs.Parses.{Parse, many}
 use Rattle.unit_form.specs.Spelling.{callee_bytes, clause_bytes, clauses_bytes, name_bytes, places_bytes}
 use Rattle.unit_form.specs.TreeFields.{tree_of_roots, tree_roots}
 use Rattle.unit_form.specs.TreeSpelling.{tree_bytes}
-use Rattle.unit_form.proofs.Again.{ReadsBack, many_again, name_again, one_test, place_again, test_before, u8_again, variables_again}
+use Rattle.unit_form.proofs.Again.{ReadsBack, both, many_again, name_again, one_test, place_again, test_before, u8_again, variables_again}
 use Rattle.unit_form.proofs.CalleesTaken.{GoodClause}
 use Rattle.unit_form.proofs.Taken.{AllGood}
 use Rattle.unit_form.proofs.TreesAgain.{tree_again}
-
-both : (a b : Bool) → a ≡ true → b ≡ true → (a && b) ≡ true
-both a b e f = rw (e, f) refl
 
 numbered_kind : (kind : ClauseKind) → kind_numbered (kind_number kind) ≡ kind
 numbered_kind kinds.Requires = refl
@@ -85,9 +80,10 @@ all_good : (args : List Place) (result : Place) (before clauses : List Clause) �
 all_good args result before [] nodes conditions olds ints numbers = tt
 all_good args result before (clause ∷ clauses) nodes conditions olds ints numbers =
     let first = sum_by-cons (λ clause. old_count clause.tree) clause clauses in
-    let pushed = sum_by_push (λ clause. old_count clause.tree) before clause in
-    (record { nodes = nodes.0; conditions = conditions.0; olds = omega (arith, olds, first); ints = ints.0; number = numbers.0 },
-    all_good args result (before ++ clause ∷ []) clauses nodes.1 conditions.1 (omega (arith, olds, first, pushed)) ints.1 numbers.1)
+    let pushed = sum_by_push (λ clause. old_count clause.tree) before clause in (
+      record { nodes = nodes.0; conditions = conditions.0; olds = omega (arith, olds, first); ints = ints.0; number = numbers.0 },
+      all_good args result (before ++ clause ∷ []) clauses nodes.1 conditions.1 (omega (arith, olds, first, pushed)) ints.1 numbers.1,
+    )
 
 clauses_again : (args : List Place) (result : Place) (bytes : List ℕ) (at : ℕ) (clauses : List Clause) (rest : List ℕ) → ClausesWithinLimits clauses → AllByRecursion HasInts clauses
     → AllByRecursion (IsNumberClause args result) clauses → drop at bytes ≡ clauses_bytes clauses ++ rest → ReadsBack bytes (clauses_field args result bytes at) clauses rest
@@ -101,7 +97,7 @@ clauses_again args result bytes at clauses rest limits ints numbers there =
     let same : parse ≡ clause_fields (length clauses) args result bytes count.next = ap (λ (n : ℕ). clause_fields n args result bytes count.next) one.value in
     record {
       passed = first_of-append_none count.tests _ one.passed
-        ∙ test_before _ _ parse.tests (ap (λ (n : ℕ). nat_le n 16) one.value ∙ le-leb _ _ limits.count) (ap (λ parse. first_of parse.tests) same ∙ all.passed);
+          ∙ test_before _ _ parse.tests (ap (λ (n : ℕ). nat_le n 16) one.value ∙ le-leb _ _ limits.count) (ap (λ parse. first_of parse.tests) same ∙ all.passed);
       value = ap (λ parse. parse.value) same ∙ all.value;
       behind = ap (λ parse. drop parse.next bytes) same ∙ all.behind;
       inside = subst (λ parse. parse.next ≤ length bytes) (sym same) all.inside;
@@ -117,7 +113,7 @@ callee_again bytes before at callee rest is there =
     let clauses = clauses_field args.value result.value bytes args.next in
     let behind_args = clauses_bytes callee.clauses ++ rest in
     let one = name_again bytes at callee.name (place_number callee.result ∷ (places_bytes callee.args ++ behind_args)) is.name
-        (there ∙ append_assoc (name_bytes callee.name) _ rest ∙ ap (λ (t : List ℕ). name_bytes callee.name ++ (place_number callee.result ∷ t)) (append_assoc (places_bytes callee.args) (clauses_bytes callee.clauses) rest)) in
+    (there ∙ append_assoc (name_bytes callee.name) _ rest ∙ ap (λ (t : List ℕ). name_bytes callee.name ++ (place_number callee.result ∷ t)) (append_assoc (places_bytes callee.args) (clauses_bytes callee.clauses) rest)) in
     let two = place_again bytes name.next callee.result (places_bytes callee.args ++ behind_args) one.behind in
     let three = variables_again 0 bytes result.next callee.args behind_args is.args (omega (arith, is.few_args)) two.behind in
     let four = clauses_again callee.args callee.result bytes args.next callee.clauses rest is.clauses is.ints is.numbers three.behind in

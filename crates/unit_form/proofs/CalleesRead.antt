@@ -1,5 +1,5 @@
 -- The offsets of callees that are read one behind another.
-use Rattle.std.proofs.Common.{◌≡◌, ℕ, zero, suc, ◌+◌, ◌-◌, ◌<◌, ◌≤◌, List, [], ◌∷◌, ◌++◌, refl, arith, ap, ◌∙◌, sym, append_assoc, append-nil}
+use Rattle.std.proofs.Common.{◌≡◌, ℕ, suc, ◌+◌, ◌-◌, ◌<◌, ◌≤◌, List, [], ◌∷◌, ◌++◌, arith, ap, ◌∙◌, sym, append_assoc, append-nil}
 use Rattle.unit_form.specs.Callees.{callee_field, callee_offsets}
 
 pub offsets_next : (bytes : List ℕ) (count start k at next : ℕ) (offsets : List ℕ) → k < count → callee_offsets count bytes start ≡ offsets ++ callee_offsets (count - k) bytes at

@@ -1,41 +1,34 @@
 -- Clauses and callees whose tests are passed are spelled where they stand, and keep the limits.
-use Rattle.std.proofs.Common.{◌≡◌, ℕ, zero, suc, ◌+◌, ◌≤◌, Bool, true, false, List, [], ◌∷◌, ◌++◌, length, drop, leb, eqb, cond, Option, None, Some, refl, sym, ap, ◌∙◌, arith, append_assoc}
-use Rattle.std.specs.Prelude.{◌&&◌, ◌||◌, ◌==◌, nat_le, sum_by, ⊤}
+use Rattle.std.proofs.Common.{◌≡◌, ℕ, ◌+◌, ◌≤◌, Bool, true, false, List, [], ◌∷◌, ◌++◌, length, drop, Option, None, Some, refl, sym, ap, ◌∙◌, arith, append_assoc}
+use Rattle.std.specs.Prelude.{◌&&◌, ◌||◌, ◌==◌, nat_le}
 use Rattle.std.specs.List.{flat_map, AllByRecursion}
-use Rattle.std.proofs.lemmas.Bool.{leb-true, eqb-true, cond_both}
+use Rattle.std.proofs.lemmas.Bool.{leb-true, eqb-true}
 use Rattle.std.proofs.lemmas.List.Sums.{sum_by-cons, sum_by_push}
 use Rattle.cc_base.specs.LittleEndian.{IsBytes}
 use Rattle.cc_base.specs.Tests.{first_of, must}
 use Rattle.cc_base.proofs.TestLemmas.{none_before, none_behind, none_here}
-use Rattle.cil_model.specs.Clauses.{is_kind}
 use Rattle.cil_model.specs.Limits.{MAX_CONDITIONS, MAX_NODES, MAX_OLD_VALUES}
 use Rattle.cil_model.specs.Places.{place_number}
 use Rattle.cil_model.specs.TermCodes.{preorder}
 use Rattle.cil_model.specs.Terms.{Term, term_size, condition_depth, old_count}
-use Rattle.cil_model.specs.TreeKinds.{is_int, kind_in, IsNumberClause}
+use Rattle.cil_model.specs.TreeKinds.{IsNumberClause}
 use Rattle.cil_model.specs.WellFormed.{ClausesWithinLimits, HasInts, IsCallee, IsIntRoot}
 use Rattle.cil_model.specs.declared.clause.Clause.{Clause}
 use Rattle.cil_model.specs.declared.clause.ClauseKind.{ClauseKind}
-use Rattle.cil_model.specs.declared.clause.ClauseKind.TheVariants as kinds
 use Rattle.cil_model.specs.declared.place.Kind.{Kind}
 use Rattle.cil_model.specs.declared.place.Kind.TheVariants as numbers
 use Rattle.cil_model.specs.declared.place.Place.{Place}
 use Rattle.cil_model.specs.declared.unit.CalleeInfo.{CalleeInfo}
 use Rattle.unit_form.specs.Callees.{callee_field, callee_fields, clause_field, clause_fields, clause_tree, clauses_field, is_clause_tree, is_kind_number, is_number_kind, keeps_limits, kind_number, kind_numbered, next_callee, next_clause, olds_in}
 use Rattle.unit_form.specs.Fields.{name_field, place_field, u8_field, variables_field}
-use Rattle.unit_form.specs.Parses.{Parse, many}
 use Rattle.unit_form.specs.Spelling.{callee_bytes, clause_bytes, clauses_bytes, name_bytes, places_bytes}
-use Rattle.unit_form.specs.TreeFields.{tree_of_roots, tree_roots}
+use Rattle.unit_form.specs.TreeFields.{tree_roots}
 use Rattle.unit_form.specs.TreeSpelling.{tree_bytes}
 use Rattle.unit_form.proofs.Counted.{length-many}
-use Rattle.unit_form.proofs.Taken.{AllGood, Stands, holds, many_taken, name_taken, place_taken, u8_taken, variables_taken}
+use Rattle.unit_form.proofs.Taken.{AllGood, Stands, both_true, holds, many_taken, name_taken, place_taken, u8_taken, variables_taken}
 use Rattle.unit_form.proofs.TreesTaken.{tree_ints, tree_taken}
 
 -- ---- one clause
-
-both : (a b : Bool) → (a && b) ≡ true → (a ≡ true) × (b ≡ true)
-both true b e = (refl, e)
-both false b e = absurd (cc)
 
 numbered_kind : (number : ℕ) → is_kind_number number ≡ true → kind_number (kind_numbered number) ≡ number
 numbered_kind number e = by_first (number == 1) (number == 2) refl refl e
@@ -65,9 +58,9 @@ pub record GoodClause (args : List Place) (result : Place) (before : List Clause
 good_clause : (args : List Place) (result : Place) (before : List Clause) (kind : ClauseKind) (tree : Term) → is_clause_tree args result kind (olds_in before) tree ≡ true
     → AllByRecursion IsIntRoot (preorder tree) → GoodClause args result before (record { kind = kind; tree = tree })
 good_clause args result before kind tree e ints =
-    let parts = both (keeps_limits (olds_in before) tree) _ e in
-    let two = both (nat_le (term_size tree) MAX_NODES && nat_le (condition_depth tree) MAX_CONDITIONS) _ parts.0 in
-    let three = both (nat_le (term_size tree) MAX_NODES) _ two.0 in
+    let parts = both_true (keeps_limits (olds_in before) tree) _ e in
+    let two = both_true (nat_le (term_size tree) MAX_NODES && nat_le (condition_depth tree) MAX_CONDITIONS) _ parts.0 in
+    let three = both_true (nat_le (term_size tree) MAX_NODES) _ two.0 in
     record { nodes = leb-true _ _ three.0; conditions = leb-true _ _ three.1; olds = leb-true _ _ two.1; ints = ints; number = number_kind _ parts.1 }
 
 tree_judged : (args : List Place) (result : Place) (kind : ClauseKind) (olds : ℕ) (bytes : List ℕ) (at : ℕ) → IsBytes bytes → first_of (clause_tree args result kind olds bytes at).tests ≡ None
@@ -92,11 +85,13 @@ clause_taken args result bytes fits before at passed =
     let rest = none_behind number.tests (must (is_kind_number number.value) _ ∷ tree.tests) passed in
     let two = none_here _ tree.tests rest in
     let three = none_behind (must (is_kind_number number.value) _ ∷ []) tree.tests rest in
-    let judged = tree_judged args result kind (olds_in before) bytes number.next fits three in
-    (record {
-      there = (u8_taken bytes at one).there ∙ ap (λ (n : ℕ). n ∷ drop number.next bytes) (sym (numbered_kind number.value (holds _ _ two)))
-        ∙ ap (λ (t : List ℕ). kind_number kind ∷ t) judged.0.there;
-    }, good_clause args result before kind tree.value judged.1.0 judged.1.1)
+    let judged = tree_judged args result kind (olds_in before) bytes number.next fits three in (
+      record {
+        there = (u8_taken bytes at one).there ∙ ap (λ (n : ℕ). n ∷ drop number.next bytes) (sym (numbered_kind number.value (holds _ _ two)))
+            ∙ ap (λ (t : List ℕ). kind_number kind ∷ t) judged.0.there;
+      },
+      good_clause args result before kind tree.value judged.1.0 judged.1.1,
+    )
 
 -- ---- all clauses
 
@@ -159,14 +154,16 @@ callee_taken bytes fits before at passed =
     let one = name_taken bytes at fits (none_before name.tests _ passed) in
     let two = place_taken bytes name.next (none_before result.tests _ rest1) in
     let three = variables_taken 0 bytes result.next (none_before args.tests _ rest2) in
-    let four = clauses_taken args.value result.value bytes args.next fits (none_behind args.tests clauses.tests rest2) in
-    (record {
-      there = one.stands.there ∙ ap (λ (t : List ℕ). name_bytes name.value ++ t)
-        (two.there ∙ ap (λ (t : List ℕ). place_number result.value ∷ t)
-        (three.stands.there ∙ ap (λ (t : List ℕ). places_bytes args.value ++ t) four.stands.there
-        ∙ sym (append_assoc (places_bytes args.value) (clauses_bytes clauses.value) _)))
-        ∙ sym (append_assoc (name_bytes name.value) (place_number result.value ∷ (places_bytes args.value ++ clauses_bytes clauses.value)) _);
-    }, record { args = three.hold; few_args = omega (arith, three.few); name = one.name; clauses = four.limits; ints = four.ints; numbers = four.numbers })
+    let four = clauses_taken args.value result.value bytes args.next fits (none_behind args.tests clauses.tests rest2) in (
+      record {
+        there = one.stands.there ∙ ap (λ (t : List ℕ). name_bytes name.value ++ t)
+            (two.there ∙ ap (λ (t : List ℕ). place_number result.value ∷ t)
+            (three.stands.there ∙ ap (λ (t : List ℕ). places_bytes args.value ++ t) four.stands.there
+            ∙ sym (append_assoc (places_bytes args.value) (clauses_bytes clauses.value) _)))
+            ∙ sym (append_assoc (name_bytes name.value) (place_number result.value ∷ (places_bytes args.value ++ clauses_bytes clauses.value)) _);
+      },
+      record { args = three.hold; few_args = omega (arith, three.few); name = one.name; clauses = four.limits; ints = four.ints; numbers = four.numbers },
+    )
 
 all_callees : (before callees : List CalleeInfo) → AllGood (λ earlier callee. IsCallee callee) before callees → AllByRecursion IsCallee callees
 all_callees before [] good = tt

@@ -1,5 +1,5 @@
 -- The tree of a clause, of the first roots that were read.
-use Rattle.std.proofs.Common.{◌≡◌, ℕ, ◌+◌, ◌≤◌, ◌<◌, Bool, true, false, nat_lt, nat_le, if◌then◌else◌, List, [], ◌∷◌, ◌++◌, length, take, Option, None, Some, refl, arith, ap, ◌∙◌, sym, length-take}
+use Rattle.std.proofs.Common.{◌≡◌, ℕ, ◌+◌, ◌≤◌, ◌<◌, Bool, true, false, nat_lt, nat_le, if◌then◌else◌, List, [], ◌∷◌, ◌++◌, length, take, None, Some, refl, arith, ap, ◌∙◌, length-take}
 use Rattle.std.proofs.lemmas.Bool.{leb-true, ltb-true, ltb-false}
 use Rattle.std.proofs.lemmas.List.{take_all}
 use Rattle.std.proofs.lemmas.List.Sums.{sum_by_push}
@@ -10,12 +10,12 @@ use Rattle.cil_model.specs.Terms.{Term, old_count, term_size}
 use Rattle.cil_model.specs.declared.clause.Clause.{Clause}
 use Rattle.cil_model.specs.declared.clause.ClauseKind.{ClauseKind}
 use Rattle.cil_model.specs.declared.place.Place.{Place}
-use Rattle.unit_form.specs.Callees.{olds_in, clause_tree, is_clause_tree, keeps_limits, kept_tree}
+use Rattle.unit_form.specs.Callees.{olds_in, clause_tree, is_clause_tree, kept_tree}
 use Rattle.unit_form.specs.Parses.{IsRead}
 use Rattle.unit_form.specs.TreeFields.{tree_of_roots, tree_roots}
 use Rattle.unit_form.specs.declared.field_fault.FieldFault.{FieldFault}
 use Rattle.unit_form.specs.declared.field_fault.FieldFault.TheVariants.{Form}
-use Rattle.unit_form.proofs.WholeTrees.{OneTree, one_tree, size_of_roots}
+use Rattle.unit_form.proofs.WholeTrees.{one_tree, size_of_roots}
 
 -- Where no more than 4,096 roots were kept, they are all.
 all_kept : (whole roots : List Root) → roots ≡ take 4097 whole → length roots ≤ 4096 → roots ≡ whole
@@ -68,9 +68,10 @@ pub kept_read : (args : List Place) (result : Place) (kind : ClauseKind) (olds :
     × (IsRead bytes (clause_tree args result kind olds bytes at) tree next × (is_clause_tree args result kind olds tree ≡ true))
 unfolding clause_tree
 kept_read args result kind olds bytes at next roots tree passed e kept f inside =
-    let found = if_some _ tree _ (kept ∙ kept_is args result kind olds bytes at roots passed e) in
-    (first_of-append_none _ _ passed ∙ first_of-none _ [] (ap (λ holds. must holds (Form at)) found.1) ∙ first_of-nil,
-    ((found.0, f, inside), ap (is_clause_tree args result kind olds) found.0 ∙ found.1))
+    let found = if_some _ tree _ (kept ∙ kept_is args result kind olds bytes at roots passed e) in (
+      first_of-append_none _ _ passed ∙ first_of-none _ [] (ap (λ holds. must holds (Form at)) found.1) ∙ first_of-nil,
+      ((found.0, f, inside), ap (is_clause_tree args result kind olds) found.0 ∙ found.1),
+    )
 
 pub kept_refused : (args : List Place) (result : Place) (kind : ClauseKind) (olds : ℕ) (bytes : List ℕ) (at : ℕ) (roots : List Root)
     → first_of (tree_roots bytes at).tests ≡ None → roots ≡ take 4097 (tree_roots bytes at).value → None ≡ kept_tree args result kind olds roots

@@ -15,3 +15,4 @@ mod TreesAgain
 mod CalleesAgain
 mod UnitAgain
 mod TreesWritten
+mod UnitWritten

@@ -1,5 +1,5 @@
 -- What is wrong with the operand of a root.
-use Rattle.std.proofs.Common.{◌≡◌, ℕ, ◌+◌, List, [], Option, Some, None, ap, ◌∙◌, sym}
+use Rattle.std.proofs.Common.{◌≡◌, ℕ, ◌+◌, List, [], Some, None, ap, ◌∙◌, sym}
 use Rattle.std.specs.Prelude.{is_some}
 use Rattle.std.specs.Option.{option_map_or}
 use Rattle.cc_base.specs.Tests.{first_of, must}
@@ -33,6 +33,7 @@ unfolding operand_field
 operand_read bytes operand at tag size root e passed (is, next, inside) found =
     let same : root_of tag (bytes_field (operand_size tag) bytes at).value ≡ Some root = rw (← e, ← is) found in
     let before : first_of (bytes_field (operand_size tag) bytes at).tests ≡ None = rw (← e) passed in
-    let behind : at + size ≡ (bytes_field (operand_size tag) bytes at).next = rw (← e) next in
-    (first_of-append_none _ _ before ∙ first_of-none _ [] (ap (λ holds. must holds (Form at)) (ap is_some same)) ∙ first_of-nil,
-    (sym (ap (λ it. option_map_or (λ found. found) it NullRoot) same), behind, inside))
+    let behind : at + size ≡ (bytes_field (operand_size tag) bytes at).next = rw (← e) next in (
+      first_of-append_none _ _ before ∙ first_of-none _ [] (ap (λ holds. must holds (Form at)) (ap is_some same)) ∙ first_of-nil,
+      (sym (ap (λ it. option_map_or (λ found. found) it NullRoot) same), behind, inside),
+    )

@@ -1,11 +1,10 @@
 -- The roots of a tree, one behind another: those that are read, and those that are left.
-use Rattle.std.proofs.Common.{◌≡◌, Bool, true, false, nat_lt, if◌then◌else◌, map, ℕ, zero, suc, ◌+◌, ◌-◌, ◌<◌, ◌≤◌, List, [], ◌∷◌, ◌++◌, length, take, Option, None, Some, refl, arith, ap, ◌∙◌, sym, subst, append_assoc, append-nil, length-append}
+use Rattle.std.proofs.Common.{◌≡◌, Bool, true, false, nat_lt, if◌then◌else◌, map, ℕ, zero, suc, ◌+◌, ◌-◌, ◌<◌, ◌≤◌, List, [], ◌∷◌, ◌++◌, length, take, None, Some, refl, arith, ap, ◌∙◌, sym, subst, append_assoc, append-nil, length-append}
 use Rattle.std.proofs.lemmas.Bool.{ltb-true, ltb-false}
 use Rattle.std.proofs.lemmas.List.{length-map, map-append}
 use Rattle.cc_base.specs.Tests.{first_of}
 use Rattle.cc_base.proofs.TestLemmas.{first_of-append_none, first_of-append_some, first_of-one}
 use Rattle.cil_model.specs.TermCodes.{Root}
-use Rattle.unit_form.specs.Parses.{Parse}
 use Rattle.unit_form.specs.Roots.{told}
 use Rattle.unit_form.specs.TreeFields.{arity, kept_with, root_field, roots_field, tree_roots}
 use Rattle.unit_form.specs.declared.root.Root.{Root as RootInMemory}

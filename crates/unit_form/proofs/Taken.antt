@@ -1,5 +1,5 @@
 -- Fields whose tests are passed are spelled where they stand: numbers, names and places.
-use Rattle.std.proofs.Common.{◌≡◌, ◌≢◌, ℕ, zero, suc, ◌+◌, ◌^◌, ◌<◌, ◌≤◌, Bool, true, false, List, [], ◌∷◌, ◌++◌, length, map, take, drop, slice_index, leb, cond, eqb, Option, None, Some, refl, sym, ap, ◌∙◌, arith, length-drop, drop-drop, append_assoc}
+use Rattle.std.proofs.Common.{◌≡◌, ◌≢◌, ℕ, zero, suc, ◌+◌, ◌^◌, ◌<◌, ◌≤◌, Bool, true, false, List, [], ◌∷◌, ◌++◌, length, map, take, drop, cond, eqb, Option, None, Some, refl, sym, ap, ◌∙◌, arith, length-drop, drop-drop, append_assoc}
 use Rattle.std.specs.Prelude.{is_some, ◌&&◌, ◌==◌, not, nat_le, ⊤}
 use Rattle.std.specs.List.{AllByRecursion, flat_map}
 use Rattle.std.specs.Option.{option_map_or}
@@ -59,7 +59,7 @@ length-bytes_field count bytes at passed =
 
 -- ---- names
 
-both_true : (a b : Bool) → (a && b) ≡ true → (a ≡ true) × (b ≡ true)
+pub both_true : (a b : Bool) → (a && b) ≡ true → (a ≡ true) × (b ≡ true)
 both_true true b e = (refl, e)
 both_true false b e = absurd (cc)
 
@@ -91,8 +91,8 @@ name_taken bytes at fits passed =
     record {
       stands = record {
         there = (u16_taken bytes at fits one).there ∙ ap (λ (n : ℕ). little_bytes 2 n ++ drop count.next bytes) (sym size)
-          ∙ ap (λ (t : List ℕ). little_bytes 2 (length text.value) ++ t) (bytes_taken count.value bytes count.next).there
-          ∙ sym (append_assoc (little_bytes 2 (length text.value)) text.value (drop text.next bytes));
+            ∙ ap (λ (t : List ℕ). little_bytes 2 (length text.value) ++ t) (bytes_taken count.value bytes count.next).there
+            ∙ sym (append_assoc (little_bytes 2 (length text.value)) text.value (drop text.next bytes));
       };
       name = record { graphic = graphic count.next text.value three; short = omega (arith, size, u16_small bytes at fits) };
     }
@@ -176,7 +176,7 @@ all_hold : (read variables : List Place) → AllGood (λ before place. place ≢
 all_hold read [] good = tt
 all_hold read (place ∷ others) good = (good.0, all_hold (read ++ place ∷ []) others good.1)
 
-one_each : (places : List Place) → flat_map (λ place. place_number place ∷ []) places ≡ map place_number places
+pub one_each : (variables : List Place) → flat_map (λ place. place_number place ∷ []) variables ≡ map place_number variables
 one_each [] = refl
 one_each (place ∷ others) = ap (λ (t : List ℕ). place_number place ∷ t) (one_each others)
 
@@ -194,7 +194,7 @@ variables_taken others bytes at passed =
     record {
       stands = record {
         there = (u8_taken bytes at one).there ∙ ap (λ (n : ℕ). n ∷ drop count.next bytes) (sym size)
-          ∙ ap (λ (t : List ℕ). length variables.value ∷ t) (all.0.there ∙ ap (λ (t : List ℕ). t ++ drop variables.next bytes) (one_each variables.value));
+            ∙ ap (λ (t : List ℕ). length variables.value ∷ t) (all.0.there ∙ ap (λ (t : List ℕ). t ++ drop variables.next bytes) (one_each variables.value));
       };
       hold = all_hold [] variables.value all.1;
       few = omega (arith, size, leb-true _ _ (holds _ _ two));

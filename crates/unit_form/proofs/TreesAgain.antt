@@ -1,18 +1,18 @@
 -- The spelling of a tree passes its tests, and the tree is read from it again.
-use Rattle.std.proofs.Common.{◌≡◌, ℕ, ℤ, zero, suc, ◌+◌, ◌^◌, ◌<◌, ◌≤◌, Bool, true, false, List, [], ◌∷◌, ◌++◌, length, take, drop, slice_index, Option, None, Some, option_map, refl, sym, subst, ap, ◌∙◌, arith, length-append, length-drop, append_assoc, append-nil}
-use Rattle.std.specs.Prelude.{is_some, FitsSigned, ⊤}
-use Rattle.std.specs.Int.{w32, cast_unsigned}
+use Rattle.std.proofs.Common.{◌≡◌, ℕ, ℤ, zero, suc, ◌+◌, ◌^◌, ◌<◌, ◌≤◌, true, List, [], ◌∷◌, ◌++◌, length, drop, Some, option_map, refl, sym, subst, ap, ◌∙◌, arith, length-append, length-drop, append_assoc, append-nil}
+use Rattle.std.specs.Prelude.{is_some, FitsSigned}
+use Rattle.std.specs.Int.{w32}
 use Rattle.std.specs.List.{AllByRecursion, flat_map}
 use Rattle.std.specs.Option.{option_map_or}
 use Rattle.std.proofs.Math.Facts.{Fits-lt-pow, Fits-of_z}
 use Rattle.std.proofs.lemmas.Int.{to_z-of_z}
 use Rattle.byteorder.specs.Endian.{little_bytes, little_number}
-use Rattle.cc_base.specs.Tests.{first_of, must}
+use Rattle.cc_base.specs.Tests.{first_of}
 use Rattle.cc_base.proofs.ByteLemmas.{length-little_bytes, number_back}
 use Rattle.cc_base.proofs.TestLemmas.{first_of-append_none, first_of-nil}
 use Rattle.cil_model.specs.Arithmetic.{signed, unsigned}
 use Rattle.cil_model.specs.Places.{place_number, place_of_number}
-use Rattle.cil_model.specs.TermCodes.{Root, ConstRoot, ArgRoot, NullRoot, ResultRoot, LenRoot, ElemRoot, BinRoot, UnRoot, OldRoot, CondRoot, preorder, first_back}
+use Rattle.cil_model.specs.TermCodes.{Root, ConstRoot, ArgRoot, NullRoot, ResultRoot, LenRoot, ElemRoot, BinRoot, UnRoot, OldRoot, CondRoot, preorder}
 use Rattle.cil_model.specs.Terms.{Term, Const, Arg, Null, Result, Len, Elem, Bin, Un, Old, Cond}
 use Rattle.cil_model.specs.WellFormed.{IsIntRoot}
 use Rattle.cil_model.specs.declared.instruction.BinOp.{BinOp}
@@ -22,8 +22,7 @@ use Rattle.cil_model.specs.declared.instruction.UnOp.TheVariants as unary
 use Rattle.cil_model.specs.declared.place.Place.{Place}
 use Rattle.cil_model.specs.declared.place.Place.TheVariants as places
 use Rattle.unit_form.specs.Fields.{u8_field, bytes_field}
-use Rattle.unit_form.specs.Parses.{Parse}
-use Rattle.unit_form.specs.TreeFields.{arity, is_tag, operand_field, operand_size, operator_of_byte, root_field, root_of, roots_field, tree_of_roots, tree_roots, unary_of_byte}
+use Rattle.unit_form.specs.TreeFields.{arity, is_tag, operand_field, operand_size, operator_of_byte, root_field, root_of, roots_field, tree_roots, unary_of_byte}
 use Rattle.unit_form.specs.TreeSpelling.{operator_byte, root_bytes, tree_bytes, unary_byte}
 use Rattle.unit_form.proofs.Again.{ReadsBack, bytes_again, one_test, test_before, u8_again}
 use Rattle.unit_form.proofs.WholeTrees.{Complete}

@@ -1,6 +1,6 @@
 -- Trees whose tests are passed are spelled where they stand.
-use Rattle.std.proofs.Common.{◌≡◌, ℕ, ℤ, zero, suc, ◌+◌, ◌^◌, ◌<◌, ◌≤◌, Bool, true, false, List, [], ◌∷◌, ◌++◌, length, take, drop, slice_index, leb, cond, eqb, Option, None, Some, option_map, refl, sym, subst, ap, ◌∙◌, arith, length-drop, drop-drop, append_assoc}
-use Rattle.std.specs.Prelude.{is_some, ◌&&◌, ◌||◌, ◌==◌, nat_le, ⊤}
+use Rattle.std.proofs.Common.{◌≡◌, ℕ, zero, suc, ◌+◌, ◌^◌, ◌<◌, true, List, [], ◌∷◌, ◌++◌, length, drop, slice_index, Option, None, Some, option_map, refl, sym, subst, ap, ◌∙◌, arith, append_assoc}
+use Rattle.std.specs.Prelude.{is_some, ⊤}
 use Rattle.std.specs.List.{flat_map, AllByRecursion}
 use Rattle.std.specs.Option.{option_map_or}
 use Rattle.std.specs.Int.{w32}
@@ -12,19 +12,17 @@ use Rattle.cc_base.specs.Tests.{first_of, must}
 use Rattle.cc_base.proofs.ByteLemmas.{bytes_back, little_number-lt, IsBytes-drop, IsBytes-take}
 use Rattle.cc_base.proofs.TestLemmas.{none_before, none_behind, none_here, first_of-one}
 use Rattle.cil_model.specs.Arithmetic.{signed, unsigned}
-use Rattle.cil_model.specs.Places.{place_number, place_of_number}
-use Rattle.cil_model.specs.TermCodes.{Root, ConstRoot, ArgRoot, NullRoot, ResultRoot, LenRoot, ElemRoot, BinRoot, UnRoot, OldRoot, CondRoot, preorder}
+use Rattle.cil_model.specs.TermCodes.{Root, NullRoot, ElemRoot, BinRoot, UnRoot, preorder}
 use Rattle.cil_model.specs.WellFormed.{IsIntRoot}
 use Rattle.cil_model.specs.declared.instruction.BinOp.{BinOp}
 use Rattle.cil_model.specs.declared.instruction.UnOp.{UnOp}
 use Rattle.cil_model.specs.declared.place.Place.{Place}
 use Rattle.unit_form.specs.Fields.{u8_field, bytes_field}
-use Rattle.unit_form.specs.Parses.{Parse}
 use Rattle.unit_form.specs.TreeFields.{arity, bare_root, bitwise_of_byte, comparison_of_byte, is_tag, operand_field, operand_size, operator_of_byte, root_field, root_of, roots_field, tree_of_roots, tree_roots, unary_of_byte}
 use Rattle.unit_form.specs.declared.field_fault.FieldFault.TheVariants.{Short}
 use Rattle.unit_form.specs.TreeSpelling.{operator_byte, root_bytes, tree_bytes, unary_byte}
 use Rattle.unit_form.proofs.Taken.{Stands, u8_taken, bytes_taken, length-bytes_field, holds, case_of, place_numbers, IsNumbered}
-use Rattle.unit_form.proofs.WholeTrees.{OneTree, one_tree, no_fault}
+use Rattle.unit_form.proofs.WholeTrees.{one_tree, no_fault}
 
 -- ---- operators
 
@@ -186,7 +184,7 @@ root_taken bytes at fits passed =
     let spelled = found_root _ tag.value operand.value (holds _ _ three) (spells tag.value operand.value (operand_fits tag.value tag.next bytes fits) size) in
     record {
       there = (u8_taken bytes at one).there ∙ ap (λ (t : List ℕ). tag.value ∷ t) (bytes_taken (operand_size tag.value) bytes tag.next).there
-        ∙ ap (λ (t : List ℕ). t ++ drop operand.next bytes) (sym spelled);
+          ∙ ap (λ (t : List ℕ). t ++ drop operand.next bytes) (sym spelled);
     }
 
 roots_taken : (most trees : ℕ) (bytes : List ℕ) (at : ℕ) → IsBytes bytes → first_of (roots_field most trees bytes at).tests ≡ None

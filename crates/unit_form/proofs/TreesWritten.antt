@@ -1,5 +1,5 @@
 -- The spelling of a tree: that of its root, and then those of the trees below it.
-use Rattle.std.proofs.Common.{◌≡◌, ℕ, ℤ, ◌<◌, List, [], ◌∷◌, ◌++◌, refl, sym, ap, ◌∙◌, append_assoc, append-nil}
+use Rattle.std.proofs.Common.{◌≡◌, ℕ, List, [], ◌∷◌, ◌++◌, sym, ap, ◌∙◌, append_assoc}
 use Rattle.std.specs.List.{AllByRecursion, flat_map}
 use Rattle.std.proofs.lemmas.List.Concat.{flat_map-append}
 use Rattle.cil_model.specs.TermCodes.{Root, LenRoot, ElemRoot, BinRoot, UnRoot, OldRoot, CondRoot, preorder}

@@ -1,11 +1,11 @@
 -- The spelling of a unit passes the tests of its fields, and they are read from it again.
-use Rattle.std.proofs.Common.{◌≡◌, ℕ, ◌+◌, ◌≤◌, ◌<◌, ◌^◌, Bool, true, List, [], ◌∷◌, ◌++◌, length, take, drop, leb, codes, None, Result, Ok, Err, refl, sym, subst, ap, ap₂, ◌∙◌, arith, append_assoc, append-nil, length-drop, length-append}
+use Rattle.std.proofs.Common.{◌≡◌, ℕ, ◌+◌, ◌≤◌, List, [], ◌∷◌, ◌++◌, length, drop, codes, None, Result, Ok, Err, refl, sym, subst, ap, ap₂, ◌∙◌, arith, append-nil, length-drop}
 use Rattle.std.specs.Prelude.{IfOk, nat_le, slice_index, ◌==◌}
 use Rattle.std.specs.List.{flat_map}
 use Rattle.std.proofs.lemmas.Bool.{le-leb}
 use Rattle.byteorder.specs.Endian.{little_bytes}
 use Rattle.cc_base.specs.LittleEndian.{IsBytes}
-use Rattle.cc_base.specs.Tests.{first_of, must, GivesOnly, JudgesOrNoMemory}
+use Rattle.cc_base.specs.Tests.{first_of, GivesOnly, JudgesOrNoMemory}
 use Rattle.cc_base.specs.declared.refusal.Refusal.{Refusal}
 use Rattle.cc_base.specs.declared.refusal.Refusal.TheVariants.{Bad, NoMemory}
 use Rattle.cc_base.proofs.TestLemmas.{first_of-append_none}
@@ -15,16 +15,15 @@ use Rattle.cil_model.specs.declared.unit.Unit.{Unit as MethodUnit}
 use Rattle.unit_form.specs.Callees.{callee_fields}
 use Rattle.unit_form.specs.FieldsRead.{HasRead}
 use Rattle.unit_form.specs.Fields.{bytes_field, name_field, place_field, u16_field, u32_field, u8_field, variables_field}
-use Rattle.unit_form.specs.Parses.{Parse, field}
+use Rattle.unit_form.specs.Parses.{field}
 use Rattle.unit_form.specs.Spelling.{HasFields, callee_bytes, name_bytes, places_bytes, unit_bytes}
 use Rattle.unit_form.specs.UnitFields.{FieldsOfUnit, code_field, magic_tests, max_stack_field, unit_fields}
 use Rattle.unit_form.specs.declared.field_fault.FieldFault.{FieldFault}
-use Rattle.unit_form.specs.declared.field_fault.FieldFault.TheVariants.{Form, Version}
 use Rattle.unit_form.proofs.Again.{ReadsBack, bytes_again, field_inside, name_again, one_test, place_again, test_before, u16_again, u32_again, u8_again, variables_again}
 use Rattle.unit_form.proofs.CalleesAgain.{callees_again}
 use Rattle.unit_form.proofs.UnitTaken.{unit_taken}
 use Rattle.unit_form.proofs.WholeTrees.{no_fault}
-use Rattle.unit_form.proofs.Stands.{behind, lies}
+use Rattle.unit_form.proofs.Stands.{lies}
 
 magic_again : (bytes rest : List ℕ) → bytes ≡ codes "CCU1" ++ rest → first_of (magic_tests bytes) ≡ None
 unfolding magic_tests
@@ -56,7 +55,7 @@ code_again bytes at code few there =
     let ends : length bytes ≤ text.next = omega (arith, ap length two.behind, length-drop text.next bytes) in
     record {
       passed = first_of-append_none count.tests _ one.passed ∙ test_before _ _ _ (ap (λ (n : ℕ). nat_le n MAX_CODE_BYTES) one.value ∙ le-leb _ _ few)
-        (first_of-append_none text.tests _ two.passed ∙ one_test _ _ (le-leb _ _ ends));
+          (first_of-append_none text.tests _ two.passed ∙ one_test _ _ (le-leb _ _ ends));
       value = two.value;
       behind = two.behind;
       inside = two.inside;
@@ -100,8 +99,8 @@ unit_again bytes unit is there =
     let eight = code_again bytes callees.next unit.code is.code seven.behind in
     record {
       passed = first_of-append_none (magic_tests bytes) _ (magic_again bytes part1 there) ∙ first_of-append_none name.tests _ one.passed ∙ first_of-append_none result.tests _ two.passed
-        ∙ first_of-append_none args.tests _ three.passed ∙ first_of-append_none locals.tests _ four.passed ∙ first_of-append_none max_stack.tests _ five.passed
-        ∙ first_of-append_none count.tests _ six.passed ∙ first_of-append_none callees.tests _ seven.passed ∙ eight.passed;
+          ∙ first_of-append_none args.tests _ three.passed ∙ first_of-append_none locals.tests _ four.passed ∙ first_of-append_none max_stack.tests _ five.passed
+          ∙ first_of-append_none count.tests _ six.passed ∙ first_of-append_none callees.tests _ seven.passed ∙ eight.passed;
       has = record {
         name = sym one.value;
         result = sym two.value;

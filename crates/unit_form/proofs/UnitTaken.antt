@@ -1,5 +1,5 @@
 -- A unit file whose fields pass their tests is the spelling of these fields.
-use Rattle.std.proofs.Common.{◌≡◌, ℕ, ◌+◌, ◌≤◌, ◌<◌, ◌^◌, Bool, true, List, [], ◌∷◌, ◌++◌, length, drop, leb, codes, None, refl, sym, ap, ◌∙◌, arith, append_assoc, append-nil, length-drop, drop-drop}
+use Rattle.std.proofs.Common.{◌≡◌, ℕ, ◌+◌, ◌≤◌, List, [], ◌∷◌, ◌++◌, length, drop, codes, None, sym, ap, ◌∙◌, arith, append-nil}
 use Rattle.std.specs.Prelude.{nat_le, slice_index, ◌==◌}
 use Rattle.std.specs.List.{flat_map}
 use Rattle.std.proofs.lemmas.Bool.{leb-true, eqb-true}
@@ -14,10 +14,10 @@ use Rattle.cil_model.specs.declared.unit.Unit.{Unit as MethodUnit}
 use Rattle.unit_form.specs.Callees.{callee_fields, next_callee}
 use Rattle.unit_form.specs.FieldsRead.{HasRead}
 use Rattle.unit_form.specs.Fields.{bytes_field, name_field, place_field, u16_field, u32_field, u8_field, variables_field}
-use Rattle.unit_form.specs.Parses.{Parse, field}
+use Rattle.unit_form.specs.Parses.{field}
 use Rattle.unit_form.specs.Spelling.{HasFields, callee_bytes, name_bytes, places_bytes, unit_bytes}
 use Rattle.unit_form.specs.declared.field_fault.FieldFault.TheVariants.{Form, Version}
-use Rattle.unit_form.specs.UnitFields.{FieldsOfUnit, code_field, magic_tests, max_stack_field, unit_fields}
+use Rattle.unit_form.specs.UnitFields.{code_field, magic_tests, max_stack_field, unit_fields}
 use Rattle.unit_form.proofs.CalleesTaken.{callees_taken}
 use Rattle.unit_form.proofs.Counted.{length-many}
 use Rattle.unit_form.proofs.Stands.{byte_stands}
@@ -67,10 +67,11 @@ code_taken bytes at fits passed =
     let size = length-bytes_field count.value bytes count.next (none_before code.tests _ behind) in
     let few = leb-true _ _ (holds _ _ (none_here t1 _ rest)) in
     let ends = leb-true _ _ (holds _ _ (none_here t2 [] (none_behind code.tests _ behind))) in
-    let nothing : drop code.next bytes ≡ [] = nothing_left code.next bytes ends in
-    ((u32_taken bytes at fits (none_before count.tests _ passed)).there ∙ ap (λ (n : ℕ). little_bytes 4 n ++ drop count.next bytes) (sym size)
-    ∙ ap (λ (t : List ℕ). little_bytes 4 (length code.value) ++ t) ((bytes_taken count.value bytes count.next).there ∙ ap (λ (t : List ℕ). code.value ++ t) nothing ∙ append-nil code.value),
-    omega (arith, size, few))
+    let nothing : drop code.next bytes ≡ [] = nothing_left code.next bytes ends in (
+      (u32_taken bytes at fits (none_before count.tests _ passed)).there ∙ ap (λ (n : ℕ). little_bytes 4 n ++ drop count.next bytes) (sym size)
+          ∙ ap (λ (t : List ℕ). little_bytes 4 (length code.value) ++ t) ((bytes_taken count.value bytes count.next).there ∙ ap (λ (t : List ℕ). code.value ++ t) nothing ∙ append-nil code.value),
+      omega (arith, size, few),
+    )
 
 pub record UnitTaken (bytes : List ℕ) (unit : MethodUnit) : Type 0 where
   pub spelled : unit_bytes unit ≡ bytes
@@ -114,7 +115,7 @@ unit_taken bytes unit fits passed has =
     let e7 : drop max_stack.next bytes ≡ little_bytes 2 (length callees.value) ++ (flat_map callee_bytes callees.value ++ (little_bytes 4 (length code.value) ++ code.value)) =
     the_count.there ∙ ap (λ (n : ℕ). little_bytes 2 n ++ drop count.next bytes) (sym many) ∙ ap (λ (t : List ℕ). little_bytes 2 (length callees.value) ++ t) e8 in
     let spelled : bytes ≡ codes "CCU1" ++ (name_bytes name.value ++ (place_number result.value ∷ (places_bytes args.value ++ (places_bytes locals.value ++ (max_stack.value
-        ∷ (little_bytes 2 (length callees.value) ++ (flat_map callee_bytes callees.value ++ (little_bytes 4 (length code.value) ++ code.value)))))))) =
+    ∷ (little_bytes 2 (length callees.value) ++ (flat_map callee_bytes callees.value ++ (little_bytes 4 (length code.value) ++ code.value)))))))) =
     magic_taken bytes (none_before (magic_tests bytes) r1 passed)
     ∙ ap (λ (t : List ℕ). codes "CCU1" ++ t) (the_name.stands.there
     ∙ ap (λ (t : List ℕ). name_bytes name.value ++ t) (the_result.there

@@ -1,11 +1,10 @@
 -- Roots that were read to their end are those of trees.
-use Rattle.std.proofs.Common.{◌≡◌, ℕ, zero, suc, ◌+◌, ◌≤◌, ◌<◌, Bool, true, false, nat_lt, if◌then◌else◌, List, [], ◌∷◌, ◌++◌, length, take, Option, None, Some, refl, arith, ap, ◌∙◌, sym, append_assoc, append-nil, length-append}
+use Rattle.std.proofs.Common.{◌≡◌, ℕ, zero, suc, ◌+◌, List, [], ◌∷◌, ◌++◌, length, None, Some, refl, arith, ap, ◌∙◌, sym, append_assoc, append-nil, length-append}
 use Rattle.std.specs.List.{flat_map}
 use Rattle.cc_base.specs.Tests.{first_of}
 use Rattle.cc_base.proofs.TestLemmas.{none_behind, first_of-one}
 use Rattle.cil_model.specs.TermCodes.{Root, ConstRoot, ArgRoot, NullRoot, ResultRoot, LenRoot, ElemRoot, BinRoot, UnRoot, OldRoot, CondRoot, preorder, terms_of, terms_of-preorder, first_term}
 use Rattle.cil_model.specs.Terms.{Term, Const, Arg, Null, Result, Len, Elem, Bin, Un, Old, Cond, term_size}
-use Rattle.unit_form.specs.Parses.{Parse}
 use Rattle.unit_form.specs.declared.field_fault.FieldFault.TheVariants.{Short}
 use Rattle.unit_form.specs.TreeFields.{arity, root_field, roots_field, tree_of_roots, tree_roots}
 

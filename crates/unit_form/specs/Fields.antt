@@ -1,5 +1,5 @@
 -- The fields of a unit file that are no trees: numbers, names and places.
-use Rattle.std.specs.Prelude.{ℕ, ◌+◌, Bool, not, ◌&&◌, ◌==◌, nat_le, is_some, List, [], ◌∷◌, ◌++◌, length, take, drop, slice_index, Option}
+use Rattle.std.specs.Prelude.{ℕ, ◌+◌, Bool, not, ◌&&◌, ◌==◌, nat_le, is_some, List, [], ◌∷◌, ◌++◌, take, drop, slice_index, Option}
 use Rattle.std.specs.Option.{option_map_or}
 use Rattle.cc_base.specs.LittleEndian.{u16_at, u32_at}
 use Rattle.cc_base.specs.Tests.{must}

@@ -1,5 +1,4 @@
 -- Roots in memory, and the roots that they are.
-use Rattle.std.specs.Prelude.{List, map}
 use Rattle.cil_model.specs.TermCodes.{Root, ConstRoot, ArgRoot, NullRoot, ResultRoot, LenRoot, ElemRoot, BinRoot, UnRoot, OldRoot, CondRoot}
 use Rattle.unit_form.specs.declared.root.Root.{Root as RootInMemory}
 use Rattle.unit_form.specs.declared.root.Root.TheVariants as roots

@@ -1,5 +1,5 @@
 -- How the fields of a unit are spelled as a file, and which fields are spelled.
-use Rattle.std.specs.Prelude.{ℕ, ◌+◌, ◌≤◌, List, [], ◌∷◌, ◌++◌, length, map, codes}
+use Rattle.std.specs.Prelude.{ℕ, ◌+◌, ◌≤◌, List, ◌∷◌, ◌++◌, length, map, codes}
 use Rattle.std.specs.List.{flat_map, AllByRecursion}
 use Rattle.byteorder.specs.Endian.{little_bytes}
 use Rattle.cil_model.specs.Limits.{MAX_CODE_BYTES, MAX_VARIABLES}
@@ -10,7 +10,7 @@ use Rattle.cil_model.specs.declared.place.Place.{Place}
 use Rattle.cil_model.specs.declared.unit.CalleeInfo.{CalleeInfo}
 use Rattle.cil_model.specs.declared.unit.Unit.{Unit as MethodUnit}
 use Rattle.unit_form.specs.Callees.{kind_number}
-use Rattle.unit_form.specs.TreeSpelling.{tree_bytes}
+use Rattle.unit_form.specs.TreeSpelling.{ByteArgs, tree_bytes}
 
 -- A name, behind its length.
 abbrev pub name_bytes : List ℕ → List ℕ
@@ -45,3 +45,7 @@ pub record HasFields (unit : MethodUnit) : Type 0 where
   pub callees : AllByRecursion IsCallee unit.callees
   pub count : length unit.callees ≤ 65_535
   pub code : length unit.code ≤ MAX_CODE_BYTES
+
+-- The arguments that a clause names are numbers of one byte.
+abbrev pub HasByteArgs : Clause → Type 0
+HasByteArgs clause = ByteArgs clause.tree

@@ -31,7 +31,13 @@ fn kind_of_number(number: u8) -> Option<ClauseKind>
 
 /// Whether a clause of a method of these arguments and this result may have the tree, behind clauses with so many old
 /// values.
-fn is_clause_tree(tree: &Tree, args: &[Place], result_place: Place, kind: ClauseKind, olds: u32) -> bool
+fn is_clause_tree(
+    tree: &Tree,
+    args: &[Place],
+    result_place: Place,
+    kind: ClauseKind,
+    olds: u32,
+) -> bool
     requires small { term_size tree.now ≤ 4096 }
     requires few { olds ≤ 64 }
     ensures { result ≡ is_clause_tree args.now result_place kind olds tree.now }

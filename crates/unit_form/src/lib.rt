@@ -13,6 +13,8 @@ mod tree_builder;
 mod tree_reader;
 mod tree_writer;
 mod unit_fields;
+mod unit_writer;
 
 pub use field_fault::{FieldFault, FieldRefusal};
 pub use unit_fields::{UnitFields, read_fields};
+pub use unit_writer::unit_bytes;

@@ -36,7 +36,12 @@ fn read_variable(bytes: &[u8], at: u32) -> Result<Place, FieldFault>
 
 /// The places of so many variables, and the offset behind them.
 #[tactic(auto, using(crate::proofs::Counted::read_next, crate::proofs::Counted::read_fault, crate::proofs::Counted::all_read, crate::proofs::Counted::none_read))]
-fn read_each(alloc: Global, bytes: &[u8], start: u32, count: u8) -> Result<(Vec<Place>, u32), FieldRefusal>
+fn read_each(
+    alloc: Global,
+    bytes: &[u8],
+    start: u32,
+    count: u8,
+) -> Result<(Vec<Place>, u32), FieldRefusal>
     requires short { length bytes.now ≤ 2147483647 }
     requires inside { start ≤ length bytes.now }
     ensures { JudgesOrNoMemory result (first_of (variable_fields count bytes.now start).tests)
@@ -54,7 +59,12 @@ fn read_each(alloc: Global, bytes: &[u8], start: u32, count: u8) -> Result<(Vec<
 /// The places of variables, behind their count, and the offset behind them. There are so many other variables of the
 /// method.
 #[tactic(auto, using(cc_base::proofs::TestLemmas::appended, cc_base::proofs::TestLemmas::first_tests, cc_base::proofs::TestLemmas::carried), unfolding(crate::specs::Fields::variables_field, crate::specs::Fields::u8_field))]
-pub fn read_variables(alloc: Global, bytes: &[u8], at: u32, others: usize) -> Result<(Vec<Place>, u32), FieldRefusal>
+pub fn read_variables(
+    alloc: Global,
+    bytes: &[u8],
+    at: u32,
+    others: usize,
+) -> Result<(Vec<Place>, u32), FieldRefusal>
     requires short { length bytes.now ≤ 2147483647 }
     requires few { others ≤ 128 }
     ensures { JudgesOrNoMemory result (first_of (variables_field others bytes.now at).tests)

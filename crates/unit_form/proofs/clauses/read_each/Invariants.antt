@@ -1,4 +1,4 @@
-use Rattle.std.proofs.Common.{◌≡◌, ◌+◌, ◌-◌, ◌≤◌, length}
+use Rattle.std.proofs.Common.{◌≡◌, ◌-◌, ◌≤◌, length}
 use Rattle.unit_form.specs.Callees.{next_clause, olds_in}
 use Rattle.unit_form.proofs.Counted.{AreRead}
 use Rattle.unit_form.proofs.clauses.read_each.Given as goal

@@ -1,4 +1,4 @@
-use Rattle.std.proofs.Common.{arith, rules, ◌+◌}
+use Rattle.std.proofs.Common.{rules, ◌+◌}
 use Rattle.unit_form.specs.Fields.{variable_field}
 use Rattle.cc_base.proofs.TestLemmas.{fault-carried}
 use Rattle.unit_form.proofs.Counted.{read_next, read_fault}

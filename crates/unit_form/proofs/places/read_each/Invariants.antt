@@ -1,4 +1,4 @@
-use Rattle.std.proofs.Common.{◌≡◌, ◌+◌, ◌-◌, ◌≤◌, length}
+use Rattle.std.proofs.Common.{◌≡◌, ◌-◌, ◌≤◌, length}
 use Rattle.unit_form.specs.Fields.{variable_field}
 use Rattle.unit_form.proofs.Counted.{AreRead}
 use Rattle.unit_form.proofs.places.read_each.Given as goal

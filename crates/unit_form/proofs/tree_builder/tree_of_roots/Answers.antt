@@ -1,4 +1,4 @@
-use Rattle.std.proofs.Common.{◌≡◌, sym, ap, ◌∙◌, rules, arith, subst, map, take, reverse}
+use Rattle.std.proofs.Common.{◌≡◌, rules, subst, map, take, reverse}
 use Rattle.cil_model.specs.TermCodes.{terms_of}
 use Rattle.unit_form.specs.Roots.{told}
 use Rattle.unit_form.proofs.Taking.{terms_onto, onto_step, onto_end}

@@ -1,7 +1,7 @@
-use Rattle.std.proofs.Common.{◌≡◌, ◌+◌, ◌-◌, refl, sym, ap, subst, ◌∙◌, rules, arith, map, length}
+use Rattle.std.proofs.Common.{◌≡◌, ◌-◌, ap, ◌∙◌, rules, arith, map, length}
 use Rattle.cc_base.proofs.TestLemmas.{fault-carried}
 use Rattle.unit_form.specs.Roots.{told}
-use Rattle.unit_form.proofs.RootsRead.{RootsLeft, none_kept, root_next, root_fault, roots_end, roots_cut, kept_told}
+use Rattle.unit_form.proofs.RootsRead.{none_kept, root_next, root_fault, roots_end, roots_cut, kept_told}
 use Rattle.unit_form.proofs.tree_reader.read_roots.Goals as goal
 
 pub loop-root-init : goal.loop-root-init
@@ -22,11 +22,13 @@ returns-in_err-root c =
 pub loop-root-preserved : goal.loop-root-preserved
 loop-root-preserved c =
     let read = c.in_ok-root.ensures in
-    let kept = ap (map told) c.in_ok-keep.ensures ∙ kept_told c.loop-root.roots.items c.in_ok-root.root in
-    (rw c.arity.ensures.arity
-    (root_next c.args.bytes.now c.args.start (map told c.loop-root.roots.items) _ (length c.args.bytes.now) c.loop-root._root c.loop-root.trees c.loop-root.at c.in_ok-root.next (told c.in_ok-root.root)
-    (search rules) (search rules) c.loop-root.invariant.0 read.0 read.1.0 read.1.1 kept),
-    read.1.2, omega (arith, c.arity.ensures.few, c.loop-root.invariant.2))
+    let kept = ap (map told) c.in_ok-keep.ensures ∙ kept_told c.loop-root.roots.items c.in_ok-root.root in (
+      rw c.arity.ensures.arity
+          (root_next c.args.bytes.now c.args.start (map told c.loop-root.roots.items) _ (length c.args.bytes.now) c.loop-root._root c.loop-root.trees c.loop-root.at c.in_ok-root.next (told c.in_ok-root.root)
+          (search rules) (search rules) c.loop-root.invariant.0 read.0 read.1.0 read.1.1 kept),
+      read.1.2,
+      omega (arith, c.arity.ensures.few, c.loop-root.invariant.2),
+    )
 
 pub returns-then-trees-eq0-2 : goal.returns-then-trees-eq0-2
 returns-then-trees-eq0-2 c =

@@ -1,4 +1,4 @@
-use Rattle.std.proofs.Common.{◌≡◌, ◌+◌, ◌-◌, ◌*◌, ◌≤◌, length, map}
+use Rattle.std.proofs.Common.{◌+◌, ◌-◌, ◌*◌, ◌≤◌, length, map}
 use Rattle.unit_form.specs.Roots.{told}
 use Rattle.unit_form.proofs.RootsRead.{RootsLeft}
 use Rattle.unit_form.proofs.tree_reader.read_roots.Given as goal

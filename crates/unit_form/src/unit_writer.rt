@@ -1,0 +1,104 @@
+//! Units, written as files.
+
+ghost use Rattle.std.specs.Prelude.{◌≡◌, ◌≤◌, ◌<◌, ◌++◌, ◌^◌, length, IfOk, OnOk};
+ghost use Rattle.std.specs.List.{flat_map, AllByRecursion};
+ghost use Rattle.cil_model.specs.WellFormed.{IsCallee};
+ghost use Rattle.unit_form.specs.Callees.{kind_number};
+ghost use Rattle.unit_form.specs.Spelling.{HasByteArgs, HasFields, callee_bytes, clause_bytes, clauses_bytes, name_bytes, places_bytes, unit_bytes};
+
+use crate::tree_writer::append_tree;
+use cil_model::{CalleeInfo, Clause, ClauseKind, Place, Unit};
+use std::alloc::{AllocError, Global};
+
+/// Appends a name behind its length.
+fn append_name(out: &mut Vec<u8>, name: &[u8]) -> Result<(), AllocError>
+    requires short { length name.now < 2 ^ 16 }
+    ensures { OnOk result (out.new.items ≡ out.old.items ++ name_bytes name.now) }
+{
+    out.extend_from_slice(&(name.len() as u16).to_le_bytes())?;
+    out.extend_from_slice(name)?;
+    Ok(())
+}
+
+/// Appends places behind their count.
+fn append_places(out: &mut Vec<u8>, places: &[Place]) -> Result<(), AllocError>
+    requires few { length places.now < 2 ^ 8 }
+    ensures { OnOk result (out.new.items ≡ out.old.items ++ places_bytes places.now) }
+{
+    out.push(places.len() as u8)?;
+    for place in places {
+        out.push(place.number())?;
+    }
+    Ok(())
+}
+
+/// Appends a clause: the number of its kind, and its tree.
+fn append_clause(out: &mut Vec<u8>, clause: &Clause) -> Result<(), AllocError>
+    requires args { HasByteArgs clause.now }
+    ensures { OnOk result (out.new.items ≡ out.old.items ++ clause_bytes clause.now) }
+{
+    let number = match clause.kind {
+        ClauseKind::Requires => 1,
+        ClauseKind::Ensures => 2,
+    };
+    out.push(number)?;
+    append_tree(out, &clause.tree)
+}
+
+/// Appends clauses behind their count.
+fn append_clauses(out: &mut Vec<u8>, clauses: &[Clause]) -> Result<(), AllocError>
+    requires few { length clauses.now < 2 ^ 8 }
+    requires args { AllByRecursion HasByteArgs clauses.now }
+    ensures { OnOk result (out.new.items ≡ out.old.items ++ clauses_bytes clauses.now) }
+{
+    out.push(clauses.len() as u8)?;
+    for clause in clauses {
+        append_clause(out, clause)?;
+    }
+    Ok(())
+}
+
+/// Appends what is said of a callee.
+#[tactic(auto, using(crate::proofs::UnitWritten::callee_args))]
+fn append_callee(out: &mut Vec<u8>, callee: &CalleeInfo) -> Result<(), AllocError>
+    requires callee { IsCallee callee.now }
+    ensures { OnOk result (out.new.items ≡ out.old.items ++ callee_bytes callee.now) }
+{
+    append_name(out, callee.name.as_slice())?;
+    out.push(callee.result.number())?;
+    append_places(out, callee.args.as_slice())?;
+    append_clauses(out, callee.clauses.as_slice())
+}
+
+/// Appends what is said of callees.
+fn append_callees(out: &mut Vec<u8>, callees: &[CalleeInfo]) -> Result<(), AllocError>
+    requires callees { AllByRecursion IsCallee callees.now }
+    ensures { OnOk result (out.new.items ≡ out.old.items ++ flat_map callee_bytes callees.now) }
+{
+    for callee in callees {
+        append_callee(out, callee)?;
+    }
+    Ok(())
+}
+
+/// The file of a unit.
+#[tactic(auto, unfolding(crate::specs::Spelling::unit_bytes))]
+pub fn unit_bytes(alloc: Global, unit: &Unit) -> Result<Vec<u8>, AllocError>
+    requires fields { HasFields unit.now }
+    ensures { IfOk result (λ bytes. bytes.items ≡ unit_bytes unit.now) }
+{
+    let mut out = Vec::new(alloc);
+    out.extend_from_slice(b"CCU1")?;
+    append_name(&mut out, unit.name.as_slice())?;
+    out.push(unit.result.number())?;
+    append_places(&mut out, unit.args.as_slice())?;
+    append_places(&mut out, unit.locals.as_slice())?;
+    out.push(unit.max_stack)?;
+    let callees = unit.callees.as_slice();
+    out.extend_from_slice(&(callees.len() as u16).to_le_bytes())?;
+    append_callees(&mut out, callees)?;
+    let code = unit.code.as_slice();
+    out.extend_from_slice(&(code.len() as u32).to_le_bytes())?;
+    out.extend_from_slice(code)?;
+    Ok(out)
+}
