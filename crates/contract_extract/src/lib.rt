@@ -1,6 +1,14 @@
 //! The clauses of a method's contract, read from the code of its contract block.
 #![tactic(auto)]
 
+mod arrivals;
+mod behind;
 mod clause_fault;
+mod first_fault;
+mod gather;
+mod heights;
+mod made_values;
+mod pure_code;
+mod value_kinds;
 
 pub use clause_fault::{ClauseFault, ClauseRefusal};

@@ -1,0 +1,36 @@
+-- How the code of a clause lies in that of its method.
+use Rattle.std.specs.Prelude.{◌≡◌, ℕ, ◌+◌, ◌-◌, ◌^◌, ◌<◌, ◌≤◌, false, true, List, [], ◌∷◌, length, take, drop, Option, Some, slice_get}
+use Rattle.std.specs.List.{AllByRecursion}
+use Rattle.std.specs.Option.{option_map_or}
+use Rattle.cil_model.specs.Blocks.{closes}
+use Rattle.cil_model.specs.declared.instruction.Instr.{Instr}
+use Rattle.cil_model.specs.declared.shape.Shape.{Shape}
+use Rattle.contract_extract.specs.Faults.{code_faults}
+use Rattle.contract_extract.specs.declared.clause_fault.ClauseFault.{ClauseFault}
+
+-- From an IL offset on, each instruction begins where the one before it ends, has bytes, and ends in code that is short
+-- enough for its offsets to be numbers of 32 bits.
+abbrev pub LieFrom : ℕ → List Instr → Type 0
+LieFrom at [] = Unit {0}
+LieFrom at (i ∷ is) = (i.at ≡ at) × (0 < i.size) × (at + i.size < 2 ^ 32) × LieFrom (at + i.size) is
+
+-- The instructions lie one behind another, from the start of the code on.
+pub record LieInOrder (is : List Instr) : Type 0 where
+  pub lie : LieFrom 0 is
+
+-- The instructions from one index up to another.
+abbrev pub code_between : List Instr → ℕ → ℕ → List Instr
+code_between is first last = take (last + 1 - first) (drop first is)
+
+-- The instructions from one index up to another are those of a clause: the last of them closes it, and no other one does.
+pub record IsClauseCode (is : List Instr) (first last : ℕ) : Type 0 where
+  pub lie : LieInOrder is
+  pub some : first ≤ last
+  pub within : last < length is
+  pub unclosed : AllByRecursion (λ i. closes i.op ≡ false) (take (last - first) (drop first is))
+  pub closed : option_map_or (λ i. closes i.op) (slice_get is last) false ≡ true
+
+-- All that is wrong with the code of a clause between two indexes, but for its size.
+abbrev pub clause_faults : List Instr → Shape → ℕ → ℕ → List ClauseFault
+clause_faults is shape first last =
+    option_map_or (λ closing. option_map_or (λ i. code_faults is shape i.at closing (code_between is first last)) (slice_get is first) []) (slice_get is last) []
