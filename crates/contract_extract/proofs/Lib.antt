@@ -5,3 +5,4 @@ pub mod Standing
 pub mod Lying
 pub mod HeightLemmas
 pub mod Gathering
+pub mod Moves

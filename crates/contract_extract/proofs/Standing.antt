@@ -46,7 +46,7 @@ all_grounded_higher stacks m n arrivals le all = all-weaker (IsGrounded stacks m
 
 -- ---- the faults of the stacks
 
-abbrev Judge : Type 0
+abbrev pub Judge : Type 0
 Judge = List Told → Option ClauseFault
 
 module _ (stacks : Stacks) where

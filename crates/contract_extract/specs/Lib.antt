@@ -7,3 +7,4 @@ pub mod SharedStacks
 pub mod JoinedStacks
 pub mod ClauseLies
 pub mod GatheredStacks
+pub mod PassedInstr
