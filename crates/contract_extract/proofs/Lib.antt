@@ -6,3 +6,4 @@ pub mod Lying
 pub mod HeightLemmas
 pub mod Gathering
 pub mod Moves
+pub mod Arriving

@@ -63,3 +63,8 @@ arrived_fault is shape i stacks tops =
     if closes i.op then first_fault (fault_if (list_any (λ top. differs (operand_count shape i.op) stacks top) tops) (StackLeft i.at))
     else if not (is_pure is i) then None
     else either (first_fault (fault_if (list_any (λ top. lacks (operand_count shape i.op) stacks top) tops) (StackLeft i.at))) (old_op_fault i.at i.op tops)
+
+-- What comes behind an instruction: nothing where ways end.
+abbrev pub passed_arrivals : List Instr → Shape → Instr → Stacks → ℕ → List Arrival → List Arrival
+passed_arrivals is shape i stacks index tops =
+    if closes i.op then [] else if not (is_pure is i) then [] else behind_arrivals shape.args i i.op stacks index tops
