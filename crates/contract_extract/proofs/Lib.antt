@@ -7,3 +7,4 @@ pub mod HeightLemmas
 pub mod Gathering
 pub mod Moves
 pub mod Arriving
+pub mod Pending

@@ -1,6 +1,7 @@
 -- What one instruction of a clause's code does to the arrivals.
-use Rattle.std.specs.Prelude.{ℕ, Bool, not, List, [], ◌∷◌, flat_map, Option, Some, None, if◌then◌else◌}
+use Rattle.std.specs.Prelude.{◌≡◌, ℕ, suc, ◌+◌, ◌≤◌, ◌==◌, nat_lt, Bool, false, not, ◌&&◌, List, [], ◌∷◌, ◌++◌, length, flat_map, Option, Some, None, if◌then◌else◌, slice_get}
 use Rattle.std.specs.List.{list_any}
+use Rattle.std.specs.Option.{option_map_or}
 use Rattle.cil_model.specs.Blocks.{closes}
 use Rattle.cil_model.specs.Kinds.{operand_count}
 use Rattle.cil_model.specs.UnitCalls.{unit_call}
@@ -12,9 +13,12 @@ use Rattle.cil_model.specs.declared.place.Place.{Place}
 use Rattle.cil_model.specs.declared.shape.Shape.{Shape}
 use Rattle.cil_model.specs.declared.unit_numbers.UnitCall.{UnitCall}
 use Rattle.cil_model.specs.declared.unit_numbers.UnitCall.TheVariants as calls
-use Rattle.contract_extract.specs.Faults.{fault_if, first_fault}
+use Rattle.contract_extract.specs.Faults.{fault_if, faults_of, first_fault}
+use Rattle.contract_extract.specs.GatheredStacks.{StandForSame}
+use Rattle.contract_extract.specs.JoinedStacks.{IsJoining}
 use Rattle.contract_extract.specs.PureCode.{is_pure}
-use Rattle.contract_extract.specs.SharedStacks.{Stacks, differs, either, lacks, least, made_seen, old_fault, rest_of, with_one, with_two}
+use Rattle.contract_extract.specs.SharedStacks.{AreGrounded, AreOrdered, Stacks, arrivals_at, differs, either, lacks, least, least_over, made_seen, old_fault, rest_of, with_one, with_two}
+use Rattle.contract_extract.specs.Ways.{Told, ways_behind}
 use Rattle.contract_extract.specs.declared.arrivals.Arrival.{Arrival}
 use Rattle.contract_extract.specs.declared.arrivals.Arrival.TheVariants.{Over}
 use Rattle.contract_extract.specs.declared.clause_fault.ClauseFault.{ClauseFault}
@@ -68,3 +72,40 @@ arrived_fault is shape i stacks tops =
 abbrev pub passed_arrivals : List Instr → Shape → Instr → Stacks → ℕ → List Arrival → List Arrival
 passed_arrivals is shape i stacks index tops =
     if closes i.op then [] else if not (is_pure is i) then [] else behind_arrivals shape.args i i.op stacks index tops
+
+-- What stands for the stacks behind an instruction, which may be gathered.
+pub record StandBehind (is : List Instr) (shape : Shape) (i : Instr) (stacks : Stacks) (index : ℕ) (out : List Arrival) : Type 0 where
+  pub same : (n : ℕ) → index ≤ suc n → AreOrdered stacks → (fault : List Told → Option ClauseFault) → IsJoining fault
+      → least_over (suc (suc n)) stacks fault out ≡ least_over (suc (suc n)) stacks fault (passed_arrivals is shape i stacks index (arrivals_at stacks index))
+  pub grounded : AreOrdered stacks → AreGrounded stacks (suc index) out
+
+-- ---- where they come
+
+-- A way that comes from the instruction of an index to an IL offset comes to the one of another index.
+abbrev pub is_sent_to : List Instr → ℕ → ℕ → ℕ → Bool
+is_sent_to code index later other = nat_lt index other && option_map_or (λ i. i.at == later) (slice_get code other) false
+
+-- Arrivals come to what stands at an IL offset, behind the instruction of an index.
+pub record AreSentTo (code : List Instr) (index later : ℕ) (out : List Arrival) (old new : Stacks) : Type 0 where
+  pub lengths : length new ≡ length old
+  pub come : (other : ℕ) → arrivals_at new other ≡ (if is_sent_to code index later other then arrivals_at old other ++ out else arrivals_at old other)
+
+-- Arrivals come to what stands at each of these IL offsets.
+abbrev pub AreSent : List Instr → ℕ → List ℕ → List Arrival → Stacks → Stacks → Type 0
+AreSent code index [] out old new = new ≡ old
+AreSent code index (later ∷ ways) out old new = (mid : Stacks) × AreSentTo code index later out old mid × AreSent code index ways out mid new
+
+-- The arrivals at an instruction are gathered.
+pub record AreGatheredAt (index : ℕ) (old new : Stacks) : Type 0 where
+  pub lengths : length new ≡ length old
+  pub others : (other : ℕ) → (other ≡ index → ⊥) → arrivals_at new other ≡ arrivals_at old other
+  pub here : StandForSame (arrivals_at old index) (arrivals_at new index)
+
+-- An instruction of a clause's code is passed, and what is wrong there is found.
+pub record IsPassed (is : List Instr) (shape : Shape) (start : ℕ) (closing : Instr) (code : List Instr) (index : ℕ) (i : Instr) (old new : Stacks) (found : Option ClauseFault) : Type 0 where
+  pub mid : Stacks
+  pub out : List Arrival
+  pub gathered : AreGatheredAt index old mid
+  pub behind : StandBehind is shape i mid index out
+  pub sent : AreSent code index (ways_behind i.op (i.at + i.size)) out mid new
+  pub faults : found ≡ either (first_fault (faults_of is shape start closing i)) (arrived_fault is shape i mid (arrivals_at mid index))
