@@ -8,3 +8,4 @@ pub mod Gathering
 pub mod Moves
 pub mod Arriving
 pub mod Pending
+pub mod Passing
