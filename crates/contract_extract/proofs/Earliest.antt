@@ -136,3 +136,5 @@ module _ {X : Type 0} where
 pub least-flat_map : {X Y : Type 0} (f : Y → Option ClauseFault) (g : X → List Y) (xs : List X) → least f (flat_map g xs) ≡ least (λ x. least f (g x)) xs
 least-flat_map f g [] = refl
 least-flat_map f g (x ∷ xs) = least-append f (g x) (flat_map g xs) ∙ ap (either (least f (g x))) (least-flat_map f g xs)
+
+pub ruleset appended_faults = (first_fault-append)

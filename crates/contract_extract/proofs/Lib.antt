@@ -9,3 +9,5 @@ pub mod Moves
 pub mod Arriving
 pub mod Pending
 pub mod Passing
+pub mod Finding
+pub mod BehindLemmas

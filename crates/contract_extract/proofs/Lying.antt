@@ -4,8 +4,8 @@ use Rattle.std.proofs.lemmas.Bool.{ne_eqb, eq-eqb}
 use Rattle.std.proofs.lemmas.Option.{none-some, same_Some}
 use Rattle.cil_model.specs.Runs.{instr_at}
 use Rattle.cil_model.specs.declared.instruction.Instr.{Instr}
-use Rattle.contract_extract.specs.ClauseLies.{LieFrom, LieInOrder}
-use Rattle.contract_extract.proofs.Walks.{RiseFrom, rise_higher}
+use Rattle.contract_extract.specs.ClauseLies.{LieFrom, LieInOrder, RiseFrom}
+use Rattle.contract_extract.proofs.Walks.{rise_higher}
 
 not_below : (start : ℕ) (is : List Instr) (k : ℕ) (i : Instr) → LieFrom start is → slice_get is k ≡ Some i → start ≤ i.at
 not_below start [] k i lie there = absurd (none-some i there)

@@ -6,6 +6,7 @@ use Rattle.std.proofs.lemmas.Bool.{and_cases, eq-eqb, ne_eqb, ltb-false, leb-fal
 use Rattle.cil_model.specs.declared.instruction.Instr.{Instr}
 use Rattle.cil_model.specs.declared.shape.Shape.{Shape}
 use Rattle.contract_extract.specs.ClauseCodes.{goes_forward}
+use Rattle.contract_extract.specs.ClauseLies.{RiseFrom}
 use Rattle.contract_extract.specs.Faults.{faults_of, first_fault}
 use Rattle.contract_extract.specs.PassedInstr.{IsPassed, arrived_fault, passed_arrivals}
 use Rattle.contract_extract.specs.SharedStacks.{AreGrounded, Stacks, arrivals_at, either, least, least_over}
@@ -15,7 +16,7 @@ use Rattle.contract_extract.proofs.Arriving.{arrived_judged}
 use Rattle.contract_extract.proofs.Earliest.{either-assoc, either-both, either-comm, either-turn, least-same}
 use Rattle.contract_extract.proofs.Pending.{LiesAt, StandWell, all_sent_length, all_sent_pending, all_sent_well, faults_on, gathered_pending, gathered_well, on_way, pending}
 use Rattle.contract_extract.proofs.Standing.{all_grounded_higher, least_over-same}
-use Rattle.contract_extract.proofs.Walks.{RiseFrom, ahead, ahead_joins, no_walk_below, walk}
+use Rattle.contract_extract.proofs.Walks.{ahead, ahead_joins, no_walk_below, walk}
 
 -- Above the offsets there is nothing.
 abbrev pub EndBy : ℕ → List Instr → Type 0

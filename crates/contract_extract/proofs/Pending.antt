@@ -8,6 +8,7 @@ use Rattle.cil_model.proofs.Lists.{all_append}
 use Rattle.cil_model.specs.declared.instruction.Instr.{Instr}
 use Rattle.cil_model.specs.declared.shape.Shape.{Shape}
 use Rattle.contract_extract.specs.ClauseCodes.{goes_forward}
+use Rattle.contract_extract.specs.ClauseLies.{RiseFrom}
 use Rattle.contract_extract.specs.Faults.{faults_of, first_fault}
 use Rattle.contract_extract.specs.GatheredStacks.{StandForSame}
 use Rattle.contract_extract.specs.PassedInstr.{AreGatheredAt, AreSent, AreSentTo, IsPassed, StandBehind, arrived_fault, is_sent_to, passed_arrivals}
@@ -20,7 +21,7 @@ use Rattle.contract_extract.specs.declared.clause_fault.ClauseFault.{ClauseFault
 use Rattle.contract_extract.proofs.Arriving.{arrived_judged}
 use Rattle.contract_extract.proofs.Earliest.{either-assoc, either-both, either-comm, either-front, either-none, either-turn, least-append, least-same}
 use Rattle.contract_extract.proofs.Standing.{Judge, all-weaker, all_grounded_higher, all_grounded_kept, least_over-kept, least_over-none, least_over-same}
-use Rattle.contract_extract.proofs.Walks.{RiseFrom, ahead, ahead_joins, no_walk_below, walk, walk_joins}
+use Rattle.contract_extract.proofs.Walks.{ahead, ahead_joins, no_walk_below, walk, walk_joins}
 
 -- ---- stacks that stand well
 

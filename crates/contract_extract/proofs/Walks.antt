@@ -11,6 +11,7 @@ use Rattle.cil_model.specs.Runs.{instr_at}
 use Rattle.cil_model.specs.declared.instruction.Instr.{Instr}
 use Rattle.cil_model.specs.declared.shape.Shape.{Shape}
 use Rattle.contract_extract.specs.ClauseCodes.{goes_forward}
+use Rattle.contract_extract.specs.ClauseLies.{RiseFrom}
 use Rattle.contract_extract.specs.Faults.{first_fault}
 use Rattle.contract_extract.specs.JoinedStacks.{IsJoining}
 use Rattle.contract_extract.specs.PureCode.{is_pure}
@@ -30,11 +31,6 @@ module _ (is : List Instr) (shape : Shape) (closing : Instr) where
   -- The same behind an instruction, where a way may go on so.
   abbrev pub ahead : ℕ → List Instr → ℕ → List Told → List ClauseFault
   ahead at rest later stack = cond (goes_forward at later closing) (walk rest later stack) []
-
--- The offsets rise, from this one on.
-abbrev pub RiseFrom : ℕ → List Instr → Type 0
-RiseFrom low [] = Unit {0}
-RiseFrom low (i ∷ rest) = (low ≤ i.at) × RiseFrom (suc i.at) rest
 
 pub rise_higher : (low high : ℕ) (rest : List Instr) → low ≤ high → RiseFrom high rest → RiseFrom low rest
 rise_higher low high [] le rise = tt

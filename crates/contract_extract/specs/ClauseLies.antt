@@ -1,5 +1,5 @@
 -- How the code of a clause lies in that of its method.
-use Rattle.std.specs.Prelude.{◌≡◌, ℕ, ◌+◌, ◌-◌, ◌^◌, ◌<◌, ◌≤◌, false, true, List, [], ◌∷◌, length, take, drop, Option, Some, slice_get}
+use Rattle.std.specs.Prelude.{◌≡◌, ℕ, suc, ◌+◌, ◌-◌, ◌^◌, ◌<◌, ◌≤◌, false, true, List, [], ◌∷◌, length, take, drop, Option, Some, slice_get}
 use Rattle.std.specs.List.{AllByRecursion}
 use Rattle.std.specs.Option.{option_map_or}
 use Rattle.cil_model.specs.Blocks.{closes}
@@ -17,6 +17,17 @@ LieFrom at (i ∷ is) = (i.at ≡ at) × (0 < i.size) × (at + i.size < 2 ^ 32) 
 -- The instructions lie one behind another, from the start of the code on.
 pub record LieInOrder (is : List Instr) : Type 0 where
   pub lie : LieFrom 0 is
+
+-- The offsets rise, from this one on.
+abbrev pub RiseFrom : ℕ → List Instr → Type 0
+RiseFrom low [] = Unit {0}
+RiseFrom low (i ∷ rest) = (low ≤ i.at) × RiseFrom (suc i.at) rest
+
+-- The code lies among the instructions, from an index on.
+pub record LiesFrom (is : List Instr) (first : ℕ) (code : List Instr) : Type 0 where
+  pub lie : LieInOrder is
+  pub rise : RiseFrom 0 code
+  pub there : (k : ℕ) → k < length code → slice_get is (first + k) ≡ slice_get code k
 
 -- The instructions from one index up to another.
 abbrev pub code_between : List Instr → ℕ → ℕ → List Instr

@@ -1,5 +1,5 @@
 -- What one instruction of a clause's code does to the arrivals.
-use Rattle.std.specs.Prelude.{◌≡◌, ℕ, suc, ◌+◌, ◌≤◌, ◌==◌, nat_lt, Bool, false, not, ◌&&◌, List, [], ◌∷◌, ◌++◌, length, flat_map, Option, Some, None, if◌then◌else◌, slice_get}
+use Rattle.std.specs.Prelude.{◌≡◌, ℕ, suc, ◌+◌, ◌≤◌, ◌==◌, nat_lt, Bool, true, false, not, ◌&&◌, List, [], ◌∷◌, ◌++◌, length, flat_map, Option, Some, None, if◌then◌else◌, slice_get}
 use Rattle.std.specs.List.{list_any}
 use Rattle.std.specs.Option.{option_map_or}
 use Rattle.cil_model.specs.Blocks.{closes}
@@ -35,20 +35,29 @@ abbrev pub behind_call : List Place → Instr → Option UnitCall → ℕ → Li
 behind_call args i (Some (calls.OldValue place)) index tops = flat_map (with_one args i) tops
 behind_call args i _ index tops = pushed args i index tops
 
--- What comes behind an operation that a clause may have, of what comes to it.
+-- What comes behind an operation that is no comparing branch, of what comes to it.
+abbrev pub other_arrivals : List Place → Instr → Op → Stacks → ℕ → List Arrival → List Arrival
+other_arrivals args i ops.Nop stacks index tops = tops
+other_arrivals args i (ops.Branch tests.Always target) stacks index tops = tops
+other_arrivals args i (ops.Branch test target) stacks index tops = flat_map (rest_of stacks) tops
+other_arrivals args i (ops.Bin operator) stacks index tops = flat_map (with_two args i stacks) tops
+other_arrivals args i (ops.LoadElem place) stacks index tops = flat_map (with_two args i stacks) tops
+other_arrivals args i ops.Neg stacks index tops = flat_map (with_one args i) tops
+other_arrivals args i ops.Not stacks index tops = flat_map (with_one args i) tops
+other_arrivals args i ops.ConvI4 stacks index tops = flat_map (with_one args i) tops
+other_arrivals args i ops.Length stacks index tops = flat_map (with_one args i) tops
+other_arrivals args i (ops.Call number) stacks index tops = behind_call args i (unit_call number) index tops
+other_arrivals args i _ stacks index tops = pushed args i index tops
+
+-- The operation is a comparing branch.
+abbrev pub is_comparing : Op → Bool
+is_comparing (ops.Branch (tests.Cmp op) target) = true
+is_comparing _ = false
+
+-- What comes behind an operation that a clause may have.
 abbrev pub behind_arrivals : List Place → Instr → Op → Stacks → ℕ → List Arrival → List Arrival
-behind_arrivals args i ops.Nop stacks index tops = tops
-behind_arrivals args i (ops.Branch tests.Always target) stacks index tops = tops
-behind_arrivals args i (ops.Branch (tests.Cmp op) target) stacks index tops = flat_map (rest_of stacks) (flat_map (with_two args i stacks) tops)
-behind_arrivals args i (ops.Branch test target) stacks index tops = flat_map (rest_of stacks) tops
-behind_arrivals args i (ops.Bin operator) stacks index tops = flat_map (with_two args i stacks) tops
-behind_arrivals args i (ops.LoadElem place) stacks index tops = flat_map (with_two args i stacks) tops
-behind_arrivals args i ops.Neg stacks index tops = flat_map (with_one args i) tops
-behind_arrivals args i ops.Not stacks index tops = flat_map (with_one args i) tops
-behind_arrivals args i ops.ConvI4 stacks index tops = flat_map (with_one args i) tops
-behind_arrivals args i ops.Length stacks index tops = flat_map (with_one args i) tops
-behind_arrivals args i (ops.Call number) stacks index tops = behind_call args i (unit_call number) index tops
-behind_arrivals args i _ stacks index tops = pushed args i index tops
+behind_arrivals args i op stacks index tops =
+    if is_comparing op then flat_map (rest_of stacks) (flat_map (with_two args i stacks) tops) else other_arrivals args i op stacks index tops
 
 -- ---- what is wrong there
 
@@ -61,23 +70,43 @@ abbrev pub old_op_fault : ℕ → Op → List Arrival → Option ClauseFault
 old_op_fault at (ops.Call number) tops = old_call_fault at (unit_call number) tops
 old_op_fault at _ tops = None
 
+-- The first fault at a closing call: it wants exactly its own arguments.
+abbrev pub closing_fault : Shape → Instr → Stacks → List Arrival → Option ClauseFault
+closing_fault shape i stacks tops = first_fault (fault_if (list_any (λ top. differs (operand_count shape i.op) stacks top) tops) (StackLeft i.at))
+
+-- The first fault at an instruction that lacks an operand.
+abbrev pub lacking_fault : Shape → Instr → Stacks → List Arrival → Option ClauseFault
+lacking_fault shape i stacks tops = first_fault (fault_if (list_any (λ top. lacks (operand_count shape i.op) stacks top) tops) (StackLeft i.at))
+
+-- The first fault at another instruction that a clause may have.
+abbrev pub taking_fault : Shape → Instr → Stacks → List Arrival → Option ClauseFault
+taking_fault shape i stacks tops = either (lacking_fault shape i stacks tops) (old_op_fault i.at i.op tops)
+
 -- The first fault on the ways at an instruction.
 abbrev pub arrived_fault : List Instr → Shape → Instr → Stacks → List Arrival → Option ClauseFault
 arrived_fault is shape i stacks tops =
-    if closes i.op then first_fault (fault_if (list_any (λ top. differs (operand_count shape i.op) stacks top) tops) (StackLeft i.at))
-    else if not (is_pure is i) then None
-    else either (first_fault (fault_if (list_any (λ top. lacks (operand_count shape i.op) stacks top) tops) (StackLeft i.at))) (old_op_fault i.at i.op tops)
+    if closes i.op then closing_fault shape i stacks tops else if not (is_pure is i) then None else taking_fault shape i stacks tops
 
 -- What comes behind an instruction: nothing where ways end.
 abbrev pub passed_arrivals : List Instr → Shape → Instr → Stacks → ℕ → List Arrival → List Arrival
 passed_arrivals is shape i stacks index tops =
     if closes i.op then [] else if not (is_pure is i) then [] else behind_arrivals shape.args i i.op stacks index tops
 
--- What stands for the stacks behind an instruction, which may be gathered.
-pub record StandBehind (is : List Instr) (shape : Shape) (i : Instr) (stacks : Stacks) (index : ℕ) (out : List Arrival) : Type 0 where
+-- What lies below two operands, of which equal pairs are gathered.
+pub record IsRestOfGathered (args : List Place) (i : Instr) (stacks : Stacks) (tops out : List Arrival) : Type 0 where
+  pub pairs : List Arrival
+  pub gathered : StandForSame (flat_map (with_two args i stacks) tops) pairs
+  pub rest : out ≡ flat_map (rest_of stacks) pairs
+
+-- What stands for the same stacks as what is expected behind the instruction of an index.
+pub record StandFor (stacks : Stacks) (index : ℕ) (expected out : List Arrival) : Type 0 where
   pub same : (n : ℕ) → index ≤ suc n → AreOrdered stacks → (fault : List Told → Option ClauseFault) → IsJoining fault
-      → least_over (suc (suc n)) stacks fault out ≡ least_over (suc (suc n)) stacks fault (passed_arrivals is shape i stacks index (arrivals_at stacks index))
+      → least_over (suc (suc n)) stacks fault out ≡ least_over (suc (suc n)) stacks fault expected
   pub grounded : AreOrdered stacks → AreGrounded stacks (suc index) out
+
+-- What stands for the stacks behind an instruction, which may be gathered.
+abbrev pub StandBehind : List Instr → Shape → Instr → Stacks → ℕ → List Arrival → Type 0
+StandBehind is shape i stacks index out = StandFor stacks index (passed_arrivals is shape i stacks index (arrivals_at stacks index)) out
 
 -- ---- where they come
 

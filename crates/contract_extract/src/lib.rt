@@ -8,6 +8,9 @@ mod first_fault;
 mod gather;
 mod heights;
 mod made_values;
+mod one_pass;
+mod operand_counts;
+mod own_faults;
 mod pure_code;
 mod value_kinds;
 
