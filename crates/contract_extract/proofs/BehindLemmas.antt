@@ -1,5 +1,5 @@
 -- What is made behind an instruction stands for the stacks there.
-use Rattle.std.proofs.Common.{◌≡◌, ℕ, zero, suc, ◌+◌, ◌<◌, ◌≤◌, Bool, true, false, List, [], ◌∷◌, ◌++◌, length, Option, Some, None, refl, sym, ap, subst, cond, ◌∙◌, arith}
+use Rattle.std.proofs.Common.{◌≡◌, ℕ, zero, suc, ◌+◌, ◌<◌, ◌≤◌, Bool, true, false, not, ◌&&◌, List, [], ◌∷◌, ◌++◌, length, Option, Some, None, refl, sym, ap, subst, cond, ◌∙◌, arith}
 use Rattle.std.specs.List.{flat_map}
 use Rattle.cil_model.specs.UnitCalls.{unit_call}
 use Rattle.cil_model.specs.declared.instruction.Instr.{Instr}
@@ -11,7 +11,9 @@ use Rattle.cil_model.specs.declared.shape.Shape.{Shape}
 use Rattle.cil_model.specs.declared.unit_numbers.UnitCall.{UnitCall}
 use Rattle.cil_model.specs.declared.unit_numbers.UnitCall.TheVariants as calls
 use Rattle.contract_extract.specs.JoinedStacks.{IsJoining}
-use Rattle.contract_extract.specs.PassedInstr.{IsRestOfGathered, StandFor, behind_arrivals, behind_call, is_comparing, other_arrivals, pushed}
+use Rattle.contract_extract.specs.PassedInstr.{IsRestOfGathered, StandBehind, StandFor, behind_arrivals, behind_call, is_comparing, other_arrivals, passed_arrivals, pushed}
+use Rattle.contract_extract.specs.PureCode.{is_pure}
+use Rattle.cil_model.specs.Blocks.{closes}
 use Rattle.contract_extract.specs.SharedStacks.{AreGrounded, AreOrdered, Stacks, arrivals_at, least_over, rest_of, with_two}
 use Rattle.contract_extract.specs.declared.arrivals.Arrival.{Arrival}
 use Rattle.contract_extract.proofs.Moves.{below_joins, below_top, one_grounded, rest_grounded, rests_judged, two_grounded}
@@ -94,3 +96,16 @@ module _ (shape : Shape) (i : Instr) (stacks : Stacks) (index : ℕ) (args : Lis
 
 pub nothing_stands_for : (stacks : Stacks) (index : ℕ) → StandFor stacks index [] []
 nothing_stands_for stacks index = record { same = λ n low ordered fault joins. refl; grounded = λ ordered. tt }
+
+passed_is : (closing pure : Bool) (behind : List Arrival) → cond (not closing && pure) behind [] ≡ cond closing [] (cond (not pure) [] behind)
+passed_is true pure behind = refl
+passed_is false true behind = refl
+passed_is false false behind = refl
+
+pub behind_read : (is : List Instr) (shape : Shape) (i : Instr) (stacks : Stacks) (index : ℕ) (goes : Bool) (out read : List Arrival) → goes ≡ (not (closes i.op) && is_pure is i) → read ≡ out
+    → StandFor stacks index (cond goes (behind_arrivals shape.args i i.op stacks index (arrivals_at stacks index)) []) out → StandBehind is shape i stacks index read
+behind_read is shape i stacks index goes out read goes_is are stand =
+    let behind = behind_arrivals shape.args i i.op stacks index (arrivals_at stacks index) in
+    let same : cond goes behind [] ≡ passed_arrivals is shape i stacks index (arrivals_at stacks index) = ap (λ (t : Bool). cond t behind []) goes_is ∙ passed_is (closes i.op) (is_pure is i) behind in
+    subst (λ (xs : List Arrival). StandFor stacks index (passed_arrivals is shape i stacks index (arrivals_at stacks index)) xs) (sym are)
+    (subst (λ (xs : List Arrival). StandFor stacks index xs out) same stand)

@@ -1,8 +1,8 @@
 -- How the code of a clause lies in that of its method.
-use Rattle.std.specs.Prelude.{◌≡◌, ℕ, suc, ◌+◌, ◌-◌, ◌^◌, ◌<◌, ◌≤◌, false, true, List, [], ◌∷◌, length, take, drop, Option, Some, slice_get}
+use Rattle.std.specs.Prelude.{◌≡◌, ℕ, suc, ◌+◌, ◌-◌, ◌^◌, ◌<◌, ◌≤◌, List, [], ◌∷◌, length, take, drop, Option, Some, option_map, slice_get}
 use Rattle.std.specs.List.{AllByRecursion}
 use Rattle.std.specs.Option.{option_map_or}
-use Rattle.cil_model.specs.Blocks.{closes}
+use Rattle.cil_model.specs.Runs.{instr_at}
 use Rattle.cil_model.specs.declared.instruction.Instr.{Instr}
 use Rattle.cil_model.specs.declared.shape.Shape.{Shape}
 use Rattle.contract_extract.specs.Faults.{code_faults}
@@ -33,13 +33,20 @@ pub record LiesFrom (is : List Instr) (first : ℕ) (code : List Instr) : Type 0
 abbrev pub code_between : List Instr → ℕ → ℕ → List Instr
 code_between is first last = take (last + 1 - first) (drop first is)
 
--- The instructions from one index up to another are those of a clause: the last of them closes it, and no other one does.
+-- The instructions from one index up to another are the code of a clause, up to its closing call.
 pub record IsClauseCode (is : List Instr) (first last : ℕ) : Type 0 where
   pub lie : LieInOrder is
   pub some : first ≤ last
   pub within : last < length is
-  pub unclosed : AllByRecursion (λ i. closes i.op ≡ false) (take (last - first) (drop first is))
-  pub closed : option_map_or (λ i. closes i.op) (slice_get is last) false ≡ true
+
+-- The code is all that lies from one IL offset up to the closing call, the first of it at an index.
+pub record IsClauseIn (is : List Instr) (first start : ℕ) (closing : Instr) (code : List Instr) : Type 0 where
+  pub lies : LiesFrom is first code
+  pub begins : option_map (λ i. i.at) (slice_get code 0) ≡ Some start
+  pub ends : AllByRecursion (λ i. i.at ≤ closing.at) code
+  pub within : start ≤ closing.at
+  pub has : (at : ℕ) → start ≤ at → at ≤ closing.at → instr_at is at ≡ instr_at code at
+  pub few : length code ≤ length is
 
 -- All that is wrong with the code of a clause between two indexes, but for its size.
 abbrev pub clause_faults : List Instr → Shape → ℕ → ℕ → List ClauseFault

@@ -1,21 +1,24 @@
 //! A clause's code, passed once from its start to its closing call.
 
-ghost use Rattle.std.specs.Prelude.{◌≡◌, ◌+◌, ◌^◌, ◌<◌, ◌==◌, ℕ, false, length, slice_get, IfOk, IfSome, OnOk, Some};
+ghost use Rattle.std.specs.Prelude.{◌≡◌, ◌+◌, ◌^◌, ◌<◌, ◌==◌, ℕ, ◌&&◌, not, false, length, slice_get, IfOk, IfSome, OnOk, Some};
 ghost use Rattle.std.specs.Option.{option_map_or};
-ghost use Rattle.contract_extract.specs.ClauseLies.{LieInOrder, RiseFrom};
-ghost use Rattle.contract_extract.specs.PassedInstr.{AreGatheredAt, AreSent, AreSentTo, arrived_fault, closing_fault, lacking_fault, old_call_fault, old_op_fault, taking_fault};
+ghost use Rattle.contract_extract.specs.ClauseLies.{LieInOrder, LiesFrom, RiseFrom};
+ghost use Rattle.contract_extract.specs.PassedInstr.{AreGatheredAt, AreSent, AreSentTo, IsPassed, arrived_fault, closing_fault, lacking_fault, old_call_fault, old_op_fault, taking_fault};
+ghost use Rattle.cil_model.specs.Blocks.{closes};
+ghost use Rattle.contract_extract.specs.PureCode.{is_pure};
 ghost use Rattle.contract_extract.specs.SharedStacks.{arrivals_at, least, old_fault};
 ghost use Rattle.contract_extract.specs.Ways.{old_faults, ways_behind};
 ghost use Rattle.contract_extract.specs.Faults.{first_fault};
 
 use crate::arrivals::{Arrival, Arrivals, arrivals_at};
+use crate::behind::behind;
 
 use crate::clause_fault::ClauseFault;
 use crate::first_fault::{either, fault_if};
 use crate::gather::gathered;
 use crate::heights::{any_differs, any_lacks};
 use crate::operand_counts::operand_count;
-use crate::own_faults::closes;
+use crate::own_faults::{closes, own_fault};
 use crate::pure_code::is_pure;
 use crate::value_kinds::misfits;
 use cil_model::{Instr, Op, Place, Shape, Test, UnitCall, unit_call};
@@ -189,4 +192,60 @@ fn arrived_fault(
         return None;
     }
     taking_fault(instr, shape, stacks, tops)
+}
+
+/// Whether ways go on behind the instruction of this index, where they have its operands.
+fn goes_on(instrs: &[Instr], index: usize, instr: &Instr) -> bool
+    requires lie { LieInOrder instrs.now }
+    requires there { slice_get instrs.now index ≡ Some instr.now }
+    ensures { result ≡ (not (closes instr.now.op) && is_pure instrs.now instr.now) }
+{
+    !closes(&instr.op) && is_pure(instrs, index, instr)
+}
+
+/// The code of a clause, among the instructions of its method.
+pub(crate) struct ClauseCode<'a> {
+    /// The instructions of the method.
+    pub instrs: &'a [Instr],
+    pub shape: &'a Shape,
+    /// The index of the first instruction of the code.
+    pub first: usize,
+    pub code: &'a [Instr],
+    /// The IL offset at which the code begins.
+    pub start: u32,
+    pub closing: &'a Instr,
+}
+
+/// Passes the instruction of this index in the code, and answers its first fault.
+fn pass_instr(
+    alloc: Global,
+    places: &mut [usize],
+    clause: &ClauseCode,
+    stacks: &mut [Arrivals],
+    index: usize,
+    instr: &Instr,
+) -> Result<Option<ClauseFault>, AllocError>
+    requires lies { LiesFrom clause.now.instrs.now clause.now.first clause.now.code.now }
+    requires same_length { length stacks.old ≡ length clause.now.code.now }
+    requires within { index < length clause.now.code.now }
+    requires there { slice_get clause.now.instrs.now (clause.now.first + index) ≡ Some instr.now }
+    ensures { IfOk result (IsPassed clause.now.instrs.now clause.now.shape.now clause.now.start clause.now.closing.now
+        clause.now.code.now index instr.now stacks.old stacks.new) }
+{
+    let at = clause.first + index;
+    gather_at(alloc, places, stacks, index)?;
+    let own = own_fault(
+        clause.instrs,
+        at,
+        instr,
+        clause.shape,
+        clause.start,
+        clause.closing,
+    );
+    let tops = arrivals_at(stacks, index);
+    let arrived = arrived_fault(clause.instrs, at, instr, clause.shape, stacks, tops);
+    let goes_on = goes_on(clause.instrs, at, instr);
+    let out = behind(alloc, places, clause.shape, instr, stacks, index, goes_on)?;
+    send_on(clause.code, stacks, index, instr, out.as_slice())?;
+    Ok(either(own, arrived))
 }
