@@ -11,3 +11,5 @@ pub mod Pending
 pub mod Passing
 pub mod Finding
 pub mod BehindLemmas
+pub mod Beginning
+pub mod Between

@@ -37,7 +37,7 @@ rise_higher low high [] le rise = tt
 rise_higher low high (i ∷ rest) le rise = let h = rise.0 in (omega arith, rise.1)
 
 -- Below the offsets there is nothing.
-none_below : (low at : ℕ) (rest : List Instr) → RiseFrom low rest → at < low → instr_at rest at ≡ None
+pub none_below : (low at : ℕ) (rest : List Instr) → RiseFrom low rest → at < low → instr_at rest at ≡ None
 none_below low at [] rise below = refl
 none_below low at (i ∷ rest) rise below =
     let test : (i.at == at) ≡ false = (let h = rise.0 in ne_eqb i.at at (λ e. omega arith)) in

@@ -3,6 +3,7 @@
 
 mod arrivals;
 mod behind;
+mod clause_code;
 mod clause_fault;
 mod first_fault;
 mod gather;

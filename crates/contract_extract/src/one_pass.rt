@@ -204,6 +204,7 @@ fn goes_on(instrs: &[Instr], index: usize, instr: &Instr) -> bool
 }
 
 /// The code of a clause, among the instructions of its method.
+#[derive(Clone, Copy)]
 pub(crate) struct ClauseCode<'a> {
     /// The instructions of the method.
     pub instrs: &'a [Instr],
@@ -217,7 +218,7 @@ pub(crate) struct ClauseCode<'a> {
 }
 
 /// Passes the instruction of this index in the code, and answers its first fault.
-fn pass_instr(
+pub(crate) fn pass_instr(
     alloc: Global,
     places: &mut [usize],
     clause: &ClauseCode,
