@@ -13,3 +13,4 @@ pub mod Finding
 pub mod BehindLemmas
 pub mod Beginning
 pub mod Between
+pub mod FaultRows
