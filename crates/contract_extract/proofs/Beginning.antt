@@ -89,8 +89,8 @@ begun n is shape first start closing code stacks clause are =
       lengths = ap length are ∙ length_first (length code) (some code clause.begins);
       well = subst (λ (s : Stacks). StandWell s 0) (sym are) (first_well (length code));
       sum = ap (either (least (own n is shape closing code start) code))
-      (ap (λ (s : Stacks). pending n is shape closing s 0 code) are ∙ first_pending n is shape closing (length code) start code clause.begins)
-      ∙ sym whole;
+          (ap (λ (s : Stacks). pending n is shape closing s 0 code) are ∙ first_pending n is shape closing (length code) start code clause.begins)
+          ∙ sym whole;
     }
   where
     some : (code : List Instr) → option_map (λ i. i.at) (slice_get code 0) ≡ Some start → 0 < length code

@@ -88,13 +88,13 @@ clause_in is first last i closing clause here there =
     record {
       lies = record { lie = clause.lie; rise = rise_take (last + 1 - first) 0 dropped (rise_drop first 0 is rise); there = part };
       begins = ap (option_map (λ (j : Instr). j.at))
-      (ap (λ (n : ℕ). slice_get (take n dropped) 0) m
-      ∙ first_taken p dropped i (sym (from_drop is first 0) ∙ (let none : first + 0 ≡ first = omega arith in ap (slice_get is) none) ∙ here));
+          (ap (λ (n : ℕ). slice_get (take n dropped) 0) m
+          ∙ first_taken p dropped i (sym (from_drop is first 0) ∙ (let none : first + 0 ≡ first = omega arith in ap (slice_get is) none) ∙ here));
       ends = all_by_index (λ j. j.at ≤ closing.at) code
-      (λ k x e. (let inside = slice_get_within code k x e in not_falling is (first + k) last x closing rise (omega arith) (part k inside ∙ e) there));
+          (λ k x e. (let inside = slice_get_within code k x e in not_falling is (first + k) last x closing rise (omega arith) (part k inside ∙ e) there));
       within = not_falling is first last i closing rise clause.some here there;
       has = λ at above below. (skipped 0 is first i at rise here above ∙ cut 0 dropped p closing at (rise_drop first 0 is rise) there_p below
-      ∙ ap (λ (n : ℕ). instr_at (take n dropped) at) (sym m));
+          ∙ ap (λ (n : ℕ). instr_at (take n dropped) at) (sym m));
       few = omega (arith, length-take (last + 1 - first) dropped, length-drop first is);
     }
 

@@ -115,7 +115,7 @@ made_joined shape i a b c j =
       left = ap (made_kind shape.args i.op) kinds.0;
       right = ap (made_kind shape.args i.op) kinds.1;
       calls = made_calls shape i c ∙ ap (either (own_fault i)) (calls_joined a b c j) ∙ both_sides (own_fault i) (least called_fault a) (least called_fault b)
-      ∙ sym (either-both (made_calls shape i a) (made_calls shape i b));
+          ∙ sym (either-both (made_calls shape i a) (made_calls shape i b));
     }
 
 pub behind_joined : (shape : Shape) (i : Instr) (op : Op) (a b c : List Told) → AreJoined a b c

@@ -106,6 +106,6 @@ module _ (n : ℕ) (is : List Instr) (shape : Shape) (closing : Instr) (code : L
         lengths = all_sent_length code index passed.out ways mid new passed.sent ∙ passed.gathered.lengths ∙ under_way.lengths;
         well = all_sent_well code index passed.out ways mid new passed.sent next_well out_grounded;
         sum = either-both (ap (either so_far) passed.faults) (ap (either (least own rest)) behind)
-        ∙ sym (ap (either so_far) (ap (either (either (own i) (least own rest))) before) ∙ regrouped so_far (own i) (least own rest) arrived on later)
-        ∙ under_way.sum;
+            ∙ sym (ap (either so_far) (ap (either (either (own i) (least own rest))) before) ∙ regrouped so_far (own i) (least own rest) arrived on later)
+            ∙ under_way.sum;
       }

@@ -174,6 +174,7 @@ called-lower (Some a) (Some b) =
   where
     lower_b : (nat_lt b a || (b == a && nat_lt 5 5)) ≡ true → min a b ≡ b
     lower_b e = grind (arith, nat_tests)
+
     lower_a : (nat_lt b a || (b == a && nat_lt 5 5)) ≡ false → min a b ≡ a
     lower_a e = grind (arith, nat_tests)
 
@@ -182,7 +183,7 @@ seen_joined kind x y = record {
   left = refl;
   right = refl;
   calls = called_seen (record { kind = kind; call = lower x y }) ∙ called-lower x y
-  ∙ sym (either-both (called_seen (record { kind = kind; call = x })) (called_seen (record { kind = kind; call = y })));
+      ∙ sym (either-both (called_seen (record { kind = kind; call = x })) (called_seen (record { kind = kind; call = y })));
 }
 
 called_lowest : (operands : List Seen) → called_of (lowest_call operands) ≡ least called_fault (map told_of operands)
@@ -209,9 +210,9 @@ made_seen_joined shape i operands =
       left = kinds;
       right = kinds;
       calls = called_seen (made_seen shape.args i operands)
-      ∙ called-lower (option_map_or (λ place. Some i.at) (asked_by i.op) None) (lowest_call operands)
-      ∙ either-both (own_called i) (called_lowest operands) ∙ sym (made_calls shape i (map told_of operands))
-      ∙ sym (either-same (called_fault (made shape i (map told_of operands))));
+          ∙ called-lower (option_map_or (λ place. Some i.at) (asked_by i.op) None) (lowest_call operands)
+          ∙ either-both (own_called i) (called_lowest operands) ∙ sym (made_calls shape i (map told_of operands))
+          ∙ sym (either-same (called_fault (made shape i (map told_of operands))));
     }
 
 pub made_same : (f : Judge) (shape : Shape) (i : Instr) (operands : List Seen) (stack : List Told) → IsJoining f

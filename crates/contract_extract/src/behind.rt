@@ -65,11 +65,7 @@ fn push_with_two(
 }
 
 /// Appends what lies below the tops.
-fn push_rests(
-    out: &mut Arrivals,
-    stacks: &[Arrivals],
-    tops: &[Arrival],
-) -> Result<(), AllocError>
+fn push_rests(out: &mut Arrivals, stacks: &[Arrivals], tops: &[Arrival]) -> Result<(), AllocError>
     ensures { OnOk result (out.new ≡ out.old ++ flat_map (rest_of stacks.now) tops.now) }
 {
     for top in tops {
@@ -110,11 +106,7 @@ fn behind_two(
 }
 
 /// What lies below the tops.
-fn rests(
-    alloc: Global,
-    stacks: &[Arrivals],
-    tops: &[Arrival],
-) -> Result<Arrivals, AllocError>
+fn rests(alloc: Global, stacks: &[Arrivals], tops: &[Arrival]) -> Result<Arrivals, AllocError>
     ensures { IfOk result (λ out. out ≡ flat_map (rest_of stacks.now) tops.now) }
 {
     let mut out = Arrivals::new(alloc);

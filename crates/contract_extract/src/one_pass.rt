@@ -12,7 +12,6 @@ ghost use Rattle.contract_extract.specs.Faults.{first_fault};
 
 use crate::arrivals::{Arrival, Arrivals, arrivals_at};
 use crate::behind::behind;
-
 use crate::clause_fault::ClauseFault;
 use crate::first_fault::{either, fault_if};
 use crate::gather::gathered;
@@ -141,7 +140,10 @@ fn lacking_fault(
     ensures { result ≡ lacking_fault shape.now instr.now stacks.now tops.now }
 {
     let count = operand_count(shape, &instr.op);
-    fault_if(any_lacks(stacks, count, tops), ClauseFault::StackLeft(instr.at))
+    fault_if(
+        any_lacks(stacks, count, tops),
+        ClauseFault::StackLeft(instr.at),
+    )
 }
 
 /// The first fault at an instruction that takes operands, to which these stacks come.
@@ -169,7 +171,10 @@ fn closing_fault(
     ensures { result ≡ closing_fault shape.now instr.now stacks.now tops.now }
 {
     let count = operand_count(shape, &instr.op);
-    fault_if(any_differs(stacks, count, tops), ClauseFault::StackLeft(instr.at))
+    fault_if(
+        any_differs(stacks, count, tops),
+        ClauseFault::StackLeft(instr.at),
+    )
 }
 
 /// The first fault on the ways at the instruction of this index, to which these stacks come.

@@ -11,6 +11,8 @@ returns-in-Some c =
     ∙ sym c.in_ok-fault.ensures ∙ c.in-Some.is
 
 pub returns-in-None : goal.returns-in-None
-returns-in-None c =
-    (read_faults c.args.instrs.now c.args.first c.args.last c.index-instrs-first.result c.index-instrs-last.result c.requires c.index-instrs-last.is c.args.shape.now
-    ∙ sym c.in_ok-fault.ensures ∙ c.in-None.is, tt)
+returns-in-None c = (
+  read_faults c.args.instrs.now c.args.first c.args.last c.index-instrs-first.result c.index-instrs-last.result c.requires c.index-instrs-last.is c.args.shape.now
+      ∙ sym c.in_ok-fault.ensures ∙ c.in-None.is,
+  tt,
+)

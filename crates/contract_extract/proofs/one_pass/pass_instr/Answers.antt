@@ -22,6 +22,6 @@ returns c =
       behind = behind_read is shape i mid c.args.index c.goes_on-goes_on.result c.in_ok-out.out c.as_slice.result.now c.goes_on-goes_on.ensures c.as_slice.ensures c.in_ok-out.ensures;
       sent = c.in_ok-send_on.ensures;
       faults = c.either.ensures
-      ∙ either-both c.own_fault-own.ensures
-      (c.arrived_fault-arrived.ensures ∙ ap (λ (tops : List Arrival). arrived_fault is shape i mid tops) c.arrivals_at-tops.ensures);
+          ∙ either-both c.own_fault-own.ensures
+          (c.arrived_fault-arrived.ensures ∙ ap (λ (tops : List Arrival). arrived_fault is shape i mid tops) c.arrivals_at-tops.ensures);
     }
