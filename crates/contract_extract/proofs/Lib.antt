@@ -1,0 +1,16 @@
+pub mod Earliest
+pub mod Joins
+pub mod Walks
+pub mod Standing
+pub mod Lying
+pub mod HeightLemmas
+pub mod Gathering
+pub mod Moves
+pub mod Arriving
+pub mod Pending
+pub mod Passing
+pub mod Finding
+pub mod BehindLemmas
+pub mod Beginning
+pub mod Between
+pub mod FaultRows

@@ -1,6 +1,18 @@
 //! The clauses of a method's contract, read from the code of its contract block.
 #![tactic(auto)]
 
+mod arrivals;
+mod behind;
+mod clause_code;
 mod clause_fault;
+mod first_fault;
+mod gather;
+mod heights;
+mod made_values;
+mod one_pass;
+mod operand_counts;
+mod own_faults;
+mod pure_code;
+mod value_kinds;
 
 pub use clause_fault::{ClauseFault, ClauseRefusal};

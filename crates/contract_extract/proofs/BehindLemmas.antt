@@ -1,0 +1,111 @@
+-- What is made behind an instruction stands for the stacks there.
+use Rattle.std.proofs.Common.{◌≡◌, ℕ, zero, suc, ◌+◌, ◌<◌, ◌≤◌, Bool, true, false, not, ◌&&◌, List, [], ◌∷◌, ◌++◌, length, Option, Some, None, refl, sym, ap, subst, cond, ◌∙◌, arith}
+use Rattle.std.specs.List.{flat_map}
+use Rattle.cil_model.specs.UnitCalls.{unit_call}
+use Rattle.cil_model.specs.declared.instruction.Instr.{Instr}
+use Rattle.cil_model.specs.declared.instruction.Op.{Op}
+use Rattle.cil_model.specs.declared.instruction.Op.TheVariants as ops
+use Rattle.cil_model.specs.declared.instruction.Test.TheVariants as tests
+use Rattle.cil_model.specs.declared.place.Place.{Place}
+use Rattle.cil_model.specs.declared.shape.Shape.{Shape}
+use Rattle.cil_model.specs.declared.unit_numbers.UnitCall.{UnitCall}
+use Rattle.cil_model.specs.declared.unit_numbers.UnitCall.TheVariants as calls
+use Rattle.contract_extract.specs.JoinedStacks.{IsJoining}
+use Rattle.contract_extract.specs.PassedInstr.{IsRestOfGathered, StandBehind, StandFor, behind_arrivals, behind_call, is_comparing, other_arrivals, passed_arrivals, pushed}
+use Rattle.contract_extract.specs.PureCode.{is_pure}
+use Rattle.cil_model.specs.Blocks.{closes}
+use Rattle.contract_extract.specs.SharedStacks.{AreGrounded, AreOrdered, Stacks, arrivals_at, least_over, rest_of, with_two}
+use Rattle.contract_extract.specs.declared.arrivals.Arrival.{Arrival}
+use Rattle.contract_extract.proofs.Moves.{below_joins, below_top, one_grounded, rest_grounded, rests_judged, two_grounded}
+use Rattle.contract_extract.proofs.Standing.{all_grounded_higher}
+
+module _ (shape : Shape) (i : Instr) (stacks : Stacks) (index : ℕ) where
+  abbrev tops : List Arrival
+  tops = arrivals_at stacks index
+
+  pushed_grounded : (list : List Arrival) → list ≡ arrivals_at stacks index → AreGrounded stacks (suc index) (pushed shape.args i index list)
+  pushed_grounded [] are = tt
+  pushed_grounded (top ∷ list) are = ((omega arith, some), tt)
+    where
+      some : 0 < length (arrivals_at stacks index)
+      some = subst (λ (xs : List Arrival). 0 < length xs) are (omega arith)
+
+  module _ (ordered : AreOrdered stacks) where
+    higher : AreGrounded stacks (suc index) tops
+    higher = all_grounded_higher stacks index (suc index) tops (omega arith) (ordered index)
+
+    call_grounded : (call : Option UnitCall) → AreGrounded stacks (suc index) (behind_call shape.args i call index tops)
+    call_grounded (Some (calls.OldValue place)) = one_grounded stacks ordered 0 shape i tops (suc index) higher
+    call_grounded _ = pushed_grounded tops refl
+
+    other_grounded : (op : Op) → AreGrounded stacks (suc index) (other_arrivals shape.args i op stacks index tops)
+    other_grounded ops.Nop = higher
+    other_grounded (ops.Branch tests.Always target) = higher
+    other_grounded (ops.Branch test target) = rest_grounded stacks ordered 0 shape i tops (suc index) higher
+    other_grounded (ops.Bin operator) = two_grounded stacks ordered 0 shape i tops (suc index) higher
+    other_grounded (ops.LoadElem place) = two_grounded stacks ordered 0 shape i tops (suc index) higher
+    other_grounded ops.Neg = one_grounded stacks ordered 0 shape i tops (suc index) higher
+    other_grounded ops.Not = one_grounded stacks ordered 0 shape i tops (suc index) higher
+    other_grounded ops.ConvI4 = one_grounded stacks ordered 0 shape i tops (suc index) higher
+    other_grounded ops.Length = one_grounded stacks ordered 0 shape i tops (suc index) higher
+    other_grounded (ops.Call number) = call_grounded (unit_call number)
+    other_grounded _ = pushed_grounded tops refl
+
+  pub other_stands : (out : List Arrival) → is_comparing i.op ≡ false → out ≡ other_arrivals shape.args i i.op stacks index tops
+      → StandFor stacks index (behind_arrivals shape.args i i.op stacks index tops) out
+  other_stands out comparing are =
+      let same : out ≡ behind_arrivals shape.args i i.op stacks index tops = are ∙ (rw comparing refl) in
+      record {
+        same = λ n low ordered fault joins. ap (least_over (suc (suc n)) stacks fault) same;
+        grounded = λ ordered. subst (AreGrounded stacks (suc index)) (sym are) (other_grounded ordered i.op);
+      }
+
+  pub compared_stands : (out : List Arrival) → is_comparing i.op ≡ true → IsRestOfGathered shape.args i stacks tops out
+      → StandFor stacks index (behind_arrivals shape.args i i.op stacks index tops) out
+  compared_stands out comparing made =
+      let expected : behind_arrivals shape.args i i.op stacks index tops ≡ flat_map (rest_of stacks) (flat_map (with_two shape.args i stacks) tops) = rw comparing refl in
+      let pairs = flat_map (with_two shape.args i stacks) tops in
+      record {
+        same = λ n low ordered fault joins.
+            (let all : AreGrounded stacks (suc n) pairs =
+            two_grounded stacks ordered 0 shape i tops (suc n) (all_grounded_higher stacks index (suc n) tops low (ordered index)) in
+            ap (least_over (suc (suc n)) stacks fault) made.rest
+            ∙ sym (rests_judged stacks ordered n fault made.pairs (made.gathered.grounded stacks (suc n) all))
+            ∙ made.gathered.same (suc (suc n)) stacks (below_top fault) (below_joins fault joins)
+            ∙ rests_judged stacks ordered n fault pairs all ∙ ap (least_over (suc (suc n)) stacks fault) (sym expected));
+        grounded = λ ordered.
+            (subst (AreGrounded stacks (suc index)) (sym made.rest)
+            (rest_grounded stacks ordered 0 shape i made.pairs (suc index)
+            (made.gathered.grounded stacks (suc index) (two_grounded stacks ordered 0 shape i tops (suc index) (higher ordered)))));
+      }
+
+-- As the code reads the arguments and the tops.
+module _ (shape : Shape) (i : Instr) (stacks : Stacks) (index : ℕ) (args : List Place) (read : List Arrival) (args_are : args ≡ shape.args) (are : read ≡ arrivals_at stacks index) where
+  pub other_read : (out : List Arrival) → is_comparing i.op ≡ false → out ≡ other_arrivals args i i.op stacks index read
+      → StandFor stacks index (behind_arrivals shape.args i i.op stacks index (arrivals_at stacks index)) out
+  other_read out comparing made =
+      other_stands shape i stacks index out comparing
+      (made ∙ ap (λ (places : List Place). other_arrivals places i i.op stacks index read) args_are ∙ ap (λ (xs : List Arrival). other_arrivals shape.args i i.op stacks index xs) are)
+
+  pub compared_read : (out : List Arrival) → is_comparing i.op ≡ true → IsRestOfGathered args i stacks read out
+      → StandFor stacks index (behind_arrivals shape.args i i.op stacks index (arrivals_at stacks index)) out
+  compared_read out comparing made =
+      compared_stands shape i stacks index out comparing
+      (subst (λ (places : List Place). IsRestOfGathered places i stacks (arrivals_at stacks index) out) args_are
+      (subst (λ (xs : List Arrival). IsRestOfGathered args i stacks xs out) are made))
+
+pub nothing_stands_for : (stacks : Stacks) (index : ℕ) → StandFor stacks index [] []
+nothing_stands_for stacks index = record { same = λ n low ordered fault joins. refl; grounded = λ ordered. tt }
+
+passed_is : (closing pure : Bool) (behind : List Arrival) → cond (not closing && pure) behind [] ≡ cond closing [] (cond (not pure) [] behind)
+passed_is true pure behind = refl
+passed_is false true behind = refl
+passed_is false false behind = refl
+
+pub behind_read : (is : List Instr) (shape : Shape) (i : Instr) (stacks : Stacks) (index : ℕ) (goes : Bool) (out read : List Arrival) → goes ≡ (not (closes i.op) && is_pure is i) → read ≡ out
+    → StandFor stacks index (cond goes (behind_arrivals shape.args i i.op stacks index (arrivals_at stacks index)) []) out → StandBehind is shape i stacks index read
+behind_read is shape i stacks index goes out read goes_is are stand =
+    let behind = behind_arrivals shape.args i i.op stacks index (arrivals_at stacks index) in
+    let same : cond goes behind [] ≡ passed_arrivals is shape i stacks index (arrivals_at stacks index) = ap (λ (t : Bool). cond t behind []) goes_is ∙ passed_is (closes i.op) (is_pure is i) behind in
+    subst (λ (xs : List Arrival). StandFor stacks index (passed_arrivals is shape i stacks index (arrivals_at stacks index)) xs) (sym are)
+    (subst (λ (xs : List Arrival). StandFor stacks index xs out) same stand)
