@@ -1,2 +1,4 @@
 pub mod Offsets
 pub mod Forward
+pub mod NoFaults
+pub mod HasTree
