@@ -2,3 +2,4 @@ pub mod Offsets
 pub mod Forward
 pub mod NoFaults
 pub mod HasTree
+pub mod TreeCounts

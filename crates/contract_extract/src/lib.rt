@@ -2,5 +2,6 @@
 #![tactic(auto)]
 
 mod clause_fault;
+mod trees;
 
 pub use clause_fault::{ClauseFault, ClauseRefusal};
