@@ -3,3 +3,4 @@ pub mod PureCode
 pub mod Ways
 pub mod TooLarge
 pub mod Faults
+pub mod TreeStacks

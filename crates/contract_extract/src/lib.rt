@@ -2,6 +2,7 @@
 #![tactic(auto)]
 
 mod clause_fault;
+mod tree_stack;
 mod trees;
 
 pub use clause_fault::{ClauseFault, ClauseRefusal};
