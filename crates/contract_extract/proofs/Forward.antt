@@ -8,20 +8,9 @@ use Rattle.cil_model.specs.Runs.{instr_at}
 use Rattle.cil_model.specs.Terms.{Term}
 use Rattle.cil_model.specs.declared.instruction.Instr.{Instr}
 use Rattle.flow_graph.specs.ShortCode.{AreOfShortCode}
-use Rattle.contract_extract.proofs.Offsets.{found_at, left, left_falls, left_most, left_some, none_left}
+use Rattle.contract_extract.specs.Growth.{forward, onward, tree_here}
+use Rattle.contract_extract.proofs.InstrOffsets.{found_at, left, left_falls, left_most, left_some, none_left}
 use mathlib.Core.Path.{fun_ext}
-
--- The tree from an IL offset on, with this stack.
-unfoldable pub forward : List Instr → ℕ → List Item → Option Term
-forward is at items = tree_from (length is) is at items
-
--- The same from a later offset, and none from another one.
-abbrev pub onward : (ℕ → List Item → Option Term) → ℕ → ℕ → List Item → Option Term
-onward from at later items = if nat_lt at later then from later items else None
-
--- The tree from an instruction on, where `from` gives it from later ones.
-abbrev pub tree_here : (ℕ → List Item → Option Term) → Instr → List Item → Option Term
-tree_here from i items = tree_at (onward from i.at) (closing i.op) i i.op items
 
 -- Two ways to go on that agree behind an offset make one tree there.
 agree : (from other : ℕ → List Item → Option Term) (at : ℕ) → ((later : ℕ) (items : List Item) → at < later → from later items ≡ other later items)

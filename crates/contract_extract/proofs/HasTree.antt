@@ -29,7 +29,7 @@ use Rattle.contract_extract.specs.PureCode.{calls_with_message, is_clause_call, 
 use Rattle.contract_extract.specs.Ways.{Told, closing_faults, faults_at, faults_from, faults_here, made, stack_behind, stack_by, way_faults, ways_behind}
 use Rattle.contract_extract.specs.declared.clause_fault.ClauseFault.{ClauseFault}
 use Rattle.contract_extract.specs.declared.clause_fault.ClauseFault.TheVariants.{NotPure, Backward, IntoBlock, StackLeft}
-use Rattle.contract_extract.proofs.Offsets.{Next, begin_found, found_at, left, left_falls, left_most, left_some, next_begins}
+use Rattle.contract_extract.proofs.InstrOffsets.{Next, begin_found, found_at, left, left_falls, left_most, left_some, next_begins}
 use Rattle.cil_model.proofs.Lists.{of_found}
 use Rattle.contract_extract.proofs.NoFaults.{no_fault_if, none_in_both}
 use Rattle.flow_graph.specs.ShortCode.{AreOfShortCode, IsOfShortCode}

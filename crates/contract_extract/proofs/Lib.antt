@@ -1,5 +1,6 @@
-pub mod Offsets
+pub mod InstrOffsets
 pub mod Forward
 pub mod NoFaults
 pub mod HasTree
 pub mod TreeCounts
+pub mod Searches

@@ -4,3 +4,4 @@ pub mod Ways
 pub mod TooLarge
 pub mod Faults
 pub mod TreeStacks
+pub mod Growth

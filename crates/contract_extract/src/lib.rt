@@ -2,6 +2,7 @@
 #![tactic(auto)]
 
 mod clause_fault;
+mod offsets;
 mod tree_stack;
 mod trees;
 
