@@ -4,3 +4,5 @@ pub mod NoFaults
 pub mod HasTree
 pub mod TreeCounts
 pub mod Searches
+pub mod Stretches
+pub mod Found

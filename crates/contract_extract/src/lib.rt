@@ -3,6 +3,7 @@
 
 mod clause_fault;
 mod offsets;
+mod stretch;
 mod tree_stack;
 mod trees;
 
