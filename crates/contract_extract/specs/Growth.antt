@@ -11,6 +11,9 @@ use Rattle.cil_model.specs.declared.instruction.Op.{Op}
 use Rattle.cil_model.specs.declared.instruction.Op.TheVariants as ops
 use Rattle.cil_model.specs.declared.instruction.Test.{Test}
 use Rattle.cil_model.specs.declared.instruction.Test.TheVariants as tests
+use Rattle.contract_extract.specs.declared.conditions.Condition.{Condition}
+use Rattle.contract_extract.specs.declared.limits.Limits.{Limits}
+use Rattle.contract_extract.specs.declared.limits.Grown.{Grown}
 
 -- The instruction at an IL offset has this index.
 pub record FoundAt (is : List Instr) (at index : ℕ) : Type 0 where
@@ -58,3 +61,43 @@ IsFlat Message = Unit {0}
 
 abbrev pub AreFlat : List Item → Type 0
 AreFlat items = AllByRecursion IsFlat items
+
+-- ---- branches
+
+-- The condition of a branch that goes two ways, and the stack below it.
+abbrev pub tested : Test → List Item → Option (Condition × List Item)
+tested tests.True (Tree a ∷ rest) = Some (record { tree = a; turned = false }, rest)
+tested tests.False (Tree a ∷ rest) = Some (record { tree = a; turned = true }, rest)
+tested (tests.Cmp op) (Tree b ∷ Tree a ∷ rest) =
+    Some (record { tree = terms.Bin (branch_operator op).0 a b; turned = (branch_operator op).1 }, rest)
+tested _ _ = None
+
+-- The tree over a condition, where these are those from the branch's target and from the next instruction.
+abbrev pub forked : Condition → Option Term → Option Term → Option Term
+forked test target next = condition test.turned test.tree target next
+
+-- ---- limits
+
+-- The tree has more nodes than these, or more conditions on one way from its root to a leaf.
+abbrev pub passes : Limits → Term → Bool
+passes limits tree = nat_lt limits.nodes (term_size tree) || nat_lt limits.conditions (condition_depth tree)
+
+-- This is the tree, within the limits, with so many more nodes left.
+pub record IsGrown (limits : Limits) (tree : Option Term) (grown : Grown) : Type 0 where
+  pub is : tree ≡ Some grown.tree
+  pub nodes : grown.nodes_left + term_size grown.tree ≡ limits.nodes
+  pub conditions : condition_depth grown.tree ≤ limits.conditions
+
+-- What is grown is the tree. Where nothing is, there is none within the limits.
+abbrev pub Grows : Limits → Option Term → Option Grown → Type 0
+Grows limits tree None = IfSome tree (λ t. passes limits t ≡ true)
+Grows limits tree (Some grown) = IsGrown limits tree grown
+
+-- What is left for the trees on both sides of a condition.
+pub record IsLeft (test : Condition) (limits left : Limits) : Type 0 where
+  pub conditions : left.conditions + 1 ≡ limits.conditions
+  pub nodes : left.nodes + term_size test.tree + 1 ≡ limits.nodes
+
+-- Nothing is.
+abbrev pub is_full : Condition → Limits → Bool
+is_full test limits = nat_lt limits.nodes (term_size test.tree + 1) || nat_lt limits.conditions 1

@@ -2,6 +2,8 @@
 #![tactic(auto)]
 
 mod clause_fault;
+mod conditions;
+mod limits;
 mod offsets;
 mod stretch;
 mod tree_stack;
