@@ -6,3 +6,4 @@ pub mod TreeCounts
 pub mod Searches
 pub mod Stretches
 pub mod Found
+pub mod Growing
