@@ -7,3 +7,4 @@ pub mod Searches
 pub mod Stretches
 pub mod Found
 pub mod Growing
+pub mod Ends

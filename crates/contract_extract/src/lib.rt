@@ -6,6 +6,7 @@ mod conditions;
 mod limits;
 mod offsets;
 mod stretch;
+mod tree_of;
 mod tree_stack;
 mod trees;
 
