@@ -5,6 +5,7 @@ mod clause_fault;
 mod conditions;
 mod limits;
 mod offsets;
+mod read_clause;
 mod stretch;
 mod tree_of;
 mod tree_stack;

@@ -86,7 +86,7 @@ fn fork(
 /// The tree from an IL offset on, within limits. Nothing is grown where there is no such tree.
 #[cycle(growth)]
 #[tactic(auto, using(crate::proofs::Ends::closing_here, crate::proofs::Ends::branching_here, crate::proofs::Ends::flat_tested))]
-fn grow(
+pub(crate) fn grow(
     alloc: Global,
     instrs: &[Instr],
     at: u32,

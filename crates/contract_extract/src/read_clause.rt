@@ -1,0 +1,53 @@
+//! One clause, read from its code.
+
+ghost use Rattle.std.specs.Prelude.{◌≡◌, true, false, None, Some, IfOk, IfSome};
+ghost use Rattle.cil_model.specs.ClauseTrees.{tree_of};
+ghost use Rattle.cil_model.specs.Terms.{old_count};
+ghost use Rattle.flow_graph.specs.ShortCode.{AreOfShortCode};
+ghost use Rattle.contract_extract.specs.TooLarge.{is_too_large};
+
+use crate::limits::Limits;
+use crate::tree_of::grow;
+use crate::trees::old_values;
+use cil_model::{Instr, MAX_CONDITIONS, MAX_NODES, Tree};
+use std::alloc::{AllocError, Global};
+use std::collections::VecDeque;
+
+/// The tree of a clause, with what counts towards a limit of its method.
+#[derive(Drop)]
+pub(crate) struct ReadClause {
+    pub(crate) tree: Tree,
+    /// How many old values it has.
+    pub(crate) old_values: usize,
+}
+
+/// The limits of one clause.
+const CLAUSE_LIMITS: Limits = Limits {
+    conditions: MAX_CONDITIONS,
+    nodes: MAX_NODES,
+};
+
+/// Reads the clause whose code begins at an IL offset. Nothing is read where its tree is too large, and where its code has no
+/// tree.
+///
+/// Each way forward is gone once, and the trees on its stack are copied where it goes two ways. No way is gone further once
+/// the nodes behind the ends of ways and in conditions are more than a clause may have, so the time is that of so many nodes,
+/// times the conditions on a way. Instructions that make no node are gone over on each way: nop, br and conv.i4.
+#[tactic(auto, unfolding(crate::specs::Growth::forward))]
+pub(crate) fn read_clause(alloc: Global, instrs: &[Instr], start: u32) -> Result<Option<ReadClause>, AllocError>
+    requires { AreOfShortCode instrs.now }
+    ensures tree { IfOk result (λ read. IfSome read (λ clause. tree_of instrs.now start ≡ Some clause.tree)) }
+    ensures within { IfOk result (λ read. IfSome read (λ clause. is_too_large clause.tree ≡ false)) }
+    ensures old_values { IfOk result (λ read. IfSome read (λ clause. clause.old_values ≡ old_count clause.tree)) }
+    // Where nothing is read, there is no tree that is not too large.
+    ensures too_large { IfOk result (λ read. read ≡ None → IfSome (tree_of instrs.now start) (λ tree. is_too_large tree ≡ true)) }
+{
+    let Some(grown) = grow(alloc, instrs, start, VecDeque::new(alloc), CLAUSE_LIMITS)? else {
+        return Ok(None);
+    };
+    let old_values = old_values(&grown.tree);
+    Ok(Some(ReadClause {
+        tree: grown.tree,
+        old_values,
+    }))
+}
