@@ -11,7 +11,7 @@ use Rattle.cil_model.specs.declared.instruction.Op.{Op}
 use Rattle.cil_model.specs.declared.instruction.Op.TheVariants as ops
 use Rattle.cil_model.specs.declared.instruction.Test.{Test}
 use Rattle.cil_model.specs.declared.instruction.Test.TheVariants as tests
-use Rattle.contract_extract.specs.Growth.{AreFlat, Grows, IsGrown, IsLeft, ends_stretch, forked, forward, is_full, onward, passes, tested, tree_here}
+use Rattle.contract_extract.specs.Growth.{AreFlat, Grows, IsGrown, IsLeft, Keeps, ends_stretch, forked, forward, is_full, onward, passes, tested, tree_here}
 use Rattle.contract_extract.specs.TreeStacks.{items_of}
 use Rattle.contract_extract.specs.declared.conditions.Condition.{Condition}
 use Rattle.contract_extract.specs.declared.limits.Limits.{Limits}
@@ -119,7 +119,7 @@ pub next_passes : (test : Condition) (limits left : Limits) (target next : Optio
     → Grows (after_target left grown) next None → Grows limits (forked test target next) None
 next_passes test limits left target next grown rest first none =
     over_both limits test.turned test.tree target next (λ t n is_t is_n.
-    let same : grown.tree ≡ t = same_Some grown.tree t (sym first.is ∙ is_t) in
+    let same : grown.tree ≡ t = same_Some grown.tree t (subst (λ (o : Option Term). Keeps o (Some grown.tree)) is_t first.is) in
     let size : term_size grown.tree ≡ term_size t = ap term_size same in
     let e = exceeds (after_target left grown) n (of_some (after_target left grown) next n is_n none) in
     (larger t n size e, turned t n size e))
@@ -145,11 +145,20 @@ pub both_grown : (test : Condition) (limits left : Limits) (target next : Option
 both_grown test limits left target next grown other tree rest first second flat made =
     let sizes = by test.turned made in
     record {
-      is = ap (λ t. forked test t next) first.is ∙ ap (λ n. forked test (Some grown.tree) n) second.is ∙ made;
+      is = both_kept test.turned target next first.is second.is made;
       nodes = omega (arith, sizes.0, rest.nodes, first.nodes, second.nodes);
       conditions = omega (arith, sizes.1, flat, rest.conditions, first.conditions, second.conditions);
     }
   where
+    both_kept : (turned : Bool) (target next : Option Term) → Keeps target (Some grown.tree) → Keeps next (Some other.tree)
+        → condition turned test.tree (Some grown.tree) (Some other.tree) ≡ Some tree → Keeps (condition turned test.tree target next) (Some tree)
+    both_kept true None next first second made = tt
+    both_kept true (Some t) None first second made = tt
+    both_kept true (Some t) (Some n) first second made = sym made ∙ ap (λ o. condition true test.tree o (Some other.tree)) first ∙ ap (condition true test.tree (Some t)) second
+    both_kept false None next first second made = tt
+    both_kept false (Some t) None first second made = tt
+    both_kept false (Some t) (Some n) first second made = sym made ∙ ap (λ o. condition false test.tree o (Some other.tree)) first ∙ ap (condition false test.tree (Some t)) second
+
     by : (turned : Bool) → condition turned test.tree (Some grown.tree) (Some other.tree) ≡ Some tree
         → (term_size tree ≡ term_size test.tree + term_size grown.tree + term_size other.tree + 1)
         × (condition_depth tree ≡ max (condition_depth test.tree) (max (condition_depth grown.tree) (condition_depth other.tree)) + 1)
@@ -173,3 +182,26 @@ onward_none from at later items below = rw (le-ltb at later below) refl
 
 pub no_target : (test : Condition) (limits : Limits) (next : Option Term) → Grows limits (forked test None next) None
 no_target test limits next = over_both limits test.turned test.tree None next (λ t n is_t is_n. absurd (none-some t is_t))
+
+-- ---- the tree of another place
+
+pub keeps_on : (a b c : Option Term) → Keeps a b → Keeps b c → Keeps a c
+keeps_on None b c first second = tt
+keeps_on (Some t) b c first second = subst (λ (o : Option Term). Keeps o c) first second
+
+pub keeps_same : (a b : Option Term) → a ≡ b → Keeps a b
+keeps_same None b same = tt
+keeps_same (Some t) b same = sym same
+
+-- What grows there is what grows here.
+pub keeps_grown : (limits : Limits) (a b : Option Term) (grown : Option Grown) → Keeps a b → Grows limits b grown → Grows limits a grown
+keeps_grown limits None b None keeps grows = tt
+keeps_grown limits None b (Some g) keeps grows = record { is = tt; nodes = grows.nodes; conditions = grows.conditions }
+keeps_grown limits (Some t) b grown keeps grows = subst (λ (o : Option Term). Grows limits o grown) keeps grows
+
+-- What a step makes of it is kept.
+pub keeps_step : (a b c : Option Term) → Keeps a b → b ≡ c → Keeps a c
+keeps_step a b c keeps same = keeps_on a b c keeps (keeps_same b c same)
+
+pub keeps_end : (a b : Option Term) → Keeps a b → b ≡ None → Keeps a None
+keeps_end a b keeps same = keeps_step a b None keeps same

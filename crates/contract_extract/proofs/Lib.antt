@@ -8,3 +8,5 @@ pub mod Stretches
 pub mod Found
 pub mod Growing
 pub mod Ends
+pub mod Skipping
+pub mod Working

@@ -1,5 +1,6 @@
 -- How the tree of a clause grows along the ways forward, and the limits that it meets.
-use Rattle.std.specs.Prelude.{◌≡◌, ℕ, ◌+◌, ◌<◌, ◌≤◌, Bool, true, false, ◌||◌, nat_lt, List, [], ◌∷◌, length, Option, Some, None, IfSome, if◌then◌else◌, slice_get}
+use Rattle.std.specs.Prelude.{◌≡◌, ℕ, ◌+◌, ◌<◌, ◌≤◌, Bool, true, false, ◌||◌, nat_lt, List, [], ◌∷◌, length, Option, Some, None, IfSome, if◌then◌else◌, slice_get, slice_index_or}
+
 use Rattle.std.specs.List.{AllByRecursion}
 use Rattle.std.specs.Option.{option_and_then, is_some}
 use Rattle.cil_model.specs.ClauseTrees.{Item, Tree, Message, branch_operator, closing, condition, tree_at, tree_from}
@@ -44,6 +45,27 @@ goes_two_ways (ops.Branch tests.Always target) = false
 goes_two_ways (ops.Branch test target) = true
 goes_two_ways _ = false
 
+-- This is the tree, where there is one.
+abbrev pub Keeps : Option Term → Option Term → Type 0
+Keeps tree this = IfSome tree (λ t. this ≡ Some t)
+
+-- Where an operation that makes no node goes on, if it is one. The next instruction stands at this offset.
+abbrev pub idle_to : Op → ℕ → Option ℕ
+idle_to ops.Nop next = Some next
+idle_to ops.ConvI4 next = Some next
+idle_to (ops.Branch tests.Always target) next = Some target
+idle_to _ next = None
+
+-- From an IL offset on a clause has the tree that it has from this later one on, whatever stands on the stack.
+pub record IsSkip (is : List Instr) (at to : ℕ) : Type 0 where
+  pub later : at ≤ to
+  pub keeps : (items : List Item) → Keeps (forward is at items) (forward is to items)
+
+-- For each instruction, a later offset with the same trees.
+pub record AreSkips (is : List Instr) (skips : List ℕ) : Type 0 where
+  pub long : length skips ≡ length is
+  pub each : (index : ℕ) (i : Instr) → slice_get is index ≡ Some i → IsSkip is i.at (slice_index_or skips index 0)
+
 -- A straight stretch of the code ends at the operation: it closes a clause, or goes two ways.
 abbrev pub ends_stretch : Op → Bool
 ends_stretch op = is_some (closing op) || goes_two_ways op
@@ -84,7 +106,7 @@ passes limits tree = nat_lt limits.nodes (term_size tree) || nat_lt limits.condi
 
 -- This is the tree, within the limits, with so many more nodes left.
 pub record IsGrown (limits : Limits) (tree : Option Term) (grown : Grown) : Type 0 where
-  pub is : tree ≡ Some grown.tree
+  pub is : Keeps tree (Some grown.tree)
   pub nodes : grown.nodes_left + term_size grown.tree ≡ limits.nodes
   pub conditions : condition_depth grown.tree ≤ limits.conditions
 

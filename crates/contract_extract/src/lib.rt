@@ -3,6 +3,7 @@
 
 mod clause_fault;
 mod conditions;
+mod idle;
 mod limits;
 mod offsets;
 mod read_clause;

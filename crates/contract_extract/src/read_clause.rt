@@ -1,11 +1,12 @@
 //! One clause, read from its code.
 
-ghost use Rattle.std.specs.Prelude.{◌≡◌, true, false, None, Some, IfOk, IfSome};
+ghost use Rattle.std.specs.Prelude.{◌≡◌, true, false, None, Some, IfOk, IfSome, IsSome};
 ghost use Rattle.cil_model.specs.ClauseTrees.{tree_of};
 ghost use Rattle.cil_model.specs.Terms.{old_count};
 ghost use Rattle.flow_graph.specs.ShortCode.{AreOfShortCode};
 ghost use Rattle.contract_extract.specs.TooLarge.{is_too_large};
 
+use crate::idle::skips;
 use crate::limits::Limits;
 use crate::tree_of::grow;
 use crate::trees::old_values;
@@ -35,14 +36,18 @@ const CLAUSE_LIMITS: Limits = Limits {
 /// times the conditions on a way. Instructions that make no node are gone over on each way: nop, br and conv.i4.
 #[tactic(auto, unfolding(crate::specs::Growth::forward))]
 pub(crate) fn read_clause(alloc: Global, instrs: &[Instr], start: u32) -> Result<Option<ReadClause>, AllocError>
-    requires { AreOfShortCode instrs.now }
+    requires lie { AreOfShortCode instrs.now }
+    // The code has a tree, as code with no fault has.
+    requires has_tree { IsSome (tree_of instrs.now start) }
     ensures tree { IfOk result (λ read. IfSome read (λ clause. tree_of instrs.now start ≡ Some clause.tree)) }
     ensures within { IfOk result (λ read. IfSome read (λ clause. is_too_large clause.tree ≡ false)) }
     ensures old_values { IfOk result (λ read. IfSome read (λ clause. clause.old_values ≡ old_count clause.tree)) }
     // Where nothing is read, there is no tree that is not too large.
     ensures too_large { IfOk result (λ read. read ≡ None → IfSome (tree_of instrs.now start) (λ tree. is_too_large tree ≡ true)) }
 {
-    let Some(grown) = grow(alloc, instrs, start, VecDeque::new(alloc), CLAUSE_LIMITS)? else {
+    let skips = skips(alloc, instrs)?;
+    let stack = VecDeque::new(alloc);
+    let Some(grown) = grow(alloc, instrs, &skips, start, stack, CLAUSE_LIMITS)? else {
         return Ok(None);
     };
     let old_values = old_values(&grown.tree);

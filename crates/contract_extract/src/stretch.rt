@@ -2,13 +2,13 @@
 
 ghost use Rattle.std.specs.Prelude.{◌≡◌, ◌+◌, ◌<◌, ◌≤◌, false, true, List, None, Some, IfOk, IfSome, option_map};
 ghost use Rattle.std.specs.Option.{option_and_then, option_copied};
-ghost use Rattle.cil_model.specs.ClauseTrees.{closing};
+ghost use Rattle.cil_model.specs.ClauseTrees.{Item, closing};
 ghost use Rattle.cil_model.specs.declared.instruction.Instr.{Instr};
 ghost use Rattle.flow_graph.specs.ShortCode.{AreOfShortCode, IsOfShortCode};
-ghost use Rattle.contract_extract.specs.Growth.{AreFlat, ends_stretch, forward, jump_of, later_than, tree_here};
+ghost use Rattle.contract_extract.specs.Growth.{AreFlat, AreSkips, Keeps, ends_stretch, forward, jump_of, later_than, tree_here};
 ghost use Rattle.contract_extract.specs.TreeStacks.{items_of};
 
-use crate::offsets::find;
+use crate::offsets::{find, index_of};
 use crate::tree_stack::{TreeStack, apply};
 use cil_model::{Instr, Op, Test, UnitCall, unit_call};
 use std::alloc::{AllocError, Global};
@@ -74,26 +74,42 @@ fn step(alloc: Global, instr: &Instr, stack: &mut TreeStack) -> Result<Option<u3
     Ok(later_than(instr.at, instr.at + instr.size))
 }
 
-/// Goes from an IL offset straight on to the instruction where the stretch ends, and leaves the stack that it finds. There is
-/// none where a clause has no tree.
-#[tactic(auto, using(crate::proofs::Found::found_tree, crate::proofs::Found::found_no_tree, crate::proofs::Found::found_place,
+/// The first instruction from an IL offset on that may make a node, if there is one.
+#[tactic(auto, using(crate::proofs::Working::working_tree, crate::proofs::Working::no_working_tree, crate::proofs::Working::working_later, crate::proofs::Working::nowhere,
     crate::proofs::Found::found_short))]
+fn find_working<'a>(instrs: &'a [Instr], skips: &[u32], at: u32) -> Option<&'a Instr>
+    requires lie { AreOfShortCode instrs.now }
+    requires skips { AreSkips instrs.now skips.now }
+    ensures tree { (items : List Item) → Keeps (forward instrs.now at items)
+        (option_and_then (λ i. tree_here (forward instrs.now) i items) (option_copied result)) }
+    ensures later { IfSome result (λ i. at ≤ i.now.at) }
+    ensures short { IfSome result (λ i. IsOfShortCode i.now) }
+{
+    let index = index_of(instrs, at)?;
+    find(instrs, skips[index])
+}
+
+/// Goes from an IL offset straight on to the instruction where the stretch ends, and leaves the stack that it finds. If the
+/// clause has a tree from the offset on, it is the one from there on.
+#[tactic(auto, using(crate::proofs::Growing::keeps_step, crate::proofs::Growing::keeps_end, crate::proofs::Growing::keeps_same))]
 pub(crate) fn run<'a>(
     alloc: Global,
     instrs: &'a [Instr],
+    skips: &[u32],
     start: u32,
     stack: &mut TreeStack,
 ) -> Result<Option<&'a Instr>, AllocError>
-    requires { AreOfShortCode instrs.now }
-    ensures tree { IfOk result (λ end. forward instrs.now start (items_of stack.old.items)
-        ≡ option_and_then (λ i. tree_here (forward instrs.now) i (items_of stack.new.items)) (option_copied end)) }
+    requires lie { AreOfShortCode instrs.now }
+    requires skips { AreSkips instrs.now skips.now }
+    ensures tree { IfOk result (λ end. Keeps (forward instrs.now start (items_of stack.old.items))
+        (option_and_then (λ i. tree_here (forward instrs.now) i (items_of stack.new.items)) (option_copied end))) }
     ensures later { IfOk result (λ end. IfSome end (λ i. start ≤ i.now.at)) }
     ensures ends { IfOk result (λ end. IfSome end (λ i. ends_stretch i.now.op ≡ true)) }
     ensures short { IfOk result (λ end. IfSome end (λ i. IsOfShortCode i.now)) }
     ensures flat { AreFlat (items_of stack.old.items) → IfOk result (λ end. IfSome end (λ i. AreFlat (items_of stack.new.items))) }
 {
     let mut at = start;
-    while let Some(instr) = find(instrs, at) {
+    while let Some(instr) = find_working(instrs, skips, at) {
         if ends_stretch(&instr.op) {
             return Ok(Some(instr));
         }

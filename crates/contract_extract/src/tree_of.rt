@@ -4,7 +4,7 @@ ghost use Rattle.std.specs.Prelude.{◌≡◌, ◌+◌, IfOk};
 ghost use Rattle.cil_model.specs.ClauseTrees.{closed_tree};
 ghost use Rattle.cil_model.specs.Terms.{condition_depth};
 ghost use Rattle.flow_graph.specs.ShortCode.{AreOfShortCode, IsOfShortCode};
-ghost use Rattle.contract_extract.specs.Growth.{AreFlat, Grows, forked, forward, onward};
+ghost use Rattle.contract_extract.specs.Growth.{AreFlat, AreSkips, Grows, forked, forward, onward};
 ghost use Rattle.contract_extract.specs.TreeStacks.{items_of};
 
 use crate::conditions::{Condition, take_condition};
@@ -46,6 +46,7 @@ fn leaf(message: bool, stack: TreeStack, limits: Limits) -> Option<Grown>
 fn fork(
     alloc: Global,
     instrs: &[Instr],
+    skips: &[u32],
     branch: &Instr,
     target: u32,
     test: Condition,
@@ -53,6 +54,7 @@ fn fork(
     limits: Limits,
 ) -> Result<Option<Grown>, AllocError>
     requires lie { AreOfShortCode instrs.now }
+    requires skips { AreSkips instrs.now skips.now }
     requires short { IsOfShortCode branch.now }
     requires flat { AreFlat (items_of stack.items) }
     requires flat_test { condition_depth test.tree ≡ 0 }
@@ -67,14 +69,14 @@ fn fork(
         return Ok(None);
     };
     let copy = copied(alloc, &stack)?;
-    let Some(taken) = grow(alloc, instrs, target, copy, left)? else {
+    let Some(taken) = grow(alloc, instrs, skips, target, copy, left)? else {
         return Ok(None);
     };
     let left = Limits {
         conditions: left.conditions,
         nodes: taken.nodes_left,
     };
-    let Some(passed) = grow(alloc, instrs, next, stack, left)? else {
+    let Some(passed) = grow(alloc, instrs, skips, next, stack, left)? else {
         return Ok(None);
     };
     Ok(Some(Grown {
@@ -85,19 +87,21 @@ fn fork(
 
 /// The tree from an IL offset on, within limits. Nothing is grown where there is no such tree.
 #[cycle(growth)]
-#[tactic(auto, using(crate::proofs::Ends::closing_here, crate::proofs::Ends::branching_here, crate::proofs::Ends::flat_tested))]
+#[tactic(auto, using(crate::proofs::Growing::keeps_grown, crate::proofs::Ends::closing_here, crate::proofs::Ends::branching_here, crate::proofs::Ends::flat_tested))]
 pub(crate) fn grow(
     alloc: Global,
     instrs: &[Instr],
+    skips: &[u32],
     at: u32,
     mut stack: TreeStack,
     limits: Limits,
 ) -> Result<Option<Grown>, AllocError>
     requires lie { AreOfShortCode instrs.now }
+    requires skips { AreSkips instrs.now skips.now }
     requires flat { AreFlat (items_of stack.items) }
     ensures { IfOk result (Grows limits (forward instrs.now at (items_of stack.items))) }
 {
-    let Some(end) = run(alloc, instrs, at, &mut stack)? else {
+    let Some(end) = run(alloc, instrs, skips, at, &mut stack)? else {
         return Ok(None);
     };
     if let Some(message) = closing_message(&end.op) {
@@ -109,5 +113,5 @@ pub(crate) fn grow(
     let Some(condition) = take_condition(alloc, *test, &mut stack)? else {
         return Ok(None);
     };
-    fork(alloc, instrs, end, *target, condition, stack, limits)
+    fork(alloc, instrs, skips, end, *target, condition, stack, limits)
 }
