@@ -10,3 +10,6 @@ pub mod Growing
 pub mod Ends
 pub mod Skipping
 pub mod Working
+pub mod UnderKinds
+pub mod PlacedCalls
+pub mod FitTrees
