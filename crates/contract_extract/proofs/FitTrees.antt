@@ -1,12 +1,12 @@
 -- Trees that fit the kinds of the values that they stand for, along a clause's code.
-use Rattle.std.proofs.Common.{◌≡◌, ℕ, ◌+◌, Bool, true, false, not, ◌&&◌, nat_lt, List, [], ◌∷◌, ◌++◌, length, map, take, drop, Option, Some, None, IfSome, if◌then◌else◌, slice_get, refl, sym, ap, subst, ◌∙◌, arith}
+use Rattle.std.proofs.Common.{◌≡◌, ℕ, ◌+◌, Bool, true, false, not, ◌&&◌, nat_lt, List, [], ◌∷◌, ◌++◌, length, map, take, drop, Option, Some, None, IfSome, option_map, if◌then◌else◌, slice_get, refl, sym, ap, subst, ◌∙◌, arith}
 use Rattle.std.specs.List.{flat_map}
 use Rattle.std.specs.Option.{option_and_then, option_map_or}
 use Rattle.std.proofs.lemmas.Bool.{and_from, and_parts, false≢true}
 use Rattle.std.proofs.lemmas.Option.{none-some, same_Some}
 use Rattle.cil_model.specs.ClauseTrees.{Item, Tree, Message, items_behind, with_call}
 use Rattle.cil_model.specs.Comparisons.{comparison_of}
-use Rattle.cil_model.specs.Kinds.{behind, behind_call, behind_number, behind_operator, is_array_of, is_number, is_reference, kind_of, loaded, operand_count, pushed_kind, pushes_comparison, takes, when}
+use Rattle.cil_model.specs.Kinds.{behind, behind_call, behind_number, behind_operator, call_operands, is_array_of, is_number, is_reference, kind_of, loaded, operand_count, pushed_kind, pushes_comparison, takes, when}
 use Rattle.cil_model.specs.Terms as terms
 use Rattle.cil_model.specs.Terms.{Term}
 use Rattle.cil_model.specs.TreeKinds.{element_kind, is_int, kind_in, length_kind, number_if, operator_kind, unary_kind}
@@ -21,14 +21,23 @@ use Rattle.cil_model.specs.declared.instruction.UnOp.TheVariants as unary
 use Rattle.cil_model.specs.declared.place.Kind.{Kind}
 use Rattle.cil_model.specs.declared.place.Kind.TheVariants as kinds
 use Rattle.cil_model.specs.declared.place.Place.{Place}
+use Rattle.cil_model.specs.declared.place.Place.TheVariants as places
 use Rattle.cil_model.specs.declared.shape.Shape.{Shape}
 use Rattle.cil_model.specs.declared.unit_numbers.UnitCall.{UnitCall}
 use Rattle.cil_model.specs.declared.unit_numbers.UnitCall.TheVariants as calls
-use Rattle.contract_extract.specs.Ways.{Told, asked_by, calls_with, faults_here, made, stack_by}
+use Rattle.contract_extract.specs.Ways.{Told, asked, asked_by, calls_with, faults_here, is_old, is_old_value, made, old_faults_of, stack_by}
+use Rattle.contract_extract.specs.declared.clause_fault.ClauseFault.TheVariants.{OldForm}
+use Rattle.contract_extract.proofs.PlacedCalls.{result_kind}
 use Rattle.contract_extract.proofs.NoFaults.{none_in_both}
 use Rattle.contract_extract.proofs.UnderKinds.{Under, under_array, under_int, under_number, under_place, under_pushes, under_reference}
 
-module _ (args : List Place) (result : Place) (ensured : Bool) where
+module _ (shape : Shape) (ensured : Bool) where
+  abbrev args : List Place
+  args = shape.args
+
+  abbrev result : Place
+  result = shape.result
+
   -- The tree has a kind that fits, and has it in an old value too if it has no calls.
   pub record Fits (told : List ℕ) (tree : Term) (kind : Kind) : Type 0 where
     pub own : Kind
@@ -124,7 +133,7 @@ module _ (args : List Place) (result : Place) (ensured : Bool) where
   fits_when false None after told fits = tt
   fits_when false (Some items) after told fits = tt
 
-  module _ (shape : Shape) (i : Instr) where
+  module _ (i : Instr) where
     length_fits : (told : List Told) (items : List Item) (before : List Kind) → FitAll told items before
         → FitsIf (items_behind ops.Length items) (behind shape ops.Length before) (made shape i (take 1 told) ∷ drop 1 told)
     length_fits told [] before fits = tt
@@ -226,3 +235,102 @@ module _ (args : List Place) (result : Place) (ensured : Bool) where
         )
     operator_fits operator None compares (t ∷ u ∷ told) (Tree b ∷ Tree a ∷ items) (kinds.Int ∷ _ ∷ below) fits = tt
     operator_fits operator None compares (t ∷ u ∷ told) (Tree b ∷ Tree a ∷ items) (_ ∷ kind_a ∷ below) fits = tt
+
+    -- ---- leaves and calls
+
+    argument_under : (place : Option Place) (k : Kind) → option_and_then kind_of place ≡ Some k → Under k k
+    argument_under None k e = absurd (none-some k e)
+    argument_under (Some places.Void) k e = absurd (none-some k e)
+    argument_under (Some places.Bool) k e = subst (λ (j : Kind). Under j j) (same_Some kinds.Int k e) tt
+    argument_under (Some places.Int) k e = subst (λ (j : Kind). Under j j) (same_Some kinds.Int k e) tt
+    argument_under (Some places.Bools) k e = subst (λ (j : Kind). Under j j) (same_Some kinds.Bools k e) tt
+    argument_under (Some places.Ints) k e = subst (λ (j : Kind). Under j j) (same_Some kinds.Ints k e) tt
+
+    argument_fits : (n : ℕ) (new : Told) (told : List Told) (items : List Item) (before : List Kind) → FitAll told items before
+        → FitsIf (Some (Tree (terms.Arg n) ∷ items)) (loaded (slice_get args n) before) (new ∷ told)
+    argument_fits n new told items before fits = by (option_and_then kind_of (slice_get args n)) refl
+      where
+        by : (o : Option Kind) → option_and_then kind_of (slice_get args n) ≡ o
+            → FitsIf (Some (Tree (terms.Arg n) ∷ items)) (option_map (λ kind. kind ∷ before) o) (new ∷ told)
+        by None e = tt
+        by (Some k) e = (leaf_fits new.calls (terms.Arg n) k k (λ ensured. e) (argument_under (slice_get args n) k e), fits)
+
+    -- What a clause may ask for: only an Ensures, and only the method's own result.
+    abbrev pub MayAsk : Op → Type 0
+    MayAsk op = (place : Place) → asked_by op ≡ Some place → (ensured ≡ true) × (is_old_value op ≡ false → place ≡ result)
+
+    asks : (place : Place) (inside : List ℕ) → asked_by i.op ≡ Some place → calls_with i inside ≡ [] → ⊥
+    asks place inside e none = by (asked_by i.op) e none
+      where
+        by : (o : Option Place) → o ≡ Some place → (if option_map_or (λ place. true) o false then i.at ∷ inside else inside) ≡ [] → ⊥
+        by None e none = none-some place e
+        by (Some other) e none = cc
+
+    result_fits : (place : Place) (kind : Kind) (inside : List ℕ) → asked_by i.op ≡ Some place → ensured ≡ true → place ≡ result → kind_of place ≡ Some kind
+        → Fits (calls_with i inside) terms.Result kind
+    result_fits place kind inside asked is_ensured same is = record {
+      own = kind;
+      is = ap (λ (b : Bool). if b then kind_of result else None) is_ensured ∙ ap kind_of (sym same) ∙ is;
+      plain = λ none. absurd (asks place inside asked none);
+      under = argument_under (Some place) kind is;
+    }
+
+    held : (place : Place) (kind : Kind) → takes place kind ≡ true → (k : Kind) × (kind_of place ≡ Some k)
+    held places.Void kind fits = absurd (false≢true fits)
+    held places.Bool kind fits = (kinds.Int, refl)
+    held places.Int kind fits = (kinds.Int, refl)
+    held places.Bools kind fits = (kinds.Bools, refl)
+    held places.Ints kind fits = (kinds.Ints, refl)
+
+    no_offsets : (ats : List ℕ) → map OldForm ats ≡ [] → ats ≡ []
+    no_offsets [] none = refl
+    no_offsets (at ∷ ats) none = absurd cc
+
+    old_fits : (place : Place) (a : Term) (kind new : Kind) (told inside : List ℕ) → asked_by i.op ≡ Some place → ensured ≡ true → told ≡ [] → takes place kind ≡ true
+        → kind_of place ≡ Some new → Fits told a kind → Fits (calls_with i inside) (terms.Old a) new
+    old_fits place a kind new told inside asked is_ensured none taken is fits = record {
+      own = fits.own;
+      is = ap (λ (b : Bool). if b then kind_in args result false a else None) is_ensured ∙ fits.plain none;
+      plain = λ none. absurd (asks place inside asked none);
+      under = under_place place fits.own kind new fits.under taken is;
+    }
+
+    module _ (number : ℕ) (tie : i.op ≡ ops.Call number) (may : MayAsk (ops.Call number)) where
+      by_call : (call : Option UnitCall) → unit_call number ≡ call → (told : List Told) (items : List Item) (before : List Kind) → FitAll told items before
+          → old_faults_of i call told ≡ []
+          → FitsIf (with_call call items) (behind_call shape call before) (made shape i (take (call_operands shape call) told) ∷ drop (call_operands shape call) told)
+      by_call (Some (calls.Result place)) is told items before fits none =
+          let (kind, held_kind) = result_kind number place is in
+          let asks_it : asked_by (ops.Call number) ≡ Some place = ap asked is in
+          let right = may place asks_it in
+          rw held_kind (result_fits place kind [] (ap asked_by tie ∙ asks_it) right.0 (right.1 (ap is_old is)) held_kind, fits)
+      by_call (Some (calls.OldValue place)) is told [] before fits none = tt
+      by_call (Some (calls.OldValue place)) is told (Message ∷ items) before fits none = tt
+      by_call (Some (calls.OldValue place)) is [] (Tree a ∷ items) before fits none = absurd fits
+      by_call (Some (calls.OldValue place)) is (t ∷ told) (Tree a ∷ items) [] fits none = absurd fits
+      by_call (Some (calls.OldValue place)) is (t ∷ told) (Tree a ∷ items) (kind ∷ below) fits none =
+          let asks_it : asked_by (ops.Call number) ≡ Some place = ap asked is in
+          let right = may place asks_it in
+          fits_when (takes place kind) (Some (Tree (terms.Old a) ∷ items)) (pushed_kind (kind_of place) below) (made shape i (t ∷ []) ∷ told) (λ taken.
+          let (new, is_new) = held place kind taken in
+          rw is_new (
+            old_fits place a kind new t.calls (t.calls ++ []) (ap asked_by tie ∙ asks_it) right.0 (no_offsets t.calls (none_in_both (map OldForm t.calls) _ none).0) taken is_new fits.0,
+            fits.1,
+          ))
+      by_call _ is told items before fits none = tt
+
+    op_fits : (op : Op) → i.op ≡ op → MayAsk op → (told : List Told) (items : List Item) (before : List Kind) → FitAll told items before → faults_here i op told ≡ []
+        → FitsIf (items_behind op items) (behind shape op before) (stack_by shape i op (operand_count shape op) told)
+    op_fits ops.Nop tie may told items before fits none = fits
+    op_fits (ops.LoadArg n) tie may told items before fits none = argument_fits n (made shape i []) told items before fits
+    op_fits ops.Null tie may told items before fits none = (leaf_fits (calls_with i []) terms.Null kinds.NullRef kinds.NullRef (λ e. refl) tt, fits)
+    op_fits (ops.Const n) tie may told items before fits none = (leaf_fits (calls_with i []) (terms.Const n) kinds.Int kinds.Int (λ e. refl) tt, fits)
+    op_fits (ops.Text token) tie may told items before fits none = (refl, fits)
+    op_fits (ops.Bin operator) tie may told items before fits none = operator_fits operator (comparison_of operator) refl told items before fits
+    op_fits ops.Neg tie may told items before fits none = unary_fits unary.Neg ops.Neg told items before fits (λ a rest. refl) refl (λ rest. refl)
+    op_fits ops.Not tie may told items before fits none = unary_fits unary.Not ops.Not told items before fits (λ a rest. refl) refl (λ rest. refl)
+    op_fits ops.ConvI4 tie may told items before fits none = convert_fits told items before fits
+    op_fits ops.Length tie may told items before fits none = length_fits told items before fits
+    op_fits (ops.LoadElem place) tie may told items before fits none = element_fits place told items before fits
+    op_fits (ops.Call number) tie may told items before fits none = by_call number tie may (unit_call number) refl told items before fits none
+    op_fits _ tie may told items before fits none = tt
