@@ -319,7 +319,7 @@ module _ (shape : Shape) (ensured : Bool) where
           ))
       by_call _ is told items before fits none = tt
 
-    op_fits : (op : Op) → i.op ≡ op → MayAsk op → (told : List Told) (items : List Item) (before : List Kind) → FitAll told items before → faults_here i op told ≡ []
+    pub op_fits : (op : Op) → i.op ≡ op → MayAsk op → (told : List Told) (items : List Item) (before : List Kind) → FitAll told items before → faults_here i op told ≡ []
         → FitsIf (items_behind op items) (behind shape op before) (stack_by shape i op (operand_count shape op) told)
     op_fits ops.Nop tie may told items before fits none = fits
     op_fits (ops.LoadArg n) tie may told items before fits none = argument_fits n (made shape i []) told items before fits

@@ -198,10 +198,10 @@ and_then_some : (f : List Item → Option Term) (after : Option (List Item)) (it
 and_then_some f after items is some = subst (λ (o : Option (List Item)). IsSome (option_and_then f o)) (sym is) some
 
 -- Where a way may go on from an IL offset, up to the closing call.
-record Onward (is : List Instr) (at last later : ℕ) : Type 0 where
-  above : at < later
-  inside : later ≤ last
-  begins : begins_at is later ≡ true
+pub record Onward (is : List Instr) (at last later : ℕ) : Type 0 where
+  pub above : at < later
+  pub inside : later ≤ last
+  pub begins : begins_at is later ≡ true
 
 module _ (is : List Instr) (shape : Shape) (last : ℕ) (allowed : ℕ → Bool) (faults : ℕ → List Told → List ClauseFault) (from : ℕ → List Item → Option Term) (i : Instr)
     (later_has : (later : ℕ) (told : List Told) (items : List Item) → Onward is i.at last later → length told ≡ length items → AreTreesBelow (allowed later) items
@@ -320,21 +320,21 @@ module _ (is : List Instr) (shape : Shape) (start : ℕ) (call : Instr) (clause 
   abbrev allowed : ℕ → Bool
   allowed at = (at == call.at) && calls_with_message call.op
 
-  abbrev faults_behind : ℕ → ℕ → ℕ → List Told → List ClauseFault
+  abbrev pub faults_behind : ℕ → ℕ → ℕ → List Told → List ClauseFault
   faults_behind most at later told = if goes_forward at later call then faults_from most is shape call later told else []
 
-  abbrev trees_behind : ℕ → ℕ → ℕ → List Item → Option Term
+  abbrev pub trees_behind : ℕ → ℕ → ℕ → List Item → Option Term
   trees_behind most at later items = if nat_lt at later then tree_from most is later items else None
 
   abbrev next_takes : Instr → Bool
   next_takes i = option_map_or (λ next. calls_with_message next.op) (instr_at is (i.at + i.size)) false
 
   -- What tells that an instruction below the closing call is right.
-  record IsRight (i : Instr) : Type 0 where
-    pure : is_pure is i ≡ true
-    onward : AllByRecursion (Onward is i.at call.at) (branch_targets i.op)
+  pub record IsRight (i : Instr) : Type 0 where
+    pub pure : is_pure is i ≡ true
+    pub onward : AllByRecursion (Onward is i.at call.at) (branch_targets i.op)
 
-  is_right : (i : Instr) → instr_at is i.at ≡ Some i → start ≤ i.at → i.at < call.at → IsRight i
+  pub is_right : (i : Instr) → instr_at is i.at ≡ Some i → start ≤ i.at → i.at < call.at → IsRight i
   is_right i found above below =
       let none = none_in_both (fault_if (not (is_pure is i)) (NotPure i.at) ++ branch_faults start call i) _ (clause.right i found above below) in
       let first = none_in_both (fault_if (not (is_pure is i)) (NotPure i.at)) (branch_faults start call i) none.0 in
@@ -407,7 +407,7 @@ module _ (is : List Instr) (shape : Shape) (start : ℕ) (call : Instr) (clause 
       i.op (next_takes i) told items long trees (clause.others_stay i found above below) right.pure
       (message_is_there i found above below) parts.0 (record { above = omega (arith, size.some); inside = next.inside; begins = next.begins }) right.onward parts.1
 
-  closes_from : (op : Op) → closing op ≡ Some (clause.kind, clause.message) → closes op ≡ true
+  pub closes_from : (op : Op) → closing op ≡ Some (clause.kind, clause.message) → closes op ≡ true
   closes_from (ops.Call number) e = by (unit_call number) e
     where
       by : (c : Option UnitCall) → closed_by c ≡ Some (clause.kind, clause.message) → is_closing_call c ≡ true

@@ -13,3 +13,4 @@ pub mod Working
 pub mod UnderKinds
 pub mod PlacedCalls
 pub mod FitTrees
+pub mod NumberClauses
