@@ -34,10 +34,12 @@ use Rattle.cil_model.specs.declared.shape.Shape.{Shape}
 use Rattle.cil_model.specs.declared.unit_numbers.UnitCall.{UnitCall}
 use Rattle.cil_model.specs.declared.unit_numbers.UnitCall.TheVariants as calls
 use Rattle.cil_model.proofs.KindsGrow.{parts}
+use Rattle.cil_model.proofs.Lists.{of_found}
+use Rattle.flow_graph.specs.ShortCode.{IsOfShortCode}
 use Rattle.cil_model.proofs.KindsSettle.{Absorbs, Settled, reached_begins, settled}
 use Rattle.contract_extract.specs.ClauseCodes.{goes_forward}
 use Rattle.contract_extract.specs.Faults.{branch_faults, fault_if, faults_of, is_misplaced, is_requires}
-use Rattle.contract_extract.specs.PureCode.{is_pure}
+use Rattle.contract_extract.specs.PureCode.{calls_with_message, is_pure, is_pure_before}
 use Rattle.contract_extract.specs.Ways.{Told, asked_by, closing_faults, faults_at, faults_from, faults_here, is_old_value, stack_behind, stack_by, way_faults, ways_behind}
 use Rattle.contract_extract.specs.declared.clause_fault.ClauseFault.{ClauseFault}
 use Rattle.contract_extract.specs.declared.clause_fault.ClauseFault.TheVariants.{NotPure, OldForm, StackLeft}
@@ -293,3 +295,86 @@ module _ (is : List Instr) (shape : Shape) (start : ℕ) (call : Instr) (clause 
         (ap (λ x. operator_kind (comparison_of (branch_operator op).0) x (kind_in shape.args shape.result ensured b)) fits.1.0.is
         ∙ ap (operator_kind (comparison_of (branch_operator op).0) (Some fits.1.0.own)) fits.0.is ∙ number)
         refl (subst (FitAll shape ensured told items) p.1 fits.1.1) there next absorb.0 absorb.1.0 none
+
+    straight_number : (op : Op) → i.op ≡ op → MayAsk shape ensured i op → (told : List Told) (items : List Item) (before after : List Kind) → FitAll shape ensured told items before
+        → behind shape op before ≡ Some after → Onward is i.at call.at (i.at + i.size) → Absorbs (stack_at is stacks (i.at + i.size)) after → faults_here i op told ≡ []
+        → faults (i.at + i.size) (stack_by shape i op (operand_count shape op) told) ++ [] ≡ []
+        → Number (option_and_then (trees (i.at + i.size)) (items_behind op items))
+    straight_number op tie may told items before after fits typed next absorb here none =
+        let new = stack_by shape i op (operand_count shape op) told in
+        by (items_behind op items) (subst (λ (o : Option (List Kind)). FitsIf shape ensured (items_behind op items) o new) typed
+        (op_fits shape ensured i op tie may told items before fits here))
+      where
+        by : (left_items : Option (List Item)) → FitsIf shape ensured left_items (Some after) (stack_by shape i op (operand_count shape op) told)
+            → Number (option_and_then (trees (i.at + i.size)) left_items)
+        by None fits_left = tt
+        by (Some left_items) fits_left =
+            later_number (i.at + i.size) (stack_by shape i op (operand_count shape op) told) left_items after next absorb fits_left
+            (none_in_both (faults (i.at + i.size) (stack_by shape i op (operand_count shape op) told)) [] none).0
+
+    op_numbers : (op : Op) → i.op ≡ op → MayAsk shape ensured i op → (message : Bool) → is_pure_before message op ≡ true → (told : List Told) (items : List Item) (before after : List Kind)
+        → FitAll shape ensured told items before → behind shape op before ≡ Some after → Onward is i.at call.at (i.at + i.size)
+        → AllByRecursion (Onward is i.at call.at) (branch_targets op) → AllByRecursion (λ at. Absorbs (stack_at is stacks at) after) (successors op (i.at + i.size))
+        → faults_here i op told ≡ [] → flat_map (λ later. faults later (stack_behind shape i op told)) (ways_behind op (i.at + i.size)) ≡ []
+        → Number (tree_at trees None i op items)
+    op_numbers (ops.Branch test target) tie may m pure told items before after fits typed next targets absorb here none =
+        branch_numbers test target told items before after fits typed targets.0 next absorb none
+    op_numbers ops.Nop tie may m pure told items before after fits typed next targets absorb here none = straight_number ops.Nop tie may told items before after fits typed next absorb.0 here none
+    op_numbers (ops.LoadArg n) tie may m pure told items before after fits typed next targets absorb here none = straight_number (ops.LoadArg n) tie may told items before after fits typed next absorb.0 here none
+    op_numbers ops.Null tie may m pure told items before after fits typed next targets absorb here none = straight_number ops.Null tie may told items before after fits typed next absorb.0 here none
+    op_numbers (ops.Const n) tie may m pure told items before after fits typed next targets absorb here none = straight_number (ops.Const n) tie may told items before after fits typed next absorb.0 here none
+    op_numbers (ops.Bin operator) tie may m pure told items before after fits typed next targets absorb here none = straight_number (ops.Bin operator) tie may told items before after fits typed next absorb.0 here none
+    op_numbers ops.Neg tie may m pure told items before after fits typed next targets absorb here none = straight_number ops.Neg tie may told items before after fits typed next absorb.0 here none
+    op_numbers ops.Not tie may m pure told items before after fits typed next targets absorb here none = straight_number ops.Not tie may told items before after fits typed next absorb.0 here none
+    op_numbers ops.ConvI4 tie may m pure told items before after fits typed next targets absorb here none = straight_number ops.ConvI4 tie may told items before after fits typed next absorb.0 here none
+    op_numbers ops.Length tie may m pure told items before after fits typed next targets absorb here none = straight_number ops.Length tie may told items before after fits typed next absorb.0 here none
+    op_numbers (ops.LoadElem place) tie may m pure told items before after fits typed next targets absorb here none = straight_number (ops.LoadElem place) tie may told items before after fits typed next absorb.0 here none
+    op_numbers (ops.Text token) tie may m pure told items before after fits typed next targets absorb here none = straight_number (ops.Text token) tie may told items before after fits typed next absorb.0 here none
+    op_numbers (ops.Call number) tie may m pure told items before after fits typed next targets absorb here none = straight_number (ops.Call number) tie may told items before after fits typed next absorb.0 here none
+    op_numbers _ tie may m pure told items before after fits typed next targets absorb here none = absurd (false≢true pure)
+
+    below_number : (told : List Told) (items : List Item) (before : List Kind) → stack_at is stacks i.at ≡ Some before → FitAll shape ensured told items before
+        → faults_at faults is shape i told ≡ [] → Number (tree_at trees (closing i.op) i i.op items)
+    below_number told items before reached fits none =
+        let s = settled shape is stacks i.at i before decoded kinds found reached in
+        let right = is_right is shape start call clause i found above below in
+        let stays = clause.others_stay i found above below in
+        let next = next_begins is i.at call.at i call clause.short found clause.there below in
+        let size : IsOfShortCode i = of_found IsOfShortCode is i.at i clause.short.each found in
+        let apart = all_here (closes i.op) (is_pure is i) (nat_lt (length told) (operand_count shape i.op)) (closing_faults i.at (operand_count shape i.op) (length told))
+            (faults_here i i.op told) (flat_map (λ later. faults later (stack_behind shape i i.op told)) (ways_behind i.op (i.at + i.size))) (StackLeft i.at) stays right.pure none in
+        rw (closing_none i.op stays) (op_numbers i.op refl (may_ask i found above below)
+        (option_map_or (λ after. calls_with_message after.op) (instr_at is (i.at + i.size)) false) right.pure told items before s.after fits s.typed
+        (record { above = omega (arith, size.some); inside = next.inside; begins = next.begins }) right.onward s.onward apart.0 apart.1)
+
+  abbrev NumbersAt : ℕ → ℕ → Type 0
+  NumbersAt most at = (told : List Told) (items : List Item) (before : List Kind) → left is at ≤ suc most → at ≤ call.at → stack_at is stacks at ≡ Some before
+      → FitAll shape ensured told items before → faults_from (suc most) is shape call at told ≡ [] → Number (tree_from (suc most) is at items)
+
+  instr_number : (most : ℕ) → Numbers most → (i : Instr) → instr_at is i.at ≡ Some i → start ≤ i.at → NumbersAt most i.at
+  instr_number most rest i found above told items before few inside reached fits none =
+      let none_i : faults_at (faults_behind is shape start call clause most i.at) is shape i told ≡ [] =
+          subst (λ (o : Option Instr). option_map_or (λ j. faults_at (faults_behind is shape start call clause most i.at) is shape j told) o [] ≡ []) found none in
+      rw found (elim (cases_lt i.at call.at) [
+        | inl lower ↦ below_number most rest i found few above lower told items before reached fits none_i
+        | inr upper ↦
+            let end : i.at ≡ call.at = omega (arith, upper, inside) in
+            let one : i ≡ call = same_Some i call (sym found ∙ ap (instr_at is) end ∙ clause.there) in
+            let s = settled shape is stacks i.at i before decoded kinds found reached in
+            let typed = op_typed shape call.op clause.kind clause.message before s.after clause.closes_it (subst (λ (k : Instr). behind shape k.op before ≡ Some s.after) one s.typed) in
+            subst (λ (k : Instr). Number (tree_at (trees_behind is shape start call clause most i.at) (closing k.op) k k.op items)) (sym one)
+            (rw (clause.closes_it) (closed_number shape ensured clause.message told items before s.after fits typed))
+      ])
+
+  numbers : (most : ℕ) → Numbers most
+  numbers zero at told items before few above inside reached fits none = tt
+  numbers (suc most) at told items before few above inside reached fits none =
+      let (i, found) = reached_begins is stacks at before reached in
+      let same : i.at ≡ at = found_at is at i found in
+      subst (NumbersAt most) same (instr_number most (numbers most) i (ap (instr_at is) same ∙ found) (omega (arith, same, above))) told items before few inside reached fits none
+
+  -- The clause of code with no fault is a number, where the method's code has kinds and the clause begins with an empty stack.
+  pub clause_is_number : (tree : Term) → stack_at is stacks start ≡ Some [] → start ≤ call.at → way_faults is shape start call ≡ [] → tree_of is start ≡ Some tree
+      → kind_in shape.args shape.result (is_kind clause_kinds.Ensures clause.kind) tree ≡ Some Int
+  clause_is_number tree empty inside none made =
+      subst Number made (numbers (length is) start [] [] [] (left_most is start) (omega arith) inside empty tt none)
