@@ -141,10 +141,9 @@ module _ (shape : Shape) (ensured : Bool) where
     length_fits [] (Tree a ∷ items) before fits = absurd fits
     length_fits (t ∷ told) (Tree a ∷ items) [] fits = absurd fits
     length_fits (t ∷ told) (Tree a ∷ items) (kind ∷ below) fits =
-        fits_when (is_reference kind) (Some (Tree (terms.Len a) ∷ items)) (kinds.Native ∷ below) (made shape i (t ∷ []) ∷ told) (λ reference.
-        (
+        fits_when (is_reference kind) (Some (Tree (terms.Len a) ∷ items)) (kinds.Native ∷ below) (made shape i (t ∷ []) ∷ told) (λ reference. (
           one_inside i t.calls (terms.Len a) kinds.Native
-          (over_one t.calls terms.Len a kind (λ e k is under. length_number e a kind k reference is under) kinds.Native tt fits.0),
+              (over_one t.calls terms.Len a kind (λ e k is under. length_number e a kind k reference is under) kinds.Native tt fits.0),
           fits.1,
         ))
 
@@ -159,7 +158,7 @@ module _ (shape : Shape) (ensured : Bool) where
     unary_fits operator op (t ∷ told) (Tree a ∷ items) (kinds.Int ∷ below) fits tree none message =
         rw (tree a items) (
           one_inside i t.calls (terms.Un operator a) kinds.Int
-          (over_one t.calls (terms.Un operator) a kinds.Int (λ e k is under. unary_number e operator a k is under) kinds.Int tt fits.0),
+              (over_one t.calls (terms.Un operator) a kinds.Int (λ e k is under. unary_number e operator a k is under) kinds.Int tt fits.0),
           fits.1,
         )
     unary_fits operator op (t ∷ told) (Tree a ∷ items) (_ ∷ below) fits tree none message = rw (tree a items) tt
@@ -171,8 +170,7 @@ module _ (shape : Shape) (ensured : Bool) where
     convert_fits [] (Tree a ∷ items) before fits = absurd fits
     convert_fits (t ∷ told) (Tree a ∷ items) [] fits = absurd fits
     convert_fits (t ∷ told) (Tree a ∷ items) (kind ∷ below) fits =
-        fits_when (is_number kind) (Some (Tree a ∷ items)) (kinds.Int ∷ below) (made shape i (t ∷ []) ∷ told) (λ number.
-        (
+        fits_when (is_number kind) (Some (Tree a ∷ items)) (kinds.Int ∷ below) (made shape i (t ∷ []) ∷ told) (λ number. (
           one_inside i t.calls a kinds.Int (record {
             own = fits.0.own;
             is = fits.0.is;
@@ -196,11 +194,10 @@ module _ (shape : Shape) (ensured : Bool) where
     element_fits place (t ∷ []) (Tree b ∷ Tree a ∷ items) (kind ∷ below) fits = absurd fits.1
     element_fits place (t ∷ u ∷ told) (Tree b ∷ Tree a ∷ items) (kind ∷ []) fits = absurd fits.1
     element_fits place (t ∷ u ∷ told) (Tree b ∷ Tree a ∷ items) (kinds.Int ∷ array ∷ below) fits =
-        fits_when (is_array_of place array) (Some (Tree (terms.Elem place a b) ∷ items)) (kinds.Int ∷ below) (made shape i (t ∷ u ∷ []) ∷ told) (λ is_array.
-        (
+        fits_when (is_array_of place array) (Some (Tree (terms.Elem place a b) ∷ items)) (kinds.Int ∷ below) (made shape i (t ∷ u ∷ []) ∷ told) (λ is_array. (
           two_inside t.calls u.calls (terms.Elem place a b) kinds.Int
-          (over_two t.calls u.calls (terms.Elem place) a b array kinds.Int
-          (λ e j k is_a under_a is_b under_b. element_number e place a b array j k is_array is_a under_a is_b under_b) fits.0 fits.1.0),
+              (over_two t.calls u.calls (terms.Elem place) a b array kinds.Int
+              (λ e j k is_a under_a is_b under_b. element_number e place a b array j k is_array is_a under_a is_b under_b) fits.0 fits.1.0),
           fits.1.1,
         ))
     element_fits place (t ∷ u ∷ told) (Tree b ∷ Tree a ∷ items) (_ ∷ array ∷ below) fits = tt
@@ -216,23 +213,21 @@ module _ (shape : Shape) (ensured : Bool) where
     operator_fits operator c compares (t ∷ []) (Tree b ∷ Tree a ∷ items) (kind ∷ below) fits = absurd fits.1
     operator_fits operator c compares (t ∷ u ∷ told) (Tree b ∷ Tree a ∷ items) (kind ∷ []) fits = absurd fits.1
     operator_fits operator (Some op) compares (t ∷ u ∷ told) (Tree b ∷ Tree a ∷ items) (kind_b ∷ kind_a ∷ below) fits =
-        fits_when (pushes_comparison op kind_a kind_b) (Some (Tree (terms.Bin operator a b) ∷ items)) (kinds.Int ∷ below) (made shape i (t ∷ u ∷ []) ∷ told) (λ pushes.
-        (
+        fits_when (pushes_comparison op kind_a kind_b) (Some (Tree (terms.Bin operator a b) ∷ items)) (kinds.Int ∷ below) (made shape i (t ∷ u ∷ []) ∷ told) (λ pushes. (
           two_inside t.calls u.calls (terms.Bin operator a b) kinds.Int
-          (over_two t.calls u.calls (terms.Bin operator) a b kind_a kind_b
-          (λ e j k is_a under_a is_b under_b. operator_number e operator a b j k
-          (ap (λ c. operator_kind c (Some j) (Some k)) compares ∙ ap number_if (under_pushes op j k kind_a kind_b under_a under_b pushes)) is_a is_b) fits.0 fits.1.0),
+              (over_two t.calls u.calls (terms.Bin operator) a b kind_a kind_b
+              (λ e j k is_a under_a is_b under_b. operator_number e operator a b j k
+              (ap (λ c. operator_kind c (Some j) (Some k)) compares ∙ ap number_if (under_pushes op j k kind_a kind_b under_a under_b pushes)) is_a is_b) fits.0 fits.1.0),
           fits.1.1,
         ))
-    operator_fits operator None compares (t ∷ u ∷ told) (Tree b ∷ Tree a ∷ items) (kinds.Int ∷ kinds.Int ∷ below) fits =
-        (
-          two_inside t.calls u.calls (terms.Bin operator a b) kinds.Int
+    operator_fits operator None compares (t ∷ u ∷ told) (Tree b ∷ Tree a ∷ items) (kinds.Int ∷ kinds.Int ∷ below) fits = (
+      two_inside t.calls u.calls (terms.Bin operator a b) kinds.Int
           (over_two t.calls u.calls (terms.Bin operator) a b kinds.Int kinds.Int
           (λ e j k is_a under_a is_b under_b. operator_number e operator a b j k
           (ap (λ c. operator_kind c (Some j) (Some k)) compares
           ∙ ap number_if (and_from (is_int j) (is_int k) (ap is_int (under_int j under_a)) (ap is_int (under_int k under_b)))) is_a is_b) fits.0 fits.1.0),
-          fits.1.1,
-        )
+      fits.1.1,
+    )
     operator_fits operator None compares (t ∷ u ∷ told) (Tree b ∷ Tree a ∷ items) (kinds.Int ∷ _ ∷ below) fits = tt
     operator_fits operator None compares (t ∷ u ∷ told) (Tree b ∷ Tree a ∷ items) (_ ∷ kind_a ∷ below) fits = tt
 

@@ -104,6 +104,7 @@ target_passes test limits left target next rest none =
       | inl f ↦ record { one = inl (omega (arith, f, rest.nodes)) }
       | inr f ↦ record { one = inr (omega (arith, f, rest.conditions)) }
     ])
+
     turned : (a b : Term) → Exceeds left (term_size a) (condition_depth a) → passes limits (terms.Cond test.tree b a) ≡ true
     turned a b e = passed limits (terms.Cond test.tree b a) (elim e.one [
       | inl f ↦ record { one = inl (omega (arith, f, rest.nodes)) }
@@ -130,6 +131,7 @@ next_passes test limits left target next grown rest first none =
       | inl f ↦ record { one = inl (omega (arith, f, rest.nodes, first.nodes, size)) }
       | inr f ↦ record { one = inr (omega (arith, f, rest.conditions)) }
     ])
+
     turned : (a b : Term) → term_size grown.tree ≡ term_size a → Exceeds (after_target left grown) (term_size b) (condition_depth b)
         → passes limits (terms.Cond test.tree b a) ≡ true
     turned a b size e = passed limits (terms.Cond test.tree b a) (elim e.one [

@@ -205,7 +205,7 @@ pub record Onward (is : List Instr) (at last later : ℕ) : Type 0 where
 
 module _ (is : List Instr) (shape : Shape) (last : ℕ) (allowed : ℕ → Bool) (faults : ℕ → List Told → List ClauseFault) (from : ℕ → List Item → Option Term) (i : Instr)
     (later_has : (later : ℕ) (told : List Told) (items : List Item) → Onward is i.at last later → length told ≡ length items → AreTreesBelow (allowed later) items
-        → faults later told ≡ [] → IsSome (from later items)) where
+    → faults later told ≡ [] → IsSome (from later items)) where
   -- What is wrong behind an operation.
   abbrev wrong_behind : Op → List Told → List ClauseFault
   wrong_behind op told = flat_map (λ later. faults later (stack_behind shape i op told)) (ways_behind op (i.at + i.size))
@@ -297,8 +297,7 @@ onward_each is start at last [] above inside begins = tt
 onward_each is start at last (later ∷ ats) above inside begins =
     let up = or_parts (nat_le later at) (list_any (λ later. nat_le later at) ats) above in
     let in_code = or_parts (nat_lt later start || nat_lt last later) (list_any (λ later. nat_lt later start || nat_lt last later) ats) inside in
-    let within = or_parts (nat_lt later start) (nat_lt last later) in_code.0 in
-    (
+    let within = or_parts (nat_lt later start) (nat_lt last later) in_code.0 in (
       record { above = leb-false later at up.0; inside = ltb-false last later within.1; begins = begins.0 },
       onward_each is start at last ats up.1 in_code.1 begins.1,
     )
@@ -398,12 +397,12 @@ module _ (is : List Instr) (shape : Shape) (start : ℕ) (call : Instr) (clause 
       let next = next_begins is i.at call.at i call clause.short found clause.there below in
       let size : IsOfShortCode i = of_found IsOfShortCode is i.at i clause.short.each found in
       let parts = none_here (closes i.op) (is_pure is i) (nat_lt (length told) (operand_count shape i.op)) (closing_faults i.at (operand_count shape i.op) (length told))
-          (faults_here i i.op told) (flat_map (λ later. faults_behind most i.at later (stack_behind shape i i.op told)) (ways_behind i.op (i.at + i.size))) (StackLeft i.at)
-          (clause.others_stay i found above below) right.pure none in
+      (faults_here i i.op told) (flat_map (λ later. faults_behind most i.at later (stack_behind shape i i.op told)) (ways_behind i.op (i.at + i.size))) (StackLeft i.at)
+      (clause.others_stay i found above below) right.pure none in
       op_has is shape call.at allowed (faults_behind most i.at) (trees_behind most i.at) i
       (λ later others stack on same below_it none_later. goes_on most i.at later others stack on.above on.inside none_later
-          (λ no_faults. rest later others stack (omega (arith, left_falls is i.at later clause.short (left_some is i.at i found) on.above, few))
-              (omega (arith, above, on.above)) on.inside on.begins same below_it no_faults))
+      (λ no_faults. rest later others stack (omega (arith, left_falls is i.at later clause.short (left_some is i.at i found) on.above, few))
+      (omega (arith, above, on.above)) on.inside on.begins same below_it no_faults))
       i.op (next_takes i) told items long trees (clause.others_stay i found above below) right.pure
       (message_is_there i found above below) parts.0 (record { above = omega (arith, size.some); inside = next.inside; begins = next.begins }) right.onward parts.1
 
@@ -423,7 +422,7 @@ module _ (is : List Instr) (shape : Shape) (start : ℕ) (call : Instr) (clause 
   instr_has : (most : ℕ) → HasTrees most → (i : Instr) → instr_at is i.at ≡ Some i → start ≤ i.at → HasTreesAt most i.at
   instr_has most rest i found above told items few inside long trees none =
       let none_i : faults_at (faults_behind most i.at) is shape i told ≡ [] =
-          subst (λ (o : Option Instr). option_map_or (λ j. faults_at (faults_behind most i.at) is shape j told) o [] ≡ []) found none in
+      subst (λ (o : Option Instr). option_map_or (λ j. faults_at (faults_behind most i.at) is shape j told) o [] ≡ []) found none in
       rw found (elim (cases_lt i.at call.at) [
         | inl lower ↦
             below_has most rest i told items found few above lower long (below_call items (ne_eqb i.at call.at (λ e. omega (arith, e, lower))) trees) none_i
@@ -431,7 +430,7 @@ module _ (is : List Instr) (shape : Shape) (start : ℕ) (call : Instr) (clause 
             let end : i.at ≡ call.at = omega (arith, upper, inside) in
             let one : i ≡ call = same_Some i call (sym found ∙ ap (instr_at is) end ∙ clause.there) in
             let none_call : faults_at (faults_behind most i.at) is shape call told ≡ [] =
-                subst (λ (k : Instr). faults_at (faults_behind most i.at) is shape k told ≡ []) one none_i in
+            subst (λ (k : Instr). faults_at (faults_behind most i.at) is shape k told ≡ []) one none_i in
             subst (λ (k : Instr). IsSome (tree_at (trees_behind most i.at) (closing k.op) k k.op items)) (sym one)
             (closing_has i.at (trees_behind most i.at) told items long trees
             (subst (λ (b : Bool). (if b then closing_faults call.at (operand_count shape call.op) (length told) else faults_open (faults_behind most i.at) told) ≡ [])

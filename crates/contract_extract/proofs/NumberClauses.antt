@@ -63,8 +63,7 @@ fits_merged shape ensured (t ∷ told) (Tree a ∷ items) (kind ∷ before) [] f
 fits_merged shape ensured (t ∷ told) (Tree a ∷ items) (kind ∷ before) (k ∷ later) fits e =
     let p = parts (merged_kind k kind) (merged later before) (k ∷ later) e in
     let first : p.first ≡ k = cc in
-    let others : p.others ≡ later = cc in
-    (
+    let others : p.others ≡ later = cc in (
       record {
         own = fits.0.own;
         is = fits.0.is;
@@ -77,8 +76,7 @@ fits_merged shape ensured (t ∷ told) (Message ∷ items) (kind ∷ before) [] 
 fits_merged shape ensured (t ∷ told) (Message ∷ items) (kind ∷ before) (k ∷ later) fits e =
     let p = parts (merged_kind k kind) (merged later before) (k ∷ later) e in
     let first : p.first ≡ k = cc in
-    let others : p.others ≡ later = cc in
-    (
+    let others : p.others ≡ later = cc in (
       text_merged k (ap (merged_kind k) (sym fits.0) ∙ p.first_is ∙ ap Some first),
       fits_merged shape ensured told items before later fits.1 (p.others_are ∙ ap Some others),
     )
@@ -204,10 +202,9 @@ module _ (is : List Instr) (shape : Shape) (start : ℕ) (call : Instr) (clause 
       let none = none_in_both (fault_if (not (is_pure is i)) (NotPure i.at) ++ branch_faults start call i) _ (clause.right i found above below) in
       let placed : is_misplaced shape.result (closing call.op) i ≡ false = no_fault_if (is_misplaced shape.result (closing call.op) i) (OldForm i.at) none.1 in
       let wrong : (is_requires (closing call.op) || (not (is_old_value i.op) && not (place_number place == place_number shape.result))) ≡ false =
-          subst (λ (o : Option Place). option_map_or (λ p. is_requires (closing call.op) || (not (is_old_value i.op) && not (place_number p == place_number shape.result))) o false ≡ false)
-          asks placed in
-      let apart = or_parts (is_requires (closing call.op)) (not (is_old_value i.op) && not (place_number place == place_number shape.result)) wrong in
-      (
+      subst (λ (o : Option Place). option_map_or (λ p. is_requires (closing call.op) || (not (is_old_value i.op) && not (place_number p == place_number shape.result))) o false ≡ false)
+      asks placed in
+      let apart = or_parts (is_requires (closing call.op)) (not (is_old_value i.op) && not (place_number place == place_number shape.result)) wrong in (
         by_kind clause.kind (subst (λ (c : Option (ClauseKind × Bool)). is_requires c ≡ false) clause.closes_it apart.0),
         λ result_call. own (place_number place == place_number shape.result) (is_old_value i.op) (eqb-true (place_number place) (place_number shape.result)) result_call apart.1,
       )
@@ -237,7 +234,7 @@ module _ (is : List Instr) (shape : Shape) (start : ℕ) (call : Instr) (clause 
     later_number later told items after on absorbs fits none =
         let forward : goes_forward i.at later call ≡ true = and_from (nat_lt i.at later) (nat_le later call.at) (lt-ltb i.at later on.above) (le-leb later call.at on.inside) in
         let none_later : faults_from most is shape call later told ≡ [] =
-            subst (λ (b : Bool). (if b then faults_from most is shape call later told else []) ≡ []) forward none in
+        subst (λ (b : Bool). (if b then faults_from most is shape call later told else []) ≡ []) forward none in
         rw (lt-ltb i.at later on.above) (rest later told items absorbs.kinds (omega (arith, left_falls is i.at later clause.short (left_some is i.at i found) on.above, few))
         (omega (arith, above, on.above)) on.inside absorbs.reached (fits_merged shape ensured told items after absorbs.kinds fits absorbs.merge) none_later)
 
@@ -342,7 +339,7 @@ module _ (is : List Instr) (shape : Shape) (start : ℕ) (call : Instr) (clause 
         let next = next_begins is i.at call.at i call clause.short found clause.there below in
         let size : IsOfShortCode i = of_found IsOfShortCode is i.at i clause.short.each found in
         let apart = all_here (closes i.op) (is_pure is i) (nat_lt (length told) (operand_count shape i.op)) (closing_faults i.at (operand_count shape i.op) (length told))
-            (faults_here i i.op told) (flat_map (λ later. faults later (stack_behind shape i i.op told)) (ways_behind i.op (i.at + i.size))) (StackLeft i.at) stays right.pure none in
+        (faults_here i i.op told) (flat_map (λ later. faults later (stack_behind shape i i.op told)) (ways_behind i.op (i.at + i.size))) (StackLeft i.at) stays right.pure none in
         rw (closing_none i.op stays) (op_numbers i.op refl (may_ask i found above below)
         (option_map_or (λ after. calls_with_message after.op) (instr_at is (i.at + i.size)) false) right.pure told items before s.after fits s.typed
         (record { above = omega (arith, size.some); inside = next.inside; begins = next.begins }) right.onward s.onward apart.0 apart.1)
@@ -354,7 +351,7 @@ module _ (is : List Instr) (shape : Shape) (start : ℕ) (call : Instr) (clause 
   instr_number : (most : ℕ) → Numbers most → (i : Instr) → instr_at is i.at ≡ Some i → start ≤ i.at → NumbersAt most i.at
   instr_number most rest i found above told items before few inside reached fits none =
       let none_i : faults_at (faults_behind is shape start call clause most i.at) is shape i told ≡ [] =
-          subst (λ (o : Option Instr). option_map_or (λ j. faults_at (faults_behind is shape start call clause most i.at) is shape j told) o [] ≡ []) found none in
+      subst (λ (o : Option Instr). option_map_or (λ j. faults_at (faults_behind is shape start call clause most i.at) is shape j told) o [] ≡ []) found none in
       rw found (elim (cases_lt i.at call.at) [
         | inl lower ↦ below_number most rest i found few above lower told items before reached fits none_i
         | inr upper ↦

@@ -48,7 +48,11 @@ fn take_tree(stack: &mut TreeStack, turned: bool) -> Option<Condition>
 }
 
 /// Takes the two trees that a branch compares, if they are there.
-fn take_comparison(alloc: Global, op: CmpOp, stack: &mut TreeStack) -> Result<Option<Condition>, AllocError>
+fn take_comparison(
+    alloc: Global,
+    op: CmpOp,
+    stack: &mut TreeStack,
+) -> Result<Option<Condition>, AllocError>
     ensures { IfOk result (λ taken. option_map (λ condition. (condition, items_of stack.new.items)) taken ≡ tested (tests.Cmp op) (items_of stack.old.items)) }
 {
     let Some(Slot::Tree(b)) = stack.pop_front() else {
@@ -66,7 +70,11 @@ fn take_comparison(alloc: Global, op: CmpOp, stack: &mut TreeStack) -> Result<Op
 }
 
 /// Takes the condition of a branch that goes two ways, if its operands are there.
-pub(crate) fn take_condition(alloc: Global, test: Test, stack: &mut TreeStack) -> Result<Option<Condition>, AllocError>
+pub(crate) fn take_condition(
+    alloc: Global,
+    test: Test,
+    stack: &mut TreeStack,
+) -> Result<Option<Condition>, AllocError>
     ensures { IfOk result (λ taken. option_map (λ condition. (condition, items_of stack.new.items)) taken ≡ tested test (items_of stack.old.items)) }
 {
     match test {

@@ -35,7 +35,11 @@ const CLAUSE_LIMITS: Limits = Limits {
 /// the nodes behind the ends of ways and in conditions are more than a clause may have, so the time is that of so many nodes,
 /// times the conditions on a way. Instructions that make no node are gone over on each way: nop, br and conv.i4.
 #[tactic(auto, unfolding(crate::specs::Growth::forward))]
-pub(crate) fn read_clause(alloc: Global, instrs: &[Instr], start: u32) -> Result<Option<ReadClause>, AllocError>
+pub(crate) fn read_clause(
+    alloc: Global,
+    instrs: &[Instr],
+    start: u32,
+) -> Result<Option<ReadClause>, AllocError>
     requires lie { AreOfShortCode instrs.now }
     // The code has a tree, as code with no fault has.
     requires has_tree { IsSome (tree_of instrs.now start) }

@@ -55,8 +55,7 @@ fn later_than(at: u32, later: u32) -> Option<u32>
 
 /// Makes the stack before an instruction the one behind it, and says where the way goes on, if the code of a clause may
 /// have the instruction there.
-#[tactic(auto, using(crate::proofs::Stretches::jumping, crate::proofs::Stretches::passing, crate::proofs::Stretches::lacking,
-    crate::proofs::Stretches::rising, crate::proofs::Stretches::flat_left))]
+#[tactic(auto, using(crate::proofs::Stretches::jumping, crate::proofs::Stretches::passing, crate::proofs::Stretches::lacking, crate::proofs::Stretches::rising, crate::proofs::Stretches::flat_left))]
 fn step(alloc: Global, instr: &Instr, stack: &mut TreeStack) -> Result<Option<u32>, AllocError>
     requires short { IsOfShortCode instr.now }
     requires straight { ends_stretch instr.now.op ≡ false }
@@ -75,8 +74,7 @@ fn step(alloc: Global, instr: &Instr, stack: &mut TreeStack) -> Result<Option<u3
 }
 
 /// The first instruction from an IL offset on that may make a node, if there is one.
-#[tactic(auto, using(crate::proofs::Working::working_tree, crate::proofs::Working::no_working_tree, crate::proofs::Working::working_later, crate::proofs::Working::nowhere,
-    crate::proofs::Found::found_short))]
+#[tactic(auto, using(crate::proofs::Working::working_tree, crate::proofs::Working::no_working_tree, crate::proofs::Working::working_later, crate::proofs::Working::nowhere, crate::proofs::Found::found_short))]
 fn find_working<'a>(instrs: &'a [Instr], skips: &[u32], at: u32) -> Option<&'a Instr>
     requires lie { AreOfShortCode instrs.now }
     requires skips { AreSkips instrs.now skips.now }

@@ -41,8 +41,7 @@ fn leaf(message: bool, stack: TreeStack, limits: Limits) -> Option<Grown>
 
 /// The tree over a condition of a branch, within limits.
 #[cycle(growth)]
-#[tactic(auto, using(crate::proofs::Growing::full_passes, crate::proofs::Growing::target_passes, crate::proofs::Growing::next_passes,
-    crate::proofs::Growing::both_grown, crate::proofs::Growing::onward_later, crate::proofs::Growing::onward_none, crate::proofs::Growing::no_target))]
+#[tactic(auto, using(crate::proofs::Growing::full_passes, crate::proofs::Growing::target_passes, crate::proofs::Growing::next_passes, crate::proofs::Growing::both_grown, crate::proofs::Growing::onward_later, crate::proofs::Growing::onward_none, crate::proofs::Growing::no_target))]
 fn fork(
     alloc: Global,
     instrs: &[Instr],

@@ -99,7 +99,11 @@ fn take_old(alloc: Global, place: Place, stack: &mut TreeStack) -> Result<bool, 
 }
 
 /// What a call inside a clause makes of the stack.
-fn take_call(alloc: Global, call: Option<UnitCall>, stack: &mut TreeStack) -> Result<bool, AllocError>
+fn take_call(
+    alloc: Global,
+    call: Option<UnitCall>,
+    stack: &mut TreeStack,
+) -> Result<bool, AllocError>
     ensures { IfOk result (λ fits. left_if fits stack.new.items ≡ with_call call (items_of stack.old.items)) }
 {
     match call {

@@ -22,9 +22,7 @@ pub(crate) fn copied(alloc: Global, tree: &Tree) -> Result<Tree, AllocError>
         Node::Bin(operator, a, b) => Node::Bin(*operator, boxed(alloc, a)?, boxed(alloc, b)?),
         Node::Un(operator, a) => Node::Un(*operator, boxed(alloc, a)?),
         Node::Old(a) => Node::Old(boxed(alloc, a)?),
-        Node::Cond(a, b, c) => {
-            Node::Cond(boxed(alloc, a)?, boxed(alloc, b)?, boxed(alloc, c)?)
-        }
+        Node::Cond(a, b, c) => { Node::Cond(boxed(alloc, a)?, boxed(alloc, b)?, boxed(alloc, c)?) }
     };
     Ok(Tree { node })
 }
