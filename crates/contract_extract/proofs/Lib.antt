@@ -14,3 +14,5 @@ pub mod UnderKinds
 pub mod PlacedCalls
 pub mod FitTrees
 pub mod NumberClauses
+pub mod ClausesByIndex
+pub mod ClauseSizeRows

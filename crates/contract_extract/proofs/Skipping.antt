@@ -44,7 +44,7 @@ idle_at from i ops.ConvI4 to (Tree a ∷ items) idle above =
     keeps_same _ _ (ap (λ (n : ℕ). onward from i.at n (Tree a ∷ items)) same ∙ onward_later from i.at to (Tree a ∷ items) above)
 idle_at from i _ to items idle above = absurd cc
 
-slice_found_from : (from : ℕ) (is : List Instr) (k : ℕ) (i : Instr) → LieFrom from is → AllByRecursion IsOfShortCode is → slice_get is k ≡ Some i
+pub slice_found_from : (from : ℕ) (is : List Instr) (k : ℕ) (i : Instr) → LieFrom from is → AllByRecursion IsOfShortCode is → slice_get is k ≡ Some i
     → (from ≤ i.at) × (instr_at is i.at ≡ Some i)
 slice_found_from from [] k i lie each e = absurd cc
 slice_found_from from (j ∷ is) zero i lie each e =
