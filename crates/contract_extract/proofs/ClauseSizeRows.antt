@@ -1,5 +1,5 @@
 -- Clauses at their limits, worked by hand: the nodes, the conditions on a way, and parts that stand in a tree more than once.
-use Rattle.std.proofs.Common.{◌≡◌, ℕ, zero, suc, ◌+◌, pos, true, false, List, [], ◌∷◌, ◌++◌, Option, Some, refl}
+use Rattle.std.proofs.Common.{◌≡◌, ℕ, zero, suc, ◌+◌, pos, true, false, List, [], ◌∷◌, ◌++◌, Some, refl}
 use Rattle.cil_model.specs.ClauseTrees.{tree_of}
 use Rattle.cil_model.specs.Terms.{Term, Const, Arg, Un, Old, Cond, term_size, old_count}
 use Rattle.cil_model.specs.UnitCalls.{unit_call}

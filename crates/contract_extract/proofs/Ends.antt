@@ -1,10 +1,9 @@
 -- What ends a straight stretch of a clause's code: the call that closes it, or a branch that goes two ways.
-use Rattle.std.proofs.Common.{◌≡◌, ℕ, ◌+◌, Bool, true, false, ◌||◌, List, [], ◌∷◌, Option, Some, None, IfSome, is_some, option_map, max, refl, sym, ap, subst, ◌∙◌, arith}
+use Rattle.std.proofs.Common.{◌≡◌, ℕ, ◌+◌, Bool, true, List, [], ◌∷◌, Option, Some, None, IfSome, option_map, max, refl, sym, ap, subst, ◌∙◌, arith}
 use Rattle.std.specs.Option.{option_and_then}
 use Rattle.std.proofs.lemmas.Bool.{false≢true}
 use Rattle.std.proofs.lemmas.Option.{none-some, same_Some}
-use Rattle.cil_model.specs.ClauseTrees.{Item, Tree, Message, branch_operator, branch_tree, closed_tree, closing, condition, tree_at}
-use Rattle.cil_model.specs.Terms as terms
+use Rattle.cil_model.specs.ClauseTrees.{Item, Tree, Message, branch_tree, closed_tree, closing, tree_at}
 use Rattle.cil_model.specs.Terms.{Term, condition_depth}
 use Rattle.cil_model.specs.declared.clause.ClauseKind.{ClauseKind}
 use Rattle.cil_model.specs.declared.instruction.Instr.{Instr}

@@ -1,8 +1,8 @@
 -- The tree from an IL offset on, without the bound on the instructions: in code that lies one behind another, as many as it
 -- has are enough.
-use Rattle.std.proofs.Common.{◌≡◌, ℕ, zero, suc, ◌<◌, ◌≤◌, Bool, true, false, nat_lt, List, [], ◌∷◌, length, Option, Some, None, if◌then◌else◌, refl, sym, ap, ◌∙◌, arith}
+use Rattle.std.proofs.Common.{◌≡◌, ℕ, zero, suc, ◌<◌, ◌≤◌, Bool, true, false, nat_lt, List, length, Option, Some, None, if◌then◌else◌, refl, sym, ap, ◌∙◌, arith}
 use Rattle.std.specs.Option.{option_and_then}
-use Rattle.std.proofs.lemmas.Bool.{cond_both, ltb-true}
+use Rattle.std.proofs.lemmas.Bool.{ltb-true}
 use Rattle.cil_model.specs.ClauseTrees.{Item, closing, tree_at, tree_from}
 use Rattle.cil_model.specs.Runs.{instr_at}
 use Rattle.cil_model.specs.Terms.{Term}

@@ -1,5 +1,5 @@
 -- The instruction that is found at an IL offset, and the tree from there on.
-use Rattle.std.proofs.Common.{◌≡◌, ℕ, ◌≤◌, List, Option, Some, None, slice_index_or, sym, ap, ◌∙◌, arith}
+use Rattle.std.proofs.Common.{◌≡◌, ℕ, List, Some, None, sym, ap, ◌∙◌}
 use Rattle.std.specs.Option.{option_and_then}
 use Rattle.cil_model.specs.ClauseTrees.{Item}
 use Rattle.cil_model.specs.Runs.{instr_at}

@@ -1,18 +1,11 @@
 -- How a tree grows over a condition, and where it passes its limits.
-use Rattle.std.proofs.Common.{◌≡◌, ℕ, zero, suc, ◌+◌, ◌<◌, ◌≤◌, Bool, true, false, ◌||◌, ◌⊎◌, max, nat_lt, List, [], ◌∷◌, Option, Some, None, IfSome, is_some, if◌then◌else◌, refl, sym, ap, subst, ◌∙◌, arith, inl, inr}
-use Rattle.std.specs.Option.{option_and_then}
-use Rattle.std.proofs.lemmas.Bool.{false≢true, le-ltb, lt-ltb, ltb-true, or_cases, or_left, or_right}
+use Rattle.std.proofs.Common.{◌≡◌, ℕ, ◌+◌, ◌<◌, ◌≤◌, Bool, true, false, ◌⊎◌, max, nat_lt, List, [], ◌∷◌, Option, Some, None, IfSome, refl, sym, ap, subst, ◌∙◌, arith, inl, inr}
+use Rattle.std.proofs.lemmas.Bool.{le-ltb, lt-ltb, ltb-true, or_cases, or_left, or_right}
 use Rattle.std.proofs.lemmas.Option.{none-some, same_Some}
-use Rattle.cil_model.specs.ClauseTrees.{Item, Tree, Message, branch_operator, branch_tree, closed_by, closed_tree, closing, condition, tree_at}
+use Rattle.cil_model.specs.ClauseTrees.{Item, Tree, Message, closed_tree, condition}
 use Rattle.cil_model.specs.Terms as terms
 use Rattle.cil_model.specs.Terms.{Term, condition_depth, term_size}
-use Rattle.cil_model.specs.declared.instruction.Instr.{Instr}
-use Rattle.cil_model.specs.declared.instruction.Op.{Op}
-use Rattle.cil_model.specs.declared.instruction.Op.TheVariants as ops
-use Rattle.cil_model.specs.declared.instruction.Test.{Test}
-use Rattle.cil_model.specs.declared.instruction.Test.TheVariants as tests
-use Rattle.contract_extract.specs.Growth.{AreFlat, Grows, IsGrown, IsLeft, Keeps, ends_stretch, forked, forward, is_full, onward, passes, tested, tree_here}
-use Rattle.contract_extract.specs.TreeStacks.{items_of}
+use Rattle.contract_extract.specs.Growth.{AreFlat, Grows, IsGrown, IsLeft, Keeps, forked, is_full, onward, passes}
 use Rattle.contract_extract.specs.declared.conditions.Condition.{Condition}
 use Rattle.contract_extract.specs.declared.limits.Limits.{Limits}
 use Rattle.contract_extract.specs.declared.limits.Grown.{Grown}

@@ -1,9 +1,9 @@
 -- A clause's code with no fault has a tree: both are found on the same ways forward.
-use Rattle.std.proofs.Common.{◌≡◌, ℕ, zero, suc, ◌+◌, ◌<◌, ◌≤◌, ◌==◌, Bool, true, false, not, ◌&&◌, ◌||◌, nat_lt, nat_le, List, [], ◌∷◌, ◌++◌, length, map, take, drop, Option, Some, None, is_some, IsSome, if◌then◌else◌, refl, sym, ap, subst, ◌∙◌, arith, inl, inr}
+use Rattle.std.proofs.Common.{◌≡◌, ℕ, zero, suc, ◌+◌, ◌<◌, ◌≤◌, ◌==◌, Bool, true, false, not, ◌&&◌, ◌||◌, nat_lt, nat_le, List, [], ◌∷◌, ◌++◌, length, take, drop, Option, Some, None, IsSome, if◌then◌else◌, refl, sym, ap, subst, ◌∙◌, arith, inl, inr}
 use Rattle.std.specs.List.{AllByRecursion, flat_map, list_any}
 use Rattle.std.specs.Option.{option_and_then, option_map_or}
-use Rattle.std.proofs.lemmas.Bool.{cond_both, eqb-true, false≢true, and_from, and_parts, both_ways, cases_lt, eq-eqb, ne_eqb, le-leb, lt-ltb, leb-false, ltb-false, not-false, or_parts}
-use Rattle.std.proofs.lemmas.Option.{none-some, same_Some, some_pair_parts}
+use Rattle.std.proofs.lemmas.Bool.{eqb-true, false≢true, and_from, and_parts, both_ways, cases_lt, eq-eqb, ne_eqb, le-leb, lt-ltb, leb-false, ltb-false, not-false, or_parts}
+use Rattle.std.proofs.lemmas.Option.{same_Some, some_pair_parts}
 use Rattle.cil_model.specs.Blocks.{branch_targets, closes, is_closing_call}
 use Rattle.cil_model.specs.ClauseTrees.{Item, Tree, Message, branch_operator, branch_tree, closed_by, closed_tree, closing, condition, items_behind, with_call, tree_at, tree_from, tree_of}
 use Rattle.cil_model.specs.Code.{begins_at}
@@ -29,7 +29,7 @@ use Rattle.contract_extract.specs.PureCode.{calls_with_message, is_clause_call, 
 use Rattle.contract_extract.specs.Ways.{Told, closing_faults, faults_at, faults_from, faults_here, made, stack_behind, stack_by, way_faults, ways_behind}
 use Rattle.contract_extract.specs.declared.clause_fault.ClauseFault.{ClauseFault}
 use Rattle.contract_extract.specs.declared.clause_fault.ClauseFault.TheVariants.{NotPure, Backward, IntoBlock, StackLeft}
-use Rattle.contract_extract.proofs.InstrOffsets.{Next, begin_found, found_at, left, left_falls, left_most, left_some, next_begins}
+use Rattle.contract_extract.proofs.InstrOffsets.{begin_found, found_at, left, left_falls, left_most, left_some, next_begins}
 use Rattle.cil_model.proofs.Lists.{of_found}
 use Rattle.contract_extract.proofs.NoFaults.{no_fault_if, none_in_both}
 use Rattle.flow_graph.specs.ShortCode.{AreOfShortCode, IsOfShortCode}

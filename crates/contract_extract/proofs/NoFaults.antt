@@ -1,7 +1,7 @@
 -- Lists of faults that are empty.
-use Rattle.std.proofs.Common.{◌≡◌, Bool, true, false, List, [], ◌∷◌, ◌++◌, Option, Some, None, refl}
+use Rattle.std.proofs.Common.{◌≡◌, Bool, true, false, List, [], ◌∷◌, ◌++◌, None, refl}
 use Rattle.std.specs.List.{AllByRecursion, flat_map}
-use Rattle.contract_extract.specs.Faults.{fault_if, first_fault, earlier}
+use Rattle.contract_extract.specs.Faults.{fault_if, first_fault}
 use Rattle.contract_extract.specs.declared.clause_fault.ClauseFault.{ClauseFault}
 
 pub no_first : (faults : List ClauseFault) → first_fault faults ≡ None → faults ≡ []

@@ -1,9 +1,9 @@
 -- A clause of code that has kinds is a number: the trees on each way fit the kinds that typing has there.
-use Rattle.std.proofs.Common.{◌≡◌, ℕ, zero, suc, ◌+◌, ◌<◌, ◌≤◌, ◌==◌, Bool, true, false, not, ◌&&◌, ◌||◌, nat_lt, nat_le, List, [], ◌∷◌, ◌++◌, length, drop, Option, Some, None, IfSome, if◌then◌else◌, refl, sym, ap, subst, ◌∙◌, arith, inl, inr}
-use Rattle.std.specs.List.{AllByRecursion, flat_map, list_any}
+use Rattle.std.proofs.Common.{◌≡◌, ℕ, zero, suc, ◌+◌, ◌<◌, ◌≤◌, ◌==◌, Bool, true, false, not, ◌&&◌, ◌||◌, nat_lt, nat_le, List, [], ◌∷◌, ◌++◌, length, Option, Some, None, IfSome, if◌then◌else◌, refl, sym, ap, subst, ◌∙◌, arith, inl, inr}
+use Rattle.std.specs.List.{AllByRecursion, flat_map}
 use Rattle.std.specs.Option.{option_and_then, option_map_or}
 use Rattle.std.proofs.lemmas.Bool.{and_from, cases_lt, eqb-true, false≢true, le-leb, lt-ltb, or_parts}
-use Rattle.std.proofs.lemmas.Option.{cond_some, none-some, same_Some, some_pair_parts}
+use Rattle.std.proofs.lemmas.Option.{cond_some, same_Some, some_pair_parts}
 use Rattle.cil_model.specs.Blocks.{branch_targets, closes, is_closing_call}
 use Rattle.cil_model.specs.ClauseTrees.{Item, Tree, Message, branch_operator, branch_tree, closed_by, closed_tree, closing, condition, items_behind, tree_at, tree_from, tree_of}
 use Rattle.cil_model.specs.Clauses.{is_kind}
@@ -27,7 +27,7 @@ use Rattle.cil_model.specs.declared.instruction.Op.TheVariants as ops
 use Rattle.cil_model.specs.declared.instruction.Test.{Test}
 use Rattle.cil_model.specs.declared.instruction.Test.TheVariants as tests
 use Rattle.cil_model.specs.declared.place.Kind.{Kind}
-use Rattle.cil_model.specs.declared.place.Kind.TheVariants.{Int, Native, Ints, Bools, NullRef, Text}
+use Rattle.cil_model.specs.declared.place.Kind.TheVariants.{Int, Text}
 use Rattle.cil_model.specs.declared.place.Place.{Place}
 use Rattle.cil_model.specs.declared.place.Place.TheVariants as places
 use Rattle.cil_model.specs.declared.shape.Shape.{Shape}
@@ -36,16 +36,16 @@ use Rattle.cil_model.specs.declared.unit_numbers.UnitCall.TheVariants as calls
 use Rattle.cil_model.proofs.KindsGrow.{parts}
 use Rattle.cil_model.proofs.Lists.{of_found}
 use Rattle.flow_graph.specs.ShortCode.{IsOfShortCode}
-use Rattle.cil_model.proofs.KindsSettle.{Absorbs, Settled, reached_begins, settled}
+use Rattle.cil_model.proofs.KindsSettle.{Absorbs, reached_begins, settled}
 use Rattle.contract_extract.specs.ClauseCodes.{goes_forward}
-use Rattle.contract_extract.specs.Faults.{branch_faults, fault_if, faults_of, is_misplaced, is_requires}
+use Rattle.contract_extract.specs.Faults.{branch_faults, fault_if, is_misplaced, is_requires}
 use Rattle.contract_extract.specs.PureCode.{calls_with_message, is_pure, is_pure_before}
-use Rattle.contract_extract.specs.Ways.{Told, asked_by, closing_faults, faults_at, faults_from, faults_here, is_old_value, stack_behind, stack_by, way_faults, ways_behind}
+use Rattle.contract_extract.specs.Ways.{Told, closing_faults, faults_at, faults_from, faults_here, is_old_value, stack_behind, stack_by, way_faults, ways_behind}
 use Rattle.contract_extract.specs.declared.clause_fault.ClauseFault.{ClauseFault}
 use Rattle.contract_extract.specs.declared.clause_fault.ClauseFault.TheVariants.{NotPure, OldForm, StackLeft}
-use Rattle.contract_extract.proofs.FitTrees.{FitAll, Fits, FitsIf, MayAsk, op_fits}
-use Rattle.contract_extract.proofs.HasTree.{IsClause, IsRight, Onward, closes_from, faults_behind, is_right, trees_behind}
-use Rattle.contract_extract.proofs.InstrOffsets.{Next, found_at, left, left_falls, left_most, left_some, next_begins}
+use Rattle.contract_extract.proofs.FitTrees.{FitAll, FitsIf, MayAsk, op_fits}
+use Rattle.contract_extract.proofs.HasTree.{IsClause, Onward, faults_behind, is_right, trees_behind}
+use Rattle.contract_extract.proofs.InstrOffsets.{found_at, left, left_falls, left_most, left_some, next_begins}
 use Rattle.contract_extract.proofs.NoFaults.{no_fault_if, none_in_both}
 use Rattle.contract_extract.proofs.UnderKinds.{Under, compares_pushes, under_compares, under_int, under_merged, under_tested}
 

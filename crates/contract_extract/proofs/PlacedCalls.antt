@@ -1,5 +1,5 @@
 -- The place of a Result is one that has values.
-use Rattle.std.proofs.Common.{◌≡◌, ℕ, ◌-◌, ◌==◌, nat_le, Bool, true, false, Option, Some, None, if◌then◌else◌, refl}
+use Rattle.std.proofs.Common.{◌≡◌, ℕ, ◌==◌, nat_le, Bool, true, false, Option, Some, if◌then◌else◌, refl}
 use Rattle.cil_model.specs.Kinds.{kind_of}
 use Rattle.cil_model.specs.UnitCalls.{condition_call, place_call, unit_call}
 use Rattle.cil_model.specs.declared.place.Kind.{Kind}

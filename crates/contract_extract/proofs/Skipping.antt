@@ -1,11 +1,11 @@
 -- Instructions that make no node: from the next one on a clause has the same tree.
-use Rattle.std.proofs.Common.{◌≡◌, ◌≢◌, Bool, true, false, nat_lt, if◌then◌else◌, ℕ, zero, suc, ◌+◌, ◌<◌, ◌≤◌, List, [], ◌∷◌, length, map, set, Option, Some, None, IfSome, slice_get, slice_index_or, get_or, refl, sym, ap, subst, ◌∙◌, arith, inl, inr}
+use Rattle.std.proofs.Common.{◌≡◌, Bool, true, false, nat_lt, if◌then◌else◌, ℕ, zero, suc, ◌+◌, ◌<◌, ◌≤◌, List, [], ◌∷◌, length, map, set, Option, Some, None, slice_get, slice_index_or, get_or, refl, sym, ap, subst, ◌∙◌, arith, inl, inr}
 use Rattle.std.specs.List.{AllByRecursion}
 use Rattle.std.specs.Option.{option_and_then}
 use Rattle.std.proofs.lemmas.Bool.{cases_eq, eq-eqb, ltb-true, ne_eqb}
 use Rattle.std.proofs.lemmas.List.{get_or-set_other, get_or-set_same, length-map, length-set}
-use Rattle.std.proofs.lemmas.Option.{none-some, same_Some, slice_get_past, slice_get_within}
-use Rattle.cil_model.specs.ClauseTrees.{Item, Tree, Message, closing, items_behind, tree_at, with_unary}
+use Rattle.std.proofs.lemmas.Option.{same_Some}
+use Rattle.cil_model.specs.ClauseTrees.{Item, Tree, Message, closing, tree_at}
 use Rattle.cil_model.specs.Runs.{instr_at}
 use Rattle.cil_model.specs.Terms.{Term}
 use Rattle.cil_model.specs.declared.instruction.Instr.{Instr}

@@ -1,8 +1,8 @@
 -- Straight stretches of a clause's code: each instruction makes the tree of the next one.
-use Rattle.std.proofs.Common.{◌≡◌, ℕ, ◌+◌, ◌<◌, Bool, true, false, ◌||◌, max, nat_lt, List, [], ◌∷◌, Option, Some, None, IfSome, is_some, if◌then◌else◌, refl, sym, ap, subst, ◌∙◌, arith}
+use Rattle.std.proofs.Common.{◌≡◌, ℕ, ◌+◌, ◌<◌, Bool, true, false, max, nat_lt, List, ◌∷◌, Option, Some, None, IfSome, is_some, if◌then◌else◌, refl, sym, ap, subst, ◌∙◌, arith}
 use Rattle.std.specs.Option.{option_and_then}
-use Rattle.std.proofs.lemmas.Bool.{cond_both, ltb-true, or_parts}
-use Rattle.cil_model.specs.ClauseTrees.{Item, Tree, Message, closed_by, closing, items_behind, tree_at, with_call, with_element, with_length, with_operator, with_unary}
+use Rattle.std.proofs.lemmas.Bool.{ltb-true, or_parts}
+use Rattle.cil_model.specs.ClauseTrees.{Item, Tree, closing, items_behind, tree_at, with_call}
 use Rattle.cil_model.specs.Terms as terms
 use Rattle.cil_model.specs.Terms.{Term, condition_depth}
 use Rattle.cil_model.specs.UnitCalls.{unit_call}
@@ -10,10 +10,9 @@ use Rattle.cil_model.specs.declared.instruction.Instr.{Instr}
 use Rattle.cil_model.specs.declared.instruction.Op.{Op}
 use Rattle.cil_model.specs.declared.instruction.Op.TheVariants as ops
 use Rattle.cil_model.specs.declared.instruction.Test.TheVariants as tests
-use Rattle.cil_model.specs.declared.instruction.UnOp.TheVariants as unary
 use Rattle.cil_model.specs.declared.unit_numbers.UnitCall.{UnitCall}
 use Rattle.cil_model.specs.declared.unit_numbers.UnitCall.TheVariants as calls
-use Rattle.contract_extract.specs.Growth.{AreFlat, IsFlat, ends_stretch, goes_two_ways, jump_of, later_than, onward, tree_here}
+use Rattle.contract_extract.specs.Growth.{AreFlat, ends_stretch, goes_two_ways, jump_of, later_than, onward, tree_here}
 use Rattle.contract_extract.specs.TreeStacks.{items_of, left_if}
 use Rattle.contract_extract.specs.declared.tree_stack.Slot.{Slot}
 

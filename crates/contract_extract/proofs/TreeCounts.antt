@@ -1,5 +1,5 @@
 -- The nodes of trees, and their old values.
-use Rattle.std.proofs.Common.{ℕ, ◌<◌, ◌≤◌, arith}
+use Rattle.std.proofs.Common.{◌<◌, ◌≤◌, arith}
 use Rattle.cil_model.specs.Terms.{Term, Const, Arg, Null, Result, Len, Elem, Bin, Un, Old, Cond, term_size, old_count}
 
 -- No more of them are old values.

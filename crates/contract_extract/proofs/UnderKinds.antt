@@ -1,10 +1,9 @@
 -- The kind of a tree beside the kind that typing gives its value: a length counts as an int32, and null is of each kind of array.
-use Rattle.std.proofs.Common.{◌≡◌, Bool, true, false, ◌&&◌, ◌||◌, Option, Some, None, refl, sym, ap, subst, ◌∙◌, inl, inr}
+use Rattle.std.proofs.Common.{◌≡◌, true, ◌&&◌, Some, refl, ap, subst, ◌∙◌, inl, inr}
 use Rattle.std.proofs.lemmas.Bool.{and_from, and_parts, false≢true, or_cases, or_left, or_right}
 use Rattle.std.proofs.lemmas.Option.{none-some, same_Some}
 use Rattle.cil_model.specs.Kinds.{are_comparable, compares_kinds, is_array_of, is_equality, is_number, is_reference, is_tested, kind_of, pushes_comparison, takes}
 use Rattle.cil_model.specs.Passes.{merged_kind}
-use Rattle.cil_model.specs.TreeKinds.{is_int}
 use Rattle.cil_model.specs.declared.instruction.CmpOp.{CmpOp}
 use Rattle.cil_model.specs.declared.instruction.CmpOp.TheVariants as comparisons
 use Rattle.cil_model.specs.declared.place.Kind.{Kind}

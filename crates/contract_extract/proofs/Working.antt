@@ -1,8 +1,7 @@
 -- The first instruction that may make a node, and the tree from there on.
-use Rattle.std.proofs.Common.{◌≡◌, ℕ, ◌≤◌, List, Option, Some, None, slice_index_or, sym, arith}
+use Rattle.std.proofs.Common.{◌≡◌, ℕ, ◌≤◌, List, Some, None, slice_index_or, sym, arith}
 use Rattle.cil_model.specs.ClauseTrees.{Item}
 use Rattle.cil_model.specs.Runs.{instr_at}
-use Rattle.cil_model.specs.Terms.{Term}
 use Rattle.cil_model.specs.declared.instruction.Instr.{Instr}
 use Rattle.flow_graph.specs.ShortCode.{AreOfShortCode}
 use Rattle.contract_extract.specs.Growth.{AreSkips, FoundAt, Keeps, forward, tree_here}

@@ -1,7 +1,7 @@
 -- How the tree of a clause grows along the ways forward, and the limits that it meets.
-use Rattle.std.specs.Prelude.{◌≡◌, ℕ, ◌+◌, ◌<◌, ◌≤◌, Bool, true, false, ◌||◌, nat_lt, List, [], ◌∷◌, length, Option, Some, None, IfSome, if◌then◌else◌, slice_get, slice_index_or}
+use Rattle.std.specs.Prelude.{◌≡◌, ℕ, ◌+◌, ◌<◌, ◌≤◌, Bool, true, false, ◌||◌, nat_lt, List, ◌∷◌, length, Option, Some, None, IfSome, if◌then◌else◌, slice_get, slice_index_or}
 use Rattle.std.specs.List.{AllByRecursion}
-use Rattle.std.specs.Option.{option_and_then, is_some}
+use Rattle.std.specs.Option.{is_some}
 use Rattle.cil_model.specs.ClauseTrees.{Item, Tree, Message, branch_operator, closing, condition, tree_at, tree_from}
 use Rattle.cil_model.specs.Runs.{instr_at}
 use Rattle.cil_model.specs.Terms as terms

@@ -28,12 +28,14 @@ const CLAUSE_LIMITS: Limits = Limits {
     nodes: MAX_NODES,
 };
 
-/// Reads the clause whose code begins at an IL offset. Nothing is read where its tree is too large, and where its code has no
-/// tree.
+/// Reads the clause whose code begins at an IL offset. Nothing is read where its tree is too large.
 ///
-/// Each way forward is gone once, and the trees on its stack are copied where it goes two ways. No way is gone further once
-/// the nodes behind the ends of ways and in conditions are more than a clause may have, so the time is that of so many nodes,
-/// times the conditions on a way. Instructions that make no node are gone over on each way: nop, br and conv.i4.
+/// Each way forward is gone once, and the stack of trees is copied where it goes two ways. The nodes of a condition and of
+/// the end of a way are counted when they are met, and no way is gone further once there are more than a clause may have, or
+/// at the eleventh condition. Instructions that make no node are gone over at once, so in code that is typed the time is
+/// n log n in the number of instructions, and that of a few thousand nodes for each condition on a way. Only a value that
+/// stands where a message should, which typing refuses, is not counted: with it a clause may take the time of 2^10 ways
+/// through its code.
 #[tactic(auto, unfolding(crate::specs::Growth::forward))]
 pub(crate) fn read_clause(
     alloc: Global,
