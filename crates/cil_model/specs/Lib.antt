@@ -17,6 +17,7 @@ pub mod Configs
 pub mod Runs
 pub mod Worlds
 pub mod Shapes
+pub mod ShortCode
 pub mod Kinds
 pub mod Passes
 pub mod Blocks

@@ -8,3 +8,5 @@ pub mod JoinedStacks
 pub mod ClauseLies
 pub mod GatheredStacks
 pub mod PassedInstr
+pub mod TreeStacks
+pub mod Growth

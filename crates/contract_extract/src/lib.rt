@@ -14,5 +14,14 @@ mod operand_counts;
 mod own_faults;
 mod pure_code;
 mod value_kinds;
+mod conditions;
+mod idle;
+mod limits;
+mod offsets;
+mod read_clause;
+mod stretch;
+mod tree_of;
+mod tree_stack;
+mod trees;
 
 pub use clause_fault::{ClauseFault, ClauseRefusal};

@@ -20,7 +20,7 @@ use Rattle.flow_graph.specs.BlocksOf.{block_at, blocks_of, last_place, place_of}
 use Rattle.flow_graph.specs.EdgesOf.{edge_to, edges_from, edges_out, edges_to}
 use Rattle.flow_graph.specs.Following.{IsAlongEdge, IsWithinBlock, StepsFollow}
 use Rattle.flow_graph.specs.GraphOf.{graph_of}
-use Rattle.flow_graph.specs.ShortCode.{AreOfShortCode, LieFrom}
+use Rattle.cil_model.specs.ShortCode.{AreOfShortCode, LieFrom}
 use Rattle.flow_graph.specs.declared.graph.Edge.{Edge}
 use Rattle.flow_graph.proofs.EdgeOrder.{Starts, all_weaker, has_place, last_place_is, place_within}
 use Rattle.flow_graph.proofs.Lying.{all_passing}

@@ -14,7 +14,7 @@ use Rattle.cil_model.proofs.Lists.{all_append}
 use Rattle.cil_model.proofs.Options.{map_from}
 use Rattle.flow_graph.specs.BlocksOf.{block_at, last_place, place_of}
 use Rattle.flow_graph.specs.EdgesOf.{ComesBefore, JoinsBlocks, edge_to, edges_from, edges_out, edges_to}
-use Rattle.flow_graph.specs.ShortCode.{IsOfShortCode, LieFrom}
+use Rattle.cil_model.specs.ShortCode.{IsOfShortCode, LieFrom}
 use Rattle.flow_graph.specs.declared.graph.Edge.{Edge}
 use Rattle.flow_graph.proofs.Lying.{length-passing}
 

@@ -17,7 +17,7 @@ use Rattle.cil_model.specs.declared.unit.Unit.{Unit as MethodUnit}
 use Rattle.flow_graph.specs.BlocksOf.{blocks_of, place_of}
 use Rattle.flow_graph.specs.EdgesOf.{ComesBefore, JoinsBlocks, edges_of}
 use Rattle.flow_graph.specs.GraphOf.{graph_of}
-use Rattle.flow_graph.specs.ShortCode.{AreOfShortCode, IsOfShortCode, LieFrom}
+use Rattle.cil_model.specs.ShortCode.{AreOfShortCode, IsOfShortCode, LieFrom}
 use Rattle.flow_graph.specs.declared.graph.Edge.{Edge}
 use Rattle.flow_graph.specs.declared.graph.Graph.{Graph}
 use Rattle.flow_graph.proofs.AlongEdges.{all_after, or_right, passing_all}

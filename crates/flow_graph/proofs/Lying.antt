@@ -14,7 +14,7 @@ use Rattle.cil_model.specs.declared.instruction.Instr.{Instr}
 use Rattle.cil_model.specs.declared.unit.Unit.{Unit as MethodUnit}
 use Rattle.cil_model.proofs.Forms.{spelling_some}
 use Rattle.flow_graph.specs.BlocksOf.{blocks_of}
-use Rattle.flow_graph.specs.ShortCode.{AreOfShortCode, IsOfShortCode, LieFrom}
+use Rattle.cil_model.specs.ShortCode.{AreOfShortCode, IsOfShortCode, LieFrom}
 use Rattle.flow_graph.proofs.Searches.{not_falling}
 use Rattle.flow_graph.proofs.TargetRows.{few_targets}
 

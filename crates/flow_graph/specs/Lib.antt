@@ -3,4 +3,3 @@ pub mod EdgesOf
 pub mod GraphOf
 pub mod HeadsOf
 pub mod Following
-pub mod ShortCode

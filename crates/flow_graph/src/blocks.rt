@@ -5,7 +5,7 @@ ghost use Rattle.std.specs.List.{All, list_any};
 ghost use Rattle.std.specs.List.Sorted.{IsNonDecreasing, IsNonDecreasingBy};
 ghost use Rattle.cil_model.specs.Blocks.{body_of, branch_targets, ends_block, starts_at};
 ghost use Rattle.flow_graph.specs.BlocksOf.{blocks_of};
-ghost use Rattle.flow_graph.specs.ShortCode.{AreOfShortCode, IsOfShortCode};
+ghost use Rattle.cil_model.specs.ShortCode.{AreOfShortCode, IsOfShortCode};
 
 use crate::sorted::{is_among, sorted};
 use cc_base::NoMemory;

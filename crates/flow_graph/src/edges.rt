@@ -7,7 +7,7 @@ ghost use Rattle.std.specs.Option.{option_to_list};
 ghost use Rattle.cil_model.specs.Passes.{goes_behind};
 ghost use Rattle.flow_graph.specs.BlocksOf.{block_at, place_of};
 ghost use Rattle.flow_graph.specs.EdgesOf.{edge_to, edges_to, edges_out, edges_from};
-ghost use Rattle.flow_graph.specs.ShortCode.{IsOfShortCode};
+ghost use Rattle.cil_model.specs.ShortCode.{IsOfShortCode};
 
 use crate::blocks::branch_targets;
 use crate::graph::Edge;

@@ -9,7 +9,7 @@ ghost use Rattle.cil_model.specs.Code.{begins_at, CodeOf};
 ghost use Rattle.flow_graph.specs.EdgesOf.{ComesBefore, JoinsBlocks};
 ghost use Rattle.flow_graph.specs.Following.{StepsFollow};
 ghost use Rattle.flow_graph.specs.GraphOf.{graph_of};
-ghost use Rattle.flow_graph.specs.ShortCode.{AreOfShortCode};
+ghost use Rattle.cil_model.specs.ShortCode.{AreOfShortCode};
 
 use crate::blocks::{blocks, body};
 use crate::edges::edges;

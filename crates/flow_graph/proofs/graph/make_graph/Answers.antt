@@ -2,7 +2,7 @@ use Rattle.std.proofs.Common.{List, ℕ, length, ap, subst, sym, arith, ◌∙�
 use Rattle.std.specs.List.{All}
 use Rattle.std.specs.List.Sorted.{IsStrictlyIncreasing}
 use Rattle.cil_model.specs.declared.instruction.Instr.{Instr}
-use Rattle.flow_graph.specs.ShortCode.{IsOfShortCode}
+use Rattle.cil_model.specs.ShortCode.{IsOfShortCode}
 use Rattle.flow_graph.proofs.Lying.{blocks_increase, body_short, few_blocks, offsets_rise}
 use Rattle.flow_graph.proofs.graph.make_graph.Goals as goal
 

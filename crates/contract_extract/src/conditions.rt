@@ -1,0 +1,103 @@
+//! The conditions of branches.
+
+ghost use Rattle.std.specs.Prelude.{◌≡◌, Some, IfOk, option_map, if◌then◌else◌};
+ghost use Rattle.cil_model.specs.ClauseTrees.{branch_operator};
+ghost use Rattle.cil_model.specs.declared.instruction.Test.TheVariants as tests;
+ghost use Rattle.contract_extract.specs.Growth.{forked, tested};
+ghost use Rattle.contract_extract.specs.TreeStacks.{items_of};
+
+use crate::tree_stack::{Slot, TreeStack};
+use cil_model::{BinOp, CmpOp, Node, Test, Tree};
+use std::alloc::{AllocError, Global};
+
+/// What a branch tests.
+#[derive(Drop)]
+pub(crate) struct Condition {
+    pub(crate) tree: Tree,
+    /// Whether the branch goes where the tree is not true.
+    pub(crate) turned: bool,
+}
+
+/// The operator of a comparing branch, and whether the branch goes where the operator is not true.
+fn branch_operator(op: CmpOp) -> (BinOp, bool)
+    ensures operator { result.0 ≡ (branch_operator op).0 }
+    ensures turned { result.1 ≡ (branch_operator op).1 }
+{
+    match op {
+        CmpOp::Eq => (BinOp::Ceq, false),
+        CmpOp::Ge => (BinOp::Clt, true),
+        CmpOp::Gt => (BinOp::Cgt, false),
+        CmpOp::Le => (BinOp::Cgt, true),
+        CmpOp::Lt => (BinOp::Clt, false),
+        CmpOp::NeUn => (BinOp::Ceq, true),
+        CmpOp::GeUn => (BinOp::CltUn, true),
+        CmpOp::GtUn => (BinOp::CgtUn, false),
+        CmpOp::LeUn => (BinOp::CgtUn, true),
+        CmpOp::LtUn => (BinOp::CltUn, false),
+    }
+}
+
+/// Takes the tree that a branch tests, if it is there.
+fn take_tree(stack: &mut TreeStack, turned: bool) -> Option<Condition>
+    ensures { option_map (λ condition. (condition, items_of stack.new.items)) result ≡ tested (if turned then tests.False else tests.True) (items_of stack.old.items) }
+{
+    match stack.pop_front() {
+        Some(Slot::Tree(tree)) => Some(Condition { tree, turned }),
+        _ => None,
+    }
+}
+
+/// Takes the two trees that a branch compares, if they are there.
+fn take_comparison(
+    alloc: Global,
+    op: CmpOp,
+    stack: &mut TreeStack,
+) -> Result<Option<Condition>, AllocError>
+    ensures { IfOk result (λ taken. option_map (λ condition. (condition, items_of stack.new.items)) taken ≡ tested (tests.Cmp op) (items_of stack.old.items)) }
+{
+    let Some(Slot::Tree(b)) = stack.pop_front() else {
+        return Ok(None);
+    };
+    let Some(Slot::Tree(a)) = stack.pop_front() else {
+        return Ok(None);
+    };
+    let (operator, turned) = branch_operator(op);
+    let node = Node::Bin(operator, Box::new(alloc, a)?, Box::new(alloc, b)?);
+    Ok(Some(Condition {
+        tree: Tree { node },
+        turned,
+    }))
+}
+
+/// Takes the condition of a branch that goes two ways, if its operands are there.
+pub(crate) fn take_condition(
+    alloc: Global,
+    test: Test,
+    stack: &mut TreeStack,
+) -> Result<Option<Condition>, AllocError>
+    ensures { IfOk result (λ taken. option_map (λ condition. (condition, items_of stack.new.items)) taken ≡ tested test (items_of stack.old.items)) }
+{
+    match test {
+        Test::Always => Ok(None),
+        Test::True => Ok(take_tree(stack, false)),
+        Test::False => Ok(take_tree(stack, true)),
+        Test::Cmp(op) => take_comparison(alloc, op, stack),
+    }
+}
+
+impl Condition {
+    /// The tree over the trees from the branch's target and from the next instruction.
+    pub(crate) fn over(self, alloc: Global, target: Tree, next: Tree) -> Result<Tree, AllocError>
+        ensures { IfOk result (λ tree. forked self (Some target) (Some next) ≡ Some tree) }
+    {
+        let test = Box::new(alloc, self.tree)?;
+        let target = Box::new(alloc, target)?;
+        let next = Box::new(alloc, next)?;
+        let node = if self.turned {
+            Node::Cond(test, next, target)
+        } else {
+            Node::Cond(test, target, next)
+        };
+        Ok(Tree { node })
+    }
+}

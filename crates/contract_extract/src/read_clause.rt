@@ -1,0 +1,64 @@
+//! One clause, read from its code.
+
+ghost use Rattle.std.specs.Prelude.{◌≡◌, true, false, None, Some, IfOk, IfSome, IsSome};
+ghost use Rattle.cil_model.specs.ClauseTrees.{tree_of};
+ghost use Rattle.cil_model.specs.Terms.{old_count};
+ghost use Rattle.cil_model.specs.ShortCode.{AreOfShortCode};
+ghost use Rattle.contract_extract.specs.TooLarge.{is_too_large};
+
+use crate::idle::skips;
+use crate::limits::Limits;
+use crate::tree_of::grow;
+use crate::trees::old_values;
+use cil_model::{Instr, MAX_CONDITIONS, MAX_NODES, Tree};
+use std::alloc::{AllocError, Global};
+use std::collections::VecDeque;
+
+/// The tree of a clause, with what counts towards a limit of its method.
+#[derive(Drop)]
+pub(crate) struct ReadClause {
+    pub(crate) tree: Tree,
+    /// How many old values it has.
+    pub(crate) old_values: usize,
+}
+
+/// The limits of one clause.
+const CLAUSE_LIMITS: Limits = Limits {
+    conditions: MAX_CONDITIONS,
+    nodes: MAX_NODES,
+};
+
+/// Reads the clause whose code begins at an IL offset. Nothing is read where its tree is too large.
+///
+/// Each way forward is gone once, and the stack of trees is copied where it goes two ways. The nodes of a condition and of
+/// the end of a way are counted when they are met, and no way is gone further once there are more than a clause may have, or
+/// at the eleventh condition. Instructions that make no node are gone over at once, so in code that is typed the time is
+/// n log n in the number of instructions, and that of a few thousand nodes for each condition on a way. Only a value that
+/// stands where a message should, which typing refuses, is not counted: with it a clause may take the time of 2^10 ways
+/// through its code.
+#[tactic(auto, unfolding(crate::specs::Growth::forward))]
+pub(crate) fn read_clause(
+    alloc: Global,
+    instrs: &[Instr],
+    start: u32,
+) -> Result<Option<ReadClause>, AllocError>
+    requires lie { AreOfShortCode instrs.now }
+    // The code has a tree, as code with no fault has.
+    requires has_tree { IsSome (tree_of instrs.now start) }
+    ensures tree { IfOk result (λ read. IfSome read (λ clause. tree_of instrs.now start ≡ Some clause.tree)) }
+    ensures within { IfOk result (λ read. IfSome read (λ clause. is_too_large clause.tree ≡ false)) }
+    ensures old_values { IfOk result (λ read. IfSome read (λ clause. clause.old_values ≡ old_count clause.tree)) }
+    // Where nothing is read, there is no tree that is not too large.
+    ensures too_large { IfOk result (λ read. read ≡ None → IfSome (tree_of instrs.now start) (λ tree. is_too_large tree ≡ true)) }
+{
+    let skips = skips(alloc, instrs)?;
+    let stack = VecDeque::new(alloc);
+    let Some(grown) = grow(alloc, instrs, &skips, start, stack, CLAUSE_LIMITS)? else {
+        return Ok(None);
+    };
+    let old_values = old_values(&grown.tree);
+    Ok(Some(ReadClause {
+        tree: grown.tree,
+        old_values,
+    }))
+}
