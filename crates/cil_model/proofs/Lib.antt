@@ -49,3 +49,5 @@ pub mod SumUnit
 pub mod TakenKinds
 pub mod TreeKindRows
 pub mod TypedCode
+pub mod TargetRows
+pub mod ShortCodes

@@ -10,7 +10,7 @@ use Rattle.std.proofs.lemmas.Cmp.{ranked}
 use Rattle.cil_model.specs.Runs.{instr_at}
 use Rattle.cil_model.specs.declared.instruction.Instr.{Instr}
 use Rattle.cil_model.specs.ShortCode.{AreOfShortCode, IsOfShortCode, LieFrom}
-use Rattle.flow_graph.proofs.Lying.{offsets_rise}
+use Rattle.cil_model.proofs.ShortCodes.{offsets_rise}
 use Rattle.contract_extract.specs.Growth.{FoundAt}
 
 not_below : (from : ℕ) (is : List Instr) (k : ℕ) (d : Instr) → LieFrom from is → k < length is → from ≤ (get_or is k d).at

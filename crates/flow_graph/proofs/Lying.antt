@@ -7,39 +7,12 @@ use Rattle.std.proofs.lemmas.Bool.Decides.{nat_tests}
 use Rattle.std.proofs.lemmas.List.{get_or-map, length-append, length-map}
 use Rattle.std.proofs.lemmas.List.Kept.{AllPairs-from_increasing, IsStrictlyIncreasing-filter}
 use Rattle.std.proofs.lemmas.List.Sums.{count_by-le-length, length-filter}
-use Rattle.cc_base.specs.Slices.{IsShort}
 use Rattle.cil_model.specs.Blocks.{body_of, is_block_start}
-use Rattle.cil_model.specs.Code.{CodeFrom, CodeOf}
 use Rattle.cil_model.specs.declared.instruction.Instr.{Instr}
 use Rattle.cil_model.specs.declared.unit.Unit.{Unit as MethodUnit}
-use Rattle.cil_model.proofs.Forms.{spelling_some}
+use Rattle.cil_model.proofs.ShortCodes.{count_short, offsets_increase}
 use Rattle.flow_graph.specs.BlocksOf.{blocks_of}
 use Rattle.cil_model.specs.ShortCode.{AreOfShortCode, IsOfShortCode, LieFrom}
-use Rattle.flow_graph.proofs.Searches.{not_falling}
-use Rattle.flow_graph.proofs.TargetRows.{few_targets}
-
--- ---- code
-
-code_lies : (at : ℕ) (is : List Instr) (code : List ℕ) → CodeFrom at is code → at + length code ≤ 2147483647
-    → LieFrom at is × AllByRecursion IsOfShortCode is
-code_lies at [] code spelled short = (tt, tt)
-code_lies at (i ∷ is) code (begins, (bytes, rest, spells, parts, others)) short =
-    let whole : length code ≡ length bytes + length rest = ap length parts ∙ length-append bytes rest in
-    let size : i.size ≡ length bytes = spells.size in
-    let behind = code_lies (at + i.size) is rest others (omega (arith, whole, size, short)) in (
-      (begins, behind.0),
-      (
-        record {
-          some = omega (arith, size, spelling_some i bytes spells);
-          end = omega (arith, begins, whole, size, short);
-          targets = few_targets i bytes spells;
-        },
-        behind.1,
-      ),
-    )
-
-pub code_is_short : (is : List Instr) (code : List ℕ) → CodeOf is code → IsShort code → AreOfShortCode is
-code_is_short is code spelled short = let parts = code_lies 0 is code spelled.spelled (omega (arith, short)) in record { lie = parts.0; each = parts.1 }
 
 -- ---- what holds of each instruction
 
@@ -55,32 +28,6 @@ module _ {X : Type 0} (P : X → Type 0) where
 
 pub length-passing : {X : Type 0} (p : X → Bool) (xs : List X) → length (filter p xs) ≤ length xs
 length-passing p xs = omega (arith, length-filter p xs, count_by-le-length p xs)
-
--- ---- offsets
-
-rises : (at : ℕ) (is : List Instr) (k : ℕ) → LieFrom at is → AllByRecursion IsOfShortCode is → suc k < length is
-    → get_or (map (λ i. i.at) is) k 0 < get_or (map (λ i. i.at) is) (suc k) 0
-rises at [] k lie each inside = absurd (omega arith)
-rises at (i ∷ []) k lie each inside = absurd (omega arith)
-rises at (i ∷ j ∷ is) zero lie each inside = omega (arith, lie.0, lie.1.0, each.0.some)
-rises at (i ∷ j ∷ is) (suc k) lie each inside = rises (at + i.size) (j ∷ is) k lie.1 each.1 (omega arith)
-
-pub offsets_increase : (at : ℕ) (is : List Instr) → LieFrom at is → AllByRecursion IsOfShortCode is → IsStrictlyIncreasing (map (λ i. i.at) is)
-offsets_increase at is lie each k inside =
-    let offsets = map (λ (i : Instr). i.at) is in
-    subst (λ (n : ℕ). get_or offsets k 0 < get_or offsets n 0) (sym (add-one k)) (rises at is k lie each (omega (arith, inside, length-map is (λ (i : Instr). i.at))))
-
-pub offsets_rise : (is : List Instr) → AreOfShortCode is → IsNonDecreasingBy (λ i. i.at) is
-offsets_rise is short i j d le inside =
-    let offsets = map (λ (i : Instr). i.at) is in
-    let same = length-map is (λ (i : Instr). i.at) in
-    let up = not_falling offsets (AllPairs-from_increasing offsets (offsets_increase 0 is short.lie short.each)) i j 0 le (omega (arith, same, inside)) in
-    omega (arith, up, get_or-map (λ (i : Instr). i.at) is i d 0 (omega arith), get_or-map (λ (i : Instr). i.at) is j d 0 inside)
-
-count_short : (at : ℕ) (is : List Instr) → LieFrom at is → AllByRecursion IsOfShortCode is → at ≤ 2147483647 → at + length is ≤ 2147483647
-count_short at [] lie each low = omega arith
-count_short at (i ∷ is) lie each low =
-    omega (arith, lie.0, each.0.some, each.0.end, count_short (at + i.size) is lie.1 each.1 (omega (arith, lie.0, each.0.end)))
 
 -- ---- the body
 

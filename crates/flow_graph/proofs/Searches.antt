@@ -12,18 +12,8 @@ use Rattle.std.proofs.lemmas.List.Sums.{count_by-le-length, length-filter}
 use Rattle.std.proofs.lemmas.List.Kept.{AllPairs-from_increasing}
 use Rattle.std.proofs.lemmas.List.Sorted.{searched}
 use Rattle.cil_model.specs.declared.instruction.Instr.{Instr}
+use Rattle.cil_model.proofs.ShortCodes.{Rises, not_falling}
 use Rattle.flow_graph.specs.BlocksOf.{block_at, place_of, last_place}
-
--- Each number is below those behind it.
-abbrev pub Rises : List ℕ → Type 0
-Rises xs = AllPairs (λ a b. a < b) xs
-
-pub not_falling : (xs : List ℕ) → Rises xs → IsNonDecreasing xs
-not_falling xs rise i j d le inside =
-    elim (cases_lt i j) [
-      | inl below ↦ omega (arith, rise i j d below inside)
-      | inr same ↦ (let e : i ≡ j = omega arith in rw e (omega arith))
-    ]
 
 -- ---- what a binary search says
 

@@ -61,6 +61,8 @@ mod table_rows;
 #[cfg(test)]
 mod typing_rows;
 #[cfg(test)]
+mod unit_form_rows;
+#[cfg(test)]
 mod unit_refusals;
 #[cfg(test)]
 mod unit_reports;

@@ -3,7 +3,8 @@ use Rattle.std.specs.List.{All}
 use Rattle.std.proofs.lemmas.Result.{IfOk-weaker}
 use Rattle.cil_model.specs.declared.instruction.Instr.{Instr}
 use Rattle.cil_model.specs.ShortCode.{IsOfShortCode}
-use Rattle.flow_graph.proofs.Lying.{body_short, offsets_rise}
+use Rattle.flow_graph.proofs.Lying.{body_short}
+use Rattle.cil_model.proofs.ShortCodes.{offsets_rise}
 use Rattle.flow_graph.proofs.Marks.{blocks_by_numbers}
 use Rattle.flow_graph.proofs.blocks.blocks.Goals as goal
 

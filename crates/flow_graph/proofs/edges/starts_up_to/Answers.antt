@@ -2,7 +2,8 @@ use Rattle.std.proofs.Common.{sym, rules}
 use Rattle.std.specs.Prelude.{nat_le}
 use Rattle.std.proofs.lemmas.List.Sorted.{IsPartitionPoint-from_clause, IsPartitionedBy-leb}
 use Rattle.std.proofs.lemmas.List.Kept.{AllPairs-from_increasing}
-use Rattle.flow_graph.proofs.Searches.{length-passing_front, not_falling}
+use Rattle.cil_model.proofs.ShortCodes.{not_falling}
+use Rattle.flow_graph.proofs.Searches.{length-passing_front}
 use Rattle.flow_graph.proofs.edges.starts_up_to.Goals as goal
 
 pub returns : goal.returns

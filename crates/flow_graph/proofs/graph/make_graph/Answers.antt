@@ -3,7 +3,8 @@ use Rattle.std.specs.List.{All}
 use Rattle.std.specs.List.Sorted.{IsStrictlyIncreasing}
 use Rattle.cil_model.specs.declared.instruction.Instr.{Instr}
 use Rattle.cil_model.specs.ShortCode.{IsOfShortCode}
-use Rattle.flow_graph.proofs.Lying.{blocks_increase, body_short, few_blocks, offsets_rise}
+use Rattle.flow_graph.proofs.Lying.{blocks_increase, body_short, few_blocks}
+use Rattle.cil_model.proofs.ShortCodes.{offsets_rise}
 use Rattle.flow_graph.proofs.graph.make_graph.Goals as goal
 
 pub body-body-requires : goal.body-body-requires

@@ -1,6 +1,7 @@
 use Rattle.flow_graph.proofs.AlongEdges.{steps_follow}
 use Rattle.flow_graph.proofs.GraphFacts.{blocks_counted, edges_in_order, edges_join, first_block, heads_increase, heads_within, of_answer}
-use Rattle.flow_graph.proofs.Lying.{blocks_increase, code_is_short}
+use Rattle.flow_graph.proofs.Lying.{blocks_increase}
+use Rattle.cil_model.proofs.ShortCodes.{code_is_short}
 use Rattle.flow_graph.proofs.graph.Graph.of.Goals as goal
 
 pub make_graph-requires : goal.make_graph-requires
