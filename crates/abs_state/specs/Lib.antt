@@ -1,0 +1,11 @@
+pub mod Number
+pub mod FrameFacts
+pub mod Frames
+pub mod NormalForm
+pub mod RangeStates
+pub mod Pairs
+pub mod Join
+pub mod Widening
+pub mod Inclusion
+pub mod Moves
+pub mod OwnNumbers

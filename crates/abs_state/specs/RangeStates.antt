@@ -1,0 +1,20 @@
+-- States in normal form, and which may be joined, widened and compared.
+use Rattle.std.specs.Prelude.{◌≡◌, length, Option, Some, None}
+use Rattle.abs_state.specs.FrameFacts.{FrameFacts, State, HasForm}
+use Rattle.abs_state.specs.NormalForm.{normal}
+
+-- In normal form each variable is known by itself.
+pub record IsNormal (known : FrameFacts) : Type 0 where
+  pub form : HasForm known
+  pub same : normal known ≡ known
+
+-- Both speak of as many variables, in normal form.
+pub record SpeakOfTheSame (a b : FrameFacts) : Type 0 where
+  pub first : IsNormal a
+  pub second : IsNormal b
+  pub count : length a.variables ≡ length b.variables
+
+-- So where both are reached.
+abbrev pub AreAlike : State → State → Type 0
+AreAlike (Some a) (Some b) = SpeakOfTheSame a b
+AreAlike _ _ = Unit {0}
