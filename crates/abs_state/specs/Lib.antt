@@ -8,4 +8,8 @@ pub mod Join
 pub mod Widening
 pub mod Inclusion
 pub mod Moves
+pub mod OwnRanges
 pub mod OwnNumbers
+pub mod Int32Numbers
+pub mod PairsHold
+pub mod StatesHold

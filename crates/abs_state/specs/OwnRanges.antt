@@ -13,7 +13,7 @@ use Rattle.number_facts.specs.Facts.{Facts, AreNarrow, IsNarrow, IsInner, range_
 use Rattle.number_facts.specs.Spans as spans
 use Rattle.number_facts.specs.Spans.{moved}
 use Rattle.number_facts.specs.declared.span.Span.{Span}
-use Rattle.number_facts.proofs.Narrow.{narrow_range}
+use Rattle.number_facts.proofs.Narrow.{narrow_range, constant_low}
 use Rattle.abs_state.specs.FrameFacts.{IsNumber}
 
 near_same : (n : ℤ) → FitsSigned w64 n → near n ≡ n
@@ -66,3 +66,27 @@ own_range facts e narrow number =
 
     unmoved_greatest : (range_of facts e).hi ≤ℤ GREATEST → ((range_at facts e.sym).hi +ℤ e.k) ≤ℤ GREATEST
     unmoved_greatest h = h
+
+constant_high : (facts : Facts) (e : Expr) → e.sym ≡ 0 → (range_of facts e).hi ≡ e.k
+unfolding range_of range_at moved
+constant_high facts e is = rw is (omega (arith, ints))
+
+-- the range of an expression has the form of one that is kept
+pub own_narrow : (facts : Facts) (e : Expr) → AreNarrow facts → IsNumber facts e → IsNarrow (interval (range_of facts e).lo (range_of facts e).hi (range_of facts e).hole)
+unfolding range_of moved
+own_narrow facts e narrow number =
+    let is = narrow_range facts e.sym narrow in
+    let least : LEAST ≤ℤ ((range_at facts e.sym).lo +ℤ e.k) = number.least in
+    let greatest : ((range_at facts e.sym).hi +ℤ e.k) ≤ℤ GREATEST = number.greatest in
+    record {
+      least = least;
+      ordered = omega (arith, ints, is.ordered);
+      greatest = greatest;
+      inner = (shifted_hole (range_at facts e.sym).lo (range_at facts e.sym).hi e.k (range_at facts e.sym).hole least greatest is.inner).1;
+    }
+
+pub constant_int32 : (facts : Facts) (e : Expr) → e.sym ≡ 0 → IsNumber facts e → (LEAST ≤ℤ e.k) × (e.k ≤ℤ GREATEST)
+constant_int32 facts e is number =
+    let low = constant_low facts e is in
+    let high = constant_high facts e is in
+    (omega (arith, ints, low, number.least), omega (arith, ints, high, number.greatest))
