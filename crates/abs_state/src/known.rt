@@ -1,14 +1,12 @@
 //! What is known of a frame's variables, where something is reached.
 
-ghost use Rattle.std.specs.Prelude.{◌≡◌, ◌≢◌, ◌+◌, ◌≤◌, ◌<◌, ℤ, pos, ◌∷◌, [], ◌++◌, length, get_or, IfOk, OnOk, OnErr};
+ghost use Rattle.std.specs.Prelude.{◌≡◌, ◌≢◌, ◌+◌, ◌≤◌, ◌<◌, ℤ, pos, ◌∷◌, [], ◌++◌, length, slice_index_or, IfOk, OnOk, OnErr};
 ghost use Rattle.number_facts.specs.Facts.{AreNarrow, range_at};
-ghost use Rattle.number_facts.specs.Fresh.{noted};
 ghost use Rattle.abs_state.specs.FrameFacts.{IsNumber, HasForm};
-ghost use Rattle.abs_state.specs.NormalForm.{number_at, numbers_in, of_numbers, normal, symbol};
-ghost use Rattle.abs_state.specs.Moves.{appended, pushed, popped, put, is_byte, byte};
+ghost use Rattle.abs_state.specs.NormalForm.{number_at, numbers_in, of_numbers, symbol};
+ghost use Rattle.abs_state.specs.Moves.{appended};
 
 use crate::number::Number;
-use cil_model::Place;
 use domain_api::{Expr, NoMemory, Values};
 use interval_domain::Range;
 use number_facts::Numbers;
@@ -93,5 +91,28 @@ impl Known {
         };
         self.numbers.ranges.push(range)?;
         Ok(Expr { sym, k: 0 })
+    }
+
+    /// What is known of a variable by itself.
+    #[tactic(auto, using(crate::proofs::Building::number_in_place))]
+    pub(crate) fn number(&self, i: usize) -> Number
+        requires there { i < length self.now.variables }
+        requires form { HasForm self.now }
+        ensures { result ≡ slice_index_or (numbers_in self.now) i result }
+    {
+        self.number_at(self.variables[i])
+    }
+
+    /// Appends a variable of which this is known.
+    #[tactic(auto, unfolding(crate::specs::Moves::appended))]
+    pub(crate) fn append(&mut self, number: Number) -> Result<(), NoMemory>
+        ensures ok { OnOk result (self.new ≡ appended self.old number) }
+    {
+        let e = match number {
+            Number::Constant(k) => Expr { sym: 0, k },
+            Number::Among(range) => self.new_symbol(range)?,
+        };
+        self.variables.push(e)?;
+        Ok(())
     }
 }
