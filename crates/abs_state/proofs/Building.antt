@@ -59,7 +59,7 @@ get_or-each_pair f (x ∷ xs) (y ∷ ys) zero a b below count first second = rw 
 get_or-each_pair f (x ∷ xs) (y ∷ ys) (suc i) a b below count first second =
     get_or-each_pair f xs ys i a b (omega (arith, below)) (omega (arith, count)) first second
 
-one_more : (ns : List Number) (i : ℕ) (n : Number) → i < length ns → get_or ns i n ≡ n → appended (of_numbers (take i ns)) n ≡ of_numbers (take (i + 1) ns)
+pub one_more : (ns : List Number) (i : ℕ) (n : Number) → i < length ns → get_or ns i n ≡ n → appended (of_numbers (take i ns)) n ≡ of_numbers (take (i + 1) ns)
 one_more ns i n below is = appended_last (take i ns) n ∙ ap of_numbers (sym (take_more ns i n below ∙ ap (λ m. take i ns ++ m ∷ []) is))
 
 -- a step of a loop over the variables of two states
@@ -111,4 +111,8 @@ pub every_end : (test : Number → Number → Bool) (a b : FrameFacts) (i : ℕ)
     → every_pair test (drop i (numbers_in a)) (drop i (numbers_in b)) ≡ true
 every_end test a b i all = rw (drop_all i (numbers_in a) (omega (arith, count_of_numbers a, all))) refl
 
-pub ruleset pair_steps = (pair_more, pairs_end, number_more, numbers_end, every_more, every_end)
+-- a step of a loop over numbers
+pub one_more_read : (ns : List Number) (i : ℕ) (n : Number) → i < length ns → n ≡ get_or ns i n → appended (of_numbers (take i ns)) n ≡ of_numbers (take (i + 1) ns)
+one_more_read ns i n below is = one_more ns i n below (sym is)
+
+pub ruleset pair_steps = (one_more_read, pair_more, pairs_end, number_more, numbers_end, every_more, every_end)

@@ -1,5 +1,5 @@
 -- What is known of a frame's variables, and what it means.
-use Rattle.std.specs.Prelude.{◌≡◌, ℤ, ◌≤◌, ◌≤ℤ◌, List, All, length, map, Option, Some, None}
+use Rattle.std.specs.Prelude.{◌≡◌, ℤ, ◌≤◌, ◌≤ℤ◌, List, [], All, length, map, Option, Some, None}
 use Rattle.domain_api.specs.declared.expr.Expr.{Expr}
 use Rattle.cil_model.specs.Arithmetic.{LEAST, GREATEST}
 use Rattle.number_facts.specs.Facts as numbers
@@ -38,3 +38,8 @@ pub record HoldsOf (known : FrameFacts) (values : List ℤ) : Type 0 where
 abbrev pub Holds : State → List ℤ → Type 0
 Holds None values = ⊥
 Holds (Some known) values = HoldsOf known values
+
+-- The expressions of a state's variables. There are none where nothing is reached.
+abbrev pub variables_in : State → List Expr
+variables_in None = []
+variables_in (Some known) = known.variables

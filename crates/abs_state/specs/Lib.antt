@@ -8,6 +8,8 @@ pub mod Join
 pub mod Widening
 pub mod Inclusion
 pub mod Moves
+pub mod Arithmetic
+pub mod Assumptions
 pub mod OwnRanges
 pub mod OwnNumbers
 pub mod Int32Numbers

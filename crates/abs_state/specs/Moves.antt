@@ -36,15 +36,14 @@ byte = between (pos 0) (pos 255)
 abbrev pub is_byte : Span → Bool
 is_byte r = int_le (pos 0) r.lo && int_le r.hi (pos 255)
 
--- Another number for a variable, made with these facts.
-abbrev pub replaced : FrameFacts → ℕ → Made → FrameFacts
-replaced known i made = record { variables = set known.variables i made.expr; facts = made.facts }
+-- A number as it is put into a place: a bool takes a number that is one of bool, and of another nothing is known behind.
+unfoldable pub placed : Facts → Expr → Place → Made
+placed facts e places.Bool = if is_byte (range_of facts e) then record { expr = e; facts = facts } else noted facts byte
+placed facts e _ = record { expr = e; facts = facts }
 
-abbrev pub kept : FrameFacts → Expr → Made
-kept known e = record { expr = e; facts = known.facts }
-
--- A number is put into the place of a variable. A bool takes a number that is one of bool, and of another nothing is
--- known behind.
+-- A number is put into the place of a variable.
 unfoldable pub put : FrameFacts → ℕ → Expr → Place → FrameFacts
-put known i e places.Bool = replaced known i (if is_byte (range_of known.facts e) then kept known e else noted known.facts byte)
-put known i e _ = replaced known i (kept known e)
+put known i e place = record {
+  variables = set known.variables i (placed known.facts e place).expr;
+  facts = (placed known.facts e place).facts;
+}

@@ -102,4 +102,16 @@ impl Known {
         }
         Ok(known)
     }
+
+    /// What is known of variables of which each is known by itself.
+    #[tactic(auto, using(crate::proofs::Building::pair_steps))]
+    pub(crate) fn of_numbers(alloc: Global, numbers: &[Number]) -> Result<Known, NoMemory>
+        ensures { IfOk result (λ known. known ≡ of_numbers numbers.now) }
+    {
+        let mut known = Known::new(alloc);
+        for number in numbers {
+            known.append(*number)?;
+        }
+        Ok(known)
+    }
 }

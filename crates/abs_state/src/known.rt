@@ -1,6 +1,6 @@
 //! What is known of a frame's variables, where something is reached.
 
-ghost use Rattle.std.specs.Prelude.{◌≡◌, ◌≢◌, ◌+◌, ◌≤◌, ◌<◌, ℤ, pos, ◌∷◌, [], ◌++◌, length, slice_index_or, IfOk, OnOk, OnErr};
+ghost use Rattle.std.specs.Prelude.{◌≡◌, ◌≢◌, ◌↔◌, ◌+◌, ◌≤◌, ◌<◌, ℤ, pos, ◌∷◌, [], ◌++◌, length, slice_index_or, IsTrue, IfOk, OnOk, OnErr};
 ghost use Rattle.number_facts.specs.Facts.{AreNarrow, range_at};
 ghost use Rattle.abs_state.specs.FrameFacts.{IsNumber, HasForm};
 ghost use Rattle.abs_state.specs.NormalForm.{number_at, numbers_in, of_numbers, symbol};
@@ -56,6 +56,14 @@ impl Known {
         })
     }
 
+    /// Whether the same is known.
+    pub(crate) fn same(&self, other: &Known) -> bool
+        ensures { IsTrue result ↔ (self.now ≡ other.now) }
+    {
+        self.variables.as_slice() == other.variables.as_slice()
+            && same_ranges(self.numbers.ranges.as_slice(), other.numbers.ranges.as_slice())
+    }
+
     /// The range of a symbol.
     #[tactic(auto, using(number_facts::proofs::Symbols::range_at_place))]
     fn range_at(&self, sym: u32) -> Range
@@ -79,20 +87,6 @@ impl Known {
         Number::Among(self.range_at(e.sym).add(&Range::constant(e.k)))
     }
 
-    /// A new symbol of a range.
-    fn new_symbol(&mut self, range: Range) -> Result<Expr, NoMemory>
-        ensures value { IfOk result (λ e. e ≡ symbol (length self.old.facts.ranges + 1)) }
-        ensures facts { OnOk result (self.new.facts ≡ record { ranges = self.old.facts.ranges ++ range ∷ [] }) }
-        ensures variables { self.new.variables ≡ self.old.variables }
-        ensures err { OnErr result (self.new ≡ self.old) }
-    {
-        let Ok(sym) = u32::try_from(self.numbers.ranges.len() + 1) else {
-            return Err(AllocError);
-        };
-        self.numbers.ranges.push(range)?;
-        Ok(Expr { sym, k: 0 })
-    }
-
     /// What is known of a variable by itself.
     #[tactic(auto, using(crate::proofs::Building::number_in_place))]
     pub(crate) fn number(&self, i: usize) -> Number
@@ -107,12 +101,49 @@ impl Known {
     #[tactic(auto, unfolding(crate::specs::Moves::appended))]
     pub(crate) fn append(&mut self, number: Number) -> Result<(), NoMemory>
         ensures ok { OnOk result (self.new ≡ appended self.old number) }
+        ensures err { OnErr result (self.new ≡ self.old) }
     {
+        self.variables.reserve(1)?;
         let e = match number {
             Number::Constant(k) => Expr { sym: 0, k },
-            Number::Among(range) => self.new_symbol(range)?,
+            Number::Among(range) => new_symbol(&mut self.numbers, range)?,
         };
         self.variables.push(e)?;
         Ok(())
     }
+}
+
+/// A new symbol of a range.
+pub(crate) fn new_symbol(numbers: &mut Numbers, range: Range) -> Result<Expr, NoMemory>
+    ensures value { IfOk result (λ e. e ≡ symbol (length numbers.old.ranges + 1)) }
+    ensures facts { OnOk result (numbers.new ≡ record { ranges = numbers.old.ranges ++ range ∷ [] }) }
+    ensures err { OnErr result (numbers.new ≡ numbers.old) }
+{
+    let Ok(sym) = u32::try_from(numbers.ranges.len() + 1) else {
+        return Err(AllocError);
+    };
+    numbers.ranges.push(range)?;
+    Ok(Expr { sym, k: 0 })
+}
+
+/// Whether two ranges are equal.
+fn is_same(a: Range, b: Range) -> bool
+    ensures { IsTrue result ↔ (a ≡ b) }
+{
+    a.lo() == b.lo() && a.hi() == b.hi() && a.hole() == b.hole()
+}
+
+/// Whether two lists of ranges are equal.
+fn same_ranges(a: &[Range], b: &[Range]) -> bool
+    ensures { IsTrue result ↔ (a.now ≡ b.now) }
+{
+    if a.len() != b.len() {
+        return false;
+    }
+    for index in 0..a.len() {
+        if !is_same(a[index], b[index]) {
+            return false;
+        }
+    }
+    true
 }

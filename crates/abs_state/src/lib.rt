@@ -3,7 +3,9 @@
 
 mod joins;
 mod known;
+mod moves;
 mod number;
+mod operators;
 mod state;
 
 pub use number::Number;
