@@ -1,3 +1,5 @@
 pub mod Building
 pub mod Bytes
+pub mod Shrinking
 pub mod FormsKept
+pub mod ResultForms

@@ -1,6 +1,6 @@
 //! What is known of a frame's variables, where something is reached.
 
-ghost use Rattle.std.specs.Prelude.{◌≡◌, ◌≢◌, ◌↔◌, ◌+◌, ◌≤◌, ◌<◌, ℤ, pos, ◌∷◌, [], ◌++◌, length, slice_index_or, IsTrue, IfOk, OnOk, OnErr};
+ghost use Rattle.std.specs.Prelude.{◌≡◌, ◌≢◌, ◌+◌, ◌≤◌, ◌<◌, ℤ, pos, ◌∷◌, [], ◌++◌, length, slice_index_or, IfOk, OnOk, OnErr};
 ghost use Rattle.number_facts.specs.Facts.{AreNarrow, range_at};
 ghost use Rattle.abs_state.specs.FrameFacts.{IsNumber, HasForm};
 ghost use Rattle.abs_state.specs.NormalForm.{number_at, numbers_in, of_numbers, symbol};
@@ -54,14 +54,6 @@ impl Known {
                 ranges: Vec::from_slice(alloc, self.numbers.ranges.as_slice())?,
             },
         })
-    }
-
-    /// Whether the same is known.
-    pub(crate) fn same(&self, other: &Known) -> bool
-        ensures { IsTrue result ↔ (self.now ≡ other.now) }
-    {
-        self.variables.as_slice() == other.variables.as_slice()
-            && same_ranges(self.numbers.ranges.as_slice(), other.numbers.ranges.as_slice())
     }
 
     /// The range of a symbol.
@@ -124,26 +116,4 @@ pub(crate) fn new_symbol(numbers: &mut Numbers, range: Range) -> Result<Expr, No
     };
     numbers.ranges.push(range)?;
     Ok(Expr { sym, k: 0 })
-}
-
-/// Whether two ranges are equal.
-fn is_same(a: Range, b: Range) -> bool
-    ensures { IsTrue result ↔ (a ≡ b) }
-{
-    a.lo() == b.lo() && a.hi() == b.hi() && a.hole() == b.hole()
-}
-
-/// Whether two lists of ranges are equal.
-fn same_ranges(a: &[Range], b: &[Range]) -> bool
-    ensures { IsTrue result ↔ (a.now ≡ b.now) }
-{
-    if a.len() != b.len() {
-        return false;
-    }
-    for index in 0..a.len() {
-        if !is_same(a[index], b[index]) {
-            return false;
-        }
-    }
-    true
 }

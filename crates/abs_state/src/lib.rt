@@ -1,6 +1,7 @@
 //! What is known of a frame: the state of the analysis before an instruction.
 #![tactic(auto)]
 
+mod equality;
 mod joins;
 mod known;
 mod moves;

@@ -2,22 +2,36 @@
 
 ghost use Rattle.std.specs.Prelude.{◌≡◌, ◌≤◌, true, length, Some, IfOk, OnOk, OnErr};
 ghost use Rattle.std.specs.Option.{is_some};
-ghost use Rattle.number_facts.specs.Facts.{AreNarrow, IsThere};
+ghost use Rattle.interval_domain.specs.Arithmetic.{near};
+ghost use Rattle.number_facts.specs.Arith.{exact};
 ghost use Rattle.number_facts.specs.Owed.{Divides, Shifts};
 ghost use Rattle.abs_state.specs.Arithmetic as rule;
 ghost use Rattle.abs_state.specs.Assumptions.{assuming};
+ghost use Rattle.abs_state.specs.FrameFacts.{HasForm, IsNumber};
 
 use crate::known::Known;
 use cil_model::{BinOp, CmpOp};
 use domain_api::{Expr, NoMemory};
 
 impl Known {
+    /// The ends of the range that is judged for overflow.
+    #[tactic(auto, using(crate::proofs::FormsKept::number_there))]
+    pub(crate) fn exact_ends(&self, op: BinOp, a: Expr, b: Expr) -> (i64, i64)
+        requires form { HasForm self.now }
+        requires first { IsNumber self.now.facts a }
+        requires second { IsNumber self.now.facts b }
+        ensures least { result.0 ≡ near (exact op self.now.facts a b).lo }
+        ensures greatest { result.1 ≡ near (exact op self.now.facts a b).hi }
+    {
+        self.numbers.exact_ends(op, a, b)
+    }
+
     /// Pushes the result of an operator. False where what is known leaves no number for it, and is to be given up.
-    #[tactic(auto, unfolding(crate::specs::Arithmetic::with_result))]
+    #[tactic(auto, using(crate::proofs::FormsKept::number_there), unfolding(crate::specs::Arithmetic::with_result))]
     pub(crate) fn push_result(&mut self, op: BinOp, a: Expr, b: Expr) -> Result<bool, NoMemory>
-        requires first { IsThere self.old.facts a }
-        requires second { IsThere self.old.facts b }
-        requires narrow { AreNarrow self.old.facts }
+        requires form { HasForm self.old }
+        requires first { IsNumber self.old.facts a }
+        requires second { IsNumber self.old.facts b }
         requires divisor { Divides op b }
         requires amount { Shifts op b }
         ensures reached { IfOk result (λ reached. reached ≡ is_some (rule.with_result op a b self.old)) }

@@ -1,7 +1,7 @@
 //! The state of the analysis.
 
 ghost use Rattle.std.specs.Prelude.{◌≡◌, ◌<◌, ◌≤◌, ◌↔◌, None, Some, IfOk, OnOk, OnErr, IsSome, IsTrue, is_some, length, slice_get, All};
-ghost use Rattle.std.specs.Option.{ForSome, IsSomeAnd, option_map};
+ghost use Rattle.std.specs.Option.{ForSome, option_map};
 ghost use Rattle.cil_model.specs.declared.instruction.BinOp.{BinOp};
 ghost use Rattle.interval_domain.specs.Arithmetic.{near};
 ghost use Rattle.number_facts.specs.Arith.{exact};
@@ -48,7 +48,7 @@ impl AbsState {
     }
 
     /// The state in which each variable is known by itself.
-    #[tactic(auto, using(crate::proofs::FormsKept::forms))]
+    
     pub fn of_numbers(alloc: Global, numbers: &[Number]) -> Result<AbsState, NoMemory>
         requires { All IsInt32 numbers.now }
         ensures { IfOk result (λ state. state ≡ Some (of_numbers numbers.now)) }
@@ -113,27 +113,40 @@ impl AbsState {
         self.variables()[i as usize]
     }
 
+    /// What is known, where something is reached.
+    fn known(&self) -> &Known
+        requires reached { IsSome self.now }
+        ensures value { self.now ≡ Some result.now }
+        ensures form { HasForm result.now }
+    {
+        match &self.known {
+            Some(known) => known,
+            None => unreachable!(),
+        }
+    }
+
     /// The least and the greatest number that an expression may have, and the number between them that it does not
     /// have.
     pub fn ends(&self, e: Expr) -> (i128, i128, Option<i128>)
-        requires there { IsSomeAnd self.now (λ known. e.sym ≤ length known.facts.ranges) }
+        requires reached { IsSome self.now }
+        requires there { ForSome self.now (λ known. e.sym ≤ length known.facts.ranges) }
         ensures least { ForSome self.now (λ known. result.0 ≡ (range_of known.facts e).lo) }
         ensures greatest { ForSome self.now (λ known. result.1 ≡ (range_of known.facts e).hi) }
         ensures hole { ForSome self.now (λ known. result.2 ≡ (range_of known.facts e).hole) }
     {
-        let known = self.known.as_ref().unwrap();
-        known.numbers.ends(e)
+        self.known().numbers.ends(e)
     }
 
-    /// The ends of the range that is judged for overflow, for an operator that may overflow.
+    /// The ends of the range that is judged for overflow, for an operator that may overflow. One beyond 64 bits is the
+    /// nearest number of 64 bits.
     pub fn exact_ends(&self, op: BinOp, a: Expr, b: Expr) -> (i64, i64)
-        requires first { IsSomeAnd self.now (λ known. IsNumber known.facts a) }
-        requires second { IsSomeAnd self.now (λ known. IsNumber known.facts b) }
+        requires reached { IsSome self.now }
+        requires first { ForSome self.now (λ known. IsNumber known.facts a) }
+        requires second { ForSome self.now (λ known. IsNumber known.facts b) }
         ensures least { ForSome self.now (λ known. result.0 ≡ near (exact op known.facts a b).lo) }
         ensures greatest { ForSome self.now (λ known. result.1 ≡ near (exact op known.facts a b).hi) }
     {
-        let known = self.known.as_ref().unwrap();
-        known.numbers.exact_ends(op, a, b)
+        self.known().exact_ends(op, a, b)
     }
 
     /// A number that may be added to the symbol s without passing the symbol t. None means that nothing is known.
@@ -141,52 +154,54 @@ impl AbsState {
         requires reached { IsSome self.now }
         ensures { ForSome self.now (λ known. result ≡ known_gap known.facts s t) }
     {
-        let known = self.known.as_ref().unwrap();
-        known.numbers.gap(s, t)
+        self.known().numbers.gap(s, t)
     }
 
     /// Pushes a copy of a number: of a constant the constant, else a number of the same range.
     ///
     /// Here as below a state in which nothing is reached stays, and want of memory leaves the state as it was.
-    #[tactic(auto, using(crate::proofs::FormsKept::forms))]
+    
     pub fn push(&mut self, e: Expr) -> Result<(), NoMemory>
         requires { ForSome self.old (λ known. IsNumber known.facts e) }
         ensures ok { OnOk result (self.new ≡ option_map (λ known. moves.pushed known e) self.old) }
         ensures err { OnErr result (self.new ≡ self.old) }
     {
-        if let Some(known) = &mut self.known {
-            known.push(e)?;
-        }
+        let Some(known) = &mut self.known else {
+            return Ok(());
+        };
+        known.push(e)?;
         Ok(())
     }
 
     /// Takes the top of the stack, the last variable.
-    #[tactic(auto, using(crate::proofs::FormsKept::forms))]
+    
     pub fn pop(&mut self)
         ensures { self.new ≡ option_map moves.popped self.old }
     {
-        if let Some(known) = &mut self.known {
-            known.pop();
-        }
+        let Some(known) = &mut self.known else {
+            return;
+        };
+        known.pop();
     }
 
     /// Puts a number into the place of variable i.
-    #[tactic(auto, using(crate::proofs::FormsKept::forms))]
+    
     pub fn put(&mut self, i: u32, e: Expr, place: Place) -> Result<(), NoMemory>
         requires there { ForSome self.old (λ known. i < length known.variables) }
         requires number { ForSome self.old (λ known. IsNumber known.facts e) }
         ensures ok { OnOk result (self.new ≡ option_map (λ known. moves.put known i e place) self.old) }
         ensures err { OnErr result (self.new ≡ self.old) }
     {
-        if let Some(known) = &mut self.known {
-            known.put(i as usize, e, place)?;
-        }
+        let Some(known) = &mut self.known else {
+            return Ok(());
+        };
+        known.put(i as usize, e, place)?;
         Ok(())
     }
 
     /// Pushes the result of an operator. Where what is known leaves no number for it, nothing is reached. The comparisons
     /// are asked of `compare`.
-    #[tactic(auto, using(crate::proofs::FormsKept::forms))]
+    
     pub fn arith(&mut self, op: BinOp, a: Expr, b: Expr) -> Result<(), NoMemory>
         requires first { ForSome self.old (λ known. IsNumber known.facts a) }
         requires second { ForSome self.old (λ known. IsNumber known.facts b) }
@@ -195,39 +210,42 @@ impl AbsState {
         ensures ok { OnOk result (self.new ≡ operators.arith op a b self.old) }
         ensures err { OnErr result (self.new ≡ self.old) }
     {
-        if let Some(known) = &mut self.known
-            && !known.push_result(op, a, b)?
-        {
+        let Some(known) = &mut self.known else {
+            return Ok(());
+        };
+        if !known.push_result(op, a, b)? {
             self.known = None;
         }
         Ok(())
     }
 
     /// Pushes 1 where a comparison is true and 0 where it is false, or a number of both.
-    #[tactic(auto, using(crate::proofs::FormsKept::forms))]
+    
     pub fn compare(&mut self, op: BinOp, a: Expr, b: Expr) -> Result<(), NoMemory>
         requires first { ForSome self.old (λ known. IsNumber known.facts a) }
         requires second { ForSome self.old (λ known. IsNumber known.facts b) }
         ensures ok { OnOk result (self.new ≡ operators.compare op a b self.old) }
         ensures err { OnErr result (self.new ≡ self.old) }
     {
-        if let Some(known) = &mut self.known {
-            known.push_truth(op, a, b)?;
-        }
+        let Some(known) = &mut self.known else {
+            return Ok(());
+        };
+        known.push_truth(op, a, b)?;
         Ok(())
     }
 
     /// Assumes that a comparison holds, or that it does not. Where it cannot, nothing is reached.
-    #[tactic(auto, using(crate::proofs::FormsKept::forms))]
+    
     pub fn assume(&mut self, op: CmpOp, a: Expr, b: Expr, holds: bool) -> Result<(), NoMemory>
         requires first { ForSome self.old (λ known. IsNumber known.facts a) }
         requires second { ForSome self.old (λ known. IsNumber known.facts b) }
         ensures ok { OnOk result (self.new ≡ assumptions.assume op a b holds self.old) }
         ensures err { OnErr result (self.new ≡ self.old) }
     {
-        if let Some(known) = &mut self.known
-            && !known.assume(op, a, b, holds)?
-        {
+        let Some(known) = &mut self.known else {
+            return Ok(());
+        };
+        if !known.assume(op, a, b, holds)? {
             self.known = None;
         }
         Ok(())
@@ -235,14 +253,15 @@ impl AbsState {
 
     /// Takes the normal form: each variable that is no constant has a symbol of its own, in order, and no other symbol
     /// is left.
-    #[tactic(auto, using(crate::proofs::FormsKept::forms))]
+    
     pub fn norm(&mut self, alloc: Global) -> Result<(), NoMemory>
         ensures ok { OnOk result (self.new ≡ norm self.old) }
         ensures err { OnErr result (self.new ≡ self.old) }
     {
-        if let Some(known) = &mut self.known {
-            *known = known.normal(alloc)?;
-        }
+        let Some(known) = &mut self.known else {
+            return Ok(());
+        };
+        *known = known.normal(alloc)?;
         Ok(())
     }
 }
