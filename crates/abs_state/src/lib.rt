@@ -4,6 +4,7 @@
 mod equality;
 mod joins;
 mod known;
+mod lattice;
 mod moves;
 mod number;
 mod operators;

@@ -25,7 +25,7 @@ use std::marker::Model;
 /// What is known of a frame before an instruction, or that nothing is reached there.
 #[derive(Drop)]
 pub struct AbsState {
-    known: Option<Known>,
+    pub(crate) known: Option<Known>,
 }
 
 impl Model for AbsState {
