@@ -3,3 +3,7 @@ pub mod Bytes
 pub mod Shrinking
 pub mod FormsKept
 pub mod ResultForms
+pub mod NormalForms
+pub mod MadeHold
+pub mod MovesHold
+pub mod ResultsHold
