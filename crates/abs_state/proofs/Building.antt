@@ -1,10 +1,9 @@
 -- States are built variable by variable.
-use Rattle.std.proofs.Common.{◌≡◌, ℕ, zero, suc, ◌+◌, ◌<◌, ◌≤◌, Bool, true, false, ◌&&◌, List, [], ◌∷◌, ◌++◌, length, get_or, map, take, drop, refl, sym, ap, ◌∙◌, add-one, add-zero, zero-add, append_assoc, append-nil, arith}
+use Rattle.std.proofs.Common.{◌≡◌, ℕ, zero, suc, ◌+◌, ◌<◌, ◌≤◌, Bool, true, ◌&&◌, List, [], ◌∷◌, ◌++◌, length, get_or, take, drop, refl, sym, ap, ◌∙◌, add-one, add-zero, zero-add, append-nil, arith}
 use Rattle.std.proofs.lemmas.List.{length-map, take_more, take_all, drop_all}
 use Rattle.std.proofs.Math.ListN.{get_or-map}
 use Rattle.domain_api.specs.declared.expr.Expr.{Expr}
-use Rattle.interval_domain.specs.Interval.{Interval}
-use Rattle.number_facts.specs.Facts.{Facts, constant}
+use Rattle.number_facts.specs.Facts.{constant}
 use Rattle.abs_state.specs.FrameFacts.{FrameFacts}
 use Rattle.abs_state.specs.Moves.{appended}
 use Rattle.abs_state.specs.NormalForm.{number_at, numbers_in, symbol, ranges_of, variables_behind, of_numbers}

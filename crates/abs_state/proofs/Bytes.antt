@@ -1,5 +1,5 @@
 -- The range of bool, as it is made.
-use Rattle.std.proofs.Common.{◌≡◌, ℤ, pos, refl}
+use Rattle.std.proofs.Common.{◌≡◌, pos, refl}
 use Rattle.interval_domain.specs.Interval.{one, between, holed, inner_hole}
 use Rattle.interval_domain.specs.Joins.{hull, kept_hole}
 

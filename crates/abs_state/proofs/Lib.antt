@@ -7,3 +7,5 @@ pub mod NormalForms
 pub mod MadeHold
 pub mod MovesHold
 pub mod ResultsHold
+pub mod Examples
+pub mod StateLaws

@@ -1,15 +1,13 @@
 -- What is known holds also of a number that is made, on top or in the place of a variable.
-use Rattle.std.proofs.Common.{◌≡◌, ℕ, zero, suc, ◌+◌, ◌<◌, ◌≤◌, ℤ, pos, ◌+ℤ◌, ◌≤ℤ◌, List, [], ◌∷◌, ◌++◌, Option, Some, None, length, get_or, map, All, FitsSigned, w32, refl, sym, ap, ◌∙◌, inl, inr, ⊎_elim, arith}
-use Rattle.std.specs.Prelude.{set, slice_get, ◌⊎◌}
+use Rattle.std.proofs.Common.{◌≡◌, ℕ, zero, suc, ◌<◌, ◌≤◌, ℤ, pos, ◌+ℤ◌, List, [], ◌∷◌, ◌++◌, Some, length, get_or, map, FitsSigned, w32, refl, ap, ◌∙◌, ⊎_elim, arith}
+use Rattle.std.specs.Prelude.{set, slice_get}
 use Rattle.std.proofs.lemmas.Int.{ints}
 use Rattle.std.proofs.lemmas.List.{map-append, map-set, get_or_append_left}
 use Rattle.domain_api.specs.declared.expr.Expr.{Expr}
-use Rattle.cil_model.specs.Arithmetic.{LEAST, GREATEST}
 use Rattle.interval_domain.specs.Interval.{Interval}
 use Rattle.number_facts.specs.Facts as numbers
 use Rattle.number_facts.specs.Facts.{Facts, AllowAll, HoldsWith, number_of, range_of, value}
 use Rattle.number_facts.specs.Fresh.{Made}
-use Rattle.number_facts.specs.Spans.{Has}
 use Rattle.number_facts.proofs.Meaning.{range_has}
 use Rattle.abs_state.specs.Arithmetic.{on_top}
 use Rattle.abs_state.specs.FrameFacts.{FrameFacts, HasForm, HoldsOf, IsNumber}

@@ -1,5 +1,5 @@
 -- What moves keep.
-use Rattle.std.proofs.Common.{◌≡◌, ℕ, ◌+◌, ◌-◌, ◌==◌, ℤ, pos, negsuc, ◌≤ℤ◌, ◌<ℤ◌, Bool, true, false, ◌&&◌, int_le, int_eq, List, [], ◌∷◌, ◌++◌, Option, Some, None, length, take, map, refl, sym, ap, ◌∙◌, inl, arith}
+use Rattle.std.proofs.Common.{◌≡◌, ℕ, ◌+◌, ◌-◌, ◌==◌, ℤ, pos, negsuc, ◌≤ℤ◌, Bool, true, false, int_le, int_eq, List, [], ◌∷◌, ◌++◌, Some, None, length, take, map, refl, sym, ◌∙◌, inl, arith}
 use Rattle.std.specs.Prelude.{set, if◌then◌else◌}
 use Rattle.std.specs.Int.{int_rem_euclid}
 use Rattle.std.proofs.lemmas.Int.{ints}
@@ -7,7 +7,6 @@ use Rattle.std.proofs.lemmas.Bool.{cond_both, and_parts}
 use Rattle.std.proofs.lemmas.List.{take-map, length-map}
 use Rattle.cil_model.specs.Values as machine
 use Rattle.cil_model.specs.Values.{Heap, IsByte}
-use Rattle.cil_model.specs.declared.machine.Value.{Value}
 use Rattle.cil_model.specs.declared.machine.Value.TheVariants as values_of
 use Rattle.cil_model.specs.declared.place.Place.{Place}
 use Rattle.cil_model.specs.declared.place.Place.TheVariants as places
@@ -22,12 +21,11 @@ use Rattle.number_facts.specs.declared.span.Span.{Span}
 use Rattle.number_facts.proofs.ConstantValues.{constant_value, zero_value}
 use Rattle.number_facts.proofs.Meaning.{range_has, noted_holds}
 use Rattle.abs_state.specs.Arithmetic.{on_top}
-use Rattle.abs_state.specs.FrameFacts.{FrameFacts, HasForm, HoldsOf, IsNumber}
+use Rattle.abs_state.specs.FrameFacts.{FrameFacts, HasForm, HoldsOf}
 use Rattle.abs_state.specs.Moves.{appended, pushed, popped, byte, is_byte, placed, put}
 use Rattle.abs_state.specs.NormalForm.{number_at, normal, numbers_in, symbol}
 use Rattle.abs_state.specs.Number.{copied, fresh_number}
 use Rattle.abs_state.specs.OwnNumbers.{holds_each, each_holds}
-use Rattle.abs_state.specs.declared.number.Number.{Number}
 use Rattle.abs_state.specs.declared.number.Number.TheVariants.{Constant, Among}
 use Rattle.abs_state.proofs.MadeHold.{on_top_holds, in_place_holds}
 
@@ -36,7 +34,7 @@ use Rattle.abs_state.proofs.MadeHold.{on_top_holds, in_place_holds}
 fresh_by : (one : Bool) (known : FrameFacts) (r : Interval)
     → appended known (if one then Constant r.lo else Among r)
     ≡ on_top known (if one then record { expr = constant r.lo; facts = known.facts }
-      else record { expr = symbol (length known.facts.ranges + 1); facts = record { ranges = known.facts.ranges ++ r ∷ [] } })
+    else record { expr = symbol (length known.facts.ranges + 1); facts = record { ranges = known.facts.ranges ++ r ∷ [] } })
 unfolding appended
 fresh_by true known r = refl
 fresh_by false known r = refl

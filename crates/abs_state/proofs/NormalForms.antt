@@ -1,12 +1,11 @@
 -- What comes of numbers that are known by themselves is in normal form.
-use Rattle.std.proofs.Common.{◌≡◌, ℕ, zero, suc, ◌+◌, ◌==◌, ℤ, pos, ◌+ℤ◌, Option, Some, None, List, [], ◌∷◌, ◌++◌, length, get_or, map, false, refl, sym, ap, ◌∙◌, add-one, append_assoc, length-append, arith}
+use Rattle.std.proofs.Common.{◌≡◌, ℕ, suc, ◌+◌, ◌==◌, ℤ, pos, Option, Some, None, List, [], ◌∷◌, ◌++◌, length, map, false, refl, sym, ap, ◌∙◌, add-one, append_assoc, length-append, arith}
 use Rattle.std.specs.List.{AllByRecursion}
 use Rattle.std.proofs.lemmas.Int.{ints}
 use Rattle.std.proofs.lemmas.Bool.{false_from_ne_true}
 use Rattle.std.proofs.Math.Seq.{get_or-append_seam}
-use Rattle.domain_api.specs.declared.expr.Expr.{Expr}
 use Rattle.interval_domain.specs.Interval.{Interval, interval, one}
-use Rattle.number_facts.specs.Facts.{Facts, constant, range_at, range_of}
+use Rattle.number_facts.specs.Facts.{range_at, range_of}
 use Rattle.number_facts.specs.Spans.{moved, moved_hole}
 use Rattle.number_facts.proofs.ConstantValues.{no_symbol}
 use Rattle.abs_state.specs.FrameFacts.{FrameFacts, HasForm}
@@ -15,12 +14,12 @@ use Rattle.abs_state.specs.Join.{joined}
 use Rattle.abs_state.specs.NormalForm.{number_at, numbers_in, normal, of_numbers, ranges_of, symbol, variables_behind}
 use Rattle.abs_state.specs.Number.{IsInt32}
 use Rattle.abs_state.specs.Pairs.{each_pair}
-use Rattle.abs_state.specs.RangeStates.{IsNormal, SpeakOfTheSame}
+use Rattle.abs_state.specs.RangeStates.{IsNormal}
 use Rattle.abs_state.specs.Widening.{widened}
 use Rattle.abs_state.specs.declared.number.Number.{Number}
 use Rattle.abs_state.specs.declared.number.Number.TheVariants.{Constant, Among}
 use Rattle.abs_state.proofs.Building.{count_of_numbers, length-each_pair}
-use Rattle.abs_state.proofs.FormsKept.{of_numbers_form, normal_form}
+use Rattle.abs_state.proofs.FormsKept.{of_numbers_form}
 
 -- ---- what is known of each is what it was made of
 

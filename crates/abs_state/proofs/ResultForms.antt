@@ -1,11 +1,10 @@
 -- The result of an operator is an int32 number, and what is known keeps its form.
-use Rattle.std.proofs.Common.{◌≡◌, ℕ, ◌==◌, ◌^◌, ℤ, pos, negsuc, ◌+ℤ◌, ◌*ℤ◌, ◌≤ℤ◌, Bool, true, false, ◌&&◌, int_le, int_lt, int_eq, unsigned_abs, Option, Some, None, Result, Ok, Err, FitsSigned, w32, refl, sym, ◌∙◌, subst, arith}
+use Rattle.std.proofs.Common.{◌≡◌, ℕ, ◌==◌, ◌^◌, ℤ, pos, ◌+ℤ◌, ◌*ℤ◌, ◌≤ℤ◌, Bool, true, false, ◌&&◌, int_le, int_lt, unsigned_abs, Option, Some, None, Result, Ok, Err, FitsSigned, w32, refl, subst, arith}
 use Rattle.std.specs.Option.{option_map}
 use Rattle.std.specs.Result.{result_ok}
 use Rattle.std.specs.Prelude.{IfOk}
-use Rattle.std.specs.Int.{int_min, int_max, int_wrap}
-use Rattle.std.proofs.lemmas.Bool.{cond_both, and_parts, true_from_ne_false}
-use Rattle.std.proofs.lemmas.Bool.Decides.{Decides-int_eq}
+use Rattle.std.specs.Int.{int_min, int_max}
+use Rattle.std.proofs.lemmas.Bool.{cond_both, and_parts}
 use Rattle.std.proofs.lemmas.Int.{ints, clamps, SFits-int_wrap}
 use Rattle.domain_api.specs.declared.expr.Expr.{Expr}
 use Rattle.cc_base.specs.Wrap.{wrap32}
@@ -18,7 +17,7 @@ use Rattle.interval_domain.specs.Interval.{Interval, between}
 use Rattle.number_facts.specs.Addition.{plus, negated, takes, sum, difference}
 use Rattle.number_facts.specs.Arith as rule
 use Rattle.number_facts.specs.Comparisons.{is_constant}
-use Rattle.number_facts.specs.Facts.{Facts, AreNarrow, IsNarrow, constant, range_at, range_of}
+use Rattle.number_facts.specs.Facts.{Facts, AreNarrow, constant, range_at, range_of}
 use Rattle.number_facts.specs.Fresh.{Made, range_without, noted, fresh, settled}
 use Rattle.number_facts.specs.Owed.{Shifts}
 use Rattle.number_facts.specs.Product.{is_the_constant, product}
@@ -28,7 +27,6 @@ use Rattle.number_facts.specs.Shifts.{IsAmount, shifted_left, shifted_right_unsi
 use Rattle.number_facts.specs.Spans.{is_int32, is_not_negative, moved}
 use Rattle.number_facts.specs.declared.outcome.Outcome.{Outcome}
 use Rattle.number_facts.specs.declared.outcome.Outcome.TheVariants.{Is, Within}
-use Rattle.number_facts.specs.declared.span.Span.{Span}
 use Rattle.number_facts.proofs.ConstantValues.{no_symbol}
 use Rattle.abs_state.specs.Arithmetic.{on_top, with_result}
 use Rattle.abs_state.specs.FrameFacts.{FrameFacts, HasForm, IsNumber}

@@ -1,5 +1,5 @@
 -- What operators and comparisons push is true, and what is assumed keeps what holds.
-use Rattle.std.proofs.Common.{◌≡◌, ℤ, Bool, true, false, Option, Some, None, Ok, List, [], ◌∷◌, ◌++◌, FitsSigned, w32, subst}
+use Rattle.std.proofs.Common.{◌≡◌, ℤ, Bool, Option, Some, None, Ok, List, [], ◌∷◌, ◌++◌, FitsSigned, w32, subst}
 use Rattle.std.specs.Prelude.{IfOk, Result}
 use Rattle.std.specs.Option.{option_map}
 use Rattle.cil_model.specs.Arithmetic.{compares, operated, truth}

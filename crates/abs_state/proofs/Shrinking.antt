@@ -1,10 +1,8 @@
 -- What is assumed leaves each symbol a range within its range, and takes none away.
-use Rattle.std.proofs.Common.{◌≡◌, ℕ, zero, suc, ℤ, pos, ◌+ℤ◌, ◌-ℤ◌, ◌≤ℤ◌, ◌<ℤ◌, ◌==◌, Bool, true, false, ◌||◌, ◌&&◌, int_lt, int_le, int_eq, Option, Some, None, List, [], ◌∷◌, length, get_or, refl, sym, ap, ◌∙◌, arith}
+use Rattle.std.proofs.Common.{◌≡◌, ℕ, zero, suc, ℤ, pos, ◌+ℤ◌, ◌-ℤ◌, ◌≤ℤ◌, ◌==◌, Bool, true, false, ◌||◌, ◌&&◌, int_lt, int_le, int_eq, Option, Some, None, List, [], ◌∷◌, length, get_or, refl, ◌∙◌, arith}
 use Rattle.std.specs.Prelude.{set}
 use Rattle.std.specs.Option.{option_and_then}
-use Rattle.std.specs.Int.{int_min, int_max}
 use Rattle.std.proofs.lemmas.Bool.{cond_both}
-use Rattle.std.proofs.lemmas.Bool.Decides.{Decides-int_eq}
 use Rattle.std.proofs.lemmas.Int.{ints, clamps}
 use Rattle.std.proofs.lemmas.List.{length-set}
 use Rattle.domain_api.specs.declared.expr.Expr.{Expr}

@@ -1,5 +1,5 @@
 -- What operators do to a state (ECMA-335 III.3): the result is pushed.
-use Rattle.std.specs.Prelude.{[], ◌∷◌, ◌++◌, Option, Some, None}
+use Rattle.std.specs.Prelude.{[], ◌∷◌, ◌++◌, Option}
 use Rattle.std.specs.Option.{option_and_then, option_map}
 use Rattle.cil_model.specs.declared.instruction.BinOp.{BinOp}
 use Rattle.domain_api.specs.declared.expr.Expr.{Expr}

@@ -1,5 +1,5 @@
 -- What a state becomes where a comparison is assumed to hold, or not to hold.
-use Rattle.std.specs.Prelude.{Bool, Option, Some, None}
+use Rattle.std.specs.Prelude.{Bool, Option}
 use Rattle.std.specs.Option.{option_and_then, option_map}
 use Rattle.cil_model.specs.declared.instruction.CmpOp.{CmpOp}
 use Rattle.domain_api.specs.declared.expr.Expr.{Expr}

@@ -1,7 +1,7 @@
 -- Whether a state is shown to say at least as much as another one.
-use Rattle.std.specs.Prelude.{Bool, true, false, Option, Some, None}
+use Rattle.std.specs.Prelude.{Bool, true, false, Some, None}
 use Rattle.interval_domain.specs.Joins.{within}
-use Rattle.abs_state.specs.FrameFacts.{FrameFacts, State}
+use Rattle.abs_state.specs.FrameFacts.{State}
 use Rattle.abs_state.specs.NormalForm.{numbers_in}
 use Rattle.abs_state.specs.Number.{range_of_number}
 use Rattle.abs_state.specs.Pairs.{every_pair}

@@ -1,21 +1,20 @@
 -- Numbers that are int32 stay so where states are joined and widened.
-use Rattle.std.proofs.Common.{◌≡◌, ℕ, zero, suc, ◌<◌, ◌==◌, ℤ, pos, negsuc, ◌≤ℤ◌, ◌<ℤ◌, Bool, true, ◌&&◌, int_lt, int_le, int_eq, Option, Some, None, List, [], ◌∷◌, length, map, All, arith}
+use Rattle.std.proofs.Common.{suc, ◌==◌, ℤ, ◌≤ℤ◌, int_lt, int_eq, Option, Some, None, List, [], ◌∷◌, map, All, arith}
 use Rattle.std.specs.List.{AllByRecursion}
 use Rattle.std.specs.Int.{int_min, int_max}
-use Rattle.std.specs.Option.{option_or}
 use Rattle.std.proofs.lemmas.Int.{ints, clamps}
 use Rattle.std.proofs.lemmas.Bool.{cond_both, and_parts}
 use Rattle.domain_api.specs.declared.expr.Expr.{Expr}
 use Rattle.cil_model.specs.Arithmetic.{LEAST, GREATEST}
-use Rattle.interval_domain.specs.Interval.{Interval, interval, one, holed, inner_hole, is_inside}
+use Rattle.interval_domain.specs.Interval.{Interval, one, holed, inner_hole, is_inside}
 use Rattle.interval_domain.specs.Joins.{LEAST_32, GREATEST_32, LEAST_64, GREATEST_64, hull, kept_hole, floor_of, ceiling_of, lower_end, upper_end}
 use Rattle.interval_domain.specs.Joins as ranges
-use Rattle.number_facts.specs.Facts.{Facts, AreNarrow, IsNarrow, IsInner, range_of}
+use Rattle.number_facts.specs.Facts.{Facts, AreNarrow, IsNarrow, IsInner}
 use Rattle.number_facts.proofs.ConstantValues.{no_symbol}
 use Rattle.abs_state.specs.FrameFacts.{FrameFacts, HasForm, IsNumber}
 use Rattle.abs_state.specs.Join.{joined}
 use Rattle.abs_state.specs.NormalForm.{number_at, numbers_in}
-use Rattle.abs_state.specs.Number.{IsInt32, range_of_number}
+use Rattle.abs_state.specs.Number.{IsInt32}
 use Rattle.abs_state.specs.OwnRanges.{own_narrow, constant_int32}
 use Rattle.abs_state.specs.Pairs.{each_pair}
 use Rattle.abs_state.specs.Widening.{widened}

@@ -1,9 +1,9 @@
 -- The join of two states, and what it needs: each variable is joined by itself.
-use Rattle.std.specs.Prelude.{List, [], ◌∷◌, Option, Some, None, if◌then◌else◌}
+use Rattle.std.specs.Prelude.{Some, None, if◌then◌else◌}
 use Rattle.std.specs.Ordering.{int_eq}
 use Rattle.interval_domain.specs.Interval.{one}
 use Rattle.interval_domain.specs.Joins.{hull}
-use Rattle.abs_state.specs.FrameFacts.{FrameFacts, State}
+use Rattle.abs_state.specs.FrameFacts.{State}
 use Rattle.abs_state.specs.NormalForm.{numbers_in, of_numbers}
 use Rattle.abs_state.specs.Number.{range_of_number}
 use Rattle.abs_state.specs.Pairs.{each_pair}

@@ -1,5 +1,5 @@
 -- What moves do to a state.
-use Rattle.std.specs.Prelude.{ℕ, ◌+◌, ◌-◌, ℤ, pos, Bool, ◌&&◌, int_le, List, [], ◌∷◌, ◌++◌, length, take, set, if◌then◌else◌}
+use Rattle.std.specs.Prelude.{ℕ, ◌+◌, ◌-◌, pos, Bool, ◌&&◌, int_le, [], ◌∷◌, ◌++◌, length, take, set, if◌then◌else◌}
 use Rattle.cil_model.specs.declared.place.Place.{Place}
 use Rattle.cil_model.specs.declared.place.Place.TheVariants as places
 use Rattle.domain_api.specs.declared.expr.Expr.{Expr}

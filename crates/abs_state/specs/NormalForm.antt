@@ -1,11 +1,10 @@
 -- The normal form: each variable that is no constant has a symbol of its own, with its numbers as the range, and the
 -- symbols are numbered in the order of the variables.
-use Rattle.std.specs.Prelude.{ℕ, zero, ◌+◌, ◌==◌, ℤ, pos, List, [], ◌∷◌, ◌++◌, length, map, Option, if◌then◌else◌}
+use Rattle.std.specs.Prelude.{ℕ, ◌+◌, ◌==◌, pos, List, [], ◌∷◌, map, if◌then◌else◌}
 use Rattle.std.specs.Option.{option_map}
 use Rattle.domain_api.specs.declared.expr.Expr.{Expr}
 use Rattle.interval_domain.specs.Interval.{Interval, interval}
 use Rattle.number_facts.specs.Facts.{Facts, constant, range_of}
-use Rattle.number_facts.specs.declared.span.Span.{Span}
 use Rattle.abs_state.specs.FrameFacts.{FrameFacts, State}
 use Rattle.abs_state.specs.declared.number.Number.{Number}
 use Rattle.abs_state.specs.declared.number.Number.TheVariants.{Constant, Among}

@@ -1,17 +1,17 @@
 -- What is known of each variable by itself, and what is known of all, hold of the same values.
-use Rattle.std.proofs.Common.{◌≡◌, ℕ, zero, suc, ◌+◌, ◌==◌, ℤ, pos, ◌+ℤ◌, Bool, true, List, [], ◌∷◌, ◌++◌, length, get_or, map, refl, sym, ap, ◌∙◌, subst, add-one, append_assoc, append-nil, length-append, arith}
+use Rattle.std.proofs.Common.{◌≡◌, ℕ, suc, ◌+◌, ◌==◌, ℤ, pos, List, [], ◌∷◌, ◌++◌, length, get_or, map, refl, sym, subst, add-one, append_assoc, length-append, arith}
 use Rattle.std.proofs.lemmas.Int.{ints}
 use Rattle.std.proofs.lemmas.Bool.{cond_both}
 use Rattle.domain_api.specs.declared.expr.Expr.{Expr}
-use Rattle.interval_domain.specs.Interval.{Interval, interval}
+use Rattle.interval_domain.specs.Interval.{interval}
 use Rattle.number_facts.specs.Facts as numbers
 use Rattle.number_facts.specs.Facts.{Facts, Allows, AllowAll, constant, number_of, range_of, value}
 use Rattle.number_facts.specs.Spans.{Has}
 use Rattle.number_facts.specs.declared.span.Span.{Span}
 use Rattle.number_facts.proofs.Meaning.{range_has}
-use Rattle.number_facts.proofs.ConstantValues.{no_symbol, constant_value}
+use Rattle.number_facts.proofs.ConstantValues.{constant_value}
 use Rattle.abs_state.specs.FrameFacts.{FrameFacts, HoldsOf}
-use Rattle.abs_state.specs.NormalForm.{number_at, numbers_in, symbol, ranges_of, variables_behind, of_numbers, normal}
+use Rattle.abs_state.specs.NormalForm.{number_at, numbers_in, symbol, ranges_of, variables_behind, of_numbers}
 use Rattle.abs_state.specs.Number.{MayBe}
 use Rattle.abs_state.specs.declared.number.Number.{Number}
 use Rattle.abs_state.specs.declared.number.Number.TheVariants.{Constant, Among}

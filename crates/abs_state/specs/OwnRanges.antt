@@ -1,18 +1,16 @@
 -- The numbers of an expression, from those of its symbol.
-use Rattle.std.proofs.Common.{◌≡◌, ◌≢◌, ℕ, ◌≤◌, ℤ, pos, negsuc, ◌+ℤ◌, ◌≤ℤ◌, ◌<ℤ◌, Bool, true, ◌&&◌, int_lt, Option, Some, None, FitsSigned, w64, refl, sym, ap, ◌∙◌, arith}
-use Rattle.std.proofs.lemmas.Int.{ints, clamps}
-use Rattle.std.proofs.lemmas.Bool.{cond_both, true_from_ne_false}
+use Rattle.std.proofs.Common.{◌≡◌, ℤ, ◌+ℤ◌, ◌≤ℤ◌, ◌<ℤ◌, true, int_lt, Option, Some, None, FitsSigned, w64, refl, ap, ◌∙◌, arith}
+use Rattle.std.proofs.lemmas.Int.{ints}
+use Rattle.std.proofs.lemmas.Bool.{true_from_ne_false}
 use Rattle.std.proofs.lemmas.Bool.Decides.{Decides-int_eq}
-use Rattle.std.specs.Ordering.{int_eq}
 use Rattle.domain_api.specs.declared.expr.Expr.{Expr}
 use Rattle.cil_model.specs.Arithmetic.{LEAST, GREATEST}
-use Rattle.interval_domain.specs.Interval.{Interval, interval, one, holed, inner_hole, is_inside}
+use Rattle.interval_domain.specs.Interval.{Interval, interval, one, holed, inner_hole}
 use Rattle.interval_domain.specs.Arithmetic.{sum, shifted, near, moved_hole}
 use Rattle.interval_domain.specs.Ends.{near_below, near_above}
 use Rattle.number_facts.specs.Facts.{Facts, AreNarrow, IsNarrow, IsInner, range_at, range_of}
 use Rattle.number_facts.specs.Spans as spans
 use Rattle.number_facts.specs.Spans.{moved}
-use Rattle.number_facts.specs.declared.span.Span.{Span}
 use Rattle.number_facts.proofs.Narrow.{narrow_range, constant_low}
 use Rattle.abs_state.specs.FrameFacts.{IsNumber}
 

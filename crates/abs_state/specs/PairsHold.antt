@@ -1,11 +1,10 @@
 -- What joins, widening and inclusion of numbers keep.
-use Rattle.std.proofs.Common.{◌≡◌, ℕ, ℤ, ◌≤ℤ◌, Bool, true, ◌&&◌, int_eq, int_le, List, [], ◌∷◌, length, FitsSigned, w64, sym, ◌∙◌, suc, arith}
+use Rattle.std.proofs.Common.{◌≡◌, ℕ, ℤ, true, int_eq, List, [], ◌∷◌, length, suc, arith}
 use Rattle.std.specs.List.{AllByRecursion}
 use Rattle.std.proofs.lemmas.Int.{ints}
 use Rattle.std.proofs.lemmas.Bool.{cond_both, and_parts}
 use Rattle.interval_domain.specs.Interval.{Interval, Contains, one}
-use Rattle.interval_domain.specs.Joins.{hull, within}
-use Rattle.interval_domain.specs.Joins as ranges
+use Rattle.interval_domain.specs.Joins.{within}
 use Rattle.interval_domain.specs.JoinsContain as kept
 use Rattle.number_facts.specs.Facts.{Allows, IsNarrow}
 use Rattle.abs_state.specs.Inclusion.{included}

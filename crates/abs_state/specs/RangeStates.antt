@@ -1,5 +1,5 @@
 -- States in normal form, and which may be joined, widened and compared.
-use Rattle.std.specs.Prelude.{◌≡◌, length, Option, Some, None}
+use Rattle.std.specs.Prelude.{◌≡◌, length, Some}
 use Rattle.abs_state.specs.FrameFacts.{FrameFacts, State, HasForm}
 use Rattle.abs_state.specs.NormalForm.{normal}
 

@@ -1,15 +1,14 @@
 -- What joins, widening and inclusion of states keep.
-use Rattle.std.proofs.Common.{◌≡◌, ℤ, Bool, true, Option, Some, None, List, length, map, subst, sym, ◌∙◌}
+use Rattle.std.proofs.Common.{◌≡◌, ℤ, true, Some, None, List, length, subst, sym, ◌∙◌}
 use Rattle.std.proofs.lemmas.List.{length-map}
 use Rattle.cil_model.specs.declared.machine.Frame.{Frame}
 use Rattle.abs_state.specs.FrameFacts.{FrameFacts, State, HoldsOf, Holds}
 use Rattle.abs_state.specs.Frames.{HoldsIn}
-use Rattle.abs_state.specs.Inclusion.{included, leq}
+use Rattle.abs_state.specs.Inclusion.{leq}
 use Rattle.abs_state.specs.Int32Numbers.{numbers_int32}
 use Rattle.abs_state.specs.Join.{joined, join}
-use Rattle.abs_state.specs.NormalForm.{number_at, numbers_in, normal, of_numbers}
+use Rattle.abs_state.specs.NormalForm.{number_at, numbers_in, normal}
 use Rattle.abs_state.specs.OwnNumbers.{holds_each, each_holds}
-use Rattle.abs_state.specs.Pairs.{each_pair}
 use Rattle.abs_state.specs.PairsHold.{joined_first, joined_second, widened_first, widened_second, each_first, each_second, each_included}
 use Rattle.abs_state.specs.RangeStates.{SpeakOfTheSame, AreAlike}
 use Rattle.abs_state.specs.Widening.{widened, widen}

@@ -62,7 +62,13 @@ impl Known {
 
     /// Assumes a comparison. False where nothing is reached then, and what is known is to be given up.
     #[tactic(auto, unfolding(crate::specs::Assumptions::assuming))]
-    pub(crate) fn assume(&mut self, op: CmpOp, a: Expr, b: Expr, holds: bool) -> Result<bool, NoMemory>
+    pub(crate) fn assume(
+        &mut self,
+        op: CmpOp,
+        a: Expr,
+        b: Expr,
+        holds: bool,
+    ) -> Result<bool, NoMemory>
         requires first { a.sym ≤ length self.old.facts.ranges }
         requires second { b.sym ≤ length self.old.facts.ranges }
         ensures reached { IfOk result (λ reached. reached ≡ is_some (assuming op a b holds self.old)) }

@@ -48,7 +48,6 @@ impl AbsState {
     }
 
     /// The state in which each variable is known by itself.
-    
     pub fn of_numbers(alloc: Global, numbers: &[Number]) -> Result<AbsState, NoMemory>
         requires { All IsInt32 numbers.now }
         ensures { IfOk result (λ state. state ≡ Some (of_numbers numbers.now)) }
@@ -160,7 +159,6 @@ impl AbsState {
     /// Pushes a copy of a number: of a constant the constant, else a number of the same range.
     ///
     /// Here as below a state in which nothing is reached stays, and want of memory leaves the state as it was.
-    
     pub fn push(&mut self, e: Expr) -> Result<(), NoMemory>
         requires { ForSome self.old (λ known. IsNumber known.facts e) }
         ensures ok { OnOk result (self.new ≡ option_map (λ known. moves.pushed known e) self.old) }
@@ -174,18 +172,22 @@ impl AbsState {
     }
 
     /// Takes the top of the stack, the last variable.
-    
-    pub fn pop(&mut self)
-        ensures { self.new ≡ option_map moves.popped self.old }
+    ///
+    /// # Errors
+    ///
+    /// Want of memory. This version takes none.
+    pub fn pop(&mut self) -> Result<(), NoMemory>
+        ensures ok { OnOk result (self.new ≡ option_map moves.popped self.old) }
+        ensures err { OnErr result (self.new ≡ self.old) }
     {
         let Some(known) = &mut self.known else {
-            return;
+            return Ok(());
         };
         known.pop();
+        Ok(())
     }
 
     /// Puts a number into the place of variable i.
-    
     pub fn put(&mut self, i: u32, e: Expr, place: Place) -> Result<(), NoMemory>
         requires there { ForSome self.old (λ known. i < length known.variables) }
         requires number { ForSome self.old (λ known. IsNumber known.facts e) }
@@ -201,7 +203,6 @@ impl AbsState {
 
     /// Pushes the result of an operator. Where what is known leaves no number for it, nothing is reached. The comparisons
     /// are asked of `compare`.
-    
     pub fn arith(&mut self, op: BinOp, a: Expr, b: Expr) -> Result<(), NoMemory>
         requires first { ForSome self.old (λ known. IsNumber known.facts a) }
         requires second { ForSome self.old (λ known. IsNumber known.facts b) }
@@ -220,7 +221,6 @@ impl AbsState {
     }
 
     /// Pushes 1 where a comparison is true and 0 where it is false, or a number of both.
-    
     pub fn compare(&mut self, op: BinOp, a: Expr, b: Expr) -> Result<(), NoMemory>
         requires first { ForSome self.old (λ known. IsNumber known.facts a) }
         requires second { ForSome self.old (λ known. IsNumber known.facts b) }
@@ -235,7 +235,6 @@ impl AbsState {
     }
 
     /// Assumes that a comparison holds, or that it does not. Where it cannot, nothing is reached.
-    
     pub fn assume(&mut self, op: CmpOp, a: Expr, b: Expr, holds: bool) -> Result<(), NoMemory>
         requires first { ForSome self.old (λ known. IsNumber known.facts a) }
         requires second { ForSome self.old (λ known. IsNumber known.facts b) }
@@ -253,7 +252,6 @@ impl AbsState {
 
     /// Takes the normal form: each variable that is no constant has a symbol of its own, in order, and no other symbol
     /// is left.
-    
     pub fn norm(&mut self, alloc: Global) -> Result<(), NoMemory>
         ensures ok { OnOk result (self.new ≡ norm self.old) }
         ensures err { OnErr result (self.new ≡ self.old) }
