@@ -72,7 +72,7 @@ new_range : (facts : Facts) (r : Interval) → range_at (with_range facts r) (le
 unfolding range_at
 new_range facts r = rw (add-one (length facts.ranges)) (get_or-append_seam facts.ranges r [] (one (pos 0)))
 
-number_stays : (facts : Facts) (r : Interval) (e : Expr) → IsNumber facts e → IsNumber (with_range facts r) e
+pub number_stays : (facts : Facts) (r : Interval) (e : Expr) → IsNumber facts e → IsNumber (with_range facts r) e
 unfolding range_of
 number_stays facts r e number =
     let is = same_range facts r e.sym number.there in
@@ -131,7 +131,7 @@ on_top_form known made form is = record {
 byte_narrow : IsNarrow byte
 byte_narrow = record { least = omega (arith, ints); ordered = omega (arith, ints); greatest = omega (arith, ints); inner = tt }
 
-placed_is_made : (facts : Facts) (e : Expr) (place : Place) → AreNarrow facts → IsNumber facts e → IsMade facts (placed facts e place)
+pub placed_is_made : (facts : Facts) (e : Expr) (place : Place) → AreNarrow facts → IsNumber facts e → IsMade facts (placed facts e place)
 unfolding placed
 placed_is_made facts e places.Bool all number = cond_both (is_byte (range_of facts e)) _ _ (IsMade facts)
     (λ is. is_kept facts e all number) (λ is. noted_is_made facts byte all byte_narrow)
@@ -212,7 +212,7 @@ widened_form a b first second = of_numbers_form _ (pairs_int32 widened widened_i
 
 -- ---- what is assumed
 
-number_within : (f g : Facts) (e : Expr) → Shrink f g → IsNumber f e → IsNumber g e
+pub number_within : (f g : Facts) (e : Expr) → Shrink f g → IsNumber f e → IsNumber g e
 unfolding range_of moved
 number_within f g e shrink number =
     let least : LEAST ≤ℤ ((range_at f e.sym).lo +ℤ e.k) = number.least in
@@ -244,15 +244,19 @@ assuming_form op a b holds known new form is = some_form _ new is
 
 -- ---- comparisons
 
+pushed_is_made : (facts : Facts) (o : Option Bool) → AreNarrow facts → IsMade facts (truth_pushed facts o)
+pushed_is_made facts (Some true) narrow = is_kept facts _ narrow (constant_number facts (pos 1) (omega (arith, ints)) (omega (arith, ints)))
+pushed_is_made facts (Some false) narrow = is_kept facts _ narrow (constant_number facts (pos 0) (omega (arith, ints)) (omega (arith, ints)))
+pushed_is_made facts None narrow = noted_is_made facts _ narrow
+    (record { least = omega (arith, ints); ordered = omega (arith, ints); greatest = omega (arith, ints); inner = tt })
+
+pub compared_is_made : (op : BinOp) (facts : Facts) (a b : Expr) → AreNarrow facts → IsMade facts (compared op facts a b)
+unfolding compared
+compared_is_made op facts a b narrow = pushed_is_made facts (known_truth op facts a b) narrow
+
 pub truth_form : (op : BinOp) (a b : Expr) (known : FrameFacts) → HasForm known → HasForm (with_truth op a b known)
-unfolding with_truth compared
-truth_form op a b known form = on_top_form known _ form (pushed_is_made (known_truth op known.facts a b))
-  where
-    pushed_is_made : (o : Option Bool) → IsMade known.facts (truth_pushed known.facts o)
-    pushed_is_made (Some true) = is_kept known.facts _ form.narrow (constant_number known.facts (pos 1) (omega (arith, ints)) (omega (arith, ints)))
-    pushed_is_made (Some false) = is_kept known.facts _ form.narrow (constant_number known.facts (pos 0) (omega (arith, ints)) (omega (arith, ints)))
-    pushed_is_made None = noted_is_made known.facts _ form.narrow
-        (record { least = omega (arith, ints); ordered = omega (arith, ints); greatest = omega (arith, ints); inner = tt })
+unfolding with_truth
+truth_form op a b known form = on_top_form known (compared op known.facts a b) form (compared_is_made op known.facts a b form.narrow)
 
 -- ---- as it is asked
 

@@ -8,4 +8,5 @@ pub mod MadeHold
 pub mod MovesHold
 pub mod ResultsHold
 pub mod Examples
+pub mod NumbersStay
 pub mod StateLaws

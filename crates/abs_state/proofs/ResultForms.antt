@@ -180,7 +180,7 @@ outcome_good op facts a b first second amount =
 
 -- ---- the whole
 
-abbrev SomeMade : Facts → Option Made → Type 0
+abbrev pub SomeMade : Facts → Option Made → Type 0
 SomeMade facts None = Unit {0}
 SomeMade facts (Some made) = IsMade facts made
 
@@ -194,6 +194,11 @@ settled_made : (facts : Facts) (o : Outcome) → AreNarrow facts → IsGood fact
 unfolding settled fresh
 settled_made facts (Is e) narrow good = is_kept facts e narrow good
 settled_made facts (Within r) narrow good = within_made facts (int_max r.lo LEAST) (int_min r.hi GREATEST) narrow (omega (arith, ints, clamps)) (omega (arith, ints, clamps))
+
+pub result_made : (op : BinOp) (facts : Facts) (a b : Expr) → AreNarrow facts → IsNumber facts a → IsNumber facts b → Shifts op b
+    → SomeMade facts (settled facts (rule.outcome op facts a b))
+result_made op facts a b narrow first second amount =
+    settled_made facts (rule.outcome op facts a b) narrow (outcome_good op facts a b first second amount)
 
 abbrev SomeForm : Option FrameFacts → Type 0
 SomeForm None = Unit {0}
@@ -211,4 +216,4 @@ pub result_form : (op : BinOp) (a b : Expr) (known new : FrameFacts) → HasForm
 unfolding with_result
 result_form op a b known new form first second amount is = some_form _ new is
     (on_top_some known (settled known.facts (rule.outcome op known.facts a b)) form
-    (settled_made known.facts (rule.outcome op known.facts a b) form.narrow (outcome_good op known.facts a b first second amount)))
+    (result_made op known.facts a b form.narrow first second amount))

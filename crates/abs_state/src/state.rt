@@ -59,7 +59,8 @@ impl AbsState {
 
     /// Whether something is reached.
     pub fn reached(&self) -> bool
-        ensures { IsTrue result ↔ IsSome self.now }
+        ensures reached { IsTrue result ↔ IsSome self.now }
+        ensures form { ForSome self.now HasForm }
     {
         self.known.is_some()
     }
@@ -89,7 +90,8 @@ impl AbsState {
 
     /// The expressions of the variables, in order. None where nothing is reached.
     fn variables(&self) -> &[Expr]
-        ensures { result.now ≡ variables_in self.now }
+        ensures value { result.now ≡ variables_in self.now }
+        ensures form { ForSome self.now HasForm }
     {
         match &self.known {
             None => &[],
@@ -107,7 +109,8 @@ impl AbsState {
     /// The expression of a variable.
     pub fn var(&self, i: u32) -> Expr
         requires there { i < length (variables_in self.now) }
-        ensures { slice_get (variables_in self.now) i ≡ Some result }
+        ensures value { slice_get (variables_in self.now) i ≡ Some result }
+        ensures number { ForSome self.now (λ known. IsNumber known.facts result) }
     {
         self.variables()[i as usize]
     }
