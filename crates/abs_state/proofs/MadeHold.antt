@@ -10,7 +10,7 @@ use Rattle.number_facts.specs.Facts.{Facts, AllowAll, HoldsWith, number_of, rang
 use Rattle.number_facts.specs.Fresh.{Made}
 use Rattle.number_facts.proofs.Meaning.{range_has}
 use Rattle.abs_state.specs.Arithmetic.{on_top}
-use Rattle.abs_state.specs.FrameFacts.{FrameFacts, HasForm, HoldsOf, IsNumber}
+use Rattle.abs_state.specs.FrameFacts.{FrameFacts, HasForm, HoldsBy, HoldsOf, IsNumber}
 
 -- ---- what expressions are worth
 
@@ -30,9 +30,9 @@ place_worth f (d ∷ es) (m ∷ ns) zero e n all at given = cc
 place_worth f (d ∷ es) (m ∷ ns) (suc i) e n all at given = place_worth f es ns i e n (cc) at given
 
 -- a variable's expression is worth its value
-pub variable_worth : (known : FrameFacts) (values : List ℤ) (holds : HoldsOf known values) (i : ℕ) (e : Expr) (n : ℤ)
-    → slice_get known.variables i ≡ Some e → slice_get values i ≡ Some n → value holds.choice e ≡ n
-variable_worth known values holds i e n at given = place_worth (value holds.choice) known.variables values i e n holds.worth at given
+pub variable_worth : (known : FrameFacts) (values choice : List ℤ) → HoldsBy known values choice → (i : ℕ) (e : Expr) (n : ℤ)
+    → slice_get known.variables i ≡ Some e → slice_get values i ≡ Some n → value choice e ≡ n
+variable_worth known values choice holds i e n at given = place_worth (value choice) known.variables values i e n holds.worth at given
 
 -- ---- one symbol more
 
@@ -64,45 +64,43 @@ pub record MadeWorth (known : FrameFacts) (values : List ℤ) (made : Made) (c :
   pub worth : map (value choice) known.variables ≡ values
   pub is : value choice made.expr ≡ c
 
-pub made_worth : (known : FrameFacts) (values : List ℤ) (made : Made) (c : ℤ) (holds : HoldsOf known values) → HasForm known
-    → HoldsWith made.facts made.expr holds.choice c → MadeWorth known values made c
-made_worth known values made c holds form with = ⊎_elim
-    (λ same. record { choice = holds.choice; allowed = same.0; worth = holds.worth; is = same.1 })
+pub made_worth : (known : FrameFacts) (values choice : List ℤ) (made : Made) (c : ℤ) → HoldsBy known values choice → HasForm known
+    → HoldsWith made.facts made.expr choice c → MadeWorth known values made c
+made_worth known values choice made c holds form with = ⊎_elim
+    (λ same. record { choice = choice; allowed = same.0; worth = holds.worth; is = same.1 })
     (λ more. record {
-      choice = holds.choice ++ c ∷ [];
+      choice = choice ++ c ∷ [];
       allowed = more.0;
-      worth = values_stay holds.choice c known.variables there ∙ holds.worth;
+      worth = values_stay choice c known.variables there ∙ holds.worth;
       is = more.1;
     })
     with
   where
-    there : (k : ℕ) (d : Expr) → k < length known.variables → (get_or known.variables k d).sym ≤ length holds.choice
-    there k d below = let number = form.variables k d below in omega (arith, number.there, as_many known.facts.ranges holds.choice holds.allowed)
+    there : (k : ℕ) (d : Expr) → k < length known.variables → (get_or known.variables k d).sym ≤ length choice
+    there k d below = let number = form.variables k d below in omega (arith, number.there, as_many known.facts.ranges choice holds.allowed)
 
 -- ---- on top, or in the place of a variable
 
-pub on_top_holds : (known : FrameFacts) (values : List ℤ) (made : Made) (c : ℤ) (holds : HoldsOf known values) → HasForm known
-    → HoldsWith made.facts made.expr holds.choice c → HoldsOf (on_top known made) (values ++ c ∷ [])
-on_top_holds known values made c holds form with =
-    let is = made_worth known values made c holds form with in
-    record {
-      choice = is.choice;
+pub on_top_holds : (known : FrameFacts) (values choice : List ℤ) (made : Made) (c : ℤ) → HoldsBy known values choice → HasForm known
+    → HoldsWith made.facts made.expr choice c → HoldsOf (on_top known made) (values ++ c ∷ [])
+on_top_holds known values choice made c holds form with =
+    let is = made_worth known values choice made c holds form with in
+    (is.choice, record {
       allowed = is.allowed;
       worth = map-append (value is.choice) known.variables (made.expr ∷ []) ∙ same_ends (map (value is.choice) known.variables) values _ c is.worth is.is;
-    }
+    })
   where
     same_ends : (xs ys : List ℤ) (m n : ℤ) → xs ≡ ys → m ≡ n → xs ++ m ∷ [] ≡ ys ++ n ∷ []
     same_ends xs ys m n p q = cc
 
-pub in_place_holds : (known : FrameFacts) (values : List ℤ) (made : Made) (i : ℕ) (c : ℤ) (holds : HoldsOf known values) → HasForm known
-    → HoldsWith made.facts made.expr holds.choice c → HoldsOf (record { variables = set known.variables i made.expr; facts = made.facts }) (set values i c)
-in_place_holds known values made i c holds form with =
-    let is = made_worth known values made c holds form with in
-    record {
-      choice = is.choice;
+pub in_place_holds : (known : FrameFacts) (values choice : List ℤ) (made : Made) (i : ℕ) (c : ℤ) → HoldsBy known values choice → HasForm known
+    → HoldsWith made.facts made.expr choice c → HoldsOf (record { variables = set known.variables i made.expr; facts = made.facts }) (set values i c)
+in_place_holds known values choice made i c holds form with =
+    let is = made_worth known values choice made c holds form with in
+    (is.choice, record {
       allowed = is.allowed;
       worth = map-set (value is.choice) known.variables i made.expr ∙ same_set (map (value is.choice) known.variables) values _ c is.worth is.is;
-    }
+    })
   where
     same_set : (xs ys : List ℤ) (m n : ℤ) → xs ≡ ys → m ≡ n → set xs i m ≡ set ys i n
     same_set xs ys m n p q = cc

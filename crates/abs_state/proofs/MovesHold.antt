@@ -21,7 +21,7 @@ use Rattle.number_facts.specs.declared.span.Span.{Span}
 use Rattle.number_facts.proofs.ConstantValues.{constant_value, zero_value}
 use Rattle.number_facts.proofs.Meaning.{range_has, noted_holds}
 use Rattle.abs_state.specs.Arithmetic.{on_top}
-use Rattle.abs_state.specs.FrameFacts.{FrameFacts, HasForm, HoldsOf}
+use Rattle.abs_state.specs.FrameFacts.{FrameFacts, HasForm, HoldsBy, HoldsOf}
 use Rattle.abs_state.specs.Moves.{appended, pushed, popped, byte, is_byte, placed, put}
 use Rattle.abs_state.specs.NormalForm.{number_at, normal, numbers_in, symbol}
 use Rattle.abs_state.specs.Number.{copied, fresh_number}
@@ -51,17 +51,17 @@ has_allows : (r : Span) (n : ℤ) → Has r n → Allows (interval r.lo r.hi r.h
 has_allows r n has = record { above = has.above; below = has.below; no_hole = has.no_hole }
 
 -- a copy has the value of its source
-pub pushed_holds : (known : FrameFacts) (e : Expr) (values : List ℤ) (holds : HoldsOf known values) → HasForm known
-    → HoldsOf (pushed known e) (values ++ value holds.choice e ∷ [])
+pub pushed_holds : (known : FrameFacts) (e : Expr) (values choice : List ℤ) → HoldsBy known values choice → HasForm known
+    → HoldsOf (pushed known e) (values ++ value choice e ∷ [])
 unfolding pushed number_at
-pushed_holds known e values holds form =
-    cond_both (e.sym == 0) _ _ (λ number. HoldsOf (appended known (copied number)) (values ++ value holds.choice e ∷ []))
-    (λ is. rw (constant_on_top known e.k) (on_top_holds known values _ (value holds.choice e) holds form
-    (inl (holds.allowed, zero_value holds.choice e.k ∙ sym (constant_value holds.choice e is)))))
+pushed_holds known e values choice holds form =
+    cond_both (e.sym == 0) _ _ (λ number. HoldsOf (appended known (copied number)) (values ++ value choice e ∷ []))
+    (λ is. rw (constant_on_top known e.k) (on_top_holds known values choice _ (value choice e) holds form
+    (inl (holds.allowed, zero_value choice e.k ∙ sym (constant_value choice e is)))))
     (λ is. rw (fresh_on_top known (interval (range_of known.facts e).lo (range_of known.facts e).hi (range_of known.facts e).hole))
-    (on_top_holds known values _ (value holds.choice e) holds form
-    (noted_holds known.facts holds.choice _ (value holds.choice e) holds.allowed
-    (has_allows (range_of known.facts e) (value holds.choice e) (range_has known.facts holds.choice e holds.allowed)))))
+    (on_top_holds known values choice _ (value choice e) holds form
+    (noted_holds known.facts choice _ (value choice e) holds.allowed
+    (has_allows (range_of known.facts e) (value choice e) (range_has known.facts choice e holds.allowed)))))
 
 -- ---- puts
 
@@ -103,21 +103,20 @@ placed_holds heap places.Void facts ns e m holds is = elim (no_value m is) [ ]
 placed_holds heap places.Bools facts ns e m holds is = elim (no_value m is) [ ]
 placed_holds heap places.Ints facts ns e m holds is = elim (no_value m is) [ ]
 
-pub put_holds : (heap : Heap) (place : Place) (known : FrameFacts) (i : ℕ) (e : Expr) (values : List ℤ) (m : ℤ) (holds : HoldsOf known values) → HasForm known
-    → machine.put heap place (values_of.Int (value holds.choice e)) ≡ Some (values_of.Int m) → HoldsOf (put known i e place) (set values i m)
+pub put_holds : (heap : Heap) (place : Place) (known : FrameFacts) (i : ℕ) (e : Expr) (values choice : List ℤ) (m : ℤ) → HoldsBy known values choice → HasForm known
+    → machine.put heap place (values_of.Int (value choice e)) ≡ Some (values_of.Int m) → HoldsOf (put known i e place) (set values i m)
 unfolding put
-put_holds heap place known i e values m holds form is =
-    in_place_holds known values (placed known.facts e place) i m holds form (placed_holds heap place known.facts holds.choice e m holds.allowed is)
+put_holds heap place known i e values choice m holds form is =
+    in_place_holds known values choice (placed known.facts e place) i m holds form (placed_holds heap place known.facts choice e m holds.allowed is)
 
 -- ---- pops
 
-pub popped_holds : (known : FrameFacts) (values : List ℤ) → HoldsOf known values → HoldsOf (popped known) (take (length values - 1) values)
+pub popped_holds : (known : FrameFacts) (values choice : List ℤ) → HoldsBy known values choice → HoldsBy (popped known) (take (length values - 1) values) choice
 unfolding popped
-popped_holds known values holds = record {
-  choice = holds.choice;
+popped_holds known values choice holds = record {
   allowed = holds.allowed;
-  worth = sym (take-map (value holds.choice) (length known.variables - 1) known.variables) ∙ same_take (map (value holds.choice) known.variables) values holds.worth
-      (length known.variables) (sym (length-map known.variables (value holds.choice)));
+  worth = sym (take-map (value choice) (length known.variables - 1) known.variables) ∙ same_take (map (value choice) known.variables) values holds.worth
+      (length known.variables) (sym (length-map known.variables (value choice)));
 }
   where
     same_take : (xs ys : List ℤ) → xs ≡ ys → (n : ℕ) → n ≡ length xs → take (n - 1) xs ≡ take (length ys - 1) ys

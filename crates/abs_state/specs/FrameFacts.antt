@@ -27,12 +27,14 @@ pub record HasForm (known : FrameFacts) : Type 0 where
 
 -- ---- what it means
 
--- What is known holds of variables with these values: some choice of a number for each symbol is one that the facts
--- allow, and gives each variable its value.
-pub record HoldsOf (known : FrameFacts) (values : List ℤ) : Type 0 where
-  pub choice : List ℤ
+-- This choice of a number for each symbol is one that the facts allow, and gives each variable its value.
+pub record HoldsBy (known : FrameFacts) (values : List ℤ) (choice : List ℤ) : Type 0 where
   pub allowed : numbers.Holds known.facts choice
   pub worth : map (value choice) known.variables ≡ values
+
+-- What is known holds of variables with these values: some choice gives them.
+abbrev pub HoldsOf : FrameFacts → List ℤ → Type 0
+HoldsOf known values = (choice : List ℤ) × HoldsBy known values choice
 
 -- Something is reached, and it holds of these values.
 abbrev pub Holds : State → List ℤ → Type 0

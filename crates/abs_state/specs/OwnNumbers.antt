@@ -38,7 +38,7 @@ each_may_be facts ns (e ∷ es) holds = (number_may_be facts ns e holds, each_ma
 
 pub holds_each : (known : FrameFacts) (values : List ℤ) → HoldsOf known values → MayBeEach (numbers_in known) values
 holds_each known values holds =
-    subst (λ (vs : List ℤ). MayBeEach (numbers_in known) vs) holds.worth (each_may_be known.facts holds.choice known.variables holds.allowed)
+    subst (λ (vs : List ℤ). MayBeEach (numbers_in known) vs) holds.1.worth (each_may_be known.facts holds.0 known.variables holds.1.allowed)
 
 -- ---- and back, in normal form
 
@@ -94,8 +94,5 @@ worth_behind before (Among r ∷ known) (n ∷ ns) each =
 
 pub each_holds : (known : List Number) (values : List ℤ) → MayBeEach known values → HoldsOf (of_numbers known) values
 unfolding of_numbers
-each_holds known values each = record {
-  choice = choice_of known values;
-  allowed = choice_allowed known values each;
-  worth = worth_behind [] known values each;
-}
+each_holds known values each =
+    (choice_of known values, record { allowed = choice_allowed known values each; worth = worth_behind [] known values each })
