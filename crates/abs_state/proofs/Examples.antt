@@ -1,6 +1,7 @@
 -- The rules at states worked out by hand.
-use Rattle.std.proofs.Common.{◌≡◌, ℕ, ℤ, pos, negsuc, List, [], ◌∷◌, Some, None, true, false, refl}
+use Rattle.std.proofs.Common.{◌≡◌, ℕ, ℤ, pos, negsuc, List, [], ◌∷◌, Some, None, true, false, ◌+ℤ◌, refl, sym, ap, arith}
 use Rattle.std.specs.Int.{int_wrap}
+use Rattle.std.proofs.lemmas.Int.{ints}
 use Rattle.cil_model.specs.declared.instruction.BinOp.TheVariants as operators
 use Rattle.cil_model.specs.declared.instruction.CmpOp.TheVariants as comparisons
 use Rattle.cil_model.specs.declared.place.Place.TheVariants as places
@@ -13,13 +14,13 @@ use Rattle.number_facts.specs.Arith.{by_ranges, outcome}
 use Rattle.number_facts.specs.Assume as rule
 use Rattle.number_facts.specs.Assume.{assumed, holding, changed, assumed_at_most, assumed_apart, ordered, assumed_less_unsigned}
 use Rattle.number_facts.specs.Comparisons.{compared, known, less_known, less_unsigned_known}
-use Rattle.number_facts.specs.Facts.{range_at, range_of}
+use Rattle.number_facts.specs.Facts.{Facts, number_of, range_at, range_of}
 use Rattle.number_facts.specs.Fresh.{range_without, noted, fresh, settled}
 use Rattle.number_facts.specs.Gap.{gap, at_most, equal}
 use Rattle.number_facts.specs.Spans.{moved, wrapped}
 use Rattle.abs_state.specs.Arithmetic.{with_result, with_truth}
 use Rattle.abs_state.specs.Assumptions.{assuming}
-use Rattle.abs_state.specs.FrameFacts.{FrameFacts}
+use Rattle.abs_state.specs.FrameFacts.{FrameFacts, HoldsOf}
 use Rattle.abs_state.specs.Inclusion.{included, leq}
 use Rattle.abs_state.specs.Join.{joined, join}
 use Rattle.abs_state.specs.Moves.{appended, pushed, popped, placed, put}
@@ -34,6 +35,28 @@ expr s k = record { sym = s; k = k }
 -- Variables of these expressions, with these ranges of the symbols from 1 on.
 abbrev frame : List Expr → List Interval → FrameFacts
 frame es rs = record { variables = es; facts = record { ranges = rs } }
+
+-- ---- what states mean
+
+-- 3 is a choice for the symbol, so the variable may be 5; the symbol is never 4, so the variable is never 6
+shifted : FrameFacts
+shifted = frame (expr 1 (pos 2) ∷ []) (interval (pos 0) (pos 9) (Some (pos 4)) ∷ [])
+
+may_be_five : HoldsOf shifted (pos 5 ∷ [])
+unfolding shifted number_of
+may_be_five = (pos 3 ∷ [], record {
+  allowed = (record { above = omega (arith, ints); below = omega (arith, ints); no_hole = λ is. grind arith }, tt);
+  worth = refl;
+})
+
+only_choice : (n : ℤ) → ((n +ℤ pos 2) ∷ []) ≡ (pos 6 ∷ []) → n ≡ pos 4
+only_choice n is = let same : n +ℤ pos 2 ≡ pos 6 = cc in omega (arith, ints, same)
+
+never_six : HoldsOf shifted (pos 6 ∷ []) → ⊥
+unfolding shifted number_of
+never_six ([], holds) = holds.allowed
+never_six (n ∷ [], holds) = holds.allowed.0.no_hole (ap Some (sym (only_choice n holds.worth)))
+never_six (n ∷ m ∷ ns, holds) = holds.allowed.1
 
 -- ---- moves
 
