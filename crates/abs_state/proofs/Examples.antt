@@ -14,7 +14,7 @@ use Rattle.number_facts.specs.Arith.{by_ranges, outcome}
 use Rattle.number_facts.specs.Assume as rule
 use Rattle.number_facts.specs.Assume.{assumed, holding, changed, assumed_at_most, assumed_apart, ordered, assumed_less_unsigned}
 use Rattle.number_facts.specs.Comparisons.{compared, known, less_known, less_unsigned_known}
-use Rattle.number_facts.specs.Facts.{Facts, number_of, range_at, range_of}
+use Rattle.number_facts.specs.Facts.{number_of, range_at, range_of}
 use Rattle.number_facts.specs.Fresh.{range_without, noted, fresh, settled}
 use Rattle.number_facts.specs.Gap.{gap, at_most, equal}
 use Rattle.number_facts.specs.Spans.{moved, wrapped}
@@ -44,10 +44,13 @@ shifted = frame (expr 1 (pos 2) ∷ []) (interval (pos 0) (pos 9) (Some (pos 4))
 
 may_be_five : HoldsOf shifted (pos 5 ∷ [])
 unfolding shifted number_of
-may_be_five = (pos 3 ∷ [], record {
-  allowed = (record { above = omega (arith, ints); below = omega (arith, ints); no_hole = λ is. grind arith }, tt);
-  worth = refl;
-})
+may_be_five = (
+  pos 3 ∷ [],
+  record {
+    allowed = (record { above = omega (arith, ints); below = omega (arith, ints); no_hole = λ is. grind arith }, tt);
+    worth = refl;
+  },
+)
 
 only_choice : (n : ℤ) → ((n +ℤ pos 2) ∷ []) ≡ (pos 6 ∷ []) → n ≡ pos 4
 only_choice n is = let same : n +ℤ pos 2 ≡ pos 6 = cc in omega (arith, ints, same)

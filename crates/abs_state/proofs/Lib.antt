@@ -9,4 +9,5 @@ pub mod MovesHold
 pub mod ResultsHold
 pub mod Examples
 pub mod NumbersStay
+pub mod FrameVariables
 pub mod StateLaws

@@ -84,11 +84,13 @@ made_worth known values choice made c holds form with = ⊎_elim
 pub on_top_holds : (known : FrameFacts) (values choice : List ℤ) (made : Made) (c : ℤ) → HoldsBy known values choice → HasForm known
     → HoldsWith made.facts made.expr choice c → HoldsOf (on_top known made) (values ++ c ∷ [])
 on_top_holds known values choice made c holds form with =
-    let is = made_worth known values choice made c holds form with in
-    (is.choice, record {
-      allowed = is.allowed;
-      worth = map-append (value is.choice) known.variables (made.expr ∷ []) ∙ same_ends (map (value is.choice) known.variables) values _ c is.worth is.is;
-    })
+    let is = made_worth known values choice made c holds form with in (
+      is.choice,
+      record {
+        allowed = is.allowed;
+        worth = map-append (value is.choice) known.variables (made.expr ∷ []) ∙ same_ends (map (value is.choice) known.variables) values _ c is.worth is.is;
+      },
+    )
   where
     same_ends : (xs ys : List ℤ) (m n : ℤ) → xs ≡ ys → m ≡ n → xs ++ m ∷ [] ≡ ys ++ n ∷ []
     same_ends xs ys m n p q = cc
@@ -96,11 +98,13 @@ on_top_holds known values choice made c holds form with =
 pub in_place_holds : (known : FrameFacts) (values choice : List ℤ) (made : Made) (i : ℕ) (c : ℤ) → HoldsBy known values choice → HasForm known
     → HoldsWith made.facts made.expr choice c → HoldsOf (record { variables = set known.variables i made.expr; facts = made.facts }) (set values i c)
 in_place_holds known values choice made i c holds form with =
-    let is = made_worth known values choice made c holds form with in
-    (is.choice, record {
-      allowed = is.allowed;
-      worth = map-set (value is.choice) known.variables i made.expr ∙ same_set (map (value is.choice) known.variables) values _ c is.worth is.is;
-    })
+    let is = made_worth known values choice made c holds form with in (
+      is.choice,
+      record {
+        allowed = is.allowed;
+        worth = map-set (value is.choice) known.variables i made.expr ∙ same_set (map (value is.choice) known.variables) values _ c is.worth is.is;
+      },
+    )
   where
     same_set : (xs ys : List ℤ) (m n : ℤ) → xs ≡ ys → m ≡ n → set xs i m ≡ set ys i n
     same_set xs ys m n p q = cc

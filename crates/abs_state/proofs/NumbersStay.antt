@@ -7,14 +7,13 @@ use Rattle.cil_model.specs.declared.place.Place.{Place}
 use Rattle.domain_api.specs.declared.expr.Expr.{Expr}
 use Rattle.number_facts.specs.Arith.{outcome}
 use Rattle.number_facts.specs.Assume.{assumed}
-use Rattle.number_facts.specs.Comparisons.{compared}
 use Rattle.number_facts.specs.Facts.{Facts}
 use Rattle.number_facts.specs.Fresh.{Made, settled}
 use Rattle.number_facts.specs.Owed.{Shifts}
 use Rattle.abs_state.specs.Arithmetic.{on_top, with_result, with_truth}
 use Rattle.abs_state.specs.Assumptions.{assuming, with_facts}
 use Rattle.abs_state.specs.FrameFacts.{FrameFacts, HasForm, IsNumber}
-use Rattle.abs_state.specs.Moves.{appended, popped, placed, pushed, put}
+use Rattle.abs_state.specs.Moves.{appended, popped, pushed, put}
 use Rattle.abs_state.specs.declared.number.Number.{Number}
 use Rattle.abs_state.specs.declared.number.Number.TheVariants.{Constant, Among}
 use Rattle.abs_state.proofs.FormsKept.{compared_is_made, number_stays, number_within, placed_is_made}

@@ -23,6 +23,9 @@ use std::alloc::Global;
 use std::marker::Model;
 
 /// What is known of a frame before an instruction, or that nothing is reached there.
+///
+/// Its variables are the arguments at the frame's entry, the arguments, the locals, and the stack from the bottom. A
+/// symbol that no variable has any more stays until the normal form is taken.
 #[derive(Drop)]
 pub struct AbsState {
     pub(crate) known: Option<Known>,
@@ -47,7 +50,7 @@ impl AbsState {
         AbsState { known: None }
     }
 
-    /// The state in which each variable is known by itself.
+    /// The state in which each variable is known by itself, as an int32. It is in normal form.
     pub fn of_numbers(alloc: Global, numbers: &[Number]) -> Result<AbsState, NoMemory>
         requires { All IsInt32 numbers.now }
         ensures { IfOk result (λ state. state ≡ Some (of_numbers numbers.now)) }
