@@ -23,7 +23,7 @@ use Rattle.abs_state.specs.Assumptions.{assuming}
 use Rattle.abs_state.specs.FrameFacts.{FrameFacts, HoldsOf}
 use Rattle.abs_state.specs.Inclusion.{included, leq}
 use Rattle.abs_state.specs.Join.{joined, join}
-use Rattle.abs_state.specs.Moves.{appended, pushed, popped, placed, put}
+use Rattle.abs_state.specs.Moves.{appended, pushed, popped, placed, with_placed}
 use Rattle.abs_state.specs.NormalForm.{number_at, normal, of_numbers}
 use Rattle.abs_state.specs.Number.{fresh_number}
 use Rattle.abs_state.specs.Widening.{widened}
@@ -81,22 +81,22 @@ unfolding popped
 top_taken = refl
 
 -- 255 is a number of bool, and 256 and -1 are not
-byte_kept : put (frame (expr 0 (pos 0) ∷ expr 1 (pos 0) ∷ []) (between (pos 0) (pos 255) ∷ [])) 0 (expr 1 (pos 0)) places.Bool
+byte_kept : with_placed (frame (expr 0 (pos 0) ∷ expr 1 (pos 0) ∷ []) (between (pos 0) (pos 255) ∷ [])) 0 (expr 1 (pos 0)) places.Bool
     ≡ frame (expr 1 (pos 0) ∷ expr 1 (pos 0) ∷ []) (between (pos 0) (pos 255) ∷ [])
-unfolding put placed range_of range_at moved
+unfolding with_placed placed range_of range_at moved
 byte_kept = refl
 
-above_byte : put (frame (expr 0 (pos 0) ∷ []) []) 0 (expr 0 (pos 256)) places.Bool ≡ frame (expr 1 (pos 0) ∷ []) (between (pos 0) (pos 255) ∷ [])
-unfolding put placed noted range_of range_at moved
+above_byte : with_placed (frame (expr 0 (pos 0) ∷ []) []) 0 (expr 0 (pos 256)) places.Bool ≡ frame (expr 1 (pos 0) ∷ []) (between (pos 0) (pos 255) ∷ [])
+unfolding with_placed placed noted range_of range_at moved
 above_byte = refl
 
-below_byte : put (frame (expr 0 (pos 0) ∷ expr 1 (pos 0) ∷ []) (between (negsuc 0) (pos 5) ∷ [])) 0 (expr 1 (pos 0)) places.Bool
+below_byte : with_placed (frame (expr 0 (pos 0) ∷ expr 1 (pos 0) ∷ []) (between (negsuc 0) (pos 5) ∷ [])) 0 (expr 1 (pos 0)) places.Bool
     ≡ frame (expr 2 (pos 0) ∷ expr 1 (pos 0) ∷ []) (between (negsuc 0) (pos 5) ∷ between (pos 0) (pos 255) ∷ [])
-unfolding put placed noted range_of range_at moved
+unfolding with_placed placed noted range_of range_at moved
 below_byte = refl
 
-int_keeps : put (frame (expr 0 (pos 0) ∷ []) []) 0 (expr 0 (pos 256)) places.Int ≡ frame (expr 0 (pos 256) ∷ []) []
-unfolding put placed
+int_keeps : with_placed (frame (expr 0 (pos 0) ∷ []) []) 0 (expr 0 (pos 256)) places.Int ≡ frame (expr 0 (pos 256) ∷ []) []
+unfolding with_placed placed
 int_keeps = refl
 
 -- ---- the normal form

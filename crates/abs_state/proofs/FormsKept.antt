@@ -27,7 +27,7 @@ use Rattle.abs_state.specs.Assumptions.{assuming, with_facts}
 use Rattle.abs_state.specs.FrameFacts.{FrameFacts, HasForm, IsNumber}
 use Rattle.abs_state.specs.Int32Numbers.{number_int32, numbers_int32, joined_int32, widened_int32, pairs_int32}
 use Rattle.abs_state.specs.Join.{joined}
-use Rattle.abs_state.specs.Moves.{appended, pushed, popped, byte, is_byte, placed, put}
+use Rattle.abs_state.specs.Moves.{appended, pushed, popped, byte, is_byte, placed, with_placed}
 use Rattle.abs_state.specs.NormalForm.{number_at, numbers_in, normal, of_numbers, symbol}
 use Rattle.abs_state.specs.Number.{IsInt32, copied, fresh_number}
 use Rattle.abs_state.specs.Pairs.{each_pair}
@@ -140,8 +140,8 @@ placed_is_made facts e places.Int all number = is_kept facts e all number
 placed_is_made facts e places.Bools all number = is_kept facts e all number
 placed_is_made facts e places.Ints all number = is_kept facts e all number
 
-pub put_form : (known : FrameFacts) (i : ℕ) (e : Expr) (place : Place) → HasForm known → IsNumber known.facts e → HasForm (put known i e place)
-unfolding put
+pub put_form : (known : FrameFacts) (i : ℕ) (e : Expr) (place : Place) → HasForm known → IsNumber known.facts e → HasForm (with_placed known i e place)
+unfolding with_placed
 put_form known i e place form number =
     let is = placed_is_made known.facts e place form.narrow number in
     record {

@@ -7,6 +7,7 @@ use Rattle.std.proofs.lemmas.Bool.{cond_both, and_parts}
 use Rattle.std.proofs.lemmas.List.{take-map, length-map}
 use Rattle.cil_model.specs.Values as machine
 use Rattle.cil_model.specs.Values.{Heap, IsByte}
+use Rattle.cil_model.specs.declared.machine.Frame.{Frame}
 use Rattle.cil_model.specs.declared.machine.Value.TheVariants as values_of
 use Rattle.cil_model.specs.declared.place.Place.{Place}
 use Rattle.cil_model.specs.declared.place.Place.TheVariants as places
@@ -21,9 +22,10 @@ use Rattle.number_facts.specs.declared.span.Span.{Span}
 use Rattle.number_facts.proofs.ConstantValues.{constant_value, zero_value}
 use Rattle.number_facts.proofs.Meaning.{range_has, noted_holds}
 use Rattle.abs_state.specs.Arithmetic.{on_top}
-use Rattle.abs_state.specs.FrameFacts.{FrameFacts, HasForm, HoldsBy, HoldsOf}
-use Rattle.abs_state.specs.Moves.{appended, pushed, popped, byte, is_byte, placed, put}
-use Rattle.abs_state.specs.NormalForm.{number_at, normal, numbers_in, symbol}
+use Rattle.abs_state.specs.FrameFacts.{FrameFacts, HasForm, HoldsBy, HoldsOf, State}
+use Rattle.abs_state.specs.Frames.{HoldsIn}
+use Rattle.abs_state.specs.Moves.{appended, pushed, popped, byte, is_byte, placed, with_placed}
+use Rattle.abs_state.specs.NormalForm.{norm, number_at, normal, numbers_in, symbol}
 use Rattle.abs_state.specs.Number.{copied, fresh_number}
 use Rattle.abs_state.specs.OwnNumbers.{holds_each, each_holds}
 use Rattle.abs_state.specs.declared.number.Number.TheVariants.{Constant, Among}
@@ -104,8 +106,8 @@ placed_holds heap places.Bools facts ns e m holds is = elim (no_value m is) [ ]
 placed_holds heap places.Ints facts ns e m holds is = elim (no_value m is) [ ]
 
 pub put_holds : (heap : Heap) (place : Place) (known : FrameFacts) (i : ℕ) (e : Expr) (values choice : List ℤ) (m : ℤ) → HoldsBy known values choice → HasForm known
-    → machine.put heap place (values_of.Int (value choice e)) ≡ Some (values_of.Int m) → HoldsOf (put known i e place) (set values i m)
-unfolding put
+    → machine.put heap place (values_of.Int (value choice e)) ≡ Some (values_of.Int m) → HoldsOf (with_placed known i e place) (set values i m)
+unfolding with_placed
 put_holds heap place known i e values choice m holds form is =
     in_place_holds known values choice (placed known.facts e place) i m holds form (placed_holds heap place known.facts choice e m holds.allowed is)
 
@@ -127,3 +129,8 @@ popped_holds known values choice holds = record {
 pub normal_holds : (known : FrameFacts) (values : List ℤ) → HoldsOf known values → HoldsOf (normal known) values
 unfolding normal
 normal_holds known values holds = each_holds (numbers_in known) values (holds_each known values holds)
+
+-- so a state holds of the same frames in normal form
+pub norm_holds : (state : State) (f : Frame) → HoldsIn state f → HoldsIn (norm state) f
+norm_holds None f holds = elim holds.holds [ ]
+norm_holds (Some known) f holds = record { numbers = holds.numbers; holds = normal_holds known holds.numbers holds.holds; values = holds.values }

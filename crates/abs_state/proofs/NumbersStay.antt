@@ -13,7 +13,7 @@ use Rattle.number_facts.specs.Owed.{Shifts}
 use Rattle.abs_state.specs.Arithmetic.{on_top, with_result, with_truth}
 use Rattle.abs_state.specs.Assumptions.{assuming, with_facts}
 use Rattle.abs_state.specs.FrameFacts.{FrameFacts, HasForm, IsNumber}
-use Rattle.abs_state.specs.Moves.{appended, popped, pushed, put}
+use Rattle.abs_state.specs.Moves.{appended, popped, pushed, with_placed}
 use Rattle.abs_state.specs.declared.number.Number.{Number}
 use Rattle.abs_state.specs.declared.number.Number.TheVariants.{Constant, Among}
 use Rattle.abs_state.proofs.FormsKept.{compared_is_made, number_stays, number_within, placed_is_made}
@@ -34,8 +34,8 @@ unfolding popped
 popped_keeps known e is = is
 
 pub put_keeps : (known : FrameFacts) (i : ℕ) (d : Expr) (place : Place) (e : Expr) → HasForm known → IsNumber known.facts d → IsNumber known.facts e
-    → IsNumber (put known i d place).facts e
-unfolding put
+    → IsNumber (with_placed known i d place).facts e
+unfolding with_placed
 put_keeps known i d place e form number is = (placed_is_made known.facts d place form.narrow number).others e is
 
 pub truth_keeps : (op : BinOp) (a b : Expr) (known : FrameFacts) (e : Expr) → HasForm known → IsNumber known.facts e → IsNumber (with_truth op a b known).facts e

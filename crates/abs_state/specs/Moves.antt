@@ -1,5 +1,6 @@
 -- What moves do to a state.
 use Rattle.std.specs.Prelude.{ℕ, ◌+◌, ◌-◌, pos, Bool, ◌&&◌, int_le, [], ◌∷◌, ◌++◌, length, take, set, if◌then◌else◌}
+use Rattle.std.specs.Option.{option_map}
 use Rattle.cil_model.specs.declared.place.Place.{Place}
 use Rattle.cil_model.specs.declared.place.Place.TheVariants as places
 use Rattle.domain_api.specs.declared.expr.Expr.{Expr}
@@ -7,7 +8,7 @@ use Rattle.interval_domain.specs.Interval.{Interval, between}
 use Rattle.number_facts.specs.Facts.{Facts, constant, range_of}
 use Rattle.number_facts.specs.Fresh.{Made, noted}
 use Rattle.number_facts.specs.declared.span.Span.{Span}
-use Rattle.abs_state.specs.FrameFacts.{FrameFacts}
+use Rattle.abs_state.specs.FrameFacts.{FrameFacts, State}
 use Rattle.abs_state.specs.NormalForm.{number_at, symbol}
 use Rattle.abs_state.specs.Number.{copied}
 use Rattle.abs_state.specs.declared.number.Number.{Number}
@@ -42,8 +43,19 @@ placed facts e places.Bool = if is_byte (range_of facts e) then record { expr = 
 placed facts e _ = record { expr = e; facts = facts }
 
 -- A number is put into the place of a variable.
-unfoldable pub put : FrameFacts → ℕ → Expr → Place → FrameFacts
-put known i e place = record {
+unfoldable pub with_placed : FrameFacts → ℕ → Expr → Place → FrameFacts
+with_placed known i e place = record {
   variables = set known.variables i (placed known.facts e place).expr;
   facts = (placed known.facts e place).facts;
 }
+
+-- ---- the calls, of a state: where nothing is reached it stays so
+
+abbrev pub push : Expr → State → State
+push e state = option_map (λ known. pushed known e) state
+
+abbrev pub pop : State → State
+pop state = option_map popped state
+
+abbrev pub put : ℕ → Expr → Place → State → State
+put i e place state = option_map (λ known. with_placed known i e place) state

@@ -63,11 +63,11 @@ impl Known {
     }
 
     /// Puts a number into the place of a variable.
-    #[tactic(auto, unfolding(crate::specs::Moves::put))]
+    #[tactic(auto, unfolding(crate::specs::Moves::with_placed))]
     pub(crate) fn put(&mut self, i: usize, e: Expr, place: Place) -> Result<(), NoMemory>
         requires there { i < length self.old.variables }
         requires number { e.sym ≤ length self.old.facts.ranges }
-        ensures ok { OnOk result (self.new ≡ rule.put self.old i e place) }
+        ensures ok { OnOk result (self.new ≡ rule.with_placed self.old i e place) }
         ensures err { OnErr result (self.new ≡ self.old) }
     {
         self.variables[i] = placed(&mut self.numbers, e, place)?;

@@ -1,7 +1,7 @@
 //! The state of the analysis.
 
 ghost use Rattle.std.specs.Prelude.{◌≡◌, ◌<◌, ◌≤◌, ◌↔◌, None, Some, IfOk, OnOk, OnErr, IsSome, IsTrue, is_some, length, slice_get, All};
-ghost use Rattle.std.specs.Option.{ForSome, option_map};
+ghost use Rattle.std.specs.Option.{ForSome};
 ghost use Rattle.cil_model.specs.declared.instruction.BinOp.{BinOp};
 ghost use Rattle.interval_domain.specs.Arithmetic.{near};
 ghost use Rattle.number_facts.specs.Arith.{exact};
@@ -167,7 +167,7 @@ impl AbsState {
     /// Here as below a state in which nothing is reached stays, and want of memory leaves the state as it was.
     pub fn push(&mut self, e: Expr) -> Result<(), NoMemory>
         requires { ForSome self.old (λ known. IsNumber known.facts e) }
-        ensures ok { OnOk result (self.new ≡ option_map (λ known. moves.pushed known e) self.old) }
+        ensures ok { OnOk result (self.new ≡ moves.push e self.old) }
         ensures err { OnErr result (self.new ≡ self.old) }
     {
         let Some(known) = &mut self.known else {
@@ -183,7 +183,7 @@ impl AbsState {
     ///
     /// Want of memory. This version takes none.
     pub fn pop(&mut self) -> Result<(), NoMemory>
-        ensures ok { OnOk result (self.new ≡ option_map moves.popped self.old) }
+        ensures ok { OnOk result (self.new ≡ moves.pop self.old) }
         ensures err { OnErr result (self.new ≡ self.old) }
     {
         let Some(known) = &mut self.known else {
@@ -197,7 +197,7 @@ impl AbsState {
     pub fn put(&mut self, i: u32, e: Expr, place: Place) -> Result<(), NoMemory>
         requires there { ForSome self.old (λ known. i < length known.variables) }
         requires number { ForSome self.old (λ known. IsNumber known.facts e) }
-        ensures ok { OnOk result (self.new ≡ option_map (λ known. moves.put known i e place) self.old) }
+        ensures ok { OnOk result (self.new ≡ moves.put i e place self.old) }
         ensures err { OnErr result (self.new ≡ self.old) }
     {
         let Some(known) = &mut self.known else {
