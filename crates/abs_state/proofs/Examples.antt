@@ -168,6 +168,22 @@ one_number_is_the_constant : included (Among (between (pos 4) (pos 4))) (Constan
 unfolding included within excludes_hole
 one_number_is_the_constant = refl
 
+-- a symbol that two variables share says more than two symbols of its range
+shared_symbol : leq (Some (frame (expr 1 (pos 0) ∷ expr 2 (pos 0) ∷ []) (between (pos 0) (pos 1) ∷ between (pos 0) (pos 1) ∷ [])))
+    (Some (frame (expr 1 (pos 0) ∷ expr 1 (pos 0) ∷ []) (between (pos 0) (pos 1) ∷ [])))
+    ≡ false
+shared_symbol = refl
+
+-- a symbol that no variable has is bound to nothing
+unused_symbol : leq (Some (frame (expr 0 (pos 4) ∷ []) [])) (Some (frame (expr 0 (pos 4) ∷ []) (between (pos 0) (pos 1) ∷ []))) ≡ false
+unused_symbol = refl
+
+each_its_own : leq (Some (frame (expr 1 (pos 3) ∷ expr 0 (pos 4) ∷ expr 1 (pos 3) ∷ []) (between (pos 0) (pos 1) ∷ [])))
+    (Some (frame (expr 1 (pos 0) ∷ expr 0 (pos 4) ∷ expr 2 (pos 0) ∷ []) (between (pos 3) (pos 4) ∷ between (pos 0) (pos 9) ∷ [])))
+    ≡ true
+unfolding included within excludes_hole number_at range_of range_at moved
+each_its_own = refl
+
 nothing_is_included : leq None (Some (frame (expr 0 (pos 4) ∷ []) [])) ≡ true
 nothing_is_included = refl
 

@@ -1,18 +1,13 @@
 -- What comes of numbers that are known by themselves is in normal form.
-use Rattle.std.proofs.Common.{◌≡◌, ℕ, suc, ◌+◌, ◌==◌, ℤ, pos, Option, Some, None, List, [], ◌∷◌, ◌++◌, length, map, false, refl, sym, ap, ◌∙◌, add-one, append_assoc, length-append, arith}
+use Rattle.std.proofs.Common.{◌≡◌, ℕ, suc, ◌+◌, List, [], ◌∷◌, ◌++◌, length, map, refl, sym, ap, ◌∙◌, append_assoc, length-append}
 use Rattle.std.specs.List.{AllByRecursion}
-use Rattle.std.proofs.lemmas.Int.{ints}
-use Rattle.std.proofs.lemmas.Bool.{false_from_ne_true}
-use Rattle.std.proofs.Math.Seq.{get_or-append_seam}
-use Rattle.interval_domain.specs.Interval.{Interval, interval, one}
-use Rattle.number_facts.specs.Facts.{range_at, range_of}
-use Rattle.number_facts.specs.Spans.{moved, moved_hole}
-use Rattle.number_facts.proofs.ConstantValues.{no_symbol}
+use Rattle.interval_domain.specs.Interval.{Interval}
 use Rattle.abs_state.specs.FrameFacts.{FrameFacts, HasForm}
 use Rattle.abs_state.specs.Int32Numbers.{numbers_int32, pairs_int32, joined_int32, widened_int32}
 use Rattle.abs_state.specs.Join.{joined}
-use Rattle.abs_state.specs.NormalForm.{number_at, numbers_in, normal, of_numbers, ranges_of, symbol, variables_behind}
+use Rattle.abs_state.specs.NormalForm.{number_at, numbers_in, normal, of_numbers, ranges_of, variables_behind}
 use Rattle.abs_state.specs.Number.{IsInt32}
+use Rattle.abs_state.specs.NumberedStates.{symbol_number}
 use Rattle.abs_state.specs.Pairs.{each_pair}
 use Rattle.abs_state.specs.RangeStates.{IsNormal}
 use Rattle.abs_state.specs.Widening.{widened}
@@ -22,25 +17,6 @@ use Rattle.abs_state.proofs.Building.{count_of_numbers, length-each_pair}
 use Rattle.abs_state.proofs.FormsKept.{of_numbers_form}
 
 -- ---- what is known of each is what it was made of
-
-unmoved_hole : (hole : Option ℤ) → moved_hole hole (pos 0) ≡ hole
-unmoved_hole None = refl
-unmoved_hole (Some h) = ap Some (omega (arith, ints))
-
-unmoved : (r : Interval) → interval (moved r (pos 0)).lo (moved r (pos 0)).hi (moved r (pos 0)).hole ≡ r
-unfolding moved
-unmoved r = same_interval r.lo r.hi r.hole _ _ _ (omega (arith, ints)) (omega (arith, ints)) (unmoved_hole r.hole)
-  where
-    same_interval : (lo hi : ℤ) (hole : Option ℤ) (lo' hi' : ℤ) (hole' : Option ℤ) → lo' ≡ lo → hi' ≡ hi → hole' ≡ hole → interval lo' hi' hole' ≡ interval lo hi hole
-    same_interval lo hi hole lo' hi' hole' p q s = cc
-
-suc_not_zero : (n : ℕ) → (suc n == 0) ≡ false
-suc_not_zero n = false_from_ne_true (suc n == 0) (λ e. absurd (omega (arith, no_symbol (suc n) e)))
-
-symbol_number : (before : List Interval) (r : Interval) (rs : List Interval)
-    → number_at (record { ranges = before ++ r ∷ rs }) (symbol (length before + 1)) ≡ Among r
-unfolding number_at range_of range_at
-symbol_number before r rs = rw (add-one (length before), suc_not_zero (length before), get_or-append_seam before r rs (one (pos 0))) (ap Among (unmoved r))
 
 numbers_behind : (before : List Interval) (ns : List Number)
     → map (number_at (record { ranges = before ++ ranges_of ns })) (variables_behind (length before) ns) ≡ ns

@@ -8,10 +8,10 @@ pub record IsNormal (known : FrameFacts) : Type 0 where
   pub form : HasForm known
   pub same : normal known ≡ known
 
--- Both speak of as many variables, in normal form.
+-- Both have the form of what is known, and speak of as many variables.
 pub record SpeakOfTheSame (a b : FrameFacts) : Type 0 where
-  pub first : IsNormal a
-  pub second : IsNormal b
+  pub first : HasForm a
+  pub second : HasForm b
   pub count : length a.variables ≡ length b.variables
 
 -- So where both are reached.

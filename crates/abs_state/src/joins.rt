@@ -74,6 +74,23 @@ impl Known {
         Ok(known)
     }
 
+    /// Whether each variable that is no constant has the next symbol, and no other symbol is there.
+    pub(crate) fn is_numbered(&self) -> bool
+        ensures { result ≡ inclusion.numbered 0 (length self.now.facts.ranges) self.now.variables }
+    {
+        let mut count = 0;
+        for e in &self.variables {
+            if e.sym == 0 {
+                continue;
+            }
+            if e.sym as usize != count + 1 || e.k != 0 {
+                return false;
+            }
+            count += 1;
+        }
+        count == self.numbers.ranges.len()
+    }
+
     /// Whether each number that a variable may be, it may be in the other too.
     #[tactic(auto, using(crate::proofs::Building::pair_steps))]
     pub(crate) fn is_included(&self, other: &Known) -> bool

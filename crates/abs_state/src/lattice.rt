@@ -50,7 +50,7 @@ impl Lattice for AbsState {
         Ok(match (&self.known, &other.known) {
             (None, _) => true,
             (_, None) => false,
-            (Some(a), Some(b)) => a.is_included(b),
+            (Some(a), Some(b)) => b.is_numbered() && a.is_included(b),
         })
     }
 
