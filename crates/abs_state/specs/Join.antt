@@ -1,4 +1,4 @@
--- The join of two states, and what it needs: each variable is joined by itself.
+-- The join of two states: each variable is joined by itself.
 use Rattle.std.specs.Prelude.{Some, None, if◌then◌else◌}
 use Rattle.std.specs.Ordering.{int_eq}
 use Rattle.interval_domain.specs.Interval.{one}
