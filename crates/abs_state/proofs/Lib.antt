@@ -1,0 +1,13 @@
+pub mod Building
+pub mod Bytes
+pub mod Shrinking
+pub mod FormsKept
+pub mod ResultForms
+pub mod NormalForms
+pub mod MadeHold
+pub mod MovesHold
+pub mod ResultsHold
+pub mod Examples
+pub mod NumbersStay
+pub mod FrameVariables
+pub mod StateLaws

@@ -1,0 +1,14 @@
+//! What is known of a frame: the state of the analysis before an instruction.
+#![tactic(auto)]
+
+mod equality;
+mod joins;
+mod known;
+mod lattice;
+mod moves;
+mod number;
+mod operators;
+mod state;
+
+pub use number::Number;
+pub use state::AbsState;
