@@ -1,0 +1,6 @@
+//! The machine that runs units, under limits on its steps, its memory and the depth of its calls.
+#![tactic(auto)]
+
+mod arithmetic;
+
+pub use arithmetic::{compares, operated, operated_one};
