@@ -1,1 +1,3 @@
 pub mod Products
+pub mod RowLemmas
+pub mod MemoryLemmas

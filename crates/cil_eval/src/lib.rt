@@ -2,5 +2,8 @@
 #![tactic(auto)]
 
 mod arithmetic;
+mod memory;
+mod rows;
 
 pub use arithmetic::{compares, operated, operated_one};
+pub use memory::{ArrayRef, Memory};
