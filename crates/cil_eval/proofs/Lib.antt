@@ -1,3 +1,5 @@
 pub mod Products
 pub mod RowLemmas
 pub mod MemoryLemmas
+pub mod TurnSteps
+pub mod OutcomeRows
