@@ -3,3 +3,4 @@ pub mod RowLemmas
 pub mod MemoryLemmas
 pub mod TurnSteps
 pub mod OutcomeRows
+pub mod ToldLemmas

@@ -2,7 +2,7 @@
 use Rattle.std.proofs.Common.{◌≡◌, ℕ, zero, suc, ◌+◌, ◌^◌, ◌<◌, ◌≤◌, nat_le, ℤ, pos, Bool, true, false, List, [], ◌∷◌, ◌++◌, length, replicate, take, drop, slice_get, slice_set, Option, Some, None, option_map, if◌then◌else◌, refl, sym, ap, subst, ◌∙◌, arith, length-append, length-drop}
 use Rattle.std.specs.List.{AllByRecursion}
 use Rattle.std.proofs.lemmas.Bool.{le-leb, lt-leb}
-use Rattle.std.proofs.lemmas.List.{length-replicate, length-take-le, set_past}
+use Rattle.std.proofs.lemmas.List.{length-replicate, length-take, length-take-le, set_past}
 use Rattle.std.proofs.lemmas.Option.{none-some, same_Some, slice_get-map}
 use Rattle.cil_model.proofs.Lists.{all_append}
 use Rattle.cil_model.specs.Effects.{zeros, with_item}
@@ -19,6 +19,18 @@ use Rattle.cil_eval.proofs.RowLemmas.{LiesWithin, lies_within, stored_in, one_mo
 pub within_row : (limit : ℕ) (cells : List ℤ) (arrays : List Array) (room others i : ℕ) (a : Array) → IsLaid limit cells arrays room others
     → slice_get arrays i ≡ Some a → a.start + a.len ≤ length cells
 within_row limit cells arrays room others i a laid e = (lies_within 0 arrays (length cells) i a laid.lie e).to
+
+short_of : (arrays : List Array) (i : ℕ) (a : Array) → AllByRecursion (λ (x : Array). x.len < 2 ^ 31) arrays → slice_get arrays i ≡ Some a → a.len < 2 ^ 31
+short_of [] i a h e = absurd (none-some a e)
+short_of (b ∷ bs) zero a h e = subst (λ (x : Array). x.len < 2 ^ 31) (same_Some b a e) h.0
+short_of (b ∷ bs) (suc i) a h e = short_of bs i a h.1 e
+
+-- What is taken of a row by an array's length is short.
+pub short_items : (limit : ℕ) (cells xs : List ℤ) (arrays : List Array) (room others i : ℕ) (a : Array) → IsLaid limit cells arrays room others
+    → slice_get arrays i ≡ Some a → length (take a.len xs) < 2 ^ 31
+short_items limit cells xs arrays room others i a laid e =
+    let short = short_of arrays i a laid.short e in
+    omega (arith, length-take a.len xs)
 
 pub found_in : (cells : List ℤ) (arrays : List Array) (i : ℕ) (a : Array) → slice_get arrays i ≡ Some a → slice_get (heap_in cells arrays) i ≡ Some (cell_in cells a)
 found_in cells arrays i a e = slice_get-map (cell_in cells) arrays i ∙ ap (option_map (cell_in cells)) e

@@ -7,7 +7,7 @@ ghost use Rattle.cil_eval.specs.Sizes.{IsFactor};
 ghost use Rattle.cil_model.specs.declared.instruction.BinOp.TheVariants as operators;
 
 use cc_base::wrap32;
-use cil_model::{BinOp, CmpOp, FaultKind, UnOp};
+use cil_model::{BinOp, FaultKind, UnOp};
 
 /// The number, or the overflow where it is no int32.
 fn exact(n: i64) -> Result<i32, FaultKind>
@@ -170,23 +170,5 @@ pub fn operated_one(op: UnOp, a: i32) -> i32
     match op {
         UnOp::Neg => wrap32(-i64::from(a)),
         UnOp::Not => !a,
-    }
-}
-
-/// Whether a comparison holds of two numbers. Those without a sign take both as unsigned.
-pub fn compares(op: CmpOp, a: i32, b: i32) -> bool
-    ensures { result ≡ arithmetic.compares op a b }
-{
-    match op {
-        CmpOp::Eq => a == b,
-        CmpOp::Ge => b <= a,
-        CmpOp::Gt => b < a,
-        CmpOp::Le => a <= b,
-        CmpOp::Lt => a < b,
-        CmpOp::NeUn => a != b,
-        CmpOp::GeUn => b.cast_unsigned() <= a.cast_unsigned(),
-        CmpOp::GtUn => b.cast_unsigned() < a.cast_unsigned(),
-        CmpOp::LeUn => a.cast_unsigned() <= b.cast_unsigned(),
-        CmpOp::LtUn => a.cast_unsigned() < b.cast_unsigned(),
     }
 }

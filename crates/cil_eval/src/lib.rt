@@ -2,12 +2,14 @@
 #![tactic(auto)]
 
 mod arithmetic;
+mod clause_values;
+mod comparisons;
 mod limits;
 mod memory;
+mod reading;
 mod rows;
 mod stop;
 
-pub use arithmetic::{compares, operated, operated_one};
 pub use limits::Limits;
 pub use memory::{ArrayRef, Memory};
 pub use stop::Stop;

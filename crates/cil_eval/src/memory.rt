@@ -1,6 +1,6 @@
 //! The arrays of the machine, in one flat row of cells.
 
-ghost use Rattle.std.specs.Prelude.{◌≡◌, ◌^◌, ◌<◌, [], ◌∷◌, length, slice_get, pos, IfOk, MatchOption, Some, None};
+ghost use Rattle.std.specs.Prelude.{◌≡◌, ◌^◌, ◌<◌, [], ◌∷◌, length, slice_get, pos, IfOk, IfSome, MatchOption, Some, None};
 ghost use Rattle.cil_model.specs.Effects.{zeros};
 ghost use Rattle.cil_eval.specs.Stores.{has_room, with_array, replaced};
 ghost use Rattle.cil_eval.specs.Arrays.{cell_of};
@@ -81,7 +81,8 @@ impl Memory {
 
     /// The array of this index.
     pub fn array(&self, index: u32) -> Option<ArrayRef<'_>>
-        ensures { MatchOption result (slice_get self.now.heap index ≡ None) (λ array. slice_get self.now.heap index ≡ Some (cell_of array)) }
+        ensures array { MatchOption result (slice_get self.now.heap index ≡ None) (λ array. slice_get self.now.heap index ≡ Some (cell_of array)) }
+        ensures length { IfSome result (λ array. length array.items.now < 2 ^ 31) }
     {
         let array = find(&self.arrays, index)?;
         Some(ArrayRef {
