@@ -4,3 +4,4 @@ pub mod MemoryLemmas
 pub mod TurnSteps
 pub mod OutcomeRows
 pub mod ToldLemmas
+pub mod PileLemmas

@@ -6,6 +6,7 @@ mod clause_values;
 mod comparisons;
 mod limits;
 mod memory;
+mod pile;
 mod reading;
 mod rows;
 mod stop;

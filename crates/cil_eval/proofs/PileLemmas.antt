@@ -1,0 +1,55 @@
+-- What is known of lists that lie one above another.
+use Rattle.std.proofs.Common.{◌≡◌, ℕ, zero, suc, ◌+◌, ◌-◌, ◌<◌, ◌≤◌, List, [], ◌∷◌, ◌++◌, length, reverse, take, drop, slice_set, refl, sym, ap, ◌∙◌, arith, length-append, length-drop}
+use Rattle.std.proofs.lemmas.List.{drop-set-add, length-reverse, length-take-le, reverse-append, set-append_left, take-set-le}
+use Rattle.std.proofs.Math.Seq.{set-append_seam}
+use Rattle.cil_eval.specs.Piles.{Descend, Piled, cut_at, length_of_all, piled, size_of}
+
+-- ---- how many there are
+
+all_of_row : {X : Type 0} (starts : List ℕ) (row : List X) → Descend (length row) starts → length_of_all (cut_at starts row) ≡ length row
+all_of_row [] row h = sym h
+all_of_row (start ∷ starts) row h =
+    let under : length (take start row) ≡ start = length-take-le start row h.0 in
+    let rest = all_of_row starts (take start row) (rw under h.1) in
+    omega (arith, length-reverse (drop start row), length-drop start row, under, rest)
+
+pub row_size : {X : Type 0} (row : List X) (start : ℕ) (starts : List ℕ) (room depth : ℕ) → start ≤ length row → Descend start (reverse starts)
+    → size_of (piled row start starts room depth) ≡ length row
+row_size row start starts room depth inside descend =
+    let under : length (take start row) ≡ start = length-take-le start row inside in
+    let rest = all_of_row (reverse starts) (take start row) (rw under descend) in
+    omega (arith, length-reverse (drop start row), length-drop start row, under, rest)
+
+pub how_many_below : {X : Type 0} (starts : List ℕ) (row : List X) → length (cut_at starts row) ≡ length starts
+how_many_below [] row = refl
+how_many_below (start ∷ starts) row = ap suc (how_many_below starts (take start row))
+
+pub how_many : {X : Type 0} (starts : List ℕ) (row : List X) → length (cut_at (reverse starts) row) ≡ length starts
+how_many starts row = how_many_below (reverse starts) row ∙ length-reverse starts
+
+-- ---- an item is replaced
+
+turned_set : {X : Type 0} (xs : List X) (n j : ℕ) (v : X) → n + j + 1 ≡ length xs → reverse (slice_set xs j v) ≡ slice_set (reverse xs) n v
+turned_set [] n j v e = absurd (omega arith)
+turned_set (x ∷ ys) n zero v e =
+    let last : n ≡ length (reverse ys) = omega (arith, length-reverse ys) in
+    reverse-append (v ∷ []) ys ∙ sym (set-append_seam (reverse ys) x [] v)
+    ∙ ap (λ k. slice_set (reverse ys ++ x ∷ []) k v) (sym last)
+    ∙ ap (λ zs. slice_set zs n v) (sym (reverse-append (x ∷ []) ys))
+turned_set (x ∷ ys) n (suc j) v e =
+    let within : n < length (reverse ys) = omega (arith, length-reverse ys) in
+    reverse-append (x ∷ []) (slice_set ys j v) ∙ ap (λ zs. zs ++ x ∷ []) (turned_set ys n j v (omega arith))
+    ∙ sym (set-append_left (reverse ys) (x ∷ []) n v within)
+    ∙ ap (λ zs. slice_set zs n v) (sym (reverse-append (x ∷ []) ys))
+
+pub replaced_in_pile : {X : Type 0} (row : List X) (start : ℕ) (starts : List ℕ) (room depth n : ℕ) (v : X) → n + start < length row
+    → piled (slice_set row (length row - 1 - n) v) start starts room depth
+    ≡ record { top = slice_set (piled row start starts room depth).top n v; below = cut_at (reverse starts) (take start row); room = room; depth = depth }
+replaced_in_pile row start starts room depth n v inside =
+    let j = length row - 1 - n - start in
+    let at : length row - 1 - n ≡ start + j = omega arith in
+    let above : start ≤ length row - 1 - n = omega arith in
+    let long : n + j + 1 ≡ length (drop start row) = omega (arith, length-drop start row) in
+    let top : reverse (drop start (slice_set row (length row - 1 - n) v)) ≡ slice_set (reverse (drop start row)) n v =
+    ap (λ k. reverse (drop start (slice_set row k v))) at ∙ ap reverse (drop-set-add start row j v) ∙ turned_set (drop start row) n j v long in
+    let under : take start (slice_set row (length row - 1 - n) v) ≡ take start row = take-set-le start row (length row - 1 - n) v above in cc
