@@ -1,6 +1,7 @@
 //! The machine that runs units, under limits on its steps, its memory and the depth of its calls.
 #![tactic(auto)]
 
+mod action;
 mod arithmetic;
 mod clause_values;
 mod comparisons;
@@ -9,6 +10,7 @@ mod memory;
 mod pile;
 mod reading;
 mod rows;
+mod stack_rows;
 mod stop;
 
 pub use limits::Limits;
