@@ -1,10 +1,11 @@
 -- What rows do to a state.
-use Rattle.std.specs.Prelude.{◌≡◌, ℕ, ◌+◌, ◌≤◌, List, [], ◌∷◌, length}
-use Rattle.cil_model.specs.Effects.{Effect}
+use Rattle.std.specs.Prelude.{◌≡◌, ℕ, ◌+◌, ◌≤◌, Bool, true, false, List, [], ◌∷◌, length, Option, Some, None, option_map}
+use Rattle.cil_model.specs.Effects.{Effect, stored}
 use Rattle.cil_model.specs.Values.{Heap}
 use Rattle.cil_model.specs.declared.instruction.Instr.{Instr}
 use Rattle.cil_model.specs.declared.machine.Frame.{Frame}
 use Rattle.cil_model.specs.declared.machine.Value.{Value}
+use Rattle.cil_model.specs.declared.place.Place.{Place}
 use Rattle.cil_eval.specs.Outcome.{State, Turn, To, Ends, Stuck as StuckTurn, after_effects}
 use Rattle.cil_eval.specs.Piles.{Piled}
 use Rattle.cil_eval.specs.declared.action.Action.{Action}
@@ -29,10 +30,15 @@ acted Stuck rest heap s i = StuckTurn
 abbrev pub StackRow : Type 0
 StackRow = Instr → Frame → Heap → List Value → List Effect
 
--- The action is what the row does to each state that has this stack.
+-- The action is what the row does to each state that has this stack, over this heap, where arrays have so many
+-- cells.
+abbrev pub DoesOver : ℕ → StackRow → Action → List Value → List Value → Heap → Heap → Type 0
+DoesOver cells row action old rest heap after =
+    (s : State) (i : Instr) → after_effects cells s i (row i s.running heap old) ≡ acted action rest after s i
+
+-- The same, whatever the heap and the cells are.
 abbrev pub Does : StackRow → Action → List Value → List Value → Type 0
-Does row action old rest =
-    (cells : ℕ) (s : State) (i : Instr) → after_effects cells s i (row i s.running s.heap old) ≡ acted action rest s.heap s i
+Does row action old rest = (cells : ℕ) (heap : Heap) → DoesOver cells row action old rest heap heap
 
 -- Values were taken from the top list alone.
 pub record IsTakenFrom (old new : Piled Value) : Type 0 where
@@ -40,3 +46,35 @@ pub record IsTakenFrom (old new : Piled Value) : Type 0 where
   pub room : new.room ≡ old.room
   pub depth : new.depth ≡ old.depth
   pub shorter : length new.top ≤ length old.top
+
+-- ---- variables
+
+-- The stack and the variables after a store, where the variable takes what the stack has.
+abbrev pub stored_by : Heap → List Place → ℕ → List Value → List Value → Option (List Value × List Value)
+stored_by heap places n variables [] = None
+stored_by heap places n variables (value ∷ rest) = option_map (λ new. (rest, new)) (stored heap places n value variables)
+
+abbrev pub when : {X : Type 0} → Bool → X → Option X
+when true x = Some x
+when false x = None
+
+-- ---- whole frames
+
+-- The frame goes on at an IL offset, with this stack and these variables, over this heap.
+abbrev pub goes_with : ℕ → List Value → List Value → List Value → Heap → State → Turn
+goes_with at stack args locals heap s =
+    To (record s { running = record s.running { at = at; stack = stack; args = args; locals = locals }; heap = heap })
+
+-- What comes of an action, where these are the stack, the variables and the heap that are left.
+abbrev pub performed : Action → List Value → List Value → List Value → Heap → State → Instr → Turn
+performed (Push value) rest args locals heap s i = goes_with (i.at + i.size) (value ∷ rest) args locals heap s
+performed Next rest args locals heap s i = goes_with (i.at + i.size) rest args locals heap s
+performed (Jump at) rest args locals heap s i = goes_with at rest args locals heap s
+performed (Fault kind) rest args locals heap s i = Ends (stops.Fault kind s.running.unit i.at)
+performed Assumed rest args locals heap s i = Ends (stops.Assumed s.running.unit i.at)
+performed Cells rest args locals heap s i = Ends stops.Cells
+performed Stuck rest args locals heap s i = StuckTurn
+
+-- The frame with this stack and these variables.
+abbrev pub frame_with : List Value → List Value → List Value → Frame → Frame
+frame_with stack args locals f = record f { stack = stack; args = args; locals = locals }
