@@ -5,3 +5,4 @@ pub mod TurnSteps
 pub mod OutcomeRows
 pub mod ToldLemmas
 pub mod PileLemmas
+pub mod ArrayLemmas

@@ -1,5 +1,6 @@
 -- The arrays of the machine, and how many cells they may take.
 use Rattle.std.specs.Prelude.{ℕ, ◌+◌, [], ◌∷◌, length, slice_get, if◌then◌else◌, ◌++◌, nat_le, ℤ, Bool, Option, Some, None}
+use Rattle.std.specs.Option.{option_and_then}
 use Rattle.cil_model.specs.Effects.{with_item}
 use Rattle.cil_model.specs.Values.{Heap}
 use Rattle.cil_model.specs.declared.machine.ArrayCell.{ArrayCell}
@@ -29,3 +30,7 @@ replaced_in heap a n item (Some cell) = with_item heap a cell n item
 
 abbrev pub replaced : Heap → ℕ → ℕ → ℤ → Heap
 replaced heap a n item = replaced_in heap a n item (slice_get heap a)
+
+-- The item at an index of an array.
+abbrev pub item_in : Heap → ℕ → ℕ → Option ℤ
+item_in heap a n = option_and_then (λ cell. slice_get cell.items n) (slice_get heap a)

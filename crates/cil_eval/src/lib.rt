@@ -3,15 +3,18 @@
 
 mod action;
 mod arithmetic;
+mod array_rows;
 mod clause_values;
 mod comparisons;
 mod limits;
 mod memory;
+mod perform;
 mod pile;
 mod reading;
 mod rows;
 mod stack_rows;
 mod stop;
+mod values;
 
 pub use limits::Limits;
 pub use memory::{ArrayRef, Memory};

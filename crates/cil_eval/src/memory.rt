@@ -2,7 +2,7 @@
 
 ghost use Rattle.std.specs.Prelude.{◌≡◌, ◌^◌, ◌<◌, [], ◌∷◌, length, slice_get, pos, IfOk, IfSome, MatchOption, Some, None};
 ghost use Rattle.cil_model.specs.Effects.{zeros};
-ghost use Rattle.cil_eval.specs.Stores.{has_room, with_array, replaced};
+ghost use Rattle.cil_eval.specs.Stores.{has_room, item_in, with_array, replaced};
 ghost use Rattle.cil_eval.specs.Arrays.{cell_of};
 
 use crate::rows::{append, fill, part};
@@ -79,6 +79,14 @@ impl Memory {
         self.arrays.clear();
     }
 
+    /// How many arrays there are.
+    pub fn len(&self) -> u32
+        ensures { result ≡ length self.now.heap }
+    {
+        let limit = self.limit as usize;
+        limit.min(self.arrays.len()) as u32
+    }
+
     /// The array of this index.
     pub fn array(&self, index: u32) -> Option<ArrayRef<'_>>
         ensures array { MatchOption result (slice_get self.now.heap index ≡ None) (λ array. slice_get self.now.heap index ≡ Some (cell_of array)) }
@@ -89,6 +97,13 @@ impl Memory {
             place: array.place,
             items: part(&self.cells, array.start, array.len),
         })
+    }
+
+    /// The item at an index of an array.
+    pub fn item(&self, index: u32, n: u32) -> Option<i32>
+        ensures { result ≡ item_in self.now.heap index n }
+    {
+        self.array(index)?.items.get(n as usize).copied()
     }
 
     /// Replaces an item of an array, where it has that item. A bool array is given a number from 0 to 255.
