@@ -6,3 +6,6 @@ pub mod OutcomeRows
 pub mod ToldLemmas
 pub mod PileLemmas
 pub mod ArrayLemmas
+pub mod ClauseTests
+pub mod TakenLemmas
+pub mod ActLemmas

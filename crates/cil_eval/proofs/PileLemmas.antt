@@ -1,7 +1,8 @@
 -- What is known of lists that lie one above another.
-use Rattle.std.proofs.Common.{◌≡◌, ℕ, zero, suc, ◌+◌, ◌-◌, ◌<◌, ◌≤◌, List, [], ◌∷◌, ◌++◌, length, reverse, take, drop, slice_set, refl, sym, ap, ◌∙◌, arith, length-append, length-drop}
-use Rattle.std.proofs.lemmas.List.{drop-set-add, length-reverse, length-take-le, reverse-append, set-append_left, take-set-le}
-use Rattle.std.proofs.Math.Seq.{set-append_seam}
+use Rattle.std.proofs.Common.{◌≡◌, ℕ, zero, suc, ◌+◌, ◌-◌, ◌<◌, ◌≤◌, List, [], ◌∷◌, ◌++◌, length, get_or, reverse, take, drop, drop-cons, slice_set, refl, sym, ap, ◌∙◌, arith, length-append, length-drop}
+use Rattle.std.proofs.lemmas.List.{drop-set-add, length-reverse, length-take-le, reverse-append, set-append_left, take-append-drop, take-set-le}
+use Rattle.std.proofs.Math.ListN.{drop_of_length-le}
+use Rattle.std.proofs.Math.Seq.{drop-append_seam, set-append_seam}
 use Rattle.cil_eval.specs.Piles.{Descend, Piled, cut_at, length_of_all, piled, size_of}
 
 -- ---- how many there are
@@ -53,3 +54,23 @@ replaced_in_pile row start starts room depth n v inside =
     let top : reverse (drop start (slice_set row (length row - 1 - n) v)) ≡ slice_set (reverse (drop start row)) n v =
     ap (λ k. reverse (drop start (slice_set row k v))) at ∙ ap reverse (drop-set-add start row j v) ∙ turned_set (drop start row) n j v long in
     let under : take start (slice_set row (length row - 1 - n) v) ≡ take start row = take-set-le start row (length row - 1 - n) v above in cc
+
+-- ---- the last item
+
+pub without_last : {X : Type 0} (xs : List X) → 1 ≤ length xs → reverse (take (length xs - 1) xs) ≡ drop 1 (reverse xs)
+without_last xs some =
+    let n = length xs - 1 in
+    let a = take n xs in
+    let b = drop n xs in
+    let one : length (reverse b) ≡ 1 = omega (arith, length-reverse b, length-drop n xs) in
+    let parts : reverse xs ≡ reverse b ++ reverse a = ap reverse (sym (take-append-drop n xs)) ∙ reverse-append a b in
+    sym (ap (drop 1) parts ∙ ap (λ k. drop k (reverse b ++ reverse a)) (sym one) ∙ drop-append_seam (reverse b) (reverse a))
+
+-- A list that is turned begins with its last item.
+pub turned_last : {X : Type 0} (xs : List X) (d : X) → 1 ≤ length xs → reverse xs ≡ get_or xs (length xs - 1) d ∷ reverse (take (length xs - 1) xs)
+turned_last xs d some =
+    let n = length xs - 1 in
+    let parts : reverse xs ≡ reverse (drop n xs) ++ reverse (take n xs) = ap reverse (sym (take-append-drop n xs)) ∙ reverse-append (take n xs) (drop n xs) in
+    let last : drop n xs ≡ get_or xs n d ∷ drop (suc n) xs = drop-cons xs n d (omega arith) in
+    let none : drop (suc n) xs ≡ [] = drop_of_length-le xs {i = suc n} (omega arith) in
+    parts ∙ ap (λ (zs : List _). reverse zs ++ reverse (take n xs)) (last ∙ ap (λ zs. get_or xs n d ∷ zs) none)

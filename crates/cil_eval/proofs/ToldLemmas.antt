@@ -10,6 +10,7 @@ use Rattle.cil_model.specs.declared.clause.Clause.{Clause}
 use Rattle.cil_model.specs.declared.clause.ClauseKind.{ClauseKind}
 use Rattle.cil_model.specs.declared.clause.ClauseKind.TheVariants as kinds
 use Rattle.cil_model.specs.declared.machine.Value.{Value}
+use Rattle.cil_eval.specs.Piles.{Piled, size_of}
 use Rattle.cil_eval.specs.Told.{LacksResult, OldsLackResult, Told, behind, behind_by, entry_reading, first_old, old_by, old_values, olds_in, told_value}
 
 -- ---- what stays
@@ -32,10 +33,10 @@ same_heap (terms.Cond a b c) r = same_heap c (behind b (behind a r)) ∙ same_he
 
 -- ---- at the entry
 
-abbrev present : List Value → Heap → Told
+abbrev pub present : List Value → Heap → Told
 present args heap = record { args = args; heap = heap; result = None; olds = None }
 
-stays : (t : Term) (args : List Value) (heap : Heap) → behind t (present args heap) ≡ present args heap
+pub stays : (t : Term) (args : List Value) (heap : Heap) → behind t (present args heap) ≡ present args heap
 stays (terms.Const n) args heap = refl
 stays (terms.Arg n) args heap = refl
 stays terms.Null args heap = refl
@@ -87,6 +88,10 @@ length_of_olds (terms.Cond a b c) args heap =
     omega (arith, length-append (old_values a args heap) (old_values b args heap ++ old_values c args heap), length-append (old_values b args heap) (old_values c args heap),
     length_of_olds a args heap, length_of_olds b args heap, length_of_olds c args heap)
 
+-- A list with the old values of a tree put on it.
+pub olds_put : (t : Term) (args : List Value) (heap : Heap) (p : Piled (Option Value)) → size_of (record p { top = old_values t args heap ++ p.top }) ≡ olds_in t + size_of p
+olds_put t args heap p = omega (arith, length-append (old_values t args heap) p.top, length_of_olds t args heap)
+
 -- ---- without the result
 
 pub result_unread : (t : Term) (r : Reading) (x y : Option Value) → LacksResult t → value_of t (record r { result = x }) ≡ value_of t (record r { result = y })
@@ -112,10 +117,10 @@ result_unread (terms.Cond a b c) r x y h =
 -- ---- at the end
 
 module _ (args : List Value) (entry heap : Heap) (result : Option Value) where
-  abbrev reading : Reading
+  abbrev pub reading : Reading
   reading = record { args = args; entry_heap = entry; heap = heap; result = result }
 
-  abbrev told : List (Option Value) → Told
+  abbrev pub told : List (Option Value) → Told
   told olds = record { args = args; heap = heap; result = result; olds = Some olds }
 
   abbrev olds : Term → List (Option Value)

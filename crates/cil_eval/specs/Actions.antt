@@ -60,21 +60,9 @@ when false x = None
 
 -- ---- whole frames
 
--- The frame goes on at an IL offset, with this stack and these variables, over this heap.
-abbrev pub goes_with : ℕ → List Value → List Value → List Value → Heap → State → Turn
-goes_with at stack args locals heap s =
-    To (record s { running = record s.running { at = at; stack = stack; args = args; locals = locals }; heap = heap })
+-- The state with this stack and these variables.
+abbrev pub with_parts : List Value → List Value → List Value → State → State
+with_parts stack args locals s = record s { running = record s.running { stack = stack; args = args; locals = locals } }
 
--- What comes of an action, where these are the stack, the variables and the heap that are left.
-abbrev pub performed : Action → List Value → List Value → List Value → Heap → State → Instr → Turn
-performed (Push value) rest args locals heap s i = goes_with (i.at + i.size) (value ∷ rest) args locals heap s
-performed Next rest args locals heap s i = goes_with (i.at + i.size) rest args locals heap s
-performed (Jump at) rest args locals heap s i = goes_with at rest args locals heap s
-performed (Fault kind) rest args locals heap s i = Ends (stops.Fault kind s.running.unit i.at)
-performed Assumed rest args locals heap s i = Ends (stops.Assumed s.running.unit i.at)
-performed Cells rest args locals heap s i = Ends stops.Cells
-performed Stuck rest args locals heap s i = StuckTurn
-
--- The frame with this stack and these variables.
-abbrev pub frame_with : List Value → List Value → List Value → Frame → Frame
-frame_with stack args locals f = record f { stack = stack; args = args; locals = locals }
+abbrev pub with_variables : List Value → List Value → State → State
+with_variables args locals s = record s { running = record s.running { args = args; locals = locals } }

@@ -1,7 +1,8 @@
 -- The value of a clause whose old values are told by a list, in the order in which they stand in its tree.
-use Rattle.std.specs.Prelude.{ℕ, ◌+◌, List, [], ◌∷◌, ◌++◌, drop, Option, Some, None, option_map, slice_get, if◌then◌else◌}
+use Rattle.std.specs.Prelude.{◌≡◌, ℕ, ◌+◌, List, [], ◌∷◌, ◌++◌, drop, Option, Some, None, option_map, slice_get, if◌then◌else◌}
+use Rattle.std.specs.List.{AllByRecursion}
 use Rattle.std.specs.Option.{option_and_then}
-use Rattle.cil_model.specs.Clauses.{Reading, binary_value, both, chosen, element_value, is_kind, is_number_true, length_value, unary_value, value_of}
+use Rattle.cil_model.specs.Clauses.{Reading, binary_value, both, chosen, element_value, false_ensures, is_kind, is_number_true, length_value, unary_value, value_of}
 use Rattle.cil_model.specs.Comparisons.{is_true}
 use Rattle.cil_model.specs.Terms as terms
 use Rattle.cil_model.specs.Terms.{Term}
@@ -118,3 +119,15 @@ abbrev pub olds_of_clauses : List Clause → List Value → Heap → List (Optio
 olds_of_clauses [] args heap = []
 olds_of_clauses (clause ∷ clauses) args heap =
     if is_kind kinds.Ensures clause.kind then old_values clause.tree args heap ++ olds_of_clauses clauses args heap else olds_of_clauses clauses args heap
+
+-- How many there may be.
+abbrev pub olds_in_clauses : List Clause → ℕ
+olds_in_clauses [] = 0
+olds_in_clauses (clause ∷ clauses) = olds_in clause.tree + olds_in_clauses clauses
+
+-- Where the old values are those of an entry over this heap, and none of them reads the result, this is the first
+-- Ensures that is not true.
+abbrev pub TellsEnsures : List Clause → List Value → List (Option Value) → Heap → Option Value → Option ℕ → Type 0
+TellsEnsures clauses args olds heap result first =
+    (entry : Heap) → AllByRecursion (λ (clause : Clause). OldsLackResult clause.tree) clauses → olds ≡ olds_of_clauses clauses args entry
+    → first ≡ false_ensures clauses (record { args = args; entry_heap = entry; heap = heap; result = result })

@@ -1,11 +1,15 @@
 //! The machine that runs units, under limits on its steps, its memory and the depth of its calls.
 #![tactic(auto)]
 
+mod act;
 mod action;
+mod arguments;
 mod arithmetic;
 mod array_rows;
+mod clause_tests;
 mod clause_values;
 mod comparisons;
+mod frames;
 mod limits;
 mod memory;
 mod perform;

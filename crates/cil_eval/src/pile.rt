@@ -1,6 +1,6 @@
 //! Lists of the frames of a run, in one row.
 
-ghost use Rattle.std.specs.Prelude.{◌≡◌, ◌<◌, ◌-◌, [], ◌∷◌, length, slice_get, slice_set, drop, IfOk, MatchOption, nat_lt};
+ghost use Rattle.std.specs.Prelude.{◌≡◌, ◌<◌, ◌-◌, [], ◌∷◌, length, slice_get, slice_set, reverse, IfOk, MatchOption, nat_lt};
 ghost use Rattle.cil_eval.specs.Piles.{size_of, closed};
 
 use crate::rows::append;
@@ -65,6 +65,13 @@ impl<T: Copy + Drop> Pile<T> {
         ensures { result ≡ length self.now.top }
     {
         self.items.len() - self.start
+    }
+
+    /// The items of the top list. The one that was put last stands last.
+    pub fn as_slice(&self) -> &[T]
+        ensures { reverse result.now ≡ self.now.top }
+    {
+        &self.items[self.start..]
     }
 
     /// Puts an item on the top list.

@@ -1,21 +1,25 @@
 //! The values of clauses.
 
-ghost use Rattle.std.specs.Prelude.{◌≡◌, drop};
-ghost use Rattle.cil_eval.specs.Told.{behind, told_value, first_old};
+ghost use Rattle.std.specs.Prelude.{◌≡◌, ◌+◌, ◌<◌, ◌≤◌, ◌++◌, drop, length, reverse};
+ghost use Rattle.cil_model.specs.Clauses as clauses;
+ghost use Rattle.cil_eval.specs.Piles.{size_of};
+ghost use Rattle.cil_eval.specs.Told.{behind, first_old, old_values, olds_in, told_false, told_value};
 
 use crate::clause_values::{binary, chosen, element, length, unary};
 use crate::memory::Memory;
-use cil_model::{Node, Tree, Value};
+use crate::pile::Pile;
+use cil_model::{Clause, ClauseKind, Node, Tree, Value};
 use std::marker::Model;
 
 /// What a clause is read over.
+#[derive(Drop)]
 pub(crate) struct Reading<'a> {
     /// The arguments at entry.
-    pub args: &'a [Value],
+    pub args: &'a Pile<Value>,
     pub memory: &'a Memory,
     pub result: Option<Value>,
-    /// The old values that were not read yet, in the order in which they stand in the clauses. None: the arrays are
-    /// those at entry.
+    /// The old values that were not read yet: the last of them stands first in the clauses. None: the arrays are those at
+    /// entry.
     pub olds: Option<&'a [Option<Value>]>,
 }
 
@@ -24,28 +28,29 @@ impl<'a> Model for Reading<'a> {
 
     ghost Value = { Told };
 
-    ghost use Rattle.std.specs.Prelude.{option_map};
+    ghost use Rattle.std.specs.Prelude.{reverse, option_map};
 
-    ghost view = { λ r. record { args = r.args.now; heap = r.memory.now.heap; result = r.result; olds = option_map (λ olds. olds.now) r.olds } };
+    ghost view = { λ r. record { args = r.args.now.top; heap = r.memory.now.heap; result = r.result; olds = option_map (λ olds. reverse olds.now) r.olds } };
 }
 
-/// The first old value.
+/// The old value that is read first.
 fn first_of(olds: &[Option<Value>]) -> Option<Value>
-    ensures { result ≡ first_old olds.now }
+    ensures { result ≡ first_old (reverse olds.now) }
 {
     match olds {
         [] => None,
-        [first, ..] => *first,
+        [.., first] => *first,
     }
 }
 
-/// The old values behind the first.
+/// The old values that are read behind it.
+#[tactic(auto, using(crate::proofs::PileLemmas::without_last))]
 fn rest_of(olds: &[Option<Value>]) -> &[Option<Value>]
-    ensures { result.now ≡ drop 1 olds.now }
+    ensures { reverse result.now ≡ drop 1 (reverse olds.now) }
 {
     match olds {
         [] => olds,
-        [_, rest @ ..] => rest,
+        [rest @ .., _] => rest,
     }
 }
 
@@ -58,7 +63,7 @@ impl Reading<'_> {
     {
         match &tree.node {
             Node::Const(n) => Some(Value::Int(*n)),
-            Node::Arg(n) => self.args.get(usize::from(*n)).copied(),
+            Node::Arg(n) => self.args.get(usize::from(*n)),
             Node::Null => Some(Value::Null),
             Node::Result => self.result,
             Node::Len(array) => {
@@ -92,6 +97,68 @@ impl Reading<'_> {
                 let b = self.value(b);
                 chosen(test, a, b)
             }
+        }
+    }
+}
+
+/// What makes a clause hold: any number but 0.
+fn is_number_true(value: Option<Value>) -> bool
+    ensures { result ≡ clauses.is_number_true value }
+{
+    match value {
+        Some(Value::Int(n)) => n != 0,
+        _ => false,
+    }
+}
+
+/// The number of the first of some clauses of a kind that does not hold, counted from 1 among those of the kind.
+pub(crate) fn first_false(kind: ClauseKind, all: &[Clause], reading: &mut Reading<'_>) -> Option<u8>
+    requires { length all.now < 256 }
+    ensures { result ≡ told_false 1 kind all.now reading.old }
+{
+    let mut number = 0;
+    for clause in all {
+        if clause.kind == kind {
+            number += 1;
+            if !is_number_true(reading.value(&clause.tree)) {
+                return Some(number);
+            }
+        }
+    }
+    None
+}
+
+/// Puts the old values of a tree on a list, the last one first.
+#[tactic(auto, using(crate::proofs::ToldLemmas::olds_put, crate::proofs::ToldLemmas::present_value))]
+pub(crate) fn put_olds<'a>(
+    tree: &Tree,
+    args: &'a Pile<Value>,
+    memory: &'a Memory,
+    olds: &mut Pile<Option<Value>>,
+)
+    requires { size_of olds.old + olds_in tree.now ≤ olds.old.room }
+    ensures { olds.new ≡ record olds.old { top = old_values tree.now args.now.top memory.now.heap ++ olds.old.top } }
+{
+    match &tree.node {
+        Node::Const(_) | Node::Arg(_) | Node::Null | Node::Result => {}
+        Node::Len(a) | Node::Un(_, a) => put_olds(a, args, memory, olds),
+        Node::Elem(_, a, b) | Node::Bin(_, a, b) => {
+            put_olds(b, args, memory, olds);
+            put_olds(a, args, memory, olds);
+        }
+        Node::Old(a) => {
+            let mut reading = Reading {
+                args,
+                memory,
+                result: None,
+                olds: None,
+            };
+            olds.push(reading.value(a));
+        }
+        Node::Cond(a, b, c) => {
+            put_olds(c, args, memory, olds);
+            put_olds(b, args, memory, olds);
+            put_olds(a, args, memory, olds);
         }
     }
 }
