@@ -1,5 +1,6 @@
 -- An action of the frames that hold a state is that of the state.
-use Rattle.std.proofs.Common.{◌≡◌, ℕ, ◌+◌, List, [], ◌∷◌, map, drop, Option, Some, None, refl, sym, ap, subst, ◌∙◌}
+use Rattle.std.proofs.Common.{◌≡◌, ℕ, ◌+◌, List, [], ◌∷◌, map, drop, Option, Some, None, ◌<◌, refl, sym, ap, subst, ◌∙◌, arith}
+use Rattle.std.specs.List.{AllByRecursion}
 use Rattle.cil_model.specs.Effects.{effects_of}
 use Rattle.cil_model.specs.Values.{Heap}
 use Rattle.cil_model.specs.declared.instruction.Instr.{Instr}
@@ -9,6 +10,10 @@ use Rattle.cil_model.specs.declared.machine.Value.{Value}
 use Rattle.cil_model.specs.declared.machine.World.{World}
 use Rattle.cil_model.specs.declared.unit.Unit.{Unit as MethodUnit}
 use Rattle.cil_eval.specs.Actions.{acted, with_parts, with_variables}
+use Rattle.cil_eval.specs.Effect.{Effects}
+use Rattle.cil_eval.specs.Piles.{length_of_all, size_of}
+use Rattle.cil_eval.specs.StackRows.{IsLength}
+use Rattle.cil_eval.specs.declared.stop.Stop.{Stop}
 use Rattle.cil_eval.specs.Held.{HasPart, Holds, Turned, acted_frames, position_of, stop_of}
 use Rattle.cil_eval.specs.Outcome.{State, Turn, after_effects}
 use Rattle.cil_eval.specs.Performs.{Performs, Stays}
@@ -57,3 +62,15 @@ performed_holds w cells unit action old mid heap after s i h performs stays =
       own (performs s i) in
     subst (λ (t : Turn). Turned w t (acted_frames action s.running.unit i mid) after (stop_of action s.running.unit i)) (sym is)
     (acted_holds w action old mid heap after s i h stays)
+
+pub performed_effects : (cells : ℕ) (unit : MethodUnit) (index : ℕ) (i : Instr) (old new mid : Frames) (heap after : Heap) (stop : Option Stop) (action : Action)
+    → (AllByRecursion IsLength old.stack.top → Performs cells unit i.op action old mid heap after) → Stays old mid
+    → new ≡ acted_frames action index i mid → stop ≡ stop_of action index i → Effects cells unit index i old heap new after stop
+performed_effects cells unit index i old new mid heap after stop action performs stays frames stops w s h same lengths =
+    rw (frames, stops, ← same)
+    (performed_holds w cells unit action old mid heap after s i h (performs (rw h.stack.top lengths)) stays)
+
+pub no_larger : (old mid : Frames) → Stays old mid → size_of old.stack < old.stack.room → size_of mid.stack < mid.stack.room
+no_larger old mid stays few =
+    let below : length_of_all mid.stack.below ≡ length_of_all old.stack.below = ap length_of_all stays.stack.below in
+    omega (arith, below, stays.stack.shorter, stays.stack.room, few)

@@ -9,3 +9,4 @@ pub mod ArrayLemmas
 pub mod ClauseTests
 pub mod TakenLemmas
 pub mod ActLemmas
+pub mod OffsetLemmas
