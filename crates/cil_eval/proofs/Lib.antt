@@ -10,3 +10,5 @@ pub mod ClauseTests
 pub mod TakenLemmas
 pub mod ActLemmas
 pub mod OffsetLemmas
+pub mod CallLemmas
+pub mod ReturnLemmas

@@ -65,7 +65,7 @@ module _ (heap : Heap) where
 
   -- ---- one by one
 
-  abbrev result : List Value → List Value → List Value → Taken
+  abbrev pub result : List Value → List Value → List Value → Taken
   result args rest values = record { args = values ++ args; rest = rest }
 
   taken_one : (places : List Place) (args stack : List Value) (value : Option Value) (values : Option (List Value)) (rest : List Value)
@@ -77,7 +77,7 @@ module _ (heap : Heap) where
   taken_one places args stack (Some value) (Some values) rest h =
       h value ∙ ap (λ (vs : List Value). Some (record { args = vs; rest = rest })) (sym (append_assoc values (value ∷ []) args))
 
-  taken_from : (places : List Place) (args stack : List Value)
+  pub taken_from : (places : List Place) (args stack : List Value)
       → taken heap places args stack ≡ option_map (result args (drop (length places) stack)) (put_all heap (reverse places) (reverse (take (length places) stack)))
   taken_from [] args stack = refl
   taken_from (place ∷ places) args [] =

@@ -6,6 +6,7 @@ mod action;
 mod arguments;
 mod arithmetic;
 mod array_rows;
+mod calls;
 mod clause_tests;
 mod clause_values;
 mod comparisons;
