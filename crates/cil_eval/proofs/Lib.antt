@@ -12,3 +12,4 @@ pub mod ActLemmas
 pub mod OffsetLemmas
 pub mod CallLemmas
 pub mod ReturnLemmas
+pub mod TurnLemmas

@@ -12,6 +12,7 @@ mod clause_values;
 mod comparisons;
 mod effect;
 mod enter;
+mod flow;
 mod frames;
 mod limits;
 mod memory;
@@ -22,6 +23,7 @@ mod reading;
 mod rows;
 mod stack_rows;
 mod stop;
+mod turn;
 mod values;
 
 pub use limits::Limits;
