@@ -1,11 +1,9 @@
 -- An action of the frames that hold a state is that of the state.
-use Rattle.std.proofs.Common.{◌≡◌, ℕ, ◌+◌, List, [], ◌∷◌, map, drop, Option, Some, None, ◌<◌, refl, sym, ap, subst, ◌∙◌, arith}
+use Rattle.std.proofs.Common.{◌≡◌, ℕ, ◌+◌, List, ◌∷◌, drop, Option, ◌<◌, refl, sym, ap, subst, ◌∙◌, arith}
 use Rattle.std.specs.List.{AllByRecursion}
 use Rattle.cil_model.specs.Effects.{effects_of}
 use Rattle.cil_model.specs.Values.{Heap}
 use Rattle.cil_model.specs.declared.instruction.Instr.{Instr}
-use Rattle.cil_model.specs.declared.instruction.Op.{Op}
-use Rattle.cil_model.specs.declared.machine.Frame.{Frame}
 use Rattle.cil_model.specs.declared.machine.Value.{Value}
 use Rattle.cil_model.specs.declared.machine.World.{World}
 use Rattle.cil_model.specs.declared.unit.Unit.{Unit as MethodUnit}
@@ -14,7 +12,7 @@ use Rattle.cil_eval.specs.Effect.{Effects}
 use Rattle.cil_eval.specs.Piles.{length_of_all, size_of}
 use Rattle.cil_eval.specs.StackRows.{IsLength}
 use Rattle.cil_eval.specs.declared.stop.Stop.{Stop}
-use Rattle.cil_eval.specs.Held.{HasPart, Holds, Turned, acted_frames, position_of, stop_of}
+use Rattle.cil_eval.specs.Held.{Holds, Turned, acted_frames, stop_of}
 use Rattle.cil_eval.specs.Outcome.{State, Turn, after_effects}
 use Rattle.cil_eval.specs.Performs.{Performs, Stays}
 use Rattle.cil_eval.specs.declared.action.Action.{Action}
@@ -29,7 +27,7 @@ own_parts w frames heap s h = rw (h.stack.top, h.args.top, h.locals.top) refl
 -- The frames go on with this stack, at an IL offset.
 goes_on_holds : (w : World) (old mid : Frames) (heap after : Heap) (s : State) (at : ℕ) (stack : List Value) → Holds w old heap s → Stays old mid
     → Holds w (record mid { stack = record mid.stack { top = stack }; positions = record mid.positions { top = record { unit = s.running.unit; at = at } ∷ drop 1 mid.positions.top } }) after
-      (record s { running = record s.running { at = at; stack = stack; args = mid.args.top; locals = mid.locals.top }; heap = after })
+    (record s { running = record s.running { at = at; stack = stack; args = mid.args.top; locals = mid.locals.top }; heap = after })
 goes_on_holds w old mid heap after s at stack h stays = record {
   stack = record { top = refl; below = stays.stack.below ∙ h.stack.below };
   args = record { top = refl; below = stays.args.below ∙ h.args.below };
@@ -59,7 +57,7 @@ performed_holds w cells unit action old mid heap after s i h performs stays =
     let is : after_effects cells s i (effects_of i.op unit i s.running s.heap) ≡ acted action mid.stack.top after (with_variables mid.args.top mid.locals.top s) i =
     ap (λ (x : Heap). after_effects cells s i (effects_of i.op unit i s.running x)) (sym h.heap_is)
     ∙ subst (λ (x : State). after_effects cells x i (effects_of i.op unit i x.running heap) ≡ acted action mid.stack.top after (with_variables mid.args.top mid.locals.top x) i)
-      own (performs s i) in
+    own (performs s i) in
     subst (λ (t : Turn). Turned w t (acted_frames action s.running.unit i mid) after (stop_of action s.running.unit i)) (sym is)
     (acted_holds w action old mid heap after s i h stays)
 

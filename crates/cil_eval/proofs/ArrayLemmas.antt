@@ -1,8 +1,6 @@
 -- What is done with an item of an array is what the machine does.
-use Rattle.std.proofs.Common.{◌≡◌, ℕ, ℤ, pos, List, [], ◌∷◌, length, Bool, true, false, if◌then◌else◌, Option, Some, None, option_map, int_le, int_lt, slice_get, unsigned_abs, refl, sym, ap, subst, ◌∙◌}
-use Rattle.std.specs.Option.{option_and_then}
-use Rattle.std.proofs.lemmas.Bool.{cond_both}
-use Rattle.cil_model.specs.Effects.{Effect, at_index, goes_on, item_of, item_value, loads, of_place, pushes, stores, with_item}
+use Rattle.std.proofs.Common.{◌≡◌, ℕ, ℤ, pos, List, ◌∷◌, length, Bool, true, false, if◌then◌else◌, Option, Some, None, option_map, int_le, int_lt, slice_get, unsigned_abs, refl, sym, ap, ◌∙◌}
+use Rattle.cil_model.specs.Effects.{Effect, at_index, goes_on, item_of, item_value, loads, of_place, pushes, with_item}
 use Rattle.cil_model.specs.Values.{Heap, same_place}
 use Rattle.cil_model.specs.declared.instruction.Instr.{Instr}
 use Rattle.cil_model.specs.declared.machine.ArrayCell.{ArrayCell}
@@ -11,7 +9,7 @@ use Rattle.cil_model.specs.declared.machine.Value.TheVariants as values
 use Rattle.cil_model.specs.declared.place.Place.{Place}
 use Rattle.cil_eval.specs.Actions.{DoesOver, acted}
 use Rattle.cil_eval.specs.ArrayRows.{bounded, loaded, loads_there, stored_heap, stores_value}
-use Rattle.cil_eval.specs.Outcome.{State, Turn, after_effects}
+use Rattle.cil_eval.specs.Outcome.{State, after_effects}
 use Rattle.cil_eval.specs.Stores.{replaced_in}
 use Rattle.cil_eval.specs.declared.action.Action.{Action}
 use Rattle.cil_eval.specs.declared.action.Action.TheVariants as actions

@@ -1,24 +1,23 @@
 -- Calls of frames that hold a state are those of the state.
-use Rattle.std.proofs.Common.{◌≡◌, ℕ, ◌+◌, ◌<◌, ◌≤◌, Bool, true, false, nat_le, List, [], ◌∷◌, ◌++◌, length, reverse, map, take, drop, Option, Some, None, option_map, if◌then◌else◌, slice_get, refl, sym, ap, subst, ◌∙◌, append-nil, arith}
+use Rattle.std.proofs.Common.{◌≡◌, ℕ, ◌+◌, Bool, true, false, nat_le, List, [], ◌∷◌, ◌++◌, length, reverse, map, take, drop, Option, Some, None, option_map, if◌then◌else◌, slice_get, refl, sym, ap, subst, ◌∙◌, append-nil, arith}
 use Rattle.std.proofs.lemmas.List.{length-reverse, reverse-reverse}
 use Rattle.std.proofs.lemmas.Option.{none-some, same_Some}
 use Rattle.cil_model.proofs.Options.{map_from}
 use Rattle.cil_model.specs.Calls.{args_of, behind_call, entry_frame}
 use Rattle.cil_model.specs.Clauses.{false_requires}
-use Rattle.cil_model.specs.Values.{Heap, put, put_all, zero_of}
+use Rattle.cil_model.specs.Values.{Heap, put, put_all}
 use Rattle.cil_model.specs.declared.instruction.Instr.{Instr}
 use Rattle.cil_model.specs.declared.machine.FaultKind.TheVariants as faults
-use Rattle.cil_model.specs.declared.machine.Frame.{Frame}
 use Rattle.cil_model.specs.declared.machine.Value.{Value}
 use Rattle.cil_model.specs.declared.machine.World.{World}
 use Rattle.cil_model.specs.declared.place.Place.{Place}
 use Rattle.cil_model.specs.declared.unit.Unit.{Unit as MethodUnit}
 use Rattle.cil_eval.specs.Actions.{when}
 use Rattle.cil_eval.specs.Called.{HasRoomToCall}
-use Rattle.cil_eval.specs.Entered.{HasRoomFor, HasRoomToEnter, entered, opened}
-use Rattle.cil_eval.specs.Held.{HasPart, Holds, Turned, olds_of, olds_of_unit, position_of}
-use Rattle.cil_eval.specs.Outcome.{State, Turn, To, Ends, after_args, after_callee, after_requires}
-use Rattle.cil_eval.specs.Piles.{Piled, size_of}
+use Rattle.cil_eval.specs.Entered.{HasRoomToEnter, entered}
+use Rattle.cil_eval.specs.Held.{Holds, Turned, olds_of, olds_of_unit, position_of}
+use Rattle.cil_eval.specs.Outcome.{State, To, Ends, after_args, after_requires}
+use Rattle.cil_eval.specs.Piles.{Piled}
 use Rattle.cil_eval.specs.Taken.{Taken, taken, taken_with}
 use Rattle.cil_eval.specs.Told.{olds_of_clauses}
 use Rattle.cil_eval.specs.declared.frames.Frames.{Frames}
@@ -26,7 +25,7 @@ use Rattle.cil_eval.specs.declared.frames.Position.{Position}
 use Rattle.cil_eval.specs.declared.limits.Limits.{Limits}
 use Rattle.cil_eval.specs.declared.stop.Stop.{Stop}
 use Rattle.cil_eval.specs.declared.stop.Stop.TheVariants as stops
-use Rattle.cil_eval.proofs.TakenLemmas.{result, taken_from}
+use Rattle.cil_eval.proofs.TakenLemmas.{taken_from}
 
 -- ---- the arguments
 

@@ -1,12 +1,11 @@
 -- The tests of clauses by their old values are those of the machine.
-use Rattle.std.proofs.Common.{◌≡◌, ℕ, ◌+◌, Bool, true, false, List, [], ◌∷◌, ◌++◌, Option, Some, None, if◌then◌else◌, refl, sym, ap, ◌∙◌, append_assoc, append-nil, get_or, take, drop, length, ◌-◌, ◌≤◌, arith, length-append}
+use Rattle.std.proofs.Common.{◌≡◌, ℕ, ◌+◌, Bool, true, false, List, [], ◌∷◌, ◌++◌, Option, Some, if◌then◌else◌, refl, sym, ap, ◌∙◌, append_assoc, append-nil, get_or, take, drop, length, ◌-◌, ◌≤◌, arith, length-append}
 use Rattle.std.specs.List.{AllByRecursion}
 use Rattle.std.proofs.lemmas.Bool.{cond_both}
 use Rattle.std.proofs.Math.Seq.{take-length}
-use Rattle.cil_model.specs.Clauses.{Reading, clause_holds, clauses_of, false_ensures, false_requires, first_false, is_kind, is_number_true, value_of}
+use Rattle.cil_model.specs.Clauses.{Reading, clause_holds, clauses_of, false_ensures, false_requires, first_false, is_kind, is_number_true}
 use Rattle.cil_model.specs.Values.{Heap}
 use Rattle.cil_model.specs.declared.clause.Clause.{Clause}
-use Rattle.cil_model.specs.declared.clause.ClauseKind.{ClauseKind}
 use Rattle.cil_model.specs.declared.clause.ClauseKind.TheVariants as kinds
 use Rattle.cil_model.specs.declared.machine.Value.{Value}
 use Rattle.cil_eval.specs.Piles.{Piled, size_of}
@@ -54,10 +53,10 @@ module _ (args : List Value) (entry heap : Heap) (result : Option Value) where
       → told_false (number + 1) kinds.Ensures clauses (over (olds clauses ++ rest)) ≡ first_false (number + 1) r (others clauses)
       → told_false number kinds.Ensures clauses (over (olds clauses ++ rest)) ≡ first_false number r (others clauses)
       → (if b
-         then (if is_number_true (told_value clause.tree (over ((if b then old_values clause.tree args entry ++ olds clauses else olds clauses) ++ rest)))
-               then told_false (number + 1) kinds.Ensures clauses (behind clause.tree (over ((if b then old_values clause.tree args entry ++ olds clauses else olds clauses) ++ rest)))
-               else Some number)
-         else told_false number kinds.Ensures clauses (over ((if b then old_values clause.tree args entry ++ olds clauses else olds clauses) ++ rest)))
+      then (if is_number_true (told_value clause.tree (over ((if b then old_values clause.tree args entry ++ olds clauses else olds clauses) ++ rest)))
+      then told_false (number + 1) kinds.Ensures clauses (behind clause.tree (over ((if b then old_values clause.tree args entry ++ olds clauses else olds clauses) ++ rest)))
+      else Some number)
+      else told_false number kinds.Ensures clauses (over ((if b then old_values clause.tree args entry ++ olds clauses else olds clauses) ++ rest)))
       ≡ first_false number r (if b then clause ∷ others clauses else others clauses)
   ensures_step true number clause clauses rest lacks next same =
       let all = ap over (append_assoc (old_values clause.tree args entry) (olds clauses) rest) in

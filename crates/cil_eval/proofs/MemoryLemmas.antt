@@ -1,18 +1,18 @@
 -- What changes of a flat row are to the heap that it holds.
-use Rattle.std.proofs.Common.{◌≡◌, ℕ, zero, suc, ◌+◌, ◌^◌, ◌<◌, ◌≤◌, nat_le, ℤ, pos, Bool, true, false, List, [], ◌∷◌, ◌++◌, length, replicate, take, drop, slice_get, slice_set, Option, Some, None, option_map, if◌then◌else◌, refl, sym, ap, subst, ◌∙◌, arith, length-append, length-drop}
+use Rattle.std.proofs.Common.{◌≡◌, ℕ, zero, suc, ◌+◌, ◌^◌, ◌<◌, ◌≤◌, ℤ, Bool, true, false, List, [], ◌∷◌, ◌++◌, length, take, drop, slice_get, slice_set, Some, None, option_map, if◌then◌else◌, refl, sym, ap, subst, ◌∙◌, arith, length-append, length-drop}
 use Rattle.std.specs.List.{AllByRecursion}
 use Rattle.std.proofs.lemmas.Bool.{le-leb, lt-leb}
-use Rattle.std.proofs.lemmas.List.{length-replicate, length-take, length-take-le, set_past}
+use Rattle.std.proofs.lemmas.List.{length-take, length-take-le, set_past}
 use Rattle.std.proofs.lemmas.Option.{none-some, same_Some, slice_get-map}
 use Rattle.cil_model.proofs.Lists.{all_append}
-use Rattle.cil_model.specs.Effects.{zeros, with_item}
+use Rattle.cil_model.specs.Effects.{with_item}
 use Rattle.cil_model.specs.Values.{Heap}
 use Rattle.cil_model.specs.declared.machine.ArrayCell.{ArrayCell}
 use Rattle.cil_model.specs.declared.place.Place.{Place}
 use Rattle.cil_eval.specs.declared.memory.Array.{Array}
 use Rattle.cil_eval.specs.Rows.{IsLaid, LieFrom, cell_in, heap_in}
 use Rattle.cil_eval.specs.Stores.{Store, cells_of, has_room, replaced, replaced_in, with_array}
-use Rattle.cil_eval.proofs.RowLemmas.{LiesWithin, lies_within, stored_in, one_more, lie_on, taken, behind}
+use Rattle.cil_eval.proofs.RowLemmas.{lies_within, stored_in, one_more, lie_on, taken, behind}
 
 -- ---- the arrays that there are
 

@@ -1,9 +1,9 @@
 -- What is known of lists that lie one above another.
-use Rattle.std.proofs.Common.{◌≡◌, ℕ, zero, suc, ◌+◌, ◌-◌, ◌<◌, ◌≤◌, List, [], ◌∷◌, ◌++◌, length, get_or, reverse, take, drop, drop-cons, slice_set, refl, sym, ap, ◌∙◌, arith, length-append, length-drop}
+use Rattle.std.proofs.Common.{◌≡◌, ℕ, zero, suc, ◌+◌, ◌-◌, ◌<◌, ◌≤◌, List, [], ◌∷◌, ◌++◌, length, get_or, reverse, take, drop, drop-cons, slice_set, refl, sym, ap, ◌∙◌, arith, length-drop}
 use Rattle.std.proofs.lemmas.List.{drop-set-add, length-reverse, length-take-le, reverse-append, set-append_left, take-append-drop, take-set-le}
 use Rattle.std.proofs.Math.ListN.{drop_of_length-le}
 use Rattle.std.proofs.Math.Seq.{drop-append_seam, set-append_seam}
-use Rattle.cil_eval.specs.Piles.{Descend, Piled, cut_at, length_of_all, piled, size_of}
+use Rattle.cil_eval.specs.Piles.{Descend, cut_at, length_of_all, piled, size_of}
 
 -- ---- how many there are
 

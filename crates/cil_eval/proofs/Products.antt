@@ -1,5 +1,5 @@
 -- Products of numbers of at most 2^31 have 64 bits.
-use Rattle.std.proofs.Common.{◌≡◌, ◌≤◌, ◌*◌, ℕ, suc, ℤ, pos, negsuc, ◌*ℤ◌, ◌≤ℤ◌, ◌^◌, FitsSigned, w64, arith}
+use Rattle.std.proofs.Common.{◌≤◌, ◌*◌, ℕ, suc, ℤ, pos, negsuc, ◌*ℤ◌, ◌^◌, FitsSigned, w64, arith}
 use Rattle.std.proofs.lemmas.Int.{ints}
 use Rattle.std.proofs.lemmas.Nat.{mul-le, pow_pos}
 use Rattle.std.proofs.Math.Nat.{pow-le-pow_right}

@@ -1,7 +1,6 @@
 -- The arguments that are taken one by one are those of a call.
-use Rattle.std.proofs.Common.{◌≡◌, ℕ, zero, suc, ◌≤◌, List, [], ◌∷◌, ◌++◌, length, reverse, take, drop, Option, Some, None, option_map, refl, sym, ap, ◌∙◌, append_assoc, arith}
+use Rattle.std.proofs.Common.{◌≡◌, ◌≤◌, List, [], ◌∷◌, ◌++◌, length, reverse, take, drop, Option, Some, None, option_map, refl, sym, ap, ◌∙◌, append_assoc, arith}
 use Rattle.std.proofs.lemmas.List.{length-reverse, reverse-append}
-use Rattle.cil_model.specs.Calls.{args_of}
 use Rattle.cil_model.specs.Values.{Heap, put, put_all, with_first}
 use Rattle.cil_model.specs.declared.machine.Value.{Value}
 use Rattle.cil_model.specs.declared.place.Place.{Place}
@@ -87,6 +86,6 @@ module _ (heap : Heap) where
       let values = put_all heap (reverse places) (reverse (take n stack)) in
       let one = taken_one places args stack (put heap place value) values (drop n stack) (λ put. taken_from places (put ∷ args) stack) in
       let all = ap (λ ps. put_all heap ps (reverse (value ∷ take n stack))) (reverse-append (place ∷ []) places)
-          ∙ ap (put_all heap (reverse places ++ place ∷ [])) (reverse-append (value ∷ []) (take n stack))
-          ∙ put_more (reverse places) place (reverse (take n stack)) value in
+      ∙ ap (put_all heap (reverse places ++ place ∷ [])) (reverse-append (value ∷ []) (take n stack))
+      ∙ put_more (reverse places) place (reverse (take n stack)) value in
       one ∙ sym (ap (option_map (result args (drop n stack))) all)

@@ -1,17 +1,14 @@
 -- The value of a clause by its old values is its value.
-use Rattle.std.proofs.Common.{◌≡◌, ℕ, ◌+◌, Bool, true, false, List, [], ◌∷◌, ◌++◌, drop, length, Option, Some, None, option_map, slice_get, if◌then◌else◌, refl, sym, ap, subst, ◌∙◌, append_assoc, arith, length-append}
+use Rattle.std.proofs.Common.{◌≡◌, ◌+◌, List, ◌++◌, length, Option, Some, None, refl, ap, ◌∙◌, append_assoc, arith, length-append}
 use Rattle.std.specs.Option.{option_and_then}
-use Rattle.cil_model.specs.Clauses.{Reading, at_entry, binary_value, both, chosen, clause_holds, clauses_of, element_value, first_false, is_kind, is_number_true, length_value, unary_value, value_of}
+use Rattle.cil_model.specs.Clauses.{Reading, at_entry, binary_value, both, chosen, element_value, length_value, unary_value, value_of}
 use Rattle.cil_model.specs.Comparisons.{is_true}
 use Rattle.cil_model.specs.Terms as terms
 use Rattle.cil_model.specs.Terms.{Term}
 use Rattle.cil_model.specs.Values.{Heap}
-use Rattle.cil_model.specs.declared.clause.Clause.{Clause}
-use Rattle.cil_model.specs.declared.clause.ClauseKind.{ClauseKind}
-use Rattle.cil_model.specs.declared.clause.ClauseKind.TheVariants as kinds
 use Rattle.cil_model.specs.declared.machine.Value.{Value}
 use Rattle.cil_eval.specs.Piles.{Piled, size_of}
-use Rattle.cil_eval.specs.Told.{LacksResult, OldsLackResult, Told, behind, behind_by, entry_reading, first_old, old_by, old_values, olds_in, told_value}
+use Rattle.cil_eval.specs.Told.{LacksResult, OldsLackResult, Told, behind, behind_by, entry_reading, old_values, olds_in, told_value}
 
 -- ---- what stays
 
@@ -85,8 +82,14 @@ length_of_olds (terms.Bin operator a b) args heap = omega (arith, length-append 
 length_of_olds (terms.Un operator a) args heap = length_of_olds a args heap
 length_of_olds (terms.Old a) args heap = refl
 length_of_olds (terms.Cond a b c) args heap =
-    omega (arith, length-append (old_values a args heap) (old_values b args heap ++ old_values c args heap), length-append (old_values b args heap) (old_values c args heap),
-    length_of_olds a args heap, length_of_olds b args heap, length_of_olds c args heap)
+    omega (
+      arith,
+      length-append (old_values a args heap) (old_values b args heap ++ old_values c args heap),
+      length-append (old_values b args heap) (old_values c args heap),
+      length_of_olds a args heap,
+      length_of_olds b args heap,
+      length_of_olds c args heap,
+    )
 
 -- A list with the old values of a tree put on it.
 pub olds_put : (t : Term) (args : List Value) (heap : Heap) (p : Piled (Option Value)) → size_of (record p { top = old_values t args heap ++ p.top }) ≡ olds_in t + size_of p

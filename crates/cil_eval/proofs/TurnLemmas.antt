@@ -1,5 +1,5 @@
 -- One step of frames that hold a state is that of the state.
-use Rattle.std.proofs.Common.{◌≡◌, ℕ, zero, suc, ◌+◌, ◌<◌, ◌^◌, Bool, nat_le, List, [], ◌∷◌, length, map, Option, Some, None, slice_get, refl, sym, ap, subst, ◌∙◌}
+use Rattle.std.proofs.Common.{◌≡◌, ℕ, zero, suc, ◌+◌, ◌<◌, ◌^◌, Bool, nat_le, List, [], ◌∷◌, length, Option, Some, slice_get, refl, sym, ap, subst, ◌∙◌}
 use Rattle.std.specs.List.{AllByRecursion}
 use Rattle.std.proofs.lemmas.Option.{none-some, same_Some}
 use Rattle.cil_model.proofs.Lists.{of_found}
@@ -15,7 +15,7 @@ use Rattle.cil_model.specs.declared.machine.World.{World}
 use Rattle.cil_model.specs.declared.unit.Unit.{Unit as MethodUnit}
 use Rattle.cil_model.specs.declared.unit_numbers.UnitCall.{UnitCall}
 use Rattle.cil_model.specs.declared.unit_numbers.UnitCall.TheVariants as calls
-use Rattle.cil_eval.specs.Called.{HasRoomToCall, Returns}
+use Rattle.cil_eval.specs.Called.{Returns}
 use Rattle.cil_eval.specs.Effect.{Effects}
 use Rattle.cil_eval.specs.Flows.{AreRunnable, IsRunnable, flow_of, flow_of_call}
 use Rattle.cil_eval.specs.Held.{Holds, Turned, position_of}

@@ -1,13 +1,12 @@
 -- What comes of a state is a step of the machine, where no limit is met.
-use Rattle.std.proofs.Common.{◌≡◌, ℕ, ◌+◌, nat_le, Bool, true, false, List, [], ◌∷◌, ◌++◌, length, reverse, Option, Some, None, slice_get, if◌then◌else◌, refl, sym, ap, subst, ◌∙◌, inl, inr, append_assoc}
+use Rattle.std.proofs.Common.{◌≡◌, ℕ, ◌+◌, nat_le, List, [], ◌∷◌, ◌++◌, length, reverse, Option, Some, None, slice_get, refl, sym, ap, subst, ◌∙◌, inl, inr, append_assoc}
 use Rattle.std.proofs.lemmas.Bool.{cond_both}
 use Rattle.std.proofs.lemmas.List.{reverse-append}
-use Rattle.cil_model.specs.Calls.{ReturnRow, Returned, Returns, WorldCall, args_of, behind_call, callee_index, called, ensures_fault, entry_frame, pushed, result_of}
+use Rattle.cil_model.specs.Calls.{ReturnRow, Returned, Returns, WorldCall, args_of, behind_call, callee_index, called, ensures_fault, entry_frame, result_of}
 use Rattle.cil_model.specs.Clauses.{false_requires}
 use Rattle.cil_model.specs.Effects.{Effect, GoesOn, Faults, Assumes, FindsNoRoom, HasEffect, effects}
-use Rattle.cil_model.specs.Runs.{CallsBy, EffectRow, IsAbout, Row, Step, config_after, instr_at}
+use Rattle.cil_model.specs.Runs.{CallsBy, Row, Step, config_after, instr_at}
 use Rattle.cil_model.specs.UnitCalls.{unit_call}
-use Rattle.cil_model.specs.Values.{Heap}
 use Rattle.cil_model.specs.declared.instruction.Instr.{Instr}
 use Rattle.cil_model.specs.declared.instruction.Op.{Op}
 use Rattle.cil_model.specs.declared.instruction.Op.TheVariants as ops
@@ -23,7 +22,6 @@ use Rattle.cil_model.specs.declared.unit_numbers.UnitCall.TheVariants as calls
 use Rattle.cil_eval.specs.Stores.{cells_of}
 use Rattle.cil_eval.specs.Outcome.{State, Turn, To, Ends, Stuck, after_args, after_array, after_call, after_callee, after_effect, after_effects, after_ensures, after_index, after_instr, after_op, after_requires, after_result, after_unit, config_of, resumed, turn}
 use Rattle.cil_eval.specs.declared.limits.Limits.{Limits}
-use Rattle.cil_eval.specs.declared.stop.Stop.{Stop}
 use Rattle.cil_eval.specs.declared.stop.Stop.TheVariants as stops
 
 -- The configuration that comes is one of these, where no limit is met and the machine is not stuck.
@@ -101,13 +99,23 @@ module _ (w : World) (limits : Limits) (s : State) (unit : MethodUnit) (i : Inst
         → args_of s.heap callee.args f.stack ≡ Some args → (fault : Option ℕ) → false_requires callee.clauses args s.heap ≡ fault
         → Comes IsCall (after_requires limits s i index callee args fault)
     requires_come index callee args named found are (Some k) e = record {
-      index = index; callee = callee; args = args; index_is = named; callee_is = found; args_are = are;
+      index = index;
+      callee = callee;
+      args = args;
+      index_is = named;
+      callee_is = found;
+      args_are = are;
       new_is = sym (ap (called callers callee index args i f s.heap) e);
     }
     requires_come index callee args named found are None e =
         cond_both (nat_le (length s.below + 2) limits.depth) _ _ (λ (t : Turn). Comes IsCall t)
         (λ _. record {
-          index = index; callee = callee; args = args; index_is = named; callee_is = found; args_are = are;
+          index = index;
+          callee = callee;
+          args = args;
+          index_is = named;
+          callee_is = found;
+          args_are = are;
           new_is = ap (λ (fs : List Frame). configs.Live fs s.heap) (laid index callee args) ∙ sym (ap (called callers callee index args i f s.heap) e);
         })
         (λ _. tt)

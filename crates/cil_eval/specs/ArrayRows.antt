@@ -1,5 +1,5 @@
 -- What an instruction does with an item of an array.
-use Rattle.std.specs.Prelude.{ℕ, ℤ, pos, List, ◌∷◌, length, Option, Some, None, if◌then◌else◌, int_le, int_lt, slice_get, unsigned_abs}
+use Rattle.std.specs.Prelude.{ℕ, ℤ, pos, ◌∷◌, length, Option, Some, None, if◌then◌else◌, int_le, int_lt, slice_get, unsigned_abs}
 use Rattle.std.specs.Option.{option_and_then}
 use Rattle.cil_model.specs.Effects.{item_of, stores}
 use Rattle.cil_model.specs.Values.{Heap, same_place}

@@ -1,7 +1,6 @@
 -- The frames at the start of a method.
-use Rattle.std.specs.Prelude.{◌≡◌, ℕ, ◌+◌, ◌<◌, ◌≤◌, List, [], ◌∷◌, length, map, drop, Option}
+use Rattle.std.specs.Prelude.{ℕ, ◌+◌, ◌<◌, ◌≤◌, List, [], ◌∷◌, length, map, drop}
 use Rattle.cil_model.specs.Values.{Heap, zero_of}
-use Rattle.cil_model.specs.declared.machine.Value.{Value}
 use Rattle.cil_model.specs.declared.unit.Unit.{Unit as MethodUnit}
 use Rattle.cil_eval.specs.Piles.{Piled, closed, size_of}
 use Rattle.cil_eval.specs.Told.{olds_in_clauses, olds_of_clauses}

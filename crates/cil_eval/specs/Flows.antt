@@ -1,5 +1,5 @@
 -- Where operations lead, and the worlds whose units can be run.
-use Rattle.std.specs.Prelude.{◌≡◌, ℕ, ◌+◌, ◌^◌, ◌<◌, List, length, Option, Some, None}
+use Rattle.std.specs.Prelude.{◌+◌, ◌^◌, ◌<◌, length, Option, Some}
 use Rattle.std.specs.List.{AllByRecursion}
 use Rattle.cil_model.specs.UnitCalls.{unit_call}
 use Rattle.cil_model.specs.declared.clause.Clause.{Clause}

@@ -1,5 +1,5 @@
 -- What an instruction does to the frame that runs.
-use Rattle.std.specs.Prelude.{◌≡◌, ℕ, List, length, Option, Some, None}
+use Rattle.std.specs.Prelude.{◌≡◌, ℕ, length, Option, Some, None}
 use Rattle.cil_model.specs.Effects.{effects_of}
 use Rattle.cil_model.specs.Values.{Heap}
 use Rattle.cil_model.specs.declared.instruction.Instr.{Instr}
@@ -18,7 +18,7 @@ use Rattle.cil_eval.specs.declared.frames.Frames.{Frames}
 abbrev pub Performs : ℕ → MethodUnit → Op → Action → Frames → Frames → Heap → Heap → Type 0
 Performs cells unit op action old new heap after =
     (s : State) (i : Instr) → after_effects cells (with_parts old.stack.top old.args.top old.locals.top s) i
-        (effects_of op unit i (with_parts old.stack.top old.args.top old.locals.top s).running heap)
+    (effects_of op unit i (with_parts old.stack.top old.args.top old.locals.top s).running heap)
     ≡ acted action new.stack.top after (with_variables new.args.top new.locals.top (with_parts old.stack.top old.args.top old.locals.top s)) i
 
 -- A list of variables has as many as before, and nothing else changed.

@@ -1,5 +1,5 @@
 -- The rows of instructions that touch the stack alone.
-use Rattle.std.specs.Prelude.{ℕ, ◌^◌, ◌<◌, ℤ, pos, Bool, true, false, List, [], ◌∷◌, Option, Some, None, if◌then◌else◌}
+use Rattle.std.specs.Prelude.{◌^◌, ◌<◌, ℤ, pos, Bool, true, false, List, [], ◌∷◌, Option, Some, None, if◌then◌else◌}
 use Rattle.std.specs.Ordering.{int_eq}
 use Rattle.cil_model.specs.Effects.{Effect, Faults, Assumes, goes_on, below_message, contract_call, tests_condition}
 use Rattle.cil_model.specs.Values.{Heap}

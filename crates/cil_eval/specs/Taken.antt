@@ -1,5 +1,5 @@
 -- Arguments that are taken from a stack one by one, the last one first.
-use Rattle.std.specs.Prelude.{ℕ, List, [], ◌∷◌, Option, Some, None}
+use Rattle.std.specs.Prelude.{List, [], ◌∷◌, Option, Some, None}
 use Rattle.cil_model.specs.Values.{Heap, put}
 use Rattle.cil_model.specs.declared.machine.Value.{Value}
 use Rattle.cil_model.specs.declared.place.Place.{Place}

@@ -1,5 +1,5 @@
 -- The value of a clause whose old values are told by a list, in the order in which they stand in its tree.
-use Rattle.std.specs.Prelude.{◌≡◌, ℕ, ◌+◌, List, [], ◌∷◌, ◌++◌, drop, Option, Some, None, option_map, slice_get, if◌then◌else◌}
+use Rattle.std.specs.Prelude.{◌≡◌, ℕ, ◌+◌, List, [], ◌∷◌, ◌++◌, drop, Option, Some, None, slice_get, if◌then◌else◌}
 use Rattle.std.specs.List.{AllByRecursion}
 use Rattle.std.specs.Option.{option_and_then}
 use Rattle.cil_model.specs.Clauses.{Reading, binary_value, both, chosen, element_value, false_ensures, is_kind, is_number_true, length_value, unary_value, value_of}

@@ -1,5 +1,5 @@
 -- What comes of one step of frames that hold a state.
-use Rattle.std.specs.Prelude.{◌≡◌, ℕ, ◌+◌, Bool, List, length, nat_le, Option}
+use Rattle.std.specs.Prelude.{◌≡◌, ℕ, ◌+◌, Bool, length, nat_le, Option}
 use Rattle.std.specs.List.{AllByRecursion}
 use Rattle.cil_model.specs.Calls.{callee_index}
 use Rattle.cil_model.specs.Values.{Heap}

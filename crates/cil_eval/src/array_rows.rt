@@ -33,7 +33,11 @@ fn make_array(place: Place, n: i32, memory: &mut Memory) -> Action
 }
 
 /// Takes a length, and makes an array of so many zeros.
-pub(crate) fn new_array(place: Option<Place>, stack: &mut Pile<Value>, memory: &mut Memory) -> Action
+pub(crate) fn new_array(
+    place: Option<Place>,
+    stack: &mut Pile<Value>,
+    memory: &mut Memory,
+) -> Action
     ensures does { AllByRecursion IsLength stack.old.top → DoesOver memory.old.limit (effects.new_array place) result stack.old.top stack.new.top memory.old.heap memory.new.heap }
     ensures taken { IsTakenFrom stack.old stack.new }
     ensures limit { memory.new.limit ≡ memory.old.limit }

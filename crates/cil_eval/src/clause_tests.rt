@@ -12,7 +12,11 @@ use cil_model::{Clause, ClauseKind, Value};
 
 /// The first Requires that is not true of arguments, counted from 1 among the Requires.
 #[tactic(auto, using(crate::proofs::ClauseTests::requires_are))]
-pub(crate) fn false_requires<'a>(all: &[Clause], args: &'a Pile<Value>, memory: &'a Memory) -> Option<u8>
+pub(crate) fn false_requires<'a>(
+    all: &[Clause],
+    args: &'a Pile<Value>,
+    memory: &'a Memory,
+) -> Option<u8>
     requires { length all.now < 256 }
     ensures { result ≡ clauses.false_requires all.now args.now.top memory.now.heap }
 {

@@ -22,13 +22,7 @@ fn put_values(values: &[Value], list: &mut Pile<Value>)
 }
 
 /// Begins a frame of a unit, whose arguments are there already. The caller goes on at a position.
-pub(crate) fn enter(
-    unit: &Unit,
-    index: u32,
-    behind: Position,
-    frames: &mut Frames,
-    memory: &Memory,
-)
+pub(crate) fn enter(unit: &Unit, index: u32, behind: Position, frames: &mut Frames, memory: &Memory)
     requires { HasRoomToEnter unit.now frames.old }
     ensures { frames.new ≡ entered unit.now index behind memory.now.heap frames.old }
 {

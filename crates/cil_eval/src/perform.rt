@@ -8,12 +8,11 @@ ghost use Rattle.cil_eval.specs.Performs.{IsKept, Performs, Stays, push_of};
 ghost use Rattle.cil_eval.specs.StackRows.{IsLength, contract_row};
 
 use crate::action::Action;
-use crate::array_rows;
 use crate::frames::Frames;
 use crate::memory::Memory;
 use crate::pile::Pile;
-use crate::stack_rows;
 use crate::values::put;
+use crate::{array_rows, stack_rows};
 use cil_model::{Op, Place, UnOp, Unit, UnitCall, Value, array_place, unit_call};
 
 /// Takes a value, and puts it into a variable of these places, where it has one of this number that takes the value.

@@ -15,7 +15,7 @@ ghost use Rattle.cil_eval.specs.StackRows.{IsLength, asserts, assumes, tested, t
 
 use crate::action::Action;
 use crate::arithmetic::{operated, operated_one};
-use crate::comparisons::{comparison_of, comparison_value, compares_values, is_true};
+use crate::comparisons::{compares_values, comparison_of, comparison_value, is_true};
 use crate::pile::Pile;
 use cil_model::{BinOp, CmpOp, FaultKind, Test, UnOp, Value};
 

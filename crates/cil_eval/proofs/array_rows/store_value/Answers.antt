@@ -1,5 +1,4 @@
-use Rattle.std.proofs.Common.{rules, ◌≡◌, ◌∷◌, slice_get, arith}
-use Rattle.std.proofs.lemmas.Grind.{common_steps}
+use Rattle.std.proofs.Common.{rules, ◌≡◌, ◌∷◌, slice_get}
 use Rattle.cil_model.specs.declared.machine.Value.TheVariants as values
 use Rattle.cil_eval.specs.ArrayRows.{bounded, stored_heap}
 use Rattle.cil_eval.proofs.ArrayLemmas.{stores_by}

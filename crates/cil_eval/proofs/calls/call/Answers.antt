@@ -1,8 +1,6 @@
-use Rattle.std.proofs.Common.{◌≡◌, Bool, true, false, List, [], ◌∷◌, reverse, Option, Some, None, refl, sym, ap, ◌∙◌}
+use Rattle.std.proofs.Common.{◌≡◌, List, Some, None, refl, sym, ap, ◌∙◌}
 use Rattle.cil_model.specs.Clauses.{false_requires}
 use Rattle.cil_model.specs.declared.clause.Clause.{Clause}
-use Rattle.cil_eval.specs.Actions.{when}
-use Rattle.cil_eval.specs.Taken.{taken}
 use Rattle.cil_eval.proofs.CallLemmas.{stuck, refused, too_deep, enters}
 use Rattle.cil_eval.proofs.calls.call.Goals as goal
 

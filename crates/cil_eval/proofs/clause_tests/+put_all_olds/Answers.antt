@@ -1,5 +1,4 @@
-use Rattle.std.proofs.Common.{◌≤◌, ◌-◌, length, take, drop, arith}
-use Rattle.cil_eval.specs.Piles.{size_of}
+use Rattle.std.proofs.Common.{◌-◌, length, take, drop, arith}
 use Rattle.cil_eval.proofs.ClauseTests.{all_olds_put, olds_first}
 use Rattle.cil_eval.proofs.clause_tests.+put_all_olds.Goals as goal
 

@@ -1,13 +1,6 @@
-use Rattle.std.proofs.Common.{◌≡◌, sym, subst, ap, ◌∙◌}
 use Rattle.cil_model.specs.UnitCalls.{unit_call}
-use Rattle.cil_model.specs.Effects.{effects_of}
-use Rattle.cil_model.specs.declared.instruction.Op.{Op}
-use Rattle.cil_model.specs.declared.instruction.Op.TheVariants as ops
-use Rattle.cil_model.specs.declared.unit_numbers.UnitCall.{UnitCall}
 use Rattle.cil_eval.specs.Actions.{Does}
-use Rattle.cil_eval.specs.Performs.{Performs}
 use Rattle.cil_eval.specs.StackRows.{contract_row}
-use Rattle.std.proofs.Common.{Option}
 use Rattle.cil_eval.specs.Actions.{with_parts}
 use Rattle.cil_eval.proofs.perform.perform.Goals as goal
 

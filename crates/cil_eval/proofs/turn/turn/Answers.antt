@@ -1,4 +1,4 @@
-use Rattle.std.proofs.Common.{◌≡◌, Some, slice_get, refl, sym, ◌∙◌}
+use Rattle.std.proofs.Common.{◌≡◌, Some, refl}
 use Rattle.cil_model.specs.Runs.{instr_at}
 use Rattle.cil_eval.proofs.TurnLemmas.{goes_behind, runnable, turned_back, turned_into, turned_stays}
 use Rattle.cil_eval.proofs.turn.turn.Goals as goal

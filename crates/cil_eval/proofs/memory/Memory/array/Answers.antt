@@ -1,4 +1,4 @@
-use Rattle.std.proofs.Common.{◌≡◌, ℤ, List, Some, slice_get, take, drop, sym, ap, ◌∙◌, arith}
+use Rattle.std.proofs.Common.{◌≡◌, ℤ, List, Some, slice_get, take, drop, sym, ap, ◌∙◌}
 use Rattle.cil_eval.specs.declared.memory.Array.{Array}
 use Rattle.cil_eval.proofs.MemoryLemmas.{within_row, short_items, found_in}
 use Rattle.cil_eval.proofs.memory.Memory.array.Goals as goal

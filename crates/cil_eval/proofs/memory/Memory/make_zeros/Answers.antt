@@ -1,8 +1,8 @@
-use Rattle.std.proofs.Common.{◌≡◌, ℕ, ◌+◌, ◌-◌, ◌<◌, ◌≤◌, ◌++◌, ◌∷◌, [], true, pos, replicate, length, sym, ap, ◌∙◌, subst, arith}
+use Rattle.std.proofs.Common.{◌≡◌, ◌+◌, ◌-◌, ◌++◌, ◌∷◌, [], true, pos, replicate, length, sym, ap, ◌∙◌, arith}
 use Rattle.std.proofs.lemmas.List.{length-replicate}
 use Rattle.cil_model.specs.Effects.{zeros}
 use Rattle.cil_eval.specs.Rows.{heap_in}
-use Rattle.cil_eval.specs.Stores.{has_room, with_array, Store}
+use Rattle.cil_eval.specs.Stores.{has_room}
 use Rattle.cil_eval.proofs.MemoryLemmas.{Appended, no_room, some_room, stays, heap_with_one, laid_with_one}
 use Rattle.cil_eval.proofs.memory.Memory.make_zeros.Goals as goal
 

@@ -1,4 +1,4 @@
-use Rattle.std.proofs.Common.{◌≡◌, ◌+◌, ◌<◌, ◌≤◌, ℤ, List, Some, slice_get, length, sym, ap, ◌∙◌, arith, to_z-of_z}
+use Rattle.std.proofs.Common.{◌≡◌, List, Some, slice_get, sym, ap, ◌∙◌, arith, to_z-of_z}
 use Rattle.cil_eval.specs.declared.memory.Array.{Array}
 use Rattle.cil_eval.proofs.MemoryLemmas.{within_row, replaced_laid, replaced_past}
 use Rattle.cil_eval.proofs.memory.Memory.replace.Goals as goal

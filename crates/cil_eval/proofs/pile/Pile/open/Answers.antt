@@ -1,4 +1,4 @@
-use Rattle.std.proofs.Common.{◌≡◌, ◌<◌, take, sym, arith}
+use Rattle.std.proofs.Common.{take, arith}
 use Rattle.cil_eval.proofs.PileLemmas.{how_many}
 use Rattle.cil_eval.proofs.pile.Pile.open.Goals as goal
 

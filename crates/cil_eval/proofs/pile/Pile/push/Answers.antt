@@ -1,5 +1,4 @@
-use Rattle.std.proofs.Common.{◌≡◌, ◌<◌, sym, arith}
-use Rattle.cil_eval.specs.Piles.{size_of}
+use Rattle.std.proofs.Common.{arith}
 use Rattle.cil_eval.proofs.PileLemmas.{row_size}
 use Rattle.cil_eval.proofs.pile.Pile.push.Goals as goal
 

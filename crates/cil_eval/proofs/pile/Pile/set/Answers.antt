@@ -1,4 +1,4 @@
-use Rattle.std.proofs.Common.{◌≡◌, ◌<◌, ◌+◌, ◌-◌, length, slice_set, sym, ap, ◌∙◌, arith}
+use Rattle.std.proofs.Common.{◌≡◌, ◌-◌, length, slice_set, ap, ◌∙◌, arith}
 use Rattle.cil_eval.specs.Piles.{piled}
 use Rattle.cil_eval.proofs.PileLemmas.{replaced_in_pile}
 use Rattle.cil_eval.proofs.pile.Pile.set.Goals as goal
