@@ -1,0 +1,15 @@
+pub mod Products
+pub mod RowLemmas
+pub mod MemoryLemmas
+pub mod TurnSteps
+pub mod OutcomeRows
+pub mod ToldLemmas
+pub mod PileLemmas
+pub mod ArrayLemmas
+pub mod ClauseTests
+pub mod TakenLemmas
+pub mod ActLemmas
+pub mod OffsetLemmas
+pub mod CallLemmas
+pub mod ReturnLemmas
+pub mod TurnLemmas

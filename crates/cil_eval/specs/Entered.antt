@@ -1,0 +1,53 @@
+-- The frames at the start of a method.
+use Rattle.std.specs.Prelude.{ℕ, ◌+◌, ◌<◌, ◌≤◌, List, [], ◌∷◌, length, map, drop}
+use Rattle.cil_model.specs.Values.{Heap, zero_of}
+use Rattle.cil_model.specs.declared.unit.Unit.{Unit as MethodUnit}
+use Rattle.cil_eval.specs.Piles.{Piled, closed, size_of}
+use Rattle.cil_eval.specs.Told.{olds_in_clauses, olds_of_clauses}
+use Rattle.cil_eval.specs.declared.frames.Frames.{Frames}
+use Rattle.cil_eval.specs.declared.frames.Position.{Position}
+
+-- A pile with one more list.
+abbrev pub opened : {X : Type 0} → List X → Piled X → Piled X
+opened xs p = record p { top = xs; below = p.top ∷ p.below }
+
+-- A pile has room for one more list, of so many items.
+pub record HasRoomFor {X : Type 0} (count : ℕ) (p : Piled X) : Type 0 where
+  pub items : size_of p + count ≤ p.room
+  pub lists : length p.below < p.depth
+
+-- The frames have room for one of this unit, whose arguments are there already.
+pub record HasRoomToEnter (unit : MethodUnit) (frames : Frames) : Type 0 where
+  pub stack : length frames.stack.below < frames.stack.depth
+  pub locals : HasRoomFor (length unit.locals) frames.locals
+  pub entry_args : HasRoomFor (length frames.args.top) frames.entry_args
+  pub olds : HasRoomFor (olds_in_clauses unit.clauses) frames.olds
+  pub positions : size_of frames.positions < frames.positions.room
+  pub caller : 1 ≤ length frames.positions.top
+
+-- The frames with one of this unit, which begins with the arguments that are there, over this heap. The caller goes on
+-- at a position.
+abbrev pub entered : MethodUnit → ℕ → Position → Heap → Frames → Frames
+entered unit index behind heap frames = record {
+  stack = opened [] frames.stack;
+  args = frames.args;
+  locals = opened (map zero_of unit.locals) frames.locals;
+  entry_args = opened frames.args.top frames.entry_args;
+  olds = opened (olds_of_clauses unit.clauses frames.args.top heap) frames.olds;
+  positions = record frames.positions { top = record { unit = index; at = unit.body_start } ∷ behind ∷ drop 1 frames.positions.top };
+}
+
+-- The pile with one item fewer.
+abbrev pub popped : {X : Type 0} → Piled X → Piled X
+popped p = record p { top = drop 1 p.top }
+
+-- The frames without the one that runs.
+abbrev pub left : Frames → Frames
+left frames = record {
+  stack = closed frames.stack.below frames.stack;
+  args = closed frames.args.below frames.args;
+  locals = closed frames.locals.below frames.locals;
+  entry_args = closed frames.entry_args.below frames.entry_args;
+  olds = closed frames.olds.below frames.olds;
+  positions = popped frames.positions;
+}
