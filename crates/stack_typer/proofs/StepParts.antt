@@ -1,13 +1,12 @@
 -- The parts of a step without a fault.
-use Rattle.std.proofs.Common.{◌≡◌, ℕ, ◌+◌, ◌≤◌, Bool, true, false, nat_lt, List, ◌∷◌, length, Option, Some, None, Result, Ok, Err, if◌then◌else◌, refl}
-use Rattle.std.proofs.lemmas.Bool.{ltb-false}
-use Rattle.cil_model.specs.Kinds.{typed, behind, operand_count, within_size}
+use Rattle.std.proofs.Common.{◌≡◌, ℕ, ◌+◌, Bool, true, false, List, ◌∷◌, Option, Some, None, Result, Ok, Err, if◌then◌else◌, refl}
+use Rattle.cil_model.specs.Kinds.{typed}
 use Rattle.cil_model.specs.Passes.{Stacks, successors, stack_at, lowest_conflict, come_to_all, going_on, follow, visited, pass_over}
 use Rattle.cil_model.specs.declared.instruction.Instr.{Instr}
 use Rattle.cil_model.specs.declared.place.Kind.{Kind}
 use Rattle.cil_model.specs.declared.shape.Shape.{Shape}
 use Rattle.cil_model.specs.declared.type_fault.TypeFault.{TypeFault}
-use Rattle.cil_model.specs.declared.type_fault.TypeFault.TheVariants.{Underflow, Deep, FallsOff}
+use Rattle.cil_model.specs.declared.type_fault.TypeFault.TheVariants.{FallsOff}
 use Rattle.stack_typer.specs.Successors.{falls_off}
 use Rattle.stack_typer.proofs.PassLemmas.{fault_passes}
 
