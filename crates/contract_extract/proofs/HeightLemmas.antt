@@ -1,5 +1,5 @@
 -- Whether stacks lack values, where there are some to take.
-use Rattle.std.proofs.Common.{◌≡◌, ℕ, zero, suc, ◌-◌, ◌+◌, Bool, true, false, List, [], ◌∷◌, refl, sym, sub-one, arith}
+use Rattle.std.proofs.Common.{◌≡◌, ℕ, zero, suc, ◌-◌, true, false, refl, sub-one, arith}
 use Rattle.std.specs.List.{list_any}
 use Rattle.contract_extract.specs.SharedStacks.{Stacks, arrivals_at, differs, lacks}
 use Rattle.contract_extract.specs.declared.arrivals.Arrival.{Arrival}

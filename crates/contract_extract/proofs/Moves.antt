@@ -1,8 +1,8 @@
 -- The stacks behind an instruction are those for which the arrivals behind it stand.
-use Rattle.std.proofs.Common.{◌≡◌, ℕ, zero, suc, ◌+◌, ◌<◌, ◌≤◌, ◌==◌, Bool, true, false, not, List, [], ◌∷◌, ◌++◌, length, map, take, drop, Option, Some, None, refl, sym, ap, subst, cond, ◌∙◌, arith}
+use Rattle.std.proofs.Common.{◌≡◌, ℕ, suc, ◌≤◌, Bool, true, false, List, [], ◌∷◌, length, take, drop, Option, Some, None, refl, sym, ap, cond, ◌∙◌, arith}
 use Rattle.std.specs.Prelude.{nat_lt}
-use Rattle.std.specs.List.{AllByRecursion, flat_map, list_any}
-use Rattle.std.proofs.lemmas.Bool.{le-ltb, lt-ltb}
+use Rattle.std.specs.List.{flat_map}
+use Rattle.std.proofs.lemmas.Bool.{le-ltb}
 use Rattle.cil_model.proofs.Lists.{all_append}
 use Rattle.cil_model.specs.Blocks.{closes, is_closing_call}
 use Rattle.cil_model.specs.Kinds.{call_operands, operand_count}
@@ -14,18 +14,17 @@ use Rattle.cil_model.specs.declared.instruction.Test.TheVariants as tests
 use Rattle.cil_model.specs.declared.shape.Shape.{Shape}
 use Rattle.cil_model.specs.declared.unit_numbers.UnitCall.{UnitCall}
 use Rattle.cil_model.specs.declared.unit_numbers.UnitCall.TheVariants as calls
-use Rattle.contract_extract.specs.JoinedStacks.{AreJoined, IsJoining}
+use Rattle.contract_extract.specs.JoinedStacks.{IsJoining}
 use Rattle.contract_extract.specs.PassedInstr.{behind_arrivals, behind_call, pushed}
 use Rattle.contract_extract.specs.PureCode.{is_clause_call, is_pure_before}
-use Rattle.contract_extract.specs.SharedStacks.{AreGrounded, AreOrdered, IsGrounded, Stacks, arrivals_at, either, least, least_of, least_over, made_seen, rest_of, told_of, with_one, with_second, with_two}
+use Rattle.contract_extract.specs.SharedStacks.{AreGrounded, AreOrdered, IsGrounded, Stacks, arrivals_at, least_of, least_over, made_seen, rest_of, told_of, with_one, with_second, with_two}
 use Rattle.contract_extract.specs.Ways.{Told, made, stack_behind}
 use Rattle.contract_extract.specs.declared.arrivals.Arrival.{Arrival}
 use Rattle.contract_extract.specs.declared.arrivals.Arrival.TheVariants.{Empty, Over}
 use Rattle.contract_extract.specs.declared.arrivals.Seen.{Seen}
 use Rattle.contract_extract.specs.declared.clause_fault.ClauseFault.{ClauseFault}
 use Rattle.contract_extract.proofs.Earliest.{either-none, least-flat_map, least-same}
-use Rattle.contract_extract.proofs.Joins.{drop_joined}
-use Rattle.contract_extract.proofs.Standing.{Judge, all_grounded_higher, grounded_higher, least-same_all, least_of-same, least_over-more, least_over-same, made_same}
+use Rattle.contract_extract.proofs.Standing.{Judge, all_grounded_higher, grounded_higher, least-same_all, least_over-more, least_over-same, made_same}
 
 -- The judgement of the rest, where there is a top.
 abbrev pub below_top : Judge → Judge
