@@ -10,6 +10,7 @@ use Rattle.cil_model.specs.declared.place.Place.{Place}
 use Rattle.cil_model.specs.declared.shape.Shape.{Shape}
 use Rattle.cil_model.specs.declared.unit_numbers.UnitCall.{UnitCall}
 use Rattle.cil_model.specs.declared.unit_numbers.UnitCall.TheVariants as calls
+use Rattle.contract_extract.specs.GatheredStacks.{StandForSame}
 use Rattle.contract_extract.specs.PassedInstr.{IsRestOfGathered, StandBehind, StandFor, behind_arrivals, behind_call, is_comparing, other_arrivals, passed_arrivals, pushed}
 use Rattle.contract_extract.specs.PureCode.{is_pure}
 use Rattle.cil_model.specs.Blocks.{closes}
@@ -108,3 +109,12 @@ behind_read is shape i stacks index goes out read goes_is are stand =
     let same : cond goes behind [] ≡ passed_arrivals is shape i stacks index (arrivals_at stacks index) = ap (λ (t : Bool). cond t behind []) goes_is ∙ passed_is (closes i.op) (is_pure is i) behind in
     subst (λ (xs : List Arrival). StandFor stacks index (passed_arrivals is shape i stacks index (arrivals_at stacks index)) xs) (sym are)
     (subst (λ (xs : List Arrival). StandFor stacks index xs out) same stand)
+
+-- Gathered they stand for the same.
+pub gathered_stands : (stacks : Stacks) (index : ℕ) (expected out read gathered : List Arrival) → read ≡ out → StandFor stacks index expected out → StandForSame read gathered
+    → StandFor stacks index expected gathered
+gathered_stands stacks index expected out read gathered are stand same = record {
+  same = λ n low ordered fault joins.
+      (same.same (suc (suc n)) stacks fault joins ∙ ap (least_over (suc (suc n)) stacks fault) are ∙ stand.same n low ordered fault joins);
+  grounded = λ ordered. same.grounded stacks (suc index) (subst (AreGrounded stacks (suc index)) (sym are) (stand.grounded ordered));
+}

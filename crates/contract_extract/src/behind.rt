@@ -221,6 +221,22 @@ fn behind_pure(
     behind_other(alloc, args, instr, stacks, index, tops)
 }
 
+/// The same, gathered, so that a branch that many take does not bring the same arrivals again and again.
+fn behind_gathered(
+    alloc: Global,
+    places: &mut [usize],
+    shape: &Shape,
+    instr: &Instr,
+    stacks: &[Arrivals],
+    index: usize,
+) -> Result<Arrivals, AllocError>
+    ensures { IfOk result (StandFor stacks.now index
+        (behind_arrivals shape.now.args instr.now instr.now.op stacks.now index (arrivals_at stacks.now index))) }
+{
+    let out = behind_pure(alloc, places, shape, instr, stacks, index)?;
+    gathered(alloc, places, out.as_slice())
+}
+
 /// What comes behind the instruction of this index: nothing where ways end.
 pub(crate) fn behind(
     alloc: Global,
@@ -237,5 +253,5 @@ pub(crate) fn behind(
     if !goes_on {
         return Ok(Arrivals::new(alloc));
     }
-    behind_pure(alloc, places, shape, instr, stacks, index)
+    behind_gathered(alloc, places, shape, instr, stacks, index)
 }
