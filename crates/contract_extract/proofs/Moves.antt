@@ -169,12 +169,17 @@ module _ (stacks : Stacks) (ordered : AreOrdered stacks) (n : ℕ) where
     branch_one fault tops all =
         least_over-same stacks (suc (suc n)) (where_there 1 (λ stack. fault (drop 1 stack))) (below_top fault) tops (below_one fault) ∙ rests_judged fault tops all
 
-    branch_two : (fault : Judge) → IsJoining fault → (tops : List Arrival) → AreGrounded stacks (suc n) tops
+    below_two : (fault : Judge) (stack : List Told) → where_there 2 (λ stack. fault (drop 2 stack)) stack ≡ below_top (below_top fault) stack
+    below_two fault [] = refl
+    below_two fault (x ∷ []) = refl
+    below_two fault (x ∷ y ∷ stack) = enough 2 (length (x ∷ y ∷ stack)) (omega arith) (fault stack)
+
+    branch_two : (fault : Judge) (tops : List Arrival) → AreGrounded stacks (suc n) tops
         → least_over (suc (suc n)) stacks (where_there 2 (λ stack. fault (drop 2 stack))) tops
-        ≡ least_over (suc (suc n)) stacks fault (flat_map (rest_of stacks) (flat_map (with_two shape.args i stacks) tops))
-    branch_two fault joins tops all =
-        twos_judged (below_top fault) (below_joins fault joins) tops all
-        ∙ rests_judged fault (flat_map (with_two shape.args i stacks) tops) (two_grounded tops (suc n) all)
+        ≡ least_over (suc (suc n)) stacks fault (flat_map (rest_of stacks) (flat_map (rest_of stacks) tops))
+    branch_two fault tops all =
+        least_over-same stacks (suc (suc n)) (where_there 2 (λ stack. fault (drop 2 stack))) (below_top (below_top fault)) tops (below_two fault)
+        ∙ rests_judged (below_top fault) tops all ∙ rests_judged fault (flat_map (rest_of stacks) tops) (rest_grounded tops (suc n) all)
 
     module _ (fault : Judge) (joins : IsJoining fault) (index : ℕ) (low : index ≤ suc n) (tops : List Arrival) (are : tops ≡ arrivals_at stacks index)
         (all : AreGrounded stacks (suc n) tops) where
@@ -192,7 +197,7 @@ module _ (stacks : Stacks) (ordered : AreOrdered stacks) (n : ℕ) where
           → least_over (suc (suc n)) stacks (Behind shape i op fault) tops ≡ least_over (suc (suc n)) stacks fault (behind_arrivals shape.args i op stacks index tops)
       moves message ops.Nop pure unclosed = kept_judged fault tops
       moves message (ops.Branch tests.Always target) pure unclosed = kept_judged fault tops
-      moves message (ops.Branch (tests.Cmp op) target) pure unclosed = branch_two fault joins tops all
+      moves message (ops.Branch (tests.Cmp op) target) pure unclosed = branch_two fault tops all
       moves message (ops.Branch tests.True target) pure unclosed = branch_one fault tops all
       moves message (ops.Branch tests.False target) pure unclosed = branch_one fault tops all
       moves message (ops.LoadArg k) pure unclosed = pushed_judged fault joins index low tops are

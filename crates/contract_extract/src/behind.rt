@@ -140,20 +140,19 @@ fn pushed(
     Ok(out)
 }
 
-/// What lies below two operands. The pairs are gathered, so that what lies below them is taken once for each instruction.
+/// What lies below two operands. The second ones are gathered, so that what lies below them is taken once for each
+/// instruction.
 fn rests_of_two(
     alloc: Global,
     places: &mut [usize],
-    args: &[Place],
-    instr: &Instr,
     stacks: &[Arrivals],
     tops: &[Arrival],
 ) -> Result<Arrivals, AllocError>
-    ensures { IfOk result (IsRestOfGathered args.now instr.now stacks.now tops.now) }
+    ensures { IfOk result (IsRestOfGathered stacks.now tops.now) }
 {
-    let pairs = behind_two(alloc, args, instr, stacks, tops)?;
-    let pairs = gathered(alloc, places, pairs.as_slice())?;
-    rests(alloc, stacks, pairs.as_slice())
+    let seconds = rests(alloc, stacks, tops)?;
+    let seconds = gathered(alloc, places, seconds.as_slice())?;
+    rests(alloc, stacks, seconds.as_slice())
 }
 
 /// What comes behind a call.
@@ -216,7 +215,7 @@ fn behind_pure(
     let args = shape.args.as_slice();
     let tops = arrivals_at(stacks, index);
     if is_comparing(&instr.op) {
-        return rests_of_two(alloc, places, args, instr, stacks, tops);
+        return rests_of_two(alloc, places, stacks, tops);
     }
     behind_other(alloc, args, instr, stacks, index, tops)
 }
