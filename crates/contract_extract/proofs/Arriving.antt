@@ -1,7 +1,7 @@
 -- What is wrong from an instruction on, with all stacks that come there: what is wrong at it, and what is wrong behind it.
-use Rattle.std.proofs.Common.{◌≡◌, ℕ, zero, suc, ◌+◌, ◌<◌, ◌≤◌, ◌==◌, Bool, true, false, not, List, [], ◌∷◌, ◌++◌, length, Option, Some, None, refl, sym, ap, cond, ◌∙◌, arith}
+use Rattle.std.proofs.Common.{◌≡◌, ℕ, zero, suc, ◌+◌, ◌≤◌, ◌==◌, Bool, true, false, not, List, [], ◌∷◌, length, Option, Some, None, refl, sym, ap, cond, ◌∙◌, arith}
 use Rattle.std.specs.Prelude.{nat_lt}
-use Rattle.std.specs.List.{AllByRecursion, flat_map, list_any}
+use Rattle.std.specs.List.{list_any}
 use Rattle.std.specs.Option.{option_map_or}
 use Rattle.std.proofs.lemmas.Bool.{le-ltb, lt-ltb}
 use Rattle.std.proofs.lemmas.Bool.Decides.{nat_tests}
@@ -17,20 +17,18 @@ use Rattle.cil_model.specs.declared.shape.Shape.{Shape}
 use Rattle.cil_model.specs.declared.unit_numbers.UnitCall.{UnitCall}
 use Rattle.cil_model.specs.declared.unit_numbers.UnitCall.TheVariants as calls
 use Rattle.contract_extract.specs.Faults.{fault_if, first_fault}
-use Rattle.contract_extract.specs.JoinedStacks.{IsJoining}
 use Rattle.contract_extract.specs.PassedInstr.{arrived_fault, behind_arrivals, old_call_fault, old_op_fault, passed_arrivals}
 use Rattle.contract_extract.specs.PureCode.{calls_with_message, is_pure}
 use Rattle.contract_extract.specs.SharedStacks.{AreGrounded, AreOrdered, IsGrounded, Stacks, arrivals_at, differs, either, lacks, least, least_of, least_over, old_fault, told_of}
-use Rattle.contract_extract.specs.Ways.{Told, closing_faults, faults_at, faults_here, old_faults, old_faults_of, stack_behind, ways_behind}
+use Rattle.contract_extract.specs.Ways.{Told, closing_faults, faults_at, faults_here, old_faults_of, stack_behind, ways_behind}
 use Rattle.contract_extract.specs.declared.arrivals.Arrival.{Arrival}
 use Rattle.contract_extract.specs.declared.arrivals.Arrival.TheVariants.{Empty, Over}
-use Rattle.contract_extract.specs.declared.arrivals.Seen.{Seen}
 use Rattle.contract_extract.specs.declared.clause_fault.ClauseFault.{ClauseFault}
 use Rattle.contract_extract.specs.declared.clause_fault.ClauseFault.TheVariants.{StackLeft}
 use Rattle.contract_extract.proofs.Earliest.{either-assoc, either-both, either-none, least-if, least-none, least-same}
 use Rattle.contract_extract.proofs.Joins.{Joins, first_on, goes_on}
 use Rattle.contract_extract.proofs.Moves.{Behind, moves, where_there}
-use Rattle.contract_extract.proofs.Standing.{Judge, all_grounded_higher, grounded_higher, least-same_all, least_of-const, least_of-none, least_of-same, least_over-const, least_over-either, least_over-none, least_over-same}
+use Rattle.contract_extract.proofs.Standing.{Judge, all_grounded_higher, grounded_higher, least-same_all, least_of-none, least_of-same, least_over-const, least_over-either, least_over-none, least_over-same}
 
 -- A fault where a test holds.
 abbrev pub fault_where : Bool → ClauseFault → Option ClauseFault

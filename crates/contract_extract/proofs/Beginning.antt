@@ -1,27 +1,23 @@
 -- A clause's code before its first instruction is passed, and behind its last one.
-use Rattle.std.proofs.Common.{◌≡◌, ℕ, zero, suc, ◌+◌, ◌-◌, ◌<◌, ◌≤◌, ◌==◌, Bool, true, false, List, [], ◌∷◌, ◌++◌, length, take, drop, replicate, get_or, Option, Some, None, option_map, slice_get, refl, sym, ap, subst, cond, ◌∙◌, arith, add-one, inl, inr}
-use Rattle.std.specs.List.{AllByRecursion, flat_map}
+use Rattle.std.proofs.Common.{◌≡◌, ℕ, zero, suc, ◌+◌, ◌-◌, ◌<◌, ◌≤◌, List, [], ◌∷◌, ◌++◌, length, drop, replicate, get_or, Option, Some, None, option_map, slice_get, refl, sym, ap, subst, ◌∙◌, arith, add-one}
+use Rattle.std.specs.List.{flat_map}
 use Rattle.std.proofs.lemmas.List.{length-replicate}
-use Rattle.std.specs.Option.{option_map_or}
-use Rattle.std.proofs.lemmas.Option.{slice_get-get_or, none-some, same_Some, slice_get_within}
-use Rattle.std.proofs.lemmas.Bool.{eq-eqb, ne_eqb, cases_eq}
+use Rattle.std.proofs.lemmas.Option.{slice_get-get_or, none-some, same_Some}
 use Rattle.cil_model.proofs.Lists.{all_drop}
-use Rattle.cil_model.specs.Runs.{instr_at}
 use Rattle.cil_model.specs.declared.instruction.Instr.{Instr}
 use Rattle.cil_model.specs.declared.shape.Shape.{Shape}
-use Rattle.contract_extract.specs.ClauseLies.{IsClauseCode, IsClauseIn, LiesFrom, RiseFrom, clause_faults, code_between}
+use Rattle.contract_extract.specs.ClauseLies.{IsClauseIn, LiesFrom, RiseFrom}
 use Rattle.contract_extract.specs.Faults.{code_faults, faults_of, first_fault}
 use Rattle.contract_extract.specs.PassedInstr.{IsPassed}
 use Rattle.contract_extract.specs.SharedStacks.{AreGrounded, Stacks, arrivals_at, either, least, least_over}
-use Rattle.contract_extract.specs.Ways.{Told, faults_from, way_faults}
+use Rattle.contract_extract.specs.Ways.{way_faults}
 use Rattle.contract_extract.specs.declared.arrivals.Arrival.{Arrival}
 use Rattle.contract_extract.specs.declared.arrivals.Arrival.TheVariants.{Empty}
 use Rattle.contract_extract.specs.declared.clause_fault.ClauseFault.{ClauseFault}
 use Rattle.contract_extract.proofs.Earliest.{either-both, either-none, first_fault-append, first_fault-flat_map}
-use Rattle.contract_extract.proofs.Lying.{rise_drop, rise_take, rises}
+use Rattle.contract_extract.proofs.Lying.{rise_drop}
 use Rattle.contract_extract.proofs.Passing.{EndBy, IsUnderWay, own, pass_one}
 use Rattle.contract_extract.proofs.Pending.{LiesAt, StandWell, on_way, pending}
-use Rattle.contract_extract.proofs.Standing.{least_over-none}
 use Rattle.contract_extract.proofs.Walks.{walk, walk_is}
 
 -- ---- the whole

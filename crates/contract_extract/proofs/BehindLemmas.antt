@@ -1,5 +1,5 @@
 -- What is made behind an instruction stands for the stacks there.
-use Rattle.std.proofs.Common.{◌≡◌, ℕ, zero, suc, ◌+◌, ◌<◌, ◌≤◌, Bool, true, false, not, ◌&&◌, List, [], ◌∷◌, ◌++◌, length, Option, Some, None, refl, sym, ap, subst, cond, ◌∙◌, arith}
+use Rattle.std.proofs.Common.{◌≡◌, ℕ, suc, ◌<◌, Bool, true, false, not, ◌&&◌, List, [], ◌∷◌, length, Option, Some, refl, sym, ap, subst, cond, ◌∙◌, arith}
 use Rattle.std.specs.List.{flat_map}
 use Rattle.cil_model.specs.UnitCalls.{unit_call}
 use Rattle.cil_model.specs.declared.instruction.Instr.{Instr}
@@ -10,11 +10,11 @@ use Rattle.cil_model.specs.declared.place.Place.{Place}
 use Rattle.cil_model.specs.declared.shape.Shape.{Shape}
 use Rattle.cil_model.specs.declared.unit_numbers.UnitCall.{UnitCall}
 use Rattle.cil_model.specs.declared.unit_numbers.UnitCall.TheVariants as calls
-use Rattle.contract_extract.specs.JoinedStacks.{IsJoining}
+use Rattle.contract_extract.specs.GatheredStacks.{StandForSame}
 use Rattle.contract_extract.specs.PassedInstr.{IsRestOfGathered, StandBehind, StandFor, behind_arrivals, behind_call, is_comparing, other_arrivals, passed_arrivals, pushed}
 use Rattle.contract_extract.specs.PureCode.{is_pure}
 use Rattle.cil_model.specs.Blocks.{closes}
-use Rattle.contract_extract.specs.SharedStacks.{AreGrounded, AreOrdered, Stacks, arrivals_at, least_over, rest_of, with_two}
+use Rattle.contract_extract.specs.SharedStacks.{AreGrounded, AreOrdered, Stacks, arrivals_at, least_over, rest_of}
 use Rattle.contract_extract.specs.declared.arrivals.Arrival.{Arrival}
 use Rattle.contract_extract.proofs.Moves.{below_joins, below_top, one_grounded, rest_grounded, rests_judged, two_grounded}
 use Rattle.contract_extract.proofs.Standing.{all_grounded_higher}
@@ -60,23 +60,23 @@ module _ (shape : Shape) (i : Instr) (stacks : Stacks) (index : ℕ) where
         grounded = λ ordered. subst (AreGrounded stacks (suc index)) (sym are) (other_grounded ordered i.op);
       }
 
-  pub compared_stands : (out : List Arrival) → is_comparing i.op ≡ true → IsRestOfGathered shape.args i stacks tops out
+  pub compared_stands : (out : List Arrival) → is_comparing i.op ≡ true → IsRestOfGathered stacks tops out
       → StandFor stacks index (behind_arrivals shape.args i i.op stacks index tops) out
   compared_stands out comparing made =
-      let expected : behind_arrivals shape.args i i.op stacks index tops ≡ flat_map (rest_of stacks) (flat_map (with_two shape.args i stacks) tops) = rw comparing refl in
-      let pairs = flat_map (with_two shape.args i stacks) tops in
+      let expected : behind_arrivals shape.args i i.op stacks index tops ≡ flat_map (rest_of stacks) (flat_map (rest_of stacks) tops) = rw comparing refl in
+      let pairs = flat_map (rest_of stacks) tops in
       record {
         same = λ n low ordered fault joins.
             (let all : AreGrounded stacks (suc n) pairs =
-            two_grounded stacks ordered 0 shape i tops (suc n) (all_grounded_higher stacks index (suc n) tops low (ordered index)) in
+            rest_grounded stacks ordered 0 shape i tops (suc n) (all_grounded_higher stacks index (suc n) tops low (ordered index)) in
             ap (least_over (suc (suc n)) stacks fault) made.rest
-            ∙ sym (rests_judged stacks ordered n fault made.pairs (made.gathered.grounded stacks (suc n) all))
+            ∙ sym (rests_judged stacks ordered n fault made.seconds (made.gathered.grounded stacks (suc n) all))
             ∙ made.gathered.same (suc (suc n)) stacks (below_top fault) (below_joins fault joins)
             ∙ rests_judged stacks ordered n fault pairs all ∙ ap (least_over (suc (suc n)) stacks fault) (sym expected));
         grounded = λ ordered.
             (subst (AreGrounded stacks (suc index)) (sym made.rest)
-            (rest_grounded stacks ordered 0 shape i made.pairs (suc index)
-            (made.gathered.grounded stacks (suc index) (two_grounded stacks ordered 0 shape i tops (suc index) (higher ordered)))));
+            (rest_grounded stacks ordered 0 shape i made.seconds (suc index)
+            (made.gathered.grounded stacks (suc index) (rest_grounded stacks ordered 0 shape i tops (suc index) (higher ordered)))));
       }
 
 -- As the code reads the arguments and the tops.
@@ -87,12 +87,10 @@ module _ (shape : Shape) (i : Instr) (stacks : Stacks) (index : ℕ) (args : Lis
       other_stands shape i stacks index out comparing
       (made ∙ ap (λ (places : List Place). other_arrivals places i i.op stacks index read) args_are ∙ ap (λ (xs : List Arrival). other_arrivals shape.args i i.op stacks index xs) are)
 
-  pub compared_read : (out : List Arrival) → is_comparing i.op ≡ true → IsRestOfGathered args i stacks read out
+  pub compared_read : (out : List Arrival) → is_comparing i.op ≡ true → IsRestOfGathered stacks read out
       → StandFor stacks index (behind_arrivals shape.args i i.op stacks index (arrivals_at stacks index)) out
   compared_read out comparing made =
-      compared_stands shape i stacks index out comparing
-      (subst (λ (places : List Place). IsRestOfGathered places i stacks (arrivals_at stacks index) out) args_are
-      (subst (λ (xs : List Arrival). IsRestOfGathered args i stacks xs out) are made))
+      compared_stands shape i stacks index out comparing (subst (λ (xs : List Arrival). IsRestOfGathered stacks xs out) are made)
 
 pub nothing_stands_for : (stacks : Stacks) (index : ℕ) → StandFor stacks index [] []
 nothing_stands_for stacks index = record { same = λ n low ordered fault joins. refl; grounded = λ ordered. tt }
@@ -109,3 +107,12 @@ behind_read is shape i stacks index goes out read goes_is are stand =
     let same : cond goes behind [] ≡ passed_arrivals is shape i stacks index (arrivals_at stacks index) = ap (λ (t : Bool). cond t behind []) goes_is ∙ passed_is (closes i.op) (is_pure is i) behind in
     subst (λ (xs : List Arrival). StandFor stacks index (passed_arrivals is shape i stacks index (arrivals_at stacks index)) xs) (sym are)
     (subst (λ (xs : List Arrival). StandFor stacks index xs out) same stand)
+
+-- Gathered they stand for the same.
+pub gathered_stands : (stacks : Stacks) (index : ℕ) (expected out read gathered : List Arrival) → read ≡ out → StandFor stacks index expected out → StandForSame read gathered
+    → StandFor stacks index expected gathered
+gathered_stands stacks index expected out read gathered are stand same = record {
+  same = λ n low ordered fault joins.
+      (same.same (suc (suc n)) stacks fault joins ∙ ap (least_over (suc (suc n)) stacks fault) are ∙ stand.same n low ordered fault joins);
+  grounded = λ ordered. same.grounded stacks (suc index) (subst (AreGrounded stacks (suc index)) (sym are) (stand.grounded ordered));
+}

@@ -1,16 +1,15 @@
 -- The code of a clause, from one index up to another.
-use Rattle.std.proofs.Common.{◌≡◌, ℕ, zero, suc, ◌+◌, ◌-◌, ◌<◌, ◌≤◌, ◌==◌, Bool, true, false, List, [], ◌∷◌, length, take, drop, get_or, Option, Some, None, option_map, slice_get, refl, sym, ap, subst, cond, ◌∙◌, arith, add-one, inl, inr}
+use Rattle.std.proofs.Common.{◌≡◌, ℕ, zero, suc, ◌+◌, ◌-◌, ◌<◌, ◌≤◌, ◌==◌, true, false, List, [], ◌∷◌, length, take, drop, get_or, Option, Some, option_map, slice_get, refl, sym, ap, cond, ◌∙◌, arith, inl, inr}
 use Rattle.std.specs.List.{AllByRecursion}
 use Rattle.std.specs.Option.{option_map_or}
-use Rattle.std.proofs.lemmas.Bool.{cases_order, eq-eqb, ne_eqb, cases_eq}
+use Rattle.std.proofs.lemmas.Bool.{eq-eqb, ne_eqb, cases_eq}
 use Rattle.std.proofs.lemmas.List.{length-drop, length-take}
 use Rattle.std.proofs.lemmas.Option.{get_or_from_slice_get, slice_get-get_or, none-some, same_Some, slice_get_within}
 use Rattle.cil_model.specs.Runs.{instr_at}
 use Rattle.cil_model.specs.declared.instruction.Instr.{Instr}
 use Rattle.cil_model.specs.declared.shape.Shape.{Shape}
-use Rattle.contract_extract.specs.ClauseLies.{IsClauseCode, IsClauseIn, LiesFrom, RiseFrom, clause_faults, code_between}
+use Rattle.contract_extract.specs.ClauseLies.{IsClauseCode, IsClauseIn, RiseFrom, clause_faults, code_between}
 use Rattle.contract_extract.specs.Faults.{code_faults, first_fault}
-use Rattle.contract_extract.specs.declared.clause_fault.ClauseFault.{ClauseFault}
 use Rattle.contract_extract.proofs.Finding.{rise_at}
 use Rattle.contract_extract.proofs.Lying.{rise_drop, rise_take, rises}
 use Rattle.contract_extract.proofs.Walks.{none_below}

@@ -1,11 +1,10 @@
 -- Gathered arrivals stand for the same stacks.
-use Rattle.std.proofs.Common.{◌≡◌, ℕ, zero, suc, ◌+◌, ◌<◌, List, [], ◌∷◌, ◌++◌, length, take, get_or, set, Option, Some, None, slice_get, refl, sym, ap, subst, ◌∙◌, arith, inl, inr, add-one}
+use Rattle.std.proofs.Common.{◌≡◌, ℕ, zero, suc, ◌+◌, ◌<◌, List, [], ◌∷◌, ◌++◌, length, take, get_or, set, Option, Some, slice_get, refl, sym, ap, subst, ◌∙◌, inl, inr}
 use Rattle.std.specs.List.{AllByRecursion}
-use Rattle.std.proofs.lemmas.List.{get_or_default}
 use Rattle.std.proofs.lemmas.Option.{none-some, same_Some}
 use Rattle.std.proofs.lemmas.Grind.{take_at_read}
 use Rattle.cil_model.proofs.Lists.{all_append, all_split}
-use Rattle.contract_extract.specs.GatheredStacks.{IsJoinOf, IsJoinedInto, IsPut, StandForSame}
+use Rattle.contract_extract.specs.GatheredStacks.{IsJoinOf, IsPut, StandForSame}
 use Rattle.contract_extract.specs.JoinedStacks.{IsJoined, IsJoining}
 use Rattle.contract_extract.specs.SharedStacks.{AreGrounded, IsGrounded, Stacks, either, least, least_of, least_over, told_of}
 use Rattle.contract_extract.specs.Ways.{Told}

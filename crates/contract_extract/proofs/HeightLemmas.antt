@@ -1,5 +1,5 @@
 -- Whether stacks lack values, where there are some to take.
-use Rattle.std.proofs.Common.{◌≡◌, ℕ, zero, suc, ◌-◌, ◌+◌, Bool, true, false, List, [], ◌∷◌, refl, sym, sub-one, arith}
+use Rattle.std.proofs.Common.{◌≡◌, ℕ, zero, suc, ◌-◌, true, false, List, [], ◌∷◌, refl, sym, sub-one, arith}
 use Rattle.std.specs.List.{list_any}
 use Rattle.contract_extract.specs.SharedStacks.{Stacks, arrivals_at, differs, lacks}
 use Rattle.contract_extract.specs.declared.arrivals.Arrival.{Arrival}
@@ -37,3 +37,11 @@ differ_over stacks (suc count) value below some = rw sub-one refl
 pub ruleset lacking = (none_lack, lack_empty, lack_over)
 
 pub ruleset differing = (differ_empty, differ_empty_none, differ_over_none, differ_over)
+
+pub none_of_all : (stacks : Stacks) (count : ℕ) (tops : List Arrival) → count ≡ 0 → false ≡ list_any (λ top. lacks count stacks top) tops
+none_of_all stacks zero tops none = sym (by tops)
+  where
+    by : (tops : List Arrival) → list_any (λ top. lacks zero stacks top) tops ≡ false
+    by [] = refl
+    by (top ∷ tops) = by tops
+none_of_all stacks (suc count) tops none = absurd (omega arith)

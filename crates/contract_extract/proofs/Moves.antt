@@ -1,8 +1,8 @@
 -- The stacks behind an instruction are those for which the arrivals behind it stand.
-use Rattle.std.proofs.Common.{◌≡◌, ℕ, zero, suc, ◌+◌, ◌<◌, ◌≤◌, ◌==◌, Bool, true, false, not, List, [], ◌∷◌, ◌++◌, length, map, take, drop, Option, Some, None, refl, sym, ap, subst, cond, ◌∙◌, arith}
+use Rattle.std.proofs.Common.{◌≡◌, ℕ, suc, ◌≤◌, Bool, true, false, List, [], ◌∷◌, length, take, drop, Option, Some, None, refl, sym, ap, cond, ◌∙◌, arith}
 use Rattle.std.specs.Prelude.{nat_lt}
-use Rattle.std.specs.List.{AllByRecursion, flat_map, list_any}
-use Rattle.std.proofs.lemmas.Bool.{le-ltb, lt-ltb}
+use Rattle.std.specs.List.{flat_map}
+use Rattle.std.proofs.lemmas.Bool.{le-ltb}
 use Rattle.cil_model.proofs.Lists.{all_append}
 use Rattle.cil_model.specs.Blocks.{closes, is_closing_call}
 use Rattle.cil_model.specs.Kinds.{call_operands, operand_count}
@@ -14,18 +14,17 @@ use Rattle.cil_model.specs.declared.instruction.Test.TheVariants as tests
 use Rattle.cil_model.specs.declared.shape.Shape.{Shape}
 use Rattle.cil_model.specs.declared.unit_numbers.UnitCall.{UnitCall}
 use Rattle.cil_model.specs.declared.unit_numbers.UnitCall.TheVariants as calls
-use Rattle.contract_extract.specs.JoinedStacks.{AreJoined, IsJoining}
+use Rattle.contract_extract.specs.JoinedStacks.{IsJoining}
 use Rattle.contract_extract.specs.PassedInstr.{behind_arrivals, behind_call, pushed}
 use Rattle.contract_extract.specs.PureCode.{is_clause_call, is_pure_before}
-use Rattle.contract_extract.specs.SharedStacks.{AreGrounded, AreOrdered, IsGrounded, Stacks, arrivals_at, either, least, least_of, least_over, made_seen, rest_of, told_of, with_one, with_second, with_two}
+use Rattle.contract_extract.specs.SharedStacks.{AreGrounded, AreOrdered, IsGrounded, Stacks, arrivals_at, least_of, least_over, made_seen, rest_of, told_of, with_one, with_second, with_two}
 use Rattle.contract_extract.specs.Ways.{Told, made, stack_behind}
 use Rattle.contract_extract.specs.declared.arrivals.Arrival.{Arrival}
 use Rattle.contract_extract.specs.declared.arrivals.Arrival.TheVariants.{Empty, Over}
 use Rattle.contract_extract.specs.declared.arrivals.Seen.{Seen}
 use Rattle.contract_extract.specs.declared.clause_fault.ClauseFault.{ClauseFault}
 use Rattle.contract_extract.proofs.Earliest.{either-none, least-flat_map, least-same}
-use Rattle.contract_extract.proofs.Joins.{drop_joined}
-use Rattle.contract_extract.proofs.Standing.{Judge, all_grounded_higher, grounded_higher, least-same_all, least_of-same, least_over-more, least_over-same, made_same}
+use Rattle.contract_extract.proofs.Standing.{Judge, all_grounded_higher, grounded_higher, least-same_all, least_over-more, least_over-same, made_same}
 
 -- The judgement of the rest, where there is a top.
 abbrev pub below_top : Judge → Judge
@@ -170,12 +169,17 @@ module _ (stacks : Stacks) (ordered : AreOrdered stacks) (n : ℕ) where
     branch_one fault tops all =
         least_over-same stacks (suc (suc n)) (where_there 1 (λ stack. fault (drop 1 stack))) (below_top fault) tops (below_one fault) ∙ rests_judged fault tops all
 
-    branch_two : (fault : Judge) → IsJoining fault → (tops : List Arrival) → AreGrounded stacks (suc n) tops
+    below_two : (fault : Judge) (stack : List Told) → where_there 2 (λ stack. fault (drop 2 stack)) stack ≡ below_top (below_top fault) stack
+    below_two fault [] = refl
+    below_two fault (x ∷ []) = refl
+    below_two fault (x ∷ y ∷ stack) = enough 2 (length (x ∷ y ∷ stack)) (omega arith) (fault stack)
+
+    branch_two : (fault : Judge) (tops : List Arrival) → AreGrounded stacks (suc n) tops
         → least_over (suc (suc n)) stacks (where_there 2 (λ stack. fault (drop 2 stack))) tops
-        ≡ least_over (suc (suc n)) stacks fault (flat_map (rest_of stacks) (flat_map (with_two shape.args i stacks) tops))
-    branch_two fault joins tops all =
-        twos_judged (below_top fault) (below_joins fault joins) tops all
-        ∙ rests_judged fault (flat_map (with_two shape.args i stacks) tops) (two_grounded tops (suc n) all)
+        ≡ least_over (suc (suc n)) stacks fault (flat_map (rest_of stacks) (flat_map (rest_of stacks) tops))
+    branch_two fault tops all =
+        least_over-same stacks (suc (suc n)) (where_there 2 (λ stack. fault (drop 2 stack))) (below_top (below_top fault)) tops (below_two fault)
+        ∙ rests_judged (below_top fault) tops all ∙ rests_judged fault (flat_map (rest_of stacks) tops) (rest_grounded tops (suc n) all)
 
     module _ (fault : Judge) (joins : IsJoining fault) (index : ℕ) (low : index ≤ suc n) (tops : List Arrival) (are : tops ≡ arrivals_at stacks index)
         (all : AreGrounded stacks (suc n) tops) where
@@ -193,7 +197,7 @@ module _ (stacks : Stacks) (ordered : AreOrdered stacks) (n : ℕ) where
           → least_over (suc (suc n)) stacks (Behind shape i op fault) tops ≡ least_over (suc (suc n)) stacks fault (behind_arrivals shape.args i op stacks index tops)
       moves message ops.Nop pure unclosed = kept_judged fault tops
       moves message (ops.Branch tests.Always target) pure unclosed = kept_judged fault tops
-      moves message (ops.Branch (tests.Cmp op) target) pure unclosed = branch_two fault joins tops all
+      moves message (ops.Branch (tests.Cmp op) target) pure unclosed = branch_two fault tops all
       moves message (ops.Branch tests.True target) pure unclosed = branch_one fault tops all
       moves message (ops.Branch tests.False target) pure unclosed = branch_one fault tops all
       moves message (ops.LoadArg k) pure unclosed = pushed_judged fault joins index low tops are

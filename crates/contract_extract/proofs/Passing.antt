@@ -1,5 +1,5 @@
 -- A clause's code that is passed instruction by instruction: what was found so far, and what is pending, is the whole.
-use Rattle.std.proofs.Common.{◌≡◌, ℕ, zero, suc, ◌+◌, ◌<◌, ◌≤◌, ◌==◌, Bool, true, false, ◌&&◌, not, List, [], ◌∷◌, ◌++◌, length, Option, Some, None, slice_get, refl, sym, ap, subst, cond, ◌∙◌, arith, inl, inr}
+use Rattle.std.proofs.Common.{◌≡◌, ℕ, suc, ◌+◌, ◌<◌, ◌≤◌, ◌==◌, Bool, true, false, List, [], ◌∷◌, length, Option, refl, sym, ap, cond, ◌∙◌, arith, inl, inr}
 use Rattle.std.specs.Prelude.{nat_lt, nat_le, ◌⊎◌}
 use Rattle.std.specs.List.{AllByRecursion}
 use Rattle.std.proofs.lemmas.Bool.{and_cases, eq-eqb, ne_eqb, ltb-false, leb-false}
@@ -9,12 +9,12 @@ use Rattle.contract_extract.specs.ClauseCodes.{goes_forward}
 use Rattle.contract_extract.specs.ClauseLies.{RiseFrom}
 use Rattle.contract_extract.specs.Faults.{faults_of, first_fault}
 use Rattle.contract_extract.specs.PassedInstr.{IsPassed, arrived_fault, passed_arrivals}
-use Rattle.contract_extract.specs.SharedStacks.{AreGrounded, Stacks, arrivals_at, either, least, least_over}
+use Rattle.contract_extract.specs.SharedStacks.{Stacks, arrivals_at, either, least, least_over}
 use Rattle.contract_extract.specs.Ways.{Told, faults_at, ways_behind}
 use Rattle.contract_extract.specs.declared.clause_fault.ClauseFault.{ClauseFault}
 use Rattle.contract_extract.proofs.Arriving.{arrived_judged}
 use Rattle.contract_extract.proofs.Earliest.{either-assoc, either-both, either-comm, either-turn, least-same}
-use Rattle.contract_extract.proofs.Pending.{LiesAt, StandWell, all_sent_length, all_sent_pending, all_sent_well, faults_on, gathered_pending, gathered_well, on_way, pending}
+use Rattle.contract_extract.proofs.Pending.{LiesAt, StandWell, all_sent_length, all_sent_pending, all_sent_well, gathered_pending, gathered_well, on_way, pending}
 use Rattle.contract_extract.proofs.Standing.{all_grounded_higher, least_over-same}
 use Rattle.contract_extract.proofs.Walks.{ahead, ahead_joins, no_walk_below, walk}
 

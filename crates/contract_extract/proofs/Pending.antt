@@ -1,27 +1,23 @@
 -- What is still to be found on the ways through a clause's code, when some instructions are passed.
-use Rattle.std.proofs.Common.{◌≡◌, ℕ, zero, suc, ◌+◌, ◌<◌, ◌≤◌, ◌==◌, Bool, true, false, ◌&&◌, not, List, [], ◌∷◌, ◌++◌, length, Option, Some, None, slice_get, refl, sym, ap, subst, cond, ◌∙◌, arith, inl, inr}
-use Rattle.std.specs.Prelude.{nat_lt, nat_le, ◌⊎◌}
-use Rattle.std.specs.List.{AllByRecursion, flat_map}
-use Rattle.std.specs.Option.{option_map_or}
-use Rattle.std.proofs.lemmas.Bool.{cond_both, cases_eq, cases_lt, eqb-true, le-ltb, lt-ltb, and_cases, ltb-false, leb-false, ne_eqb, and_parts, ltb-true}
+use Rattle.std.proofs.Common.{◌≡◌, ℕ, suc, ◌+◌, ◌<◌, ◌==◌, Bool, true, false, List, [], ◌∷◌, ◌++◌, length, Option, Some, None, slice_get, refl, sym, ap, subst, cond, ◌∙◌, arith, inl, inr}
+use Rattle.std.specs.Prelude.{nat_lt, ◌⊎◌}
+use Rattle.std.specs.List.{AllByRecursion}
+use Rattle.std.proofs.lemmas.Bool.{cases_eq, eqb-true, le-ltb, lt-ltb, and_parts, ltb-true}
 use Rattle.cil_model.proofs.Lists.{all_append}
 use Rattle.cil_model.specs.declared.instruction.Instr.{Instr}
 use Rattle.cil_model.specs.declared.shape.Shape.{Shape}
 use Rattle.contract_extract.specs.ClauseCodes.{goes_forward}
 use Rattle.contract_extract.specs.ClauseLies.{RiseFrom}
-use Rattle.contract_extract.specs.Faults.{faults_of, first_fault}
-use Rattle.contract_extract.specs.GatheredStacks.{StandForSame}
-use Rattle.contract_extract.specs.PassedInstr.{AreGatheredAt, AreSent, AreSentTo, IsPassed, StandBehind, arrived_fault, is_sent_to, passed_arrivals}
+use Rattle.contract_extract.specs.Faults.{first_fault}
+use Rattle.contract_extract.specs.PassedInstr.{AreGatheredAt, AreSent, AreSentTo, is_sent_to}
 use Rattle.contract_extract.specs.SharedStacks.{AreGrounded, AreOrdered, IsGrounded, Stacks, arrivals_at, either, least, least_of, least_over}
-use Rattle.contract_extract.specs.Ways.{Told, faults_at, ways_behind}
+use Rattle.contract_extract.specs.Ways.{faults_at}
 use Rattle.contract_extract.specs.declared.arrivals.Arrival.{Arrival}
 use Rattle.contract_extract.specs.declared.arrivals.Arrival.TheVariants.{Empty, Over}
-use Rattle.contract_extract.specs.declared.arrivals.Seen.{Seen}
 use Rattle.contract_extract.specs.declared.clause_fault.ClauseFault.{ClauseFault}
-use Rattle.contract_extract.proofs.Arriving.{arrived_judged}
-use Rattle.contract_extract.proofs.Earliest.{either-assoc, either-both, either-comm, either-front, either-none, either-turn, least-append, least-same}
-use Rattle.contract_extract.proofs.Standing.{Judge, all-weaker, all_grounded_higher, all_grounded_kept, least_over-kept, least_over-none, least_over-same}
-use Rattle.contract_extract.proofs.Walks.{ahead, ahead_joins, no_walk_below, walk, walk_joins}
+use Rattle.contract_extract.proofs.Earliest.{either-assoc, either-both, either-comm, either-none, least-append, least-same}
+use Rattle.contract_extract.proofs.Standing.{Judge, all_grounded_higher, all_grounded_kept, least_over-kept, least_over-none, least_over-same}
+use Rattle.contract_extract.proofs.Walks.{no_walk_below, walk, walk_joins}
 
 -- ---- stacks that stand well
 

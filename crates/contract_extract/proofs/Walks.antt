@@ -1,10 +1,8 @@
 -- The ways through a clause's code, by recursion on the code that lies ahead.
-use Rattle.std.proofs.Common.{◌≡◌, ℕ, zero, suc, ◌+◌, ◌<◌, ◌≤◌, ◌==◌, Bool, true, false, ◌&&◌, not, List, [], ◌∷◌, ◌++◌, length, Option, Some, None, refl, sym, ap, cond, ◌∙◌, arith, subst, if◌then◌else◌, inl, inr}
+use Rattle.std.proofs.Common.{◌≡◌, ℕ, zero, suc, ◌+◌, ◌<◌, ◌≤◌, ◌==◌, Bool, true, false, not, List, [], ◌∷◌, ◌++◌, length, Some, None, refl, ap, cond, ◌∙◌, arith, inl, inr}
 use Rattle.std.specs.Prelude.{nat_lt, nat_le}
 use Rattle.std.specs.List.{flat_map}
-use Rattle.std.specs.Option.{option_map_or}
-use Rattle.std.proofs.lemmas.Bool.{and_parts, cond_both, eq-eqb, eqb-true, eqb-false, ltb-true, leb-true, ne_eqb, cases_eq, cases_order}
-use Rattle.std.proofs.lemmas.Bool.Decides.{nat_tests}
+use Rattle.std.proofs.lemmas.Bool.{and_parts, eq-eqb, ltb-true, leb-true, ne_eqb, cases_order}
 use Rattle.cil_model.specs.Blocks.{closes}
 use Rattle.cil_model.specs.Kinds.{operand_count}
 use Rattle.cil_model.specs.Runs.{instr_at}
@@ -13,7 +11,6 @@ use Rattle.cil_model.specs.declared.shape.Shape.{Shape}
 use Rattle.contract_extract.specs.ClauseCodes.{goes_forward}
 use Rattle.contract_extract.specs.ClauseLies.{RiseFrom}
 use Rattle.contract_extract.specs.Faults.{first_fault}
-use Rattle.contract_extract.specs.JoinedStacks.{IsJoining}
 use Rattle.contract_extract.specs.PureCode.{is_pure}
 use Rattle.contract_extract.specs.SharedStacks.{either}
 use Rattle.contract_extract.specs.Ways.{Told, closing_faults, faults_at, faults_from, faults_here, stack_behind, ways_behind}

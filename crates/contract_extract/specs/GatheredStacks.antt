@@ -1,5 +1,5 @@
 -- Arrivals of which equal ones are gathered to one.
-use Rattle.std.specs.Prelude.{◌≡◌, ◌⊎◌, ℕ, ◌<◌, List, [], ◌∷◌, ◌++◌, length, Option, slice_get, slice_set, Some}
+use Rattle.std.specs.Prelude.{◌≡◌, ◌⊎◌, ℕ, List, [], ◌∷◌, ◌++◌, Option, slice_get, slice_set, Some}
 use Rattle.contract_extract.specs.JoinedStacks.{IsJoining}
 use Rattle.contract_extract.specs.SharedStacks.{AreGrounded, Stacks, least_over, lower}
 use Rattle.contract_extract.specs.Ways.{Told}

@@ -57,7 +57,7 @@ is_comparing _ = false
 -- What comes behind an operation that a clause may have.
 abbrev pub behind_arrivals : List Place → Instr → Op → Stacks → ℕ → List Arrival → List Arrival
 behind_arrivals args i op stacks index tops =
-    if is_comparing op then flat_map (rest_of stacks) (flat_map (with_two args i stacks) tops) else other_arrivals args i op stacks index tops
+    if is_comparing op then flat_map (rest_of stacks) (flat_map (rest_of stacks) tops) else other_arrivals args i op stacks index tops
 
 -- ---- what is wrong there
 
@@ -92,11 +92,11 @@ abbrev pub passed_arrivals : List Instr → Shape → Instr → Stacks → ℕ �
 passed_arrivals is shape i stacks index tops =
     if closes i.op then [] else if not (is_pure is i) then [] else behind_arrivals shape.args i i.op stacks index tops
 
--- What lies below two operands, of which equal pairs are gathered.
-pub record IsRestOfGathered (args : List Place) (i : Instr) (stacks : Stacks) (tops out : List Arrival) : Type 0 where
-  pub pairs : List Arrival
-  pub gathered : StandForSame (flat_map (with_two args i stacks) tops) pairs
-  pub rest : out ≡ flat_map (rest_of stacks) pairs
+-- What lies below two operands, where the second ones are gathered.
+pub record IsRestOfGathered (stacks : Stacks) (tops out : List Arrival) : Type 0 where
+  pub seconds : List Arrival
+  pub gathered : StandForSame (flat_map (rest_of stacks) tops) seconds
+  pub rest : out ≡ flat_map (rest_of stacks) seconds
 
 -- What stands for the same stacks as what is expected behind the instruction of an index.
 pub record StandFor (stacks : Stacks) (index : ℕ) (expected out : List Arrival) : Type 0 where

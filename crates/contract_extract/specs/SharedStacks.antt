@@ -1,6 +1,6 @@
 -- Stacks with shared parts: for each instruction of a clause's code a list of arrivals, which stand for the stacks that
 -- ways bring there. A stack is empty, or it is a value on a stack that comes to an earlier instruction.
-use Rattle.std.specs.Prelude.{◌≡◌, ℕ, zero, suc, ◌+◌, ◌<◌, Bool, true, false, ◌&&◌, ◌||◌, min, List, [], ◌∷◌, ◌++◌, length, map, flat_map, Option, Some, None, if◌then◌else◌, slice_index_or}
+use Rattle.std.specs.Prelude.{ℕ, zero, suc, ◌<◌, Bool, true, false, min, List, [], ◌∷◌, length, map, flat_map, Option, Some, None, slice_index_or}
 use Rattle.std.specs.List.{AllByRecursion, list_any}
 use Rattle.std.specs.Option.{option_map_or, option_to_list}
 use Rattle.cil_model.specs.declared.instruction.Instr.{Instr}

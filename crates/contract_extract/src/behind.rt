@@ -140,20 +140,19 @@ fn pushed(
     Ok(out)
 }
 
-/// What lies below two operands. The pairs are gathered, so that what lies below them is taken once for each instruction.
+/// What lies below two operands. The second ones are gathered, so that what lies below them is taken once for each
+/// instruction.
 fn rests_of_two(
     alloc: Global,
     places: &mut [usize],
-    args: &[Place],
-    instr: &Instr,
     stacks: &[Arrivals],
     tops: &[Arrival],
 ) -> Result<Arrivals, AllocError>
-    ensures { IfOk result (IsRestOfGathered args.now instr.now stacks.now tops.now) }
+    ensures { IfOk result (IsRestOfGathered stacks.now tops.now) }
 {
-    let pairs = behind_two(alloc, args, instr, stacks, tops)?;
-    let pairs = gathered(alloc, places, pairs.as_slice())?;
-    rests(alloc, stacks, pairs.as_slice())
+    let seconds = rests(alloc, stacks, tops)?;
+    let seconds = gathered(alloc, places, seconds.as_slice())?;
+    rests(alloc, stacks, seconds.as_slice())
 }
 
 /// What comes behind a call.
@@ -216,9 +215,25 @@ fn behind_pure(
     let args = shape.args.as_slice();
     let tops = arrivals_at(stacks, index);
     if is_comparing(&instr.op) {
-        return rests_of_two(alloc, places, args, instr, stacks, tops);
+        return rests_of_two(alloc, places, stacks, tops);
     }
     behind_other(alloc, args, instr, stacks, index, tops)
+}
+
+/// The same, gathered, so that a branch that many take does not bring the same arrivals again and again.
+fn behind_gathered(
+    alloc: Global,
+    places: &mut [usize],
+    shape: &Shape,
+    instr: &Instr,
+    stacks: &[Arrivals],
+    index: usize,
+) -> Result<Arrivals, AllocError>
+    ensures { IfOk result (StandFor stacks.now index
+        (behind_arrivals shape.now.args instr.now instr.now.op stacks.now index (arrivals_at stacks.now index))) }
+{
+    let out = behind_pure(alloc, places, shape, instr, stacks, index)?;
+    gathered(alloc, places, out.as_slice())
 }
 
 /// What comes behind the instruction of this index: nothing where ways end.
@@ -237,5 +252,5 @@ pub(crate) fn behind(
     if !goes_on {
         return Ok(Arrivals::new(alloc));
     }
-    behind_pure(alloc, places, shape, instr, stacks, index)
+    behind_gathered(alloc, places, shape, instr, stacks, index)
 }

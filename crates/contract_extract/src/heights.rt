@@ -26,6 +26,9 @@ fn lacks(stacks: &[Arrivals], count: usize, top: Arrival) -> bool
 pub(crate) fn any_lacks(stacks: &[Arrivals], count: usize, tops: &[Arrival]) -> bool
     ensures { result ≡ list_any (λ top. lacks count stacks.now top) tops.now }
 {
+    if count == 0 {
+        return false;
+    }
     for top in tops {
         if lacks(stacks, count, *top) {
             return true;

@@ -1,4 +1,4 @@
-use Rattle.std.proofs.Common.{List, length, ◌+◌, drop, subst, sym}
+use Rattle.std.proofs.Common.{length}
 use Rattle.contract_extract.specs.Faults.{code_faults, first_fault}
 use Rattle.contract_extract.proofs.Beginning.{all_passed, begun, next_found, there_too}
 use Rattle.contract_extract.proofs.clause_code.pass_code.Goals as goal

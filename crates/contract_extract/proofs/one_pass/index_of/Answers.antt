@@ -8,4 +8,4 @@ pub returns-clause-found : goal.returns-clause-found
 returns-clause-found c =
     let facts = c.binary_search_by_key.ensures in
     let by_offset = facts.position (λ i. i.at) (answers_always _ _ _ (λ f a r g called. search rules)) in
-    rw c.ok.ensures.value (found_by_offset c.args.code.now c.args.at _ c.requires facts.bound by_offset)
+    rw c.ok.ensures.value (found_by_offset c.args.code.now c.args.at c.binary_search_by_key.result c.requires facts.bound by_offset)
