@@ -5,3 +5,4 @@ pub mod TooLarge
 pub mod Faults
 pub mod TreeStacks
 pub mod Growth
+pub mod TreeRoots
