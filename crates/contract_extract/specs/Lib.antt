@@ -10,3 +10,4 @@ pub mod GatheredStacks
 pub mod PassedInstr
 pub mod TreeStacks
 pub mod Growth
+pub mod TreeRoots

@@ -150,7 +150,7 @@ fn copied_slot(alloc: Global, slot: &Slot) -> Result<Slot, AllocError>
     ensures { IfOk result (λ copy. copy ≡ slot.now) }
 {
     match slot {
-        Slot::Tree(tree) => Ok(Slot::Tree(trees::copied(alloc, tree)?)),
+        Slot::Tree(tree) => Ok(Slot::Tree(Box::into_inner(trees::copied(alloc, tree)?))),
         Slot::Message => Ok(Slot::Message),
     }
 }
