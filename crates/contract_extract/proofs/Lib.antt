@@ -32,3 +32,6 @@ pub mod FitTrees
 pub mod NumberClauses
 pub mod ClausesByIndex
 pub mod ClauseSizeRows
+pub mod FaultRanges
+pub mod Segments
+pub mod Extracted

@@ -11,3 +11,4 @@ pub mod PassedInstr
 pub mod TreeStacks
 pub mod Growth
 pub mod TreeRoots
+pub mod Extracting

@@ -5,6 +5,7 @@ mod arrivals;
 mod behind;
 mod clause_code;
 mod clause_fault;
+mod extract;
 mod first_fault;
 mod gather;
 mod heights;
