@@ -35,3 +35,4 @@ pub mod ClauseSizeRows
 pub mod FaultRanges
 pub mod Segments
 pub mod Extracted
+pub mod ClauseLimits

@@ -1,18 +1,19 @@
 -- The clauses of a method as they are read, one behind another.
-use Rattle.std.specs.Prelude.{◌≡◌, ℕ, ◌+◌, Bool, false, List, [], ◌++◌, drop, map, sum_by, Option, Some, None, Result, Ok, Err}
+use Rattle.std.specs.Prelude.{◌≡◌, ℕ, ◌+◌, ◌-◌, ◌≤◌, Bool, false, true, List, [], ◌∷◌, ◌++◌, drop, take, slice_get, map, sum_by, Option, Some, None, Result, Ok, Err}
 use Rattle.std.specs.List.{AllByRecursion}
 use Rattle.cc_base.specs.declared.refusal.Refusal.{Refusal}
 use Rattle.cc_base.specs.declared.refusal.Refusal.TheVariants.{Bad, NoMemory}
 use Rattle.cil_model.specs.Blocks.{behind_last_closing, closes, start_of_body}
-use Rattle.cil_model.specs.ClauseTrees.{clauses_from, clauses_in}
+use Rattle.cil_model.specs.ClauseTrees.{clauses_from, clauses_in, tree_of}
 use Rattle.cil_model.specs.ShortCode.{LieFrom}
-use Rattle.cil_model.specs.Terms.{old_count}
+use Rattle.cil_model.specs.Terms.{Term, old_count}
 use Rattle.cil_model.specs.WellFormed.{ClausesWithinLimits, told_by_code}
 use Rattle.cil_model.specs.declared.clause.Clause.{Clause}
 use Rattle.cil_model.specs.declared.clause.ClauseKind.{ClauseKind}
 use Rattle.cil_model.specs.declared.instruction.Instr.{Instr}
 use Rattle.cil_model.specs.declared.shape.Shape.{Shape}
 use Rattle.contract_extract.specs.Faults.{faults_in, first_clause_fault, first_fault}
+use Rattle.contract_extract.specs.TooLarge.{passes_limit}
 use Rattle.contract_extract.specs.declared.clause_fault.ClauseFault.{ClauseFault}
 
 -- The kind of the clause that a call closes.
@@ -37,8 +38,22 @@ pub record BlockLeft (is : List Instr) (shape : Shape) (clauses : List Clause) (
   pub counted : olds ≡ olds_of clauses
   pub within : ClausesWithinLimits clauses
 
+-- The instruction of this index closes a clause, or the block, and no other does from that index on.
+pub record IsClosing (is : List Instr) (first last : ℕ) : Type 0 where
+  pub order : first ≤ last
+  pub call : Instr
+  pub there : slice_get is last ≡ Some call
+  pub closes_it : closes call.op ≡ true
+  pub none : NoneCloses (take (last - first) (drop first is))
+
 -- The answer is a fault only where that one is the first. Else this is so, unless memory ran out.
 abbrev pub Goes : {X : Type 0} → Result X (Refusal ClauseFault) → Option ClauseFault → (X → Type 0) → Type 0
 Goes (Ok x) first P = P x
 Goes (Err (Bad fault)) first P = first ≡ Some fault
 Goes (Err NoMemory) first P = Unit {0}
+
+-- What comes of a clause of this kind behind these: it is read with its old values, where it and they keep the limits.
+abbrev pub ReadWithin : List Instr → ℕ → List Clause → ClauseKind → Option (Term × ℕ) → Type 0
+ReadWithin is start clauses kind None = passes_limit (map told_by_code clauses ++ (kind, tree_of is start) ∷ []) (tree_of is start) ≡ true
+ReadWithin is start clauses kind (Some (tree, olds)) =
+    (tree_of is start ≡ Some tree) × (olds ≡ old_count tree) × (passes_limit (map told_by_code clauses ++ (kind, tree_of is start) ∷ []) (tree_of is start) ≡ false)

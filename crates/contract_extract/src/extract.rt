@@ -1,10 +1,18 @@
 //! The clauses of a method, and the start of its body.
 
-ghost use Rattle.std.specs.Prelude.{◌≡◌};
-ghost use Rattle.cil_model.specs.ClauseTrees.{closing};
-ghost use Rattle.contract_extract.specs.Extracting.{closed_kind};
+ghost use Rattle.std.specs.Prelude.{◌≡◌, ◌+◌, ◌≤◌, IfOk, IsSome, option_map};
+ghost use Rattle.std.specs.List.{AllByRecursion};
+ghost use Rattle.cil_model.specs.ClauseTrees.{closing, tree_of};
+ghost use Rattle.cil_model.specs.Code.{MeetsStarts};
+ghost use Rattle.cil_model.specs.ShortCode.{AreOfShortCode};
+ghost use Rattle.contract_extract.specs.Extracting.{BlockLeft, Goes, IsClosing, ReadWithin, closed_kind, olds_of};
+ghost use Rattle.contract_extract.specs.Faults.{first_clause_fault};
 
-use cil_model::{ClauseKind, Op, UnitCall, unit_call};
+use crate::clause_code::check_clause;
+use crate::clause_fault::{ClauseFault, ClauseRefusal};
+use crate::read_clause::{ReadClause, read_clause};
+use cil_model::{Clause, ClauseKind, Instr, MAX_CLAUSES, MAX_OLD_VALUES, Op, Shape, UnitCall, unit_call};
+use std::alloc::{AllocError, Global};
 
 /// The kind of the clause that an operation closes.
 fn closed_kind(op: &Op) -> Option<ClauseKind>
@@ -17,5 +25,62 @@ fn closed_kind(op: &Op) -> Option<ClauseKind>
             _ => None,
         },
         _ => None,
+    }
+}
+
+/// The clauses that were read, and where the code of the next one begins.
+#[derive(Drop)]
+struct Block {
+    clauses: Vec<Clause>,
+    /// How many old values the clauses have together.
+    old_values: usize,
+    /// The index of the first instruction behind them.
+    first: usize,
+    /// The IL offset behind them.
+    start: u32,
+}
+
+impl Block {
+    /// The next clause, where it keeps the limits with those that were read.
+    #[tactic(auto, using(crate::proofs::ClauseLimits::limits))]
+    fn read_within(&self, alloc: Global, instrs: &[Instr], kind: ClauseKind) -> Result<Option<ReadClause>, AllocError>
+        requires lie { AreOfShortCode instrs.now }
+        requires has_tree { IsSome (tree_of instrs.now self.now.start) }
+        requires counted { self.now.old_values ≡ olds_of self.now.clauses.items }
+        requires few { self.now.old_values ≤ 64 }
+        ensures { IfOk result (λ read. ReadWithin instrs.now self.now.start self.now.clauses.items kind (option_map (λ clause. (clause.tree, clause.old_values)) read)) }
+    {
+        let Some(read) = read_clause(alloc, instrs, self.start)? else {
+            return Ok(None);
+        };
+        if self.clauses.len() >= MAX_CLAUSES || read.old_values > MAX_OLD_VALUES - self.old_values {
+            return Ok(None);
+        }
+        Ok(Some(read))
+    }
+}
+
+impl Block {
+    /// Goes on behind the closing call of this index, with the clause that it closes.
+    fn close(&mut self, alloc: Global, instrs: &[Instr], shape: &Shape, last: usize) -> Result<(), ClauseRefusal>
+        requires lie { AreOfShortCode instrs.now }
+        requires targets { AllByRecursion (MeetsStarts instrs.now) instrs.now }
+        requires left { BlockLeft instrs.now shape.now self.old.clauses.items self.old.old_values self.old.first self.old.start }
+        requires closing { IsClosing instrs.now self.old.first last }
+        ensures { Goes result (first_clause_fault instrs.now shape.now)
+            (λ _. BlockLeft instrs.now shape.now self.new.clauses.items self.new.old_values self.new.first self.new.start × (self.new.first ≡ last + 1)) }
+    {
+        check_clause(alloc, instrs, shape, self.first, last)?;
+        let call = &instrs[last];
+        if let Some(kind) = closed_kind(&call.op) {
+            let Some(read) = self.read_within(alloc, instrs, kind)? else {
+                return Err(ClauseFault::TooLong(call.at).into());
+            };
+            self.old_values += read.old_values;
+            self.clauses.push(Clause { kind, tree: read.tree })?;
+        }
+        self.first = last + 1;
+        self.start = call.at + call.size;
+        Ok(())
     }
 }
