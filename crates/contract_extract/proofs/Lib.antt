@@ -32,3 +32,6 @@ pub mod FitTrees
 pub mod NumberClauses
 pub mod ClausesByIndex
 pub mod ClauseSizeRows
+pub mod EmptyStart
+pub mod EmptyStacks
+pub mod AllNumbers
