@@ -159,7 +159,7 @@ op_closes shape (ops.Call number) kind message e =
     let parts = call_closes shape (unit_call number) kind message e in record { count = parts.0; takes = parts.1 }
 op_closes shape _ kind message e = absurd cc
 
-none_closing : (at count found : ℕ) → closing_faults at count found ≡ [] → count ≡ found
+pub none_closing : (at count found : ℕ) → closing_faults at count found ≡ [] → count ≡ found
 none_closing at count found none = by (count == found) (eqb-true count found) none
   where
     by : (same : Bool) → (same ≡ true → count ≡ found) → (if same then [] else StackLeft at ∷ []) ≡ [] → count ≡ found
@@ -180,7 +180,7 @@ closed_some true (top ∷ a ∷ b ∷ items) long trees = absurd (omega (arith, 
 -- ---- one instruction
 
 -- What tells that nothing is wrong at an instruction that closes nothing: it has its operands, and nothing is wrong behind it.
-none_here : (closes pure lacks : Bool) (found here behind : List ClauseFault) (lack : ClauseFault) → closes ≡ false → pure ≡ true
+pub none_here : (closes pure lacks : Bool) (found here behind : List ClauseFault) (lack : ClauseFault) → closes ≡ false → pure ≡ true
     → (if closes then found else if not pure then [] else if lacks then lack ∷ [] else (here ++ behind)) ≡ []
     → (lacks ≡ false) × (behind ≡ [])
 none_here true pure lacks found here behind lack stays allowed none = absurd cc
@@ -302,6 +302,23 @@ onward_each is start at last (later ∷ ats) above inside begins =
       onward_each is start at last ats up.1 in_code.1 begins.1,
     )
 
+-- What no fault tells of an instruction below the closing call.
+pub record IsRight (is : List Instr) (last : ℕ) (i : Instr) : Type 0 where
+  pub pure : is_pure is i ≡ true
+  pub onward : AllByRecursion (Onward is i.at last) (branch_targets i.op)
+
+pub right_from : (is : List Instr) (shape : Shape) (start : ℕ) (call i : Instr) → AllByRecursion (λ at. begins_at is at ≡ true) (branch_targets i.op)
+    → faults_of is shape start call i ≡ [] → IsRight is call.at i
+right_from is shape start call i begins none_of =
+    let none = none_in_both (fault_if (not (is_pure is i)) (NotPure i.at) ++ branch_faults start call i) _ none_of in
+    let first = none_in_both (fault_if (not (is_pure is i)) (NotPure i.at)) (branch_faults start call i) none.0 in
+    let branch = none_in_both (fault_if (list_any (λ target. nat_le target i.at) (branch_targets i.op)) (Backward i.at)) _ first.1 in
+    record {
+      pure = not-false (is_pure is i) (no_fault_if (not (is_pure is i)) (NotPure i.at) first.0);
+      onward =
+          onward_each is start i.at call.at (branch_targets i.op) (no_fault_if _ (Backward i.at) branch.0) (no_fault_if _ (IntoBlock i.at) branch.1) begins;
+    }
+
 -- A pure instruction that takes a message closes a clause.
 call_takes : (call : Option UnitCall) → takes_message call ≡ true → is_clause_call call ≡ true → is_closing_call call ≡ true
 call_takes (Some (calls.Requires m)) takes pure = refl
@@ -328,22 +345,10 @@ module _ (is : List Instr) (shape : Shape) (start : ℕ) (call : Instr) (clause 
   abbrev next_takes : Instr → Bool
   next_takes i = option_map_or (λ next. calls_with_message next.op) (instr_at is (i.at + i.size)) false
 
-  -- What tells that an instruction below the closing call is right.
-  pub record IsRight (i : Instr) : Type 0 where
-    pub pure : is_pure is i ≡ true
-    pub onward : AllByRecursion (Onward is i.at call.at) (branch_targets i.op)
-
-  pub is_right : (i : Instr) → instr_at is i.at ≡ Some i → start ≤ i.at → i.at < call.at → IsRight i
+  pub is_right : (i : Instr) → instr_at is i.at ≡ Some i → start ≤ i.at → i.at < call.at → IsRight is call.at i
   is_right i found above below =
-      let none = none_in_both (fault_if (not (is_pure is i)) (NotPure i.at) ++ branch_faults start call i) _ (clause.right i found above below) in
-      let first = none_in_both (fault_if (not (is_pure is i)) (NotPure i.at)) (branch_faults start call i) none.0 in
-      let branch = none_in_both (fault_if (list_any (λ target. nat_le target i.at) (branch_targets i.op)) (Backward i.at)) _ first.1 in
-      record {
-        pure = not-false (is_pure is i) (no_fault_if (not (is_pure is i)) (NotPure i.at) first.0);
-        onward =
-            onward_each is start i.at call.at (branch_targets i.op) (no_fault_if _ (Backward i.at) branch.0) (no_fault_if _ (IntoBlock i.at) branch.1)
-            (of_found (λ j. AllByRecursion (λ at. begins_at is at ≡ true) (branch_targets j.op)) is i.at i clause.targets found);
-      }
+      right_from is shape start call i (of_found (λ j. AllByRecursion (λ at. begins_at is at ≡ true) (branch_targets j.op)) is i.at i clause.targets found)
+      (clause.right i found above below)
 
   message_is_there : (i : Instr) → instr_at is i.at ≡ Some i → start ≤ i.at → i.at < call.at → next_takes i ≡ true → allowed (i.at + i.size) ≡ true
   message_is_there i found above below takes =

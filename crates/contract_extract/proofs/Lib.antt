@@ -36,3 +36,6 @@ pub mod FaultRanges
 pub mod Segments
 pub mod Extracted
 pub mod ClauseLimits
+pub mod EmptyStart
+pub mod EmptyStacks
+pub mod AllNumbers
