@@ -15,7 +15,7 @@ use Rattle.contract_extract.specs.Extracting.{ReadWithin, olds_of}
 use Rattle.contract_extract.specs.TooLarge.{are_too_many, is_too_large, old_values_in, passes_limit}
 
 -- How many clauses and old values there are with one more.
-told_length : (clauses : List Clause) (kind : ClauseKind) (tree : Option Term) → length (map told_by_code clauses ++ (kind, tree) ∷ []) ≡ length clauses + 1
+pub told_length : (clauses : List Clause) (kind : ClauseKind) (tree : Option Term) → length (map told_by_code clauses ++ (kind, tree) ∷ []) ≡ length clauses + 1
 told_length clauses kind tree = length-append (map told_by_code clauses) ((kind, tree) ∷ []) ∙ ap (λ (n : ℕ). n + 1) (length-map clauses told_by_code)
 
 pub told_olds : (clauses : List Clause) (kind : ClauseKind) (tree : Term) → old_values_in (map told_by_code clauses ++ (kind, Some tree) ∷ []) ≡ olds_of clauses + old_count tree

@@ -39,3 +39,4 @@ pub mod ClauseLimits
 pub mod EmptyStart
 pub mod EmptyStacks
 pub mod AllNumbers
+pub mod Closing

@@ -38,6 +38,10 @@ pub record BlockLeft (is : List Instr) (shape : Shape) (clauses : List Clause) (
   pub counted : olds ≡ olds_of clauses
   pub within : ClausesWithinLimits clauses
 
+-- The same behind the instruction of this index.
+abbrev pub LeftBehind : List Instr → Shape → List Clause → ℕ → ℕ → Type 0
+LeftBehind is shape clauses olds last = (call : Instr) → slice_get is last ≡ Some call → BlockLeft is shape clauses olds (last + 1) (call.at + call.size)
+
 -- The instruction of this index closes a clause, or the block, and no other does from that index on.
 pub record IsClosing (is : List Instr) (first last : ℕ) : Type 0 where
   pub order : first ≤ last

@@ -1,12 +1,13 @@
 //! The clauses of a method, and the start of its body.
 
-ghost use Rattle.std.specs.Prelude.{◌≡◌, ◌+◌, ◌≤◌, IfOk, IsSome, option_map};
+ghost use Rattle.std.specs.Prelude.{◌≡◌, ◌+◌, ◌≤◌, ◌<◌, None, length, IfOk, IsSome, option_map};
 ghost use Rattle.std.specs.List.{AllByRecursion};
 ghost use Rattle.cil_model.specs.ClauseTrees.{closing, tree_of};
 ghost use Rattle.cil_model.specs.Code.{MeetsStarts};
 ghost use Rattle.cil_model.specs.ShortCode.{AreOfShortCode};
-ghost use Rattle.contract_extract.specs.Extracting.{BlockLeft, Goes, IsClosing, ReadWithin, closed_kind, olds_of};
-ghost use Rattle.contract_extract.specs.Faults.{first_clause_fault};
+ghost use Rattle.contract_extract.specs.Extracting.{BlockLeft, Goes, IsClosing, LeftBehind, ReadWithin, closed_kind, olds_of};
+ghost use Rattle.contract_extract.specs.Faults.{first_clause_fault, first_fault};
+ghost use Rattle.contract_extract.specs.ClauseLies.{clause_faults};
 
 use crate::clause_code::check_clause;
 use crate::clause_fault::{ClauseFault, ClauseRefusal};
@@ -61,24 +62,42 @@ impl Block {
 }
 
 impl Block {
+    /// Adds the clause that the call of this index closes, if it closes one. Its code has no fault.
+    fn add_clause(&mut self, alloc: Global, instrs: &[Instr], shape: &Shape, last: usize) -> Result<(), ClauseRefusal>
+        requires lie { AreOfShortCode instrs.now }
+        requires targets { AllByRecursion (MeetsStarts instrs.now) instrs.now }
+        requires left { BlockLeft instrs.now shape.now self.old.clauses.items self.old.old_values self.old.first self.old.start }
+        requires closing { IsClosing instrs.now self.old.first last }
+        requires within { last < length instrs.now }
+        requires clean { first_fault (clause_faults instrs.now shape.now self.old.first last) ≡ None }
+        ensures { Goes result (first_clause_fault instrs.now shape.now)
+            (λ _. LeftBehind instrs.now shape.now self.new.clauses.items self.new.old_values last) }
+    {
+        let call = &instrs[last];
+        let Some(kind) = closed_kind(&call.op) else {
+            return Ok(());
+        };
+        let Some(read) = self.read_within(alloc, instrs, kind)? else {
+            return Err(ClauseFault::TooLong(call.at).into());
+        };
+        self.clauses.push(Clause { kind, tree: read.tree })?;
+        self.old_values += read.old_values;
+        Ok(())
+    }
+
     /// Goes on behind the closing call of this index, with the clause that it closes.
     fn close(&mut self, alloc: Global, instrs: &[Instr], shape: &Shape, last: usize) -> Result<(), ClauseRefusal>
         requires lie { AreOfShortCode instrs.now }
         requires targets { AllByRecursion (MeetsStarts instrs.now) instrs.now }
         requires left { BlockLeft instrs.now shape.now self.old.clauses.items self.old.old_values self.old.first self.old.start }
         requires closing { IsClosing instrs.now self.old.first last }
+        requires within { last < length instrs.now }
         ensures { Goes result (first_clause_fault instrs.now shape.now)
             (λ _. BlockLeft instrs.now shape.now self.new.clauses.items self.new.old_values self.new.first self.new.start × (self.new.first ≡ last + 1)) }
     {
         check_clause(alloc, instrs, shape, self.first, last)?;
+        self.add_clause(alloc, instrs, shape, last)?;
         let call = &instrs[last];
-        if let Some(kind) = closed_kind(&call.op) {
-            let Some(read) = self.read_within(alloc, instrs, kind)? else {
-                return Err(ClauseFault::TooLong(call.at).into());
-            };
-            self.old_values += read.old_values;
-            self.clauses.push(Clause { kind, tree: read.tree })?;
-        }
         self.first = last + 1;
         self.start = call.at + call.size;
         Ok(())
