@@ -1,5 +1,5 @@
 -- One clause is closed: what is left of the block, or the first fault.
-use Rattle.std.proofs.Common.{◌≡◌, ℕ, zero, suc, ◌+◌, ◌-◌, ◌<◌, ◌≤◌, Bool, true, false, ◌||◌, List, [], ◌∷◌, ◌++◌, length, map, take, drop, Option, Some, None, IsSome, Result, Ok, Err, refl, sym, subst, ap, ◌∙◌, arith, append_assoc, append-nil, length-append, slice_get, slice_range, if◌then◌else◌}
+use Rattle.std.proofs.Common.{◌≡◌, ℕ, zero, suc, ◌+◌, ◌-◌, ◌<◌, ◌≤◌, Bool, true, false, ◌||◌, get_or, List, [], ◌∷◌, ◌++◌, length, map, take, drop, Option, Some, None, IsSome, Result, Ok, Err, refl, sym, subst, ap, ◌∙◌, arith, append_assoc, append-nil, length-append, slice_get, slice_range, if◌then◌else◌}
 use Rattle.std.specs.Prelude.{nat_lt, sum_by, IsErrAnd}
 use Rattle.cc_base.specs.Tests.{JudgesOrNoMemory}
 use Rattle.cc_base.specs.declared.refusal.Refusal.{Refusal}
@@ -9,7 +9,7 @@ use Rattle.std.specs.Option.{option_map_or}
 use Rattle.std.proofs.lemmas.Bool.{ltb-false}
 use Rattle.std.proofs.lemmas.List.{map-append}
 use Rattle.std.proofs.lemmas.List.Sums.{sum_by_push}
-use Rattle.std.proofs.lemmas.Option.{slice_get_within}
+use Rattle.std.proofs.lemmas.Option.{get_or_from_slice_get, slice_get_within}
 use Rattle.cil_model.specs.Blocks.{behind_last_closing, branch_targets, closes, start_of_body}
 use Rattle.cil_model.specs.ClauseTrees.{clause_before, clauses_from, clauses_in, closing, tree_of}
 use Rattle.cil_model.specs.Code.{MeetsStarts}
@@ -22,7 +22,7 @@ use Rattle.cil_model.specs.declared.instruction.Instr.{Instr}
 use Rattle.cil_model.specs.declared.instruction.Op.{Op}
 use Rattle.cil_model.specs.declared.shape.Shape.{Shape}
 use Rattle.contract_extract.specs.ClauseLies.{IsClauseCode, clause_faults, code_between}
-use Rattle.contract_extract.specs.Extracting.{BlockLeft, Goes, IsClosing, NoneCloses, ReadWithin, closed_kind, olds_of}
+use Rattle.contract_extract.specs.Extracting.{BlockLeft, Goes, IsClosing, LeftBehind, NoneCloses, ReadWithin, closed_kind, olds_of}
 use Rattle.contract_extract.specs.Faults.{code_faults, faults_in, first_clause_fault, first_fault, limit_faults, with_clause}
 use Rattle.contract_extract.specs.TooLarge.{are_too_many, is_too_large, old_values_in, passes_limit}
 use Rattle.contract_extract.specs.declared.clause_fault.ClauseFault.{ClauseFault}
@@ -94,8 +94,25 @@ within_more clauses kind tree within small =
       old_values = omega (arith, ltb-false _ _ many.1, told_olds clauses kind tree, sum_by_push (λ clause. old_count clause.tree) clauses clause);
     }
 
+pub few_olds : (is : List Instr) (start : ℕ) (clauses : List Clause) (olds : ℕ) (kind : ClauseKind) (tree : Term) (more : ℕ) → ClausesWithinLimits clauses → olds ≡ olds_of clauses
+    → ReadWithin is start clauses kind (Some (tree, more)) → olds + more ≤ 64
+few_olds is start clauses olds kind tree more within counted (made, count, small) =
+    let clause : Clause = record { kind = kind; tree = tree } in
+    let all = within_more clauses kind tree within (ap (λ t. passes_limit (map told_by_code clauses ++ (kind, t) ∷ []) t) (sym made) ∙ small) in
+    omega (arith, counted, count, all.old_values, sum_by_push (λ clause. old_count clause.tree) clauses clause)
+
 module _ (is : List Instr) (shape : Shape) (clauses : List Clause) (olds first start last : ℕ) (short : AreOfShortCode is)
     (left : BlockLeft is shape clauses olds first start) (closed : IsClosing is first last) where
+  one_call : (call : Instr) → slice_get is last ≡ Some call → closed.call ≡ call
+  one_call call there = let e : Some closed.call ≡ Some call = sym closed.there ∙ there in some_same _ _ e
+    where
+      some_same : (a b : Instr) → Some a ≡ Some b → a ≡ b
+      some_same a b e = cc
+
+  -- An instruction there, as it is met.
+  pub met : (d : Instr) → get_or is last d ≡ closed.call
+  met d = get_or_from_slice_get is last closed.call d closed.there
+
   abbrev Code : List Instr
   Code = take (last - first) (drop first is)
 
@@ -168,8 +185,8 @@ module _ (is : List Instr) (shape : Shape) (clauses : List Clause) (olds first s
     -- Where the clause has no fault, this is what is left behind it.
     behind : (after : List Clause) (olds_after : ℕ) → limit_faults is start Told closed.call ≡ [] → with_clause is start Told (closing closed.call.op) ≡ map told_by_code after
         → Told ++ clause_before is start (closing closed.call.op) ≡ map told_by_code after → olds_after ≡ olds_of after → ClausesWithinLimits after
-        → BlockLeft is shape after olds_after (last + 1) (closed.call.at + closed.call.size)
-    behind after olds_after limit same same_before counted within = record {
+        → LeftBehind is shape after olds_after last
+    behind after olds_after limit same same_before counted within = λ call there. subst (λ (i : Instr). BlockLeft is shape after olds_after (last + 1) (i.at + i.size)) (one_call call there) (record {
       faults = whole ∙ by_rest is shape start Told Code closed.call Rest closed.none closed.closes_it some lie no_fault limit
           ∙ ap (λ told. first_fault (faults_in is shape (closed.call.at + closed.call.size) told Rest)) same;
       told = left.told ∙ ap (λ rest. Told ++ clauses_from is start rest) split
@@ -180,16 +197,16 @@ module _ (is : List Instr) (shape : Shape) (clauses : List Clause) (olds first s
       lies = lies_behind is shape start Told Code closed.call Rest closed.none closed.closes_it some lie;
       counted = counted;
       within = within;
-    }
+    })
 
-    pub end_closed : closed_kind (closing closed.call.op) ≡ None → BlockLeft is shape clauses olds (last + 1) (closed.call.at + closed.call.size)
+    pub end_closed : closed_kind (closing closed.call.op) ≡ None → LeftBehind is shape clauses olds last
     end_closed e =
         let found = no_kind (closing closed.call.op) e in
         behind clauses olds (ap (λ f. if option_map_or (λ c. passes_limit (with_clause is start Told (Some c)) (tree_of is start)) f false then TooLong closed.call.at ∷ [] else []) found)
         (ap (with_clause is start Told) found) (ap (λ f. Told ++ clause_before is start f) found ∙ append-nil Told) left.counted left.within
 
     pub clause_closed : (kind : ClauseKind) (tree : Term) (more : ℕ) → closed_kind (closing closed.call.op) ≡ Some kind → ReadWithin is start clauses kind (Some (tree, more))
-        → BlockLeft is shape (clauses ++ record { kind = kind; tree = tree } ∷ []) (olds + more) (last + 1) (closed.call.at + closed.call.size)
+        → LeftBehind is shape (clauses ++ record { kind = kind; tree = tree } ∷ []) (olds + more) last
     clause_closed kind tree more e (made, count, small) =
         let clause : Clause = record { kind = kind; tree = tree } in
         let (message, found) = kind_found (closing closed.call.op) kind e in
