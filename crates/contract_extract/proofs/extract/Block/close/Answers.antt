@@ -1,21 +1,18 @@
-use Rattle.std.proofs.Common.{rules, ◌≡◌, ◌+◌, ◌≤◌, ◌<◌, None, length, IfOk, IsSome, option_map, ℕ, ◌-◌, ◌*◌, ◌/◌, ◌%◌, Bool, true, false, nat_eq, nat_lt, List, [], ◌∷◌, ◌++◌, slice_index_or, slice_set, bit_and, bit_or, Fits, w8, w32, w64, Bor, MutBor}
-use Rattle.std.specs.List.{AllByRecursion}
-use Rattle.cil_model.specs.ClauseTrees.{closing, tree_of}
-use Rattle.cil_model.specs.Code.{MeetsStarts}
-use Rattle.cil_model.specs.ShortCode.{AreOfShortCode}
-use Rattle.contract_extract.specs.Extracting.{BlockLeft, Goes, IsClosing, LeftBehind, ReadWithin, closed_kind, olds_of}
-use Rattle.contract_extract.specs.Faults.{first_clause_fault, first_fault}
-use Rattle.contract_extract.specs.ClauseLies.{clause_faults}
+use Rattle.std.proofs.Common.{◌≡◌, ◌+◌, refl, sym, ap, subst, ◌∙◌}
+use Rattle.cil_model.specs.declared.instruction.Instr.{Instr}
+use Rattle.contract_extract.specs.Extracting.{BlockLeft}
+use Rattle.contract_extract.proofs.Closing.{clause_code, fault_in_code, goes_carried, met}
 use Rattle.contract_extract.proofs.extract.Block.close.Goals as goal
 
--- src/extract.rt:98:9
 pub check_clause-requires : goal.check_clause-requires
-check_clause-requires c = ?
+check_clause-requires c = clause_code c.args.instrs.now c.args.shape.now c.args.self.now.clauses.items c.args.self.now.old_values c.args.self.now.first c.args.self.now.start c.args.last c.requires.lie c.requires.left c.requires.closing
 
--- src/extract.rt:98:9
 pub returns-in_err-check_clause : goal.returns-in_err-check_clause
-returns-in_err-check_clause c = ?
+returns-in_err-check_clause c =
+    goes_carried _ _ _ _ _ _ c.from_residual.ensures.1 c.in_err-check_clause.ensures (fault_in_code c.args.instrs.now c.args.shape.now c.args.self.now.clauses.items c.args.self.now.old_values c.args.self.now.first c.args.self.now.start c.args.last c.requires.lie c.requires.left c.requires.closing)
 
--- src/extract.rt:89:5
 pub returns : goal.returns
-returns c = ?
+returns c =
+    let call = c.index-instrs-last.is ∙ met c.args.instrs.now c.args.shape.now c.args.self.now.clauses.items c.args.self.now.old_values c.args.self.now.first c.args.self.now.start c.args.last c.requires.lie c.requires.left c.requires.closing _ in
+    let left = c.in_ok-add_clause.ensures c.requires.closing.call c.requires.closing.there in
+    (subst (λ (i : Instr). BlockLeft c.args.instrs.now c.args.shape.now c.add_clause.new.self.clauses.items c.add_clause.new.self.old_values (c.args.last + 1) (i.at + i.size)) (sym call) left, refl)
