@@ -40,3 +40,5 @@ pub mod EmptyStart
 pub mod EmptyStacks
 pub mod AllNumbers
 pub mod Closing
+pub mod BodyFaults
+pub mod Passed

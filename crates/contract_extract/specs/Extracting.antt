@@ -61,3 +61,14 @@ abbrev pub ReadWithin : List Instr → ℕ → List Clause → ClauseKind → Op
 ReadWithin is start clauses kind None = passes_limit (map told_by_code clauses ++ (kind, tree_of is start) ∷ []) (tree_of is start) ≡ true
 ReadWithin is start clauses kind (Some (tree, olds)) =
     (tree_of is start ≡ Some tree) × (olds ≡ old_count tree) × (passes_limit (map told_by_code clauses ++ (kind, tree_of is start) ∷ []) (tree_of is start) ≡ false)
+
+-- The instructions up to the one of this index were passed: these clauses were read, and no other is closed there.
+pub record ArePassed (is : List Instr) (shape : Shape) (clauses : List Clause) (olds first start index : ℕ) : Type 0 where
+  pub left : BlockLeft is shape clauses olds first start
+  pub order : first ≤ index
+  pub none : NoneCloses (take (index - first) (drop first is))
+
+-- What is read of a method: these clauses, and where its body starts.
+pub record AreContracts (is : List Instr) (clauses : List Clause) (start : ℕ) : Type 0 where
+  pub told : clauses_in is ≡ map told_by_code clauses
+  pub body : start ≡ start_of_body is

@@ -3,9 +3,11 @@
 
 mod arrivals;
 mod behind;
+mod block;
+mod body_code;
 mod clause_code;
 mod clause_fault;
-mod extract;
+mod contracts;
 mod first_fault;
 mod gather;
 mod heights;
@@ -26,3 +28,4 @@ mod tree_stack;
 mod trees;
 
 pub use clause_fault::{ClauseFault, ClauseRefusal};
+pub use contracts::{Contracts, extract};

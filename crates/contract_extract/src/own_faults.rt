@@ -50,7 +50,7 @@ fn is_old_value(op: &Op) -> bool
 }
 
 /// The IL offsets to which an operation may branch.
-fn branch_targets(op: &Op) -> &[u32]
+pub(crate) fn branch_targets(op: &Op) -> &[u32]
     ensures { result.now ≡ branch_targets op.now }
 {
     match op {

@@ -6,7 +6,7 @@ use Rattle.contract_extract.specs.Faults.{first_clause_fault}
 use Rattle.contract_extract.specs.declared.clause_fault.ClauseFault.TheVariants.{TooLong}
 use Rattle.contract_extract.specs.declared.read_clause.ReadClause.{ReadClause}
 use Rattle.contract_extract.proofs.Closing.{clause_closed, end_closed, fault_in_size, few_olds, has_a_tree, met}
-use Rattle.contract_extract.proofs.extract.Block.add_clause.Goals as goal
+use Rattle.contract_extract.proofs.block.Block.add_clause.Goals as goal
 
 pub returns-in_default : goal.returns-in_default
 returns-in_default c =

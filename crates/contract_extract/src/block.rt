@@ -1,18 +1,21 @@
-//! The clauses of a method, and the start of its body.
+//! The contract block of a method, read clause by clause.
 
 ghost use Rattle.std.specs.Prelude.{◌≡◌, ◌+◌, ◌≤◌, ◌<◌, None, length, IfOk, IsSome, option_map};
 ghost use Rattle.std.specs.List.{AllByRecursion};
 ghost use Rattle.cil_model.specs.ClauseTrees.{closing, tree_of};
 ghost use Rattle.cil_model.specs.Code.{MeetsStarts};
 ghost use Rattle.cil_model.specs.ShortCode.{AreOfShortCode};
-ghost use Rattle.contract_extract.specs.Extracting.{BlockLeft, Goes, IsClosing, LeftBehind, ReadWithin, closed_kind, olds_of};
-ghost use Rattle.contract_extract.specs.Faults.{first_clause_fault, first_fault};
 ghost use Rattle.contract_extract.specs.ClauseLies.{clause_faults};
+ghost use Rattle.contract_extract.specs.Extracting.{ArePassed, BlockLeft, Goes, IsClosing, LeftBehind, ReadWithin, closed_kind, olds_of};
+ghost use Rattle.contract_extract.specs.Faults.{first_clause_fault, first_fault};
 
 use crate::clause_code::check_clause;
 use crate::clause_fault::{ClauseFault, ClauseRefusal};
+use crate::own_faults::closes;
 use crate::read_clause::{ReadClause, read_clause};
-use cil_model::{Clause, ClauseKind, Instr, MAX_CLAUSES, MAX_OLD_VALUES, Op, Shape, UnitCall, unit_call};
+use cil_model::{
+    Clause, ClauseKind, Instr, MAX_CLAUSES, MAX_OLD_VALUES, Op, Shape, UnitCall, unit_call,
+};
 use std::alloc::{AllocError, Global};
 
 /// The kind of the clause that an operation closes.
@@ -31,14 +34,14 @@ fn closed_kind(op: &Op) -> Option<ClauseKind>
 
 /// The clauses that were read, and where the code of the next one begins.
 #[derive(Drop)]
-struct Block {
-    clauses: Vec<Clause>,
+pub(crate) struct Block {
+    pub(crate) clauses: Vec<Clause>,
     /// How many old values the clauses have together.
     old_values: usize,
     /// The index of the first instruction behind them.
-    first: usize,
+    pub(crate) first: usize,
     /// The IL offset behind them.
-    start: u32,
+    pub(crate) start: u32,
 }
 
 impl Block {
@@ -102,4 +105,38 @@ impl Block {
         self.start = call.at + call.size;
         Ok(())
     }
+
+    /// Goes on behind the instruction of this index, with the clause that it closes, if it closes one.
+    fn pass(&mut self, alloc: Global, instrs: &[Instr], shape: &Shape, index: usize) -> Result<(), ClauseRefusal>
+        requires lie { AreOfShortCode instrs.now }
+        requires targets { AllByRecursion (MeetsStarts instrs.now) instrs.now }
+        requires within { index < length instrs.now }
+        requires passed { ArePassed instrs.now shape.now self.old.clauses.items self.old.old_values self.old.first self.old.start index }
+        ensures { Goes result (first_clause_fault instrs.now shape.now)
+            (λ _. ArePassed instrs.now shape.now self.new.clauses.items self.new.old_values self.new.first self.new.start (index + 1)) }
+    {
+        if !closes(&instrs[index].op) {
+            return Ok(());
+        }
+        self.close(alloc, instrs, shape, index)
+    }
+}
+
+/// Reads the clauses that the calls of a method's code close, up to its last instruction.
+pub(crate) fn read_clauses(alloc: Global, instrs: &[Instr], shape: &Shape) -> Result<Block, ClauseRefusal>
+    requires lie { AreOfShortCode instrs.now }
+    requires targets { AllByRecursion (MeetsStarts instrs.now) instrs.now }
+    ensures { Goes result (first_clause_fault instrs.now shape.now)
+        (λ block. ArePassed instrs.now shape.now block.clauses.items block.old_values block.first block.start (length instrs.now)) }
+{
+    let mut block = Block {
+        clauses: Vec::new(alloc),
+        old_values: 0,
+        first: 0,
+        start: 0,
+    };
+    for index in 0..instrs.len() {
+        block.pass(alloc, instrs, shape, index)?;
+    }
+    Ok(block)
 }

@@ -2,7 +2,7 @@ use Rattle.std.proofs.Common.{◌≡◌, ◌+◌, refl, sym, ap, subst, ◌∙�
 use Rattle.cil_model.specs.declared.instruction.Instr.{Instr}
 use Rattle.contract_extract.specs.Extracting.{BlockLeft}
 use Rattle.contract_extract.proofs.Closing.{clause_code, fault_in_code, goes_carried, met}
-use Rattle.contract_extract.proofs.extract.Block.close.Goals as goal
+use Rattle.contract_extract.proofs.block.Block.close.Goals as goal
 
 pub check_clause-requires : goal.check_clause-requires
 check_clause-requires c = clause_code c.args.instrs.now c.args.shape.now c.args.self.now.clauses.items c.args.self.now.old_values c.args.self.now.first c.args.self.now.start c.args.last c.requires.lie c.requires.left c.requires.closing

@@ -1,0 +1,23 @@
+use Rattle.std.proofs.Common.{◌≡◌, sym, ◌∙◌}
+use Rattle.contract_extract.proofs.AllNumbers.{all_numbers}
+use Rattle.contract_extract.proofs.Passed.{contracts_left, fault_left}
+use Rattle.contract_extract.proofs.contracts.extract.Goals as goal
+
+pub returns-in-Some-clause-judged : goal.returns-in-Some-clause-judged
+returns-in-Some-clause-judged c =
+    rw c.into.ensures
+    (fault_left c.args.instrs.now c.args.shape.now c.in_ok-block.block.clauses.items c.in_ok-block.block.old_values c.in_ok-block.block.first c.in_ok-block.block.start c.in_ok-block.ensures ∙ sym c.in-Some.ensures)
+
+pub returns-clause-judged : goal.returns-clause-judged
+returns-clause-judged c =
+    rw c.from_vec.ensures
+    (fault_left c.args.instrs.now c.args.shape.now c.in_ok-block.block.clauses.items c.in_ok-block.block.old_values c.in_ok-block.block.first c.in_ok-block.block.start c.in_ok-block.ensures ∙ sym c.in_default.ensures,
+    contracts_left c.args.instrs.now c.args.shape.now c.in_ok-block.block.clauses.items c.in_ok-block.block.old_values c.in_ok-block.block.first c.in_ok-block.block.start c.in_ok-block.ensures)
+
+pub returns-clause-numbers : goal.returns-clause-numbers
+returns-clause-numbers c =
+    λ stacks decoded kinds.
+    let none = fault_left c.args.instrs.now c.args.shape.now c.in_ok-block.block.clauses.items c.in_ok-block.block.old_values c.in_ok-block.block.first c.in_ok-block.block.start c.in_ok-block.ensures ∙ sym c.in_default.ensures in
+    let read = contracts_left c.args.instrs.now c.args.shape.now c.in_ok-block.block.clauses.items c.in_ok-block.block.old_values c.in_ok-block.block.first c.in_ok-block.block.start c.in_ok-block.ensures in
+    rw c.from_vec.ensures
+    (all_numbers c.args.instrs.now c.args.shape.now stacks c.requires.lie decoded kinds none c.in_ok-block.block.clauses.items read.told)
