@@ -12,10 +12,6 @@ use Rattle.contract_extract.specs.declared.limits.Grown.{Grown}
 
 -- ---- leaves
 
-pub leaf_grown : (limits : Limits) (t : Term) (nodes_left : ℕ) → nodes_left + term_size t ≡ limits.nodes → condition_depth t ≡ 0
-    → IsGrown limits (Some t) (record { tree = t; nodes_left = nodes_left })
-leaf_grown limits t nodes_left nodes flat = record { is = refl; nodes = nodes; conditions = omega (arith, flat) }
-
 pub leaf_passes : (limits : Limits) (t : Term) → limits.nodes < term_size t → passes limits t ≡ true
 leaf_passes limits t more = or_left (nat_lt limits.nodes (term_size t)) (nat_lt limits.conditions (condition_depth t)) (lt-ltb limits.nodes (term_size t) more)
 
@@ -105,44 +101,45 @@ target_passes test limits left target next rest none =
     ])
 
 -- What is left beside the tree of the target.
-abbrev pub after_target : Limits → Grown → Limits
-after_target left grown = record { conditions = left.conditions; nodes = grown.nodes_left }
+pub record IsAfter (left : Limits) (grown : Grown) (rest : Limits) : Type 0 where
+  pub conditions : rest.conditions ≡ left.conditions
+  pub nodes : rest.nodes ≡ grown.nodes_left
 
 -- The tree of the next instruction passes what is left beside that.
-pub next_passes : (test : Condition) (limits left : Limits) (target next : Option Term) (grown : Grown) → IsLeft test limits left → IsGrown left target grown
-    → Grows (after_target left grown) next None → Grows limits (forked test target next) None
-next_passes test limits left target next grown rest first none =
+pub next_passes : (test : Condition) (limits left : Limits) (target next : Option Term) (grown : Grown) (behind : Limits) → IsLeft test limits left → IsGrown left target grown
+    → IsAfter left grown behind → Grows behind next None → Grows limits (forked test target next) None
+next_passes test limits left target next grown behind rest first after none =
     over_both limits test.turned test.tree target next (λ t n is_t is_n.
     let same : grown.tree ≡ t = same_Some grown.tree t (subst (λ (o : Option Term). Keeps o (Some grown.tree)) is_t first.is) in
     let size : term_size grown.tree ≡ term_size t = ap term_size same in
-    let e = exceeds (after_target left grown) n (of_some (after_target left grown) next n is_n none) in
+    let e = exceeds behind n (of_some behind next n is_n none) in
     (larger t n size e, turned t n size e))
   where
-    larger : (a b : Term) → term_size grown.tree ≡ term_size a → Exceeds (after_target left grown) (term_size b) (condition_depth b)
+    larger : (a b : Term) → term_size grown.tree ≡ term_size a → Exceeds behind (term_size b) (condition_depth b)
         → passes limits (terms.Cond test.tree a b) ≡ true
     larger a b size e = passed limits (terms.Cond test.tree a b) (elim e.one [
-      | inl f ↦ record { one = inl (omega (arith, f, rest.nodes, first.nodes, size)) }
-      | inr f ↦ record { one = inr (omega (arith, f, rest.conditions)) }
+      | inl f ↦ record { one = inl (omega (arith, f, rest.nodes, first.nodes, after.nodes, size)) }
+      | inr f ↦ record { one = inr (omega (arith, f, rest.conditions, after.conditions)) }
     ])
 
-    turned : (a b : Term) → term_size grown.tree ≡ term_size a → Exceeds (after_target left grown) (term_size b) (condition_depth b)
+    turned : (a b : Term) → term_size grown.tree ≡ term_size a → Exceeds behind (term_size b) (condition_depth b)
         → passes limits (terms.Cond test.tree b a) ≡ true
     turned a b size e = passed limits (terms.Cond test.tree b a) (elim e.one [
-      | inl f ↦ record { one = inl (omega (arith, f, rest.nodes, first.nodes, size)) }
-      | inr f ↦ record { one = inr (omega (arith, f, rest.conditions)) }
+      | inl f ↦ record { one = inl (omega (arith, f, rest.nodes, first.nodes, after.nodes, size)) }
+      | inr f ↦ record { one = inr (omega (arith, f, rest.conditions, after.conditions)) }
     ])
 
 -- Both are there.
-pub both_grown : (test : Condition) (limits left : Limits) (target next : Option Term) (grown other : Grown) (tree : Term) → IsLeft test limits left
-    → IsGrown left target grown → IsGrown (after_target left grown) next other → condition_depth test.tree ≡ 0
+pub both_grown : (test : Condition) (limits left : Limits) (target next : Option Term) (grown other : Grown) (behind : Limits) (tree : Term) → IsLeft test limits left
+    → IsGrown left target grown → IsAfter left grown behind → IsGrown behind next other → condition_depth test.tree ≡ 0
     → forked test (Some grown.tree) (Some other.tree) ≡ Some tree
     → IsGrown limits (forked test target next) (record { tree = tree; nodes_left = other.nodes_left })
-both_grown test limits left target next grown other tree rest first second flat made =
+both_grown test limits left target next grown other behind tree rest first after second flat made =
     let sizes = by test.turned made in
     record {
       is = both_kept test.turned target next first.is second.is made;
-      nodes = omega (arith, sizes.0, rest.nodes, first.nodes, second.nodes);
-      conditions = omega (arith, sizes.1, flat, rest.conditions, first.conditions, second.conditions);
+      nodes = omega (arith, sizes.0, rest.nodes, first.nodes, after.nodes, second.nodes);
+      conditions = omega (arith, sizes.1, flat, rest.conditions, first.conditions, after.conditions, second.conditions);
     }
   where
     both_kept : (turned : Bool) (target next : Option Term) → Keeps target (Some grown.tree) → Keeps next (Some other.tree)

@@ -24,6 +24,7 @@ pub mod Stretches
 pub mod Found
 pub mod Growing
 pub mod Ends
+pub mod StackLemmas
 pub mod Skipping
 pub mod Working
 pub mod UnderKinds

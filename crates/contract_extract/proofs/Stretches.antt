@@ -1,5 +1,5 @@
 -- Straight stretches of a clause's code: each instruction makes the tree of the next one.
-use Rattle.std.proofs.Common.{◌≡◌, ℕ, ◌+◌, ◌<◌, Bool, true, false, max, nat_lt, List, ◌∷◌, Option, Some, None, IfSome, is_some, if◌then◌else◌, refl, sym, ap, subst, ◌∙◌, arith}
+use Rattle.std.proofs.Common.{◌≡◌, ℕ, ◌+◌, ◌<◌, Bool, true, false, max, nat_lt, List, ◌∷◌, Option, Some, None, IfSome, is_some, if◌then◌else◌, refl, sym, ap, ◌∙◌, arith}
 use Rattle.std.specs.Option.{option_and_then}
 use Rattle.std.proofs.lemmas.Bool.{ltb-true, or_parts}
 use Rattle.cil_model.specs.ClauseTrees.{Item, Tree, closing, items_behind, tree_at, with_call}
@@ -13,8 +13,6 @@ use Rattle.cil_model.specs.declared.instruction.Test.TheVariants as tests
 use Rattle.cil_model.specs.declared.unit_numbers.UnitCall.{UnitCall}
 use Rattle.cil_model.specs.declared.unit_numbers.UnitCall.TheVariants as calls
 use Rattle.contract_extract.specs.Growth.{AreFlat, ends_stretch, goes_two_ways, jump_of, later_than, onward, tree_here}
-use Rattle.contract_extract.specs.TreeStacks.{items_of, left_if}
-use Rattle.contract_extract.specs.declared.tree_stack.Slot.{Slot}
 
 none_closing : {X : Type 0} (closed : Option X) → is_some closed ≡ false → closed ≡ None
 none_closing None e = refl
@@ -55,19 +53,18 @@ pass_here from i items straight stays =
     let parts = or_parts (is_some (closing i.op)) (goes_two_ways i.op) straight in
     ap (λ closed. tree_at (onward from i.at) closed i i.op items) (none_closing (closing i.op) parts.0) ∙ pass_at (onward from i.at) i i.op items stays
 
--- Another instruction makes the tree of the next one with the stack that it leaves.
-pub passing : (from : ℕ → List Item → Option Term) (i : Instr) (before after : List Slot) → ends_stretch i.op ≡ false → jump_of i.op ≡ None
-    → left_if true after ≡ items_behind i.op (items_of before)
-    → tree_here from i (items_of before) ≡ option_and_then (λ n. from n (items_of after)) (later_than i.at (i.at + i.size))
+-- Another instruction makes the tree of the next one with the items that it leaves.
+pub passing : (from : ℕ → List Item → Option Term) (i : Instr) (before after : List Item) → ends_stretch i.op ≡ false → jump_of i.op ≡ None
+    → Some after ≡ items_behind i.op before → tree_here from i before ≡ option_and_then (λ n. from n after) (later_than i.at (i.at + i.size))
 passing from i before after straight stays left =
-    pass_here from i (items_of before) straight stays ∙ ap (option_and_then (onward from i.at (i.at + i.size))) (sym left)
-    ∙ later_gives from i.at (i.at + i.size) (items_of after)
+    pass_here from i before straight stays ∙ ap (option_and_then (onward from i.at (i.at + i.size))) (sym left)
+    ∙ later_gives from i.at (i.at + i.size) after
 
 -- It has none where its operands are missing.
-pub lacking : (from : ℕ → List Item → Option Term) (i : Instr) (before after : List Slot) → ends_stretch i.op ≡ false → jump_of i.op ≡ None
-    → left_if false after ≡ items_behind i.op (items_of before) → tree_here from i (items_of before) ≡ None
-lacking from i before after straight stays left =
-    pass_here from i (items_of before) straight stays ∙ ap (option_and_then (onward from i.at (i.at + i.size))) (sym left)
+pub lacking : (from : ℕ → List Item → Option Term) (i : Instr) (before : List Item) → ends_stretch i.op ≡ false → jump_of i.op ≡ None
+    → None ≡ items_behind i.op before → tree_here from i before ≡ None
+lacking from i before straight stays left =
+    pass_here from i before straight stays ∙ ap (option_and_then (onward from i.at (i.at + i.size))) (sym left)
 
 pub rising : (at later : ℕ) → IfSome (later_than at later) (λ n. at < n)
 rising at later = by (nat_lt at later) (ltb-true at later)
@@ -109,7 +106,3 @@ flat_behind (ops.LoadElem place) (Tree b ∷ Tree a ∷ items) flat =
     (flat_operator (terms.Elem place) (λ a b. refl) a b flat.1.0 flat.0, flat.1.1)
 flat_behind (ops.Call number) items flat = flat_call (unit_call number) items flat
 flat_behind _ items flat = tt
-
--- The same of a stack in memory.
-pub flat_left : (op : Op) (before after : List Slot) → AreFlat (items_of before) → left_if true after ≡ items_behind op (items_of before) → AreFlat (items_of after)
-flat_left op before after flat left = subst FlatIfSome (sym left) (flat_behind op (items_of before) flat)

@@ -1,12 +1,14 @@
 //! The conditions of branches.
 
-ghost use Rattle.std.specs.Prelude.{◌≡◌, Some, IfOk, option_map, if◌then◌else◌};
+ghost use Rattle.std.specs.Prelude.{◌≡◌, true, Some, IfOk, MatchOption, option_map};
 ghost use Rattle.cil_model.specs.ClauseTrees.{branch_operator};
 ghost use Rattle.cil_model.specs.declared.instruction.Test.TheVariants as tests;
-ghost use Rattle.contract_extract.specs.Growth.{forked, tested};
-ghost use Rattle.contract_extract.specs.TreeStacks.{items_of};
+ghost use Rattle.contract_extract.specs.Growth.{forked, is_full, IsLeft};
+ghost use Rattle.contract_extract.specs.TreeStacks.{slots_tested, top_tested};
 
-use crate::tree_stack::{Slot, TreeStack};
+use crate::limits::Limits;
+use crate::tree_stack::{Slot, TreeStack, take_operator};
+use crate::trees::room_beside;
 use cil_model::{BinOp, CmpOp, Node, Test, Tree};
 use std::alloc::{AllocError, Global};
 
@@ -37,45 +39,41 @@ fn branch_operator(op: CmpOp) -> (BinOp, bool)
     }
 }
 
-/// Takes the tree that a branch tests, if it is there.
+/// Takes the tree that a branch tests, if it is there and kept.
 fn take_tree(stack: &mut TreeStack, turned: bool) -> Option<Condition>
-    ensures { option_map (λ condition. (condition, items_of stack.new.items)) result ≡ tested (if turned then tests.False else tests.True) (items_of stack.old.items) }
+    ensures { option_map (λ condition. (condition, stack.new.items)) result ≡ top_tested turned stack.old.items }
 {
     match stack.pop_front() {
-        Some(Slot::Tree(tree)) => Some(Condition { tree, turned }),
+        Some(Slot::Tree(Some(a))) => Some(Condition {
+            tree: a.tree,
+            turned,
+        }),
         _ => None,
     }
 }
 
-/// Takes the two trees that a branch compares, if they are there.
+/// Takes the comparison of the two trees that a branch compares, if they are there and it is kept.
 fn take_comparison(
     alloc: Global,
     op: CmpOp,
     stack: &mut TreeStack,
 ) -> Result<Option<Condition>, AllocError>
-    ensures { IfOk result (λ taken. option_map (λ condition. (condition, items_of stack.new.items)) taken ≡ tested (tests.Cmp op) (items_of stack.old.items)) }
+    ensures { IfOk result (λ taken. option_map (λ condition. (condition, stack.new.items)) taken ≡ slots_tested (tests.Cmp op) stack.old.items) }
 {
-    let Some(Slot::Tree(b)) = stack.pop_front() else {
-        return Ok(None);
-    };
-    let Some(Slot::Tree(a)) = stack.pop_front() else {
-        return Ok(None);
-    };
     let (operator, turned) = branch_operator(op);
-    let node = Node::Bin(operator, Box::new(alloc, a)?, Box::new(alloc, b)?);
-    Ok(Some(Condition {
-        tree: Tree { node },
-        turned,
-    }))
+    if !take_operator(alloc, operator, stack)? {
+        return Ok(None);
+    }
+    Ok(take_tree(stack, turned))
 }
 
-/// Takes the condition of a branch that goes two ways, if its operands are there.
+/// Takes the condition of a branch that goes two ways, if its operands are there and it is kept.
 pub(crate) fn take_condition(
     alloc: Global,
     test: Test,
     stack: &mut TreeStack,
 ) -> Result<Option<Condition>, AllocError>
-    ensures { IfOk result (λ taken. option_map (λ condition. (condition, items_of stack.new.items)) taken ≡ tested test (items_of stack.old.items)) }
+    ensures { IfOk result (λ taken. option_map (λ condition. (condition, stack.new.items)) taken ≡ slots_tested test stack.old.items) }
 {
     match test {
         Test::Always => Ok(None),
@@ -86,6 +84,20 @@ pub(crate) fn take_condition(
 }
 
 impl Condition {
+    /// What limits leave for the trees on both sides of the condition, if anything.
+    pub(crate) fn leaves(&self, limits: Limits) -> Option<Limits>
+        ensures { MatchOption result (is_full self.now limits ≡ true) (IsLeft self.now limits) }
+    {
+        if limits.conditions == 0 || limits.nodes == 0 {
+            return None;
+        }
+        let nodes = room_beside(&self.tree, limits.nodes - 1)?;
+        Some(Limits {
+            conditions: limits.conditions - 1,
+            nodes,
+        })
+    }
+
     /// The tree over the trees from the branch's target and from the next instruction.
     pub(crate) fn over(self, alloc: Global, target: Tree, next: Tree) -> Result<Tree, AllocError>
         ensures { IfOk result (λ tree. forked self (Some target) (Some next) ≡ Some tree) }

@@ -6,13 +6,11 @@ ghost use Rattle.cil_model.specs.Terms.{old_count};
 ghost use Rattle.cil_model.specs.ShortCode.{AreOfShortCode};
 ghost use Rattle.contract_extract.specs.TooLarge.{is_too_large};
 
-use crate::idle::skips;
 use crate::limits::Limits;
-use crate::tree_of::grow;
+use crate::tree_of::grow_clause;
 use crate::trees::old_values;
 use cil_model::{Instr, MAX_CONDITIONS, MAX_NODES, Tree};
 use std::alloc::{AllocError, Global};
-use std::collections::VecDeque;
 
 /// The tree of a clause, with what counts towards a limit of its method.
 #[derive(Drop)]
@@ -30,13 +28,14 @@ const CLAUSE_LIMITS: Limits = Limits {
 
 /// Reads the clause whose code begins at an IL offset. Nothing is read where its tree is too large.
 ///
-/// Each way forward is gone once, and the stack of trees is copied where it goes two ways. The nodes of a condition and of
-/// the end of a way are counted when they are met, and no way is gone further once there are more than a clause may have, or
-/// at the eleventh condition. Instructions that make no node are gone over at once, so in code that is typed the time is
-/// n log n in the number of instructions, and that of a few thousand nodes for each condition on a way. Only a value that
-/// stands where a message should, which typing refuses, is not counted: with it a clause may take the time of 2^10 ways
-/// through its code.
-#[tactic(auto, unfolding(crate::specs::Growth::forward))]
+/// Each way forward is gone once, and the stack of trees is copied where it goes two ways. A tree of more nodes than a clause
+/// may have is not kept, so no tree is copied or dropped that is deeper. The nodes of a condition and of the end of a way are
+/// counted when they are met, and no way is gone further once there are more than a clause may have, or at the eleventh
+/// condition. Instructions that make no node are gone over at once, so in code that is typed the time is n log n in the number
+/// of instructions, and that of a few thousand nodes for each condition on a way; at the first way that has too many nodes,
+/// where all ends, it is that of n nodes for each. Only a value that stands where a message should, which typing refuses, is
+/// not counted: a stretch that makes one is gone over once for each way, even where it is not kept, so a clause may take the
+/// time of 2^10 ways through its code.
 pub(crate) fn read_clause(
     alloc: Global,
     instrs: &[Instr],
@@ -51,9 +50,7 @@ pub(crate) fn read_clause(
     // Where nothing is read, there is no tree that is not too large.
     ensures too_large { IfOk result (λ read. read ≡ None → IfSome (tree_of instrs.now start) (λ tree. is_too_large tree ≡ true)) }
 {
-    let skips = skips(alloc, instrs)?;
-    let stack = VecDeque::new(alloc);
-    let Some(grown) = grow(alloc, instrs, &skips, start, stack, CLAUSE_LIMITS)? else {
+    let Some(grown) = grow_clause(alloc, instrs, start, CLAUSE_LIMITS)? else {
         return Ok(None);
     };
     let old_values = old_values(&grown.tree);

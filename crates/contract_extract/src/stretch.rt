@@ -1,12 +1,12 @@
 //! Straight stretches of a clause's code: the instructions up to one that closes the clause or goes two ways.
 
-ghost use Rattle.std.specs.Prelude.{◌≡◌, ◌+◌, ◌<◌, ◌≤◌, false, true, List, None, Some, IfOk, IfSome, option_map};
+ghost use Rattle.std.specs.Prelude.{◌≡◌, ◌<◌, ◌≤◌, false, true, List, IfOk, IfSome, option_map};
 ghost use Rattle.std.specs.Option.{option_and_then, option_copied};
 ghost use Rattle.cil_model.specs.ClauseTrees.{Item, closing};
 ghost use Rattle.cil_model.specs.declared.instruction.Instr.{Instr};
 ghost use Rattle.cil_model.specs.ShortCode.{AreOfShortCode, IsOfShortCode};
-ghost use Rattle.contract_extract.specs.Growth.{AreFlat, AreSkips, Keeps, ends_stretch, forward, jump_of, later_than, tree_here};
-ghost use Rattle.contract_extract.specs.TreeStacks.{items_of};
+ghost use Rattle.contract_extract.specs.Growth.{AreSkips, Keeps, ends_stretch, forward, jump_of, later_than, tree_here};
+ghost use Rattle.contract_extract.specs.TreeStacks.{IsFromNext, StandsFor};
 
 use crate::offsets::{find, index_of};
 use crate::tree_stack::{TreeStack, apply};
@@ -55,14 +55,13 @@ fn later_than(at: u32, later: u32) -> Option<u32>
 
 /// Makes the stack before an instruction the one behind it, and says where the way goes on, if the code of a clause may
 /// have the instruction there.
-#[tactic(auto, using(crate::proofs::Stretches::jumping, crate::proofs::Stretches::passing, crate::proofs::Stretches::lacking, crate::proofs::Stretches::rising, crate::proofs::Stretches::flat_left))]
+#[tactic(auto, using(crate::proofs::StackLemmas::jumps_on, crate::proofs::StackLemmas::passes_on, crate::proofs::StackLemmas::lacks, crate::proofs::Stretches::rising))]
 fn step(alloc: Global, instr: &Instr, stack: &mut TreeStack) -> Result<Option<u32>, AllocError>
     requires short { IsOfShortCode instr.now }
     requires straight { ends_stretch instr.now.op ≡ false }
-    ensures tree { (is : List Instr) → IfOk result (λ later. tree_here (forward is) instr.now (items_of stack.old.items)
-        ≡ option_and_then (λ at. forward is at (items_of stack.new.items)) later) }
+    ensures tree { (is : List Instr) (items : List Item) → StandsFor stack.old.items items
+        → IfOk result (IsFromNext (tree_here (forward is) instr.now items) (forward is) stack.new.items) }
     ensures later { IfOk result (λ later. IfSome later (λ at. instr.now.at < at)) }
-    ensures flat { AreFlat (items_of stack.old.items) → IfOk result (λ later. IfSome later (λ at. AreFlat (items_of stack.new.items))) }
 {
     if let Some(target) = jump(&instr.op) {
         return Ok(later_than(instr.at, target));
@@ -89,7 +88,7 @@ fn find_working<'a>(instrs: &'a [Instr], skips: &[u32], at: u32) -> Option<&'a I
 
 /// Goes from an IL offset straight on to the instruction where the stretch ends, and leaves the stack that it finds. If the
 /// clause has a tree from the offset on, it is the one from there on.
-#[tactic(auto, using(crate::proofs::Growing::keeps_step, crate::proofs::Growing::keeps_end, crate::proofs::Growing::keeps_same))]
+#[tactic(auto, using(crate::proofs::StackLemmas::stands_at_start, crate::proofs::StackLemmas::ends_at, crate::proofs::StackLemmas::ends_nowhere, crate::proofs::StackLemmas::goes_on, crate::proofs::StackLemmas::goes_nowhere))]
 pub(crate) fn run<'a>(
     alloc: Global,
     instrs: &'a [Instr],
@@ -99,12 +98,11 @@ pub(crate) fn run<'a>(
 ) -> Result<Option<&'a Instr>, AllocError>
     requires lie { AreOfShortCode instrs.now }
     requires skips { AreSkips instrs.now skips.now }
-    ensures tree { IfOk result (λ end. Keeps (forward instrs.now start (items_of stack.old.items))
-        (option_and_then (λ i. tree_here (forward instrs.now) i (items_of stack.new.items)) (option_copied end))) }
+    ensures tree { (items : List Item) → StandsFor stack.old.items items → IfOk result (λ end.
+        IsFromNext (forward instrs.now start items) (tree_here (forward instrs.now)) stack.new.items (option_copied end)) }
     ensures later { IfOk result (λ end. IfSome end (λ i. start ≤ i.now.at)) }
     ensures ends { IfOk result (λ end. IfSome end (λ i. ends_stretch i.now.op ≡ true)) }
     ensures short { IfOk result (λ end. IfSome end (λ i. IsOfShortCode i.now)) }
-    ensures flat { AreFlat (items_of stack.old.items) → IfOk result (λ end. IfSome end (λ i. AreFlat (items_of stack.new.items))) }
 {
     let mut at = start;
     while let Some(instr) = find_working(instrs, skips, at) {

@@ -1,22 +1,28 @@
 //! The stack that the code of a clause has: trees in place of values.
 
-ghost use Rattle.std.specs.Prelude.{◌≡◌, ◌∷◌, IfOk, OnOk};
-ghost use Rattle.cil_model.specs.ClauseTrees.{with_call, with_element, with_length, with_operator, with_unary, items_behind};
+ghost use Rattle.std.specs.Prelude.{◌≡◌, ◌∷◌, Some, None, IfOk, OnOk};
 ghost use Rattle.cil_model.specs.Nodes.{term_of};
-ghost use Rattle.contract_extract.specs.TreeStacks.{items_of, left_if, unary_op};
-ghost use Rattle.cil_model.specs.declared.instruction.Op.TheVariants as ops;
-ghost use Rattle.cil_model.specs.declared.unit_numbers.UnitCall.TheVariants as calls;
+ghost use Rattle.cil_model.specs.Terms as terms;
+ghost use Rattle.contract_extract.specs.TreeStacks.{kept, left_if, over_one, over_two, slots_behind, slots_called, under_tree};
 ghost use Rattle.contract_extract.specs.declared.tree_stack.Slot.TheVariants as slots;
 
 use crate::trees;
-use cil_model::{BinOp, Node, Op, Place, Tree, UnOp, UnitCall, unit_call};
+use cil_model::{BinOp, MAX_NODES, Node, Op, Place, Tree, UnOp, UnitCall, unit_call};
 use std::alloc::{AllocError, Global};
 use std::collections::VecDeque;
+
+/// A tree and how many nodes it has.
+#[derive(Drop)]
+pub(crate) struct Counted {
+    pub(crate) tree: Tree,
+    pub(crate) nodes: u16,
+}
 
 /// What stands on the stack of a clause's code.
 #[derive(Drop)]
 pub(crate) enum Slot {
-    Tree(Tree),
+    /// A tree of more nodes than a clause may have is not kept: copying a tree and dropping it go as deep as it is.
+    Tree(Option<Counted>),
     /// The message of the call that closes the clause.
     Message,
 }
@@ -24,38 +30,86 @@ pub(crate) enum Slot {
 /// The top comes first.
 pub(crate) type TreeStack = VecDeque<Slot>;
 
-fn push(stack: &mut TreeStack, node: Node) -> Result<(), AllocError>
-    ensures { OnOk result (stack.new.items ≡ slots.Tree (term_of node) ∷ stack.old.items) }
+/// The tree with its count, if it is kept.
+fn kept(node: Node, nodes: usize) -> Option<Counted>
+    ensures { result ≡ kept (term_of node) nodes }
 {
-    stack.push_front(Slot::Tree(Tree { node }))?;
+    if MAX_NODES < nodes {
+        return None;
+    }
+    Some(Counted {
+        tree: Tree { node },
+        nodes: nodes as u16,
+    })
+}
+
+fn push(stack: &mut TreeStack, node: Node, nodes: usize) -> Result<(), AllocError>
+    ensures { OnOk result (stack.new.items ≡ slots.Tree (kept (term_of node) nodes) ∷ stack.old.items) }
+{
+    stack.push_front(Slot::Tree(kept(node, nodes)))?;
     Ok(())
+}
+
+/// Puts a tree that is not kept on the stack.
+fn push_large(stack: &mut TreeStack) -> Result<bool, AllocError>
+    ensures { IfOk result (λ fits. left_if fits stack.new.items ≡ Some (slots.Tree None ∷ stack.old.items)) }
+{
+    stack.push_front(Slot::Tree(None))?;
+    Ok(true)
 }
 
 /// Puts the length of an array in its place, and says whether there is a tree for it.
 fn take_length(alloc: Global, stack: &mut TreeStack) -> Result<bool, AllocError>
-    ensures { IfOk result (λ fits. left_if fits stack.new.items ≡ with_length (items_of stack.old.items)) }
+    ensures { IfOk result (λ fits. left_if fits stack.new.items ≡ over_one terms.Len stack.old.items) }
 {
-    let Some(Slot::Tree(array)) = stack.pop_front() else {
+    let Some(Slot::Tree(a)) = stack.pop_front() else {
         return Ok(false);
     };
-    push(stack, Node::Len(Box::new(alloc, array)?))?;
+    let Some(a) = a else {
+        return push_large(stack);
+    };
+    let nodes = a.nodes as usize + 1;
+    push(stack, Node::Len(Box::new(alloc, a.tree)?), nodes)?;
     Ok(true)
 }
 
 /// The same of an operator of one number.
 fn take_unary(alloc: Global, operator: UnOp, stack: &mut TreeStack) -> Result<bool, AllocError>
-    ensures { IfOk result (λ fits. left_if fits stack.new.items ≡ with_unary (unary_op operator) (items_of stack.old.items)) }
+    ensures { IfOk result (λ fits. left_if fits stack.new.items ≡ over_one (terms.Un operator) stack.old.items) }
 {
-    let Some(Slot::Tree(operand)) = stack.pop_front() else {
+    let Some(Slot::Tree(a)) = stack.pop_front() else {
         return Ok(false);
     };
-    push(stack, Node::Un(operator, Box::new(alloc, operand)?))?;
+    let Some(a) = a else {
+        return push_large(stack);
+    };
+    let nodes = a.nodes as usize + 1;
+    push(stack, Node::Un(operator, Box::new(alloc, a.tree)?), nodes)?;
+    Ok(true)
+}
+
+/// The value that a tree had at entry, in its place.
+fn take_old(alloc: Global, stack: &mut TreeStack) -> Result<bool, AllocError>
+    ensures { IfOk result (λ fits. left_if fits stack.new.items ≡ over_one terms.Old stack.old.items) }
+{
+    let Some(Slot::Tree(a)) = stack.pop_front() else {
+        return Ok(false);
+    };
+    let Some(a) = a else {
+        return push_large(stack);
+    };
+    let nodes = a.nodes as usize + 1;
+    push(stack, Node::Old(Box::new(alloc, a.tree)?), nodes)?;
     Ok(true)
 }
 
 /// The same of an operator of two numbers. The second one is the top.
-fn take_operator(alloc: Global, operator: BinOp, stack: &mut TreeStack) -> Result<bool, AllocError>
-    ensures { IfOk result (λ fits. left_if fits stack.new.items ≡ with_operator operator (items_of stack.old.items)) }
+pub(crate) fn take_operator(
+    alloc: Global,
+    operator: BinOp,
+    stack: &mut TreeStack,
+) -> Result<bool, AllocError>
+    ensures { IfOk result (λ fits. left_if fits stack.new.items ≡ over_two (terms.Bin operator) stack.old.items) }
 {
     let Some(Slot::Tree(b)) = stack.pop_front() else {
         return Ok(false);
@@ -63,38 +117,37 @@ fn take_operator(alloc: Global, operator: BinOp, stack: &mut TreeStack) -> Resul
     let Some(Slot::Tree(a)) = stack.pop_front() else {
         return Ok(false);
     };
-    push(
-        stack,
-        Node::Bin(operator, Box::new(alloc, a)?, Box::new(alloc, b)?),
-    )?;
+    let Some(b) = b else {
+        return push_large(stack);
+    };
+    let Some(a) = a else {
+        return push_large(stack);
+    };
+    let nodes = a.nodes as usize + b.nodes as usize + 1;
+    let node = Node::Bin(operator, Box::new(alloc, a.tree)?, Box::new(alloc, b.tree)?);
+    push(stack, node, nodes)?;
     Ok(true)
 }
 
 /// Puts an element in the place of an array and an index, and says whether there are trees for them.
 fn take_element(alloc: Global, place: Place, stack: &mut TreeStack) -> Result<bool, AllocError>
-    ensures { IfOk result (λ fits. left_if fits stack.new.items ≡ with_element (ops.LoadElem place) (items_of stack.old.items)) }
+    ensures { IfOk result (λ fits. left_if fits stack.new.items ≡ over_two (terms.Elem place) stack.old.items) }
 {
-    let Some(Slot::Tree(index)) = stack.pop_front() else {
+    let Some(Slot::Tree(b)) = stack.pop_front() else {
         return Ok(false);
     };
-    let Some(Slot::Tree(array)) = stack.pop_front() else {
+    let Some(Slot::Tree(a)) = stack.pop_front() else {
         return Ok(false);
     };
-    push(
-        stack,
-        Node::Elem(place, Box::new(alloc, array)?, Box::new(alloc, index)?),
-    )?;
-    Ok(true)
-}
-
-/// The value that a tree had at entry, in its place.
-fn take_old(alloc: Global, place: Place, stack: &mut TreeStack) -> Result<bool, AllocError>
-    ensures { IfOk result (λ fits. left_if fits stack.new.items ≡ with_call (Some (calls.OldValue place)) (items_of stack.old.items)) }
-{
-    let Some(Slot::Tree(value)) = stack.pop_front() else {
-        return Ok(false);
+    let Some(b) = b else {
+        return push_large(stack);
     };
-    push(stack, Node::Old(Box::new(alloc, value)?))?;
+    let Some(a) = a else {
+        return push_large(stack);
+    };
+    let nodes = a.nodes as usize + b.nodes as usize + 1;
+    let node = Node::Elem(place, Box::new(alloc, a.tree)?, Box::new(alloc, b.tree)?);
+    push(stack, node, nodes)?;
     Ok(true)
 }
 
@@ -104,21 +157,21 @@ fn take_call(
     call: Option<UnitCall>,
     stack: &mut TreeStack,
 ) -> Result<bool, AllocError>
-    ensures { IfOk result (λ fits. left_if fits stack.new.items ≡ with_call call (items_of stack.old.items)) }
+    ensures { IfOk result (λ fits. left_if fits stack.new.items ≡ slots_called call stack.old.items) }
 {
     match call {
         Some(UnitCall::Result(_)) => {
-            push(stack, Node::Result)?;
+            push(stack, Node::Result, 1)?;
             Ok(true)
         }
-        Some(UnitCall::OldValue(place)) => take_old(alloc, place, stack),
+        Some(UnitCall::OldValue(_)) => take_old(alloc, stack),
         _ => Ok(false),
     }
 }
 
 /// Whether a tree is the top.
 fn has_tree(stack: &TreeStack) -> bool
-    ensures { left_if result stack.now.items ≡ with_unary ops.ConvI4 (items_of stack.now.items) }
+    ensures { left_if result stack.now.items ≡ under_tree stack.now.items }
 {
     matches!(stack.front(), Some(Slot::Tree(_)))
 }
@@ -126,13 +179,13 @@ fn has_tree(stack: &TreeStack) -> bool
 /// Makes the stack before an operation that is no branch the one behind it, and says whether the code of a clause may
 /// have the operation there.
 pub(crate) fn apply(alloc: Global, op: &Op, stack: &mut TreeStack) -> Result<bool, AllocError>
-    ensures { IfOk result (λ fits. left_if fits stack.new.items ≡ items_behind op.now (items_of stack.old.items)) }
+    ensures { IfOk result (λ fits. left_if fits stack.new.items ≡ slots_behind op.now stack.old.items) }
 {
     match op {
         Op::Nop => {}
-        Op::LoadArg(n) => push(stack, Node::Arg(*n))?,
-        Op::Null => push(stack, Node::Null)?,
-        Op::Const(n) => push(stack, Node::Const(*n))?,
+        Op::LoadArg(n) => push(stack, Node::Arg(*n), 1)?,
+        Op::Null => push(stack, Node::Null, 1)?,
+        Op::Const(n) => push(stack, Node::Const(*n), 1)?,
         Op::Text(_) => stack.push_front(Slot::Message)?,
         Op::Bin(operator) => return take_operator(alloc, *operator, stack),
         Op::Neg => return take_unary(alloc, UnOp::Neg, stack),
@@ -146,11 +199,21 @@ pub(crate) fn apply(alloc: Global, op: &Op, stack: &mut TreeStack) -> Result<boo
     Ok(true)
 }
 
+fn copied_counted(alloc: Global, a: &Counted) -> Result<Counted, AllocError>
+    ensures { IfOk result (λ copy. copy ≡ a.now) }
+{
+    Ok(Counted {
+        tree: Box::into_inner(trees::copied(alloc, &a.tree)?),
+        nodes: a.nodes,
+    })
+}
+
 fn copied_slot(alloc: Global, slot: &Slot) -> Result<Slot, AllocError>
     ensures { IfOk result (λ copy. copy ≡ slot.now) }
 {
     match slot {
-        Slot::Tree(tree) => Ok(Slot::Tree(Box::into_inner(trees::copied(alloc, tree)?))),
+        Slot::Tree(Some(a)) => Ok(Slot::Tree(Some(copied_counted(alloc, a)?))),
+        Slot::Tree(None) => Ok(Slot::Tree(None)),
         Slot::Message => Ok(Slot::Message),
     }
 }

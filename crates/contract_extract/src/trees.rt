@@ -61,7 +61,7 @@ fn alone(alloc: Global, root: &Tree) -> Result<Box<Tree>, AllocError>
 
 /// A copy of a tree in memory of its own.
 ///
-/// It calls itself as deep as the tree is, and a tree may be as deep as a method has instructions. So its frame is kept small.
+/// It calls itself as deep as the tree is, and a tree on the stack may be as deep as `MAX_NODES`. So its frame is kept small.
 pub(crate) fn copied(alloc: Global, tree: &Tree) -> Result<Box<Tree>, AllocError>
     ensures { IfOk result (λ copy. copy.value ≡ tree.now) }
 {
