@@ -1,6 +1,6 @@
 -- One clause is closed: what is left of the block, or the first fault.
 use Rattle.std.proofs.Common.{◌≡◌, ℕ, zero, suc, ◌+◌, ◌-◌, ◌<◌, ◌≤◌, Bool, true, false, ◌||◌, get_or, List, [], ◌∷◌, ◌++◌, length, map, take, drop, Option, Some, None, IsSome, Result, Ok, Err, refl, sym, subst, ap, ◌∙◌, arith, append_assoc, append-nil, length-append, slice_get, slice_range, if◌then◌else◌}
-use Rattle.std.specs.Prelude.{nat_lt, sum_by, IsErrAnd}
+use Rattle.std.specs.Prelude.{nat_lt, IsErrAnd}
 use Rattle.cc_base.specs.Tests.{JudgesOrNoMemory}
 use Rattle.cc_base.specs.declared.refusal.Refusal.{Refusal}
 use Rattle.cc_base.specs.declared.refusal.Refusal.TheVariants.{Bad, NoMemory}
@@ -10,8 +10,8 @@ use Rattle.std.proofs.lemmas.Bool.{ltb-false}
 use Rattle.std.proofs.lemmas.List.{map-append}
 use Rattle.std.proofs.lemmas.List.Sums.{sum_by_push}
 use Rattle.std.proofs.lemmas.Option.{get_or_from_slice_get, slice_get_within}
-use Rattle.cil_model.specs.Blocks.{behind_last_closing, branch_targets, closes, start_of_body}
-use Rattle.cil_model.specs.ClauseTrees.{clause_before, clauses_from, clauses_in, closing, tree_of}
+use Rattle.cil_model.specs.Blocks.{behind_last_closing, closes}
+use Rattle.cil_model.specs.ClauseTrees.{clause_before, clauses_from, closing, tree_of}
 use Rattle.cil_model.specs.Code.{MeetsStarts}
 use Rattle.cil_model.specs.ShortCode.{AreOfShortCode, IsOfShortCode, LieFrom}
 use Rattle.cil_model.specs.Terms.{Term, condition_depth, old_count, term_size}
@@ -19,7 +19,6 @@ use Rattle.cil_model.specs.WellFormed.{ClausesWithinLimits, told_by_code}
 use Rattle.cil_model.specs.declared.clause.Clause.{Clause}
 use Rattle.cil_model.specs.declared.clause.ClauseKind.{ClauseKind}
 use Rattle.cil_model.specs.declared.instruction.Instr.{Instr}
-use Rattle.cil_model.specs.declared.instruction.Op.{Op}
 use Rattle.cil_model.specs.declared.shape.Shape.{Shape}
 use Rattle.contract_extract.specs.ClauseLies.{IsClauseCode, clause_faults, code_between}
 use Rattle.contract_extract.specs.Extracting.{BlockLeft, Goes, IsClosing, LeftBehind, NoneCloses, ReadWithin, closed_kind, olds_of}

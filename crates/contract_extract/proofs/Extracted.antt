@@ -1,13 +1,12 @@
 -- One clause of a contract block after another.
-use Rattle.std.proofs.Common.{◌≡◌, ℕ, zero, suc, ◌+◌, ◌-◌, ◌<◌, ◌≤◌, ◌==◌, Bool, true, false, ◌&&◌, ◌||◌, List, [], ◌∷◌, ◌++◌, length, map, take, drop, get_or, length-append, length-drop, drop-drop, Option, Some, None, refl, sym, subst, ap, ◌∙◌, arith, append_assoc, append-nil, slice_get, if◌then◌else◌}
-use Rattle.std.specs.Prelude.{nat_lt, nat_le, sum_by}
+use Rattle.std.proofs.Common.{◌≡◌, ℕ, zero, suc, ◌+◌, ◌-◌, ◌<◌, ◌≤◌, ◌==◌, Bool, true, false, ◌&&◌, ◌||◌, List, [], ◌∷◌, ◌++◌, length, take, drop, get_or, length-append, length-drop, drop-drop, Option, Some, None, refl, sym, subst, ap, ◌∙◌, arith, append_assoc, slice_get}
+use Rattle.std.specs.Prelude.{nat_lt}
 use Rattle.std.specs.List.{AllByRecursion, flat_map}
-use Rattle.std.specs.Option.{option_map_or}
 use Rattle.std.proofs.lemmas.Bool.Decides.{nat_tests}
 use Rattle.std.proofs.lemmas.List.{drop_more, length-take-le, take-append-drop, take_at}
 use Rattle.std.proofs.lemmas.Option.{slice_get_within}
-use Rattle.cil_model.specs.Blocks.{behind_last_closing, closes, start_of_body}
-use Rattle.cil_model.specs.ClauseTrees.{clause_before, clauses_from, clauses_in, closing, tree_of}
+use Rattle.cil_model.specs.Blocks.{closes}
+use Rattle.cil_model.specs.ClauseTrees.{closing}
 use Rattle.cil_model.specs.ShortCode.{AreOfShortCode, IsOfShortCode, LieFrom}
 use Rattle.cil_model.specs.Terms.{Term}
 use Rattle.cil_model.specs.declared.clause.ClauseKind.{ClauseKind}
@@ -18,10 +17,9 @@ use Rattle.contract_extract.specs.ClauseLies as lies
 use Rattle.contract_extract.specs.Extracting.{NoneCloses}
 use Rattle.contract_extract.specs.Faults.{code_faults, comes_before, fault_at, fault_if, fault_rank, faults_in, faults_of, first_fault, limit_faults, with_clause}
 use Rattle.contract_extract.specs.SharedStacks.{either}
-use Rattle.contract_extract.specs.Ways.{way_faults}
 use Rattle.contract_extract.specs.declared.clause_fault.ClauseFault.{ClauseFault}
 use Rattle.contract_extract.specs.declared.clause_fault.ClauseFault.TheVariants.{NotPure, Backward, StackLeft, IntoBlock, OldForm, TooLong}
-use Rattle.contract_extract.proofs.Earliest.{either-none, first_fault-append}
+use Rattle.contract_extract.proofs.Earliest.{first_fault-append}
 use Rattle.contract_extract.proofs.FaultRanges.{Between, both_all, faults_above, faults_of_at, first_has, lower_first, way_faults_between}
 use Rattle.contract_extract.proofs.Segments.{clause_faults_with, segment}
 

@@ -1,5 +1,5 @@
 -- Where the faults of a clause's code and of what follows it stand.
-use Rattle.std.proofs.Common.{◌≡◌, ℕ, zero, suc, ◌+◌, ◌<◌, ◌≤◌, ◌==◌, Bool, true, false, not, ◌&&◌, ◌||◌, List, [], ◌∷◌, ◌++◌, length, map, take, drop, Option, Some, None, refl, sym, ap, ◌∙◌, arith, if◌then◌else◌}
+use Rattle.std.proofs.Common.{◌≡◌, ℕ, zero, suc, ◌+◌, ◌<◌, ◌≤◌, ◌==◌, Bool, true, false, not, ◌&&◌, ◌||◌, List, [], ◌∷◌, ◌++◌, length, map, take, drop, Option, Some, None, refl, arith, if◌then◌else◌}
 use Rattle.std.specs.Prelude.{nat_lt, nat_le}
 use Rattle.std.specs.List.{AllByRecursion, flat_map, list_any}
 use Rattle.std.proofs.lemmas.Bool.Decides.{nat_tests}
@@ -7,7 +7,7 @@ use Rattle.std.specs.Option.{option_map_or}
 use Rattle.std.proofs.lemmas.Bool.{and_parts, cond_both, ltb-true, leb-true}
 use Rattle.cil_model.specs.Blocks.{branch_targets, closes, start_of_body}
 use Rattle.cil_model.specs.ClauseTrees.{closing, tree_of}
-use Rattle.cil_model.specs.Kinds.{operand_count, takes}
+use Rattle.cil_model.specs.Kinds.{operand_count}
 use Rattle.cil_model.specs.Runs.{instr_at}
 use Rattle.cil_model.specs.ShortCode.{LieFrom}
 use Rattle.cil_model.specs.Terms.{Term}
@@ -24,7 +24,7 @@ use Rattle.contract_extract.specs.Faults.{body_faults, branch_faults, closed_fau
 use Rattle.contract_extract.specs.PureCode.{is_pure}
 use Rattle.contract_extract.specs.SharedStacks.{either}
 use Rattle.contract_extract.specs.TooLarge.{passes_limit}
-use Rattle.contract_extract.specs.Ways.{Told, asked_by, calls_with, closing_faults, faults_at, faults_from, faults_here, made, misfits, old_faults, old_faults_of, stack_behind, stack_by, way_faults, ways_behind}
+use Rattle.contract_extract.specs.Ways.{Told, asked_by, closing_faults, faults_at, faults_from, faults_here, made, misfits, old_faults_of, stack_behind, way_faults, ways_behind}
 use Rattle.contract_extract.specs.declared.clause_fault.ClauseFault.{ClauseFault}
 use Rattle.contract_extract.specs.declared.clause_fault.ClauseFault.TheVariants.{NotPure, Backward, StackLeft, IntoBlock, OldForm, TooLong}
 use Rattle.contract_extract.proofs.InstrOffsets.{found_at}

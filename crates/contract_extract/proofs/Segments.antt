@@ -1,20 +1,17 @@
 -- The contract block clause by clause: what is wrong, the clauses and where the body starts, with what is left of it.
-use Rattle.std.proofs.Common.{◌≡◌, ℕ, zero, suc, ◌+◌, ◌-◌, ◌<◌, ◌≤◌, Bool, true, false, List, [], ◌∷◌, ◌++◌, length, map, take, drop, Option, Some, None, refl, sym, ap, ◌∙◌, arith, append_assoc, append-nil, if◌then◌else◌}
-use Rattle.std.specs.List.{AllByRecursion, flat_map}
-use Rattle.std.specs.Option.{option_map_or}
+use Rattle.std.proofs.Common.{◌≡◌, ℕ, ◌+◌, true, List, [], ◌∷◌, ◌++◌, Option, Some, None, refl, sym, ap, ◌∙◌, append_assoc, append-nil, if◌then◌else◌}
+use Rattle.std.specs.List.{flat_map}
 use Rattle.cil_model.specs.Blocks.{behind_last_closing, closes, start_of_body}
-use Rattle.cil_model.specs.ClauseTrees.{clause_before, clauses_from, clauses_in, closing, tree_of}
+use Rattle.cil_model.specs.ClauseTrees.{clause_before, clauses_from, closing}
 use Rattle.cil_model.specs.Terms.{Term}
 use Rattle.cil_model.specs.declared.clause.ClauseKind.{ClauseKind}
 use Rattle.cil_model.specs.declared.instruction.Instr.{Instr}
 use Rattle.cil_model.specs.declared.shape.Shape.{Shape}
-use Rattle.contract_extract.specs.ClauseCodes.{closing_of, start_behind}
+use Rattle.contract_extract.specs.ClauseCodes.{closing_of}
 use Rattle.contract_extract.specs.Extracting.{NoneCloses}
-use Rattle.contract_extract.specs.Faults.{body_faults, closed_faults, code_faults, faults_in, faults_of, first_clause_fault, first_fault, limit_faults, with_clause}
-use Rattle.contract_extract.specs.SharedStacks.{either}
+use Rattle.contract_extract.specs.Faults.{body_faults, code_faults, faults_in, faults_of, limit_faults, with_clause}
 use Rattle.contract_extract.specs.Ways.{way_faults}
 use Rattle.contract_extract.specs.declared.clause_fault.ClauseFault.{ClauseFault}
-use Rattle.contract_extract.proofs.Earliest.{first_fault-append}
 
 closing_found : (code : List Instr) (call : Instr) (rest : List Instr) → NoneCloses code → closes call.op ≡ true → closing_of (code ++ call ∷ rest) ≡ Some call
 closing_found [] call rest none e = rw e refl

@@ -47,7 +47,12 @@ pub(crate) struct Block {
 impl Block {
     /// The next clause, where it keeps the limits with those that were read.
     #[tactic(auto, using(crate::proofs::ClauseLimits::limits))]
-    fn read_within(&self, alloc: Global, instrs: &[Instr], kind: ClauseKind) -> Result<Option<ReadClause>, AllocError>
+    fn read_within(
+        &self,
+        alloc: Global,
+        instrs: &[Instr],
+        kind: ClauseKind,
+    ) -> Result<Option<ReadClause>, AllocError>
         requires lie { AreOfShortCode instrs.now }
         requires has_tree { IsSome (tree_of instrs.now self.now.start) }
         requires counted { self.now.old_values ≡ olds_of self.now.clauses.items }
@@ -66,7 +71,13 @@ impl Block {
 
 impl Block {
     /// Adds the clause that the call of this index closes, if it closes one. Its code has no fault.
-    fn add_clause(&mut self, alloc: Global, instrs: &[Instr], shape: &Shape, last: usize) -> Result<(), ClauseRefusal>
+    fn add_clause(
+        &mut self,
+        alloc: Global,
+        instrs: &[Instr],
+        shape: &Shape,
+        last: usize,
+    ) -> Result<(), ClauseRefusal>
         requires lie { AreOfShortCode instrs.now }
         requires targets { AllByRecursion (MeetsStarts instrs.now) instrs.now }
         requires left { BlockLeft instrs.now shape.now self.old.clauses.items self.old.old_values self.old.first self.old.start }
@@ -83,13 +94,22 @@ impl Block {
         let Some(read) = self.read_within(alloc, instrs, kind)? else {
             return Err(ClauseFault::TooLong(call.at).into());
         };
-        self.clauses.push(Clause { kind, tree: read.tree })?;
+        self.clauses.push(Clause {
+            kind,
+            tree: read.tree,
+        })?;
         self.old_values += read.old_values;
         Ok(())
     }
 
     /// Goes on behind the closing call of this index, with the clause that it closes.
-    fn close(&mut self, alloc: Global, instrs: &[Instr], shape: &Shape, last: usize) -> Result<(), ClauseRefusal>
+    fn close(
+        &mut self,
+        alloc: Global,
+        instrs: &[Instr],
+        shape: &Shape,
+        last: usize,
+    ) -> Result<(), ClauseRefusal>
         requires lie { AreOfShortCode instrs.now }
         requires targets { AllByRecursion (MeetsStarts instrs.now) instrs.now }
         requires left { BlockLeft instrs.now shape.now self.old.clauses.items self.old.old_values self.old.first self.old.start }
@@ -107,7 +127,13 @@ impl Block {
     }
 
     /// Goes on behind the instruction of this index, with the clause that it closes, if it closes one.
-    fn pass(&mut self, alloc: Global, instrs: &[Instr], shape: &Shape, index: usize) -> Result<(), ClauseRefusal>
+    fn pass(
+        &mut self,
+        alloc: Global,
+        instrs: &[Instr],
+        shape: &Shape,
+        index: usize,
+    ) -> Result<(), ClauseRefusal>
         requires lie { AreOfShortCode instrs.now }
         requires targets { AllByRecursion (MeetsStarts instrs.now) instrs.now }
         requires within { index < length instrs.now }
@@ -123,7 +149,11 @@ impl Block {
 }
 
 /// Reads the clauses that the calls of a method's code close, up to its last instruction.
-pub(crate) fn read_clauses(alloc: Global, instrs: &[Instr], shape: &Shape) -> Result<Block, ClauseRefusal>
+pub(crate) fn read_clauses(
+    alloc: Global,
+    instrs: &[Instr],
+    shape: &Shape,
+) -> Result<Block, ClauseRefusal>
     requires lie { AreOfShortCode instrs.now }
     requires targets { AllByRecursion (MeetsStarts instrs.now) instrs.now }
     ensures { Goes result (first_clause_fault instrs.now shape.now)

@@ -33,7 +33,10 @@ fn body_fault(start: u32, instr: &Instr) -> Option<ClauseFault>
     ensures { result ≡ first_fault (body_faults start instr.now) }
 {
     either(
-        fault_if(goes_into_block(start, &instr.op), ClauseFault::IntoBlock(instr.at)),
+        fault_if(
+            goes_into_block(start, &instr.op),
+            ClauseFault::IntoBlock(instr.at),
+        ),
         fault_if(asks(&instr.op), ClauseFault::OldForm(instr.at)),
     )
 }

@@ -1,7 +1,5 @@
-use Rattle.std.proofs.Common.{◌≡◌, ◌+◌, arith, length, sym, subst, ap}
+use Rattle.std.proofs.Common.{◌≡◌, arith, length, subst}
 use Rattle.contract_extract.specs.Extracting.{ArePassed}
-use Rattle.contract_extract.specs.Faults.{first_clause_fault}
-use Rattle.contract_extract.proofs.Closing.{goes_on}
 use Rattle.contract_extract.proofs.Passed.{none_passed}
 use Rattle.contract_extract.proofs.block.read_clauses.Goals as goal
 

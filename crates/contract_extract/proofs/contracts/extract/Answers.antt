@@ -1,4 +1,4 @@
-use Rattle.std.proofs.Common.{◌≡◌, sym, ◌∙◌}
+use Rattle.std.proofs.Common.{sym, ◌∙◌}
 use Rattle.contract_extract.proofs.AllNumbers.{all_numbers}
 use Rattle.contract_extract.proofs.Passed.{contracts_left, fault_left}
 use Rattle.contract_extract.proofs.contracts.extract.Goals as goal
@@ -10,9 +10,10 @@ returns-in-Some-clause-judged c =
 
 pub returns-clause-judged : goal.returns-clause-judged
 returns-clause-judged c =
-    rw c.from_vec.ensures
-    (fault_left c.args.instrs.now c.args.shape.now c.in_ok-block.block.clauses.items c.in_ok-block.block.old_values c.in_ok-block.block.first c.in_ok-block.block.start c.in_ok-block.ensures ∙ sym c.in_default.ensures,
-    contracts_left c.args.instrs.now c.args.shape.now c.in_ok-block.block.clauses.items c.in_ok-block.block.old_values c.in_ok-block.block.first c.in_ok-block.block.start c.in_ok-block.ensures)
+    rw c.from_vec.ensures (
+      fault_left c.args.instrs.now c.args.shape.now c.in_ok-block.block.clauses.items c.in_ok-block.block.old_values c.in_ok-block.block.first c.in_ok-block.block.start c.in_ok-block.ensures ∙ sym c.in_default.ensures,
+      contracts_left c.args.instrs.now c.args.shape.now c.in_ok-block.block.clauses.items c.in_ok-block.block.old_values c.in_ok-block.block.first c.in_ok-block.block.start c.in_ok-block.ensures,
+    )
 
 pub returns-clause-numbers : goal.returns-clause-numbers
 returns-clause-numbers c =

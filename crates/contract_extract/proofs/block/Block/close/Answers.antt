@@ -1,4 +1,4 @@
-use Rattle.std.proofs.Common.{◌≡◌, ◌+◌, refl, sym, ap, subst, ◌∙◌}
+use Rattle.std.proofs.Common.{◌+◌, refl, sym, subst, ◌∙◌}
 use Rattle.cil_model.specs.declared.instruction.Instr.{Instr}
 use Rattle.contract_extract.specs.Extracting.{BlockLeft}
 use Rattle.contract_extract.proofs.Closing.{clause_code, fault_in_code, goes_carried, met}

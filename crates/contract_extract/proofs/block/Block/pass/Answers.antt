@@ -1,4 +1,4 @@
-use Rattle.std.proofs.Common.{◌≡◌, refl, sym}
+use Rattle.std.proofs.Common.{sym}
 use Rattle.std.proofs.lemmas.Option.{slice_get-get_or}
 use Rattle.contract_extract.proofs.Passed.{is_closing, passes_on}
 use Rattle.contract_extract.proofs.block.Block.pass.Goals as goal
