@@ -190,10 +190,3 @@ pub keeps_grown : (limits : Limits) (a b : Option Term) (grown : Option Grown) �
 keeps_grown limits None b None keeps grows = tt
 keeps_grown limits None b (Some g) keeps grows = record { is = tt; nodes = grows.nodes; conditions = grows.conditions }
 keeps_grown limits (Some t) b grown keeps grows = subst (λ (o : Option Term). Grows limits o grown) keeps grows
-
--- What a step makes of it is kept.
-pub keeps_step : (a b c : Option Term) → Keeps a b → b ≡ c → Keeps a c
-keeps_step a b c keeps same = keeps_on a b c keeps (keeps_same b c same)
-
-pub keeps_end : (a b : Option Term) → Keeps a b → b ≡ None → Keeps a None
-keeps_end a b keeps same = keeps_step a b None keeps same

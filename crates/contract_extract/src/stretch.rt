@@ -55,7 +55,7 @@ fn later_than(at: u32, later: u32) -> Option<u32>
 
 /// Makes the stack before an instruction the one behind it, and says where the way goes on, if the code of a clause may
 /// have the instruction there.
-#[tactic(auto, using(crate::proofs::StackLemmas::jumps_on, crate::proofs::StackLemmas::passes_on, crate::proofs::StackLemmas::lacks, crate::proofs::Stretches::rising))]
+#[tactic(auto, using(crate::proofs::StackLemmas::jumps_on, crate::proofs::StackLemmas::lacks, crate::proofs::Stretches::rising))]
 fn step(alloc: Global, instr: &Instr, stack: &mut TreeStack) -> Result<Option<u32>, AllocError>
     requires short { IsOfShortCode instr.now }
     requires straight { ends_stretch instr.now.op ≡ false }
@@ -88,7 +88,7 @@ fn find_working<'a>(instrs: &'a [Instr], skips: &[u32], at: u32) -> Option<&'a I
 
 /// Goes from an IL offset straight on to the instruction where the stretch ends, and leaves the stack that it finds. If the
 /// clause has a tree from the offset on, it is the one from there on.
-#[tactic(auto, using(crate::proofs::StackLemmas::stands_at_start, crate::proofs::StackLemmas::ends_at, crate::proofs::StackLemmas::ends_nowhere, crate::proofs::StackLemmas::goes_on, crate::proofs::StackLemmas::goes_nowhere))]
+#[tactic(auto, using(crate::proofs::StackLemmas::stands_at_start, crate::proofs::StackLemmas::ends_at, crate::proofs::StackLemmas::ends_nowhere))]
 pub(crate) fn run<'a>(
     alloc: Global,
     instrs: &'a [Instr],

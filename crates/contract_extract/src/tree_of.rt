@@ -30,7 +30,7 @@ fn closed_tree(message: bool, mut stack: TreeStack) -> Option<Counted>
 }
 
 /// The same within limits.
-#[tactic(auto, using(crate::proofs::StackLemmas::no_leaf, crate::proofs::StackLemmas::large_leaf, crate::proofs::StackLemmas::leaf_grown))]
+#[tactic(auto, using(crate::proofs::StackLemmas::no_leaf, crate::proofs::StackLemmas::large_leaf))]
 fn leaf(message: bool, stack: TreeStack, limits: Limits) -> Option<Grown>
     ensures tree { (items : List Item) → StandsFor stack.items items → Grows limits (closed_tree message items) result }
     ensures room { IfSome result (λ grown. grown.nodes_left ≤ limits.nodes) }
@@ -93,7 +93,7 @@ fn fork(
 
 /// The tree from an IL offset on, within limits. Nothing is grown where there is no such tree.
 #[cycle(growth)]
-#[tactic(auto, using(crate::proofs::StackLemmas::grows_nowhere, crate::proofs::StackLemmas::grows_closed, crate::proofs::StackLemmas::grows_untested, crate::proofs::StackLemmas::grows_tested))]
+#[tactic(auto, using(crate::proofs::StackLemmas::grows_nowhere, crate::proofs::StackLemmas::grows_closed, crate::proofs::StackLemmas::grows_tested))]
 fn grow(
     alloc: Global,
     instrs: &[Instr],
