@@ -174,50 +174,110 @@ const FAULTY: [(&[u8], ClauseFault); 37] = [
     // What no clause may have: a store, a copy, another call, a message that is none, a local, a switch, a return.
     (b"\x02\x10\0\x28\x01\0\0\0\x2a", ClauseFault::NotPure(1)),
     (b"\x02\x25\x28\x01\0\0\0\x2a", ClauseFault::NotPure(1)),
-    (b"\x02\x28\x05\0\0\0\x16\x28\x01\0\0\0\x2a", ClauseFault::NotPure(1)),
+    (
+        b"\x02\x28\x05\0\0\0\x16\x28\x01\0\0\0\x2a",
+        ClauseFault::NotPure(1),
+    ),
     (b"\x28\x65\0\0\0\x28\x01\0\0\0\x2a", ClauseFault::NotPure(0)),
-    (b"\x02\x72\x01\0\0\x70\0\x28\x02\0\0\0\x2a", ClauseFault::NotPure(1)),
-    (b"\x02\x72\x01\0\0\x70\x28\x01\0\0\0\x2a", ClauseFault::NotPure(1)),
-    (b"\x02\x72\x01\0\0\x70\x28\x06\0\0\0\x02\x28\x01\0\0\0\x2a", ClauseFault::NotPure(6)),
+    (
+        b"\x02\x72\x01\0\0\x70\0\x28\x02\0\0\0\x2a",
+        ClauseFault::NotPure(1),
+    ),
+    (
+        b"\x02\x72\x01\0\0\x70\x28\x01\0\0\0\x2a",
+        ClauseFault::NotPure(1),
+    ),
+    (
+        b"\x02\x72\x01\0\0\x70\x28\x06\0\0\0\x02\x28\x01\0\0\0\x2a",
+        ClauseFault::NotPure(6),
+    ),
     (b"\x06\x28\x01\0\0\0\x2a", ClauseFault::NotPure(0)),
-    (b"\x02\x45\x01\0\0\0\0\0\0\0\x02\x28\x01\0\0\0\x2a", ClauseFault::NotPure(1)),
+    (
+        b"\x02\x45\x01\0\0\0\0\0\0\0\x02\x28\x01\0\0\0\x2a",
+        ClauseFault::NotPure(1),
+    ),
     (b"\x02\x2a\x28\x01\0\0\0\x2a", ClauseFault::NotPure(1)),
     // Branches to themselves and to below.
-    (b"\x02\x2d\xfe\x02\x28\x01\0\0\0\x2a", ClauseFault::Backward(1)),
-    (b"\x02\x2d\xfd\x02\x28\x01\0\0\0\x2a", ClauseFault::Backward(1)),
-    (b"\x02\x28\x01\0\0\0\x02\x2d\xf7\x02\x28\x01\0\0\0\x2a", ClauseFault::Backward(7)),
+    (
+        b"\x02\x2d\xfe\x02\x28\x01\0\0\0\x2a",
+        ClauseFault::Backward(1),
+    ),
+    (
+        b"\x02\x2d\xfd\x02\x28\x01\0\0\0\x2a",
+        ClauseFault::Backward(1),
+    ),
+    (
+        b"\x02\x28\x01\0\0\0\x02\x2d\xf7\x02\x28\x01\0\0\0\x2a",
+        ClauseFault::Backward(7),
+    ),
     // A closing call with more than its own or less, on one way of two, and below a message.
     (b"\x02\x02\x28\x01\0\0\0\x2a", ClauseFault::StackLeft(2)),
     (b"\x28\x01\0\0\0\x2a", ClauseFault::StackLeft(0)),
-    (b"\x02\x2d\x01\x02\x28\x01\0\0\0\x2a", ClauseFault::StackLeft(4)),
-    (b"\x02\x02\x72\x01\0\0\x70\x28\x02\0\0\0\x2a", ClauseFault::StackLeft(7)),
-    (b"\x72\x01\0\0\x70\x28\x02\0\0\0\x2a", ClauseFault::StackLeft(5)),
+    (
+        b"\x02\x2d\x01\x02\x28\x01\0\0\0\x2a",
+        ClauseFault::StackLeft(4),
+    ),
+    (
+        b"\x02\x02\x72\x01\0\0\x70\x28\x02\0\0\0\x2a",
+        ClauseFault::StackLeft(7),
+    ),
+    (
+        b"\x72\x01\0\0\x70\x28\x02\0\0\0\x2a",
+        ClauseFault::StackLeft(5),
+    ),
     (b"\x02\x28\x09\0\0\0\x2a", ClauseFault::StackLeft(1)),
     // Another instruction without its operands.
     (b"\x02\x58\x28\x01\0\0\0\x2a", ClauseFault::StackLeft(1)),
     (b"\x2d\0\x02\x28\x01\0\0\0\x2a", ClauseFault::StackLeft(0)),
     // Branches out of a clause, and of the body into the block.
-    (b"\x02\x2d\x06\x02\x28\x01\0\0\0\x2a", ClauseFault::IntoBlock(1)),
-    (b"\x02\x28\x01\0\0\0\x02\x2d\xf8\x2a", ClauseFault::IntoBlock(7)),
+    (
+        b"\x02\x2d\x06\x02\x28\x01\0\0\0\x2a",
+        ClauseFault::IntoBlock(1),
+    ),
+    (
+        b"\x02\x28\x01\0\0\0\x02\x2d\xf8\x2a",
+        ClauseFault::IntoBlock(7),
+    ),
     // A result in a Requires, also where no way comes, of another type, and in the body.
     (b"\x28\x0c\0\0\0\x28\x01\0\0\0\x2a", ClauseFault::OldForm(0)),
-    (b"\x02\x2b\x05\x28\x0c\0\0\0\x28\x01\0\0\0\x2a", ClauseFault::OldForm(3)),
+    (
+        b"\x02\x2b\x05\x28\x0c\0\0\0\x28\x01\0\0\0\x2a",
+        ClauseFault::OldForm(3),
+    ),
     (b"\x28\x0b\0\0\0\x28\x03\0\0\0\x2a", ClauseFault::OldForm(0)),
-    (b"\x28\x0e\0\0\0\x8e\x69\x28\x03\0\0\0\x2a", ClauseFault::OldForm(0)),
+    (
+        b"\x28\x0e\0\0\0\x8e\x69\x28\x03\0\0\0\x2a",
+        ClauseFault::OldForm(0),
+    ),
     (b"\x28\x0c\0\0\0\x26\x2a", ClauseFault::OldForm(0)),
     // An old value in a Requires, in the body, and of another type.
-    (b"\x02\x28\x16\0\0\0\x28\x01\0\0\0\x2a", ClauseFault::OldForm(1)),
+    (
+        b"\x02\x28\x16\0\0\0\x28\x01\0\0\0\x2a",
+        ClauseFault::OldForm(1),
+    ),
     (b"\x02\x28\x16\0\0\0\x26\x2a", ClauseFault::OldForm(1)),
-    (b"\x02\x28\x18\0\0\0\x8e\x69\x28\x03\0\0\0\x2a", ClauseFault::OldForm(1)),
+    (
+        b"\x02\x28\x18\0\0\0\x8e\x69\x28\x03\0\0\0\x2a",
+        ClauseFault::OldForm(1),
+    ),
     // What stands inside an old value is named.
-    (b"\x28\x0c\0\0\0\x28\x16\0\0\0\x28\x03\0\0\0\x2a", ClauseFault::OldForm(0)),
-    (b"\x02\x03\x58\x28\x16\0\0\0\x28\x16\0\0\0\x28\x03\0\0\0\x2a", ClauseFault::OldForm(3)),
+    (
+        b"\x28\x0c\0\0\0\x28\x16\0\0\0\x28\x03\0\0\0\x2a",
+        ClauseFault::OldForm(0),
+    ),
+    (
+        b"\x02\x03\x58\x28\x16\0\0\0\x28\x16\0\0\0\x28\x03\0\0\0\x2a",
+        ClauseFault::OldForm(3),
+    ),
     // At one instruction the first of two: a copy of nothing, and a branch back on nothing.
     (b"\x25\x28\x01\0\0\0\x2a", ClauseFault::NotPure(0)),
     (b"\x2d\xfe\x02\x28\x01\0\0\0\x2a", ClauseFault::Backward(0)),
     // A branch out on nothing, and an old value of nothing in a Requires.
     (b"\x2d\x06\x02\x28\x01\0\0\0\x2a", ClauseFault::StackLeft(0)),
-    (b"\x28\x16\0\0\0\x28\x01\0\0\0\x2a", ClauseFault::StackLeft(0)),
+    (
+        b"\x28\x16\0\0\0\x28\x01\0\0\0\x2a",
+        ClauseFault::StackLeft(0),
+    ),
 ];
 
 fn operator_letter(operator: BinOp) -> u8 {
@@ -320,7 +380,10 @@ fn assert_fault(
 fn assert_told(rt: &impl Abort, alloc: Global, row: &Told) -> Result<(), AllocError> {
     match read(rt, alloc, row.code)? {
         Ok(contracts) => {
-            assert_eq!(rt; letters(alloc, contracts.clauses.as_slice())?.as_slice(), row.clauses);
+            assert_eq!(rt;
+                letters(alloc, contracts.clauses.as_slice())?.as_slice(),
+                row.clauses
+            );
             assert_eq!(rt; contracts.body_start, row.body_start);
         }
         Err(fault) => assert!(rt; false, "{fault:?}, and not {:?}", row.clauses),
