@@ -21,8 +21,6 @@ mod changes;
 #[cfg(test)]
 mod code_rows;
 #[cfg(test)]
-mod contract_rows;
-#[cfg(test)]
 mod demo_assembly;
 #[cfg(test)]
 mod devices;
