@@ -92,9 +92,6 @@ module _ (shape : Shape) (i : Instr) (stacks : Stacks) (index : ℕ) (args : Lis
   compared_read out comparing made =
       compared_stands shape i stacks index out comparing (subst (λ (xs : List Arrival). IsRestOfGathered stacks xs out) are made)
 
-pub nothing_stands_for : (stacks : Stacks) (index : ℕ) → StandFor stacks index [] []
-nothing_stands_for stacks index = record { same = λ n low ordered fault joins. refl; grounded = λ ordered. tt }
-
 passed_is : (closing pure : Bool) (behind : List Arrival) → cond (not closing && pure) behind [] ≡ cond closing [] (cond (not pure) [] behind)
 passed_is true pure behind = refl
 passed_is false true behind = refl

@@ -88,14 +88,7 @@ either-turn x y z w =
     either-assoc x y (either z w) ∙ ap (either x) (sym (either-assoc y z w) ∙ ap (λ v. either v w) (either-comm y z) ∙ either-assoc z y w)
     ∙ sym (either-assoc x z (either y w))
 
--- One of them brought to the front.
-pub either-front : (x y z : Option ClauseFault) → either x (either y z) ≡ either y (either x z)
-either-front x y z = sym (either-assoc x y z) ∙ ap (λ v. either v z) (either-comm x y) ∙ either-assoc y x z
-
 -- ---- the first of a list
-
-pub first_fault-cons : (a : ClauseFault) (rest : List ClauseFault) → first_fault (a ∷ rest) ≡ either (Some a) (first_fault rest)
-first_fault-cons a rest = refl
 
 pub first_fault-append : (xs ys : List ClauseFault) → first_fault (xs ++ ys) ≡ either (first_fault xs) (first_fault ys)
 first_fault-append [] ys = refl

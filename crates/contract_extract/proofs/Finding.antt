@@ -7,7 +7,7 @@ use Rattle.std.proofs.lemmas.Bool.Decides.{nat_tests}
 use Rattle.std.proofs.lemmas.Cmp.{ranked}
 use Rattle.std.specs.List.Sorted.{IsSearchInRange, IsBinarySearchResult}
 use Rattle.std.specs.Ordering.{nat_cmp, ordering_index}
-use Rattle.std.proofs.lemmas.Option.{none-some, slice_get_within, slice_get_past, get_or_from_slice_get}
+use Rattle.std.proofs.lemmas.Option.{none-some, slice_get_within, get_or_from_slice_get}
 use Rattle.cil_model.specs.declared.instruction.Instr.{Instr}
 use Rattle.contract_extract.specs.ClauseLies.{RiseFrom}
 use Rattle.contract_extract.specs.SharedStacks.{either, least}
@@ -40,9 +40,6 @@ not_falling is j k d rise le within =
 -- The instruction of an index begins at the offset, or not.
 abbrev Begins : List Instr → ℕ → ℕ → Bool
 Begins code at other = option_map_or (λ i. i.at == at) (slice_get code other) false
-
-begins_past : (code : List Instr) (at other : ℕ) → length code ≤ other → Begins code at other ≡ false
-begins_past code at other past = rw (slice_get_past code other past) refl
 
 begins_there : (code : List Instr) (at other : ℕ) (i : Instr) → slice_get code other ≡ Some i → Begins code at other ≡ (i.at == at)
 begins_there code at other i there = rw there refl

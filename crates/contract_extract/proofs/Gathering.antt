@@ -82,9 +82,6 @@ put_grounded stacks index old new arrival (inr j) all g =
 pub nothing_stands : StandForSame [] []
 nothing_stands = record { same = λ most stacks fault joins. refl; grounded = λ stacks index all. tt }
 
-pub same_stands : (arrivals : List Arrival) → StandForSame arrivals arrivals
-same_stands arrivals = record { same = λ most stacks fault joins. refl; grounded = λ stacks index all. all }
-
 one_more : (xs old new : List Arrival) (arrival : Arrival) → StandForSame xs old → IsPut old arrival new → StandForSame (xs ++ arrival ∷ []) new
 one_more xs old new arrival so_far put = record {
   same = λ most stacks fault joins.

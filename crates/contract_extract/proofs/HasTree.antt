@@ -54,9 +54,6 @@ pub record Leaves (message : Bool) (after : Option (List Item)) (told : List Tol
   pub long : length told ≡ length items
   pub kept : AreTreesBelow message items
 
-no_operand : {X : Type 0} (n : ℕ) → 0 < n → nat_lt 0 n ≡ false → X
-no_operand n some lacks = absurd (let le : n ≤ 0 = ltb-false 0 n lacks in omega (arith, le, some))
-
 pushes : (message : Bool) (new : Told) (a : Term) (told : List Told) (items : List Item) → length told ≡ length items → AreTrees items
     → Leaves message (Some (Tree a ∷ items)) (new ∷ told)
 pushes message new a told items long trees = record { items = Tree a ∷ items; is = refl; long = omega (arith, long); kept = trees }

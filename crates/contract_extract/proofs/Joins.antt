@@ -161,14 +161,6 @@ here_joins i _ a b c j = refl
 abbrev pub Joins : (ℕ → List Told → List ClauseFault) → Type 0
 Joins from = (later : ℕ) → IsJoining (λ stack. first_fault (from later stack))
 
-cond_joins : (test : Bool) (f g h : Option ClauseFault) (f' g' h' : Option ClauseFault) → h ≡ either f g → h' ≡ either f' g' → cond test h h' ≡ either (cond test f f') (cond test g g')
-cond_joins true f g h f' g' h' e e' = e
-cond_joins false f g h f' g' h' e e' = e'
-
-first-cond : (test : Bool) (xs ys : List ClauseFault) → first_fault (cond test xs ys) ≡ cond test (first_fault xs) (first_fault ys)
-first-cond true xs ys = refl
-first-cond false xs ys = refl
-
 -- The first fault where the instruction has its operands.
 abbrev pub goes_on : (ℕ → List Told → List ClauseFault) → Shape → Instr → List Told → List ClauseFault
 goes_on from shape i stack =

@@ -1,20 +1,16 @@
 -- The instructions of a method are passed one by one.
-use Rattle.std.proofs.Common.{◌≡◌, ℕ, ◌+◌, ◌-◌, zero, suc, true, false, List, [], ◌∷◌, ◌++◌, drop, take, slice_get, length, map, Option, Some, Result, Ok, Err, refl, sym, ap, subst, ◌∙◌, append-nil, length-drop, arith}
-use Rattle.std.specs.Prelude.{IsErrAnd, flat_map}
+use Rattle.std.proofs.Common.{◌≡◌, ℕ, ◌+◌, ◌-◌, zero, suc, true, false, List, [], ◌∷◌, ◌++◌, drop, take, slice_get, length, map, Some, refl, sym, ap, subst, ◌∙◌, append-nil, length-drop, arith}
+use Rattle.std.specs.Prelude.{flat_map}
 use Rattle.std.proofs.Math.Seq.{take-length, take-suc}
 use Rattle.std.proofs.lemmas.Option.{get_or_from_slice_get, slice_get_within}
-use Rattle.cc_base.specs.Tests.{JudgesOrNoMemory}
-use Rattle.cc_base.specs.declared.refusal.Refusal.{Refusal}
-use Rattle.cc_base.specs.declared.refusal.Refusal.TheVariants.{Bad, NoMemory}
 use Rattle.cil_model.specs.Blocks.{closes, start_of_body}
 use Rattle.cil_model.specs.ShortCode.{AreOfShortCode}
 use Rattle.cil_model.specs.WellFormed.{told_by_code}
 use Rattle.cil_model.specs.declared.clause.Clause.{Clause}
 use Rattle.cil_model.specs.declared.instruction.Instr.{Instr}
 use Rattle.cil_model.specs.declared.shape.Shape.{Shape}
-use Rattle.contract_extract.specs.Extracting.{AreContracts, ArePassed, BlockLeft, Goes, IsClosing, NoneCloses}
+use Rattle.contract_extract.specs.Extracting.{AreContracts, ArePassed, IsClosing, NoneCloses}
 use Rattle.contract_extract.specs.Faults.{body_faults, first_clause_fault, first_fault}
-use Rattle.contract_extract.specs.declared.clause_fault.ClauseFault.{ClauseFault}
 use Rattle.contract_extract.proofs.Segments.{body_left, body_starts, no_clauses_left}
 
 -- ---- the first instruction, and one more
@@ -63,15 +59,6 @@ module _ (is : List Instr) (shape : Shape) (clauses : List Clause) (olds first s
   pub is_closing : closes i.op ≡ true → IsClosing is first index
   is_closing closed = record { order = passed.order; call = i; there = there; closes_it = closed; none = passed.none }
 
--- Behind a call that closes something.
-pub closed_passed : (is : List Instr) (shape : Shape) (clauses : List Clause) (olds first start index : ℕ) → BlockLeft is shape clauses olds first start → first ≡ index + 1
-    → ArePassed is shape clauses olds first start (index + 1)
-closed_passed is shape clauses olds first start index left next = record {
-  left = left;
-  order = omega (arith, next);
-  none = let nothing : (index + 1) - first ≡ 0 = omega (arith, next) in subst (λ (n : ℕ). NoneCloses (take n (drop first is))) (sym nothing) tt;
-}
-
 -- ---- the last
 
 module _ (is : List Instr) (shape : Shape) (clauses : List Clause) (olds first start : ℕ) (passed : ArePassed is shape clauses olds first start (length is)) where
@@ -95,12 +82,3 @@ module _ (is : List Instr) (shape : Shape) (clauses : List Clause) (olds first s
     told = passed.left.told ∙ ap (λ more. map told_by_code clauses ++ more) (no_clauses_left is start (drop first is) none_left) ∙ append-nil (map told_by_code clauses);
     body = sym starts;
   }
-
--- ---- answers
-
--- A refusal that is carried on.
-pub judged_on : {X Y : Type 0} (r : Result Y (Refusal ClauseFault)) (refusal : Refusal ClauseFault) (whole : Option ClauseFault) (P : X → Type 0) (Q : Y → Type 0)
-    → IsErrAnd r (λ same. same ≡ refusal) → Goes {X = X} (Err refusal) whole P → JudgesOrNoMemory r whole Q
-judged_on (Ok y) refusal whole P Q is goes = elim is [ ]
-judged_on (Err same) (Bad f) whole P Q is goes = rw is goes
-judged_on (Err same) NoMemory whole P Q is goes = rw is tt

@@ -6,7 +6,6 @@ use Rattle.std.specs.Option.{option_map_or, option_to_list}
 use Rattle.std.proofs.lemmas.Bool.{cond_both}
 use Rattle.std.proofs.lemmas.Bool.Decides.{nat_tests}
 use Rattle.cil_model.specs.declared.instruction.Instr.{Instr}
-use Rattle.cil_model.specs.declared.place.Kind.{Kind}
 use Rattle.cil_model.specs.declared.place.Place.{Place}
 use Rattle.cil_model.specs.declared.shape.Shape.{Shape}
 use Rattle.contract_extract.specs.JoinedStacks.{IsJoined, IsJoining, called_fault}
@@ -176,14 +175,6 @@ called-lower (Some a) (Some b) =
 
     lower_a : (nat_lt b a || (b == a && nat_lt 5 5)) ≡ false → min a b ≡ a
     lower_a e = grind (arith, nat_tests)
-
-pub seen_joined : (kind : Option Kind) (x y : Option ℕ) → IsJoined (told_of (record { kind = kind; call = x })) (told_of (record { kind = kind; call = y })) (told_of (record { kind = kind; call = lower x y }))
-seen_joined kind x y = record {
-  left = refl;
-  right = refl;
-  calls = called_seen (record { kind = kind; call = lower x y }) ∙ called-lower x y
-      ∙ sym (either-both (called_seen (record { kind = kind; call = x })) (called_seen (record { kind = kind; call = y })));
-}
 
 called_lowest : (operands : List Seen) → called_of (lowest_call operands) ≡ least called_fault (map told_of operands)
 called_lowest [] = refl

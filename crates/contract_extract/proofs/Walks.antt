@@ -105,10 +105,6 @@ module _ (is : List Instr) (shape : Shape) (closing : Instr) where
 
 -- ---- joined stacks
 
-cond_of : (test : Bool) (xs : List ClauseFault) → first_fault (cond test xs []) ≡ cond test (first_fault xs) None
-cond_of true xs = refl
-cond_of false xs = refl
-
 module _ (is : List Instr) (shape : Shape) (closing : Instr) where
   guarded : (from : ℕ → List Told → List ClauseFault) (test : ℕ → Bool) → Joins from → Joins (λ later stack. cond (test later) (from later stack) [])
   guarded from test joins later a b c j = by (test later)

@@ -10,14 +10,15 @@ use thiserror::Error;
 /// an IL offset.
 #[derive(Clone, Copy, Debug, PartialEq, Eq, Error)]
 pub enum ClauseFault {
-    /// An instruction of the block that no clause may have.
+    /// Something in the block that does more than compute a value: a store, a copy, a call of another
+    /// method, a switch, a return; or a local, which no clause knows.
     #[error("not pure at IL_{0:04x}")]
     NotPure(u32),
     /// A branch of the block to itself or to below.
     #[error("backward at IL_{0:04x}")]
     Backward(u32),
-    /// A closing call that does not find exactly its own arguments, or another instruction of the block that lacks
-    /// an operand, on some way forward from the start of the clause's code.
+    /// On some way that goes forward from where the clause's code starts, a call that closes something meets more values
+    /// than its own or fewer, or an operation before it meets too few.
     #[error("stack left at IL_{0:04x}")]
     StackLeft(u32),
     /// A branch of a clause out of its own code, or of the body into the block.

@@ -25,7 +25,6 @@ mod stretch;
 mod tree_of;
 mod tree_stack;
 mod trees;
-mod value_kinds;
 
 pub use clause_fault::{ClauseFault, ClauseRefusal};
 pub use contracts::{Contracts, extract};

@@ -5,13 +5,13 @@ ghost use Rattle.std.specs.Option.{option_and_then};
 ghost use Rattle.cil_model.specs.Kinds.{kind_of};
 ghost use Rattle.cil_model.specs.UnitCalls.{unit_call};
 ghost use Rattle.contract_extract.specs.SharedStacks.{lower, lowest_call, made_seen};
-ghost use Rattle.contract_extract.specs.Ways.{asked, asked_by, called_kind, made_kind};
+ghost use Rattle.contract_extract.specs.Ways.{asked, asked_by, called_kind, made_kind, misfits};
 
 use crate::arrivals::Seen;
-use crate::value_kinds::{
-    comparison_of, element_kind, kind_of, length_kind, operator_kind, unary_kind,
+use cil_model::{
+    Instr, Kind, Op, Place, UnitCall, element_kind, kind_of, length_kind, operator_kind, takes,
+    unary_kind, unit_call,
 };
-use cil_model::{Instr, Kind, Op, Place, UnitCall, unit_call};
 
 /// The place of a `Result` or of an `OldValue`.
 fn asked(call: Option<UnitCall>) -> Option<Place>
@@ -84,7 +84,7 @@ fn made_kind(args: &[Place], op: &Op, operands: &[Seen]) -> Option<Kind>
         (Op::Null, _) => Some(Kind::NullRef),
         (Op::Const(_), _) => Some(Kind::Int),
         (Op::Text(_), _) => Some(Kind::Text),
-        (Op::Bin(operator), [b, a, ..]) => operator_kind(comparison_of(*operator), a.kind, b.kind),
+        (Op::Bin(operator), [b, a, ..]) => operator_kind(*operator, a.kind, b.kind),
         (Op::Neg | Op::Not, [a, ..]) => unary_kind(a.kind),
         (Op::ConvI4, [a, ..]) => a.kind,
         (Op::Length, [a, ..]) => length_kind(a.kind),
@@ -106,5 +106,15 @@ pub(crate) fn made_seen(args: &[Place], instr: &Instr, operands: &[Seen]) -> See
     Seen {
         kind: made_kind(args, &instr.op, operands),
         call,
+    }
+}
+
+/// Whether there is a kind that the place does not take.
+pub(crate) fn misfits(place: Place, kind: Option<Kind>) -> bool
+    ensures { result ≡ misfits place kind }
+{
+    match kind {
+        Some(kind) => !takes(place, kind),
+        None => false,
     }
 }

@@ -16,10 +16,10 @@ use crate::clause_fault::ClauseFault;
 use crate::first_fault::{either, fault_if};
 use crate::gather::gathered;
 use crate::heights::{any_differs, any_lacks};
+use crate::made_values::misfits;
 use crate::operand_counts::operand_count;
 use crate::own_faults::{closes, own_fault};
 use crate::pure_code::is_pure;
-use crate::value_kinds::misfits;
 use cil_model::{Instr, Op, Place, Shape, Test, UnitCall, unit_call};
 use std::alloc::{AllocError, Global};
 
