@@ -16,7 +16,8 @@ use Rattle.range_verdicts.specs.Verdicts.{verdicts, all_proved}
 use Rattle.check_driver.specs.Words.{command_of, file_indexes, word_at, words_at}
 use Rattle.check_driver.specs.declared.command.Command.{Command}
 use Rattle.check_driver.specs.declared.command.Command.TheVariants as commands
-use Rattle.method_unit.specs.UnitFile.{first_unit_fault, unit_of}
+use Rattle.method_unit.specs.BuiltUnits.{first_built_fault}
+use Rattle.method_unit.specs.UnitFile.{unit_of}
 use Rattle.method_unit.specs.declared.unit_fault.UnitFault.{UnitFault}
 
 pub record IsPlain (status : ℕ) : Type 0 where
@@ -45,7 +46,7 @@ plain_either false refused answer r a = a
 
 plain_unit_file : (name bytes : List ℕ) → IsPlain (unit_file_answer name bytes).status
 plain_unit_file name bytes =
-    plain_either (nat_le READ_LIMIT (length bytes)) _ (unit_answer name bytes (first_unit_fault bytes)) plain_refused (plain_unit name bytes (first_unit_fault bytes))
+    plain_either (nat_le READ_LIMIT (length bytes)) _ (unit_answer name bytes (first_built_fault bytes)) plain_refused (plain_unit name bytes (first_built_fault bytes))
 
 plain_list : (name bytes : List ℕ) (fault : Option AsmFault) → IsPlain (list_answer name bytes fault).status
 plain_list name bytes None = plain_below 0 (omega arith)

@@ -15,11 +15,17 @@ use Rattle.check_driver.specs.declared.command.Command.TheVariants as commands
 use Rattle.check_driver.specs.SingleUnit.{AsksFor, PrintsProved}
 use Rattle.range_verdicts.specs.Safety.{IsSafe}
 use Rattle.check_driver.specs.ReportText.{signature_text, proved_text, unit_line, verdict_line, unit_counts, summary_line, unit_report}
+use Rattle.method_unit.specs.BuiltUnits.{built_test, code_offset, first_built_fault}
+use Rattle.method_unit.specs.NotBuilt.{not_built}
 use Rattle.method_unit.specs.UnitFile.{first_unit_fault, unit_of}
-use Rattle.method_unit.specs.UnitSpelling.{unit_bytes}
+use Rattle.method_unit.specs.Units.{IsUnit}
+use Rattle.method_unit.specs.declared.unit_fault.UnitFault.{UnitFault}
+use Rattle.unit_form.specs.Spelling.{unit_bytes}
 use Rattle.range_verdicts.specs.Verdicts.{verdicts, all_proved}
 use Rattle.range_verdicts.proofs.Soundness.{proved_is_safe}
-use Rattle.method_unit.proofs.Units.{unit_again}
+use Rattle.method_unit.proofs.BuiltFaults.{none_built}
+use Rattle.method_unit.proofs.UnitAgain.{unit_again}
+use Rattle.method_unit.proofs.UnitRuns.{unit_can_run}
 
 -- ---- lists
 
@@ -66,17 +72,20 @@ report_proved unit (rest, is) =
 -- ---- the answer
 
 -- A line that begins what is printed of a file, whether or not that is too large.
-front_of_answer : (large : Bool) (refused answer : Answer) (unit : MethodUnit) → refused.out ≡ [] → answer.out ≡ unit_report unit
-    → IsFront (unit_line unit true) (Answer.out (if large then refused else answer)) → IsFront (unit_line unit true) (unit_report unit)
-front_of_answer true refused answer unit none report (rest, is) =
+front_of_answer : (large : Bool) (refused answer : Answer) (unit : MethodUnit) → refused.out ≡ []
+    → IsFront (unit_line unit true) (Answer.out (if large then refused else answer)) → IsFront (unit_line unit true) answer.out
+front_of_answer true refused answer unit none (rest, is) =
     let letters : 0 ≡ 117 = ap (λ (l : List ℕ). get_or l 0 0) (sym none ∙ is) in
     absurd (omega (arith, letters))
-front_of_answer false refused answer unit none report front = subst (IsFront (unit_line unit true)) report front
+front_of_answer false refused answer unit none front = front
 
--- What is printed for bytes that are read as a unit without a fault.
-answer_report : (name bytes : List ℕ) (unit : MethodUnit) → first_unit_fault bytes ≡ None → unit_of bytes ≡ unit
-    → Answer.out (unit_answer name bytes (first_unit_fault bytes)) ≡ unit_report unit
-answer_report name bytes unit none same = rw none (ap unit_report same)
+-- What is printed for the bytes of a unit begins with the line of a proved one only where it is its report.
+answer_report : (name bytes : List ℕ) (unit : MethodUnit) (fault : Option UnitFault) → unit_of bytes ≡ unit
+    → IsFront (unit_line unit true) (Answer.out (unit_answer name bytes fault)) → (fault ≡ None) × IsFront (unit_line unit true) (unit_report unit)
+answer_report name bytes unit None same front = (refl, subst (λ (u : MethodUnit). IsFront (unit_line unit true) (unit_report u)) same front)
+answer_report name bytes unit (Some fault) same (rest, is) =
+    let letters : 0 ≡ 117 = ap (λ (l : List ℕ). get_or l 0 0) is in
+    absurd (omega (arith, letters))
 
 -- What is met is the file of the unit.
 unit_asked : (words : List (List ℕ)) (file : ℕ) (held : Held) (unit : MethodUnit) (met : List (Option (List ℕ))) → held (word_at words file) ≡ Some (unit_bytes unit)
@@ -94,16 +103,18 @@ asked_answer : (words : List (List ℕ)) (held : Held) (unit : MethodUnit) (met 
 asked_answer words held unit met asks under =
     unit_asked words asks.file held unit met asks.bytes asks.command (subst (λ (command : Option Command). AreUnder (Some held) (command_files words command) met) asks.command under)
 
--- The line begins the report of the unit, if it begins what is printed at all.
+-- Where the line begins what is printed at all, the unit is built, and the line begins its report.
 front_of_report : (words : List (List ℕ)) (held : Held) (unit : MethodUnit) (met : List (Option (List ℕ))) → AsksFor words held unit → AreUnder (Some held) (file_names words) met
-    → IsFront (unit_line unit true) (Answer.out (expected words met)) → IsFront (unit_line unit true) (unit_report unit)
+    → IsFront (unit_line unit true) (Answer.out (expected words met)) → (not_built unit ≡ None) × IsFront (unit_line unit true) (unit_report unit)
 front_of_report words held unit met asks under front =
     let name = word_at words asks.file in
     let bytes = unit_bytes unit in
-    let again = unit_again unit asks.built in
+    let again = unit_again unit asks.is_unit in
     let begins : IsFront (unit_line unit true) (Answer.out (unit_file_answer name bytes)) =
     subst (λ (a : Answer). IsFront (unit_line unit true) a.out) (asked_answer words held unit met asks under) front in
-    front_of_answer (nat_le READ_LIMIT (length bytes)) _ (unit_answer name bytes (first_unit_fault bytes)) unit refl (answer_report name bytes unit again.0 again.1) begins
+    let printed = front_of_answer (nat_le READ_LIMIT (length bytes)) _ (unit_answer name bytes (first_built_fault bytes)) unit refl begins in
+    let both = answer_report name bytes unit (first_built_fault bytes) again.1 printed in
+    (none_built bytes unit again.1 both.0, both.1)
 
 -- What begins what was appended begins what was to be printed.
 front_of_expected : (old new : Option (List ℕ)) (unit : MethodUnit) (out : List ℕ)
@@ -121,4 +132,5 @@ pub printed_safe : (told : Option Held) (words : List (List ℕ)) (held : Held) 
 printed_safe told words held unit met old new told_is asks under appends prints =
     let here = subst (λ (t : Option Held). AreUnder t (file_names words) met) told_is under in
     let front = front_of_expected old new unit (expected words met).out appends prints in
-    proved_is_safe unit asks.built (report_proved unit (front_of_report words held unit met asks here front))
+    let both = front_of_report words held unit met asks here front in
+    proved_is_safe unit (unit_can_run unit asks.is_unit) both.0 (report_proved unit both.1)

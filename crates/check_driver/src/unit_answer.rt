@@ -8,8 +8,7 @@ ghost use Rattle.check_driver.specs.Outcome.{Gives};
 ghost use Rattle.check_driver.specs.ReportText.{unit_report};
 ghost use Rattle.range_verdicts.specs.Verdicts.{verdicts, all_proved};
 ghost use Rattle.check_driver.specs.Writing.{Writes, change_of};
-ghost use Rattle.method_unit.specs.UnitFile.{first_unit_fault};
-ghost use Rattle.method_unit.specs.UnitSpelling.{IsBuilt};
+ghost use Rattle.method_unit.specs.BuiltUnits.{first_built_fault, IsBuilt};
 
 use crate::fault_text::unit_fault_text;
 use crate::interrupt::Interrupt;
@@ -17,7 +16,7 @@ use crate::puts::{answer_refused, put_lines};
 use crate::report::report_lines;
 use cc_base::{READ_LIMIT, Sink};
 use cil_model::{MAX_FILE_BYTES, Unit};
-use method_unit::{UnitRefusal, read_unit};
+use method_unit::{UnitRefusal, read_built_unit};
 use range_verdicts::{all_proved, judge};
 use std::alloc::Global;
 
@@ -42,10 +41,10 @@ fn answer_unit<O: Sink, E: Sink>(
     err: &mut E,
 ) -> Result<u8, Interrupt>
     requires { length bytes.now < READ_LIMIT }
-    ensures { Gives (unit_answer name.now bytes.now (first_unit_fault bytes.now)) result
+    ensures { Gives (unit_answer name.now bytes.now (first_built_fault bytes.now)) result
         (change_of O.written O.faults out.old out.new) (change_of E.written E.faults err.old err.new) }
 {
-    match read_unit(alloc, bytes) {
+    match read_built_unit(alloc, bytes) {
         Err(UnitRefusal::NoMemory) => Err(Interrupt::NoMemory),
         Err(UnitRefusal::Bad(fault)) => {
             answer_refused(alloc, name, unit_fault_text(fault), fault.at(), err)

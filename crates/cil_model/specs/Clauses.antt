@@ -1,5 +1,5 @@
--- What the clauses of contracts are worth. A parameter means its value at entry; an element outside OldValue
--- is read in the arrays at the method's end, and inside OldValue in those at its entry.
+-- What the clauses of contracts are worth. There are two heaps: `Old` reads its operand in the one of the
+-- method's entry, and all else reads the one of its end. Arguments are those that the method was called with.
 use Rattle.std.specs.Prelude.{ℕ, ◌+◌, ℤ, pos, Bool, true, false, not, ◌&&◌, List, [], ◌∷◌, length, filter, Option, Some, None, option_map, Result, Ok, Err, if◌then◌else◌, int_le, unsigned_abs, slice_get}
 use Rattle.std.specs.Ordering.{int_eq}
 use Rattle.std.specs.Option.{option_and_then}

@@ -8,6 +8,7 @@ mod kind_rules;
 mod limits;
 mod list;
 mod machine;
+mod operand_counts;
 mod parameters;
 mod place;
 mod shape;
@@ -29,6 +30,7 @@ pub use limits::{
 };
 pub use list::List;
 pub use machine::{ArrayCell, Config, FaultKind, Frame, Obligation, Value, World};
+pub use operand_counts::{callee, operand_count};
 pub use parameters::append_parameters;
 pub use place::{Kind, Place};
 pub use shape::Shape;

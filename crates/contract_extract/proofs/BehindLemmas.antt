@@ -1,5 +1,5 @@
 -- What is made behind an instruction stands for the stacks there.
-use Rattle.std.proofs.Common.{◌≡◌, ℕ, suc, ◌<◌, Bool, true, false, not, ◌&&◌, List, [], ◌∷◌, length, Option, Some, refl, sym, ap, subst, cond, ◌∙◌, arith}
+use Rattle.std.proofs.Common.{◌≡◌, ℕ, suc, ◌<◌, Bool, true, false, not, ◌&&◌, List, [], ◌∷◌, length, Option, Some, None, refl, sym, ap, subst, cond, ◌∙◌, arith}
 use Rattle.std.specs.List.{flat_map}
 use Rattle.cil_model.specs.UnitCalls.{unit_call}
 use Rattle.cil_model.specs.declared.instruction.Instr.{Instr}
@@ -11,10 +11,10 @@ use Rattle.cil_model.specs.declared.shape.Shape.{Shape}
 use Rattle.cil_model.specs.declared.unit_numbers.UnitCall.{UnitCall}
 use Rattle.cil_model.specs.declared.unit_numbers.UnitCall.TheVariants as calls
 use Rattle.contract_extract.specs.GatheredStacks.{StandForSame}
-use Rattle.contract_extract.specs.PassedInstr.{IsRestOfGathered, StandBehind, StandFor, behind_arrivals, behind_call, is_comparing, other_arrivals, passed_arrivals, pushed}
+use Rattle.contract_extract.specs.PassedInstr.{IsHome, IsRestOfGathered, StandBehind, StandFor, behind_arrivals, behind_call, is_comparing, other_arrivals, passed_arrivals, pushed}
 use Rattle.contract_extract.specs.PureCode.{is_pure}
 use Rattle.cil_model.specs.Blocks.{closes}
-use Rattle.contract_extract.specs.SharedStacks.{AreGrounded, AreOrdered, Stacks, arrivals_at, least_over, rest_of}
+use Rattle.contract_extract.specs.SharedStacks.{AreGrounded, AreOrdered, Stacks, arrivals_at, either, least, least_of, least_over, made_seen, rest_of, told_of}
 use Rattle.contract_extract.specs.declared.arrivals.Arrival.{Arrival}
 use Rattle.contract_extract.proofs.Moves.{below_joins, below_top, one_grounded, rest_grounded, rests_judged, two_grounded}
 use Rattle.contract_extract.proofs.Standing.{all_grounded_higher}
@@ -51,15 +51,6 @@ module _ (shape : Shape) (i : Instr) (stacks : Stacks) (index : ℕ) where
     other_grounded (ops.Call number) = call_grounded (unit_call number)
     other_grounded _ = pushed_grounded tops refl
 
-  pub other_stands : (out : List Arrival) → is_comparing i.op ≡ false → out ≡ other_arrivals shape.args i i.op stacks index tops
-      → StandFor stacks index (behind_arrivals shape.args i i.op stacks index tops) out
-  other_stands out comparing are =
-      let same : out ≡ behind_arrivals shape.args i i.op stacks index tops = are ∙ (rw comparing refl) in
-      record {
-        same = λ n low ordered fault joins. ap (least_over (suc (suc n)) stacks fault) same;
-        grounded = λ ordered. subst (AreGrounded stacks (suc index)) (sym are) (other_grounded ordered i.op);
-      }
-
   pub compared_stands : (out : List Arrival) → is_comparing i.op ≡ true → IsRestOfGathered stacks tops out
       → StandFor stacks index (behind_arrivals shape.args i i.op stacks index tops) out
   compared_stands out comparing made =
@@ -79,13 +70,59 @@ module _ (shape : Shape) (i : Instr) (stacks : Stacks) (index : ℕ) where
             (made.gathered.grounded stacks (suc index) (rest_grounded stacks ordered 0 shape i tops (suc index) (higher ordered)))));
       }
 
+-- A value that is put over another instruction, to which the same stacks come.
+module _ (shape : Shape) (i : Instr) (stacks : Stacks) (index home : ℕ) (is_home : IsHome stacks index home) where
+  abbrev come : List Arrival
+  come = arrivals_at stacks index
+
+  stands_itself : (list : List Arrival) → (AreOrdered stacks → AreGrounded stacks (suc index) list) → StandFor stacks index list list
+  stands_itself list grounded = record { same = λ n low ordered fault joins. refl; grounded = grounded }
+
+  pushed_home : (list : List Arrival) → list ≡ come → StandFor stacks index (pushed shape.args i index list) (pushed shape.args i home list)
+  pushed_home [] are = stands_itself [] (λ ordered. tt)
+  pushed_home (top ∷ list) are = record {
+    same = λ n low ordered fault joins.
+        ap (λ (xs : List Arrival). either (least (λ arrival. least_of (suc n) stacks (λ stack. fault (told_of (made_seen shape.args i []) ∷ stack)) arrival) xs) None) is_home.same;
+    grounded = λ ordered. ((low_home, some), tt);
+  }
+    where
+      low_home : home < suc index
+      low_home = (let x = is_home.most in omega (arith, x))
+
+      some : 0 < length (arrivals_at stacks home)
+      some = subst (λ (xs : List Arrival). 0 < length xs) (are ∙ sym is_home.same) (omega arith)
+
+  call_home : (call : Option UnitCall) → StandFor stacks index (behind_call shape.args i call index come) (behind_call shape.args i call home come)
+  call_home (Some (calls.OldValue place)) = stands_itself _ (λ ordered. call_grounded shape i stacks index ordered (Some (calls.OldValue place)))
+  call_home _ = pushed_home come refl
+
+  other_home : (op : Op) → StandFor stacks index (other_arrivals shape.args i op stacks index come) (other_arrivals shape.args i op stacks home come)
+  other_home ops.Nop = stands_itself _ (λ ordered. other_grounded shape i stacks index ordered ops.Nop)
+  other_home (ops.Branch tests.Always target) = stands_itself _ (λ ordered. other_grounded shape i stacks index ordered (ops.Branch tests.Always target))
+  other_home (ops.Branch test target) = stands_itself _ (λ ordered. other_grounded shape i stacks index ordered (ops.Branch test target))
+  other_home (ops.Bin operator) = stands_itself _ (λ ordered. other_grounded shape i stacks index ordered (ops.Bin operator))
+  other_home (ops.LoadElem place) = stands_itself _ (λ ordered. other_grounded shape i stacks index ordered (ops.LoadElem place))
+  other_home ops.Neg = stands_itself _ (λ ordered. other_grounded shape i stacks index ordered ops.Neg)
+  other_home ops.Not = stands_itself _ (λ ordered. other_grounded shape i stacks index ordered ops.Not)
+  other_home ops.ConvI4 = stands_itself _ (λ ordered. other_grounded shape i stacks index ordered ops.ConvI4)
+  other_home ops.Length = stands_itself _ (λ ordered. other_grounded shape i stacks index ordered ops.Length)
+  other_home (ops.Call number) = call_home (unit_call number)
+  other_home _ = pushed_home come refl
+
+  pub other_stands : (out : List Arrival) → is_comparing i.op ≡ false → out ≡ other_arrivals shape.args i i.op stacks home come
+      → StandFor stacks index (behind_arrivals shape.args i i.op stacks index come) out
+  other_stands out comparing are =
+      let expected : other_arrivals shape.args i i.op stacks index come ≡ behind_arrivals shape.args i i.op stacks index come = rw comparing refl in
+      subst (λ (xs : List Arrival). StandFor stacks index xs out) expected
+      (subst (λ (xs : List Arrival). StandFor stacks index (other_arrivals shape.args i i.op stacks index come) xs) (sym are) (other_home i.op))
+
 -- As the code reads the arguments and the tops.
 module _ (shape : Shape) (i : Instr) (stacks : Stacks) (index : ℕ) (args : List Place) (read : List Arrival) (args_are : args ≡ shape.args) (are : read ≡ arrivals_at stacks index) where
-  pub other_read : (out : List Arrival) → is_comparing i.op ≡ false → out ≡ other_arrivals args i i.op stacks index read
+  pub other_read : (home : ℕ) (out : List Arrival) → IsHome stacks index home → is_comparing i.op ≡ false → out ≡ other_arrivals args i i.op stacks home read
       → StandFor stacks index (behind_arrivals shape.args i i.op stacks index (arrivals_at stacks index)) out
-  other_read out comparing made =
-      other_stands shape i stacks index out comparing
-      (made ∙ ap (λ (places : List Place). other_arrivals places i i.op stacks index read) args_are ∙ ap (λ (xs : List Arrival). other_arrivals shape.args i i.op stacks index xs) are)
+  other_read home out is_home comparing made =
+      other_stands shape i stacks index home is_home out comparing
+      (made ∙ ap (λ (places : List Place). other_arrivals places i i.op stacks home read) args_are ∙ ap (λ (xs : List Arrival). other_arrivals shape.args i i.op stacks home xs) are)
 
   pub compared_read : (out : List Arrival) → is_comparing i.op ≡ true → IsRestOfGathered stacks read out
       → StandFor stacks index (behind_arrivals shape.args i i.op stacks index (arrivals_at stacks index)) out

@@ -15,7 +15,7 @@ use Rattle.contract_extract.specs.Faults.{code_faults, faults_of, first_fault}
 use Rattle.contract_extract.specs.Ways.{way_faults}
 use Rattle.contract_extract.proofs.HasTree.{IsClause, clause_has_tree}
 use Rattle.contract_extract.proofs.NoFaults.{no_first, none_in_both, none_of_each}
-use Rattle.contract_extract.proofs.Skipping.{slice_found, slice_found_from}
+use Rattle.contract_extract.proofs.SliceFound.{slice_found, slice_found_from}
 
 -- The instructions from the one index to the other are the code of a clause, the last its closing call, with no fault.
 pub record HasNoFault (is : List Instr) (shape : Shape) (first last : ℕ) (i call : Instr) : Type 0 where

@@ -4,11 +4,9 @@ use Rattle.std.specs.Option.{option_and_then}
 use Rattle.cil_model.specs.ClauseTrees.{Item}
 use Rattle.cil_model.specs.Runs.{instr_at}
 use Rattle.cil_model.specs.declared.instruction.Instr.{Instr}
-use Rattle.cil_model.proofs.Lists.{of_found}
-use Rattle.cil_model.specs.ShortCode.{AreOfShortCode, IsOfShortCode}
+use Rattle.cil_model.specs.ShortCode.{AreOfShortCode}
 use Rattle.contract_extract.specs.Growth.{forward, tree_here}
 use Rattle.contract_extract.proofs.Forward.{from_here}
-use Rattle.contract_extract.proofs.InstrOffsets.{found_at}
 
 pub found_tree : (is : List Instr) (at : ℕ) (i : Instr) (items : List Item) → AreOfShortCode is → Some i ≡ instr_at is at
     → forward is at items ≡ tree_here (forward is) i items
@@ -18,9 +16,3 @@ found_tree is at i items short found =
 pub found_no_tree : (is : List Instr) (at : ℕ) (items : List Item) → AreOfShortCode is → None ≡ instr_at is at → forward is at items ≡ None
 found_no_tree is at items short found =
     from_here is short at items ∙ ap (option_and_then (λ j. tree_here (forward is) j items)) (sym found)
-
-pub found_place : (is : List Instr) (at : ℕ) (i : Instr) → Some i ≡ instr_at is at → i.at ≡ at
-found_place is at i found = found_at is at i (sym found)
-
-pub found_short : (is : List Instr) (at : ℕ) (i : Instr) → AreOfShortCode is → Some i ≡ instr_at is at → IsOfShortCode i
-found_short is at i short found = of_found IsOfShortCode is at i short.each (sym found)

@@ -25,8 +25,6 @@ pub mod Found
 pub mod Growing
 pub mod Ends
 pub mod StackLemmas
-pub mod Skipping
-pub mod Working
 pub mod UnderKinds
 pub mod PlacedCalls
 pub mod FitTrees
@@ -43,3 +41,11 @@ pub mod AllNumbers
 pub mod Closing
 pub mod BodyFaults
 pub mod Passed
+pub mod FaultPlaces
+pub mod CodeFrom
+pub mod BodyLeft
+pub mod BodyRuns
+pub mod Cutting
+pub mod SliceFound
+pub mod Looking
+pub mod Working

@@ -1,7 +1,7 @@
 -- Straight stretches of a clause's code: each instruction makes the tree of the next one.
-use Rattle.std.proofs.Common.{◌≡◌, ℕ, ◌+◌, ◌<◌, Bool, true, false, max, nat_lt, List, ◌∷◌, Option, Some, None, IfSome, is_some, if◌then◌else◌, refl, sym, ap, ◌∙◌, arith}
+use Rattle.std.proofs.Common.{◌≡◌, ℕ, ◌+◌, Bool, true, false, max, nat_lt, List, ◌∷◌, Option, Some, None, IfSome, is_some, if◌then◌else◌, refl, sym, ap, ◌∙◌, arith}
 use Rattle.std.specs.Option.{option_and_then}
-use Rattle.std.proofs.lemmas.Bool.{ltb-true, or_parts}
+use Rattle.std.proofs.lemmas.Bool.{or_parts}
 use Rattle.cil_model.specs.ClauseTrees.{Item, Tree, closing, items_behind, tree_at, with_call}
 use Rattle.cil_model.specs.Terms as terms
 use Rattle.cil_model.specs.Terms.{Term, condition_depth}
@@ -42,7 +42,7 @@ jumping from i target items straight jump =
     ap (λ closed. tree_at (onward from i.at) closed i i.op items) (none_closing (closing i.op) parts.0)
     ∙ jump_at (onward from i.at) i i.op target items parts.1 jump ∙ later_gives from i.at target items
 
-pass_at : (from : ℕ → List Item → Option Term) (i : Instr) (op : Op) (items : List Item) → jump_of op ≡ None
+pub pass_at : (from : ℕ → List Item → Option Term) (i : Instr) (op : Op) (items : List Item) → jump_of op ≡ None
     → tree_at from None i op items ≡ option_and_then (from (i.at + i.size)) (items_behind op items)
 pass_at from i (ops.Branch test t) items stays = absurd cc
 pass_at from i _ items stays = refl
@@ -65,13 +65,6 @@ pub lacking : (from : ℕ → List Item → Option Term) (i : Instr) (before : L
     → None ≡ items_behind i.op before → tree_here from i before ≡ None
 lacking from i before straight stays left =
     pass_here from i before straight stays ∙ ap (option_and_then (onward from i.at (i.at + i.size))) (sym left)
-
-pub rising : (at later : ℕ) → IfSome (later_than at later) (λ n. at < n)
-rising at later = by (nat_lt at later) (ltb-true at later)
-  where
-    by : (goes : Bool) → (goes ≡ true → at < later) → IfSome (if goes then Some later else None) (λ n. at < n)
-    by true above = above refl
-    by false above = tt
 
 -- ---- no condition comes on a stack
 

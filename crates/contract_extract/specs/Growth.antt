@@ -1,5 +1,5 @@
 -- How the tree of a clause grows along the ways forward, and the limits that it meets.
-use Rattle.std.specs.Prelude.{◌≡◌, ℕ, ◌+◌, ◌<◌, ◌≤◌, Bool, true, false, ◌||◌, nat_lt, List, ◌∷◌, length, Option, Some, None, IfSome, if◌then◌else◌, slice_get, slice_index_or}
+use Rattle.std.specs.Prelude.{◌≡◌, ℕ, ◌+◌, ◌<◌, ◌≤◌, Bool, true, false, ◌||◌, nat_lt, List, ◌∷◌, length, Option, Some, None, IfSome, if◌then◌else◌, slice_get}
 use Rattle.std.specs.List.{AllByRecursion}
 use Rattle.std.specs.Option.{is_some}
 use Rattle.cil_model.specs.ClauseTrees.{Item, Tree, Message, branch_operator, closing, condition, tree_at, tree_from}
@@ -54,16 +54,6 @@ idle_to ops.Nop next = Some next
 idle_to ops.ConvI4 next = Some next
 idle_to (ops.Branch tests.Always target) next = Some target
 idle_to _ next = None
-
--- From an IL offset on a clause has the tree that it has from this later one on, whatever stands on the stack.
-pub record IsSkip (is : List Instr) (at to : ℕ) : Type 0 where
-  pub later : at ≤ to
-  pub keeps : (items : List Item) → Keeps (forward is at items) (forward is to items)
-
--- For each instruction, a later offset with the same trees.
-pub record AreSkips (is : List Instr) (skips : List ℕ) : Type 0 where
-  pub long : length skips ≡ length is
-  pub each : (index : ℕ) (i : Instr) → slice_get is index ≡ Some i → IsSkip is i.at (slice_index_or skips index 0)
 
 -- A straight stretch of the code ends at the operation: it closes a clause, or goes two ways.
 abbrev pub ends_stretch : Op → Bool

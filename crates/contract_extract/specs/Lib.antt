@@ -10,5 +10,6 @@ pub mod GatheredStacks
 pub mod PassedInstr
 pub mod TreeStacks
 pub mod Growth
+pub mod Dropping
 pub mod TreeRoots
 pub mod Extracting

@@ -104,6 +104,11 @@ pub record StandFor (stacks : Stacks) (index : ℕ) (expected out : List Arrival
       → least_over (suc (suc n)) stacks fault out ≡ least_over (suc (suc n)) stacks fault expected
   pub grounded : AreOrdered stacks → AreGrounded stacks (suc index) out
 
+-- The same stacks come to the instruction of an index and to one up to it.
+pub record IsHome (stacks : Stacks) (index home : ℕ) : Type 0 where
+  pub most : home ≤ index
+  pub same : arrivals_at stacks home ≡ arrivals_at stacks index
+
 -- What stands for the stacks behind an instruction, which may be gathered.
 abbrev pub StandBehind : List Instr → Shape → Instr → Stacks → ℕ → List Arrival → Type 0
 StandBehind is shape i stacks index out = StandFor stacks index (passed_arrivals is shape i stacks index (arrivals_at stacks index)) out

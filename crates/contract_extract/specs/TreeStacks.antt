@@ -13,9 +13,16 @@ use Rattle.cil_model.specs.declared.instruction.Test.TheVariants as tests
 use Rattle.cil_model.specs.declared.instruction.UnOp.TheVariants as unary
 use Rattle.cil_model.specs.declared.unit_numbers.UnitCall.{UnitCall}
 use Rattle.cil_model.specs.declared.unit_numbers.UnitCall.TheVariants as calls
-use Rattle.contract_extract.specs.Growth.{AreFlat, Keeps}
+use Rattle.contract_extract.specs.Growth.{AreFlat, Keeps, tree_here}
+use Rattle.contract_extract.specs.Dropping.{without}
+use Rattle.contract_extract.specs.declared.dropped.Dropped.{Dropped}
+use Rattle.contract_extract.specs.declared.stretch.Working.{Working}
 use Rattle.contract_extract.specs.declared.conditions.Condition.{Condition}
 use Rattle.contract_extract.specs.declared.tree_stack.Counted.{Counted}
+use Rattle.contract_extract.specs.declared.tree_stack.Pair.{Pair}
+use Rattle.contract_extract.specs.declared.tree_stack.Pair.TheVariants as pairs
+use Rattle.contract_extract.specs.declared.tree_stack.Single.{Single}
+use Rattle.contract_extract.specs.declared.tree_stack.Single.TheVariants as singles
 use Rattle.contract_extract.specs.declared.tree_stack.Slot.{Slot}
 use Rattle.contract_extract.specs.declared.tree_stack.Slot.TheVariants as slots
 
@@ -38,16 +45,21 @@ pub record StandsFor (stack : List Slot) (items : List Item) : Type 0 where
   pub slots : stack ≡ slots_of items
   pub flat : AreFlat items
 
--- The tree, if there is one, is what this gives of items for which the stack stands.
-pub record IsFrom (tree : Option Term) (from : List Item → Option Term) (stack : List Slot) : Type 0 where
+-- The tree, if there is one, is what this gives of items for which the stack stands, but for those that are dropped.
+pub record IsFrom (tree : Option Term) (from : List Item → Option Term) (dropped : Dropped) (stack : List Slot) : Type 0 where
   pub items : List Item
-  pub stands : StandsFor stack items
+  pub stands : StandsFor stack (without dropped items)
   pub keeps : Keeps tree (from items)
 
 -- It is what this gives of the place where the way goes on. Where it goes on nowhere, there is no tree.
-abbrev pub IsFromNext : {X : Type 0} → Option Term → (X → List Item → Option Term) → List Slot → Option X → Type 0
-IsFromNext tree from stack None = Keeps tree None
-IsFromNext tree from stack (Some next) = IsFrom tree (from next) stack
+abbrev pub IsFromNext : Option Term → (ℕ → List Item → Option Term) → Dropped → List Slot → Option ℕ → Type 0
+IsFromNext tree from dropped stack None = Keeps tree None
+IsFromNext tree from dropped stack (Some next) = IsFrom tree (from next) dropped stack
+
+-- The same of an instruction that makes a part of the tree or ends a way.
+abbrev pub IsFromWorking : Option Term → (ℕ → List Item → Option Term) → List Slot → Option Working → Type 0
+IsFromWorking tree from stack None = Keeps tree None
+IsFromWorking tree from stack (Some working) = IsFrom tree (tree_here from working.instr.now) working.dropped stack
 
 -- ---- what operations make of them
 
@@ -55,6 +67,16 @@ IsFromNext tree from stack (Some next) = IsFrom tree (from next) stack
 abbrev pub left_if : Bool → List Slot → Option (List Slot)
 left_if true stack = Some stack
 left_if false stack = None
+
+-- The root of a tree over one or two others.
+abbrev pub single_root : Single → Term → Term
+single_root singles.Length = terms.Len
+single_root (singles.Operator operator) = terms.Un operator
+single_root singles.Old = terms.Old
+
+abbrev pub pair_root : Pair → Term → Term → Term
+pair_root (pairs.Operator operator) = terms.Bin operator
+pair_root (pairs.Element place) = terms.Elem place
 
 -- A tree of this root over the top, in its place.
 abbrev pub over_one : (Term → Term) → List Slot → Option (List Slot)
@@ -98,10 +120,9 @@ slots_behind _ stack = None
 -- ---- what ends a stretch of the code finds in them
 
 -- The tree that a closing call finds, if it is kept.
-abbrev pub closed_slot : Bool → List Slot → Option Counted
-closed_slot false (slots.Tree a ∷ []) = a
-closed_slot true (top ∷ slots.Tree a ∷ []) = a
-closed_slot _ _ = None
+abbrev pub closed_slot : List Slot → Option Counted
+closed_slot (slots.Tree a ∷ []) = a
+closed_slot _ = None
 
 -- The tree at the top as a condition, if it is kept, and the slots below it.
 abbrev pub top_tested : Bool → List Slot → Option (Condition × List Slot)

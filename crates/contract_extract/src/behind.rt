@@ -7,6 +7,8 @@ ghost use Rattle.contract_extract.specs.SharedStacks.{arrivals_at, rest_of, with
 
 use crate::arrivals::{Arrival, Arrivals, Seen, arrivals_at};
 use crate::gather::gathered;
+use crate::hints::Hints;
+use crate::homes::home;
 use crate::made_values::made_seen;
 use cil_model::{Instr, Op, Place, Shape, Test, UnitCall, unit_call};
 use std::alloc::{AllocError, Global};
@@ -203,7 +205,7 @@ fn is_comparing(op: &Op) -> bool
 /// What comes behind the instruction of this index, which a clause may have.
 fn behind_pure(
     alloc: Global,
-    places: &mut [usize],
+    hints: &mut Hints,
     shape: &Shape,
     instr: &Instr,
     stacks: &[Arrivals],
@@ -215,15 +217,17 @@ fn behind_pure(
     let args = shape.args.as_slice();
     let tops = arrivals_at(stacks, index);
     if is_comparing(&instr.op) {
-        return rests_of_two(alloc, places, stacks, tops);
+        return rests_of_two(alloc, &mut hints.places, stacks, tops);
     }
-    behind_other(alloc, args, instr, stacks, index, tops)
+    // A new value is put over the instruction that stands for this one.
+    let home = home(&mut hints.homes, stacks, index);
+    behind_other(alloc, args, instr, stacks, home, tops)
 }
 
 /// The same, gathered, so that a branch that many take does not bring the same arrivals again and again.
 fn behind_gathered(
     alloc: Global,
-    places: &mut [usize],
+    hints: &mut Hints,
     shape: &Shape,
     instr: &Instr,
     stacks: &[Arrivals],
@@ -232,14 +236,14 @@ fn behind_gathered(
     ensures { IfOk result (StandFor stacks.now index
         (behind_arrivals shape.now.args instr.now instr.now.op stacks.now index (arrivals_at stacks.now index))) }
 {
-    let out = behind_pure(alloc, places, shape, instr, stacks, index)?;
-    gathered(alloc, places, out.as_slice())
+    let out = behind_pure(alloc, hints, shape, instr, stacks, index)?;
+    gathered(alloc, &mut hints.places, out.as_slice())
 }
 
 /// What comes behind the instruction of this index: nothing where ways end.
 pub(crate) fn behind(
     alloc: Global,
-    places: &mut [usize],
+    hints: &mut Hints,
     shape: &Shape,
     instr: &Instr,
     stacks: &[Arrivals],
@@ -252,5 +256,5 @@ pub(crate) fn behind(
     if !goes_on {
         return Ok(Arrivals::new(alloc));
     }
-    behind_gathered(alloc, places, shape, instr, stacks, index)
+    behind_gathered(alloc, hints, shape, instr, stacks, index)
 }

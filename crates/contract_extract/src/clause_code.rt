@@ -9,7 +9,7 @@ ghost use Rattle.contract_extract.specs.declared.arrivals.Arrival.TheVariants.{E
 use crate::arrivals::{Arrival, Arrivals};
 use crate::clause_fault::{ClauseFault, ClauseRefusal};
 use crate::first_fault::either;
-use crate::gather::KINDS;
+use crate::hints::Hints;
 use crate::one_pass::{ClauseCode, pass_instr};
 use cc_base::Refusal;
 use cil_model::{Instr, Shape};
@@ -32,7 +32,7 @@ fn first_stacks(alloc: Global, count: usize) -> Result<Vec<Arrivals>, AllocError
 /// Passes a clause's code from its start, and answers its first fault. The empty stack alone comes to its start.
 fn pass_code(
     alloc: Global,
-    places: &mut [usize],
+    hints: &mut Hints,
     clause: &ClauseCode,
     stacks: &mut [Arrivals],
 ) -> Result<Option<ClauseFault>, AllocError>
@@ -44,7 +44,7 @@ fn pass_code(
     let mut first = None;
     for index in 0..clause.code.len() {
         let instr = &clause.code[index];
-        let found = pass_instr(alloc, places, clause, stacks, index, instr)?;
+        let found = pass_instr(alloc, hints, clause, stacks, index, instr)?;
         first = either(first, found);
     }
     Ok(first)
@@ -57,18 +57,23 @@ fn first_code_fault(alloc: Global, clause: &ClauseCode) -> Result<Option<ClauseF
         first_fault (code_faults clause.now.instrs.now clause.now.shape.now clause.now.start clause.now.closing.now clause.now.code.now)) }
 {
     let count = clause.code.len();
-    let mut places = vec![in alloc; 0; count.saturating_mul(KINDS)]?;
+    let mut hints = Hints::new(alloc, count)?;
     let mut stacks = first_stacks(alloc, count)?;
-    pass_code(alloc, &mut places, clause, &mut stacks)
+    pass_code(alloc, &mut hints, clause, &mut stacks)
 }
 
 /// Answers the first fault of the code of one clause, but for its size. The code is that of the instructions from the
 /// one index up to the other, that of its closing call.
 ///
-/// The code is passed once, whatever its branches. What comes to an instruction is kept as the tops of stacks, each
-/// with the instruction to which the rest of it comes, so the work is linear in the instructions where there is no
-/// branch. An instruction has at most seven tops for each instruction before it, and one that takes two operands
-/// looks at each pair of a top and a value below it.
+/// The code is passed once, whatever its branches. What comes to an instruction is kept as the tops of stacks, each over an
+/// instruction to which the rest of it comes, and one instruction stands for all to which the same tops come. Where ways that
+/// meet have stacks of one height, whose values below the top have the same kinds and calls, at most seven tops come to an
+/// instruction, and the work is linear in the number of instructions. That holds unless different lists of tops share a
+/// number in the table by which equal ones are found: then those may be kept apart that are equal.
+///
+/// Where ways meet whose stacks differ in height, which is a fault, or in kinds or calls below their tops, an instruction may
+/// have seven tops for each instruction before it. The work is then quadratic, and more where two operands are taken, since
+/// each pair of a top and a value below it is looked at.
 pub(crate) fn check_clause(
     alloc: Global,
     instrs: &[Instr],

@@ -2,6 +2,7 @@
 
 ghost use Rattle.std.specs.Prelude.{◌≡◌};
 ghost use Rattle.cc_base.specs.declared.refusal.Refusal.TheVariants.{Bad};
+ghost use Rattle.contract_extract.specs.Faults.{fault_at};
 
 use cc_base::Refusal;
 use thiserror::Error;
@@ -30,6 +31,22 @@ pub enum ClauseFault {
     /// A closing call whose clause passes a limit, or with which the method's clauses do.
     #[error("too long at IL_{0:04x}")]
     TooLong(u32),
+}
+
+impl ClauseFault {
+    /// The IL offset.
+    pub fn at(self) -> u32
+        ensures { result ≡ fault_at self }
+    {
+        match self {
+            ClauseFault::NotPure(at)
+            | ClauseFault::Backward(at)
+            | ClauseFault::StackLeft(at)
+            | ClauseFault::IntoBlock(at)
+            | ClauseFault::OldForm(at)
+            | ClauseFault::TooLong(at) => at,
+        }
+    }
 }
 
 /// Why the clauses were not read: their first fault, or memory ran out.

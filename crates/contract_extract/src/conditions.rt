@@ -7,7 +7,7 @@ ghost use Rattle.contract_extract.specs.Growth.{forked, is_full, IsLeft};
 ghost use Rattle.contract_extract.specs.TreeStacks.{slots_tested, top_tested};
 
 use crate::limits::Limits;
-use crate::tree_stack::{Slot, TreeStack, take_operator};
+use crate::tree_stack::{Pair, Slot, TreeStack, take_two};
 use crate::trees::room_beside;
 use cil_model::{BinOp, CmpOp, Node, Test, Tree};
 use std::alloc::{AllocError, Global};
@@ -61,7 +61,7 @@ fn take_comparison(
     ensures { IfOk result (λ taken. option_map (λ condition. (condition, stack.new.items)) taken ≡ slots_tested (tests.Cmp op) stack.old.items) }
 {
     let (operator, turned) = branch_operator(op);
-    if !take_operator(alloc, operator, stack)? {
+    if !take_two(alloc, Pair::Operator(operator), stack)? {
         return Ok(None);
     }
     Ok(take_tree(stack, turned))

@@ -4,7 +4,7 @@ ghost use Rattle.std.specs.Prelude.{IfOk};
 ghost use Rattle.std.specs.List.{AllByRecursion};
 ghost use Rattle.cc_base.specs.Tests.{JudgesOrNoMemory};
 ghost use Rattle.cil_model.specs.Code.{MeetsStarts};
-ghost use Rattle.cil_model.specs.FitKinds.{AreDecoded};
+ghost use Rattle.cil_model.specs.FitKinds.{AreDecoded, HasBody};
 ghost use Rattle.cil_model.specs.Passes.{KindsOf, Stacks};
 ghost use Rattle.cil_model.specs.ShortCode.{AreOfShortCode};
 ghost use Rattle.cil_model.specs.TreeKinds.{IsNumberClause};
@@ -41,6 +41,9 @@ pub fn extract(alloc: Global, instrs: &[Instr], shape: &Shape) -> Result<Contrac
     // Where the code has kinds, so has each tree: that of a number.
     ensures numbers { (stacks : Stacks) → AreDecoded instrs.now → KindsOf shape.now instrs.now stacks
         → IfOk result (λ contracts. AllByRecursion (IsNumberClause shape.now.args shape.now.result) contracts.clauses) }
+    // Where the code has kinds, the body begins with an empty stack, and can be run from there.
+    ensures body { (stacks : Stacks) → AreDecoded instrs.now → KindsOf shape.now instrs.now stacks
+        → IfOk result (λ contracts. HasBody instrs.now stacks contracts.body_start) }
 {
     let block = read_clauses(alloc, instrs, shape)?;
     if let Some(fault) = first_body_fault(block.start, &instrs[block.first..]) {

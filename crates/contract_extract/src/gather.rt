@@ -43,7 +43,7 @@ fn kind_number(kind: Option<Kind>) -> usize {
 }
 
 /// The number of an arrival by all but its call.
-fn number(arrival: Arrival) -> usize {
+pub(crate) fn number(arrival: Arrival) -> usize {
     match arrival {
         Arrival::Empty => 0,
         Arrival::Over(value, below) => below

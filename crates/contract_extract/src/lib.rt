@@ -1,6 +1,7 @@
 //! The clauses of a method's contract, read from the code of its contract block.
 #![tactic(auto)]
 
+mod ahead;
 mod arrivals;
 mod behind;
 mod block;
@@ -9,15 +10,16 @@ mod clause_code;
 mod clause_fault;
 mod conditions;
 mod contracts;
+mod dropped;
 mod first_fault;
 mod gather;
 mod heights;
-mod idle;
+mod hints;
+mod homes;
 mod limits;
 mod made_values;
 mod offsets;
 mod one_pass;
-mod operand_counts;
 mod own_faults;
 mod pure_code;
 mod read_clause;

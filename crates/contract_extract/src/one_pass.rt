@@ -16,11 +16,11 @@ use crate::clause_fault::ClauseFault;
 use crate::first_fault::{either, fault_if};
 use crate::gather::gathered;
 use crate::heights::{any_differs, any_lacks};
+use crate::hints::Hints;
 use crate::made_values::misfits;
-use crate::operand_counts::operand_count;
 use crate::own_faults::{closes, own_fault};
 use crate::pure_code::is_pure;
-use cil_model::{Instr, Op, Place, Shape, Test, UnitCall, unit_call};
+use cil_model::{Instr, Op, Place, Shape, Test, UnitCall, operand_count, unit_call};
 use std::alloc::{AllocError, Global};
 
 /// The index of the instruction at an IL offset, if there is one. It is found by halving.
@@ -225,7 +225,7 @@ pub(crate) struct ClauseCode<'a> {
 /// Passes the instruction of this index in the code, and answers its first fault.
 pub(crate) fn pass_instr(
     alloc: Global,
-    places: &mut [usize],
+    hints: &mut Hints,
     clause: &ClauseCode,
     stacks: &mut [Arrivals],
     index: usize,
@@ -239,7 +239,7 @@ pub(crate) fn pass_instr(
         clause.now.code.now index instr.now stacks.old stacks.new) }
 {
     let at = clause.first + index;
-    gather_at(alloc, places, stacks, index)?;
+    gather_at(alloc, &mut hints.places, stacks, index)?;
     let own = own_fault(
         clause.instrs,
         at,
@@ -251,7 +251,7 @@ pub(crate) fn pass_instr(
     let tops = arrivals_at(stacks, index);
     let arrived = arrived_fault(clause.instrs, at, instr, clause.shape, stacks, tops);
     let goes_on = goes_on(clause.instrs, at, instr);
-    let out = behind(alloc, places, clause.shape, instr, stacks, index, goes_on)?;
+    let out = behind(alloc, hints, clause.shape, instr, stacks, index, goes_on)?;
     send_on(clause.code, stacks, index, instr, out.as_slice())?;
     Ok(either(own, arrived))
 }

@@ -1,14 +1,18 @@
 //! Straight stretches of a clause's code: the instructions up to one that closes the clause or goes two ways.
 
-ghost use Rattle.std.specs.Prelude.{◌≡◌, ◌<◌, ◌≤◌, false, true, List, IfOk, IfSome, option_map};
-ghost use Rattle.std.specs.Option.{option_and_then, option_copied};
+ghost use Rattle.std.specs.Prelude.{◌≡◌, ◌<◌, ◌≤◌, false, true, length, List, IfOk, IfSome, OnOk, option_map};
 ghost use Rattle.cil_model.specs.ClauseTrees.{Item, closing};
 ghost use Rattle.cil_model.specs.declared.instruction.Instr.{Instr};
 ghost use Rattle.cil_model.specs.ShortCode.{AreOfShortCode, IsOfShortCode};
-ghost use Rattle.contract_extract.specs.Growth.{AreSkips, Keeps, ends_stretch, forward, jump_of, later_than, tree_here};
-ghost use Rattle.contract_extract.specs.TreeStacks.{IsFromNext, StandsFor};
+ghost use Rattle.contract_extract.specs.Dropping.{AreAhead, GoesTo, IsWithin, Spares, Works, ahead_at, behind, dropped_at, without};
+ghost use Rattle.contract_extract.specs.Growth.{ends_stretch, forward, jump_of, later_than, tree_here};
+ghost use Rattle.contract_extract.specs.TreeStacks.{IsFromNext, IsFromWorking, StandsFor};
+ghost use Rattle.contract_extract.specs.declared.dropped.Dropped.{Dropped};
+ghost use Rattle.contract_extract.specs.declared.tree_stack.Slot.{Slot};
 
-use crate::offsets::{find, index_of};
+use crate::ahead::Ahead;
+use crate::dropped::{Dropped, NOTHING, drop_values};
+use crate::offsets::index_of;
 use crate::tree_stack::{TreeStack, apply};
 use cil_model::{Instr, Op, Test, UnitCall, unit_call};
 use std::alloc::{AllocError, Global};
@@ -37,7 +41,7 @@ fn ends_stretch(op: &Op) -> bool
 }
 
 /// Where a branch goes.
-fn jump(op: &Op) -> Option<u32>
+pub(crate) fn jump(op: &Op) -> Option<u32>
     ensures { result ≡ jump_of op.now }
 {
     match op {
@@ -47,21 +51,30 @@ fn jump(op: &Op) -> Option<u32>
 }
 
 /// The offset, where it is later than this one.
-fn later_than(at: u32, later: u32) -> Option<u32>
+pub(crate) fn later_than(at: u32, later: u32) -> Option<u32>
     ensures { result ≡ later_than at later }
 {
     (at < later).then_some(later)
 }
 
+/// An instruction that makes a part of the tree, or ends a way.
+#[derive(Clone, Copy)]
+pub(crate) struct Working<'a> {
+    pub(crate) instr: &'a Instr,
+    /// What is dropped of the stacks that come to it.
+    pub(crate) dropped: Dropped,
+}
+
 /// Makes the stack before an instruction the one behind it, and says where the way goes on, if the code of a clause may
 /// have the instruction there.
-#[tactic(auto, using(crate::proofs::StackLemmas::jumps_on, crate::proofs::StackLemmas::lacks, crate::proofs::Stretches::rising))]
+#[tactic(auto, using(crate::proofs::StackLemmas::jumps_on, crate::proofs::StackLemmas::lacks, crate::proofs::StackLemmas::goes_to))]
 fn step(alloc: Global, instr: &Instr, stack: &mut TreeStack) -> Result<Option<u32>, AllocError>
     requires short { IsOfShortCode instr.now }
     requires straight { ends_stretch instr.now.op ≡ false }
-    ensures tree { (is : List Instr) (items : List Item) → StandsFor stack.old.items items
-        → IfOk result (IsFromNext (tree_here (forward is) instr.now items) (forward is) stack.new.items) }
-    ensures later { IfOk result (λ later. IfSome later (λ at. instr.now.at < at)) }
+    // The stack lacks what is dropped. The instruction takes nothing of that.
+    ensures tree { (is : List Instr) (items : List Item) (dropped : Dropped) → Spares instr.now.op dropped → StandsFor stack.old.items (without dropped items)
+        → IfOk result (IsFromNext (tree_here (forward is) instr.now items) (forward is) (behind instr.now.op dropped) stack.new.items) }
+    ensures later { IfOk result (λ later. IfSome later (GoesTo instr.now)) }
 {
     if let Some(target) = jump(&instr.op) {
         return Ok(later_than(instr.at, target));
@@ -72,46 +85,82 @@ fn step(alloc: Global, instr: &Instr, stack: &mut TreeStack) -> Result<Option<u3
     Ok(later_than(instr.at, instr.at + instr.size))
 }
 
-/// The first instruction from an IL offset on that may make a node, if there is one.
-#[tactic(auto, using(crate::proofs::Working::working_tree, crate::proofs::Working::no_working_tree, crate::proofs::Working::working_later, crate::proofs::Working::nowhere, crate::proofs::Found::found_short))]
-fn find_working<'a>(instrs: &'a [Instr], skips: &[u32], at: u32) -> Option<&'a Instr>
+/// The first instruction from an IL offset on that makes a part of the tree or ends a way, if there is one.
+fn find_working<'a>(instrs: &'a [Instr], ahead: &[Ahead], at: u32) -> Option<Working<'a>>
     requires lie { AreOfShortCode instrs.now }
-    requires skips { AreSkips instrs.now skips.now }
-    ensures tree { (items : List Item) → Keeps (forward instrs.now at items)
-        (option_and_then (λ i. tree_here (forward instrs.now) i items) (option_copied result)) }
-    ensures later { IfSome result (λ i. at ≤ i.now.at) }
-    ensures short { IfSome result (λ i. IsOfShortCode i.now) }
+    requires ahead { AreAhead instrs.now ahead.now }
+    ensures tree { (stack : List Slot) (items : List Item) → StandsFor stack (without (dropped_at instrs.now ahead.now at) items)
+        → IsFromWorking (forward instrs.now at items) (forward instrs.now) stack result }
+    ensures works { IfSome result (λ w. Works (ahead_at instrs.now ahead.now) w.instr.now w.dropped) }
+    ensures later { IfSome result (λ w. at ≤ w.instr.now.at) }
+    ensures short { IfSome result (λ w. IsOfShortCode w.instr.now) }
 {
     let index = index_of(instrs, at)?;
-    find(instrs, skips[index])
+    let index = index_of(instrs, ahead[index].works_at)?;
+    Some(Working {
+        instr: &instrs[index],
+        dropped: ahead[index].dropped,
+    })
+}
+
+/// What is dropped of the stacks that come to an IL offset.
+#[tactic(auto, using(crate::proofs::Looking::dropped_found, crate::proofs::Looking::dropped_nowhere))]
+fn dropped_at(instrs: &[Instr], ahead: &[Ahead], at: u32) -> Dropped
+    requires lie { AreOfShortCode instrs.now }
+    requires long { length ahead.now ≡ length instrs.now }
+    ensures { result ≡ dropped_at instrs.now ahead.now at }
+{
+    match index_of(instrs, at) {
+        Some(index) => ahead[index].dropped,
+        None => NOTHING,
+    }
+}
+
+/// Makes the stack behind an instruction the one that comes to a later one: what is dropped on each way from there leaves it.
+pub(crate) fn arrive(
+    instrs: &[Instr],
+    ahead: &[Ahead],
+    from: &Working,
+    at: u32,
+    stack: &mut TreeStack,
+) -> Result<(), AllocError>
+    requires lie { AreOfShortCode instrs.now }
+    requires long { length ahead.now ≡ length instrs.now }
+    requires within { IsWithin (behind from.now.instr.now.op from.now.dropped) (dropped_at instrs.now ahead.now at) }
+    ensures { (items : List Item) → StandsFor stack.old.items (without (behind from.now.instr.now.op from.now.dropped) items)
+        → OnOk result (StandsFor stack.new.items (without (dropped_at instrs.now ahead.now at) items)) }
+{
+    let dropped = dropped_at(instrs, ahead, at);
+    drop_values(stack, dropped, from.dropped.count)
 }
 
 /// Goes from an IL offset straight on to the instruction where the stretch ends, and leaves the stack that it finds. If the
 /// clause has a tree from the offset on, it is the one from there on.
-#[tactic(auto, using(crate::proofs::StackLemmas::stands_at_start, crate::proofs::StackLemmas::ends_at, crate::proofs::StackLemmas::ends_nowhere))]
 pub(crate) fn run<'a>(
     alloc: Global,
     instrs: &'a [Instr],
-    skips: &[u32],
+    ahead: &[Ahead],
     start: u32,
     stack: &mut TreeStack,
-) -> Result<Option<&'a Instr>, AllocError>
+) -> Result<Option<Working<'a>>, AllocError>
     requires lie { AreOfShortCode instrs.now }
-    requires skips { AreSkips instrs.now skips.now }
-    ensures tree { (items : List Item) → StandsFor stack.old.items items → IfOk result (λ end.
-        IsFromNext (forward instrs.now start items) (tree_here (forward instrs.now)) stack.new.items (option_copied end)) }
-    ensures later { IfOk result (λ end. IfSome end (λ i. start ≤ i.now.at)) }
-    ensures ends { IfOk result (λ end. IfSome end (λ i. ends_stretch i.now.op ≡ true)) }
-    ensures short { IfOk result (λ end. IfSome end (λ i. IsOfShortCode i.now)) }
+    requires ahead { AreAhead instrs.now ahead.now }
+    ensures tree { (items : List Item) → StandsFor stack.old.items (without (dropped_at instrs.now ahead.now start) items) → IfOk result (λ end.
+        IsFromWorking (forward instrs.now start items) (forward instrs.now) stack.new.items end) }
+    ensures works { IfOk result (λ end. IfSome end (λ w. Works (ahead_at instrs.now ahead.now) w.instr.now w.dropped)) }
+    ensures later { IfOk result (λ end. IfSome end (λ w. start ≤ w.instr.now.at)) }
+    ensures ends { IfOk result (λ end. IfSome end (λ w. ends_stretch w.instr.now.op ≡ true)) }
+    ensures short { IfOk result (λ end. IfSome end (λ w. IsOfShortCode w.instr.now)) }
 {
     let mut at = start;
-    while let Some(instr) = find_working(instrs, skips, at) {
-        if ends_stretch(&instr.op) {
-            return Ok(Some(instr));
+    while let Some(working) = find_working(instrs, ahead, at) {
+        if ends_stretch(&working.instr.op) {
+            return Ok(Some(working));
         }
-        let Some(later) = step(alloc, instr, stack)? else {
+        let Some(later) = step(alloc, working.instr, stack)? else {
             return Ok(None);
         };
+        arrive(instrs, ahead, &working, later, stack)?;
         at = later;
     }
     Ok(None)

@@ -1,28 +1,26 @@
 //! The tree of a clause's code, within the limits of a clause.
 
-ghost use Rattle.std.specs.Prelude.{◌≡◌, ◌+◌, ◌≤◌, List, IfOk, IfSome};
-ghost use Rattle.cil_model.specs.ClauseTrees.{Item, closed_tree, tree_of};
+ghost use Rattle.std.specs.Prelude.{◌≡◌, ◌+◌, ◌≤◌, false, List, Some, None, IfOk, IfSome};
+ghost use Rattle.cil_model.specs.ClauseTrees.{Item, closed_tree, closing, tree_of};
 ghost use Rattle.cil_model.specs.Terms.{condition_depth};
 ghost use Rattle.cil_model.specs.ShortCode.{AreOfShortCode, IsOfShortCode};
-ghost use Rattle.contract_extract.specs.Growth.{AreSkips, Grows, forked, forward, onward};
+ghost use Rattle.contract_extract.specs.Dropping.{AreAhead, Works, ahead_at, behind, dropped_at, without};
+ghost use Rattle.contract_extract.specs.Growth.{Grows, forked, forward, jump_of, onward};
 ghost use Rattle.contract_extract.specs.TreeStacks.{StandsFor, closed_slot};
 
+use crate::ahead::{Ahead, look_ahead};
 use crate::conditions::{Condition, take_condition};
-use crate::idle::skips;
 use crate::limits::{Grown, Limits};
-use crate::stretch::{closing_message, run};
+use crate::stretch::{Working, arrive, closing_message, run};
 use crate::tree_stack::{Counted, Slot, TreeStack, copied};
 use cil_model::{Instr, Op};
 use std::alloc::{AllocError, Global};
 use std::collections::VecDeque;
 
-/// The tree that a closing call finds, if it is kept: below the message where it takes one, and alone.
-fn closed_tree(message: bool, mut stack: TreeStack) -> Option<Counted>
-    ensures { result ≡ closed_slot message stack.items }
+/// The tree that a closing call finds, if it is kept: it stands there alone, since a message is dropped before.
+fn closed_tree(mut stack: TreeStack) -> Option<Counted>
+    ensures { result ≡ closed_slot stack.items }
 {
-    if message {
-        stack.pop_front()?;
-    }
     let Some(Slot::Tree(closed)) = stack.pop_front() else {
         return None;
     };
@@ -31,11 +29,11 @@ fn closed_tree(message: bool, mut stack: TreeStack) -> Option<Counted>
 
 /// The same within limits.
 #[tactic(auto, using(crate::proofs::StackLemmas::no_leaf, crate::proofs::StackLemmas::large_leaf))]
-fn leaf(message: bool, stack: TreeStack, limits: Limits) -> Option<Grown>
-    ensures tree { (items : List Item) → StandsFor stack.items items → Grows limits (closed_tree message items) result }
+fn leaf(stack: TreeStack, limits: Limits) -> Option<Grown>
+    ensures tree { (items : List Item) → StandsFor stack.items items → Grows limits (closed_tree false items) result }
     ensures room { IfSome result (λ grown. grown.nodes_left ≤ limits.nodes) }
 {
-    let closed = closed_tree(message, stack)?;
+    let closed = closed_tree(stack)?;
     let nodes = closed.nodes as usize;
     if limits.nodes < nodes {
         return None;
@@ -52,37 +50,43 @@ fn leaf(message: bool, stack: TreeStack, limits: Limits) -> Option<Grown>
 fn fork(
     alloc: Global,
     instrs: &[Instr],
-    skips: &[u32],
-    branch: &Instr,
+    ahead: &[Ahead],
+    branch: &Working,
     target: u32,
     test: Condition,
-    stack: TreeStack,
+    mut stack: TreeStack,
     limits: Limits,
 ) -> Result<Option<Grown>, AllocError>
     requires lie { AreOfShortCode instrs.now }
-    requires skips { AreSkips instrs.now skips.now }
-    requires short { IsOfShortCode branch.now }
-    ensures tree { let from = onward (forward instrs.now) branch.now.at in
-        (items : List Item) → StandsFor stack.items items → condition_depth test.tree ≡ 0
-        → IfOk result (Grows limits (forked test (from target items) (from (branch.now.at + branch.now.size) items))) }
+    requires ahead { AreAhead instrs.now ahead.now }
+    requires short { IsOfShortCode branch.now.instr.now }
+    requires inside { closing branch.now.instr.now.op ≡ None }
+    requires jump { jump_of branch.now.instr.now.op ≡ Some target }
+    requires works { Works (ahead_at instrs.now ahead.now) branch.now.instr.now branch.now.dropped }
+    ensures tree { let from = onward (forward instrs.now) branch.now.instr.now.at in
+        (items : List Item) → StandsFor stack.items (without (behind branch.now.instr.now.op branch.now.dropped) items) → condition_depth test.tree ≡ 0
+        → IfOk result (Grows limits (forked test (from target items) (from (branch.now.instr.now.at + branch.now.instr.now.size) items))) }
     ensures room { IfOk result (λ grown. IfSome grown (λ g. g.nodes_left ≤ limits.nodes)) }
 {
-    let next = branch.at + branch.size;
-    if target <= branch.at {
+    let at = branch.instr.at;
+    let next = at + branch.instr.size;
+    if target <= at {
         return Ok(None);
     }
     let Some(left) = test.leaves(limits) else {
         return Ok(None);
     };
-    let copy = copied(alloc, &stack)?;
-    let Some(taken) = grow(alloc, instrs, skips, target, copy, left)? else {
+    let mut copy = copied(alloc, &stack)?;
+    arrive(instrs, ahead, branch, target, &mut copy)?;
+    let Some(taken) = grow(alloc, instrs, ahead, target, copy, left)? else {
         return Ok(None);
     };
     let left = Limits {
         conditions: left.conditions,
         nodes: taken.nodes_left,
     };
-    let Some(passed) = grow(alloc, instrs, skips, next, stack, left)? else {
+    arrive(instrs, ahead, branch, next, &mut stack)?;
+    let Some(passed) = grow(alloc, instrs, ahead, next, stack, left)? else {
         return Ok(None);
     };
     Ok(Some(Grown {
@@ -97,29 +101,32 @@ fn fork(
 fn grow(
     alloc: Global,
     instrs: &[Instr],
-    skips: &[u32],
+    ahead: &[Ahead],
     at: u32,
     mut stack: TreeStack,
     limits: Limits,
 ) -> Result<Option<Grown>, AllocError>
     requires lie { AreOfShortCode instrs.now }
-    requires skips { AreSkips instrs.now skips.now }
-    ensures tree { (items : List Item) → StandsFor stack.items items → IfOk result (Grows limits (forward instrs.now at items)) }
+    requires ahead { AreAhead instrs.now ahead.now }
+    ensures tree { (items : List Item) → StandsFor stack.items (without (dropped_at instrs.now ahead.now at) items)
+        → IfOk result (Grows limits (forward instrs.now at items)) }
     ensures room { IfOk result (λ grown. IfSome grown (λ g. g.nodes_left ≤ limits.nodes)) }
 {
-    let Some(end) = run(alloc, instrs, skips, at, &mut stack)? else {
+    let Some(end) = run(alloc, instrs, ahead, at, &mut stack)? else {
         return Ok(None);
     };
-    if let Some(message) = closing_message(&end.op) {
-        return Ok(leaf(message, stack, limits));
+    if closing_message(&end.instr.op).is_some() {
+        return Ok(leaf(stack, limits));
     }
-    let Op::Branch(test, target) = &end.op else {
+    let Op::Branch(test, target) = &end.instr.op else {
         return Ok(None);
     };
     let Some(condition) = take_condition(alloc, *test, &mut stack)? else {
         return Ok(None);
     };
-    fork(alloc, instrs, skips, end, *target, condition, stack, limits)
+    fork(
+        alloc, instrs, ahead, &end, *target, condition, stack, limits,
+    )
 }
 
 /// The tree of the clause whose code begins at an IL offset, within limits. Nothing is grown where there is no such tree.
@@ -132,7 +139,7 @@ pub(crate) fn grow_clause(
     requires { AreOfShortCode instrs.now }
     ensures { IfOk result (Grows limits (tree_of instrs.now start)) }
 {
-    let skips = skips(alloc, instrs)?;
+    let ahead = look_ahead(alloc, instrs)?;
     let stack = VecDeque::new(alloc);
-    grow(alloc, instrs, &skips, start, stack, limits)
+    grow(alloc, instrs, &ahead, start, stack, limits)
 }

@@ -3,7 +3,7 @@
 ghost use Rattle.std.specs.Prelude.{◌≡◌, ◌∷◌, Some, None, IfOk, OnOk};
 ghost use Rattle.cil_model.specs.Nodes.{term_of};
 ghost use Rattle.cil_model.specs.Terms as terms;
-ghost use Rattle.contract_extract.specs.TreeStacks.{kept, left_if, over_one, over_two, slots_behind, slots_called, under_tree};
+ghost use Rattle.contract_extract.specs.TreeStacks.{kept, left_if, over_one, over_two, pair_root, single_root, slots_behind, slots_called, under_tree};
 ghost use Rattle.contract_extract.specs.declared.tree_stack.Slot.TheVariants as slots;
 
 use crate::trees;
@@ -58,9 +58,48 @@ fn push_large(stack: &mut TreeStack) -> Result<bool, AllocError>
     Ok(true)
 }
 
-/// Puts the length of an array in its place, and says whether there is a tree for it.
-fn take_length(alloc: Global, stack: &mut TreeStack) -> Result<bool, AllocError>
-    ensures { IfOk result (λ fits. left_if fits stack.new.items ≡ over_one terms.Len stack.old.items) }
+/// What stands over one tree.
+#[derive(Clone, Copy)]
+pub(crate) enum Single {
+    /// The length of an array.
+    Length,
+    /// An operator of one number.
+    Operator(UnOp),
+    /// The value that the tree had at entry.
+    Old,
+}
+
+/// What stands over two trees.
+#[derive(Clone, Copy)]
+pub(crate) enum Pair {
+    /// An operator of two numbers.
+    Operator(BinOp),
+    /// The element of an array of this place, at an index.
+    Element(Place),
+}
+
+fn node_over(root: Single, a: Box<Tree>) -> Node
+    ensures { term_of result ≡ single_root root a.value }
+{
+    match root {
+        Single::Length => Node::Len(a),
+        Single::Operator(operator) => Node::Un(operator, a),
+        Single::Old => Node::Old(a),
+    }
+}
+
+fn node_over_both(root: Pair, a: Box<Tree>, b: Box<Tree>) -> Node
+    ensures { term_of result ≡ pair_root root a.value b.value }
+{
+    match root {
+        Pair::Operator(operator) => Node::Bin(operator, a, b),
+        Pair::Element(place) => Node::Elem(place, a, b),
+    }
+}
+
+/// Puts a tree of this root over the top in its place, and says whether there is a tree for it.
+fn take_one(alloc: Global, root: Single, stack: &mut TreeStack) -> Result<bool, AllocError>
+    ensures { IfOk result (λ fits. left_if fits stack.new.items ≡ over_one (single_root root) stack.old.items) }
 {
     let Some(Slot::Tree(a)) = stack.pop_front() else {
         return Ok(false);
@@ -69,47 +108,13 @@ fn take_length(alloc: Global, stack: &mut TreeStack) -> Result<bool, AllocError>
         return push_large(stack);
     };
     let nodes = a.nodes as usize + 1;
-    push(stack, Node::Len(Box::new(alloc, a.tree)?), nodes)?;
+    push(stack, node_over(root, Box::new(alloc, a.tree)?), nodes)?;
     Ok(true)
 }
 
-/// The same of an operator of one number.
-fn take_unary(alloc: Global, operator: UnOp, stack: &mut TreeStack) -> Result<bool, AllocError>
-    ensures { IfOk result (λ fits. left_if fits stack.new.items ≡ over_one (terms.Un operator) stack.old.items) }
-{
-    let Some(Slot::Tree(a)) = stack.pop_front() else {
-        return Ok(false);
-    };
-    let Some(a) = a else {
-        return push_large(stack);
-    };
-    let nodes = a.nodes as usize + 1;
-    push(stack, Node::Un(operator, Box::new(alloc, a.tree)?), nodes)?;
-    Ok(true)
-}
-
-/// The value that a tree had at entry, in its place.
-fn take_old(alloc: Global, stack: &mut TreeStack) -> Result<bool, AllocError>
-    ensures { IfOk result (λ fits. left_if fits stack.new.items ≡ over_one terms.Old stack.old.items) }
-{
-    let Some(Slot::Tree(a)) = stack.pop_front() else {
-        return Ok(false);
-    };
-    let Some(a) = a else {
-        return push_large(stack);
-    };
-    let nodes = a.nodes as usize + 1;
-    push(stack, Node::Old(Box::new(alloc, a.tree)?), nodes)?;
-    Ok(true)
-}
-
-/// The same of an operator of two numbers. The second one is the top.
-pub(crate) fn take_operator(
-    alloc: Global,
-    operator: BinOp,
-    stack: &mut TreeStack,
-) -> Result<bool, AllocError>
-    ensures { IfOk result (λ fits. left_if fits stack.new.items ≡ over_two (terms.Bin operator) stack.old.items) }
+/// The same over the two at the top. The second one is the top.
+pub(crate) fn take_two(alloc: Global, root: Pair, stack: &mut TreeStack) -> Result<bool, AllocError>
+    ensures { IfOk result (λ fits. left_if fits stack.new.items ≡ over_two (pair_root root) stack.old.items) }
 {
     let Some(Slot::Tree(b)) = stack.pop_front() else {
         return Ok(false);
@@ -124,29 +129,7 @@ pub(crate) fn take_operator(
         return push_large(stack);
     };
     let nodes = a.nodes as usize + b.nodes as usize + 1;
-    let node = Node::Bin(operator, Box::new(alloc, a.tree)?, Box::new(alloc, b.tree)?);
-    push(stack, node, nodes)?;
-    Ok(true)
-}
-
-/// Puts an element in the place of an array and an index, and says whether there are trees for them.
-fn take_element(alloc: Global, place: Place, stack: &mut TreeStack) -> Result<bool, AllocError>
-    ensures { IfOk result (λ fits. left_if fits stack.new.items ≡ over_two (terms.Elem place) stack.old.items) }
-{
-    let Some(Slot::Tree(b)) = stack.pop_front() else {
-        return Ok(false);
-    };
-    let Some(Slot::Tree(a)) = stack.pop_front() else {
-        return Ok(false);
-    };
-    let Some(b) = b else {
-        return push_large(stack);
-    };
-    let Some(a) = a else {
-        return push_large(stack);
-    };
-    let nodes = a.nodes as usize + b.nodes as usize + 1;
-    let node = Node::Elem(place, Box::new(alloc, a.tree)?, Box::new(alloc, b.tree)?);
+    let node = node_over_both(root, Box::new(alloc, a.tree)?, Box::new(alloc, b.tree)?);
     push(stack, node, nodes)?;
     Ok(true)
 }
@@ -164,7 +147,7 @@ fn take_call(
             push(stack, Node::Result, 1)?;
             Ok(true)
         }
-        Some(UnitCall::OldValue(_)) => take_old(alloc, stack),
+        Some(UnitCall::OldValue(_)) => take_one(alloc, Single::Old, stack),
         _ => Ok(false),
     }
 }
@@ -187,12 +170,12 @@ pub(crate) fn apply(alloc: Global, op: &Op, stack: &mut TreeStack) -> Result<boo
         Op::Null => push(stack, Node::Null, 1)?,
         Op::Const(n) => push(stack, Node::Const(*n), 1)?,
         Op::Text(_) => stack.push_front(Slot::Message)?,
-        Op::Bin(operator) => return take_operator(alloc, *operator, stack),
-        Op::Neg => return take_unary(alloc, UnOp::Neg, stack),
-        Op::Not => return take_unary(alloc, UnOp::Not, stack),
+        Op::Bin(operator) => return take_two(alloc, Pair::Operator(*operator), stack),
+        Op::Neg => return take_one(alloc, Single::Operator(UnOp::Neg), stack),
+        Op::Not => return take_one(alloc, Single::Operator(UnOp::Not), stack),
         Op::ConvI4 => return Ok(has_tree(stack)),
-        Op::Length => return take_length(alloc, stack),
-        Op::LoadElem(place) => return take_element(alloc, *place, stack),
+        Op::Length => return take_one(alloc, Single::Length, stack),
+        Op::LoadElem(place) => return take_two(alloc, Pair::Element(*place), stack),
         Op::Call(number) => return take_call(alloc, unit_call(*number), stack),
         _ => return Ok(false),
     }

@@ -9,7 +9,7 @@ use Rattle.std.proofs.lemmas.List.Folds.{list_any-append, list_any_more}
 use Rattle.cil_model.specs.Blocks.{body_of, branch_targets, ends_block, is_block_start, starts_at}
 use Rattle.cil_model.specs.declared.instruction.Instr.{Instr}
 use Rattle.cil_model.specs.declared.unit.Unit.{Unit as MethodUnit}
-use Rattle.flow_graph.specs.BlocksOf.{blocks_of}
+use Rattle.flow_graph.specs.BlocksOf.{starts_among}
 use Rattle.flow_graph.specs.HeadsOf.{goes_back, heads_of}
 use Rattle.flow_graph.specs.declared.graph.Edge.{Edge}
 
@@ -57,13 +57,12 @@ abbrev pub AreStarts : ℕ → List Instr → List ℕ → Type 0
 AreStarts start is offsets = (at : ℕ) → list_any (λ n. n == at) offsets ≡ (at == start || list_any (starts_at at) is)
 
 -- The offsets of the instructions that begin at one of those.
-pub blocks_by_numbers : (unit : MethodUnit) (body : List Instr) (offsets sorted seen : List ℕ) → body ≡ body_of unit
-    → AreStarts unit.body_start body offsets
-    → IsPermutation offsets sorted → seen ≡ sorted → map (λ i. i.at) (filter (λ i. list_any (λ n. n == i.at) seen) body) ≡ blocks_of unit
-blocks_by_numbers unit body offsets sorted seen is starts same in_order =
-    let test : (i : Instr) → list_any (λ n. n == i.at) seen ≡ is_block_start unit i.at =
-    λ i. ordered i.at offsets sorted seen same in_order ∙ starts i.at ∙ ap (λ (is : List Instr). i.at == unit.body_start || list_any (starts_at i.at) is) is in
-    ap (map (λ (i : Instr). i.at)) (filter-same _ _ test body ∙ ap (filter (λ i. is_block_start unit i.at)) is)
+pub blocks_by_numbers : (start : ℕ) (body : List Instr) (offsets sorted seen : List ℕ) → AreStarts start body offsets
+    → IsPermutation offsets sorted → seen ≡ sorted → map (λ i. i.at) (filter (λ i. list_any (λ n. n == i.at) seen) body) ≡ starts_among start body
+blocks_by_numbers start body offsets sorted seen starts same in_order =
+    let test : (i : Instr) → list_any (λ n. n == i.at) seen ≡ (i.at == start || list_any (starts_at i.at) body) =
+    λ i. ordered i.at offsets sorted seen same in_order ∙ starts i.at in
+    ap (map (λ (i : Instr). i.at)) (filter-same _ _ test body)
 
 pub starts_first : (start : ℕ) → AreStarts start [] (start ∷ [])
 starts_first start at = ap (λ (b : Bool). b || false) (same_either_way start at)

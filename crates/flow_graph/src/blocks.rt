@@ -4,7 +4,7 @@ ghost use Rattle.std.specs.Prelude.{◌≡◌, ◌==◌, ◌||◌, ℕ, map, fil
 ghost use Rattle.std.specs.List.{All, list_any};
 ghost use Rattle.std.specs.List.Sorted.{IsNonDecreasing, IsNonDecreasingBy};
 ghost use Rattle.cil_model.specs.Blocks.{body_of, branch_targets, ends_block, starts_at};
-ghost use Rattle.flow_graph.specs.BlocksOf.{blocks_of};
+ghost use Rattle.flow_graph.specs.BlocksOf.{block_starts, blocks_of};
 ghost use Rattle.cil_model.specs.ShortCode.{AreOfShortCode, IsOfShortCode};
 
 use crate::sorted::{is_among, sorted};
@@ -88,12 +88,23 @@ fn offsets_among(alloc: Global, body: &[Instr], sorted: &[u32]) -> Result<Vec<u3
         .collect(alloc)
 }
 
+/// The IL offsets at which the blocks of a body start, also those that no path reaches (ECMA-335 III.1.7.2). The body is
+/// what begins at the offset `body_start` or behind it.
+///
+/// Its time is n log n in the number of instructions and targets.
+pub fn block_starts(alloc: Global, instrs: &[Instr], body_start: u32) -> Result<Vec<u32>, NoMemory>
+    requires { AreOfShortCode instrs.now }
+    ensures { IfOk result (λ blocks. blocks.items ≡ block_starts instrs.now body_start) }
+{
+    let body = from_offset(instrs, body_start);
+    let offsets = sorted(start_offsets(alloc, body, body_start)?);
+    offsets_among(alloc, body, offsets.as_slice())
+}
+
 /// The IL offsets at which the blocks of the unit's body start.
 pub(crate) fn blocks(alloc: Global, unit: &Unit) -> Result<Vec<u32>, NoMemory>
     requires { AreOfShortCode unit.now.instrs }
     ensures { IfOk result (λ blocks. blocks.items ≡ blocks_of unit.now) }
 {
-    let body = body(unit);
-    let offsets = sorted(start_offsets(alloc, body, unit.body_start)?);
-    offsets_among(alloc, body, offsets.as_slice())
+    block_starts(alloc, unit.instrs.as_slice(), unit.body_start)
 }

@@ -7,4 +7,5 @@ mod graph;
 mod heads;
 mod sorted;
 
+pub use blocks::block_starts;
 pub use graph::{Edge, Graph};

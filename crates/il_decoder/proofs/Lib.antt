@@ -8,3 +8,4 @@ pub mod Reading
 pub mod Starts
 pub mod Sequence
 pub mod SpellingLemmas
+pub mod FaultPlaces

@@ -27,15 +27,19 @@ pub struct Body<'a> {
 
 /// What the header of a body says.
 #[derive(Clone, Copy)]
-struct Header {
+pub struct Header {
     /// Its own length in bytes.
-    len: u32,
+    pub len: u32,
     /// The length of the code in bytes (CodeSize).
-    code_len: u32,
-    max_stack: u16,
-    init_locals: bool,
-    more_sections: bool,
-    local_token: u32,
+    pub code_len: u32,
+    /// How many slots the stack may have (MaxStack).
+    pub max_stack: u16,
+    /// Whether each local is 0 or null at first (InitLocals).
+    pub init_locals: bool,
+    /// Whether tables of exceptions follow the code (MoreSects).
+    pub more_sections: bool,
+    /// The token of the locals' signature (LocalVarSigTok): 0 where there are no locals.
+    pub local_token: u32,
 }
 
 /// The length of a fat header in bytes.
@@ -93,9 +97,9 @@ fn fat_header(bytes: &[u8]) -> Option<Header>
     })
 }
 
-/// The header at an address (RVA). None where none stands there whole.
+/// The header at an address (RVA). None where none stands there whole. The code behind it may be cut.
 #[tactic(auto, unfolding(crate::specs::Body::header_at))]
-fn header_at(image: &Image, rva: u32) -> Option<Header>
+pub fn header_at(image: &Image, rva: u32) -> Option<Header>
     ensures { result ≡ header_at image.now rva }
 {
     let first = image.at(rva, 1)?[0];

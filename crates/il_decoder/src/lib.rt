@@ -12,7 +12,7 @@ mod operands;
 mod spelling;
 mod text;
 
-pub use body::{Body, body_at};
+pub use body::{Body, Header, body_at, header_at};
 pub use code::decode;
 pub use fault::{IlFault, IlRefusal};
 pub use instruction::decode_one;

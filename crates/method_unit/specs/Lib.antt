@@ -1,6 +1,8 @@
 pub mod Built
+pub mod NotBuilt
 pub mod Faults
-pub mod Typing
 pub mod UnitFile
-pub mod UnitSpelling
-pub mod Fields
+pub mod Units
+pub mod CalledInOrder
+pub mod UnitOf
+pub mod BuiltUnits

@@ -2,11 +2,18 @@
 #![tactic(auto)]
 
 mod built;
-mod typing;
+mod callee_order;
+mod equality;
+mod spelling;
+mod unbuilt;
+mod unit_clauses;
+mod unit_code;
 mod unit_fault;
-mod unit_fields;
-mod unit_instructions;
+mod unit_kinds;
 mod unit_reader;
 
+pub use equality::same_unit;
+pub use spelling::unit_bytes;
+pub use unbuilt::not_built;
 pub use unit_fault::{UnitFault, UnitRefusal};
-pub use unit_reader::read_unit;
+pub use unit_reader::{read_built_unit, read_unit};

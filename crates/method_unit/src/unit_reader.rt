@@ -1,77 +1,192 @@
 //! Units, read from their files.
 
-ghost use Rattle.std.specs.Prelude.{◌≡◌, List, IfOk, Err, Some, None, replicate};
+ghost use Rattle.std.specs.Prelude.{◌≡◌, ℕ, ◌+◌, ◌<◌, ◌≤◌, ◌^◌, length, List, IfOk, Err, Some, None};
+ghost use Rattle.std.specs.List.{AllByRecursion};
 ghost use Rattle.cc_base.specs.LittleEndian.{IsBytes};
-ghost use Rattle.cc_base.specs.Tests.{GivesOnly, JudgesOrNoMemory};
-ghost use Rattle.cc_base.specs.declared.refusal.Refusal.TheVariants.{Bad};
+ghost use Rattle.cc_base.specs.Tests.{first_of, GivesOnly, Judges, JudgesOrNoMemory};
+ghost use Rattle.cil_model.specs.FitKinds.{AreDecoded, HasBody};
+ghost use Rattle.cil_model.specs.Passes.{KindsOf, Stacks};
+ghost use Rattle.cil_model.specs.TreeKinds.{IsNumberClause};
+ghost use Rattle.cil_model.specs.WellFormed.{ClausesWithinLimits};
 ghost use Rattle.cil_model.specs.declared.unit.Unit.{Unit as MethodUnit};
-ghost use Rattle.method_unit.specs.UnitFile.{unit_with, unit_of, first_unit_fault};
-ghost use Rattle.method_unit.specs.UnitSpelling.{IsBuilt, unit_bytes};
-ghost use Rattle.method_unit.specs.declared.unit_fault.UnitFault.{UnitFault};
+ghost use Rattle.contract_extract.specs.Extracting.{AreContracts};
+ghost use Rattle.unit_form.specs.FieldsRead.{fields_told, IsCodeWithin};
+ghost use Rattle.unit_form.specs.Spelling.{unit_bytes};
+ghost use Rattle.unit_form.specs.UnitFields.{unit_fields};
+ghost use Rattle.il_decoder.specs.Decoding.{instructions_of};
+ghost use Rattle.method_unit.specs.BuiltUnits.{built_test, code_offset, first_built_fault, IsBuilt};
+ghost use Rattle.method_unit.specs.NotBuilt.{not_built};
+ghost use Rattle.method_unit.specs.UnitFile.{code_tests_of, field_test, first_unit_fault, instr_tests, unit_of};
+ghost use Rattle.method_unit.specs.UnitOf.{IsRead, IsUnitIn, IsUnitOf};
+ghost use Rattle.method_unit.specs.Units.{AreDecodedOf, CanRun, HasKinds, IsUnit};
 
-use crate::typing::check_typing;
-use crate::unit_fault::UnitRefusal;
-use crate::unit_fields::{Fields, read_fields};
-use crate::unit_instructions::{check_limit, read_instructions};
-use cil_model::{Instr, List, Place, Unit};
-use std::alloc::{AllocError, Global};
+use crate::callee_order::check_order;
+use crate::unbuilt::not_built;
+use crate::unit_clauses::{check_blocks, read_contracts};
+use crate::unit_code::{check_count, check_numbers, decode_code};
+use crate::unit_fault::{UnitFault, UnitRefusal};
+use crate::unit_kinds::check_kinds;
+use cc_base::Refusal;
+use cil_model::{Instr, List, Shape, Unit};
+use contract_extract::Contracts;
+use std::alloc::Global;
+use unit_form::{UnitFields, read_fields};
 
-/// The places of this many int32 arguments.
-fn int_places(alloc: Global, count: usize) -> Result<Vec<Place>, AllocError>
-    ensures { IfOk result (λ places. places.items ≡ replicate count Place.Int) }
+/// The fields of a unit file.
+#[tactic(auto, unfolding(crate::specs::UnitFile::field_test))]
+fn fields_of(alloc: Global, bytes: &[u8]) -> Result<UnitFields<'_>, UnitRefusal>
+    requires short { length bytes.now ≤ 2147483647 }
+    ensures judged { JudgesOrNoMemory result (field_test bytes.now) (λ fields. fields_told fields ≡ (unit_fields bytes.now).value) }
+    ensures code { IfOk result (IsCodeWithin bytes.now) }
 {
-    vec![in alloc; Place::Int; count]
+    match read_fields(alloc, bytes) {
+        Ok(fields) => Ok(fields),
+        Err(Refusal::Bad(fault)) => Err(Refusal::Bad(fault.into())),
+        Err(Refusal::NoMemory) => Err(Refusal::NoMemory),
+    }
 }
 
-/// The unit of a file, by its fields.
-fn unit_at(alloc: Global, fields: &Fields<'_>, instrs: Vec<Instr>) -> Result<Unit, AllocError>
-    ensures { IfOk result (λ unit. unit ≡ unit_with fields.now.name.now fields.now.arg_count fields.now.max_stack fields.now.code.now instrs.items) }
+/// Tests the instructions of a unit, and answers its clauses and the start of its body.
+#[tactic(auto, using(cc_base::proofs::TestLemmas::carried, cc_base::proofs::TestLemmas::appended, cc_base::proofs::TestLemmas::first_tests), unfolding(crate::specs::UnitFile::instr_tests))]
+fn check_instrs(
+    alloc: Global,
+    instrs: &[Instr],
+    shape: &Shape,
+    offsets: &[u32],
+    base: u32,
+) -> Result<Contracts, UnitRefusal>
+    requires small { base + 65536 < 2 ^ 32 }
+    requires decoded { (code : List ℕ) × AreDecodedOf base code instrs.now }
+    ensures judged { JudgesOrNoMemory result (first_of (instr_tests base shape.now offsets.now instrs.now))
+        (λ contracts. AreContracts instrs.now contracts.clauses contracts.body_start) }
+    ensures kinds { IfOk result (λ _. HasKinds shape.now instrs.now) }
+    ensures limits { IfOk result (λ contracts. ClausesWithinLimits contracts.clauses) }
+    ensures numbers { (stacks : Stacks) → AreDecoded instrs.now → KindsOf shape.now instrs.now stacks
+        → IfOk result (λ contracts. AllByRecursion (IsNumberClause shape.now.args shape.now.result) contracts.clauses) }
+    ensures body { (stacks : Stacks) → AreDecoded instrs.now → KindsOf shape.now instrs.now stacks
+        → IfOk result (λ contracts. HasBody instrs.now stacks contracts.body_start) }
 {
+    check_count(instrs, base)?;
+    check_numbers(instrs, base, shape.callees.as_slice().len())?;
+    let contracts = read_contracts(alloc, instrs, shape, base)?;
+    check_blocks(alloc, instrs, contracts.body_start, base)?;
+    check_order(instrs, offsets)?;
+    check_kinds(alloc, instrs, shape, base)?;
+    Ok(contracts)
+}
+
+/// The unit of fields that were read.
+#[tactic(auto, using(cc_base::proofs::TestLemmas::carried, cc_base::proofs::TestLemmas::appended, cc_base::proofs::TestLemmas::first_tests), unfolding(crate::specs::UnitFile::code_tests_of))]
+fn unit_at(alloc: Global, fields: UnitFields<'_>) -> Result<Unit, UnitRefusal>
+    requires short { length fields.code.now ≤ 65536 }
+    requires small { fields.code_offset + 65536 < 2 ^ 32 }
+    ensures judged { JudgesOrNoMemory result (first_of (code_tests_of (fields_told fields.entry)))
+        (λ unit. IsUnitOf (fields_told fields.entry) (instructions_of fields.entry.code.now) unit) }
+{
+    let base = fields.code_offset;
+    let instrs = decode_code(alloc, fields.code, base)?;
+    let shape = Shape {
+        result: fields.result,
+        args: List::from_vec(fields.args),
+        locals: List::from_vec(fields.locals),
+        max_stack: u16::from(fields.max_stack),
+        callees: List::from_vec(fields.callees),
+    };
+    let offsets = fields.callee_offsets;
+    let contracts = check_instrs(alloc, &instrs, &shape, &offsets, base)?;
     Ok(Unit {
         name: List::from_vec(Vec::from_slice(alloc, fields.name)?),
-        result: Place::Int,
-        args: List::from_vec(int_places(alloc, usize::from(fields.arg_count))?),
-        locals: List::from_vec(Vec::new(alloc)),
+        result: shape.result,
+        args: shape.args,
+        locals: shape.locals,
         max_stack: fields.max_stack,
-        callees: List::from_vec(Vec::new(alloc)),
+        callees: shape.callees,
         code: List::from_vec(Vec::from_slice(alloc, fields.code)?),
-        clauses: List::from_vec(Vec::new(alloc)),
-        body_start: 0,
+        clauses: contracts.clauses,
+        body_start: contracts.body_start,
         instrs: List::from_vec(instrs),
     })
 }
 
-/// The unit of a file, or the first fault of the file.
-#[tactic(auto, using(cc_base::proofs::TestLemmas::carried, cc_base::proofs::TestLemmas::appended), unfolding(crate::specs::UnitFile::first_unit_fault, crate::specs::UnitFile::unit_tests, crate::specs::UnitFile::unit_of))]
-fn read_first(alloc: Global, bytes: &[u8]) -> Result<Unit, UnitRefusal>
-    ensures { JudgesOrNoMemory result (first_unit_fault bytes.now) (λ unit. unit ≡ unit_of bytes.now) }
+/// The unit of a file, and where its code begins, or the first fault of the file.
+#[tactic(auto, using(cc_base::proofs::TestLemmas::first_tests), unfolding(crate::specs::UnitFile::first_unit_fault, crate::specs::BuiltUnits::code_offset))]
+fn read_first(alloc: Global, bytes: &[u8]) -> Result<(Unit, u32), UnitRefusal>
+    requires short { length bytes.now ≤ 2147483647 }
+    ensures judged { JudgesOrNoMemory result (first_unit_fault bytes.now) (λ found. IsUnitIn bytes.now found.0) }
+    ensures base { IfOk result (λ found. (found.1 ≡ code_offset bytes.now) × (found.1 ≤ 2147483647)) }
 {
-    let fields = read_fields(bytes)?;
-    let instrs = read_instructions(alloc, fields.code, fields.code_offset)?;
-    check_limit(&instrs, fields.code_offset)?;
-    let args = usize::from(fields.arg_count);
-    let max_stack = usize::from(fields.max_stack);
-    check_typing(&instrs, args, max_stack, fields.code_offset)?;
-    Ok(unit_at(alloc, &fields, instrs)?)
+    let fields = fields_of(alloc, bytes)?;
+    let base = fields.code_offset;
+    let unit = unit_at(alloc, fields)?;
+    Ok((unit, base))
 }
 
-/// The built unit that the bytes of a file spell, or the first fault of the file.
-///
-/// Cost: linear in the length of the file.
-#[tactic(auto, using(crate::proofs::Units::answer_spelled))]
-pub fn read_unit(alloc: Global, bytes: &[u8]) -> Result<Unit, UnitRefusal>
-    // What is read is the one built unit that the bytes spell.
-    ensures built { IfOk result IsBuilt }
-    ensures spelled { IfOk result (λ unit. unit_bytes unit ≡ bytes.now) }
-    // A built unit that is spelled so is read, unless memory runs out.
-    ensures only { (unit : MethodUnit) → IsBuilt unit → unit_bytes unit ≡ bytes.now → GivesOnly result (λ found. found ≡ unit) }
-    // The spelling of a built unit is a list of bytes, and that of no other one.
-    ensures bytes { (unit : MethodUnit) → IsBuilt unit → IsBytes (unit_bytes unit) }
-    ensures one { (a b : MethodUnit) → IsBuilt a → IsBuilt b → unit_bytes a ≡ unit_bytes b → a ≡ b }
-    // It is read where no test of the list fails; a fault is that of the first test that does.
-    ensures value { IfOk result (λ unit. unit ≡ unit_of bytes.now) }
-    ensures accepted { IfOk result (λ _. first_unit_fault bytes.now ≡ None) }
-    ensures refused { (fault : UnitFault) → result ≡ Err (Bad fault) → first_unit_fault bytes.now ≡ Some fault }
+/// The same, as what the bytes spell.
+fn read_known(alloc: Global, bytes: &[u8]) -> Result<(Unit, u32), UnitRefusal>
+    requires short { length bytes.now ≤ 2147483647 }
+    ensures judged { JudgesOrNoMemory result (first_unit_fault bytes.now) (λ found. IsRead bytes.now found.0) }
+    ensures base { IfOk result (λ found. (found.1 ≡ code_offset bytes.now) × (found.1 ≤ 2147483647)) }
 {
     read_first(alloc, bytes)
+}
+
+/// The unit alone.
+fn read_alone(alloc: Global, bytes: &[u8]) -> Result<Unit, UnitRefusal>
+    requires short { length bytes.now ≤ 2147483647 }
+    ensures { JudgesOrNoMemory result (first_unit_fault bytes.now) (IsRead bytes.now) }
+{
+    let (unit, _base) = read_known(alloc, bytes)?;
+    Ok(unit)
+}
+
+/// The unit that the bytes of a file spell, or the first fault of the file.
+///
+/// Cost: linear in the length of the file, but for the passes that find kinds, the sorting of the blocks and the walk over the
+/// contract block, all over 4,096 instructions at most.
+#[tactic(auto)]
+pub fn read_unit(alloc: Global, bytes: &[u8]) -> Result<Unit, UnitRefusal>
+    requires short { length bytes.now ≤ 2147483647 }
+    // What is read is the one unit that the bytes spell.
+    ensures unit { IfOk result IsUnit }
+    ensures spelled { IfOk result (λ unit. unit_bytes unit ≡ bytes.now) }
+    // A unit that is spelled so is read, unless memory runs out.
+    ensures only { (unit : MethodUnit) → IsUnit unit → unit_bytes unit ≡ bytes.now → GivesOnly result (λ found. found ≡ unit) }
+    // The spelling of a unit is a list of bytes, and that of no other one.
+    ensures bytes { (unit : MethodUnit) → IsUnit unit → IsBytes (unit_bytes unit) }
+    ensures one { (a b : MethodUnit) → IsUnit a → IsUnit b → unit_bytes a ≡ unit_bytes b → a ≡ b }
+    // It is read where no test of the list fails; a fault is that of the first test that does.
+    ensures judged { JudgesOrNoMemory result (first_unit_fault bytes.now) (λ unit. unit ≡ unit_of bytes.now) }
+    // Its code has kinds, and its body begins with an empty stack.
+    ensures runs { IfOk result CanRun }
+{
+    read_alone(alloc, bytes)
+}
+
+/// Tests that the analysis of a unit is built. Its code begins at the offset `base` of the file.
+#[tactic(auto, unfolding(crate::specs::BuiltUnits::built_test))]
+fn check_built(unit: &Unit, base: u32) -> Result<(), UnitFault>
+    requires unit { IsUnit unit.now }
+    requires small { base ≤ 2147483647 }
+    ensures { Judges result (built_test base unit.now) (λ _. not_built unit.now ≡ None) }
+{
+    match not_built(unit) {
+        Some(at) => Err(UnitFault::NotBuilt(base + at)),
+        None => Ok(()),
+    }
+}
+
+/// The unit that the bytes of a file spell, where its analysis is built; else the first fault of the file, or `NotBuilt` of
+/// the first thing that is not.
+///
+/// Cost: as `read_unit`.
+#[tactic(auto, using(crate::proofs::ReadAnswers::built_faults))]
+pub fn read_built_unit(alloc: Global, bytes: &[u8]) -> Result<Unit, UnitRefusal>
+    requires short { length bytes.now ≤ 2147483647 }
+    ensures built { IfOk result IsBuilt }
+    ensures judged { JudgesOrNoMemory result (first_built_fault bytes.now) (λ unit. unit ≡ unit_of bytes.now) }
+    ensures runs { IfOk result CanRun }
+{
+    let (unit, base) = read_known(alloc, bytes)?;
+    check_built(&unit, base)?;
+    Ok(unit)
 }

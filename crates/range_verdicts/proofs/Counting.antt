@@ -8,19 +8,25 @@ use Rattle.cil_model.specs.declared.instruction.Instr.{Instr}
 use Rattle.cil_model.specs.declared.unit.Unit.{Unit as MethodUnit}
 use Rattle.range_verdicts.specs.Verdicts.{has_obligation, obligations, verdict, verdicts}
 use Rattle.cil_model.proofs.Forms.{spelling_some}
+use Rattle.range_verdicts.proofs.Body.{body_all, body_few, body_from}
 
-weaker : (a b : ℕ) (offsets : List ℕ) → a ≤ b → AllByRecursion (λ o. o < a) offsets → AllByRecursion (λ o. o < b) offsets
+weaker : (a b : ℕ) (is : List Instr) → a ≤ b → AllByRecursion (λ i. i.at < a) is → AllByRecursion (λ i. i.at < b) is
 weaker a b [] le h = tt
-weaker a b (o ∷ offsets) le (lt, h) = (omega arith, weaker a b offsets le h)
+weaker a b (i ∷ is) le (lt, h) = (omega arith, weaker a b is le h)
 
-obligations_below : (at : ℕ) (is : List Instr) (code : List ℕ) → CodeFrom at is code → AllByRecursion (λ o. o < at + length code) (obligations is)
-obligations_below at [] code h = tt
-obligations_below at (i ∷ is) code (place, (bytes, rest, spelled, split, others)) =
+offsets_below : (at : ℕ) (is : List Instr) (code : List ℕ) → CodeFrom at is code → AllByRecursion (λ i. i.at < at + length code) is
+offsets_below at [] code h = tt
+offsets_below at (i ∷ is) code (place, (bytes, rest, spelled, split, others)) =
     let some = spelling_some i bytes spelled in
     let long : length code ≡ length (bytes ++ rest) = ap length split in
     let here : i.at < at + length code = omega (arith, length-append bytes rest) in
-    let later : AllByRecursion (λ o. o < at + length code) (obligations is) = weaker (at + i.size + length rest) (at + length code) (obligations is) (omega (arith, length-append bytes rest, spelled.size)) (obligations_below (at + i.size) is rest others) in
-    elim (has_obligation i.op) as (λ b. AllByRecursion (λ o. o < at + length code) (cond b (i.at ∷ obligations is) (obligations is))) [ true ↦ (here, later) | false ↦ later ]
+    (here, weaker (at + i.size + length rest) (at + length code) is (omega (arith, length-append bytes rest, spelled.size)) (offsets_below (at + i.size) is rest others))
+
+obligations_below : (n : ℕ) (is : List Instr) → AllByRecursion (λ i. i.at < n) is → AllByRecursion (λ o. o < n) (obligations is)
+obligations_below n [] all = tt
+obligations_below n (i ∷ is) all =
+    let later = obligations_below n is all.1 in
+    elim (has_obligation i.op) as (λ b. AllByRecursion (λ o. o < n) (cond b (i.at ∷ obligations is) (obligations is))) [ true ↦ (all.0, later) | false ↦ later ]
 
 obligations_few : (is : List Instr) → length (obligations is) ≤ length is
 obligations_few [] = omega arith
@@ -35,9 +41,14 @@ verdicts_below instrs n (o ∷ offsets) (lt, h) = (lt, verdicts_below instrs n o
 -- The verdicts on a unit stand within its code.
 pub verdicts_inside : (unit : MethodUnit) → CodeOf unit.instrs unit.code → All (λ v. v.at < length unit.code) (verdicts unit)
 verdicts_inside unit code =
-    All-from_recursion (λ v. v.at < length unit.code) (verdicts unit) (verdicts_below unit.instrs (length unit.code) (obligations unit.instrs)
-    (weaker (0 + length unit.code) (length unit.code) (obligations unit.instrs) (omega arith) (obligations_below 0 unit.instrs unit.code code.spelled)))
+    let body = body_from unit.body_start unit.instrs in
+    let end = length unit.code in
+    let all = weaker (0 + end) end unit.instrs (omega arith) (offsets_below 0 unit.instrs unit.code code.spelled) in
+    let inside = obligations_below end body (body_all (λ i. i.at < end) unit.body_start unit.instrs all) in
+    All-from_recursion (λ v. v.at < end) (verdicts unit) (verdicts_below body end (obligations body) inside)
 
 -- There are no more verdicts than instructions.
 pub verdicts_few : (unit : MethodUnit) → length (verdicts unit) ≤ length unit.instrs
-verdicts_few unit = simp length-map (obligations_few unit.instrs)
+verdicts_few unit =
+    let body = body_from unit.body_start unit.instrs in
+    simp length-map (let few = body_few unit.body_start unit.instrs in omega (arith, obligations_few body))

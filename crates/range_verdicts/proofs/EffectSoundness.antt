@@ -1,17 +1,21 @@
 -- What a typed instruction does to values that are within the known ranges.
-use Rattle.std.proofs.Common.{◌≡◌, ℕ, zero, suc, ◌<◌, ◌≤◌, ℤ, pos, ◌+ℤ◌, int_lt, int_eq, FitsSigned, Bool, true, false, ◌||◌, nat_lt, List, [], ◌∷◌, length, slice_get, Option, Some, None, refl, ap, subst, arith, w32, true≢false, ltb-false, ltb-true}
-use Rattle.std.specs.List.{AllByRecursion}
-use Rattle.std.proofs.lemmas.Bool.{false≢true, or_parts, false_from_ne_true, not-false}
+use Rattle.std.proofs.Common.{◌≡◌, ℕ, zero, suc, ◌≤◌, ℤ, pos, ◌+ℤ◌, int_lt, int_eq, FitsSigned, Bool, true, false, List, [], ◌∷◌, length, slice_get, Option, Some, None, refl, sym, ap, subst, ◌∙◌, arith, w32, true≢false}
+use Rattle.std.proofs.lemmas.Bool.{false≢true, false_from_ne_true}
 use Rattle.std.proofs.lemmas.Bool.Decides.{Decides-int_eq, not_from_Decides}
+use Rattle.std.proofs.lemmas.Option.{none-some}
 use Rattle.cc_base.specs.Wrap.{wrap32}
 use Rattle.cil_model.specs.Arithmetic.{truth}
 use Rattle.cil_model.specs.Comparisons.{comparison_of}
 use Rattle.cil_model.specs.Effects.{Effect, Faults, goes_on, binary, tests_condition, effects_of}
+use Rattle.cil_model.specs.FitKinds.{FitKinds, is_executed, is_executed_call}
+use Rattle.cil_model.specs.Kinds.{behind, behind_call, behind_condition, behind_operator, loaded}
+use Rattle.cil_model.specs.Shapes.{shape_of}
 use Rattle.cil_model.specs.UnitCalls.{unit_call, callee_of, is_assert}
 use Rattle.cil_model.specs.Values.{Heap, FitPlaces, FitsPlace}
 use Rattle.cil_model.specs.WellFormed.{called_by}
 use Rattle.cil_model.specs.declared.instruction.BinOp.{BinOp}
 use Rattle.cil_model.specs.declared.instruction.BinOp.TheVariants as operators
+use Rattle.cil_model.specs.declared.instruction.CmpOp.{CmpOp}
 use Rattle.cil_model.specs.declared.instruction.Instr.{Instr}
 use Rattle.cil_model.specs.declared.instruction.Op.{Op}
 use Rattle.cil_model.specs.declared.instruction.Op.TheVariants as ops
@@ -19,21 +23,21 @@ use Rattle.cil_model.specs.declared.machine.FaultKind.TheVariants as faults
 use Rattle.cil_model.specs.declared.machine.Frame.{Frame}
 use Rattle.cil_model.specs.declared.machine.Value.{Value}
 use Rattle.cil_model.specs.declared.machine.Value.TheVariants as values
+use Rattle.cil_model.specs.declared.place.Kind.{Kind}
+use Rattle.cil_model.specs.declared.place.Kind.TheVariants as kinds
 use Rattle.cil_model.specs.declared.place.Place.{Place}
 use Rattle.cil_model.specs.declared.place.Place.TheVariants as places
 use Rattle.cil_model.specs.declared.unit.Unit.{Unit as MethodUnit}
 use Rattle.cil_model.specs.declared.unit_numbers.UnitCall.{UnitCall}
 use Rattle.cil_model.specs.declared.unit_numbers.UnitCall.TheVariants as calls
-use Rattle.cil_model.proofs.Alone.{CallsNoMethod, is_assert-true}
-use Rattle.cil_model.proofs.Lists.{of_found}
-use Rattle.method_unit.specs.UnitSpelling.{IsBuilt}
+use Rattle.cil_model.proofs.Alone.{is_assert-true}
 use Rattle.range_verdicts.specs.Ranges.{Has, one, full, sum, less, equal, is_zero}
-use Rattle.method_unit.specs.Typing.{operands, is_return, lacks_argument, height_after, breaks}
 use Rattle.method_unit.specs.Built.{is_built, is_built_operator}
 use Rattle.range_verdicts.specs.States.{combined, after_known, shows_assert}
 use Rattle.range_verdicts.specs.Verdicts.{has_obligation}
 use Rattle.range_verdicts.specs.declared.range.Range.{Range}
 use Rattle.range_verdicts.specs.declared.state.State.TheVariants.{Known}
+use Rattle.range_verdicts.proofs.Taken.{AllInts}
 use Rattle.range_verdicts.proofs.RangeSoundness.{Has-one, Has-full, Has-sum, Has-less, Has-equal, excludes_zero-true, is_zero-true}
 
 -- The value is a number of the range.
@@ -55,19 +59,14 @@ same_height [] (v ∷ stack) holds = absurd holds
 same_height (r ∷ known) [] holds = absurd holds
 
 -- The effects are that the frame goes on with a stack that is within what is known behind the operation.
-pub record Goes (op : Op) (i : Instr) (f : Frame) (heap : Heap) (effects : List Effect) (known : List Range) (before : List Value) : Type 0 where
+pub record Goes (op : Op) (i : Instr) (f : Frame) (heap : Heap) (effects : List Effect) (known : List Range) : Type 0 where
   pub stack : List Value
   pub ranges : List Range
   pub goes : effects ≡ goes_on i f heap stack
   pub behind : after_known op known ≡ Known ranges
   pub holds : StackHolds ranges stack
-  pub height : length stack ≡ height_after op (length before)
 
 -- ---- arguments
-
--- Each place is int32.
-abbrev pub AllInts : List Place → Type 0
-AllInts args = AllByRecursion (λ place. place ≡ places.Int) args
 
 -- The value is an int32.
 abbrev IsInt : Value → Type 0
@@ -80,14 +79,14 @@ int_of heap _ fits = absurd fits
 int_value : (heap : Heap) (place : Place) (v : Value) → place ≡ places.Int → FitsPlace heap place v → IsInt v
 int_value heap place v e fits = int_of heap v (subst (λ (p : Place). FitsPlace heap p v) e fits)
 
--- An argument below the count is an int32.
-argument_there : (heap : Heap) (args : List Place) (vs : List Value) (n : ℕ) → AllInts args → FitPlaces heap args vs → n < length args
-    → (k : ℤ) × (slice_get vs n ≡ Some (values.Int k)) × FitsSigned w32 k
-argument_there heap [] vs n ints fit lt = absurd (omega arith)
-argument_there heap (place ∷ args) [] n ints fit lt = absurd fit
-argument_there heap (place ∷ args) (v ∷ vs) zero ints fit lt =
-    let is = int_value heap place v ints.0 fit.0 in (is.0, ap Some is.1, is.2)
-argument_there heap (place ∷ args) (v ∷ vs) (suc n) ints fit lt = argument_there heap args vs n ints.1 fit.1 (omega arith)
+-- An argument that is there is an int32.
+argument_there : (heap : Heap) (args : List Place) (vs : List Value) (n : ℕ) (place : Place) → AllInts args → FitPlaces heap args vs
+    → slice_get args n ≡ Some place → (k : ℤ) × (slice_get vs n ≡ Some (values.Int k)) × FitsSigned w32 k
+argument_there heap [] vs n place ints fit there = absurd (none-some place there)
+argument_there heap (first ∷ args) [] n place ints fit there = absurd fit
+argument_there heap (first ∷ args) (v ∷ vs) zero place ints fit there =
+    let is = int_value heap first v ints.0 fit.0 in (is.0, ap Some is.1, is.2)
+argument_there heap (first ∷ args) (v ∷ vs) (suc n) place ints fit there = argument_there heap args vs n place ints.1 fit.1 there
 
 -- ---- operators
 
@@ -111,7 +110,7 @@ operator_gives operators.Clt i f heap stack a b m n built hasM hasN =
 operator_gives _ i f heap stack a b m n built hasM hasN = absurd (false≢true built)
 
 binary_goes : (operator : BinOp) (i : Instr) (f : Frame) (heap : Heap) (known : List Range) (stack : List Value)
-    → is_built_operator operator ≡ true → StackHolds known stack → 2 ≤ length stack → Goes (ops.Bin operator) i f heap (binary operator (comparison_of operator) i f heap stack) known stack
+    → is_built_operator operator ≡ true → StackHolds known stack → 2 ≤ length stack → Goes (ops.Bin operator) i f heap (binary operator (comparison_of operator) i f heap stack) known
 binary_goes operator i f heap (b ∷ a ∷ known) (values.Int n ∷ values.Int m ∷ stack) built holds tall =
     let given = operator_gives operator i f heap stack a b m n built holds.1.0 holds.0 in
     record {
@@ -120,7 +119,6 @@ binary_goes operator i f heap (b ∷ a ∷ known) (values.Int n ∷ values.Int m
       goes = given.pushed;
       behind = rw given.known refl;
       holds = (given.has, holds.1.1);
-      height = omega arith;
     }
 binary_goes operator i f heap known stack built holds tall = absurd (grind (arith, same_height known stack holds))
 
@@ -133,7 +131,7 @@ more_than_zero r n has other =
 
 asserts_goes : (number : ℕ) (i : Instr) (f : Frame) (heap : Heap) (known : List Range) (stack : List Value)
     → is_assert (unit_call number) ≡ true → StackHolds known stack → 1 ≤ length stack → shows_assert (Known known) ≡ true
-    → Goes (ops.Call number) i f heap (tests_condition (Faults faults.Assert) i f heap (Some stack)) known stack
+    → Goes (ops.Call number) i f heap (tests_condition (Faults faults.Assert) i f heap (Some stack)) known
 asserts_goes number i f heap (r ∷ known) (values.Int n ∷ stack) assert holds tall shown =
     let other : int_eq n (pos 0) ≡ false = excludes_zero-true r n holds.0 shown in
     let open_range : is_zero r ≡ false = more_than_zero r n holds.0 other in
@@ -143,65 +141,85 @@ asserts_goes number i f heap (r ∷ known) (values.Int n ∷ stack) assert holds
       goes = rw other refl;
       behind = rw (assert, open_range) refl;
       holds = holds.1;
-      height = omega arith;
     }
 asserts_goes number i f heap known stack assert holds tall shown = absurd (grind (arith, same_height known stack holds))
 
+-- ---- what kinds tell
+
+-- There are as many values as kinds.
+as_many : (heap : Heap) (before : List Kind) (stack : List Value) → FitKinds heap before stack → length before ≡ length stack
+as_many heap [] [] fit = refl
+as_many heap (kind ∷ before) (v ∷ stack) fit = ap suc (as_many heap before stack fit.1)
+as_many heap [] (v ∷ stack) fit = absurd fit
+as_many heap (kind ∷ before) [] fit = absurd fit
+
+-- An operator finds two operands.
+two_there : (op : Option CmpOp) (before after : List Kind) → behind_operator op before ≡ Some after → 2 ≤ length before
+two_there op (b ∷ a ∷ before) after e = omega arith
+two_there None [] after e = absurd (none-some after e)
+two_there None (kinds.Int ∷ []) after e = absurd (none-some after e)
+two_there None (_ ∷ []) after e = absurd (none-some after e)
+two_there (Some op) [] after e = absurd (none-some after e)
+two_there (Some op) (a ∷ []) after e = absurd (none-some after e)
+
+-- An Assert finds its condition.
+one_there : (before after : List Kind) → behind_condition false before ≡ Some after → 1 ≤ length before
+one_there [] after e = absurd (none-some after e)
+one_there (kind ∷ before) after e = omega arith
+
+-- A variable that is loaded is there.
+loaded_there : (place : Option Place) (before after : List Kind) → loaded place before ≡ Some after → (p : Place) × (place ≡ Some p)
+loaded_there None before after e = absurd (none-some after e)
+loaded_there (Some p) before after e = (p, refl)
+
 -- ---- all instructions
 
-unbroken : (x y z : Bool) → (x || y || z) ≡ false → (x ≡ false) × (y ≡ false)
-unbroken x y z h = or_parts x y (or_parts (x || y) z h).0
-
-operands_there : (args limit : ℕ) (op : Op) (height : ℕ) → breaks args limit height op ≡ false → operands op ≤ height
-operands_there args limit op height typed =
-    ltb-false height (operands op) (unbroken (nat_lt height (operands op)) (lacks_argument args op) (nat_lt limit (height_after op height)) typed).0
-
-argument_named : (args limit n height : ℕ) → breaks args limit height (ops.LoadArg n) ≡ false → n < args
-argument_named args limit n height typed =
-    let op = ops.LoadArg n in
-    let named = unbroken (nat_lt height (operands op)) (lacks_argument args op) (nat_lt limit (height_after op height)) typed in
-    ltb-true n args (not-false (nat_lt n args) named.1)
+abbrev pub is_return : Op → Bool
+is_return ops.Return = true
+is_return _ = false
 
 -- A typed instruction that is no return lets the frame go on, within what is then known.
-pub effects_go : (op : Op) (unit : MethodUnit) (i : Instr) (f : Frame) (heap : Heap) (args : List Place) (limit : ℕ) (known : List Range)
-    → is_built op ≡ true → is_return op ≡ false → breaks (length args) limit (length f.stack) op ≡ false
-    → (has_obligation op ≡ true → shows_assert (Known known) ≡ true) → AllInts args → FitPlaces heap args f.args → StackHolds known f.stack
-    → Goes op i f heap (effects_of op unit i f heap) known f.stack
-effects_go ops.Nop unit i f heap args limit known built passes typed shown ints fit holds =
+pub effects_go : (op : Op) (unit : MethodUnit) (i : Instr) (f : Frame) (heap : Heap) (known : List Range) (before after : List Kind)
+    → is_built op ≡ true → is_return op ≡ false → behind (shape_of unit) op before ≡ Some after → FitKinds heap before f.stack
+    → (has_obligation op ≡ true → shows_assert (Known known) ≡ true) → AllInts unit.args → FitPlaces heap unit.args f.args → StackHolds known f.stack
+    → Goes op i f heap (effects_of op unit i f heap) known
+effects_go ops.Nop unit i f heap known before after built passes typed shaped shown ints fit holds =
     record {
       stack = f.stack;
       ranges = known;
       goes = refl;
       behind = refl;
       holds = holds;
-      height = omega arith;
     }
-effects_go (ops.LoadArg n) unit i f heap args limit known built passes typed shown ints fit holds =
-    let there = argument_there heap args f.args n ints fit (argument_named (length args) limit n (length f.stack) typed) in
+effects_go (ops.LoadArg n) unit i f heap known before after built passes typed shaped shown ints fit holds =
+    let (place, place_is) = loaded_there (slice_get unit.args n) before after typed in
+    let there = argument_there heap unit.args f.args n place ints fit place_is in
     record {
       stack = values.Int there.0 ∷ f.stack;
       ranges = full ∷ known;
       goes = rw there.1 refl;
       behind = refl;
       holds = (Has-full there.0 there.2, holds);
-      height = omega arith;
     }
-effects_go (ops.Const n) unit i f heap args limit known built passes typed shown ints fit holds =
+effects_go (ops.Const n) unit i f heap known before after built passes typed shaped shown ints fit holds =
     record {
       stack = values.Int n ∷ f.stack;
       ranges = one n ∷ known;
       goes = refl;
       behind = refl;
       holds = (Has-one n, holds);
-      height = omega arith;
     }
-effects_go (ops.Bin operator) unit i f heap args limit known built passes typed shown ints fit holds =
-    binary_goes operator i f heap known f.stack built holds (operands_there (length args) limit (ops.Bin operator) (length f.stack) typed)
-effects_go (ops.Call number) unit i f heap args limit known built passes typed shown ints fit holds =
-    rw (is_assert-true (unit_call number) built)
-    (asserts_goes number i f heap known f.stack built holds (operands_there (length args) limit (ops.Call number) (length f.stack) typed) (shown built))
-effects_go ops.Return unit i f heap args limit known built passes typed shown ints fit holds = absurd (true≢false passes)
-effects_go _ unit i f heap args limit known built passes typed shown ints fit holds = absurd (false≢true built)
+effects_go (ops.Bin operator) unit i f heap known before after built passes typed shaped shown ints fit holds =
+    let same = as_many heap before f.stack shaped in
+    let two = two_there (comparison_of operator) before after typed in
+    binary_goes operator i f heap known f.stack built holds (omega arith)
+effects_go (ops.Call number) unit i f heap known before after built passes typed shaped shown ints fit holds =
+    let call = is_assert-true (unit_call number) built in
+    let same = as_many heap before f.stack shaped in
+    let some = one_there before after (sym (ap (λ (c : Option UnitCall). behind_call (shape_of unit) c before) call) ∙ typed) in
+    rw call (asserts_goes number i f heap known f.stack built holds (omega arith) (shown built))
+effects_go ops.Return unit i f heap known before after built passes typed shaped shown ints fit holds = absurd (true≢false passes)
+effects_go _ unit i f heap known before after built passes typed shaped shown ints fit holds = absurd (false≢true built)
 
 -- ---- calls
 
@@ -209,14 +227,11 @@ assert_calls_none : (call : Option UnitCall) → is_assert call ≡ true → cal
 assert_calls_none (Some (calls.Assert false)) e = refl
 assert_calls_none _ e = absurd (false≢true e)
 
-op_calls_none : (op : Op) → is_built op ≡ true → called_by op ≡ None
+-- A built operation calls no method, and is executed.
+pub op_calls_none : (op : Op) → is_built op ≡ true → called_by op ≡ None
 op_calls_none (ops.Call number) passes = assert_calls_none (unit_call number) passes
 op_calls_none _ passes = refl
 
-each_calls_none : (is : List Instr) → AllByRecursion (λ i. is_built i.op ≡ true) is → AllByRecursion (λ i. called_by i.op ≡ None) is
-each_calls_none [] passes = tt
-each_calls_none (i ∷ is) passes = (op_calls_none i.op passes.0, each_calls_none is passes.1)
-
--- A built unit calls no method.
-pub calls_no_method : (unit : MethodUnit) → IsBuilt unit → CallsNoMethod unit
-calls_no_method unit built at i found = of_found (λ j. called_by j.op ≡ None) unit.instrs at i (each_calls_none unit.instrs built.instructions) found
+pub built_executed : (op : Op) → is_built op ≡ true → is_executed op ≡ true
+built_executed (ops.Call number) passes = ap is_executed_call (is_assert-true (unit_call number) passes)
+built_executed _ passes = refl

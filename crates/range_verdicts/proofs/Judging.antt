@@ -1,45 +1,19 @@
 -- The verdicts, found in one walk over the instructions.
-use Rattle.std.proofs.Common.{◌≡◌, ℕ, suc, ◌+◌, ◌<◌, ◌≤◌, true, false, cond, eqb, List, [], ◌∷◌, ◌++◌, map, length, get_or, drop, refl, sym, ap, ◌∙◌, append_assoc, append-nil, add-one, arith}
+use Rattle.std.proofs.Common.{◌≡◌, ℕ, suc, ◌≤◌, true, false, cond, eqb, List, [], ◌∷◌, ◌++◌, map, length, drop, refl, sym, ap, ◌∙◌, append-nil, arith}
 use Rattle.std.proofs.Math.ListN.{drop_of_length-le}
-use Rattle.std.proofs.Math.Seq.{drop-cons}
 use Rattle.std.specs.List.{AllByRecursion}
 use Rattle.std.proofs.lemmas.Bool.Decides.{nat_tests}
-use Rattle.cil_model.specs.Code.{CodeFrom}
 use Rattle.cil_model.specs.declared.instruction.Instr.{Instr}
 use Rattle.range_verdicts.specs.States.{after, shows_assert}
 use Rattle.range_verdicts.specs.Verdicts.{state_at, has_obligation, obligations, noted}
 use Rattle.range_verdicts.specs.declared.state.State.{State}
 use Rattle.range_verdicts.specs.declared.verdict.Verdict.{Verdict}
-use Rattle.cil_model.proofs.Forms.{spelling_some}
-
--- The offsets of instructions rise, from this one on.
-abbrev pub Rises : ℕ → List Instr → Type 0
-Rises at [] = Unit {0}
-Rises at (i ∷ is) = (at ≤ i.at) × Rises (suc i.at) is
-
-Rises-later : (a b : ℕ) (is : List Instr) → a ≤ b → Rises b is → Rises a is
-Rises-later a b [] le h = tt
-Rises-later a b (i ∷ is) le h = (omega arith, h.1)
-
--- Instructions of code rise.
-pub code_rises : (at : ℕ) (is : List Instr) (code : List ℕ) → CodeFrom at is code → Rises at is
-code_rises at [] code h = tt
-code_rises at (i ∷ is) code (place, (bytes, rest, spelled, split, others)) =
-    let some = spelling_some i bytes spelled in
-    (omega arith, Rises-later (suc i.at) (at + i.size) is (omega (arith, spelled.size)) (code_rises (at + i.size) is rest others))
+use Rattle.range_verdicts.proofs.Body.{Rises, body_from}
 
 -- The verdicts that a walk from this state finds.
 abbrev pub judged : State → List Instr → List Verdict
 judged s [] = []
 judged s (i ∷ is) = noted s i ++ judged (after i.op s) is
-
--- One instruction further in the walk.
-pub judged-step : (front : List Verdict) (s : State) (is : List Instr) (k : ℕ) (i : Instr) (total : List Verdict) → k < length is → i ≡ get_or is k i
-    → front ++ judged s (drop k is) ≡ total → (front ++ noted s i) ++ judged (after i.op s) (drop (k + 1) is) ≡ total
-judged-step front s is k i total lt at so_far =
-    let split : drop k is ≡ i ∷ drop (k + 1) is = drop-cons is k i lt ∙ ap (λ (x : Instr). x ∷ drop (suc k) is) (sym at) ∙ rw add-one refl in
-    let one : front ++ judged s (drop k is) ≡ front ++ (noted s i ++ judged (after i.op s) (drop (k + 1) is)) = ap (λ (r : List Instr). front ++ judged s r) split in
-    append_assoc front (noted s i) (judged (after i.op s) (drop (k + 1) is)) ∙ (sym one ∙ so_far)
 
 abbrev verdict_from : State → List Instr → ℕ → Verdict
 verdict_from s is at = record { at = at; proved = shows_assert (state_at s is at) }
@@ -77,9 +51,9 @@ judged_verdicts s at (i ∷ is) (le, h) =
     ]
 
 -- The walk is at its end.
-pub judged-end : (front : List Verdict) (s : State) (is : List Instr) (k : ℕ) (total : List Verdict) → length is ≤ k
-    → front ++ judged s (drop k is) ≡ total → front ≡ total
-judged-end front s is k total past so_far =
-    let nothing : drop k is ≡ [] = drop_of_length-le is past in
-    let one : front ++ judged s (drop k is) ≡ front = ap (λ (r : List Instr). front ++ judged s r) nothing ∙ append-nil front in
+pub judged-end : (start : ℕ) (front : List Verdict) (s : State) (is : List Instr) (k : ℕ) (total : List Verdict) → length is ≤ k
+    → front ++ judged s (body_from start (drop k is)) ≡ total → front ≡ total
+judged-end start front s is k total past so_far =
+    let nothing : body_from start (drop k is) ≡ [] = ap (body_from start) (drop_of_length-le is past) in
+    let one : front ++ judged s (body_from start (drop k is)) ≡ front = ap (λ (r : List Instr). front ++ judged s r) nothing ∙ append-nil front in
     sym one ∙ so_far

@@ -1,3 +1,5 @@
+pub mod BlockUnit
+pub mod Body
 pub mod EffectSoundness
 pub mod Following
 pub mod Judging
@@ -6,4 +8,5 @@ pub mod RangeSums
 pub mod Counting
 pub mod Soundness
 pub mod StepSoundness
+pub mod Taken
 pub mod UnsafeUnit

@@ -1,14 +1,19 @@
--- A frame of a typed unit whose obligations are shown: each step leads to such a frame or to the end of a
+-- A frame in the body of a unit whose obligations are shown: each step leads to such a frame or to the end of a
 -- return, and there is one.
-use Rattle.std.proofs.Common.{◌≡◌, ℕ, ◌+◌, true, false, not, List, [], ◌∷◌, ◌++◌, length, length-append, Option, Some, None, refl, sym, ap, subst, ◌∙◌, arith, true≢false, inl, ⊎_elim}
-use Rattle.std.proofs.lemmas.Bool.{false≢true, and_parts, cases_Bool, eqb-true, not-true}
-use Rattle.std.proofs.lemmas.Option.{same_Some}
-use Rattle.cil_model.specs.Calls.{FreeCall, entry_frame, ReturnRow, Returned, Returns, ensures_fault, result_of}
+use Rattle.std.proofs.Common.{◌≡◌, ℕ, ◌+◌, true, false, List, [], ◌∷◌, ◌++◌, length, length-append, Option, Some, None, refl, sym, ap, subst, subst₂, ◌∙◌, true≢false, slice_get, arith, ⊎_elim}
+use Rattle.std.proofs.lemmas.Bool.{false≢true, cases_Bool}
+use Rattle.std.proofs.lemmas.Option.{none-some, same_Some}
+use Rattle.cil_model.specs.Blocks.{body_of}
+use Rattle.cil_model.specs.Calls.{FreeCall, WorldCall, entry_frame, ReturnRow, Returned, Returns, ensures_fault}
 use Rattle.cil_model.specs.Clauses.{false_ensures}
 use Rattle.cil_model.specs.Effects.{Effect, GoesOn, goes_on, effects, HasEffect}
-use Rattle.cil_model.specs.Runs.{CallsBy, CallRow, EffectRow, LocalStep, MayBegin, IsDefined, IsNoFault, Row, config_after, entry_config}
+use Rattle.cil_model.specs.FitKinds.{FrameFits, HasCode, IsExecutedAt, TypedCodeSteps}
+use Rattle.cil_model.specs.Passes.{Stacks}
+use Rattle.cil_model.specs.Runs.{CallsBy, CallRow, EffectRow, LocalStep, MayBegin, IsDefined, IsNoFault, Row, Step, config_after, entry_config, instr_at}
+use Rattle.cil_model.specs.Shapes.{shape_of}
 use Rattle.cil_model.specs.UnitCalls.{unit_call}
-use Rattle.cil_model.specs.Values.{Heap, FitPlaces}
+use Rattle.cil_model.specs.Values.{Heap}
+use Rattle.cil_model.specs.WellFormed.{HoldValues, called_by}
 use Rattle.cil_model.specs.declared.clause.Clause.{Clause}
 use Rattle.cil_model.specs.declared.instruction.Instr.{Instr}
 use Rattle.cil_model.specs.declared.instruction.Op.{Op}
@@ -17,67 +22,22 @@ use Rattle.cil_model.specs.declared.machine.Config.{Config}
 use Rattle.cil_model.specs.declared.machine.Config.TheVariants as configs
 use Rattle.cil_model.specs.declared.machine.Frame.{Frame}
 use Rattle.cil_model.specs.declared.machine.Value.{Value}
-use Rattle.cil_model.specs.declared.machine.Value.TheVariants as values
-use Rattle.cil_model.specs.declared.place.Place.{Place}
-use Rattle.cil_model.specs.declared.place.Place.TheVariants as places
+use Rattle.cil_model.specs.declared.machine.World.{World}
 use Rattle.cil_model.specs.declared.unit.Unit.{Unit as MethodUnit}
 use Rattle.cil_model.specs.declared.unit_numbers.UnitCall.{UnitCall}
 use Rattle.cil_model.specs.declared.unit_numbers.UnitCall.TheVariants as calls
-use Rattle.cil_model.proofs.Alone.{is_assert-true}
-use Rattle.method_unit.specs.Typing.{is_return, breaks, height_after, is_typed}
+use Rattle.cil_model.proofs.Alone.{is_assert-true, only_frame, row_by}
+use Rattle.cil_model.proofs.KindsSettle.{settled}
+use Rattle.cil_model.proofs.Rows.{code_is_decoded}
+use Rattle.cil_model.proofs.StepsKeep.{entry_frame_is}
+use Rattle.cil_model.proofs.TypedCode.{typed_code_steps}
 use Rattle.method_unit.specs.Built.{is_built}
-use Rattle.method_unit.specs.UnitSpelling.{IsBuilt}
-use Rattle.range_verdicts.specs.Verdicts.{entry, verdicts, all_proved}
+use Rattle.range_verdicts.specs.Verdicts.{verdicts, all_proved}
 use Rattle.range_verdicts.specs.declared.range.Range.{Range}
 use Rattle.range_verdicts.specs.declared.state.State.TheVariants.{Known}
-use Rattle.range_verdicts.proofs.EffectSoundness.{AllInts, StackHolds, Goes, effects_go}
+use Rattle.range_verdicts.proofs.EffectSoundness.{StackHolds, Goes, built_executed, effects_go, is_return, op_calls_none}
 use Rattle.range_verdicts.proofs.Following.{Follows, Follows-first, Follows-found, Follows-shown, Follows-next}
-
--- The frame is at the first of these instructions, with values that are within these ranges.
-pub record Stands (unit : MethodUnit) (is : List Instr) (known : List Range) (f : Frame) (heap : Heap) : Type 0 where
-  pub follows : Follows unit is f.at (Known known)
-  pub typed : is_typed (length unit.args) unit.max_stack (length f.stack) is ≡ true
-  pub fit : FitPlaces heap unit.args f.args
-  pub holds : StackHolds known f.stack
-
--- The configuration is one frame that stands so, or the end of a return.
-abbrev pub IsFine : MethodUnit → Config → Type 0
-IsFine unit (configs.Live (f ∷ []) heap) = (is : List Instr) × (known : List Range) × Stands unit is known f heap
-IsFine unit (configs.Returned result) = Unit {0}
-IsFine unit _ = ⊥
-
-pub IsFine-entry : (unit : MethodUnit) (m : ℕ) (args : List Value) (heap : Heap) → IsBuilt unit → all_proved (verdicts unit) ≡ true
-    → MayBegin unit args heap → IsFine unit (entry_config unit m args heap)
-IsFine-entry unit m args heap built proved begins =
-    let stands : Stands unit unit.instrs [] (entry_frame unit m args heap) heap = record {
-      follows = subst (λ (at : ℕ). Follows unit unit.instrs at entry) (sym built.body) (Follows-first unit built proved);
-      typed = built.typed;
-      fit = begins.fit;
-      holds = tt;
-    } in
-    (unit.instrs, [], stands)
-
--- ---- what typing tells
-
--- A return finds its result alone.
-typed_return : (args limit height : ℕ) (i : Instr) (is : List Instr) → is_return i.op ≡ true → is_typed args limit height (i ∷ is) ≡ true → height ≡ 1
-typed_return args limit height i is returns typed = eqb-true height 1 (rw returns at typed)
-
--- Any other instruction breaks no typing, and the code behind it is typed.
-typed_on : (args limit height : ℕ) (i : Instr) (is : List Instr) → is_return i.op ≡ false → is_typed args limit height (i ∷ is) ≡ true
-    → (breaks args limit height i.op ≡ false) × (is_typed args limit (height_after i.op height) is ≡ true)
-typed_on args limit height i is passes typed =
-    let both = and_parts (not (breaks args limit height i.op)) (is_typed args limit (height_after i.op height) is) (rw passes at typed) in
-    (not-true (breaks args limit height i.op) both.0, both.1)
-
--- A number that stands alone is an int32 result.
-one_result : (heap : Heap) (place : Place) (known : List Range) (stack : List Value) → place ≡ places.Int → StackHolds known stack → length stack ≡ 1
-    → (result : Option Value) × (result_of heap place stack ≡ Some result)
-one_result heap place (r ∷ known) (values.Int n ∷ []) int holds one = (Some (values.Int n), rw int refl)
-one_result heap place known [] int holds one = absurd (omega arith)
-one_result heap place known (v ∷ w ∷ stack) int holds one = absurd (omega arith)
-one_result heap place [] (v ∷ []) int holds one = absurd holds
-one_result heap place (r ∷ known) (v ∷ []) int holds one = absurd holds.0
+use Rattle.range_verdicts.proofs.Taken.{IsTaken}
 
 -- ---- the rows of returns, and the others
 
@@ -85,10 +45,6 @@ module _ (Calls : CallRow) (callers : List Frame) (unit : MethodUnit) (i : Instr
   row_returns : (op : Op) → is_return op ≡ true → Row Calls op callers unit i f heap new → ReturnRow callers unit i f heap new
   row_returns ops.Return returns row = row
   row_returns _ returns row = absurd (false≢true returns)
-
-  returns_row : (op : Op) → is_return op ≡ true → ReturnRow callers unit i f heap new → Row Calls op callers unit i f heap new
-  returns_row ops.Return returns row = row
-  returns_row _ returns row = absurd (false≢true returns)
 
   -- What a call of this kind leads to.
   abbrev by_call : Option UnitCall → Type 0
@@ -102,11 +58,6 @@ module _ (Calls : CallRow) (callers : List Frame) (unit : MethodUnit) (i : Instr
   row_passes (ops.Call number) passes calls row = subst by_call (asserts number calls) row
   row_passes _ passes calls row = row
 
-  passes_row : (op : Op) → is_return op ≡ false → is_built op ≡ true → EffectRow callers unit i f heap new → Row Calls op callers unit i f heap new
-  passes_row ops.Return passes calls row = absurd (true≢false passes)
-  passes_row (ops.Call number) passes calls row = subst by_call (sym (asserts number calls)) row
-  passes_row _ passes calls row = row
-
 no_caller : (outer : List Frame) (caller : Frame) → [] ≡ outer ++ caller ∷ [] → ⊥
 no_caller outer caller e = let lengths : 0 ≡ length (outer ++ caller ∷ []) = ap length e in omega (arith, length-append outer (caller ∷ []))
 
@@ -115,100 +66,175 @@ nothing_false : (unit : MethodUnit) (f : Frame) (heap : Heap) (result : Option V
 nothing_false unit f heap result none =
     ap (λ (clauses : List Clause). false_ensures clauses (record { args = f.entry_args; entry_heap = f.entry_heap; heap = heap; result = result })) none
 
--- With no caller a return is the end.
-IsFine-return : (unit : MethodUnit) (i : Instr) (f : Frame) (heap : Heap) (new : Config) → unit.clauses ≡ [] → ReturnRow [] unit i f heap new → IsFine unit new
-IsFine-return unit i f heap new clauses (result, is, returned) =
-    let to : Returns [] result heap new = subst (λ (fault : Option ℕ). Returned [] i f heap result fault new) (nothing_false unit f heap result clauses) returned in
-    ⊎_elim (λ ends. subst (IsFine unit) (sym ends.1) tt) (λ resumes. absurd (no_caller resumes.0 resumes.1 resumes.2)) to
+-- ---- steps in a world
 
--- ---- one instruction
+row_local : (w : World) (callers : List Frame) (f g : Frame) (unit other : MethodUnit) (i : Instr) (heap : Heap) (new : Config)
+    → callers ≡ [] → f ≡ g → unit ≡ other → instr_at other.instrs g.at ≡ Some i → called_by i.op ≡ None
+    → Row (WorldCall w callers) i.op callers other i g heap new → LocalStep unit (configs.Live (f ∷ []) heap) new
+row_local w callers f g unit other i heap new none same one found calls row =
+    let bare : Row (FreeCall other) i.op callers other i g heap new = row_by (WorldCall w callers) (FreeCall other) i.op callers other i g heap new calls row in
+    let here : LocalStep other (configs.Live (g ∷ []) heap) new = (i, found, subst (λ (outer : List Frame). Row (FreeCall other) i.op outer other i g heap new) none bare) in
+    subst₂ (λ (u : MethodUnit) (h : Frame). LocalStep u (configs.Live (h ∷ []) heap) new) (sym one) (sym same) here
 
-module _ (unit : MethodUnit) (i : Instr) (is : List Instr) (known : List Range) (f : Frame) (heap : Heap) (stands : Stands unit (i ∷ is) known f heap) where
-  -- What a typed instruction that is no return does.
-  stands_goes : AllInts unit.args → is_return i.op ≡ false → Goes i.op i f heap (effects unit i f heap) known f.stack
-  stands_goes ints passes =
-      let follows = stands.follows in
-      let typed = typed_on (length unit.args) unit.max_stack (length f.stack) i is passes stands.typed in
-      let shown = Follows-shown unit i is f.at (Known known) follows in
-      effects_go i.op unit i f heap unit.args unit.max_stack known follows.built.0 passes typed.0 shown ints stands.fit stands.holds
+-- The frame is about to call no method.
+abbrev CallsNone : MethodUnit → ℕ → Type 0
+CallsNone unit at = (i : Instr) → instr_at unit.instrs at ≡ Some i → called_by i.op ≡ None
 
-  -- Where the frame then stands.
-  Stands-next : is_return i.op ≡ false → (goes : Goes i.op i f heap (effects unit i f heap) known f.stack)
-      → Stands unit is goes.ranges (record f { at = i.at + i.size; stack = goes.stack }) heap
-  Stands-next passes goes =
-      let typed = typed_on (length unit.args) unit.max_stack (length f.stack) i is passes stands.typed in
-      record {
-        follows = subst (Follows unit is (i.at + i.size)) goes.behind (Follows-next unit i is f.at (Known known) stands.follows);
-        typed = subst (λ (height : ℕ). is_typed (length unit.args) unit.max_stack height is ≡ true) (sym goes.height) typed.1;
-        fit = stands.fit;
-        holds = goes.holds;
-      }
+-- Its steps in a world are then its steps by itself.
+step_local : (w : World) (unit : MethodUnit) (f : Frame) (heap : Heap) (new : Config) → slice_get w.units f.unit ≡ Some unit → CallsNone unit f.at
+    → Step w (configs.Live (f ∷ []) heap) new → LocalStep unit (configs.Live (f ∷ []) heap) new
+step_local w unit f heap new of calls (callers, g, other, i, frames, about, row) =
+    let only = only_frame callers f g frames in
+    let one : unit ≡ other = same_Some unit other (sym of ∙ ap (λ (h : Frame). slice_get w.units h.unit) only.1 ∙ about.of) in
+    let here : instr_at unit.instrs f.at ≡ Some i =
+    ap (λ (h : Frame). instr_at unit.instrs h.at) only.1 ∙ ap (λ (u : MethodUnit). instr_at u.instrs g.at) one ∙ about.to in
+    row_local w callers f g unit other i heap new only.0 only.1 one about.to (calls i here) row
 
-  IsFine-effect : (new : Config) → AllInts unit.args → is_return i.op ≡ false → EffectRow [] unit i f heap new → IsFine unit new
-  IsFine-effect new ints passes (effect, has, to) =
-      let goes = stands_goes ints passes in
-      let next = record f { at = i.at + i.size; stack = goes.stack } in
-      let only : HasEffect (goes_on i f heap goes.stack) effect = subst (λ (es : List Effect). HasEffect es effect) goes.goes has in
-      let same : effect ≡ GoesOn next heap = ⊎_elim (λ e. e) (λ none. absurd none) only in
-      subst (IsFine unit) (sym (to ∙ ap (config_after [] f i) same)) (is, goes.ranges, Stands-next passes goes)
+local_step : (w : World) (unit : MethodUnit) (f : Frame) (heap : Heap) (new : Config) → slice_get w.units f.unit ≡ Some unit → CallsNone unit f.at
+    → LocalStep unit (configs.Live (f ∷ []) heap) new → Step w (configs.Live (f ∷ []) heap) new
+local_step w unit f heap new of calls (i, found, row) =
+    ([], f, unit, i, refl, record { of = of; to = found }, row_by (FreeCall unit) (WorldCall w []) i.op [] unit i f heap new (calls i found) row)
 
-  IsFine-row : (new : Config) → IsBuilt unit → Row (FreeCall unit) i.op [] unit i f heap new → IsFine unit new
-  IsFine-row new built row =
-      ⊎_elim (λ returns. IsFine-return unit i f heap new built.clauses (row_returns (FreeCall unit) [] unit i f heap new i.op returns row))
-      (λ passes. IsFine-effect new built.args passes (row_passes (FreeCall unit) [] unit i f heap new i.op passes stands.follows.built.0 row))
-      (cases_Bool (is_return i.op))
+-- ---- a unit
 
-  return_defined : IsBuilt unit → is_return i.op ≡ true → (new : Config) × Row (FreeCall unit) i.op [] unit i f heap new
-  return_defined built returns =
-      let alone = typed_return (length unit.args) unit.max_stack (length f.stack) i is returns stands.typed in
-      let (result, is_result) = one_result heap unit.result known f.stack built.result stands.holds alone in
-      let new = configs.Returned result in
-      let ends : Returns [] result heap new = inl (refl, refl) in
-      let returned = subst (λ (fault : Option ℕ). Returned [] i f heap result fault new) (sym (nothing_false unit f heap result built.clauses)) ends in
-      (new, returns_row (FreeCall unit) [] unit i f heap new i.op returns (result, is_result, returned))
+module _ (unit : MethodUnit) (taken : IsTaken unit) (m : ℕ) where
+  abbrev pub stacks : Stacks
+  stacks = taken.can.stacks
 
-  effect_defined : AllInts unit.args → is_return i.op ≡ false → (new : Config) × Row (FreeCall unit) i.op [] unit i f heap new
-  effect_defined ints passes =
-      let goes = stands_goes ints passes in
-      let next = record f { at = i.at + i.size; stack = goes.stack } in
-      let new = configs.Live (next ∷ []) heap in
-      let effect = GoesOn next heap in
-      let has : HasEffect (effects unit i f heap) effect = subst (λ (es : List Effect). HasEffect es effect) (sym goes.goes) (inl refl) in
-      (new, passes_row (FreeCall unit) [] unit i f heap new i.op passes stands.follows.built.0 (effect, has, refl))
+  -- The frame, a frame of the unit of this index, is at the first of these instructions, with values that are of the
+  -- kinds before it and within these ranges.
+  pub record Stands (is : List Instr) (known : List Range) (f : Frame) (heap : Heap) : Type 0 where
+    pub follows : Follows unit is f.at (Known known)
+    pub fits : FrameFits unit stacks heap f
+    pub holds : StackHolds known f.stack
+    pub index : f.unit ≡ m
 
-  -- There is a row.
-  row_defined : IsBuilt unit → (new : Config) × Row (FreeCall unit) i.op [] unit i f heap new
-  row_defined built = ⊎_elim (return_defined built) (effect_defined built.args) (cases_Bool (is_return i.op))
+  -- The configuration is one frame that stands so, or the end of a return.
+  abbrev pub IsFine : Config → Type 0
+  IsFine (configs.Live (f ∷ []) heap) = (is : List Instr) × (known : List Range) × Stands is known f heap
+  IsFine (configs.Returned result) = Unit {0}
+  IsFine _ = ⊥
 
--- ---- one step
+  typed : TypedCodeSteps (shape_of unit) unit.instrs stacks
+  typed = typed_code_steps (shape_of unit) unit.instrs stacks (code_is_decoded unit.instrs unit.code taken.can.code) taken.can.kinds
 
-IsFine-frame : (unit : MethodUnit) (is : List Instr) (known : List Range) (f : Frame) (heap : Heap) (new : Config)
-    → IsBuilt unit → Stands unit is known f heap → LocalStep unit (configs.Live (f ∷ []) heap) new → IsFine unit new
-IsFine-frame unit [] known f heap new built stands step = absurd (false≢true stands.typed)
-IsFine-frame unit (i ∷ is) known f heap new built stands (j, found, row) =
-    let same : j ≡ i = same_Some j i (sym found ∙ Follows-found unit i is f.at (Known known) stands.follows) in
-    IsFine-row unit i is known f heap stands new built (subst (λ (k : Instr). Row (FreeCall unit) k.op [] unit k f heap new) same row)
+  itself : HasCode (shape_of unit) unit.instrs unit
+  itself = record { shape_is = refl; instrs_are = refl }
 
--- A step leads from a fine configuration to one.
-pub IsFine-step : (unit : MethodUnit) (c new : Config) → IsBuilt unit → IsFine unit c → LocalStep unit c new → IsFine unit new
-IsFine-step unit (configs.Live (f ∷ []) heap) new built (is, known, stands) step = IsFine-frame unit is known f heap new built stands step
-IsFine-step unit (configs.Returned result) new built fine step = absurd step
-IsFine-step unit _ new built fine step = absurd fine
+  pub IsFine-entry : (args : List Value) (heap : Heap) → all_proved (verdicts unit) ≡ true → MayBegin unit args heap → IsFine (entry_config unit m args heap)
+  IsFine-entry args heap proved begins =
+      let hold : HoldValues unit.locals = subst HoldValues (sym taken.locals) tt in
+      let fits : FrameFits unit stacks heap (entry_frame unit m args heap) = record {
+        heap_is = begins.heap_is;
+        frame = entry_frame_is unit m args heap hold begins.heap_is begins.fit;
+        kinds = [];
+        before = taken.can.body.empty;
+        fit = tt;
+      } in
+      (body_of unit, [], record { follows = Follows-first unit taken proved; fits = fits; holds = tt; index = refl })
 
-frame_defined : (unit : MethodUnit) (is : List Instr) (known : List Range) (f : Frame) (heap : Heap)
-    → IsBuilt unit → Stands unit is known f heap → (new : Config) × LocalStep unit (configs.Live (f ∷ []) heap) new
-frame_defined unit [] known f heap built stands = absurd (false≢true stands.typed)
-frame_defined unit (i ∷ is) known f heap built stands =
-    let (new, row) = row_defined unit i is known f heap stands built in
-    (new, (i, Follows-found unit i is f.at (Known known) stands.follows, row))
+  -- With no caller a return is the end.
+  IsFine-return : (i : Instr) (f : Frame) (heap : Heap) (new : Config) → ReturnRow [] unit i f heap new → IsFine new
+  IsFine-return i f heap new (result, is, returned) =
+      let to : Returns [] result heap new = subst (λ (fault : Option ℕ). Returned [] i f heap result fault new)
+      (nothing_false unit f heap result taken.clauses) returned in
+      ⊎_elim (λ ends. subst IsFine (sym ends.1) tt) (λ resumes. absurd (no_caller resumes.0 resumes.1 resumes.2)) to
 
--- A fine configuration is no fault, and is an end or has a row.
-pub IsNoFault-fine : (unit : MethodUnit) (c : Config) → IsFine unit c → IsNoFault c
-IsNoFault-fine unit (configs.Live (f ∷ []) heap) fine = tt
-IsNoFault-fine unit (configs.Returned result) fine = tt
-IsNoFault-fine unit _ fine = absurd fine
+  module _ (i : Instr) (is : List Instr) (known : List Range) (f : Frame) (heap : Heap) (stands : Stands (i ∷ is) known f heap) where
+    found : instr_at unit.instrs f.at ≡ Some i
+    found = Follows-found unit i is f.at (Known known) stands.follows
 
-pub IsDefined-fine : (unit : MethodUnit) (c : Config) → IsBuilt unit → IsFine unit c → IsDefined (LocalStep unit) c
-IsDefined-fine unit (configs.Live (f ∷ []) heap) built (is, known, stands) = frame_defined unit is known f heap built stands
-IsDefined-fine unit (configs.Returned result) built fine = tt
-IsDefined-fine unit _ built fine = absurd fine
+    -- What an instruction that is no return does.
+    stands_goes : is_return i.op ≡ false → Goes i.op i f heap (effects unit i f heap) known
+    stands_goes passes =
+        let follows = stands.follows in
+        let fits = stands.fits in
+        let decoded = code_is_decoded unit.instrs unit.code taken.can.code in
+        let here = settled (shape_of unit) unit.instrs stacks f.at i fits.kinds decoded taken.can.kinds found fits.before in
+        let shown = Follows-shown unit i is f.at (Known known) follows in
+        effects_go i.op unit i f heap known fits.kinds here.after follows.built.0 passes here.typed fits.fit shown taken.args fits.frame.args stands.holds
+
+    IsFine-effect : (new : Config) → is_return i.op ≡ false → LocalStep unit (configs.Live (f ∷ []) heap) new → EffectRow [] unit i f heap new → IsFine new
+    IsFine-effect new passes step (effect, has, to) =
+        let goes = stands_goes passes in
+        let next = record f { at = i.at + i.size; stack = goes.stack } in
+        let only : HasEffect (goes_on i f heap goes.stack) effect = subst (λ (es : List Effect). HasEffect es effect) goes.goes has in
+        let same : effect ≡ GoesOn next heap = ⊎_elim (λ e. e) (λ none. absurd none) only in
+        let new_is : new ≡ configs.Live (next ∷ []) heap = to ∙ ap (config_after [] f i) same in
+        let on : Stands is goes.ranges next heap = record {
+          follows = subst (Follows unit is (i.at + i.size)) goes.behind (Follows-next unit i is f.at (Known known) stands.follows);
+          fits = typed.kept unit f next heap heap itself stands.fits (subst (LocalStep unit (configs.Live (f ∷ []) heap)) new_is step);
+          holds = goes.holds;
+          index = stands.index;
+        } in
+        subst IsFine (sym new_is) (is, goes.ranges, on)
+
+    IsFine-row : (new : Config) → Row (FreeCall unit) i.op [] unit i f heap new → IsFine new
+    IsFine-row new row =
+        ⊎_elim (λ returns. IsFine-return i f heap new (row_returns (FreeCall unit) [] unit i f heap new i.op returns row))
+        (λ passes. IsFine-effect new passes (i, found, row)
+        (row_passes (FreeCall unit) [] unit i f heap new i.op passes stands.follows.built.0 row))
+        (cases_Bool (is_return i.op))
+
+  -- ---- one step
+
+  -- The instruction that is found is built.
+  found_built : (is : List Instr) (known : List Range) (f : Frame) (heap : Heap) (j : Instr) → Stands is known f heap → instr_at unit.instrs f.at ≡ Some j
+      → is_built j.op ≡ true
+  found_built [] known f heap j stands found_j = absurd (none-some j (sym (stands.follows.found f.at (omega arith)) ∙ found_j))
+  found_built (i ∷ is) known f heap j stands found_j =
+      let same : i ≡ j = same_Some i j (sym (Follows-found unit i is f.at (Known known) stands.follows) ∙ found_j) in
+      subst (λ (k : Instr). is_built k.op ≡ true) same stands.follows.built.0
+
+  IsFine-frame : (is : List Instr) (known : List Range) (f : Frame) (heap : Heap) (new : Config) → Stands is known f heap
+      → LocalStep unit (configs.Live (f ∷ []) heap) new → IsFine new
+  IsFine-frame [] known f heap new stands (j, found_j, row) = absurd (none-some j (sym (stands.follows.found f.at (omega arith)) ∙ found_j))
+  IsFine-frame (i ∷ is) known f heap new stands (j, found_j, row) =
+      let same : j ≡ i = same_Some j i (sym found_j ∙ Follows-found unit i is f.at (Known known) stands.follows) in
+      IsFine-row i is known f heap stands new (subst (λ (k : Instr). Row (FreeCall unit) k.op [] unit k f heap new) same row)
+
+  -- A step leads from a fine configuration to one.
+  pub IsFine-step : (c new : Config) → IsFine c → LocalStep unit c new → IsFine new
+  IsFine-step (configs.Live (f ∷ []) heap) new (is, known, stands) step = IsFine-frame is known f heap new stands step
+  IsFine-step (configs.Returned result) new fine step = absurd step
+  IsFine-step _ new fine step = absurd fine
+
+  -- A fine configuration is no fault, and is an end or has a step.
+  pub IsNoFault-fine : (c : Config) → IsFine c → IsNoFault c
+  IsNoFault-fine (configs.Live (f ∷ []) heap) fine = tt
+  IsNoFault-fine (configs.Returned result) fine = tt
+  IsNoFault-fine _ fine = absurd fine
+
+  frame_defined : (is : List Instr) (known : List Range) (f : Frame) (heap : Heap) → Stands is known f heap
+      → (new : Config) × LocalStep unit (configs.Live (f ∷ []) heap) new
+  frame_defined is known f heap stands =
+      let executed : IsExecutedAt unit.instrs f.at = (λ j found_j. built_executed j.op (found_built is known f heap j stands found_j)) in
+      typed.defined unit f heap itself stands.fits executed
+
+  pub IsDefined-fine : (c : Config) → IsFine c → IsDefined (LocalStep unit) c
+  IsDefined-fine (configs.Live (f ∷ []) heap) (is, known, stands) = frame_defined is known f heap stands
+  IsDefined-fine (configs.Returned result) fine = tt
+  IsDefined-fine _ fine = absurd fine
+
+  -- ---- the same in a world
+
+  module _ (w : World) (of : slice_get w.units m ≡ Some unit) where
+    calls_none : (is : List Instr) (known : List Range) (f : Frame) (heap : Heap) → Stands is known f heap → CallsNone unit f.at
+    calls_none is known f heap stands j found_j = op_calls_none j.op (found_built is known f heap j stands found_j)
+
+    is_of : (f : Frame) → f.unit ≡ m → slice_get w.units f.unit ≡ Some unit
+    is_of f index = ap (slice_get w.units) index ∙ of
+
+    -- A step in the world from a fine configuration is one of the unit by itself.
+    pub IsFine-local : (c new : Config) → IsFine c → Step w c new → LocalStep unit c new
+    IsFine-local (configs.Live (f ∷ []) heap) new (is, known, stands) step =
+        step_local w unit f heap new (is_of f stands.index) (calls_none is known f heap stands) step
+    IsFine-local (configs.Returned result) new fine step = absurd step
+    IsFine-local _ new fine step = absurd fine
+
+    pub IsDefined-world : (c : Config) → IsFine c → IsDefined (Step w) c
+    IsDefined-world (configs.Live (f ∷ []) heap) (is, known, stands) =
+        let (new, step) = frame_defined is known f heap stands in
+        (new, local_step w unit f heap new (is_of f stands.index) (calls_none is known f heap stands) step)
+    IsDefined-world (configs.Returned result) fine = tt
+    IsDefined-world _ fine = absurd fine

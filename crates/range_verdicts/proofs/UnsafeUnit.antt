@@ -14,8 +14,8 @@ use Rattle.cil_model.specs.declared.machine.FaultKind.TheVariants.{Assert}
 use Rattle.cil_model.specs.declared.machine.Frame.{Frame}
 use Rattle.cil_model.specs.declared.machine.Value.{Value}
 use Rattle.cil_model.specs.declared.machine.Value.TheVariants as values
+use Rattle.cil_model.specs.declared.place.Place.TheVariants as places
 use Rattle.cil_model.specs.declared.unit.Unit.{Unit as MethodUnit}
-use Rattle.method_unit.specs.UnitFile.{unit_with}
 
 abbrev instr : ℕ → ℕ → Op → Instr
 instr at size op = record { at = at; size = size; op = op }
@@ -24,8 +24,19 @@ abbrev code : List ℕ
 code = 0x02 ∷ 0x17 ∷ 0xfe ∷ 0x02 ∷ 0x28 ∷ 5 ∷ 0 ∷ 0 ∷ 0 ∷ 0x02 ∷ 0x2a ∷ []
 
 abbrev unit : MethodUnit
-unit = unit_with (codes "T::g") 1 2 code (instr 0 1 (ops.LoadArg 0) ∷ instr 1 1 (ops.Const (pos 1)) ∷ instr 2 2 (ops.Bin operators.Cgt)
-    ∷ instr 4 5 (ops.Call 5) ∷ instr 9 1 (ops.LoadArg 0) ∷ instr 10 1 ops.Return ∷ [])
+unit = record {
+  name = codes "T::g";
+  result = places.Int;
+  args = places.Int ∷ [];
+  locals = [];
+  max_stack = 2;
+  callees = [];
+  code = code;
+  clauses = [];
+  body_start = 0;
+  instrs = instr 0 1 (ops.LoadArg 0) ∷ instr 1 1 (ops.Const (pos 1)) ∷ instr 2 2 (ops.Bin operators.Cgt) ∷ instr 4 5 (ops.Call 5)
+      ∷ instr 9 1 (ops.LoadArg 0) ∷ instr 10 1 ops.Return ∷ [];
+}
 
 abbrev args : List Value
 args = values.Int (pos 0) ∷ []

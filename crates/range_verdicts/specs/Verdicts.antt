@@ -1,6 +1,7 @@
--- The verdict on each obligation of a unit.
+-- The verdict on each obligation of a unit's body.
 use Rattle.std.specs.Prelude.{ℕ, Bool, false, List, [], ◌∷◌, map, ◌==◌, if◌then◌else◌, count_by}
 use Rattle.std.specs.List.{list_all}
+use Rattle.cil_model.specs.Blocks.{body_of}
 use Rattle.cil_model.specs.UnitCalls.{unit_call, is_assert}
 use Rattle.cil_model.specs.declared.instruction.Instr.{Instr}
 use Rattle.cil_model.specs.declared.instruction.Op.{Op}
@@ -30,17 +31,17 @@ obligations (i ∷ is) = if has_obligation i.op then i.at ∷ obligations is els
 abbrev pub noted : State → Instr → List Verdict
 noted s i = if has_obligation i.op then record { at = i.at; proved = shows_assert s } ∷ [] else []
 
--- The state before the first instruction: an empty stack.
+-- The state at the start of a body: an empty stack.
 abbrev pub entry : State
 entry = Known []
 
--- The verdict on the obligation at an IL offset.
+-- The verdict on the obligation at an IL offset of these instructions, which a run begins with an empty stack.
 abbrev pub verdict : List Instr → ℕ → Verdict
 verdict instrs at = record { at = at; proved = shows_assert (state_at entry instrs at) }
 
--- The verdicts on a unit's obligations, in order.
+-- The verdicts on the obligations of a unit's body, in order. What its contract block asserts is none of them.
 abbrev pub verdicts : MethodUnit → List Verdict
-verdicts unit = map (verdict unit.instrs) (obligations unit.instrs)
+verdicts unit = map (verdict (body_of unit)) (obligations (body_of unit))
 
 abbrev pub all_proved : List Verdict → Bool
 all_proved found = list_all (λ v. v.proved) found

@@ -1,4 +1,4 @@
-//! The analysis of straight code by ranges: the verdict on each obligation of a unit.
+//! The analysis of straight code by ranges: the verdict on each obligation of a unit's body.
 #![tactic(auto)]
 
 mod range;

@@ -1,8 +1,9 @@
-//! The verdicts on a unit's obligations.
+//! The verdicts on the obligations of a unit's body.
 
-ghost use Rattle.std.specs.Prelude.{◌≡◌, ◌++◌, ◌<◌, ◌≤◌, All, IfOk, IsTrue, OnOk, length};
+ghost use Rattle.std.specs.Prelude.{◌≡◌, ◌++◌, ◌<◌, ◌≤◌, All, IfOk, IsTrue, None, OnOk, length};
 ghost use Rattle.cil_model.specs.Code.{CodeOf};
-ghost use Rattle.method_unit.specs.UnitSpelling.{IsBuilt};
+ghost use Rattle.method_unit.specs.NotBuilt.{not_built};
+ghost use Rattle.method_unit.specs.Units.{CanRun};
 ghost use Rattle.range_verdicts.specs.Safety.{IsSafe};
 ghost use Rattle.range_verdicts.specs.Verdicts.{all_proved, has_obligation, noted, proved_count, verdicts};
 
@@ -43,7 +44,7 @@ fn note(found: &mut Vec<Verdict>, instr: &Instr, state: &State) -> Result<(), Al
     Ok(())
 }
 
-/// The verdict on each obligation of a unit, in the order of its code.
+/// The verdict on each obligation of a unit's body, in the order of its code.
 ///
 /// Cost: linear in the number of instructions.
 pub fn judge(alloc: Global, unit: &Unit) -> Result<Vec<Verdict>, AllocError>
@@ -52,12 +53,15 @@ pub fn judge(alloc: Global, unit: &Unit) -> Result<Vec<Verdict>, AllocError>
     ensures few { IfOk result (λ found. length found.items ≤ length unit.now.instrs) }
     ensures inside { IfOk result (λ found. All (λ verdict. verdict.at < length unit.now.code) found.items) }
     ensures sound { IfOk result (λ found.
-        IsBuilt unit.now → IsTrue (all_proved found.items) → IsSafe unit.now) }
+        CanRun unit.now → not_built unit.now ≡ None → IsTrue (all_proved found.items) → IsSafe unit.now) }
 {
     let instrs = unit.instrs.as_slice();
     let mut found = Vec::new(alloc);
     let mut state = State::Known(Stack::new(alloc));
     for instr in instrs {
+        if instr.at < unit.body_start {
+            continue;
+        }
         note(&mut found, instr, &state)?;
         state = state.after(&instr.op)?;
     }

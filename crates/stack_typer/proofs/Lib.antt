@@ -4,13 +4,16 @@ pub mod ArrivalLemmas
 pub mod CodeLies
 pub mod ConflictLemmas
 pub mod Falling
+pub mod FaultValues
 pub mod FollowLemmas
 pub mod Lengths
 pub mod MergeLemmas
 pub mod OffsetLemmas
 pub mod PassLemmas
 pub mod RoomLemmas
+pub mod Settling
 pub mod StepParts
 pub mod TakeLemmas
 pub mod TurnedLemmas
 pub mod Unique
+pub mod FaultPlaces

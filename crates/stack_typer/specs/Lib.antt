@@ -1,6 +1,8 @@
 pub mod Answers
 pub mod Arrays
 pub mod Brought
+pub mod FirstTypeFault
 pub mod LaidOut
 pub mod Room
 pub mod Successors
+pub mod FaultPlaces

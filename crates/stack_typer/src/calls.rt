@@ -4,9 +4,8 @@ ghost use Rattle.std.specs.Prelude.{◌≡◌, IfOk, OnOk};
 ghost use Rattle.std.specs.Option.{option_copied};
 ghost use Rattle.cil_model.specs.Kinds.{when, pushed_kind, kind_of, behind_condition, behind_callee, behind_old, behind_call};
 
-use crate::operands::callee;
 use crate::stack::Stack;
-use cil_model::{CalleeInfo, Kind, Place, Shape, UnitCall, kind_of, takes};
+use cil_model::{CalleeInfo, Kind, Place, Shape, UnitCall, callee, kind_of, takes};
 use std::alloc::AllocError;
 
 /// Pushes the kind of a place, of void none.

@@ -1,10 +1,9 @@
-//! How many values an operation takes from the stack (ECMA-335 III.1.5).
+//! Whether a call's operands are of the kinds that its places take (ECMA-335 III.3.19).
 
-ghost use Rattle.std.specs.Prelude.{◌≡◌, slice_get};
-ghost use Rattle.std.specs.Option.{option_copied};
-ghost use Rattle.cil_model.specs.Kinds.{take_each, result_count, call_operands, test_operands, operand_count};
+ghost use Rattle.std.specs.Prelude.{◌≡◌};
+ghost use Rattle.cil_model.specs.Kinds.{take_each};
 
-use cil_model::{CalleeInfo, Kind, Op, Place, Shape, Test, UnitCall, takes, unit_call};
+use cil_model::{Kind, Place, takes};
 
 /// Whether each place takes the kind at its index, and there are as many of both.
 #[tactic(auto, using(crate::proofs::TakeLemmas::lengths))]
@@ -20,74 +19,4 @@ pub fn take_each(places: &[Place], kinds: &[Kind]) -> bool
         }
     }
     true
-}
-
-/// How many values a result of this place is.
-fn result_count(place: Place) -> usize
-    ensures { result ≡ result_count place }
-{
-    match place {
-        Place::Void => 0,
-        _ => 1,
-    }
-}
-
-/// The entry of a callee, if the shape has one.
-pub fn callee(shape: &Shape, number: u32) -> Option<&CalleeInfo>
-    ensures { option_copied result ≡ slice_get shape.now.callees number }
-{
-    shape.callees.as_slice().get(number as usize)
-}
-
-fn call_operands(shape: &Shape, call: Option<UnitCall>) -> usize
-    ensures { result ≡ call_operands shape.now call }
-{
-    match call {
-        Some(
-            UnitCall::Requires(message)
-            | UnitCall::Ensures(message)
-            | UnitCall::Assert(message)
-            | UnitCall::Assume(message),
-        ) => 1 + usize::from(message),
-        Some(UnitCall::OldValue(_)) => 1,
-        Some(UnitCall::Callee(number)) => match callee(shape, number) {
-            Some(info) => info.args.as_slice().len(),
-            None => 0,
-        },
-        _ => 0,
-    }
-}
-
-fn test_operands(test: Test) -> usize
-    ensures { result ≡ test_operands test }
-{
-    match test {
-        Test::Always => 0,
-        Test::Cmp(_) => 2,
-        Test::True | Test::False => 1,
-    }
-}
-
-/// How many values the operation takes.
-pub fn operand_count(shape: &Shape, op: &Op) -> usize
-    ensures { result ≡ operand_count shape.now op.now }
-{
-    match op {
-        Op::Call(number) => call_operands(shape, unit_call(*number)),
-        Op::Return => result_count(shape.result),
-        Op::Branch(test, _) => test_operands(*test),
-        Op::StoreElem(_) => 3,
-        Op::Bin(_) | Op::LoadElem(_) => 2,
-        Op::StoreArg(_)
-        | Op::StoreLocal(_)
-        | Op::Dup
-        | Op::Pop
-        | Op::Switch(_)
-        | Op::Neg
-        | Op::Not
-        | Op::ConvI4
-        | Op::NewArray(_)
-        | Op::Length => 1,
-        _ => 0,
-    }
 }

@@ -1,12 +1,13 @@
 //! The typing of a method's code, in passes.
 
 ghost use Rattle.std.specs.Prelude.{◌≡◌, Some, length, slice_get, IfOk, OnOk};
-ghost use Rattle.cc_base.specs.Tests.{GivesOnly, RefusesOnly};
+ghost use Rattle.cc_base.specs.Tests.{JudgesOrNoMemory, GivesOnly, RefusesOnly};
 ghost use Rattle.cil_model.specs.FitKinds.{AreDecoded, TypedCodeSteps};
 ghost use Rattle.cil_model.specs.Passes.{Stacks, KindsOf, HasTypeFault, visited, stack_at, pass, first_stacks};
 ghost use Rattle.cil_model.specs.declared.type_fault.TypeFault.{TypeFault};
 ghost use Rattle.stack_typer.specs.Answers.{Leaves, IfFault};
 ghost use Rattle.stack_typer.specs.Brought.{AreBrought};
+ghost use Rattle.stack_typer.specs.FirstTypeFault.{first_type_fault};
 ghost use Rattle.stack_typer.specs.LaidOut.{AreLaidOut};
 ghost use Rattle.stack_typer.specs.Room.{Tells};
 
@@ -135,6 +136,8 @@ pub fn type_code(alloc: Global, instrs: &[Instr], shape: &Shape) -> Result<Kinds
     requires { AreLaidOut instrs.now }
     ensures ok { IfOk result (KindsOf shape.now instrs.now) }
     ensures err { IfFault result (HasTypeFault shape.now instrs.now) }
+    // The first fault is a function of the code and the shape.
+    ensures judged { JudgesOrNoMemory result (first_type_fault instrs.now shape.now) (KindsOf shape.now instrs.now) }
     // The kinds that the code has are given, and the fault that it has, unless memory runs out.
     ensures only { (stacks : Stacks) → KindsOf shape.now instrs.now stacks → GivesOnly result (λ kinds. kinds ≡ stacks) }
     ensures only_fault { (fault : TypeFault) → HasTypeFault shape.now instrs.now fault → RefusesOnly result (λ given. given ≡ fault) }

@@ -5,11 +5,10 @@ ghost use Rattle.cil_model.specs.Kinds.{typed};
 ghost use Rattle.stack_typer.specs.Answers.{Leaves};
 
 use crate::kinds::TypeRefusal;
-use crate::operands::operand_count;
 use crate::operations::operation;
 use crate::stack::Stack;
 use cc_base::Refusal;
-use cil_model::{Instr, Shape, TypeFault};
+use cil_model::{Instr, Shape, TypeFault, operand_count};
 
 /// Makes the stack before an instruction the one behind it.
 pub fn type_instr(shape: &Shape, instr: &Instr, stack: &mut Stack) -> Result<(), TypeRefusal>

@@ -9,10 +9,12 @@ mod Stands
 mod Taken
 mod TreesTaken
 mod CalleesTaken
-mod UnitTaken
+pub mod UnitTaken
 mod Again
 mod TreesAgain
 mod CalleesAgain
-mod UnitAgain
+pub mod UnitAgain
+pub mod OffsetsCounted
 mod TreesWritten
 mod UnitWritten
+pub mod SpellingBytes

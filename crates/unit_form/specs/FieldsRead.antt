@@ -1,5 +1,6 @@
 -- The fields that were read from a unit file, and those that they are.
-use Rattle.std.specs.Prelude.{◌≡◌}
+use Rattle.std.specs.Prelude.{◌≡◌, ℕ, ◌+◌, ◌≤◌, List, length}
+use Rattle.cil_model.specs.Limits.{MAX_CODE_BYTES}
 use Rattle.cil_model.specs.declared.unit.Unit.{Unit as MethodUnit}
 use Rattle.unit_form.specs.UnitFields.{FieldsOfUnit}
 use Rattle.unit_form.specs.declared.unit_fields.UnitFields.{UnitFields}
@@ -26,3 +27,8 @@ pub record HasRead (unit : MethodUnit) (fields : FieldsOfUnit) : Type 0 where
   pub max_stack : unit.max_stack ≡ fields.max_stack
   pub callees : unit.callees ≡ fields.callees
   pub code : unit.code ≡ fields.code
+
+-- The code that was read lies in the file from its offset on, and keeps its limit.
+pub record IsCodeWithin (bytes : List ℕ) (fields : UnitFields) : Type 0 where
+  pub short : length fields.code.now ≤ MAX_CODE_BYTES
+  pub inside : fields.code_offset + length fields.code.now ≤ length bytes

@@ -3,7 +3,7 @@
 ghost use Rattle.std.specs.Prelude.{◌≡◌, ◌+◌, ◌≤◌, ⊤, length, IfOk};
 ghost use Rattle.cc_base.specs.Tests.{first_of, GivesOnly, Judges, JudgesOrNoMemory};
 ghost use Rattle.cil_model.specs.Limits.{MAX_CODE_BYTES};
-ghost use Rattle.unit_form.specs.FieldsRead.{fields_told, HasRead};
+ghost use Rattle.unit_form.specs.FieldsRead.{fields_told, HasRead, IsCodeWithin};
 ghost use Rattle.cil_model.specs.declared.unit.Unit.{Unit as MethodUnit};
 ghost use Rattle.unit_form.specs.Parses.{IsRead};
 ghost use Rattle.unit_form.specs.Spelling.{HasFields, unit_bytes};
@@ -74,7 +74,8 @@ fn read_max_stack(bytes: &[u8], at: u32, variables: usize) -> Result<u8, FieldFa
 #[tactic(auto, using(cc_base::proofs::TestLemmas::appended, cc_base::proofs::TestLemmas::first_tests), unfolding(crate::specs::UnitFields::code_field))]
 fn read_code(bytes: &[u8], at: u32) -> Result<&[u8], FieldFault>
     requires short { length bytes.now ≤ 2147483647 }
-    ensures { Judges result (first_of (code_field bytes.now at).tests) (λ code. (code.now ≡ (code_field bytes.now at).value) × (length code.now ≤ MAX_CODE_BYTES)) }
+    ensures { Judges result (first_of (code_field bytes.now at).tests)
+        (λ code. (code.now ≡ (code_field bytes.now at).value) × (length code.now ≤ MAX_CODE_BYTES) × (at + 4 + length code.now ≤ length bytes.now)) }
 {
     let count = u32_field(bytes, at)?;
     if count as usize > MAX_CODE_BYTES {
@@ -93,7 +94,8 @@ fn read_code(bytes: &[u8], at: u32) -> Result<&[u8], FieldFault>
 #[tactic(auto, using(cc_base::proofs::TestLemmas::appended, cc_base::proofs::TestLemmas::carried), unfolding(crate::specs::UnitFields::unit_fields))]
 fn read_first(alloc: Global, bytes: &[u8]) -> Result<UnitFields<'_>, FieldRefusal>
     requires short { length bytes.now ≤ 2147483647 }
-    ensures { JudgesOrNoMemory result (first_of (unit_fields bytes.now).tests) (λ fields. fields_told fields ≡ (unit_fields bytes.now).value) }
+    ensures judged { JudgesOrNoMemory result (first_of (unit_fields bytes.now).tests) (λ fields. fields_told fields ≡ (unit_fields bytes.now).value) }
+    ensures code { IfOk result (IsCodeWithin bytes.now) }
 {
     check_magic(bytes)?;
     let (name, at) = read_name(bytes, 4)?;
@@ -124,6 +126,8 @@ pub fn read_fields(alloc: Global, bytes: &[u8]) -> Result<UnitFields<'_>, FieldR
     requires short { length bytes.now ≤ 2147483647 }
     // They are read where no test of the list fails; a fault is that of the first test that does.
     ensures judged { JudgesOrNoMemory result (first_of (unit_fields bytes.now).tests) (λ fields. fields_told fields ≡ (unit_fields bytes.now).value) }
+    // The code lies in the file, and is not too long.
+    ensures code { IfOk result (IsCodeWithin bytes.now) }
     // What is read is spelled by the bytes.
     ensures spelled { IfOk result (λ fields. (unit : MethodUnit) → HasRead unit (fields_told fields) → (unit_bytes unit ≡ bytes.now) × HasFields unit) }
     // Where the bytes spell a unit, its fields are read, unless memory runs out.

@@ -21,6 +21,8 @@ mod changes;
 #[cfg(test)]
 mod code_rows;
 #[cfg(test)]
+mod contract_rows;
+#[cfg(test)]
 mod demo_assembly;
 #[cfg(test)]
 mod devices;
@@ -66,6 +68,8 @@ mod unit_form_rows;
 mod unit_refusals;
 #[cfg(test)]
 mod unit_reports;
+#[cfg(test)]
+mod unit_rows;
 #[cfg(test)]
 mod verdict_rows;
 #[cfg(test)]

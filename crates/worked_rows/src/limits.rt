@@ -38,13 +38,13 @@ const CODES: [CodeRow; 6] = [
         length: b"\x01\x10\0\0",
         fault: Some(b"unit form at 00001014"),
     },
-    // One more, the last of which is not built; one more, the first of which has no operands.
+    // One more, of which the last is not built; one more, of which the first has no operands.
     CodeRow {
         front: b"",
         nops: 4094,
         tail: b"\x16\x2a\x25",
         length: b"\x01\x10\0\0",
-        fault: Some(b"unit not built at 00001014"),
+        fault: Some(b"unit form at 00001014"),
     },
     CodeRow {
         front: b"\x58",
@@ -72,13 +72,14 @@ const CODES: [CodeRow; 6] = [
 
 /// Numbers of arguments, of locals and of stack slots, and the fault. The code loads a constant and returns it, on
 /// one stack slot.
-const VARIABLES: [(u8, u8, u8, Option<&[u8]>); 10] = [
+const VARIABLES: [(u8, u8, u8, Option<&[u8]>); 11] = [
     (127, 0, 1, None),
     (127, 0, 2, Some(b"unit form at 0000008c")),
     (0, 0, 128, None),
     (0, 0, 129, Some(b"unit form at 0000000d")),
-    // The limit is passed by the stack, and a local is not built; a local alone; both pass the limit.
-    (127, 1, 1, Some(b"unit not built at 0000008b")),
+    // A local, which is not built; the stack passes the limit behind it; locals alone; both pass the limit.
+    (126, 1, 1, Some(b"unit not built at 00000093")),
+    (127, 1, 1, Some(b"unit form at 0000008d")),
     (127, 2, 0, Some(b"unit form at 0000008b")),
     (127, 2, 255, Some(b"unit form at 0000008b")),
     (128, 1, 0, Some(b"unit form at 0000008c")),
@@ -151,15 +152,39 @@ fn variables_have_a_limit(rt: HostRuntime) -> Result<(), Fail> {
     let alloc = rt.alloc();
     for (args, locals, max_stack, fault) in VARIABLES {
         let types = vec![in alloc; 2; usize::from(args)]?;
-        let parts: [&[u8]; 5] = [
+        let local_types = vec![in alloc; 2; usize::from(locals)]?;
+        let parts: [&[u8]; 7] = [
             b"CCU1\x04\0T::f\x02",
             &[args],
             &types,
-            &[locals, max_stack],
+            &[locals],
+            &local_types,
+            &[max_stack],
             b"\0\0\x02\0\0\0\x16\x2a",
         ];
         let unit = joined(alloc, &parts)?;
         assert_unit(&rt, alloc, &unit, &printed_ints(alloc, args)?, fault)?;
     }
     Ok(())
+}
+
+/// Asserts that a unit of so many branches to the next instruction has this fault. Each ends a block, and behind the last
+/// one stands a block more.
+fn assert_branches(rt: &impl Abort, alloc: Global, count: u16, fault: &[u8]) -> Result<(), Fail> {
+    let mut code = Vec::new(alloc);
+    for _branch in 0..count {
+        code.extend_from_slice(b"\x2b\0")?;
+    }
+    code.extend_from_slice(RETURN)?;
+    let length = (2 * u32::from(count) + 2).to_le_bytes();
+    let unit = joined(alloc, &[HEAD, &length, &code])?;
+    assert_unit(rt, alloc, &unit, b"", Some(fault))
+}
+
+#[test]
+fn blocks_have_a_limit(rt: HostRuntime) -> Result<(), Fail> {
+    let alloc = rt.alloc();
+    // 256 blocks, which are not built, and one more.
+    assert_branches(&rt, alloc, 255, b"unit not built at 00000014")?;
+    assert_branches(&rt, alloc, 256, b"unit form at 00000214")
 }

@@ -8,7 +8,7 @@ use std::test::Fail;
 
 /// Files that are refused before their code is read, each with its fault. Behind the first fault nothing stands, or
 /// what is a fault too.
-const FIELDS: [(&[u8], &[u8]); 61] = [
+const FIELDS: [(&[u8], &[u8]); 63] = [
     // The four letters: cut, and each with the next also wrong; the version, and nothing behind.
     (b"", b"unit short at 00000000"),
     (b"XYZ", b"unit short at 00000000"),
@@ -31,12 +31,12 @@ const FIELDS: [(&[u8], &[u8]); 61] = [
     (b"CCU1\x04\0T::\x7f", b"unit form at 00000009"),
     (b"CCU1\x01\0\x80", b"unit form at 00000006"),
     (b"CCU1\x02\0!~", b"unit short at 00000008"),
-    // The result is missing; void, a bool, an array; no type, of which the first number is 5; nothing behind.
+    // The result is missing; void, a bool, arrays, with nothing behind; no type, of which the first number is 5.
     (b"CCU1\x04\0T::f", b"unit short at 0000000a"),
-    (b"CCU1\x04\0T::f\0", b"unit not built at 0000000a"),
-    (b"CCU1\x04\0T::f\x01", b"unit not built at 0000000a"),
-    (b"CCU1\x04\0T::f\x03", b"unit not built at 0000000a"),
-    (b"CCU1\x04\0T::f\x04", b"unit not built at 0000000a"),
+    (b"CCU1\x04\0T::f\0", b"unit short at 0000000b"),
+    (b"CCU1\x04\0T::f\x01", b"unit short at 0000000b"),
+    (b"CCU1\x04\0T::f\x03", b"unit short at 0000000b"),
+    (b"CCU1\x04\0T::f\x04", b"unit short at 0000000b"),
     (b"CCU1\x04\0T::f\x05", b"unit form at 0000000a"),
     (b"CCU1\x04\0T::f\xff", b"unit form at 0000000a"),
     // The number of arguments is missing; 128 of them, and 129, of which none is there.
@@ -46,31 +46,24 @@ const FIELDS: [(&[u8], &[u8]); 61] = [
     (b"CCU1\x04\0T::f\x02\xff", b"unit form at 0000000b"),
     // An argument: void, a bool, arrays, no type, and missing; the second, and both.
     (b"CCU1\x04\0T::f\x02\x01\0", b"unit form at 0000000c"),
-    (b"CCU1\x04\0T::f\x02\x01\x01", b"unit not built at 0000000c"),
-    (b"CCU1\x04\0T::f\x02\x01\x03", b"unit not built at 0000000c"),
-    (b"CCU1\x04\0T::f\x02\x01\x04", b"unit not built at 0000000c"),
+    (b"CCU1\x04\0T::f\x02\x01\x01", b"unit short at 0000000d"),
+    (b"CCU1\x04\0T::f\x02\x01\x03", b"unit short at 0000000d"),
+    (b"CCU1\x04\0T::f\x02\x01\x04", b"unit short at 0000000d"),
     (b"CCU1\x04\0T::f\x02\x01\x05", b"unit form at 0000000c"),
     (b"CCU1\x04\0T::f\x02\x02\x02", b"unit short at 0000000d"),
     (b"CCU1\x04\0T::f\x02\x02\x02\0", b"unit form at 0000000d"),
-    (
-        b"CCU1\x04\0T::f\x02\x02\x01\0",
-        b"unit not built at 0000000c",
-    ),
+    (b"CCU1\x04\0T::f\x02\x02\x01\0", b"unit form at 0000000d"),
     (b"CCU1\x04\0T::f\x02\x02\0\x01", b"unit form at 0000000c"),
-    // The number of locals is missing; 1 and 127 beside one argument, and 128, which passes the limit; 128 and 129
-    // beside none.
+    // The number of locals is missing; 1 and 127 beside one argument, of which none is there, and 128, which passes the
+    // limit; 128 and 129 beside none; a local of void and of no type.
     (b"CCU1\x04\0T::f\x02\x01\x02", b"unit short at 0000000d"),
-    (
-        b"CCU1\x04\0T::f\x02\x01\x02\x01",
-        b"unit not built at 0000000d",
-    ),
-    (
-        b"CCU1\x04\0T::f\x02\x01\x02\x7f",
-        b"unit not built at 0000000d",
-    ),
+    (b"CCU1\x04\0T::f\x02\x01\x02\x01", b"unit short at 0000000e"),
+    (b"CCU1\x04\0T::f\x02\x01\x02\x7f", b"unit short at 0000000e"),
     (b"CCU1\x04\0T::f\x02\x01\x02\x80", b"unit form at 0000000d"),
-    (b"CCU1\x04\0T::f\x02\0\x80", b"unit not built at 0000000c"),
+    (b"CCU1\x04\0T::f\x02\0\x80", b"unit short at 0000000d"),
     (b"CCU1\x04\0T::f\x02\0\x81", b"unit form at 0000000c"),
+    (b"CCU1\x04\0T::f\x02\0\x01\0", b"unit form at 0000000d"),
+    (b"CCU1\x04\0T::f\x02\0\x01\x05", b"unit form at 0000000d"),
     // The size of the stack is missing; 127 slots beside one argument, and 128, with nothing behind; 128 and 129
     // beside none.
     (b"CCU1\x04\0T::f\x02\x01\x02\0", b"unit short at 0000000e"),
@@ -95,11 +88,11 @@ const FIELDS: [(&[u8], &[u8]); 61] = [
     ),
     (
         b"CCU1\x04\0T::f\x02\x01\x02\0\x02\0\x01",
-        b"unit not built at 0000000f",
+        b"unit short at 00000011",
     ),
     (
         b"CCU1\x04\0T::f\x02\x01\x02\0\x02\x01\0",
-        b"unit not built at 0000000f",
+        b"unit short at 00000011",
     ),
     // The code's length is missing and cut; 65,537 bytes, more, and 65,536, of which none is there; code that is cut.
     (
@@ -136,58 +129,79 @@ const FIELDS: [(&[u8], &[u8]); 61] = [
 const HEAD: &[u8] = b"CCU1\x04\0T::f\x02\x01\x02\0\x02\0\0";
 
 /// The code's length and the code behind the head, each with its fault. The code begins at 00000015.
-const CODES: [(&[u8], &[u8]); 46] = [
-    // A rest behind the code, and an instruction that is none in the code.
+const CODES: [(&[u8], &[u8]); 53] = [
+    // A rest behind the code; behind code that is cut; behind an instruction that is none.
     (b"\x02\0\0\0\x02\x2a\0", b"unit form at 00000017"),
-    (b"\x01\0\0\0\x25\0", b"unit form at 00000016"),
-    // dup; calls of other numbers; a second byte behind fe that is not built.
-    (b"\x04\0\0\0\x02\x25\x26\x2a", b"unit not built at 00000016"),
-    (
-        b"\x08\0\0\0\x02\x28\x06\0\0\0\x02\x2a",
-        b"unit not built at 00000016",
-    ),
-    (
-        b"\x06\0\0\0\x28\x04\0\0\0\x2a",
-        b"unit not built at 00000015",
-    ),
-    (
-        b"\x08\0\0\0\x02\x28\x05\0\0\x01\x02\x2a",
-        b"unit not built at 00000016",
-    ),
-    (
-        b"\x05\0\0\0\x02\x02\xfe\x03\x2a",
-        b"unit not built at 00000017",
-    ),
-    // The first of two; one that is cut behind it; one behind the return.
-    (b"\x02\0\0\0\x25\xfe", b"unit not built at 00000015"),
-    (
-        b"\x06\0\0\0\x28\x04\0\0\0\x1f",
-        b"unit not built at 00000015",
-    ),
-    (b"\x03\0\0\0\x02\x2a\x25", b"unit not built at 00000017"),
-    // The code ends inside a comparison, an argument, a constant and a call.
+    (b"\x01\0\0\0\x1f\0", b"unit form at 00000016"),
+    (b"\x01\0\0\0\x01\0", b"unit form at 00000016"),
+    // The code ends inside an instruction; no opcode, before and behind it; a branch that meets no start; a cut behind it.
     (b"\x02\0\0\0\x02\xfe", b"unit form at 00000016"),
     (b"\x02\0\0\0\x02\x0e", b"unit form at 00000016"),
     (b"\x04\0\0\0\x02\xfe\x09\0", b"unit form at 00000016"),
     (b"\x02\0\0\0\x02\x1f", b"unit form at 00000016"),
     (b"\x05\0\0\0\x02\x20\x01\0\0", b"unit form at 00000016"),
     (b"\x05\0\0\0\x02\x28\x05\0\0", b"unit form at 00000016"),
-    // It ends inside an instruction that is not built.
-    (b"\x02\0\0\0\x02\x10", b"unit not built at 00000016"),
-    (b"\x03\0\0\0\x02\x38\0", b"unit not built at 00000016"),
-    (b"\x02\0\0\0\x02\x45", b"unit not built at 00000016"),
-    (b"\x03\0\0\0\x02\x8d\x01", b"unit not built at 00000016"),
-    (b"\x04\0\0\0\x02\xfe\x0b\0", b"unit not built at 00000016"),
-    // Instructions next to built ones.
-    (b"\x03\0\0\0\x02\x06\x2a", b"unit not built at 00000016"),
-    (b"\x03\0\0\0\x02\x14\x2a", b"unit not built at 00000016"),
-    (b"\x04\0\0\0\x02\x02\x59\x2a", b"unit not built at 00000017"),
+    (b"\x03\0\0\0\x02\x38\0", b"unit form at 00000016"),
+    (b"\x04\0\0\0\x02\xfe\x0b\0", b"unit form at 00000016"),
+    (b"\x03\0\0\0\x02\x01\x1f", b"unit form at 00000016"),
+    (b"\x02\0\0\0\x25\xfe", b"unit form at 00000016"),
+    (b"\x04\0\0\0\x02\x2b\x05\x2a", b"unit form at 00000016"),
+    (b"\x05\0\0\0\x02\x2b\x05\x2a\x1f", b"unit form at 00000019"),
+    // A number that names nothing, of a call, of a new array and of a text; the same behind a fault of the clauses; before
+    // code that is cut.
     (
-        b"\x05\0\0\0\x02\x02\xfe\x05\x2a",
+        b"\x08\0\0\0\x02\x28\x05\0\0\x01\x02\x2a",
+        b"unit form at 00000016",
+    ),
+    (
+        b"\x09\0\0\0\x02\x8d\0\0\0\0\x26\x02\x2a",
+        b"unit form at 00000016",
+    ),
+    (
+        b"\x09\0\0\0\x02\x8d\x03\0\0\0\x26\x02\x2a",
+        b"unit form at 00000016",
+    ),
+    (
+        b"\x08\0\0\0\x72\x01\0\0\0\x26\x02\x2a",
+        b"unit form at 00000015",
+    ),
+    (
+        b"\x0c\0\0\0\x28\x01\0\0\0\x28\0\0\0\0\x02\x2a",
+        b"unit form at 0000001a",
+    ),
+    (b"\x06\0\0\0\x28\0\0\0\0\x1f", b"unit form at 0000001a"),
+    // A clause without its condition; a branch of the body into the block; an operand that the block lacks, before what no
+    // clause may have; a result in the body, behind a fault of kinds.
+    (b"\x06\0\0\0\x28\x04\0\0\0\x2a", b"unit form at 00000015"),
+    (
+        b"\x09\0\0\0\x28\x09\0\0\0\x2b\xf9\x02\x2a",
+        b"unit form at 0000001a",
+    ),
+    (
+        b"\x0a\0\0\0\x58\x26\x28\x09\0\0\0\x03\x02\x2a",
+        b"unit form at 00000015",
+    ),
+    (
+        b"\x0d\0\0\0\x28\x09\0\0\0\x58\x28\x0c\0\0\0\x02\x2a",
+        b"unit form at 0000001b",
+    ),
+    // A message is missing; a local that is none; a second value at a return; two faults of kinds.
+    (
+        b"\x08\0\0\0\x02\x28\x06\0\0\0\x02\x2a",
+        b"unit form at 00000016",
+    ),
+    (b"\x03\0\0\0\x02\x06\x2a", b"unit form at 00000016"),
+    (b"\x03\0\0\0\x02\x14\x2a", b"unit form at 00000017"),
+    (b"\x02\0\0\0\x58\x25", b"unit form at 00000015"),
+    // What is not built: behind two operands, behind a return, and with nothing wrong behind it.
+    (b"\x04\0\0\0\x02\x25\x26\x2a", b"unit not built at 00000016"),
+    (
+        b"\x05\0\0\0\x02\x02\xfe\x03\x2a",
         b"unit not built at 00000017",
     ),
+    (b"\x03\0\0\0\x02\x2a\x25", b"unit not built at 00000017"),
+    (b"\x04\0\0\0\x02\x02\x59\x2a", b"unit not built at 00000017"),
     // Each instruction is read before the first is typed, here an add without operands.
-    (b"\x02\0\0\0\x58\x25", b"unit not built at 00000016"),
     (b"\x02\0\0\0\x58\x1f", b"unit form at 00000016"),
     // Of one argument the second, in each spelling, and a far one.
     (b"\x02\0\0\0\x03\x2a", b"unit form at 00000015"),
@@ -222,127 +236,175 @@ const CODES: [(&[u8], &[u8]); 46] = [
     (b"\0\0\0\0", b"unit form at 00000015"),
 ];
 
-/// The instructions that are not built, each in a spelling.
-const NOT_BUILT: [&[u8]; 58] = [
-    // Arguments, locals, null, and what changes the stack alone.
-    b"\x10\0",
-    b"\xfe\x0b\0\0",
-    b"\x06",
-    b"\x09",
-    b"\x11\0",
-    b"\xfe\x0c\0\0",
-    b"\x0a",
-    b"\x0d",
-    b"\x13\0",
-    b"\xfe\x0e\0\0",
-    b"\x14",
-    b"\x25",
-    b"\x26",
+/// Code behind an `ldarg.0` that has kinds, and whose first instruction is not built.
+const NOT_BUILT: [&[u8]; 44] = [
+    // A store, and what changes the stack alone.
+    b"\x10\0\x02\x2a",
+    b"\xfe\x0b\0\0\x02\x2a",
+    b"\x25\x26\x2a",
+    b"\x26\x02\x2a",
     // Branches, of both forms the first and the last, and switches.
-    b"\x2b\0",
-    b"\x2c\0",
-    b"\x2d\0",
-    b"\x2e\0",
-    b"\x37\0",
-    b"\x38\0\0\0\0",
-    b"\x44\0\0\0\0",
-    b"\x45\0\0\0\0",
-    b"\x45\x01\0\0\0\0\0\0\0",
-    // Operators, strings and arrays.
-    b"\x59",
-    b"\x5a",
-    b"\x5b",
-    b"\x5c",
-    b"\x5d",
-    b"\x5e",
-    b"\x5f",
-    b"\x60",
-    b"\x61",
-    b"\x62",
-    b"\x63",
-    b"\x64",
-    b"\x65",
-    b"\x66",
-    b"\x69",
-    b"\x72\0\0\0\0",
-    b"\x8d\x01\0\0\0",
-    b"\x8e",
-    b"\x91",
-    b"\x94",
-    b"\x9c",
-    b"\x9e",
-    b"\xd6",
-    b"\xd8",
-    b"\xda",
-    b"\xfe\x03",
-    b"\xfe\x05",
-    // Opcodes that are none, next to built ones.
-    b"\x01",
-    b"\x0f",
-    b"\x21",
-    b"\x27",
-    b"\x29",
-    b"\x57",
-    b"\xfe\0",
-    b"\xfe\x06",
-    b"\xfe\x08",
+    b"\x2b\0\x2a",
+    b"\x38\0\0\0\0\x2a",
+    b"\x2c\0\x02\x2a",
+    b"\x2d\0\x02\x2a",
+    b"\x39\0\0\0\0\x02\x2a",
+    b"\x45\0\0\0\0\x02\x2a",
+    b"\x45\x01\0\0\0\0\0\0\0\x02\x2a",
+    // Operators of one number; null, texts and arrays.
+    b"\x65\x2a",
+    b"\x66\x2a",
+    b"\x69\x2a",
+    b"\x14\x26\x2a",
+    b"\x72\0\0\0\0\x26\x2a",
+    b"\x8d\x01\0\0\0\x8e\x69\x2a",
+    b"\x8d\x02\0\0\0\x8e\x69\x2a",
+    // Calls: with a message, of Assume, and of Assume with a message.
+    b"\x72\0\0\0\0\x28\x06\0\0\0\x02\x2a",
+    b"\x28\x07\0\0\0\x02\x2a",
+    b"\x72\0\0\0\0\x28\x08\0\0\0\x02\x2a",
+    // Behind a second ldarg.0: operators of two numbers and comparing branches.
+    b"\x59\x2a",
+    b"\x5a\x2a",
+    b"\x5b\x2a",
+    b"\x5c\x2a",
+    b"\x5d\x2a",
+    b"\x5e\x2a",
+    b"\x5f\x2a",
+    b"\x60\x2a",
+    b"\x61\x2a",
+    b"\x62\x2a",
+    b"\x63\x2a",
+    b"\x64\x2a",
+    b"\xd6\x2a",
+    b"\xd8\x2a",
+    b"\xda\x2a",
+    b"\xfe\x03\x2a",
+    b"\xfe\x05\x2a",
+    b"\x2e\0\x02\x2a",
+    b"\x33\0\x02\x2a",
+    b"\x37\0\x02\x2a",
+    b"\x3b\0\0\0\0\x02\x2a",
+    b"\x41\0\0\0\0\x02\x2a",
+    b"\x44\0\0\0\0\x02\x2a",
 ];
 
-/// Built instructions that have operands, and an opcode of two bytes.
-const BUILT: [&[u8]; 6] = [
-    b"\x0e\0",
-    b"\x1f\0",
-    b"\x20\0\0\0\0",
-    b"\x28\x05\0\0\0",
-    b"\xfe\x09\0\0",
-    b"\xfe\x01",
+/// How many of them stand behind one `ldarg.0` alone.
+const OF_ONE: usize = 21;
+
+/// Whole units that are not built for what stands before or behind their code, and units whose callees are out of order;
+/// each with its fault.
+const UNITS: [(&[u8], &[u8]); 14] = [
+    // The result: void, a bool, an array; an argument; a local.
+    (
+        b"CCU1\x01\0f\0\0\0\0\0\0\x01\0\0\0\x2a",
+        b"unit not built at 00000011",
+    ),
+    (
+        b"CCU1\x01\0f\x01\0\0\x01\0\0\x02\0\0\0\x16\x2a",
+        b"unit not built at 00000011",
+    ),
+    (
+        b"CCU1\x01\0f\x03\0\0\x01\0\0\x02\0\0\0\x14\x2a",
+        b"unit not built at 00000011",
+    ),
+    (
+        b"CCU1\x01\0f\x02\x01\x01\0\x01\0\0\x02\0\0\0\x16\x2a",
+        b"unit not built at 00000012",
+    ),
+    (
+        b"CCU1\x01\0f\x02\0\x01\x02\x01\0\0\x02\0\0\0\x16\x2a",
+        b"unit not built at 00000012",
+    ),
+    // A Requires and an Ensures: the start of the body.
+    (
+        b"CCU1\x01\0f\x02\0\0\x01\0\0\x08\0\0\0\x17\x28\x01\0\0\0\x16\x2a",
+        b"unit not built at 00000017",
+    ),
+    (
+        b"CCU1\x01\0f\x02\0\0\x01\0\0\x0c\0\0\0\x28\x0c\0\0\0\x28\x03\0\0\0\x16\x2a",
+        b"unit not built at 0000001b",
+    ),
+    // A callee that is called; one that is not, also where the code has a fault of kinds; where it has one of clauses.
+    (
+        b"CCU1\x01\0f\x02\0\0\x01\x01\0\x01\0m\x02\0\0\x06\0\0\0\x28\x64\0\0\0\x2a",
+        b"unit not built at 00000017",
+    ),
+    (
+        b"CCU1\x01\0f\x02\0\0\x01\x01\0\x01\0m\x02\0\0\x02\0\0\0\x16\x2a",
+        b"unit form at 0000000d",
+    ),
+    (
+        b"CCU1\x01\0f\x02\0\0\x01\x01\0\x01\0m\x02\0\0\x01\0\0\0\x2a",
+        b"unit form at 0000000d",
+    ),
+    (
+        b"CCU1\x01\0f\x02\0\0\x01\x01\0\x01\0m\x02\0\0\x06\0\0\0\x28\x01\0\0\0\x2a",
+        b"unit form at 00000017",
+    ),
+    // Two callees in order, the first called again; in the other order; a call of a third one.
+    (
+        b"CCU1\x01\0f\x02\0\0\x03\x02\0\x01\0m\x02\0\0\x01\0n\x02\0\0\x12\0\0\0\x28\x64\0\0\0\x28\x64\0\0\0\x28\x65\0\0\0\x58\x58\x2a",
+        b"unit not built at 0000001d",
+    ),
+    (
+        b"CCU1\x01\0f\x02\0\0\x03\x02\0\x01\0m\x02\0\0\x01\0n\x02\0\0\x0c\0\0\0\x28\x65\0\0\0\x28\x64\0\0\0\x58\x2a",
+        b"unit form at 0000000d",
+    ),
+    (
+        b"CCU1\x01\0f\x02\0\0\x03\x01\0\x01\0m\x02\0\0\x0c\0\0\0\x28\x64\0\0\0\x28\x65\0\0\0\x58\x2a",
+        b"unit form at 0000001c",
+    ),
 ];
 
-/// Numbers of calls that are not built. Of those below 256 Assert without a message alone is.
-const CALLS: [u8; 14] = [0, 1, 2, 3, 4, 6, 7, 8, 9, 11, 12, 22, 100, 255];
+/// Numbers of calls that name nothing.
+const NO_CALLS: [u8; 9] = [0, 10, 15, 16, 19, 20, 25, 99, 100];
 
-/// Asserts that a unit whose code is an ldarg.0 and these bytes is refused with a fault at them.
-fn assert_code(rt: &impl Abort, alloc: Global, code: &[u8], fault: &[u8]) -> Result<(), Fail> {
-    assert!(rt; code.len() <= 100);
-    let length = (code.len() as u32 + 1).to_le_bytes();
-    let unit = joined(alloc, &[HEAD, &length, b"\x02", code])?;
-    let line = joined(
-        alloc,
-        &[b"cccheck: refused u.bin: ", fault, b" at 00000016\n"],
-    )?;
+/// Asserts that a unit file is refused with a fault.
+fn assert_refused(rt: &impl Abort, alloc: Global, unit: &[u8], fault: &[u8]) -> Result<(), Fail> {
+    let line = joined(alloc, &[b"cccheck: refused u.bin: ", fault, b"\n"])?;
     let want = Answer {
         status: 5,
         out: b"",
         err: &line,
     };
-    let mut devices = Devices::with_file(alloc, "u.bin", &unit)?;
+    let mut devices = Devices::with_file(alloc, "u.bin", unit)?;
     devices.assert_answer(rt, alloc, &["unit", "u.bin"], want)?;
     Ok(())
 }
 
-/// How many bytes the opcode has that stands before others.
-fn opcode_len(code: &[u8]) -> usize {
-    if code.first() == Some(&0xfe) { 2 } else { 1 }
+/// Asserts that a unit with this code behind the head is refused with a fault.
+fn assert_code(
+    rt: &impl Abort,
+    alloc: Global,
+    front: &[u8],
+    code: &[u8],
+    fault: &[u8],
+) -> Result<(), Fail> {
+    assert!(rt; front.len() <= 100 && code.len() <= 100);
+    let length = ((front.len() + code.len()) as u32).to_le_bytes();
+    let unit = joined(alloc, &[HEAD, &length, front, code])?;
+    assert_refused(rt, alloc, &unit, fault)
 }
 
 #[test]
 fn what_is_not_built_is_told(rt: HostRuntime) -> Result<(), Fail> {
     let alloc = rt.alloc();
-    for code in NOT_BUILT {
-        assert_code(&rt, alloc, code, b"unit not built")?;
-        // As much of it as tells the opcode.
-        for length in opcode_len(code)..code.len() {
-            assert_code(&rt, alloc, &code[..length], b"unit not built")?;
-        }
+    for code in &NOT_BUILT[..OF_ONE] {
+        assert_code(&rt, alloc, b"\x02", code, b"unit not built at 00000016")?;
     }
-    for number in CALLS {
-        let call = [0x28, number, 0, 0, 0];
-        assert_code(&rt, alloc, &call, b"unit not built")?;
+    for code in &NOT_BUILT[OF_ONE..] {
+        assert_code(&rt, alloc, b"\x02\x02", code, b"unit not built at 00000017")?;
     }
-    for code in BUILT {
-        for length in 1..code.len() {
-            assert_code(&rt, alloc, &code[..length], b"unit form")?;
-        }
+    Ok(())
+}
+
+#[test]
+fn numbers_of_calls_name_something(rt: HostRuntime) -> Result<(), Fail> {
+    let alloc = rt.alloc();
+    for number in NO_CALLS {
+        let call = [0x28, number, 0, 0, 0, 0x2a];
+        assert_code(&rt, alloc, b"\x02", &call, b"unit form at 00000016")?;
     }
     Ok(())
 }
@@ -353,17 +415,11 @@ fn the_first_fault_of_a_unit_is_told(rt: HostRuntime) -> Result<(), Fail> {
     let tables = [
         (b"".as_slice(), FIELDS.as_slice()),
         (HEAD, CODES.as_slice()),
+        (b"".as_slice(), UNITS.as_slice()),
     ];
     for (front, rows) in tables {
         for (rest, fault) in rows {
-            let line = joined(alloc, &[b"cccheck: refused u.bin: ", fault, b"\n"])?;
-            let want = Answer {
-                status: 5,
-                out: b"",
-                err: &line,
-            };
-            let mut devices = Devices::with_file(alloc, "u.bin", &joined(alloc, &[front, rest])?)?;
-            devices.assert_answer(&rt, alloc, &["unit", "u.bin"], want)?;
+            assert_refused(&rt, alloc, &joined(alloc, &[front, rest])?, fault)?;
         }
     }
     Ok(())

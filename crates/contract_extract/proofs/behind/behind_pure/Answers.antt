@@ -14,5 +14,5 @@ pub returns : goal.returns
 returns c =
     IfOk-weaker c.behind_other.result _ _
     (λ out made. other_read c.args.shape.now c.args.instr.now c.args.stacks.now c.args.index c.as_slice-args.result.now c.arrivals_at-tops.result.now
-    c.as_slice-args.ensures c.arrivals_at-tops.ensures out (sym c.is_comparing.ensures ∙ c.if-is_comparing.false) made)
+    c.as_slice-args.ensures c.arrivals_at-tops.ensures c.home-home.result out c.home-home.ensures (sym c.is_comparing.ensures ∙ c.if-is_comparing.false) made)
     c.behind_other.ensures

@@ -1,5 +1,7 @@
-use Rattle.std.proofs.Common.{sym, ◌∙◌}
+use Rattle.std.proofs.Common.{ℕ, sym, subst, ◌∙◌}
+use Rattle.cil_model.specs.FitKinds.{HasBody}
 use Rattle.contract_extract.proofs.AllNumbers.{all_numbers}
+use Rattle.contract_extract.proofs.BodyRuns.{body_runs}
 use Rattle.contract_extract.proofs.Passed.{contracts_left, fault_left}
 use Rattle.contract_extract.proofs.contracts.extract.Goals as goal
 
@@ -22,3 +24,10 @@ returns-clause-numbers c =
     let read = contracts_left c.args.instrs.now c.args.shape.now c.in_ok-block.block.clauses.items c.in_ok-block.block.old_values c.in_ok-block.block.first c.in_ok-block.block.start c.in_ok-block.ensures in
     rw c.from_vec.ensures
     (all_numbers c.args.instrs.now c.args.shape.now stacks c.requires.lie decoded kinds none c.in_ok-block.block.clauses.items read.told)
+
+pub returns-clause-body : goal.returns-clause-body
+returns-clause-body c =
+    λ stacks decoded kinds.
+    let none = fault_left c.args.instrs.now c.args.shape.now c.in_ok-block.block.clauses.items c.in_ok-block.block.old_values c.in_ok-block.block.first c.in_ok-block.block.start c.in_ok-block.ensures ∙ sym c.in_default.ensures in
+    let read = contracts_left c.args.instrs.now c.args.shape.now c.in_ok-block.block.clauses.items c.in_ok-block.block.old_values c.in_ok-block.block.first c.in_ok-block.block.start c.in_ok-block.ensures in
+    subst (λ (n : ℕ). HasBody c.args.instrs.now stacks n) (sym read.body) (body_runs c.args.instrs.now c.args.shape.now stacks c.requires.lie decoded kinds none)

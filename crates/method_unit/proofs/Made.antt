@@ -1,0 +1,69 @@
+-- The unit that is made of the fields of a file.
+use Rattle.std.proofs.Common.{◌≡◌, ℕ, List, [], ◌∷◌, Option, None, refl, sym, ap, subst, ◌∙◌}
+use Rattle.std.specs.List.{AllByRecursion}
+use Rattle.cc_base.specs.Tests.{first_of}
+use Rattle.cc_base.proofs.TestLemmas.{first_of-none}
+use Rattle.cil_model.specs.Code.{CodeOf}
+use Rattle.cil_model.specs.FitKinds.{AreDecoded, HasBody}
+use Rattle.cil_model.specs.Passes.{KindsOf, Stacks}
+use Rattle.cil_model.specs.TreeKinds.{IsNumberClause}
+use Rattle.cil_model.specs.WellFormed.{ClausesWithinLimits}
+use Rattle.cil_model.specs.declared.instruction.Instr.{Instr}
+use Rattle.cil_model.specs.declared.shape.Shape.{Shape}
+use Rattle.cil_model.specs.declared.unit.Unit.{Unit as MethodUnit}
+use Rattle.contract_extract.specs.Extracting.{AreContracts}
+use Rattle.il_decoder.specs.Decoding.{instructions_of}
+use Rattle.unit_form.specs.UnitFields.{FieldsOfUnit}
+use Rattle.method_unit.specs.UnitFile.{code_tests_of, decoding_test, instr_tests, shape_told}
+use Rattle.method_unit.specs.UnitOf.{HasTold, IsUnitOf}
+use Rattle.method_unit.specs.Units.{HasKinds}
+
+-- What the tests of the instructions tell, where they are those of this shape.
+pub record Tested (base : ℕ) (shape : Shape) (offsets : List ℕ) (is : List Instr) (unit : MethodUnit) : Type 0 where
+  pub passed : first_of (instr_tests base shape offsets is) ≡ None
+  pub contracts : AreContracts is unit.clauses unit.body_start
+  pub kinds : HasKinds shape is
+  pub limits : ClausesWithinLimits unit.clauses
+  pub numbers : (stacks : Stacks) → AreDecoded is → KindsOf shape is stacks → AllByRecursion (IsNumberClause shape.args shape.result) unit.clauses
+  pub body : (stacks : Stacks) → AreDecoded is → KindsOf shape is stacks → HasBody is stacks unit.body_start
+
+-- The parts of the unit are those of the fields.
+pub record HasParts (fields : FieldsOfUnit) (is : List Instr) (unit : MethodUnit) : Type 0 where
+  pub name : unit.name ≡ fields.name
+  pub result : unit.result ≡ fields.result
+  pub args : unit.args ≡ fields.args
+  pub locals : unit.locals ≡ fields.locals
+  pub max_stack : unit.max_stack ≡ fields.max_stack
+  pub callees : unit.callees ≡ fields.callees
+  pub code : unit.code ≡ fields.code
+  pub instrs : unit.instrs ≡ is
+
+pub made : (fields : FieldsOfUnit) (found : List Instr) (shape : Shape) (offsets : List ℕ) (unit : MethodUnit) → shape ≡ shape_told fields → offsets ≡ fields.callee_offsets
+    → decoding_test fields.code_offset fields.code ≡ None → found ≡ instructions_of fields.code → CodeOf found fields.code → Tested fields.code_offset shape offsets found unit
+    → HasParts fields found unit → (first_of (code_tests_of fields) ≡ None) × IsUnitOf fields (instructions_of fields.code) unit
+unfolding code_tests_of
+made fields found shape offsets unit shape_is offsets_are decodes found_is spelled tested parts =
+    let here : Tested fields.code_offset (shape_told fields) fields.callee_offsets found unit =
+    subst (λ s. Tested fields.code_offset s fields.callee_offsets found unit) shape_is (subst (λ o. Tested fields.code_offset shape o found unit) offsets_are tested) in
+    let told = subst (λ is. Tested fields.code_offset (shape_told fields) fields.callee_offsets is unit) found_is here in
+    let instrs : unit.instrs ≡ instructions_of fields.code = parts.instrs ∙ found_is in (
+      first_of-none _ _ decodes ∙ told.passed,
+      record {
+        told = record {
+          name = parts.name;
+          result = parts.result;
+          args = parts.args;
+          locals = parts.locals;
+          max_stack = parts.max_stack;
+          callees = parts.callees;
+          code = parts.code;
+          instrs = instrs;
+          contracts = told.contracts;
+        };
+        spelled = subst (λ is. CodeOf is fields.code) found_is spelled;
+        kinds = told.kinds;
+        limits = told.limits;
+        numbers = told.numbers;
+        body = told.body;
+      },
+    )

@@ -1,0 +1,51 @@
+-- What a fault of the code names stands in the file.
+use Rattle.std.proofs.Common.{◌≡◌, ℕ, suc, zero, ◌+◌, ◌<◌, ◌≤◌, ◌^◌, ◌==◌, Bool, true, false, nat_le, List, [], ◌∷◌, map, filter, Option, Some, length, slice_get, Fits, w32, refl, sym, ap, subst, ◌∙◌, arith}
+use Rattle.std.specs.List.{All, AllByRecursion}
+use Rattle.std.proofs.lemmas.Bool.{cond_both}
+use Rattle.std.proofs.lemmas.Option.{none-some, same_Some}
+use Rattle.cil_model.specs.Code.{CodeOf}
+use Rattle.cil_model.specs.Limits.{MAX_CODE_BYTES}
+use Rattle.cil_model.proofs.ShortCodes.{code_is_short}
+use Rattle.il_decoder.specs.Decoding.{instructions_of}
+use Rattle.il_decoder.proofs.FaultPlaces.{code_instr_places}
+use Rattle.stack_typer.proofs.CodeLies.{code_lies}
+use Rattle.cil_model.specs.declared.instruction.Instr.{Instr}
+use Rattle.flow_graph.specs.BlocksOf.{block_starts}
+use Rattle.method_unit.specs.Units.{AreDecodedOf, AreWithin}
+use Rattle.flow_graph.proofs.Lying.{all_by_index, all_passing}
+
+pub place_fits : (base most at : ℕ) → at ≤ most → base + most < 2 ^ 32 → Fits w32 (base + at)
+place_fits base most at le small = omega (arith, le, small)
+
+offsets_within : (base most : ℕ) (is : List Instr) → base + most < 2 ^ 32 → AllByRecursion (λ i. i.at ≤ most) is → AllByRecursion (λ at. base + at < 2 ^ 32) (map (λ i. i.at) is)
+offsets_within base most [] small all = tt
+offsets_within base most (i ∷ is) small all = (omega (arith, small, all.0), offsets_within base most is small all.1)
+
+-- Blocks start at instructions.
+pub blocks_within : (base : ℕ) (is : List Instr) (start : ℕ) (starts : List ℕ) → base + MAX_CODE_BYTES < 2 ^ 32 → AreWithin is → starts ≡ block_starts is start
+    → All (λ at. base + at < 2 ^ 32) starts
+blocks_within base is start starts small all are =
+    subst (All (λ at. base + at < 2 ^ 32)) (sym are)
+    (all_by_index (λ at. base + at < 2 ^ 32) _ (offsets_within base MAX_CODE_BYTES _ small
+    (all_passing (λ i. i.at ≤ MAX_CODE_BYTES) _ _ (all_passing (λ i. i.at ≤ MAX_CODE_BYTES) (λ i. nat_le start i.at) is all))))
+
+each_below : (least most : ℕ) (is : List Instr) → least ≤ most → AllByRecursion (λ i. i.at ≤ least) is → AllByRecursion (λ i. i.at ≤ most) is
+each_below least most [] le all = tt
+each_below least most (i ∷ is) le all = (omega (arith, le, all.0), each_below least most is le all.1)
+
+each_inside : (base most : ℕ) (is : List Instr) → base + most < 2 ^ 32 → AllByRecursion (λ i. i.at ≤ most) is → AllByRecursion (λ i. base + i.at < 2 ^ 32) is
+each_inside base most [] small all = tt
+each_inside base most (i ∷ is) small all = (omega (arith, small, all.0), each_inside base most is small all.1)
+
+-- Instructions of code lie in it one behind another.
+pub decoded_of : (base : ℕ) (code : List ℕ) (is : List Instr) → length code ≤ 65536 → base + 65536 < 2 ^ 32 → is ≡ instructions_of code → CodeOf is code → AreDecodedOf base code is
+decoded_of base code is short small are of_code =
+    let places = subst (AllByRecursion (λ i. i.at ≤ length code)) (sym are) (code_instr_places code) in
+    let within = each_below (length code) 65536 is short places in
+    record {
+      spelled = of_code;
+      short = code_is_short is code of_code (omega (arith, short));
+      laid = code_lies is code of_code;
+      within = within;
+      inside = all_by_index _ is (each_inside base 65536 is small within);
+    }

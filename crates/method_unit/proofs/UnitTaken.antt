@@ -1,0 +1,156 @@
+-- A file without a fault spells the unit that is read of it.
+use Rattle.std.proofs.Common.{◌≡◌, ℕ, ◌+◌, ◌≤◌, zero, suc, List, [], ◌∷◌, ◌++◌, length, map, filter_map, Option, Some, None, option_map, slice_get, refl, sym, ap, subst, ◌∙◌, arith, inl, inr}
+use Rattle.std.specs.List.{AllByRecursion}
+use Rattle.std.proofs.lemmas.Bool.{cases_lt}
+use Rattle.cc_base.specs.LittleEndian.{IsBytes}
+use Rattle.cc_base.specs.Tests.{first_of}
+use Rattle.cc_base.proofs.TestLemmas.{first_of-one, none_before, none_behind, none_here}
+use Rattle.cil_model.specs.Blocks.{block_count, start_of_body}
+use Rattle.cil_model.specs.ClauseTrees.{clauses_in}
+use Rattle.cil_model.specs.FitKinds.{AreDecoded}
+use Rattle.cil_model.specs.TreeKinds.{IsNumberClause}
+use Rattle.cil_model.specs.WellFormed.{ClausesWithinLimits, IsWellFormed, told_by_code}
+use Rattle.cil_model.specs.declared.clause.Clause.{Clause}
+use Rattle.cil_model.specs.declared.instruction.Instr.{Instr}
+use Rattle.cil_model.specs.declared.shape.Shape.{Shape}
+use Rattle.cil_model.specs.declared.unit.Unit.{Unit as MethodUnit}
+use Rattle.cil_model.proofs.Rows.{code_is_decoded}
+use Rattle.contract_extract.specs.Faults.{first_clause_fault}
+use Rattle.flow_graph.specs.BlocksOf.{block_starts}
+use Rattle.flow_graph.proofs.GraphFacts.{blocks_counted}
+use Rattle.il_decoder.specs.Decoding.{instructions_of}
+use Rattle.unit_form.specs.Spelling.{unit_bytes}
+use Rattle.unit_form.specs.UnitFields.{FieldsOfUnit, unit_fields}
+use Rattle.unit_form.proofs.OffsetsCounted.{offsets_counted}
+use Rattle.unit_form.proofs.UnitTaken.{unit_taken as fields_taken}
+use Rattle.method_unit.specs.UnitFile.{block_test, clause_test, clause_told, code_tests_of, count_test, decoding_test, field_test, first_unit_fault, instr_tests, number_tests, order_tests, shape_told, start_test, typing_test, unit_of, unit_told}
+use Rattle.method_unit.specs.UnitOf.{IsRead, IsUnitIn, IsUnitOf}
+use Rattle.method_unit.specs.Units.{IsUnit}
+use Rattle.method_unit.proofs.OrderOfUse.{numbers_are_named, order_is_use}
+use Rattle.method_unit.proofs.UnitRuns.{unit_can_run}
+
+-- ---- tests that are passed
+
+none_of : {X Y : Type 0} (f : X → Y) (x : Option X) → option_map f x ≡ None → x ≡ None
+none_of f None none = refl
+none_of f (Some x) none = absurd cc
+
+-- Nothing stands at an index, so the list ends before.
+ends_before : {X : Type 0} (xs : List X) (n : ℕ) → slice_get xs n ≡ None → length xs ≤ n
+ends_before [] n none = omega arith
+ends_before (x ∷ xs) zero none = absurd cc
+ends_before (x ∷ xs) (suc n) none = omega (arith, ends_before xs n none)
+
+pub record InstrsPassed (base : ℕ) (shape : Shape) (offsets : List ℕ) (is : List Instr) : Type 0 where
+  pub few : length is ≤ 4096
+  pub numbers : first_of (number_tests base (length shape.callees) is) ≡ None
+  pub clauses : first_clause_fault is shape ≡ None
+  pub blocks : length (block_starts is (start_of_body is)) ≤ 256
+  pub order : first_of (order_tests is offsets) ≡ None
+
+instrs_passed : (base : ℕ) (shape : Shape) (offsets : List ℕ) (is : List Instr) → first_of (instr_tests base shape offsets is) ≡ None → InstrsPassed base shape offsets is
+unfolding instr_tests count_test clause_test start_test
+instrs_passed base shape offsets is none =
+    let numbers = number_tests base (length shape.callees) is in
+    let last = typing_test base is shape ∷ [] in
+    let order = order_tests is offsets in
+    let clauses = clause_test base is shape in
+    let blocks = block_test base is in
+    let behind_count = none_behind (count_test base is ∷ []) (numbers ++ (clauses ∷ blocks ∷ (order ++ last))) none in
+    let behind_numbers = none_behind numbers (clauses ∷ blocks ∷ (order ++ last)) behind_count in
+    let behind_clauses = none_behind (clauses ∷ []) (blocks ∷ (order ++ last)) behind_numbers in
+    let behind_blocks = none_behind (blocks ∷ []) (order ++ last) behind_clauses in
+    record {
+      few = ends_before is 4096 (none_of _ _ (none_here (count_test base is) _ none));
+      numbers = none_before numbers _ behind_count;
+      clauses = none_of _ _ (none_here clauses _ behind_numbers);
+      blocks = ends_before _ 256 (none_of _ _ (none_here blocks _ behind_clauses));
+      order = none_before order _ behind_blocks;
+    }
+
+-- ---- the unit
+
+told_again : (clauses : List Clause) → filter_map clause_told (map told_by_code clauses) ≡ clauses
+told_again [] = refl
+told_again (clause ∷ clauses) = ap (λ others. clause ∷ others) (told_again clauses)
+
+module _ (fields : FieldsOfUnit) (is : List Instr) (unit : MethodUnit) (of : IsUnitOf fields is unit) where
+  clauses_are : filter_map clause_told (clauses_in is) ≡ unit.clauses
+  clauses_are = ap (filter_map clause_told) of.told.contracts.told ∙ told_again unit.clauses
+
+  pub unit_is_told : unit ≡ unit_told fields is
+  unit_is_told =
+      let clauses = sym clauses_are in
+      λ i. record {
+        name = of.told.name i;
+        result = of.told.result i;
+        args = of.told.args i;
+        locals = of.told.locals i;
+        max_stack = of.told.max_stack i;
+        callees = of.told.callees i;
+        code = of.told.code i;
+        clauses = clauses i;
+        body_start = of.told.contracts.body i;
+        instrs = of.told.instrs i;
+      }
+
+module _ (bytes : List ℕ) (unit : MethodUnit) (fits : IsBytes bytes) (none : first_unit_fault bytes ≡ None) (of : IsUnitIn bytes unit) where
+  fields : FieldsOfUnit
+  fields = (unit_fields bytes).value
+
+  is : List Instr
+  is = instructions_of fields.code
+
+  told : MethodUnit
+  told = unit_told fields is
+
+  fields_passed : first_of (unit_fields bytes).tests ≡ None
+  unfolding first_unit_fault field_test
+  fields_passed = none_of _ _ (none_here (field_test bytes) _ none)
+
+  passed : InstrsPassed fields.code_offset (shape_told fields) fields.callee_offsets is
+  unfolding first_unit_fault code_tests_of fields is
+  passed =
+      let rest = instr_tests fields.code_offset (shape_told fields) fields.callee_offsets is in
+      let code = none_behind (field_test bytes ∷ []) (code_tests_of fields) none in
+      instrs_passed fields.code_offset (shape_told fields) fields.callee_offsets is (none_behind (decoding_test fields.code_offset fields.code ∷ []) rest code)
+
+  well_formed : IsWellFormed told
+  unfolding fields is told
+  well_formed =
+      let taken = fields_taken bytes told fits fields_passed (record { name = refl; result = refl; args = refl; locals = refl; max_stack = refl; callees = refl; code = refl }) in
+      let clauses = clauses_are fields is unit of in
+      let decoded = code_is_decoded is fields.code of.spelled in
+      record {
+        name = taken.fields.name;
+        code = of.spelled;
+        body = refl;
+        args = taken.fields.args;
+        locals = taken.fields.locals;
+        named = numbers_are_named fields.code_offset (length fields.callees) is passed.numbers;
+        clauses = of.told.contracts.told ∙ ap (map told_by_code) (sym clauses);
+        order = order_is_use fields.code_offset (length fields.callees) is fields.callee_offsets (offsets_counted bytes) passed.numbers passed.order;
+        callees = taken.fields.callees;
+        numbers = subst (AllByRecursion (IsNumberClause fields.args fields.result)) (sym clauses) (of.numbers of.kinds.0 decoded of.kinds.1);
+        kinds = of.kinds;
+        limits = record {
+          code = taken.fields.code;
+          instructions = passed.few;
+          blocks = omega (arith, blocks_counted told, passed.blocks);
+          variables = taken.fields.variables;
+          clauses = subst ClausesWithinLimits (sym clauses) of.limits;
+        };
+      }
+
+  pub unit_read : IsRead bytes unit
+  unfolding unit_of fields is told
+  unit_read =
+      let same = unit_is_told fields is unit of in
+      let taken = fields_taken bytes told fits fields_passed (record { name = refl; result = refl; args = refl; locals = refl; max_stack = refl; callees = refl; code = refl }) in
+      let is_unit = subst IsUnit (sym same) (record { well_formed = well_formed; clauses = passed.clauses }) in
+      record {
+        same = same;
+        is_unit = is_unit;
+        runs = unit_can_run unit is_unit;
+        spelled = subst (λ (u : MethodUnit). unit_bytes u ≡ bytes) (sym same) taken.spelled;
+      }

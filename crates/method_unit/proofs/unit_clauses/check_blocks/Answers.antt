@@ -1,0 +1,7 @@
+use Rattle.std.proofs.Common.{◌∙◌}
+use Rattle.method_unit.proofs.Places.{blocks_within}
+use Rattle.method_unit.proofs.unit_clauses.check_blocks.Goals as goal
+
+pub check_starts-requires : goal.check_starts-requires
+check_starts-requires c =
+    blocks_within c.args.base c.args.instrs.now c.args.body_start _ c.requires.small c.requires.inside (c.deref.ensures.value ∙ c.in_ok-starts.ensures)

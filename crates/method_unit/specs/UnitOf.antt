@@ -1,0 +1,48 @@
+-- What is read of a unit file without a fault.
+use Rattle.std.specs.Prelude.{◌≡◌, ℕ, List}
+use Rattle.std.specs.List.{AllByRecursion}
+use Rattle.cil_model.specs.Code.{CodeOf}
+use Rattle.cil_model.specs.FitKinds.{AreDecoded, HasBody}
+use Rattle.cil_model.specs.Passes.{KindsOf, Stacks}
+use Rattle.cil_model.specs.TreeKinds.{IsNumberClause}
+use Rattle.cil_model.specs.WellFormed.{ClausesWithinLimits}
+use Rattle.cil_model.specs.declared.instruction.Instr.{Instr}
+use Rattle.cil_model.specs.declared.unit.Unit.{Unit as MethodUnit}
+use Rattle.contract_extract.specs.Extracting.{AreContracts}
+use Rattle.il_decoder.specs.Decoding.{instructions_of}
+use Rattle.unit_form.specs.Spelling.{unit_bytes}
+use Rattle.unit_form.specs.UnitFields.{FieldsOfUnit, unit_fields}
+use Rattle.method_unit.specs.UnitFile.{shape_told, unit_of}
+use Rattle.method_unit.specs.Units.{CanRun, HasKinds, IsUnit}
+
+-- The unit has these fields and these instructions, and the clauses that they tell.
+pub record HasTold (fields : FieldsOfUnit) (is : List Instr) (unit : MethodUnit) : Type 0 where
+  pub name : unit.name ≡ fields.name
+  pub result : unit.result ≡ fields.result
+  pub args : unit.args ≡ fields.args
+  pub locals : unit.locals ≡ fields.locals
+  pub max_stack : unit.max_stack ≡ fields.max_stack
+  pub callees : unit.callees ≡ fields.callees
+  pub code : unit.code ≡ fields.code
+  pub instrs : unit.instrs ≡ is
+  pub contracts : AreContracts is unit.clauses unit.body_start
+
+-- And it has all that their tests tell.
+pub record IsUnitOf (fields : FieldsOfUnit) (is : List Instr) (unit : MethodUnit) : Type 0 where
+  pub told : HasTold fields is unit
+  pub spelled : CodeOf is fields.code
+  pub kinds : HasKinds (shape_told fields) is
+  pub limits : ClausesWithinLimits unit.clauses
+  pub numbers : (stacks : Stacks) → AreDecoded is → KindsOf (shape_told fields) is stacks → AllByRecursion (IsNumberClause fields.args fields.result) unit.clauses
+  pub body : (stacks : Stacks) → AreDecoded is → KindsOf (shape_told fields) is stacks → HasBody is stacks unit.body_start
+
+-- It is the unit of these bytes.
+abbrev pub IsUnitIn : List ℕ → MethodUnit → Type 0
+IsUnitIn bytes unit = IsUnitOf (unit_fields bytes).value (instructions_of (unit_fields bytes).value.code) unit
+
+-- The unit is what the bytes spell.
+pub record IsRead (bytes : List ℕ) (unit : MethodUnit) : Type 0 where
+  pub same : unit ≡ unit_of bytes
+  pub is_unit : IsUnit unit
+  pub spelled : unit_bytes unit ≡ bytes
+  pub runs : CanRun unit

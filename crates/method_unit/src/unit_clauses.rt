@@ -1,0 +1,81 @@
+//! The clauses and the blocks of a unit's code.
+
+ghost use Rattle.std.specs.Prelude.{◌≡◌, ◌+◌, ◌<◌, ◌≤◌, ◌^◌, ⊤, length, All, IfOk};
+ghost use Rattle.std.specs.List.{AllByRecursion};
+ghost use Rattle.cc_base.specs.Tests.{Judges, JudgesOrNoMemory};
+ghost use Rattle.cil_model.specs.Blocks.{start_of_body};
+ghost use Rattle.cil_model.specs.Code.{MeetsStarts};
+ghost use Rattle.cil_model.specs.FitKinds.{AreDecoded, HasBody};
+ghost use Rattle.cil_model.specs.Passes.{KindsOf, Stacks};
+ghost use Rattle.cil_model.specs.ShortCode.{AreOfShortCode};
+ghost use Rattle.cil_model.specs.TreeKinds.{IsNumberClause};
+ghost use Rattle.cil_model.specs.WellFormed.{ClausesWithinLimits};
+ghost use Rattle.contract_extract.specs.Extracting.{AreContracts};
+ghost use Rattle.cil_model.specs.Limits.{MAX_CODE_BYTES};
+ghost use Rattle.method_unit.specs.Units.{AreWithin};
+ghost use Rattle.method_unit.specs.UnitFile.{block_test, clause_test, start_test};
+
+use crate::unit_fault::{UnitFault, UnitRefusal};
+use cc_base::Refusal;
+use cil_model::{Instr, MAX_BLOCKS, Shape};
+use contract_extract::{Contracts, extract};
+use flow_graph::block_starts;
+use std::alloc::Global;
+
+/// The clauses of the code, which begins at the offset `base` of the file, and the start of its body.
+#[tactic(auto, using(contract_extract::proofs::FaultPlaces::clause_fault_place), unfolding(crate::specs::UnitFile::clause_test))]
+pub fn read_contracts(
+    alloc: Global,
+    instrs: &[Instr],
+    shape: &Shape,
+    base: u32,
+) -> Result<Contracts, UnitRefusal>
+    requires lie { AreOfShortCode instrs.now }
+    requires targets { AllByRecursion (MeetsStarts instrs.now) instrs.now }
+    requires inside { AreWithin instrs.now }
+    requires small { base + MAX_CODE_BYTES < 2 ^ 32 }
+    ensures judged { JudgesOrNoMemory result (clause_test base instrs.now shape.now)
+        (λ contracts. AreContracts instrs.now contracts.clauses contracts.body_start) }
+    ensures limits { IfOk result (λ contracts. ClausesWithinLimits contracts.clauses) }
+    ensures numbers { (stacks : Stacks) → AreDecoded instrs.now → KindsOf shape.now instrs.now stacks
+        → IfOk result (λ contracts. AllByRecursion (IsNumberClause shape.now.args shape.now.result) contracts.clauses) }
+    ensures body { (stacks : Stacks) → AreDecoded instrs.now → KindsOf shape.now instrs.now stacks
+        → IfOk result (λ contracts. HasBody instrs.now stacks contracts.body_start) }
+{
+    match extract(alloc, instrs, shape) {
+        Ok(contracts) => Ok(contracts),
+        Err(Refusal::Bad(fault)) => Err(Refusal::Bad(UnitFault::Form(base + fault.at()))),
+        Err(Refusal::NoMemory) => Err(Refusal::NoMemory),
+    }
+}
+
+/// Tests that no block starts past the limit, where blocks start at these IL offsets.
+#[tactic(auto, unfolding(crate::specs::UnitFile::start_test))]
+fn check_starts(starts: &[u32], base: u32) -> Result<(), UnitFault>
+    requires { All (λ at. base + at < 2 ^ 32) starts.now }
+    ensures { Judges result (start_test base starts.now) (λ _. ⊤) }
+{
+    match starts.get(MAX_BLOCKS) {
+        Some(at) => Err(UnitFault::Form(base + at)),
+        None => Ok(()),
+    }
+}
+
+/// Tests that there are not too many blocks in the body that starts here.
+#[tactic(auto, using(crate::proofs::Places::blocks_within))]
+pub fn check_blocks(
+    alloc: Global,
+    instrs: &[Instr],
+    body_start: u32,
+    base: u32,
+) -> Result<(), UnitRefusal>
+    requires lie { AreOfShortCode instrs.now }
+    requires start { body_start ≡ start_of_body instrs.now }
+    requires inside { AreWithin instrs.now }
+    requires small { base + MAX_CODE_BYTES < 2 ^ 32 }
+    ensures { JudgesOrNoMemory result (block_test base instrs.now) (λ _. ⊤) }
+{
+    let starts = block_starts(alloc, instrs, body_start)?;
+    check_starts(&starts, base)?;
+    Ok(())
+}

@@ -1,0 +1,49 @@
+//! The kinds of a unit's code.
+
+ghost use Rattle.std.specs.Prelude.{◌≡◌, ◌+◌, ◌<◌, ◌^◌};
+ghost use Rattle.cc_base.specs.Tests.{JudgesOrNoMemory};
+ghost use Rattle.cil_model.specs.Passes.{KindsOf, Stacks};
+ghost use Rattle.stack_typer.specs.FaultPlaces.{type_fault_at};
+ghost use Rattle.stack_typer.specs.LaidOut.{AreLaidOut};
+ghost use Rattle.cil_model.specs.Limits.{MAX_CODE_BYTES};
+ghost use Rattle.method_unit.specs.UnitFile.{typing_test};
+ghost use Rattle.method_unit.specs.Units.{AreWithin, HasKinds};
+
+use crate::unit_fault::{UnitFault, UnitRefusal};
+use cc_base::Refusal;
+use cil_model::{Instr, Shape, TypeFault};
+use stack_typer::type_code;
+use std::alloc::Global;
+
+/// The IL offset that a fault of kinds names.
+fn type_fault_at(fault: TypeFault) -> u32
+    ensures { result ≡ type_fault_at fault }
+{
+    match fault {
+        TypeFault::Underflow(at)
+        | TypeFault::Conflict(at)
+        | TypeFault::WrongKind(at)
+        | TypeFault::FallsOff(at)
+        | TypeFault::Deep(at) => at,
+    }
+}
+
+/// Tests that the code, which begins at the offset `base` of the file, has kinds.
+#[tactic(auto, using(stack_typer::proofs::FaultPlaces::type_fault_place), unfolding(crate::specs::UnitFile::typing_test))]
+pub fn check_kinds(
+    alloc: Global,
+    instrs: &[Instr],
+    shape: &Shape,
+    base: u32,
+) -> Result<(), UnitRefusal>
+    requires lie { AreLaidOut instrs.now }
+    requires inside { AreWithin instrs.now }
+    requires small { base + MAX_CODE_BYTES < 2 ^ 32 }
+    ensures { JudgesOrNoMemory result (typing_test base instrs.now shape.now) (λ _. HasKinds shape.now instrs.now) }
+{
+    match type_code(alloc, instrs, shape) {
+        Ok(_kinds) => Ok(()),
+        Err(Refusal::Bad(fault)) => Err(Refusal::Bad(UnitFault::Form(base + type_fault_at(fault)))),
+        Err(Refusal::NoMemory) => Err(Refusal::NoMemory),
+    }
+}

@@ -1,0 +1,129 @@
+-- The spelling of a unit is a list of bytes.
+use Rattle.std.proofs.Common.{ℕ, ◌<◌, ◌≤◌, List, [], ◌∷◌, ◌++◌, length, map, codes, sym, subst, arith}
+use Rattle.std.specs.List.{AllByRecursion, flat_map}
+use Rattle.std.proofs.lemmas.List.Concat.{flat_map-cons}
+use Rattle.byteorder.specs.Endian.{little_bytes}
+use Rattle.cc_base.proofs.ByteLemmas.{IsBytes-append, IsBytes-cons, IsBytes-little_bytes, IsBytes-nil}
+use Rattle.cc_base.specs.LittleEndian.{IsBytes}
+use Rattle.cil_model.specs.Arithmetic.{unsigned}
+use Rattle.cil_model.specs.Limits.{MAX_CLAUSES}
+use Rattle.cil_model.specs.Places.{place_number}
+use Rattle.cil_model.specs.TermCodes.{Root, ConstRoot, ArgRoot, NullRoot, ResultRoot, LenRoot, ElemRoot, BinRoot, UnRoot, OldRoot, CondRoot, preorder}
+use Rattle.cil_model.specs.WellFormed.{IsCallee, IsUnitName}
+use Rattle.cil_model.specs.declared.clause.Clause.{Clause}
+use Rattle.cil_model.specs.declared.clause.ClauseKind.{ClauseKind}
+use Rattle.cil_model.specs.declared.clause.ClauseKind.TheVariants as kinds
+use Rattle.cil_model.specs.declared.instruction.BinOp.{BinOp}
+use Rattle.cil_model.specs.declared.instruction.BinOp.TheVariants as operators
+use Rattle.cil_model.specs.declared.instruction.UnOp.{UnOp}
+use Rattle.cil_model.specs.declared.instruction.UnOp.TheVariants as unary
+use Rattle.cil_model.specs.declared.place.Place.{Place}
+use Rattle.cil_model.specs.declared.place.Place.TheVariants as places
+use Rattle.cil_model.specs.declared.unit.CalleeInfo.{CalleeInfo}
+use Rattle.cil_model.specs.declared.unit.Unit.{Unit as MethodUnit}
+use Rattle.unit_form.proofs.UnitWritten.{callee_args}
+use Rattle.unit_form.specs.Callees.{kind_number}
+use Rattle.unit_form.specs.Spelling.{HasByteArgs, HasFields, callee_bytes, clause_bytes, clauses_bytes, name_bytes, places_bytes, unit_bytes}
+use Rattle.unit_form.specs.TreeSpelling.{IsByteArg, operator_byte, root_bytes, unary_byte}
+
+-- ---- lists of parts
+
+each_fits : {X : Type 0} (spell : X → List ℕ) (P : X → Type 0) → ((x : X) → P x → IsBytes (spell x)) → (xs : List X) → AllByRecursion P xs → IsBytes (flat_map spell xs)
+each_fits spell P fits [] all = IsBytes-nil
+each_fits spell P fits (x ∷ xs) all = subst IsBytes (sym (flat_map-cons spell x xs)) (IsBytes-append (spell x) (flat_map spell xs) (fits x all.0) (each_fits spell P fits xs all.1))
+
+number_fits : (width n : ℕ) (rest : List ℕ) → IsBytes rest → IsBytes (little_bytes width n ++ rest)
+number_fits width n rest fits = IsBytes-append (little_bytes width n) rest (IsBytes-little_bytes width n) fits
+
+-- ---- names and places
+
+graphic_fits : (name : List ℕ) → AllByRecursion (λ b. (0x21 ≤ b) × (b ≤ 0x7e)) name → IsBytes name
+graphic_fits [] all = IsBytes-nil
+graphic_fits (b ∷ name) all = IsBytes-cons b name (omega (arith, all.0.1)) (graphic_fits name all.1)
+
+name_fits : (name : List ℕ) → IsUnitName name → IsBytes (name_bytes name)
+name_fits name is = number_fits 2 (length name) name (graphic_fits name is.graphic)
+
+place_fits : (place : Place) → place_number place < 256
+place_fits places.Void = omega arith
+place_fits places.Bool = omega arith
+place_fits places.Int = omega arith
+place_fits places.Bools = omega arith
+place_fits places.Ints = omega arith
+
+types_fit : (types : List Place) → IsBytes (map place_number types)
+types_fit [] = IsBytes-nil
+types_fit (place ∷ types) = IsBytes-cons (place_number place) (map place_number types) (place_fits place) (types_fit types)
+
+places_fit : (types : List Place) → length types ≤ 128 → IsBytes (places_bytes types)
+places_fit types few = IsBytes-cons (length types) (map place_number types) (omega (arith, few)) (types_fit types)
+
+-- ---- clauses
+
+operator_fits : (operator : BinOp) → operator_byte operator < 256
+operator_fits operators.Add = omega arith
+operator_fits _ = omega arith
+
+unary_fits : (operator : UnOp) → unary_byte operator < 256
+unary_fits unary.Neg = omega arith
+unary_fits unary.Not = omega arith
+
+one_fits : (a : ℕ) → a < 256 → IsBytes (a ∷ [])
+one_fits a less = IsBytes-cons a [] less IsBytes-nil
+
+two_fit : (a b : ℕ) → a < 256 → b < 256 → IsBytes (a ∷ b ∷ [])
+two_fit a b less small = IsBytes-cons a (b ∷ []) less (one_fits b small)
+
+root_fits : (root : Root) → IsByteArg root → IsBytes (root_bytes root)
+root_fits (ConstRoot n) small = IsBytes-cons 1 (little_bytes 4 (unsigned n)) (omega arith) (IsBytes-little_bytes 4 (unsigned n))
+root_fits (ArgRoot n) small = two_fit 2 n (omega arith) small
+root_fits NullRoot small = one_fits 3 (omega arith)
+root_fits ResultRoot small = one_fits 4 (omega arith)
+root_fits LenRoot small = one_fits 5 (omega arith)
+root_fits (ElemRoot place) small = two_fit 6 (place_number place) (omega arith) (place_fits place)
+root_fits (BinRoot operator) small = two_fit 7 (operator_byte operator) (omega arith) (operator_fits operator)
+root_fits (UnRoot operator) small = two_fit 8 (unary_byte operator) (omega arith) (unary_fits operator)
+root_fits OldRoot small = one_fits 9 (omega arith)
+root_fits CondRoot small = one_fits 10 (omega arith)
+
+kind_fits : (kind : ClauseKind) → kind_number kind < 256
+kind_fits kinds.Requires = omega arith
+kind_fits kinds.Ensures = omega arith
+
+clause_fits : (clause : Clause) → HasByteArgs clause → IsBytes (clause_bytes clause)
+clause_fits clause small =
+    IsBytes-cons (kind_number clause.kind) (flat_map root_bytes (preorder clause.tree)) (kind_fits clause.kind) (each_fits root_bytes IsByteArg root_fits (preorder clause.tree) small)
+
+clauses_fit : (clauses : List Clause) → length clauses ≤ MAX_CLAUSES → AllByRecursion HasByteArgs clauses → IsBytes (clauses_bytes clauses)
+clauses_fit clauses few small = IsBytes-cons (length clauses) (flat_map clause_bytes clauses) (omega (arith, few)) (each_fits clause_bytes HasByteArgs clause_fits clauses small)
+
+-- ---- callees and units
+
+callee_fits : (callee : CalleeInfo) → IsCallee callee → IsBytes (callee_bytes callee)
+callee_fits callee is =
+    let part2 = places_bytes callee.args ++ clauses_bytes callee.clauses in
+    let fits2 = IsBytes-append (places_bytes callee.args) (clauses_bytes callee.clauses) (places_fit callee.args is.few_args) (clauses_fit callee.clauses is.clauses.count (callee_args callee is)) in
+    IsBytes-append (name_bytes callee.name) (place_number callee.result ∷ part2) (name_fits callee.name is.name) (IsBytes-cons (place_number callee.result) part2 (place_fits callee.result) fits2)
+
+letters_fit : IsBytes (codes "CCU1")
+letters_fit = search (arith, IsBytes-cons, IsBytes-nil)
+
+-- A unit whose code is a list of bytes is spelled in bytes.
+pub unit_fits : (unit : MethodUnit) → HasFields unit → IsBytes unit.code → IsBytes (unit_bytes unit)
+unfolding unit_bytes
+unit_fits unit has code =
+    let variables = has.variables in
+    let part8 = little_bytes 4 (length unit.code) ++ unit.code in
+    let part7 = flat_map callee_bytes unit.callees ++ part8 in
+    let part6 = little_bytes 2 (length unit.callees) ++ part7 in
+    let part5 = unit.max_stack ∷ part6 in
+    let part4 = places_bytes unit.locals ++ part5 in
+    let part3 = places_bytes unit.args ++ part4 in
+    let part2 = place_number unit.result ∷ part3 in
+    let part1 = name_bytes unit.name ++ part2 in
+    let fits7 = IsBytes-append (flat_map callee_bytes unit.callees) part8 (each_fits callee_bytes IsCallee callee_fits unit.callees has.callees) (number_fits 4 (length unit.code) unit.code code) in
+    let fits5 = IsBytes-cons unit.max_stack part6 (omega (arith, variables)) (number_fits 2 (length unit.callees) part7 fits7) in
+    let fits4 = IsBytes-append (places_bytes unit.locals) part5 (places_fit unit.locals (omega (arith, variables))) fits5 in
+    let fits3 = IsBytes-append (places_bytes unit.args) part4 (places_fit unit.args (omega (arith, variables))) fits4 in
+    let fits2 = IsBytes-cons (place_number unit.result) part3 (place_fits unit.result) fits3 in
+    IsBytes-append (codes "CCU1") part1 letters_fit (IsBytes-append (name_bytes unit.name) part2 (name_fits unit.name has.name) fits2)
