@@ -1,5 +1,5 @@
 -- An action of the frames that hold a state is that of the state.
-use Rattle.std.proofs.Common.{◌≡◌, ℕ, ◌+◌, List, ◌∷◌, drop, Option, ◌<◌, refl, sym, ap, subst, ◌∙◌, arith}
+use Rattle.std.proofs.Common.{◌≡◌, ◌≢◌, false, None, ℕ, ◌+◌, List, ◌∷◌, drop, Option, ◌<◌, refl, sym, ap, subst, ◌∙◌, arith}
 use Rattle.std.specs.List.{AllByRecursion}
 use Rattle.cil_model.specs.Effects.{effects_of}
 use Rattle.cil_model.specs.Values.{Heap}
@@ -7,9 +7,9 @@ use Rattle.cil_model.specs.declared.instruction.Instr.{Instr}
 use Rattle.cil_model.specs.declared.machine.Value.{Value}
 use Rattle.cil_model.specs.declared.machine.World.{World}
 use Rattle.cil_model.specs.declared.unit.Unit.{Unit as MethodUnit}
-use Rattle.cil_eval.specs.Actions.{acted, with_parts, with_variables}
+use Rattle.cil_eval.specs.Actions.{acted, goes_on, with_parts, with_variables}
 use Rattle.cil_eval.specs.Effect.{Effects}
-use Rattle.cil_eval.specs.Piles.{length_of_all, size_of}
+use Rattle.clause_eval.specs.Piles.{length_of_all, size_of}
 use Rattle.cil_eval.specs.StackRows.{IsLength}
 use Rattle.cil_eval.specs.declared.stop.Stop.{Stop}
 use Rattle.cil_eval.specs.Held.{Holds, Turned, acted_frames, stop_of}
@@ -67,6 +67,13 @@ pub performed_effects : (cells : ℕ) (unit : MethodUnit) (index : ℕ) (i : Ins
 performed_effects cells unit index i old new mid heap after stop action performs stays frames stops w s h same lengths =
     rw (frames, stops, ← same)
     (performed_holds w cells unit action old mid heap after s i h (performs (rw h.stack.top lengths)) stays)
+
+-- An action that stops the run ends it.
+pub stops_end : (action : Action) (index : ℕ) (i : Instr) (stop : Option Stop) → stop ≡ stop_of action index i → stop ≢ None → goes_on action ≡ false
+stops_end (actions.Push value) index i stop e some = absurd (some e)
+stops_end actions.Next index i stop e some = absurd (some e)
+stops_end (actions.Jump at) index i stop e some = absurd (some e)
+stops_end _ index i stop e some = refl
 
 pub no_larger : (old mid : Frames) → Stays old mid → size_of old.stack < old.stack.room → size_of mid.stack < mid.stack.room
 no_larger old mid stays few =

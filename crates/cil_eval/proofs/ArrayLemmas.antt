@@ -7,10 +7,10 @@ use Rattle.cil_model.specs.declared.machine.ArrayCell.{ArrayCell}
 use Rattle.cil_model.specs.declared.machine.Value.{Value}
 use Rattle.cil_model.specs.declared.machine.Value.TheVariants as values
 use Rattle.cil_model.specs.declared.place.Place.{Place}
-use Rattle.cil_eval.specs.Actions.{DoesOver, acted}
+use Rattle.cil_eval.specs.Actions.{DoesOver, acted, goes_on as run_goes_on}
 use Rattle.cil_eval.specs.ArrayRows.{bounded, loaded, loads_there, stored_heap, stores_value}
 use Rattle.cil_eval.specs.Outcome.{State, after_effects}
-use Rattle.cil_eval.specs.Stores.{replaced_in}
+use Rattle.clause_eval.specs.Stores.{replaced_in}
 use Rattle.cil_eval.specs.declared.action.Action.{Action}
 use Rattle.cil_eval.specs.declared.action.Action.TheVariants as actions
 
@@ -78,6 +78,11 @@ same_after (actions.Fault kind) place heap a n v s i rest cells = refl
 same_after actions.Assumed place heap a n v s i rest cells = refl
 same_after actions.Cells place heap a n v s i rest cells = refl
 same_after actions.Stuck place heap a n v s i rest cells = refl
+
+-- A store that ends the run leaves the heap.
+pub stored_at_end : (action : Action) (place : Place) (heap : Heap) (a : ℕ) (n v : ℤ) → run_goes_on action ≡ false → stored_heap action place heap a n v ≡ heap
+stored_at_end actions.Next place heap a n v e = absurd cc
+stored_at_end _ place heap a n v e = refl
 
 pub stores_by : (cells : ℕ) (place : Place) (n v : ℤ) (a : ℕ) (action : Action) (value : Value) (old rest : List Value) (heap new : Heap)
     → value ≡ values.Int v → old ≡ values.Int n ∷ values.Array a ∷ rest → action ≡ bounded place n (slice_get heap a)

@@ -17,9 +17,9 @@ use Rattle.cil_eval.specs.Called.{HasRoomToCall}
 use Rattle.cil_eval.specs.Entered.{HasRoomToEnter, entered}
 use Rattle.cil_eval.specs.Held.{Holds, Turned, olds_of, olds_of_unit, position_of}
 use Rattle.cil_eval.specs.Outcome.{State, To, Ends, after_args, after_requires}
-use Rattle.cil_eval.specs.Piles.{Piled}
+use Rattle.clause_eval.specs.Piles.{Piled}
 use Rattle.cil_eval.specs.Taken.{Taken, taken, taken_with}
-use Rattle.cil_eval.specs.Told.{olds_of_clauses}
+use Rattle.clause_eval.specs.Told.{olds_of_clauses}
 use Rattle.cil_eval.specs.declared.frames.Frames.{Frames}
 use Rattle.cil_eval.specs.declared.frames.Position.{Position}
 use Rattle.cil_eval.specs.declared.limits.Limits.{Limits}

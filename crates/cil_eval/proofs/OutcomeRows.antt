@@ -14,7 +14,7 @@ use Rattle.cil_model.specs.declared.place.Place.TheVariants as places
 use Rattle.cil_model.specs.declared.unit.Unit.{Unit as MethodUnit}
 use Rattle.cil_model.proofs.Laid.{method, alone}
 use Rattle.cil_model.proofs.SumUnit.{sum, calls, world}
-use Rattle.cil_eval.specs.Outcome.{outcome, entry_state}
+use Rattle.cil_eval.specs.Outcome.{last_state, outcome, entry_state}
 use Rattle.cil_eval.specs.declared.limits.Limits.{Limits}
 use Rattle.cil_eval.specs.declared.stop.Stop.{Stop}
 use Rattle.cil_eval.specs.declared.stop.Stop.TheVariants as stops
@@ -56,6 +56,19 @@ alias_returns_9 : ends (alone alias) wide alias (values.Array 0 ∷ values.Array
     ≡ Some (stops.Returned (Some (values.Int (pos 9))))
 unfolding outcome int_wrap
 alias_returns_9 = refl
+
+-- At the end the heap has what was stored, and before the store what was given.
+abbrev heap_of_alias : ℕ → Heap
+heap_of_alias n =
+    (last_state (alone alias) wide n (entry_state alias 0 (values.Array 0 ∷ values.Array 0 ∷ []) (record { place = places.Ints; items = pos 1 ∷ pos 2 ∷ [] } ∷ []))).heap
+
+stored_then : heap_of_alias 1000 ≡ record { place = places.Ints; items = pos 9 ∷ pos 2 ∷ [] } ∷ []
+unfolding last_state int_wrap
+stored_then = refl
+
+given_before : heap_of_alias 3 ≡ record { place = places.Ints; items = pos 1 ∷ pos 2 ∷ [] } ∷ []
+unfolding last_state int_wrap
+given_before = refl
 
 sum_of_5 : ends world wide sum (values.Int (pos 5) ∷ []) [] ≡ Some (stops.Returned (Some (values.Int (pos 15))))
 unfolding outcome unit_call value_of int_wrap

@@ -16,8 +16,8 @@ use Rattle.cil_eval.specs.Called.{with_result}
 use Rattle.cil_eval.specs.Entered.{left}
 use Rattle.cil_eval.specs.Held.{HasPart, Holds, Turned, olds_of, olds_of_unit, position_of}
 use Rattle.cil_eval.specs.Outcome.{State, after_ensures, after_result, resumed}
-use Rattle.cil_eval.specs.Piles.{Piled, closed, length_of_all, size_of}
-use Rattle.cil_eval.specs.Told.{OldsLackResult, TellsEnsures, olds_of_clauses}
+use Rattle.clause_eval.specs.Piles.{Piled, closed, length_of_all, size_of}
+use Rattle.clause_eval.specs.Told.{OldsLackResult, TellsEnsures, olds_of_clauses}
 use Rattle.cil_eval.specs.declared.frames.Frames.{Frames}
 use Rattle.cil_eval.specs.declared.stop.Stop.{Stop}
 use Rattle.cil_eval.specs.declared.stop.Stop.TheVariants as stops

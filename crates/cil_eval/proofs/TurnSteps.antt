@@ -19,7 +19,7 @@ use Rattle.cil_model.specs.declared.machine.World.{World}
 use Rattle.cil_model.specs.declared.unit.Unit.{Unit as MethodUnit}
 use Rattle.cil_model.specs.declared.unit_numbers.UnitCall.{UnitCall}
 use Rattle.cil_model.specs.declared.unit_numbers.UnitCall.TheVariants as calls
-use Rattle.cil_eval.specs.Stores.{cells_of}
+use Rattle.clause_eval.specs.Stores.{cells_of}
 use Rattle.cil_eval.specs.Outcome.{State, Turn, To, Ends, Stuck, after_args, after_array, after_call, after_callee, after_effect, after_effects, after_ensures, after_index, after_instr, after_op, after_requires, after_result, after_unit, config_of, resumed, turn}
 use Rattle.cil_eval.specs.declared.limits.Limits.{Limits}
 use Rattle.cil_eval.specs.declared.stop.Stop.TheVariants as stops

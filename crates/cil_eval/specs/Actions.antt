@@ -7,7 +7,7 @@ use Rattle.cil_model.specs.declared.machine.Frame.{Frame}
 use Rattle.cil_model.specs.declared.machine.Value.{Value}
 use Rattle.cil_model.specs.declared.place.Place.{Place}
 use Rattle.cil_eval.specs.Outcome.{State, Turn, To, Ends, Stuck as StuckTurn, after_effects}
-use Rattle.cil_eval.specs.Piles.{Piled}
+use Rattle.clause_eval.specs.Piles.{Piled}
 use Rattle.cil_eval.specs.declared.action.Action.{Action}
 use Rattle.cil_eval.specs.declared.action.Action.TheVariants.{Push, Next, Jump, Fault, Assumed, Cells, Stuck}
 use Rattle.cil_eval.specs.declared.stop.Stop.TheVariants as stops
@@ -25,6 +25,13 @@ acted (Fault kind) rest heap s i = Ends (stops.Fault kind s.running.unit i.at)
 acted Assumed rest heap s i = Ends (stops.Assumed s.running.unit i.at)
 acted Cells rest heap s i = Ends stops.Cells
 acted Stuck rest heap s i = StuckTurn
+
+-- The run goes on behind an action.
+abbrev pub goes_on : Action → Bool
+goes_on (Push value) = true
+goes_on Next = true
+goes_on (Jump at) = true
+goes_on _ = false
 
 -- What an instruction may do to a frame with this stack.
 abbrev pub StackRow : Type 0

@@ -9,7 +9,7 @@ use Rattle.cil_model.specs.declared.machine.Value.{Value}
 use Rattle.cil_model.specs.declared.machine.Value.TheVariants as values
 use Rattle.cil_model.specs.declared.place.Place.{Place}
 use Rattle.cil_eval.specs.Actions.{StackRow}
-use Rattle.cil_eval.specs.Stores.{replaced}
+use Rattle.clause_eval.specs.Stores.{replaced}
 use Rattle.cil_eval.specs.declared.action.Action.{Action}
 use Rattle.cil_eval.specs.declared.action.Action.TheVariants as actions
 

@@ -8,11 +8,11 @@ use Rattle.cil_model.specs.declared.instruction.Instr.{Instr}
 use Rattle.cil_model.specs.declared.machine.Value.{Value}
 use Rattle.cil_model.specs.declared.machine.World.{World}
 use Rattle.cil_model.specs.declared.unit.Unit.{Unit as MethodUnit}
-use Rattle.cil_eval.specs.Entered.{HasRoomFor}
+use Rattle.clause_eval.specs.Piles.{HasRoomFor}
 use Rattle.cil_eval.specs.Held.{Holds, Turned, with_value}
 use Rattle.cil_eval.specs.Outcome.{State, after_callee, after_result}
-use Rattle.cil_eval.specs.Piles.{size_of}
-use Rattle.cil_eval.specs.Told.{OldsLackResult, olds_in_clauses}
+use Rattle.clause_eval.specs.Piles.{size_of}
+use Rattle.clause_eval.specs.Told.{OldsLackResult, olds_in_clauses}
 use Rattle.cil_eval.specs.declared.frames.Frames.{Frames}
 use Rattle.cil_eval.specs.declared.limits.Limits.{Limits}
 use Rattle.cil_eval.specs.declared.stop.Stop.{Stop}

@@ -1,9 +1,10 @@
 -- The frames at the start of a method.
-use Rattle.std.specs.Prelude.{ℕ, ◌+◌, ◌<◌, ◌≤◌, List, [], ◌∷◌, length, map, drop}
+use Rattle.std.specs.Prelude.{◌≡◌, ℕ, ◌+◌, ◌<◌, ◌≤◌, List, [], ◌∷◌, ◌++◌, length, map, drop}
 use Rattle.cil_model.specs.Values.{Heap, zero_of}
+use Rattle.cil_model.specs.declared.machine.Value.{Value}
 use Rattle.cil_model.specs.declared.unit.Unit.{Unit as MethodUnit}
-use Rattle.cil_eval.specs.Piles.{Piled, closed, size_of}
-use Rattle.cil_eval.specs.Told.{olds_in_clauses, olds_of_clauses}
+use Rattle.clause_eval.specs.Piles.{HasRoomFor, Piled, closed, size_of}
+use Rattle.clause_eval.specs.Told.{olds_in_clauses, olds_of_clauses}
 use Rattle.cil_eval.specs.declared.frames.Frames.{Frames}
 use Rattle.cil_eval.specs.declared.frames.Position.{Position}
 
@@ -11,10 +12,18 @@ use Rattle.cil_eval.specs.declared.frames.Position.{Position}
 abbrev pub opened : {X : Type 0} → List X → Piled X → Piled X
 opened xs p = record p { top = xs; below = p.top ∷ p.below }
 
--- A pile has room for one more list, of so many items.
-pub record HasRoomFor {X : Type 0} (count : ℕ) (p : Piled X) : Type 0 where
-  pub items : size_of p + count ≤ p.room
-  pub lists : length p.below < p.depth
+-- There are no frames: each list is empty, and none is below it.
+pub record IsEmpty {X : Type 0} (p : Piled X) : Type 0 where
+  pub top : p.top ≡ []
+  pub below : p.below ≡ []
+
+pub record HoldNothing (frames : Frames) : Type 0 where
+  pub stack : IsEmpty frames.stack
+  pub args : IsEmpty frames.args
+  pub locals : IsEmpty frames.locals
+  pub entry_args : IsEmpty frames.entry_args
+  pub olds : IsEmpty frames.olds
+  pub positions : IsEmpty frames.positions
 
 -- The frames have room for one of this unit, whose arguments are there already.
 pub record HasRoomToEnter (unit : MethodUnit) (frames : Frames) : Type 0 where
@@ -50,4 +59,25 @@ left frames = record {
   entry_args = closed frames.entry_args.below frames.entry_args;
   olds = closed frames.olds.below frames.olds;
   positions = popped frames.positions;
+}
+
+-- ---- the first frame
+
+-- The frames have room for a frame of any method.
+pub record HasRoomToBegin (frames : Frames) : Type 0 where
+  pub args : size_of frames.args + 128 ≤ frames.args.room
+  pub locals : size_of frames.locals + 128 ≤ frames.locals.room
+  pub entry_args : size_of frames.entry_args + 128 ≤ frames.entry_args.room
+  pub olds : size_of frames.olds + 64 ≤ frames.olds.room
+  pub positions : size_of frames.positions < frames.positions.room
+
+-- The frames, of which there were none, with one of this unit, which begins with these arguments over this heap.
+abbrev pub begun : MethodUnit → ℕ → List Value → Heap → Frames → Frames
+begun unit index args heap frames = record {
+  stack = frames.stack;
+  args = record frames.args { top = args ++ frames.args.top };
+  locals = record frames.locals { top = map zero_of unit.locals ++ frames.locals.top };
+  entry_args = record frames.entry_args { top = args ++ frames.entry_args.top };
+  olds = record frames.olds { top = olds_of_clauses unit.clauses args heap ++ frames.olds.top };
+  positions = record frames.positions { top = record { unit = index; at = unit.body_start } ∷ frames.positions.top };
 }

@@ -7,8 +7,8 @@ use Rattle.cil_model.specs.declared.machine.Value.{Value}
 use Rattle.cil_model.specs.declared.machine.World.{World}
 use Rattle.cil_model.specs.declared.unit.Unit.{Unit as MethodUnit}
 use Rattle.cil_eval.specs.Outcome.{State, Turn, To, Ends, Stuck}
-use Rattle.cil_eval.specs.Piles.{Piled}
-use Rattle.cil_eval.specs.Told.{olds_of_clauses}
+use Rattle.clause_eval.specs.Piles.{Piled}
+use Rattle.clause_eval.specs.Told.{olds_of_clauses}
 use Rattle.cil_eval.specs.declared.action.Action.{Action}
 use Rattle.cil_eval.specs.declared.action.Action.TheVariants as actions
 use Rattle.cil_eval.specs.declared.frames.Frames.{Frames}

@@ -18,7 +18,7 @@ use Rattle.cil_model.specs.declared.machine.World.{World}
 use Rattle.cil_model.specs.declared.unit.Unit.{Unit as MethodUnit}
 use Rattle.cil_model.specs.declared.unit_numbers.UnitCall.{UnitCall}
 use Rattle.cil_model.specs.declared.unit_numbers.UnitCall.TheVariants as calls
-use Rattle.cil_eval.specs.Stores.{cells_of}
+use Rattle.clause_eval.specs.Stores.{cells_of}
 use Rattle.cil_eval.specs.declared.limits.Limits.{Limits}
 use Rattle.cil_eval.specs.declared.stop.Stop.{Stop}
 use Rattle.cil_eval.specs.declared.stop.Stop.TheVariants as stops
@@ -129,6 +129,12 @@ turn w limits s = after_unit w limits s (slice_get w.units s.running.unit)
 unfoldable pub outcome : World → Limits → ℕ → State → Option Stop
 outcome w limits zero s = Some stops.Steps
 outcome w limits (suc left) s = elim (turn w limits s) [ To next ↦ outcome w limits left next | Ends stop ↦ Some stop | Stuck ↦ None ]
+
+-- The last state of a run from a state in which so many steps are left: the one at which the run ends, or the one in which
+-- they are all taken.
+unfoldable pub last_state : World → Limits → ℕ → State → State
+last_state w limits zero s = s
+last_state w limits (suc left) s = elim (turn w limits s) [ To next ↦ last_state w limits left next | Ends stop ↦ s | Stuck ↦ s ]
 
 -- The state in which a method begins.
 abbrev pub entry_state : MethodUnit → ℕ → List Value → Heap → State

@@ -2,7 +2,7 @@
 
 ghost use Rattle.std.specs.Prelude.{◌≡◌, ◌+◌, ◌<◌, ◌≤◌, ◌^◌, length};
 ghost use Rattle.cil_eval.specs.Held.{acted_frames, stop_of, moved_to};
-ghost use Rattle.cil_eval.specs.Piles.{size_of};
+ghost use Rattle.clause_eval.specs.Piles.{size_of};
 
 use crate::action::Action;
 use crate::frames::{Frames, Position};

@@ -1,24 +1,23 @@
 //! What the instructions do that read and write arrays (ECMA-335 III.4).
 
-ghost use Rattle.std.specs.Prelude.{◌≡◌, ℕ, List, slice_get};
+ghost use Rattle.std.specs.Prelude.{◌≡◌, ℕ, List, slice_get, false};
 ghost use Rattle.std.specs.List.{AllByRecursion};
 ghost use Rattle.cil_model.specs.Effects as effects;
 ghost use Rattle.cil_model.specs.declared.instruction.Instr.{Instr};
 ghost use Rattle.cil_model.specs.declared.machine.Value.{Value};
-ghost use Rattle.cil_eval.specs.Actions.{DoesOver, IsTakenFrom, acted};
+ghost use Rattle.cil_eval.specs.Actions.{DoesOver, IsTakenFrom, acted, goes_on};
 ghost use Rattle.cil_eval.specs.ArrayRows.{bounded, loads_there, stored_heap, stores_value};
 ghost use Rattle.cil_eval.specs.Outcome.{State, after_effects};
 ghost use Rattle.cil_eval.specs.StackRows.{IsLength};
 
 use crate::action::Action;
-use crate::comparisons::number_of;
-use crate::memory::Memory;
-use crate::pile::Pile;
 use cil_model::{FaultKind, Place, Value};
+use clause_eval::{Memory, Pile, number_of};
 
 /// Makes an array of so many zeros.
 fn make_array(place: Place, n: i32, memory: &mut Memory) -> Action
     ensures does { (s : State) (i : Instr) (rest : List Value) → after_effects memory.old.limit s i (effects.makes place n i s.running memory.old.heap rest) ≡ acted result rest memory.new.heap s i }
+    ensures ended { goes_on result ≡ false → memory.new.heap ≡ memory.old.heap }
     ensures limit { memory.new.limit ≡ memory.old.limit }
 {
     if n < 0 {
@@ -40,6 +39,7 @@ pub(crate) fn new_array(
 ) -> Action
     ensures does { AllByRecursion IsLength stack.old.top → DoesOver memory.old.limit (effects.new_array place) result stack.old.top stack.new.top memory.old.heap memory.new.heap }
     ensures taken { IsTakenFrom stack.old stack.new }
+    ensures ended { goes_on result ≡ false → memory.new.heap ≡ memory.old.heap }
     ensures limit { memory.new.limit ≡ memory.old.limit }
 {
     let (Some(place), Some(value)) = (place, stack.pop()) else {
@@ -128,9 +128,11 @@ fn item_of(place: Place, n: i32) -> i32
 }
 
 /// Stores an item of an array.
+#[tactic(auto, using(crate::proofs::ArrayLemmas::stored_at_end))]
 fn store_item(place: Place, index: u32, n: i32, item: i32, memory: &mut Memory) -> Action
     ensures action { result ≡ bounded place n (slice_get memory.old.heap index) }
     ensures heap { memory.new.heap ≡ stored_heap result place memory.old.heap index n item }
+    ensures ended { goes_on result ≡ false → memory.new.heap ≡ memory.old.heap }
     ensures limit { memory.new.limit ≡ memory.old.limit }
 {
     let action = bound(place, index, n, memory);
@@ -145,6 +147,7 @@ fn store_item(place: Place, index: u32, n: i32, item: i32, memory: &mut Memory) 
 fn store_value(place: Place, value: Value, stack: &mut Pile<Value>, memory: &mut Memory) -> Action
     ensures does { (cells : ℕ) → DoesOver cells (stores_value place value) result stack.old.top stack.new.top memory.old.heap memory.new.heap }
     ensures taken { IsTakenFrom stack.old stack.new }
+    ensures ended { goes_on result ≡ false → memory.new.heap ≡ memory.old.heap }
     ensures limit { memory.new.limit ≡ memory.old.limit }
 {
     let Value::Int(item) = value else {
@@ -164,6 +167,7 @@ fn store_value(place: Place, value: Value, stack: &mut Pile<Value>, memory: &mut
 pub(crate) fn store(place: Place, stack: &mut Pile<Value>, memory: &mut Memory) -> Action
     ensures does { (cells : ℕ) → DoesOver cells (effects.stores place) result stack.old.top stack.new.top memory.old.heap memory.new.heap }
     ensures taken { IsTakenFrom stack.old stack.new }
+    ensures ended { goes_on result ≡ false → memory.new.heap ≡ memory.old.heap }
     ensures limit { memory.new.limit ≡ memory.old.limit }
 {
     match stack.pop() {

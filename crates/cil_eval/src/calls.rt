@@ -3,18 +3,16 @@
 ghost use Rattle.std.specs.Prelude.{◌≡◌, ◌+◌, ◌<◌, ◌≤◌, ◌^◌, length};
 ghost use Rattle.cil_model.specs.Calls as calls;
 ghost use Rattle.cil_eval.specs.Called.{Calls, HasRoomToCall, Returns, with_result};
+ghost use Rattle.cil_eval.specs.Capacity.{SameRooms};
 ghost use Rattle.cil_eval.specs.Entered.{left};
-ghost use Rattle.cil_eval.specs.Piles.{size_of};
+ghost use Rattle.clause_eval.specs.Piles.{size_of};
 
 use crate::arguments::take_args;
-use crate::clause_tests::{false_ensures, false_requires};
 use crate::enter::{enter, leave};
 use crate::frames::{Frames, Position};
-use crate::memory::Memory;
-use crate::pile::Pile;
 use crate::stop::Stop;
-use crate::values::put;
 use cil_model::{FaultKind, Instr, Place, Unit, Value};
+use clause_eval::{Arrays, Memory, Pile, false_ensures, false_requires, put};
 
 /// Calls the method of a unit from the frame that runs, whose position is given. The flag says whether there may be one
 /// frame more.
@@ -31,14 +29,19 @@ pub(crate) fn call(
     requires room { HasRoomToCall callee.now frames.old }
     requires clauses { length callee.now.clauses < 256 }
     requires behind { instr.now.at + instr.now.size < 2 ^ 32 }
-    ensures { Calls callee.now index from.unit instr.now deeper frames.old memory.now.heap frames.new result }
+    ensures calls { Calls callee.now index from.unit instr.now deeper frames.old memory.now.heap frames.new result }
+    ensures room { SameRooms frames.old frames.new }
 {
     frames.args.open();
     let places = callee.args.as_slice();
     if !take_args(places, memory, &mut frames.stack, &mut frames.args) {
         return Some(Stop::Steps);
     }
-    if let Some(k) = false_requires(callee.clauses.as_slice(), &frames.args, memory) {
+    if let Some(k) = false_requires(
+        callee.clauses.as_slice(),
+        &frames.args,
+        Arrays::Made(memory),
+    ) {
         return Some(Stop::Fault(FaultKind::Requires(k), from.unit, instr.at));
     }
     if !deeper {
@@ -83,7 +86,8 @@ pub(crate) fn give_back(
 ) -> Option<Stop>
     requires clauses { length unit.now.clauses < 256 }
     requires room { size_of frames.old.stack < frames.old.stack.room }
-    ensures { Returns unit.now from.unit instr.now frames.old memory.now.heap frames.new result }
+    ensures returns { Returns unit.now from.unit instr.now frames.old memory.now.heap frames.new result }
+    ensures room { SameRooms frames.old frames.new }
 {
     let Some(returned) = result_of(unit.result, &frames.stack, memory) else {
         return Some(Stop::Steps);

@@ -1,15 +1,14 @@
 //! Frames begin and end (ECMA-335 III.3.19 and III.3.57).
 
 ghost use Rattle.std.specs.Prelude.{◌≡◌, ◌+◌, ◌≤◌, ◌++◌, length, reverse};
-ghost use Rattle.cil_eval.specs.Entered.{HasRoomToEnter, entered, left};
-ghost use Rattle.cil_eval.specs.Piles.{size_of};
+ghost use Rattle.cil_eval.specs.Entered.{HasRoomToBegin, HasRoomToEnter, begun, entered, left};
+ghost use Rattle.cil_eval.specs.Flows.{IsRunnable};
+ghost use Rattle.clause_eval.specs.Piles.{size_of};
 
 use crate::arguments::put_locals;
-use crate::clause_tests::put_all_olds;
 use crate::frames::{Frames, Position};
-use crate::memory::Memory;
-use crate::pile::Pile;
 use cil_model::{Unit, Value};
+use clause_eval::{Memory, Pile, put_all_olds};
 
 /// Puts values on a list, in order.
 fn put_values(values: &[Value], list: &mut Pile<Value>)
@@ -55,4 +54,27 @@ pub(crate) fn leave(frames: &mut Frames)
     frames.entry_args.close();
     frames.olds.close();
     frames.positions.pop();
+}
+
+/// Begins the first frame, which is of a unit of this index, with these arguments.
+pub(crate) fn begin(
+    unit: &Unit,
+    index: u32,
+    values: &Pile<Value>,
+    frames: &mut Frames,
+    memory: &Memory,
+)
+    requires runnable { IsRunnable unit.now }
+    requires values { length values.now.top ≤ 128 }
+    requires room { HasRoomToBegin frames.old }
+    ensures { frames.new ≡ begun unit.now index values.now.top memory.now.heap frames.old }
+{
+    put_values(values.as_slice(), &mut frames.args);
+    put_locals(unit.locals.as_slice(), &mut frames.locals);
+    put_values(values.as_slice(), &mut frames.entry_args);
+    put_all_olds(unit.clauses.as_slice(), values, memory, &mut frames.olds);
+    frames.positions.push(Position {
+        unit: index,
+        at: unit.body_start,
+    });
 }

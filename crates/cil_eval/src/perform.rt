@@ -1,19 +1,17 @@
 //! What an instruction does to the frame that runs, where it neither calls a method nor returns.
 
-ghost use Rattle.std.specs.Prelude.{◌≡◌, ℕ};
+ghost use Rattle.std.specs.Prelude.{◌≡◌, ℕ, false};
 ghost use Rattle.std.specs.List.{AllByRecursion};
 ghost use Rattle.cil_model.specs.declared.instruction.Op.TheVariants as ops;
-ghost use Rattle.cil_eval.specs.Actions.{Does, IsTakenFrom, stored_by, when};
+ghost use Rattle.cil_eval.specs.Actions.{Does, IsTakenFrom, goes_on, stored_by, when};
 ghost use Rattle.cil_eval.specs.Performs.{IsKept, Performs, Stays, push_of};
 ghost use Rattle.cil_eval.specs.StackRows.{IsLength, contract_row};
 
 use crate::action::Action;
 use crate::frames::Frames;
-use crate::memory::Memory;
-use crate::pile::Pile;
-use crate::values::put;
 use crate::{array_rows, stack_rows};
 use cil_model::{Op, Place, UnOp, Unit, UnitCall, Value, array_place, unit_call};
+use clause_eval::{Memory, Pile, put};
 
 /// Takes a value, and puts it into a variable of these places, where it has one of this number that takes the value.
 fn store(
@@ -91,6 +89,7 @@ fn store_local(n: u16, unit: &Unit, frames: &mut Frames, memory: &Memory) -> Act
 pub(crate) fn perform(op: &Op, unit: &Unit, frames: &mut Frames, memory: &mut Memory) -> Action
     ensures performs { AllByRecursion IsLength frames.old.stack.top → Performs memory.old.limit unit.now op.now result frames.old frames.new memory.old.heap memory.new.heap }
     ensures stays { Stays frames.old frames.new }
+    ensures ended { goes_on result ≡ false → memory.new.heap ≡ memory.old.heap }
     ensures limit { memory.new.limit ≡ memory.old.limit }
 {
     match op {

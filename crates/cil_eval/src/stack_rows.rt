@@ -14,10 +14,10 @@ ghost use Rattle.cil_eval.specs.Outcome.{State, after_effects};
 ghost use Rattle.cil_eval.specs.StackRows.{IsLength, asserts, assumes, tested, tested_number};
 
 use crate::action::Action;
-use crate::arithmetic::{operated, operated_one};
-use crate::comparisons::{compares_values, comparison_of, comparison_value, is_true};
-use crate::pile::Pile;
 use cil_model::{BinOp, CmpOp, FaultKind, Test, UnOp, Value};
+use clause_eval::{
+    Pile, compares_values, comparison_of, comparison_value, is_true, operated, operated_one,
+};
 
 /// An operator of two int32.
 fn arithmetic(op: BinOp, stack: &mut Pile<Value>) -> Action

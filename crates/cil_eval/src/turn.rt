@@ -1,21 +1,21 @@
 //! One step of the machine.
 
-ghost use Rattle.std.specs.Prelude.{◌≡◌, ◌+◌, ◌<◌, ◌≤◌, ◌^◌, length, slice_get, Some, None, MatchOption};
-ghost use Rattle.std.specs.List.{AllByRecursion};
+ghost use Rattle.std.specs.Prelude.{◌≡◌, ◌≢◌, ◌+◌, ◌<◌, ◌≤◌, ◌^◌, length, slice_get, Some, None, MatchOption};
 ghost use Rattle.cil_model.specs.Calls as calls;
-ghost use Rattle.cil_eval.specs.Called.{HasRoomToCall};
+ghost use Rattle.cil_eval.specs.Capacity.{HasSpace, SameRooms};
 ghost use Rattle.cil_eval.specs.Flows.{AreRunnable};
-ghost use Rattle.cil_eval.specs.Piles.{size_of};
+ghost use Rattle.cil_eval.specs.Machines.{Advances, HasMemory};
 ghost use Rattle.cil_eval.specs.Turns.{CallsNumber, Turns};
 
 use crate::calls::{call, give_back};
 use crate::effect::effect;
 use crate::flow::{Flow, flow_of};
 use crate::frames::{Frames, Position};
-use crate::memory::Memory;
+use crate::limits::Limits;
 use crate::offsets::find;
 use crate::stop::Stop;
 use cil_model::{Instr, Unit, World};
+use clause_eval::Memory;
 
 /// The unit of an index.
 pub(crate) fn unit_at(world: &World, index: u32) -> Option<&Unit>
@@ -33,7 +33,7 @@ fn callee_index(world: &World, unit: u32, number: u32) -> Option<u32>
 }
 
 /// Calls the callee of a number.
-#[tactic(auto, using(crate::proofs::TurnLemmas::unit_can))]
+#[tactic(auto, using(crate::proofs::TurnLemmas::runnable, crate::proofs::Spaces::room_to_call))]
 fn call_number(
     world: &World,
     number: u32,
@@ -44,9 +44,10 @@ fn call_number(
     memory: &Memory,
 ) -> Option<Stop>
     requires runnable { AreRunnable world.now }
-    requires room { AllByRecursion (λ unit. HasRoomToCall unit frames.old) world.now.units }
+    requires space { HasSpace frames.old }
     requires behind { instr.now.at + instr.now.size < 2 ^ 32 }
-    ensures { CallsNumber world.now number from.unit instr.now deeper frames.old memory.now.heap frames.new result }
+    ensures calls { CallsNumber world.now number from.unit instr.now deeper frames.old memory.now.heap frames.new result }
+    ensures room { SameRooms frames.old frames.new }
 {
     let Some(index) = callee_index(world, from.unit, number) else {
         return Some(Stop::Steps);
@@ -58,7 +59,7 @@ fn call_number(
 }
 
 /// Does the next instruction of the frame that runs. The flag says whether there may be one frame more.
-#[tactic(auto, using(crate::proofs::TurnLemmas::unit_can, crate::proofs::TurnLemmas::goes_behind))]
+#[tactic(auto, using(crate::proofs::TurnLemmas::runnable, crate::proofs::TurnLemmas::goes_behind))]
 pub(crate) fn turn(
     world: &World,
     deeper: bool,
@@ -66,10 +67,11 @@ pub(crate) fn turn(
     memory: &mut Memory,
 ) -> Option<Stop>
     requires runnable { AreRunnable world.now }
-    requires frame { 1 ≤ length frames.old.positions.top }
-    requires stack { size_of frames.old.stack < frames.old.stack.room }
-    requires room { AllByRecursion (λ unit. HasRoomToCall unit frames.old) world.now.units }
-    ensures { Turns world.now memory.old.limit deeper frames.old memory.old.heap frames.new memory.new.heap result }
+    requires space { HasSpace frames.old }
+    ensures turns { Turns world.now memory.old.limit deeper frames.old memory.old.heap frames.new memory.new.heap result }
+    ensures room { SameRooms frames.old frames.new }
+    ensures ended { result ≢ None → memory.new.heap ≡ memory.old.heap }
+    ensures limit { memory.new.limit ≡ memory.old.limit }
 {
     let Some(from) = frames.positions.get(0) else {
         return Some(Stop::Steps);
@@ -85,4 +87,23 @@ pub(crate) fn turn(
         Flow::Into(number) => call_number(world, number, from, instr, deeper, frames, memory),
         Flow::Stays => effect(unit, from.unit, instr, frames, memory),
     }
+}
+
+/// Does one step under limits. Where the frames have no space for one, which frames of typed code have, it stops.
+pub(crate) fn advance(
+    world: &World,
+    limits: Limits,
+    frames: &mut Frames,
+    memory: &mut Memory,
+) -> Option<Stop>
+    requires memory { HasMemory limits world.now frames.old memory.old }
+    ensures advances { Advances world.now limits frames.old memory.old frames.new memory.new result }
+    ensures ended { result ≢ None → memory.new.heap ≡ memory.old.heap }
+    ensures memory { HasMemory limits world.now frames.new memory.new }
+{
+    if !frames.have_space() {
+        return Some(Stop::Steps);
+    }
+    let deeper = frames.positions.len() < limits.depth as usize;
+    turn(world, deeper, frames, memory)
 }

@@ -47,6 +47,8 @@ mod limits;
 #[cfg(test)]
 mod list_answers;
 #[cfg(test)]
+mod machine_rows;
+#[cfg(test)]
 mod model_rows;
 #[cfg(test)]
 mod pe_rows;

@@ -1,6 +1,0 @@
--- Arrays as they are looked at.
-use Rattle.cil_model.specs.declared.machine.ArrayCell.{ArrayCell}
-use Rattle.cil_eval.specs.declared.memory.ArrayRef.{ArrayRef}
-
-abbrev pub cell_of : ArrayRef → ArrayCell
-cell_of a = record { place = a.place; items = a.items.now }

@@ -1,0 +1,10 @@
+pub mod Sizes
+pub mod Stores
+pub mod Rows
+pub mod Arrays
+pub mod GivenArrays
+pub mod Lookups
+pub mod Sources
+pub mod Told
+pub mod Piles
+pub mod Variables
