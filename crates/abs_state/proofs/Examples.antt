@@ -1,5 +1,5 @@
 -- The rules at states worked out by hand.
-use Rattle.std.proofs.Common.{◌≡◌, ℕ, ℤ, pos, negsuc, List, [], ◌∷◌, Some, None, true, false, ◌+ℤ◌, refl, sym, ap, arith}
+use Rattle.std.proofs.Common.{◌≡◌, ℕ, ℤ, pos, negsuc, Bool, List, [], ◌∷◌, Some, None, true, false, ◌+ℤ◌, refl, sym, ap, arith}
 use Rattle.std.specs.Int.{int_wrap}
 use Rattle.std.proofs.lemmas.Int.{ints}
 use Rattle.cil_model.specs.declared.instruction.BinOp.TheVariants as operators
@@ -20,12 +20,14 @@ use Rattle.number_facts.specs.Gap.{gap, at_most, equal}
 use Rattle.number_facts.specs.Spans.{moved, wrapped}
 use Rattle.abs_state.specs.Arithmetic.{with_result, with_truth}
 use Rattle.abs_state.specs.Assumptions.{assuming}
+use Rattle.abs_state.specs.FormTests.{is_narrow, is_number, made_from}
 use Rattle.abs_state.specs.FrameFacts.{FrameFacts, HoldsOf}
 use Rattle.abs_state.specs.Inclusion.{included, leq}
 use Rattle.abs_state.specs.Join.{joined, join}
 use Rattle.abs_state.specs.Moves.{appended, pushed, popped, placed, with_placed}
 use Rattle.abs_state.specs.NormalForm.{number_at, normal, of_numbers}
 use Rattle.abs_state.specs.Number.{fresh_number}
+use Rattle.abs_state.specs.StateParts.{StateParts, parts_of}
 use Rattle.abs_state.specs.Widening.{widened}
 use Rattle.abs_state.specs.declared.number.Number.TheVariants.{Constant, Among}
 
@@ -239,3 +241,43 @@ end_moves = refl
 never_so : assuming comparisons.Gt (expr 1 (pos 0)) (expr 0 (pos 9)) true (frame (expr 1 (pos 0) ∷ []) (between (pos 0) (pos 9) ∷ [])) ≡ None
 unfolding assuming assumed holding assumed_at_most at_most gap range_at
 never_so = refl
+
+-- ---- states as lists
+
+abbrev listed : Bool → List Expr → List Interval → StateParts
+listed reached es rs = record { reached = reached; variables = es; ranges = rs }
+
+of_a_frame : parts_of (Some (frame (expr 1 (pos 2) ∷ []) (between (pos 0) (pos 9) ∷ []))) ≡ listed true (expr 1 (pos 2) ∷ []) (between (pos 0) (pos 9) ∷ [])
+of_a_frame = refl
+
+-- a symbol that no variable has stays
+back_again : made_from (listed true (expr 2 (pos 2) ∷ []) (between (pos 0) (pos 9) ∷ interval (pos 0) (pos 9) (Some (pos 4)) ∷ []))
+    ≡ Some (Some (frame (expr 2 (pos 2) ∷ []) (between (pos 0) (pos 9) ∷ interval (pos 0) (pos 9) (Some (pos 4)) ∷ [])))
+unfolding is_narrow is_number range_of range_at moved
+back_again = refl
+
+one_symbol_past : made_from (listed true (expr 2 (pos 0) ∷ []) (between (pos 0) (pos 9) ∷ [])) ≡ None
+unfolding is_narrow is_number range_of range_at moved
+one_symbol_past = refl
+
+constant_past_int32 : made_from (listed true (expr 0 (pos 2147483648) ∷ []) []) ≡ None
+unfolding is_narrow is_number range_of range_at moved
+constant_past_int32 = refl
+
+greatest_constant : made_from (listed true (expr 0 (pos 2147483647) ∷ []) []) ≡ Some (Some (frame (expr 0 (pos 2147483647) ∷ []) []))
+unfolding is_narrow is_number range_of range_at moved
+greatest_constant = refl
+
+moved_past_int32 : made_from (listed true (expr 1 (pos 1) ∷ []) (between (pos 0) (pos 2147483647) ∷ [])) ≡ None
+unfolding is_narrow is_number range_of range_at moved
+moved_past_int32 = refl
+
+hole_at_the_end : made_from (listed true [] (interval (pos 0) (pos 9) (Some (pos 9)) ∷ [])) ≡ None
+unfolding is_narrow
+hole_at_the_end = refl
+
+no_reach : made_from (listed false [] []) ≡ Some None
+no_reach = refl
+
+listed_out_of_reach : made_from (listed false (expr 0 (pos 0) ∷ []) []) ≡ None
+listed_out_of_reach = refl

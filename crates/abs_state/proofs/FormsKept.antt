@@ -1,5 +1,5 @@
 -- Each rule keeps the form of what is known.
-use Rattle.std.proofs.Common.{◌≡◌, ℕ, zero, suc, ◌+◌, ◌-◌, ◌≤◌, ℤ, pos, negsuc, ◌+ℤ◌, ◌≤ℤ◌, Bool, true, false, int_eq, Option, Some, None, List, [], ◌∷◌, ◌++◌, length, All, fold, subst, refl, sym, ap, ◌∙◌, add-one, append-nil, append_assoc, arith}
+use Rattle.std.proofs.Common.{◌≡◌, ℕ, zero, suc, ◌+◌, ◌-◌, ◌≤◌, ℤ, pos, ◌+ℤ◌, ◌≤ℤ◌, Bool, true, false, int_eq, Option, Some, None, List, [], ◌∷◌, ◌++◌, length, All, fold, subst, refl, sym, ap, ◌∙◌, add-one, append-nil, append_assoc, arith}
 use Rattle.std.specs.List.{AllByRecursion}
 use Rattle.std.specs.Option.{option_map}
 use Rattle.std.proofs.lemmas.Bool.{cond_both}
@@ -38,9 +38,6 @@ use Rattle.abs_state.proofs.Building.{appended_last}
 use Rattle.abs_state.proofs.Shrinking.{Shrink, SomeShrink, assumed_shrinks}
 
 -- ---- numbers that are there
-
-there_least : (lo hi k : ℤ) → lo ≤ℤ hi → hi ≤ℤ GREATEST → LEAST ≤ℤ (lo +ℤ k) → negsuc 4294967295 ≤ℤ k
-there_least lo hi k ordered greatest least = omega (arith, ints, ordered, greatest, least)
 
 pub number_there : (facts : Facts) (e : Expr) → AreNarrow facts → IsNumber facts e → IsThere facts e
 unfolding range_of moved

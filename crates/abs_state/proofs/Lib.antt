@@ -11,3 +11,4 @@ pub mod Examples
 pub mod NumbersStay
 pub mod FrameVariables
 pub mod StateLaws
+pub mod PartsOfStates

@@ -3,11 +3,14 @@ pub mod FrameFacts
 pub mod Frames
 pub mod NormalForm
 pub mod RangeStates
+pub mod StateParts
+pub mod FormTests
 pub mod Pairs
 pub mod Join
 pub mod Widening
 pub mod Inclusion
 pub mod Moves
+pub mod Operands
 pub mod Arithmetic
 pub mod Assumptions
 pub mod OwnRanges

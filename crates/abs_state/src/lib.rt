@@ -8,7 +8,9 @@ mod lattice;
 mod moves;
 mod number;
 mod operators;
+mod parts;
 mod state;
 
 pub use number::Number;
+pub use parts::Parts;
 pub use state::AbsState;

@@ -14,6 +14,7 @@ ghost use Rattle.abs_state.specs.FrameFacts.{HasForm, IsNumber, variables_in};
 ghost use Rattle.abs_state.specs.Moves as moves;
 ghost use Rattle.abs_state.specs.NormalForm.{norm, of_numbers};
 ghost use Rattle.abs_state.specs.Number.{IsInt32};
+ghost use Rattle.abs_state.specs.Operands.{from_top};
 
 use crate::known::Known;
 use crate::number::Number;
@@ -116,6 +117,17 @@ impl AbsState {
         ensures number { ForSome self.now (λ known. IsNumber known.facts result) }
     {
         self.variables()[i as usize]
+    }
+
+    /// The expression of the variable that lies so many below the top of the stack.
+    #[tactic(auto, unfolding(crate::specs::Operands::from_top))]
+    pub fn from_top(&self, depth: u32) -> Expr
+        requires there { depth < length (variables_in self.now) }
+        ensures value { result ≡ from_top depth (variables_in self.now) }
+        ensures number { ForSome self.now (λ known. IsNumber known.facts result) }
+    {
+        let variables = self.variables();
+        variables[variables.len() - 1 - depth as usize]
     }
 
     /// What is known, where something is reached.

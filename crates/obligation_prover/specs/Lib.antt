@@ -1,0 +1,5 @@
+pub mod Faults
+pub mod Entailed
+pub mod Avoiding
+pub mod Meaning
+pub mod EachFault

@@ -1,0 +1,9 @@
+pub mod Moving
+pub mod Doing
+pub mod Ways
+pub mod Examples
+pub mod FlowExamples
+pub mod WayLaws
+pub mod Constructing
+pub mod Slicing
+pub mod Inducing

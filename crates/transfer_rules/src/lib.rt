@@ -1,0 +1,22 @@
+//! What instructions do to states: the state where a method begins, the one behind an instruction, and the one along each
+//! way on from a branch. States flow along the edges of a unit's graph, and are an invariant where each edge carries that of
+//! its source to that of its target.
+#![tactic(auto)]
+
+mod acts;
+mod choices;
+mod entry;
+mod induction;
+mod moves;
+mod rules;
+mod unit_flow;
+mod unit_state;
+mod unknown_states;
+mod walks;
+
+pub use entry::entry_state;
+pub use induction::{has_shape, inductive};
+pub use rules::{along, post};
+pub use unit_flow::UnitFlow;
+pub use unit_state::UnitState;
+pub use unknown_states::unknown;
