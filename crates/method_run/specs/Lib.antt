@@ -1,0 +1,5 @@
+pub mod ArgumentWords
+pub mod ValueTexts
+pub mod FaultTexts
+pub mod EndTexts
+pub mod RunAnswers

@@ -1,0 +1,5 @@
+pub mod NumberLemmas
+pub mod WordLemmas
+pub mod ListLemmas
+pub mod TextLemmas
+pub mod Examples
