@@ -1,0 +1,8 @@
+use Rattle.std.proofs.Common.{◌≡◌, drop, nat_eq}
+use Rattle.std.specs.Prelude.{fold}
+use Rattle.indexmap.specs.IndexSet.{insert_key}
+use Rattle.method_code.specs.Called.{callees_of, calls_in}
+use Rattle.method_code.proofs.callees.CalleeSet.of.Given as goal
+
+abbrev pub invariant-loop-instr : goal.invariant-loop-instr
+invariant-loop-instr l = fold (insert_key nat_eq) l.tokens.keys (calls_in l.assembly (drop l.instr-index l.instrs)) ≡ callees_of l.assembly l.instrs

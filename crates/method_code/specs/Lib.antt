@@ -1,0 +1,4 @@
+pub mod Called
+pub mod Numbering
+pub mod OfMethods
+pub mod Reading

@@ -1,0 +1,32 @@
+use Rattle.std.proofs.Common.{◌≤◌, ◌∙◌, arith}
+use Rattle.cc_base.proofs.TestLemmas.{refusal-carried}
+use Rattle.unit_builder.proofs.Parts.{callees_are, kinds_faulty, stack_small, unit_judged}
+use Rattle.unit_builder.proofs.making.make_unit.Goals as goal
+
+pub overflow_cast-result : goal.overflow_cast-result
+overflow_cast-result c =
+    let asm = c.args.assembly.now in
+    let method = c.args.method.now in
+    let callees = callees_are asm method _ _ (c.deref.ensures.value ∙ c.requires.own.callees) c.in_ok-callees.ensures.value in
+    let shape = c.in_ok-shape.ensures asm method c.requires.types c.requires.variables callees in
+    let small : c.in_ok-shape.shape.max_stack ≤ 128 = stack_small asm method c.in_ok-shape.shape c.args.variables.now shape c.requires.variables c.requires.small in
+    omega (arith, small)
+
+pub returns-clause-judged : goal.returns-clause-judged
+returns-clause-judged c =
+    let asm = c.args.assembly.now in
+    let method = c.args.method.now in
+    let callees = callees_are asm method _ _ (c.deref.ensures.value ∙ c.requires.own.callees) c.in_ok-callees.ensures.value in
+    let shape = c.in_ok-shape.ensures asm method c.requires.types c.requires.variables callees in
+    unit_judged asm method c.in_ok-shape.shape c.args.own _ _ c.in_ok-callees.callees.items c.as_slice.result.now c.as_slice-2.result.now shape c.requires.own callees
+    (c.from_vec.ensures ∙ (c.in_ok-name.ensures.items ∙ c.unit_name.ensures)) (c.from_vec-2.ensures ∙ c.in_ok-code.ensures.value) c.as_slice.ensures c.as_slice-2.ensures
+    c.in_ok-check_kinds.ensures.0 c.in_ok-check_kinds.ensures.1
+
+pub returns-in_err-check_kinds-clause-judged : goal.returns-in_err-check_kinds-clause-judged
+returns-in_err-check_kinds-clause-judged c =
+    let asm = c.args.assembly.now in
+    let method = c.args.method.now in
+    let callees = callees_are asm method _ _ (c.deref.ensures.value ∙ c.requires.own.callees) c.in_ok-callees.ensures.value in
+    let shape = c.in_ok-shape.ensures asm method c.requires.types c.requires.variables callees in
+    refusal-carried _ _ _ _ _ _ c.from_residual-in_err-check_kinds.ensures.1 c.in_err-check_kinds.ensures
+    (λ reason some. kinds_faulty asm method c.in_ok-shape.shape c.args.own c.as_slice.result.now reason shape c.requires.own c.as_slice.ensures some)

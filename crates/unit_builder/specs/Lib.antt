@@ -1,0 +1,10 @@
+pub mod Rows
+pub mod Bodies
+pub mod Reasons
+pub mod Outcomes
+pub mod Slots
+pub mod Making
+pub mod Met
+pub mod Reach
+pub mod Walks
+pub mod WorldOf

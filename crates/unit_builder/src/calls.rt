@@ -1,0 +1,58 @@
+//! The methods that a method calls.
+
+ghost use Rattle.std.specs.Prelude.{◌≡◌, ℕ, List, Contains, IfOk};
+ghost use Rattle.asm_image.specs.Rows.{methods_of};
+ghost use Rattle.asm_image.specs.declared.method_row.MethodRow.{MethodRow};
+ghost use Rattle.cil_model.specs.declared.unit.Unit.{Unit as MethodUnit};
+ghost use Rattle.unit_builder.specs.Bodies.{callee_tokens};
+ghost use Rattle.unit_builder.specs.Outcomes.{entry_of, outcome_of};
+ghost use Rattle.unit_builder.specs.Slots.{IsSlotOf};
+ghost use Rattle.unit_builder.specs.Walks.{body_calls, numbers};
+ghost use Rattle.unit_builder.specs.declared.entry.Outcome.TheVariants.{Analysed};
+
+use crate::entry::{MethodEntry, Outcome};
+use crate::met::FIRST_METHOD;
+use crate::slots::Slot;
+use asm_image::{Assembly, MethodRow};
+use cc_base::{NoMemory, Token};
+use std::alloc::Global;
+
+/// The methods that the code of a method calls. It is read where nobody asked for it before.
+pub(crate) fn callees_in(
+    alloc: Global,
+    assembly: &Assembly<'_>,
+    method: &MethodRow,
+    slot: &mut Slot,
+) -> Result<Vec<Token>, NoMemory>
+    requires slot { IsSlotOf assembly.now method.now slot.old }
+    ensures slot { IsSlotOf assembly.now method.now slot.new }
+    ensures value { (unit : MethodUnit) → outcome_of assembly.now method.now ≡ Analysed unit → IfOk result (λ tokens. tokens.items ≡ callee_tokens assembly.now method.now) }
+{
+    if !method.has_il_body() {
+        return Ok(Vec::new(alloc));
+    }
+    slot.read(alloc, assembly, method)?;
+    Vec::from_slice(alloc, slot.callees())
+}
+
+/// The methods that are called in the body of the method of an entry, each once, in order of first use; none where the method is
+/// not analysed. The entry is one that `build_units` made of the same assembly.
+///
+/// Cost: what the method's code takes to be read.
+pub fn callee_tokens(
+    alloc: Global,
+    assembly: &Assembly<'_>,
+    entry: &MethodEntry,
+) -> Result<Vec<Token>, NoMemory>
+    ensures { (method : MethodRow) → Contains (methods_of assembly.now) method → entry.now ≡ entry_of assembly.now method
+        → IfOk result (λ tokens. numbers tokens.items ≡ body_calls assembly.now method) }
+{
+    let Outcome::Analysed(_) = &entry.outcome else {
+        return Ok(Vec::new(alloc));
+    };
+    let index = entry.token.0.saturating_sub(FIRST_METHOD);
+    let Some(method) = assembly.methods().get(index as usize) else {
+        return Ok(Vec::new(alloc));
+    };
+    callees_in(alloc, assembly, method, &mut Slot::Unread)
+}

@@ -1,0 +1,25 @@
+//! The units of an assembly: each method with all that its check depends on, or the first reason why it has none.
+#![tactic(auto)]
+
+mod callees;
+mod calls;
+mod code_checks;
+mod copies;
+mod entry;
+mod header;
+mod making;
+mod met;
+mod names;
+mod own_code;
+mod reach;
+mod reason;
+mod row;
+mod slots;
+mod units;
+mod world;
+
+pub use calls::callee_tokens;
+pub use entry::{MethodEntry, Outcome};
+pub use reason::Reason;
+pub use units::{Units, build_units};
+pub use world::{WorldRefusal, world_of};

@@ -1,0 +1,101 @@
+//! The unit of a method, made of its parts.
+
+ghost use Rattle.std.specs.Prelude.{◌≡◌, ◌≤◌, ℕ, List, true, option_map, IfOk};
+ghost use Rattle.std.specs.List.{list_all};
+ghost use Rattle.cc_base.specs.Tests.{first_of, JudgesOrNoMemory};
+ghost use Rattle.method_unit.specs.Units.{HasKinds};
+ghost use Rattle.stack_typer.specs.FirstTypeFault.{first_type_fault};
+ghost use Rattle.stack_typer.specs.LaidOut.{AreLaidOut};
+ghost use Rattle.unit_builder.specs.Bodies.{callee_tokens};
+ghost use Rattle.unit_builder.specs.Making.{AreCallees, AreVariablesOf, HasParts, IsOwnCode};
+ghost use Rattle.unit_builder.specs.Reasons.{has_short_name, kind_tests, unit_shape};
+ghost use Rattle.unit_builder.specs.Rows.{IsRowOf};
+ghost use Rattle.unit_builder.specs.Slots.{AreSlots};
+ghost use Rattle.unit_builder.specs.declared.reason.Reason.TheVariants as reasons;
+ghost use Rattle.signature_blobs.specs.declared.method.SigTypes.TheVariants as types;
+
+use crate::callees::callee_infos;
+use crate::header::Variables;
+use crate::names::unit_name;
+use crate::own_code::OwnCode;
+use crate::reason::{Reason, UnitRefusal};
+use crate::slots::Slot;
+use asm_image::{Assembly, MethodRow};
+use cc_base::{NoMemory, Refusal};
+use cil_model::{CalleeInfo, Instr, List, Shape, Unit};
+use method_code::spell_code;
+use signature_blobs::Signature;
+use stack_typer::type_code;
+use std::alloc::Global;
+
+/// Tests that the code has kinds.
+fn check_kinds(alloc: Global, instrs: &[Instr], shape: &Shape) -> Result<(), UnitRefusal>
+    requires lie { AreLaidOut instrs.now }
+    ensures { JudgesOrNoMemory result (option_map reasons.Kinds (first_type_fault instrs.now shape.now)) (λ _. HasKinds shape.now instrs.now) }
+{
+    match type_code(alloc, instrs, shape) {
+        Ok(_kinds) => Ok(()),
+        Err(Refusal::Bad(fault)) => Err(Refusal::Bad(Reason::Kinds(fault))),
+        Err(Refusal::NoMemory) => Err(Refusal::NoMemory),
+    }
+}
+
+/// The shape of a method.
+#[tactic(auto, unfolding(crate::specs::Reasons::unit_shape))]
+fn shape_with(
+    alloc: Global,
+    signature: &Signature,
+    variables: &Variables,
+    callees: Vec<CalleeInfo>,
+) -> Result<Shape, NoMemory>
+    ensures { (asm : List ℕ) (method : MethodRow) → method.sig.types ≡ types.Known signature.now → AreVariablesOf asm method variables.now
+        → AreCallees asm (callee_tokens asm method) callees.items → IfOk result (λ shape. shape ≡ unit_shape asm method) }
+{
+    Ok(Shape {
+        result: signature.result,
+        args: List::from_vec(signature.args.to_vec(alloc)?),
+        locals: List::from_vec(variables.locals.to_vec(alloc)?),
+        max_stack: variables.max_stack,
+        callees: List::from_vec(callees),
+    })
+}
+
+/// The unit of a method: what is known of its callees, and its kinds, were not asked before.
+#[tactic(auto, using(cc_base::proofs::TestLemmas::carried, cc_base::proofs::TestLemmas::first_tests))]
+pub(crate) fn make_unit(
+    alloc: Global,
+    assembly: &Assembly<'_>,
+    slots: &mut [Slot],
+    method: &MethodRow,
+    signature: &Signature,
+    variables: &Variables,
+    own: OwnCode,
+) -> Result<Unit, UnitRefusal>
+    requires row { IsRowOf assembly.now method.now }
+    requires types { method.now.sig.types ≡ types.Known signature.now }
+    requires slots { AreSlots assembly.now slots.old }
+    requires variables { AreVariablesOf assembly.now method.now variables.now }
+    requires small { variables.now.max_stack ≤ 128 }
+    requires own { IsOwnCode assembly.now method.now own }
+    requires short { list_all (has_short_name assembly.now) (callee_tokens assembly.now method.now) ≡ true }
+    ensures slots { AreSlots assembly.now slots.new }
+    ensures judged { JudgesOrNoMemory result (first_of (kind_tests assembly.now method.now)) (HasParts assembly.now method.now) }
+{
+    let callees = callee_infos(alloc, assembly, slots, &own.callees)?;
+    let shape = shape_with(alloc, signature, variables, callees)?;
+    check_kinds(alloc, own.instrs.as_slice(), &shape)?;
+    let name = Vec::from_slice(alloc, unit_name(method))?;
+    let code = spell_code(alloc, own.instrs.as_slice())?;
+    Ok(Unit {
+        name: List::from_vec(name),
+        result: shape.result,
+        args: shape.args,
+        locals: shape.locals,
+        max_stack: shape.max_stack as u8,
+        callees: shape.callees,
+        code: List::from_vec(code),
+        clauses: own.contracts.clauses,
+        body_start: own.contracts.body_start,
+        instrs: own.instrs,
+    })
+}

@@ -1,0 +1,193 @@
+//! The units of an assembly, made on demand.
+
+ghost use Rattle.std.specs.Prelude.{◌≡◌, ◌<◌, ℕ, List, length, slice_get, Some, Err, IfOk};
+ghost use Rattle.std.specs.List.{AllByRecursion};
+ghost use Rattle.asm_image.specs.Rows.{methods_of};
+ghost use Rattle.asm_image.specs.declared.method_row.MethodRow.{MethodRow};
+ghost use Rattle.cc_base.specs.Tests.{first_of, JudgesOrNoMemory};
+ghost use Rattle.cil_model.specs.declared.unit.Unit.{Unit as MethodUnit};
+ghost use Rattle.unit_builder.specs.Bodies.{callee_tokens};
+ghost use Rattle.unit_builder.specs.Making.{HasParts, IsMade};
+ghost use Rattle.unit_builder.specs.Outcomes.{IfAnalysed, IsRunnable, entries_of, entry_of, outcome_of};
+ghost use Rattle.unit_builder.specs.Reasons.{reason_tests};
+ghost use Rattle.unit_builder.specs.Slots.{AreSlots};
+ghost use Rattle.unit_builder.specs.declared.entry.Outcome.TheVariants.{Analysed};
+
+use crate::calls::callees_in;
+use crate::entry::{MethodEntry, Outcome};
+use crate::header::read_variables;
+use crate::making::make_unit;
+use crate::own_code::own_code;
+use crate::reason::UnitRefusal;
+use crate::row::check_row;
+use crate::slots::Slot;
+use asm_image::{Assembly, MethodRow};
+use cc_base::{NoMemory, Refusal, Token};
+use cil_model::{List, Unit};
+use std::alloc::{AllocError, Global};
+use std::marker::Model;
+
+/// The units of an assembly. Contracts see the assembly's file.
+///
+/// The code of a method is read when it is first asked for, be it for its own unit or for a caller's, and not again as long as
+/// each unit is asked for once.
+#[derive(Drop)]
+pub struct Units<'a> {
+    assembly: &'a Assembly<'a>,
+    /// For each method, in the order of the table MethodDef.
+    slots: Vec<Slot>,
+}
+
+impl<'a> Model for Units<'a> {
+    ghost use Rattle.std.specs.Prelude.{List, ℕ};
+
+    ghost Value = { List ℕ };
+
+    ghost view = { λ units. units.assembly.now };
+
+    ghost use Rattle.unit_builder.specs.Slots.{AreSlots};
+
+    ghost invariant = { λ units. AreSlots units.assembly.now units.slots.items };
+}
+
+/// The unit of the method of an index, by its parts, or the first reason why it has none.
+#[tactic(auto, using(cc_base::proofs::TestLemmas::carried, cc_base::proofs::TestLemmas::appended, crate::proofs::RowFacts::indexed_row, crate::proofs::SlotLists::slot_set, crate::proofs::SlotLists::slot_there, crate::proofs::SlotLists::slot_within, crate::proofs::TestParts::row_body, crate::proofs::TestParts::own_short), unfolding(crate::specs::Reasons::reason_tests))]
+fn parts_at(
+    alloc: Global,
+    assembly: &Assembly<'_>,
+    slots: &mut [Slot],
+    index: usize,
+    method: &MethodRow,
+) -> Result<Unit, UnitRefusal>
+    requires slots { AreSlots assembly.now slots.old }
+    requires there { slice_get (methods_of assembly.now) index ≡ Some method.now }
+    ensures slots { AreSlots assembly.now slots.new }
+    ensures judged { JudgesOrNoMemory result (first_of (reason_tests assembly.now method.now)) (HasParts assembly.now method.now) }
+{
+    let signature = check_row(method)?;
+    let variables = read_variables(assembly, method, signature.args.len())?;
+    let own = own_code(alloc, assembly, method, &mut slots[index])?;
+    make_unit(alloc, assembly, slots, method, signature, &variables, own)
+}
+
+/// The same, as the rest of the project takes units.
+fn unit_at(
+    alloc: Global,
+    assembly: &Assembly<'_>,
+    slots: &mut [Slot],
+    index: usize,
+    method: &MethodRow,
+) -> Result<Unit, UnitRefusal>
+    requires slots { AreSlots assembly.now slots.old }
+    requires there { slice_get (methods_of assembly.now) index ≡ Some method.now }
+    ensures slots { AreSlots assembly.now slots.new }
+    ensures judged { JudgesOrNoMemory result (first_of (reason_tests assembly.now method.now)) (IsMade assembly.now method.now) }
+{
+    parts_at(alloc, assembly, slots, index, method)
+}
+
+/// What comes of a method that has no unit.
+fn skipped(refusal: UnitRefusal) -> Result<Outcome, NoMemory>
+    ensures value { (asm : List ℕ) (method : MethodRow) → JudgesOrNoMemory (Err refusal) (first_of (reason_tests asm method)) (IsMade asm method)
+        → IfOk result (λ outcome. outcome ≡ outcome_of asm method) }
+    ensures unit { IfOk result (λ outcome. IfAnalysed outcome IsRunnable) }
+{
+    match refusal {
+        Refusal::Bad(reason) => Ok(Outcome::Skipped(reason)),
+        Refusal::NoMemory => Err(AllocError),
+    }
+}
+
+/// What comes of a method that has a unit or not.
+fn outcome_of(unit: Result<Unit, UnitRefusal>) -> Result<Outcome, NoMemory>
+    ensures value { (asm : List ℕ) (method : MethodRow) → JudgesOrNoMemory unit (first_of (reason_tests asm method)) (IsMade asm method)
+        → IfOk result (λ outcome. outcome ≡ outcome_of asm method) }
+    ensures unit { (asm : List ℕ) (method : MethodRow) → JudgesOrNoMemory unit (first_of (reason_tests asm method)) (IsMade asm method)
+        → IfOk result (λ outcome. IfAnalysed outcome IsRunnable) }
+{
+    match unit {
+        Ok(unit) => Ok(Outcome::Analysed(unit)),
+        Err(refusal) => skipped(refusal),
+    }
+}
+
+impl<'a> Units<'a> {
+    /// The units of an assembly. Nothing is read yet.
+    pub fn of(alloc: Global, assembly: &'a Assembly<'a>) -> Result<Units<'a>, NoMemory>
+        ensures { IfOk result (λ units. units ≡ assembly.now) }
+    {
+        let mut slots = Vec::new(alloc);
+        for _method in assembly.methods() {
+            slots.push(Slot::Unread)?;
+        }
+        Ok(Units { assembly, slots })
+    }
+
+    /// The assembly.
+    pub fn assembly(&self) -> &'a Assembly<'a>
+        ensures { result.now ≡ self.now }
+    {
+        self.assembly
+    }
+
+    /// What comes of the method of an index, counted from 0: its unit, or the first reason why it is not analysed.
+    ///
+    /// Cost: what its code and the code of its callees take to be read, where nobody asked for them before; and besides the
+    /// passes that find kinds. The unit takes the instructions with it: who asks for the same unit again pays for the code again.
+    pub fn outcome(&mut self, alloc: Global, index: usize) -> Result<Outcome, NoMemory>
+        requires there { index < length (methods_of self.old) }
+        ensures same { self.new ≡ self.old }
+        ensures value { (method : MethodRow) → slice_get (methods_of self.old) index ≡ Some method → IfOk result (λ outcome. outcome ≡ outcome_of self.old method) }
+        ensures unit { IfOk result (λ outcome. IfAnalysed outcome IsRunnable) }
+    {
+        let method = &self.assembly.methods()[index];
+        outcome_of(unit_at(alloc, self.assembly, &mut self.slots, index, method))
+    }
+
+    /// The methods that are called in the body of the analysed method of an index, each once, in order of first use.
+    pub(crate) fn callees(&mut self, alloc: Global, index: usize) -> Result<Vec<Token>, NoMemory>
+        requires there { index < length (methods_of self.old) }
+        ensures same { self.new ≡ self.old }
+        ensures value { (method : MethodRow) (unit : MethodUnit) → slice_get (methods_of self.old) index ≡ Some method
+            → outcome_of self.old method ≡ Analysed unit → IfOk result (λ tokens. tokens.items ≡ callee_tokens self.old method) }
+    {
+        let method = &self.assembly.methods()[index];
+        callees_in(alloc, self.assembly, method, &mut self.slots[index])
+    }
+}
+
+/// The entry of a method.
+fn entry_at(
+    alloc: Global,
+    units: &mut Units<'_>,
+    index: usize,
+    method: &MethodRow,
+) -> Result<MethodEntry, NoMemory>
+    requires there { slice_get (methods_of units.old) index ≡ Some method.now }
+    ensures same { units.new ≡ units.old }
+    ensures value { IfOk result (λ entry. entry ≡ entry_of units.old method.now) }
+    ensures unit { IfOk result (λ entry. IfAnalysed entry.outcome IsRunnable) }
+{
+    Ok(MethodEntry {
+        token: method.token,
+        name: List::from_vec(Vec::from_slice(alloc, method.name.as_slice())?),
+        outcome: units.outcome(alloc, index)?,
+    })
+}
+
+/// An entry for each method of an assembly, in the order of the table MethodDef.
+///
+/// Cost: the code of each method is read once, however many callers it has.
+pub fn build_units(alloc: Global, assembly: &Assembly<'_>) -> Result<Vec<MethodEntry>, NoMemory>
+    // One entry for each row: its printed name, and its unit or the first reason that holds.
+    ensures entries { IfOk result (λ entries. entries.items ≡ entries_of assembly.now) }
+    // Each unit is well formed, and its body can be run.
+    ensures units { IfOk result (λ entries. AllByRecursion (λ entry. IfAnalysed entry.outcome IsRunnable) entries.items) }
+{
+    let mut units = Units::of(alloc, assembly)?;
+    let mut entries = Vec::new(alloc);
+    for index in 0..assembly.methods().len() {
+        entries.push(entry_at(alloc, &mut units, index, &assembly.methods()[index])?)?;
+    }
+    Ok(entries)
+}
