@@ -7,7 +7,11 @@ pub mod NormalForms
 pub mod MadeHold
 pub mod MovesHold
 pub mod ResultsHold
+pub mod Operands
+pub mod Avoided
+pub mod AvoidingSteps
 pub mod Examples
+pub mod AvoidingExamples
 pub mod NumbersStay
 pub mod FrameVariables
 pub mod StateLaws

@@ -13,6 +13,8 @@ pub mod Moves
 pub mod Operands
 pub mod Arithmetic
 pub mod Assumptions
+pub mod Faults
+pub mod Avoiding
 pub mod OwnRanges
 pub mod OwnNumbers
 pub mod Int32Numbers

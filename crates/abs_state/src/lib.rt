@@ -1,7 +1,10 @@
 //! What is known of a frame: the state of the analysis before an instruction.
 #![tactic(auto)]
 
+mod avoidance;
 mod equality;
+mod faults;
+mod invariant;
 mod joins;
 mod known;
 mod lattice;
@@ -11,6 +14,9 @@ mod operators;
 mod parts;
 mod state;
 
+pub use avoidance::{avoid, avoid_all, constant};
+pub use faults::faults_of;
+pub use invariant::Invariant;
 pub use number::Number;
 pub use parts::Parts;
 pub use state::AbsState;

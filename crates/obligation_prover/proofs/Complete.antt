@@ -39,8 +39,9 @@ use Rattle.cil_model.specs.declared.unit_numbers.UnitCall.{UnitCall}
 use Rattle.cil_model.specs.declared.unit_numbers.UnitCall.TheVariants as calls
 use Rattle.cil_model.proofs.KindsSettle.{found_at}
 use Rattle.cil_model.proofs.Lists.{of_found}
+use Rattle.abs_state.specs.Faults.{IsAmong, operator_faults, call_faults, faults_of}
 use Rattle.obligation_prover.specs.EachFault.{EndsInNoOther, IsOfNumbers, ListsEachFault, is_of_array}
-use Rattle.obligation_prover.specs.Faults.{IsAmong, operator_faults, call_faults, faults_of, obligation, obligations_in, obligations_of}
+use Rattle.obligation_prover.specs.Obligations.{obligation, obligations_in, obligations_of}
 use Rattle.obligation_prover.proofs.RuledOut.{comparison_no_fault, gives_fault}
 
 -- ---- operators

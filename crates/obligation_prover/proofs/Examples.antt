@@ -12,21 +12,16 @@ use Rattle.cil_model.specs.declared.machine.Value.TheVariants as values
 use Rattle.cil_model.specs.declared.place.Place.TheVariants as places
 use Rattle.cil_model.specs.declared.unit.Unit.{Unit as MethodUnit}
 use Rattle.domain_api.specs.declared.expr.Expr.{Expr}
-use Rattle.interval_domain.specs.Interval.{Interval, interval, between, without, lost, raised, holed, inner_hole}
+use Rattle.interval_domain.specs.Interval.{Interval, interval, between}
 use Rattle.number_facts.specs.Arith.{exact}
 use Rattle.number_facts.specs.Addition.{exact_difference}
-use Rattle.number_facts.specs.Assume.{assumed, holding, changed, lowered, raised as raised_to, lost as lost_by, assumed_at_most, assumed_apart, ordered}
 use Rattle.number_facts.specs.Facts.{range_at, range_of}
-use Rattle.number_facts.specs.Fresh.{range_without}
-use Rattle.number_facts.specs.Gap.{gap, at_most, equal}
 use Rattle.number_facts.specs.Spans.{moved, excludes}
-use Rattle.abs_state.specs.Assumptions.{assuming}
 use Rattle.abs_state.specs.FrameFacts.{FrameFacts}
 use Rattle.abs_state.specs.Operands.{from_top}
-use Rattle.obligation_prover.specs.Avoiding.{avoiding, amount, no_division_overflow}
 use Rattle.obligation_prover.specs.EachFault.{ListsEachFault}
 use Rattle.obligation_prover.specs.Entailed.{entailed, entailed_by, rules_out, are_int32, are_amounts}
-use Rattle.obligation_prover.specs.Faults.{obligation, obligations_of}
+use Rattle.obligation_prover.specs.Obligations.{obligation, obligations_of}
 
 abbrev expr : ℕ → ℤ → Expr
 expr s k = record { sym = s; k = k }
@@ -94,33 +89,6 @@ difference_past_the_least = refl
 
 nothing_reached : entailed (ops.Bin operators.Div) faults.DivZero None ≡ true
 nothing_reached = refl
-
--- ---- what is assumed
-
-zero_lost : avoiding faults.DivZero (below (pos 7) (between (pos 0) (pos 9))) ≡ Some (below (pos 7) (between (pos 1) (pos 9)))
-unfolding avoiding assuming assumed holding assumed_apart equal at_most gap lost_by changed ordered assumed_at_most lowered raised_to range_without without lost raised holed inner_hole range_of range_at moved from_top
-zero_lost = refl
-
-zero_inside : avoiding faults.Assert (below (pos 7) (between (negsuc 4) (pos 9))) ≡ Some (below (pos 7) (interval (negsuc 4) (pos 9) (Some (pos 0))))
-unfolding avoiding assuming assumed holding assumed_apart equal at_most gap lost_by changed ordered assumed_at_most lowered raised_to range_without without lost raised holed inner_hole range_of range_at moved from_top
-zero_inside = refl
-
-zero_alone : avoiding faults.Assert (frame (expr 0 (pos 0) ∷ []) []) ≡ None
-unfolding avoiding assuming assumed holding assumed_apart equal at_most gap from_top
-zero_alone = refl
-
-amount_cut : avoiding faults.Shift (below (pos 1) (between (negsuc 2) (pos 40))) ≡ Some (below (pos 1) (between (pos 0) (pos 31)))
-unfolding avoiding amount assuming assumed holding at_most gap changed assumed_at_most lowered raised_to range_without range_of range_at moved from_top
-amount_cut = refl
-
--- by the constant -1 the least int32 is not divided, and of two that are no constants nothing is assumed
-least_lost : avoiding faults.DivOverflow (above (between (negsuc 2147483647) (pos 9)) (negsuc 0)) ≡ Some (above (between (negsuc 2147483646) (pos 9)) (negsuc 0))
-unfolding avoiding no_division_overflow assuming assumed holding assumed_apart equal at_most gap lost_by changed ordered assumed_at_most lowered raised_to range_without without lost raised holed inner_hole range_of range_at moved from_top
-least_lost = refl
-
-overflow_left : avoiding faults.Overflow (above (between (pos 0) (pos 2147483647)) (pos 1)) ≡ Some (above (between (pos 0) (pos 2147483647)) (pos 1))
-unfolding avoiding
-overflow_left = refl
 
 -- ---- which obligations there are
 

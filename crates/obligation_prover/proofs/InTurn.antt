@@ -8,13 +8,13 @@ use Rattle.cil_model.specs.declared.machine.FaultKind.{FaultKind}
 use Rattle.cil_model.specs.declared.machine.Frame.{Frame}
 use Rattle.cil_model.specs.declared.unit.Unit.{Unit as MethodUnit}
 use Rattle.abs_state.specs.FrameFacts.{State}
-use Rattle.obligation_prover.specs.Avoiding.{avoid}
+use Rattle.abs_state.specs.Avoiding.{avoid}
+use Rattle.abs_state.specs.Faults.{IsAmong, faults_of}
+use Rattle.abs_state.proofs.Avoided.{Stands, avoid_stands}
+use Rattle.abs_state.proofs.AvoidingSteps.{formed}
 use Rattle.obligation_prover.specs.EachFault.{AreEntailedInTurn, RulesOutInTurn, is_of_array}
-use Rattle.obligation_prover.specs.Faults.{IsAmong, faults_of}
-use Rattle.obligation_prover.proofs.Avoided.{Stands, avoid_stands}
 use Rattle.obligation_prover.proofs.Complete.{no_other}
 use Rattle.obligation_prover.proofs.RuledOut.{entailed_is_no_fault}
-use Rattle.obligation_prover.proofs.Steps.{formed}
 
 same_fault : (a b : FaultKind) → Faults a ≡ Faults b → a ≡ b
 same_fault a b same = cc

@@ -36,8 +36,9 @@ use Rattle.number_facts.proofs.SumLaws.{sums_have, differences_have}
 use Rattle.abs_state.specs.FrameFacts.{FrameFacts, State}
 use Rattle.abs_state.specs.Frames.{HoldsIn}
 use Rattle.abs_state.specs.Operands.{from_top}
+use Rattle.abs_state.proofs.Operands.{top_is, two_are}
 use Rattle.obligation_prover.specs.Entailed.{are_int32, are_amounts, rules_out, rules_out_at_call, entailed_by, entailed}
-use Rattle.obligation_prover.proofs.Operands.{top_is, two_are}
+use Rattle.obligation_prover.specs.Meaning.{RulesOut}
 
 -- ---- numbers that ranges exclude
 
@@ -243,3 +244,6 @@ pub entailed_is_no_fault : (state : State) (unit : MethodUnit) (i : Instr) (f : 
     → entailed i.op kind state ≡ true → HoldsIn state f → HasEffect (effects unit i f heap) (Faults kind) → ⊥
 entailed_is_no_fault None unit i f heap kind out holds has = elim holds.holds [ ]
 entailed_is_no_fault (Some known) unit i f heap kind out holds has = op_fault known f holds i heap kind i.op unit out has
+
+pub entailed_rules_out : (op : Op) (kind : FaultKind) (state : State) → entailed op kind state ≡ true → RulesOut op kind state
+entailed_rules_out op kind state is = λ unit i f heap same holds has. entailed_is_no_fault state unit i f heap kind (rw same is) holds has

@@ -13,10 +13,10 @@ use Rattle.cil_model.specs.declared.machine.FaultKind.{FaultKind}
 use Rattle.cil_model.specs.declared.machine.Frame.{Frame}
 use Rattle.cil_model.specs.declared.machine.Obligation.{Obligation}
 use Rattle.cil_model.specs.declared.unit.Unit.{Unit as MethodUnit}
+use Rattle.abs_state.specs.Avoiding.{avoid}
+use Rattle.abs_state.specs.Faults.{IsAmong}
 use Rattle.abs_state.specs.FrameFacts.{State, HasForm}
-use Rattle.obligation_prover.specs.Avoiding.{avoid}
 use Rattle.obligation_prover.specs.Entailed.{entailed}
-use Rattle.obligation_prover.specs.Faults.{IsAmong}
 use Rattle.obligation_prover.specs.Meaning.{RulesOut}
 
 -- The operation makes an array, asks for its length, or loads or stores an item.

@@ -1,5 +1,4 @@
-pub mod Faults
+pub mod Obligations
 pub mod Entailed
-pub mod Avoiding
 pub mod Meaning
 pub mod EachFault

@@ -6,10 +6,10 @@ ghost use Rattle.cil_model.specs.Arithmetic.{LEAST, GREATEST};
 ghost use Rattle.number_facts.specs.Arith.{exact};
 ghost use Rattle.number_facts.specs.Facts.{range_of};
 ghost use Rattle.number_facts.specs.Spans as spans;
+ghost use Rattle.abs_state.specs.Faults.{operands_of};
 ghost use Rattle.abs_state.specs.FrameFacts.{IsNumber};
 ghost use Rattle.obligation_prover.specs.Entailed.{are_int32, are_amounts, rules_out, rules_out_at_call, entailed_by, entailed};
 ghost use Rattle.obligation_prover.specs.Meaning.{RulesOut};
-ghost use Rattle.obligation_prover.specs.Faults.{operands_of};
 
 use abs_state::AbsState;
 use cil_model::{BinOp, FaultKind, Op};

@@ -1,65 +1,33 @@
-//! The faults in which instructions may end.
+//! The faults that are to be ruled out.
 
 ghost use Rattle.std.specs.Prelude.{◌≡◌, ◌++◌, IfOk, OnOk};
+ghost use Rattle.abs_state.specs.Faults.{faults_of};
 ghost use Rattle.obligation_prover.specs.EachFault.{EndsInNoOther, RulesOutInTurn, ListsEachFault};
-ghost use Rattle.obligation_prover.specs.Faults.{operator_faults, call_faults, faults_of, obligations_at, obligations_in, obligations_of};
+ghost use Rattle.obligation_prover.specs.Obligations.{obligations_at, obligations_in, obligations_of};
 
-use cil_model::{BinOp, FaultKind, Instr, Obligation, Op, Unit, UnitCall, unit_call};
+use abs_state::faults_of;
+use cil_model::{FaultKind, Instr, Obligation, Op, Unit};
 use domain_api::NoMemory;
 use std::alloc::Global;
 
-/// The faults of an operator, in the order in which the machine tests for them.
-fn operator_faults(op: BinOp) -> &'static [FaultKind]
-    ensures { result.now ≡ operator_faults op }
-{
-    match op {
-        BinOp::Div | BinOp::Rem => &[FaultKind::DivZero, FaultKind::DivOverflow],
-        BinOp::DivUn | BinOp::RemUn => &[FaultKind::DivZero],
-        BinOp::Shl | BinOp::Shr | BinOp::ShrUn => &[FaultKind::Shift],
-        BinOp::AddOvf | BinOp::MulOvf | BinOp::SubOvf => &[FaultKind::Overflow],
-        _ => &[],
-    }
-}
-
-/// The faults of a call.
-fn call_faults(call: Option<UnitCall>) -> &'static [FaultKind]
-    ensures { result.now ≡ call_faults call }
-{
-    match call {
-        Some(UnitCall::Assert(_)) => &[FaultKind::Assert],
-        _ => &[],
-    }
-}
-
-/// The faults of an operation.
-fn faults_by_operation(op: &Op) -> &'static [FaultKind]
-    ensures { result.now ≡ faults_of op.now }
-{
-    match op {
-        Op::Bin(operator) => operator_faults(*operator),
-        Op::Call(number) => call_faults(unit_call(*number)),
-        _ => &[],
-    }
-}
-
-/// The faults in which an operation on numbers may end, in the order in which the machine tests for them.
+/// The faults that are to be ruled out at an operation on numbers, in the order in which the machine tests for them.
 ///
 /// Cost: constant.
-pub fn faults_of(op: &Op) -> &'static [FaultKind]
+pub fn faults_to_rule_out(op: &Op) -> &'static [FaultKind]
     ensures value { result.now ≡ faults_of op.now }
     // Where the operation is not one of arrays, no instruction with it ends in another fault.
     ensures complete { EndsInNoOther op.now result.now }
     // Where a state entails each of them in turn, no instruction with it ends in a fault.
     ensures safe { RulesOutInTurn op.now result.now }
 {
-    faults_by_operation(op)
+    faults_of(op)
 }
 
 /// Appends the obligations of an instruction.
 fn push_obligations(found: &mut Vec<Obligation>, instr: &Instr) -> Result<(), NoMemory>
     ensures { OnOk result (found.new.items ≡ found.old.items ++ obligations_at instr.now) }
 {
-    for kind in faults_of(&instr.op) {
+    for kind in faults_to_rule_out(&instr.op) {
         found.push(Obligation {
             at: instr.at,
             kind: *kind,

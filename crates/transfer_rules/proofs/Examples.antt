@@ -22,7 +22,7 @@ use Rattle.abs_state.specs.FrameFacts.{FrameFacts}
 use Rattle.abs_state.specs.Moves.{appended, pushed, popped, placed, with_placed}
 use Rattle.abs_state.specs.NormalForm.{number_at, of_numbers}
 use Rattle.abs_state.specs.Operands.{from_top}
-use Rattle.obligation_prover.specs.Avoiding.{avoiding, amount, no_division_overflow}
+use Rattle.abs_state.specs.Avoiding.{avoiding, amount, no_division_overflow}
 use Rattle.transfer_rules.specs.Acts.{acted, loaded, stored, negated, behind_test}
 use Rattle.transfer_rules.specs.Choices.{tested, switched, chosen}
 use Rattle.transfer_rules.specs.Entry.{entry, zero_in}

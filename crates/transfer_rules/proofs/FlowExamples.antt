@@ -33,6 +33,7 @@ use Rattle.abs_state.specs.Operands.{from_top}
 use Rattle.transfer_rules.specs.Acts.{acted, behind_test}
 use Rattle.transfer_rules.specs.Choices.{chosen, tested}
 use Rattle.transfer_rules.specs.Flow.{along_edge, block_instrs, edge_at}
+use Rattle.transfer_rules.specs.FlowOf.{flow_of, kinds_of}
 use Rattle.transfer_rules.specs.Post.{post, along}
 use Rattle.transfer_rules.specs.Unknown.{unknown}
 use Rattle.transfer_rules.specs.declared.unit_flow.UnitFlow.{UnitFlow}
@@ -49,6 +50,11 @@ unit = method [] places.Void (places.Bool ∷ []) [] [] 0 [] ((1, ops.Const (pos
 
 abbrev code : UnitFlow
 code = record { unit = unit; graph = graph_of unit; kinds = Some [] ∷ Some (Int ∷ []) ∷ Some [] ∷ Some [] ∷ [] }
+
+-- the passes bring these kinds
+found : flow_of unit ≡ code
+unfolding kinds_of
+found = refl
 
 abbrev instr : ℕ → ℕ → Op → Instr
 instr at size op = record { at = at; size = size; op = op }

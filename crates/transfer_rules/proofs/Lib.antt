@@ -5,5 +5,7 @@ pub mod Examples
 pub mod FlowExamples
 pub mod WayLaws
 pub mod Constructing
+pub mod Settled
+pub mod KindsFound
 pub mod Slicing
 pub mod Inducing

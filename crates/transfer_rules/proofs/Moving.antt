@@ -18,8 +18,8 @@ use Rattle.abs_state.specs.Arithmetic.{arith as result_pushed, compare, with_res
 use Rattle.abs_state.specs.FrameFacts.{FrameFacts, State, IsNumber, variables_in}
 use Rattle.abs_state.specs.Moves.{push, pop, put, pushed, popped, with_placed}
 use Rattle.abs_state.specs.Operands.{from_top}
+use Rattle.abs_state.specs.Avoiding.{avoiding, avoid}
 use Rattle.abs_state.proofs.NumbersStay.{popped_keeps}
-use Rattle.obligation_prover.specs.Avoiding.{avoiding, avoid}
 use Rattle.transfer_rules.specs.Acts.{loaded, stored, duplicated, returned, given, operated, negated, complemented, behind_call, behind_test}
 use Rattle.transfer_rules.specs.Placing.{item_there}
 

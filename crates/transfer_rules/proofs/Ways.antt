@@ -14,8 +14,8 @@ use Rattle.number_facts.specs.Facts.{constant}
 use Rattle.abs_state.specs.Assumptions.{assume}
 use Rattle.abs_state.specs.FrameFacts.{FrameFacts, State, variables_in}
 use Rattle.abs_state.specs.Operands.{from_top}
-use Rattle.obligation_prover.specs.Faults.{operands_of}
-use Rattle.obligation_prover.proofs.Steps.{assuming_has, then_has, has_for, for_has, HasVariables}
+use Rattle.abs_state.specs.Faults.{operands_of}
+use Rattle.abs_state.proofs.AvoidingSteps.{assuming_has, then_has, has_for, for_has, HasVariables}
 use Rattle.transfer_rules.specs.Acts.{variables_read}
 use Rattle.transfer_rules.specs.Choices.{tested, switched, chosen, values_tested}
 

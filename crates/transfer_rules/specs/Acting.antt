@@ -42,15 +42,15 @@ use Rattle.abs_state.specs.FrameFacts.{FrameFacts, State, HasForm, HoldsBy, Hold
 use Rattle.abs_state.specs.Frames.{HoldsIn, variables_of}
 use Rattle.abs_state.specs.Moves.{pushed, popped, with_placed}
 use Rattle.abs_state.specs.Operands.{from_top}
+use Rattle.abs_state.specs.Avoiding.{top_compares}
 use Rattle.abs_state.proofs.FormsKept.{constant_number, popped_form}
 use Rattle.abs_state.proofs.FrameVariables.{variables_of-stack, variables_of-args, variables_of-locals}
 use Rattle.abs_state.proofs.MadeHold.{worth_fits}
 use Rattle.abs_state.proofs.MovesHold.{pushed_holds, put_holds}
 use Rattle.abs_state.proofs.NumbersStay.{popped_keeps}
 use Rattle.abs_state.proofs.ResultsHold.{result_holds, truth_holds}
-use Rattle.obligation_prover.specs.Avoiding.{top_compares}
-use Rattle.obligation_prover.proofs.Avoided.{top_stands}
-use Rattle.obligation_prover.proofs.Operands.{top_is, two_are, read_number}
+use Rattle.abs_state.proofs.Avoided.{top_stands}
+use Rattle.abs_state.proofs.Operands.{top_is, two_are, read_number}
 use Rattle.transfer_rules.specs.Acts.{acted, is_told, is_told_call, loaded, stored, duplicated, given, operated, negated, complemented, behind_call, behind_test, arg_place, local_place, type_of}
 use Rattle.transfer_rules.specs.Placing.{HasArgs, number_at, value_at, arg_at, local_at, item_there, place_below, with_last, popped_by}
 

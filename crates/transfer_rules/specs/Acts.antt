@@ -23,7 +23,7 @@ use Rattle.abs_state.specs.Arithmetic.{with_result, with_truth}
 use Rattle.abs_state.specs.FrameFacts.{FrameFacts, State}
 use Rattle.abs_state.specs.Moves.{pushed, popped, with_placed}
 use Rattle.abs_state.specs.Operands.{from_top}
-use Rattle.obligation_prover.specs.Avoiding.{top_compares}
+use Rattle.abs_state.specs.Avoiding.{top_compares}
 
 -- ---- which operations are told of
 

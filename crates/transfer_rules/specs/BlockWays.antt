@@ -30,13 +30,13 @@ use Rattle.transfer_rules.specs.Placing.{item_there}
 -- ---- lists
 
 module _ {X : Type 0} (P : X → Type 0) (p : X → Bool) where
-  among : (xs : List X) → AllByRecursion P (filter p xs) → AllByRecursion (λ x. p x ≡ true → P x) xs
+  pub among : (xs : List X) → AllByRecursion P (filter p xs) → AllByRecursion (λ x. p x ≡ true → P x) xs
   among [] all = tt
   among (x ∷ xs) all =
       cond_both (p x) (x ∷ filter p xs) (filter p xs) (λ (ys : List X). AllByRecursion P ys → (p x ≡ true → P x) × AllByRecursion (λ y. p y ≡ true → P y) xs)
       (λ e here. (λ f. here.0, among xs here.1)) (λ e rest. (λ f. absurd (false≢true (sym e ∙ f)), among xs rest)) all
 
-both : {X : Type 0} (P Q : X → Type 0) (xs : List X) → AllByRecursion P xs → AllByRecursion Q xs → AllByRecursion (λ x. P x × Q x) xs
+pub both : {X : Type 0} (P Q : X → Type 0) (xs : List X) → AllByRecursion P xs → AllByRecursion Q xs → AllByRecursion (λ x. P x × Q x) xs
 both P Q [] first second = tt
 both P Q (x ∷ xs) first second = ((first.0, second.0), both P Q xs first.1 second.1)
 
@@ -151,14 +151,14 @@ found_more i is (j ∷ js) low less high found =
     let e : (i.at == j.at) ≡ false = grind (arith, nat_tests, less, above) in
     (rw e found.0, found_more i is js low less high.1 found.1)
 
-each_found : (at : ℕ) (is : List Instr) → LieFrom at is → AllByRecursion IsOfShortCode is → AllByRecursion (λ i. instr_at is i.at ≡ Some i) is
+pub each_found : (at : ℕ) (is : List Instr) → LieFrom at is → AllByRecursion IsOfShortCode is → AllByRecursion (λ i. instr_at is i.at ≡ Some i) is
 each_found at [] lie each = tt
 each_found at (i ∷ is) lie each = (
   rw (eq-eqb i.at i.at refl) refl,
   found_more i is is (at + i.size) (omega (arith, lie.0, each.0.some)) (all_after (at + i.size) (at + i.size) is (omega arith) lie.1) (each_found (at + i.size) is lie.1 each.1),
 )
 
-all_kept : (start at : ℕ) (is : List Instr) → start ≤ at → LieFrom at is → filter (λ i. nat_le start i.at) is ≡ is
+pub all_kept : (start at : ℕ) (is : List Instr) → start ≤ at → LieFrom at is → filter (λ i. nat_le start i.at) is ≡ is
 all_kept start at [] le lie = refl
 all_kept start at (i ∷ is) le lie =
     let e : nat_le start i.at ≡ true = (let f = lie.0 in grind (arith, nat_tests)) in
@@ -171,7 +171,7 @@ none_behind at start (i ∷ is) lie less begins =
     none_behind (at + i.size) start is lie.1 (omega arith) (rw e at begins)
 
 -- The instructions from the start of one on.
-rest_lies : (start at : ℕ) (is : List Instr) → LieFrom at is → begins_at is start ≡ true → LieFrom start (filter (λ i. nat_le start i.at) is)
+pub rest_lies : (start at : ℕ) (is : List Instr) → LieFrom at is → begins_at is start ≡ true → LieFrom start (filter (λ i. nat_le start i.at) is)
 rest_lies start at [] lie begins = tt
 rest_lies start at (i ∷ is) lie begins =
     elim (cases_Bool (i.at == start)) [
@@ -190,7 +190,7 @@ rest_lies start at (i ∷ is) lie begins =
           ]
     ]
 
-found_in_rest : (start : ℕ) (is : List Instr) (at : ℕ) → start ≤ at → instr_at (filter (λ i. nat_le start i.at) is) at ≡ instr_at is at
+pub found_in_rest : (start : ℕ) (is : List Instr) (at : ℕ) → start ≤ at → instr_at (filter (λ i. nat_le start i.at) is) at ≡ instr_at is at
 found_in_rest start [] at le = refl
 found_in_rest start (i ∷ is) at le =
     elim (cases_Bool (nat_le start i.at)) [
@@ -200,7 +200,7 @@ found_in_rest start (i ∷ is) at le =
 
 -- ---- where blocks start
 
-start_there : (q : ℕ → Bool) (is : List Instr) (at : ℕ) → q at ≡ true → begins_at is at ≡ true → list_any (λ n. n == at) (map (λ i. i.at) (filter (λ i. q i.at) is)) ≡ true
+pub start_there : (q : ℕ → Bool) (is : List Instr) (at : ℕ) → q at ≡ true → begins_at is at ≡ true → list_any (λ n. n == at) (map (λ i. i.at) (filter (λ i. q i.at) is)) ≡ true
 start_there q [] at passes begins = absurd (false≢true begins)
 start_there q (i ∷ is) at passes begins =
     elim (cases_Bool (i.at == at)) [
@@ -231,7 +231,7 @@ found_begins [] at i found = absurd (none-some i found)
 found_begins (j ∷ is) at i found =
     elim (cases_Bool (j.at == at)) [ inl e ↦ rw e refl | inr e ↦ or_right (j.at == at) (begins_at is at) (found_begins is at i (rw e at found)) ]
 
-found_passes : (q : Instr → Bool) (is : List Instr) (at : ℕ) (i : Instr) → instr_at is at ≡ Some i → q i ≡ true → list_any q is ≡ true
+pub found_passes : (q : Instr → Bool) (is : List Instr) (at : ℕ) (i : Instr) → instr_at is at ≡ Some i → q i ≡ true → list_any q is ≡ true
 found_passes q [] at i found e = absurd (none-some i found)
 found_passes q (j ∷ is) at i found e =
     cond_both (j.at == at) _ _ (λ (other : Option Instr). other ≡ Some i → (q j || list_any q is) ≡ true)
@@ -267,7 +267,7 @@ record IsGood (unit : MethodUnit) (i : Instr) : Type 0 where
   some : 0 < i.size
 
 -- What lies behind an offset that is not before the end is not before it either.
-none_before : (end : Option ℕ) (at : ℕ) (is : List Instr) → is_before end at ≡ false → AllByRecursion (λ i. at ≤ i.at) is → filter (λ i. is_before end i.at) is ≡ []
+pub none_before : (end : Option ℕ) (at : ℕ) (is : List Instr) → is_before end at ≡ false → AllByRecursion (λ i. at ≤ i.at) is → filter (λ i. is_before end i.at) is ≡ []
 none_before end at [] late all = refl
 none_before None at (i ∷ is) late all = absurd (false≢true (sym late))
 none_before (Some end) at (i ∷ is) late all =

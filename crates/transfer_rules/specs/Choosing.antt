@@ -31,8 +31,8 @@ use Rattle.abs_state.specs.Operands.{from_top}
 use Rattle.abs_state.proofs.FormsKept.{constant_number}
 use Rattle.abs_state.proofs.MadeHold.{worth_fits}
 use Rattle.abs_state.proofs.ResultsHold.{assuming_holds}
-use Rattle.obligation_prover.proofs.Avoided.{Stands, assuming_formed}
-use Rattle.obligation_prover.proofs.Operands.{top_is, two_are, read_number}
+use Rattle.abs_state.proofs.Avoided.{Stands, assuming_formed}
+use Rattle.abs_state.proofs.Operands.{top_is, two_are, read_number}
 use Rattle.transfer_rules.specs.Choices.{tested, switched, chosen, side, way_of_test, way_of_switch, way_of, IsShortSwitch}
 
 side_is : (b : Bool) → b ≡ (side (Some b) == 0)

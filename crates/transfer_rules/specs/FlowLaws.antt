@@ -62,7 +62,7 @@ module _ (unit : MethodUnit) where
   widen_kept (Some stack) (Some a) (Some b) first second =
       record { form = widened_form a b first.form second.form; count = count_of_pairs widened a b (first.count ∙ sym second.count) ∙ first.count }
 
-  norm_kept : (stack : Option (List Kind)) (state : State) → FitsKinds unit stack state → FitsKinds unit stack (norm state)
+  pub norm_kept : (stack : Option (List Kind)) (state : State) → FitsKinds unit stack state → FitsKinds unit stack (norm state)
   norm_kept stack None fits = tt
   norm_kept None (Some known) fits = elim fits [ ]
   norm_kept (Some stack) (Some known) has = record { form = normal_form known has.form; count = count_of_normal known ∙ has.count }
@@ -82,7 +82,7 @@ module _ (code : UnitFlow) (lawful : IsLawful code) where
   pub decoded : AreDecoded unit.instrs
   decoded = code_is_decoded unit.instrs unit.code lawful.unit.formed.code
 
-  starts : slice_get code.graph.blocks 0 ≡ Some unit.body_start
+  pub starts : slice_get code.graph.blocks 0 ≡ Some unit.body_start
   starts =
       subst (λ (g : Graph). slice_get g.blocks 0 ≡ Some unit.body_start) (sym lawful.graph)
       (first_block unit short (found (reached_begins unit.instrs code.kinds unit.body_start [] lawful.body.empty)))

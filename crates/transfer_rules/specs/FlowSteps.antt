@@ -23,8 +23,8 @@ use Rattle.cil_model.proofs.KindsSettle.{Absorbs, Settled, settled}
 use Rattle.cil_model.proofs.Lists.{of_found}
 use Rattle.abs_state.specs.FrameFacts.{FrameFacts, State, HasForm}
 use Rattle.abs_state.specs.Frames.{HoldsIn}
-use Rattle.obligation_prover.specs.Avoiding.{avoid_all}
-use Rattle.obligation_prover.specs.Faults.{faults_of}
+use Rattle.abs_state.specs.Avoiding.{avoid_all}
+use Rattle.abs_state.specs.Faults.{faults_of}
 use Rattle.transfer_rules.specs.Acts.{acted, is_told, IsReady, variables_read, operands}
 use Rattle.transfer_rules.specs.BlockWays.{IsPassed, IsLeft, IsWay}
 use Rattle.transfer_rules.specs.Choices.{chosen}

@@ -32,9 +32,9 @@ use Rattle.cil_model.specs.declared.unit_numbers.UnitCall.TheVariants as calls
 use Rattle.number_facts.specs.Assume.{assumed}
 use Rattle.number_facts.specs.Facts.{Facts, constant}
 use Rattle.number_facts.specs.Owed.{Shifts}
-use Rattle.abs_state.specs.Arithmetic.{with_result, with_truth, on_top}
 use Rattle.number_facts.specs.Comparisons.{compared}
 use Rattle.number_facts.specs.Fresh.{Made}
+use Rattle.abs_state.specs.Arithmetic.{with_result, with_truth, on_top}
 use Rattle.abs_state.specs.Assumptions.{assuming, with_facts}
 use Rattle.abs_state.specs.FrameFacts.{FrameFacts, State, IsNumber}
 use Rattle.abs_state.specs.Moves.{appended, pushed, popped, with_placed}
@@ -43,11 +43,11 @@ use Rattle.abs_state.specs.NormalForm.{number_at}
 use Rattle.abs_state.specs.Operands.{from_top}
 use Rattle.abs_state.specs.declared.number.Number.{Number}
 use Rattle.abs_state.specs.declared.number.Number.TheVariants.{Constant, Among}
+use Rattle.abs_state.specs.Avoiding.{is_just, top_compares, no_division_overflow, amount, avoiding, avoid, avoid_all}
 use Rattle.abs_state.proofs.FormsKept.{assuming_form, constant_number, pushed_form, popped_form, put_form, truth_form}
 use Rattle.abs_state.proofs.NumbersStay.{popped_keeps}
 use Rattle.abs_state.proofs.ResultForms.{result_form}
-use Rattle.obligation_prover.specs.Avoiding.{is_just, top_compares, no_division_overflow, amount, avoiding, avoid, avoid_all}
-use Rattle.obligation_prover.proofs.Operands.{read_number}
+use Rattle.abs_state.proofs.Operands.{read_number}
 use Rattle.transfer_rules.specs.Acts.{acted, is_told, is_told_call, loaded, stored, duplicated, given, operated, negated, complemented, behind_call, behind_test, arg_place, local_place, type_of, IsReady}
 use Rattle.transfer_rules.specs.Choices.{tested, switched, chosen}
 use Rattle.transfer_rules.specs.Flow.{HasVariables, variable_count}

@@ -10,6 +10,7 @@ pub mod Ready
 pub mod PostLaws
 pub mod EntryLaws
 pub mod Flow
+pub mod FlowOf
 pub mod SwitchSizes
 pub mod BlockWays
 pub mod FormsBehind

@@ -4,8 +4,8 @@ use Rattle.std.specs.Option.{option_and_then}
 use Rattle.cil_model.specs.declared.instruction.Op.{Op}
 use Rattle.cil_model.specs.declared.unit.Unit.{Unit as MethodUnit}
 use Rattle.abs_state.specs.FrameFacts.{State}
-use Rattle.obligation_prover.specs.Avoiding.{avoid_all}
-use Rattle.obligation_prover.specs.Faults.{faults_of}
+use Rattle.abs_state.specs.Avoiding.{avoid_all}
+use Rattle.abs_state.specs.Faults.{faults_of}
 use Rattle.transfer_rules.specs.Acts.{acted}
 use Rattle.transfer_rules.specs.Choices.{chosen}
 

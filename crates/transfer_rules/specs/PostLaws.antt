@@ -9,10 +9,10 @@ use Rattle.cil_model.specs.declared.machine.Frame.{Frame}
 use Rattle.cil_model.specs.declared.unit.Unit.{Unit as MethodUnit}
 use Rattle.abs_state.specs.FrameFacts.{FrameFacts, State, HasForm}
 use Rattle.abs_state.specs.Frames.{HoldsIn}
-use Rattle.obligation_prover.specs.Avoiding.{avoid_all}
-use Rattle.obligation_prover.specs.Faults.{faults_of}
-use Rattle.obligation_prover.proofs.Avoided.{Stands, then_stands, avoid_all_stands}
-use Rattle.obligation_prover.proofs.Steps.{formed}
+use Rattle.abs_state.specs.Avoiding.{avoid_all}
+use Rattle.abs_state.specs.Faults.{faults_of}
+use Rattle.abs_state.proofs.Avoided.{Stands, then_stands, avoid_all_stands}
+use Rattle.abs_state.proofs.AvoidingSteps.{formed}
 use Rattle.transfer_rules.specs.Acts.{acted, is_told}
 use Rattle.transfer_rules.specs.Choices.{chosen, way_of, IsShortSwitch}
 use Rattle.transfer_rules.specs.Post.{post, along}

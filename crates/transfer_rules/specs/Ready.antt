@@ -19,8 +19,8 @@ use Rattle.number_facts.specs.Owed.{NotZero, IsPlaces}
 use Rattle.abs_state.specs.Assumptions.{assuming, with_facts}
 use Rattle.abs_state.specs.FrameFacts.{FrameFacts, State}
 use Rattle.abs_state.specs.Operands.{from_top}
-use Rattle.obligation_prover.specs.Avoiding.{is_just, top_compares, no_division_overflow, amount, avoiding, avoid, avoid_all}
-use Rattle.obligation_prover.specs.Faults.{operator_faults, faults_of}
+use Rattle.abs_state.specs.Avoiding.{is_just, top_compares, no_division_overflow, amount, avoiding, avoid, avoid_all}
+use Rattle.abs_state.specs.Faults.{operator_faults, faults_of}
 use Rattle.transfer_rules.specs.Acts.{IsReady}
 use Rattle.transfer_rules.specs.Choices.{chosen}
 

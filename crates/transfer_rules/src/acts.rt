@@ -8,10 +8,9 @@ ghost use Rattle.transfer_rules.specs.Acts as rule;
 use crate::moves::{
     complement, duplicate, load, negate, operate, pass_call, pass_test, put_result, store,
 };
-use abs_state::AbsState;
+use abs_state::{AbsState, constant};
 use cil_model::{Op, Place, Unit, unit_call};
 use domain_api::NoMemory;
-use obligation_prover::constant;
 
 /// Where an argument stands among the variables.
 fn arg_place(unit: &Unit, n: u16) -> u32

@@ -5,10 +5,9 @@ ghost use Rattle.std.specs.Option.{ForSome, option_and_then};
 ghost use Rattle.transfer_rules.specs.Acts.{operands};
 ghost use Rattle.transfer_rules.specs.Choices as rule;
 
-use abs_state::AbsState;
+use abs_state::{AbsState, constant};
 use cil_model::{CmpOp, Op, Test};
 use domain_api::NoMemory;
-use obligation_prover::constant;
 
 /// Assumes that the test of a branch holds, or that it does not.
 #[tactic(auto, using(crate::proofs::Ways::ways))]

@@ -7,10 +7,9 @@ ghost use Rattle.abs_state.specs.Moves as moves;
 ghost use Rattle.abs_state.specs.Operands.{from_top};
 ghost use Rattle.transfer_rules.specs.Acts as rule;
 
-use abs_state::AbsState;
+use abs_state::{AbsState, avoid, constant};
 use cil_model::{BinOp, FaultKind, Place, Test, UnitCall, comparison_of};
 use domain_api::NoMemory;
-use obligation_prover::{avoid, constant};
 use std::alloc::AllocError;
 
 /// Copies a variable to the top.

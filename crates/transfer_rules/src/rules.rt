@@ -10,10 +10,9 @@ ghost use Rattle.transfer_rules.specs.Steps.{HoldsBehind, HoldsAlong, TakesWay};
 
 use crate::acts::act;
 use crate::choices::choose;
-use abs_state::AbsState;
+use abs_state::{AbsState, avoid_all};
 use cil_model::{Op, Unit};
 use domain_api::NoMemory;
-use obligation_prover::avoid_all;
 
 /// Makes a state that of behind an instruction: none of its faults came, and its operation did what it does. Of a branch
 /// nothing is assumed.

@@ -6,6 +6,7 @@ ghost use Rattle.cil_model.specs.Passes.{KindsOf, Stacks};
 ghost use Rattle.cil_model.specs.Shapes.{shape_of};
 ghost use Rattle.flow_graph.specs.GraphOf.{graph_of};
 ghost use Rattle.transfer_rules.specs.Flow.{IsLawful, IsOfNumbers};
+ghost use Rattle.transfer_rules.specs.FlowOf.{flow_of, kinds_of};
 
 use cc_base::Refusal;
 use cil_model::{List, Shape, Unit};
@@ -37,9 +38,11 @@ fn shape(alloc: Global, unit: &Unit) -> Result<Shape, NoMemory>
 }
 
 /// The kinds of the unit's code.
+#[tactic(auto, using(crate::proofs::KindsFound::found_kinds))]
 fn kinds(alloc: Global, unit: &Unit) -> Result<Kinds, NoMemory>
     requires { IsOfNumbers unit.now }
-    ensures { IfOk result (KindsOf (shape_of unit.now) unit.now.instrs) }
+    ensures right { IfOk result (KindsOf (shape_of unit.now) unit.now.instrs) }
+    ensures found { IfOk result (λ kinds. kinds ≡ kinds_of unit.now) }
 {
     let shape = shape(alloc, unit)?;
     match type_code(alloc, unit.instrs.as_slice(), &shape) {
@@ -59,6 +62,8 @@ impl UnitFlow {
         requires body { (stacks : Stacks) → KindsOf (shape_of unit) unit.instrs stacks → HasBody unit.instrs stacks unit.body_start }
         ensures lawful { IfOk result IsLawful }
         ensures unit { IfOk result (λ code. code.unit ≡ unit) }
+        // Nothing but the unit tells what is found.
+        ensures value { IfOk result (λ code. code ≡ flow_of unit) }
     {
         let graph = Graph::of(alloc, &unit)?;
         let kinds = kinds(alloc, &unit)?;

@@ -59,7 +59,7 @@ fn walk(state: &mut AbsState, unit: &Unit, instrs: &[Instr], number: u32) -> Res
 
 impl UnitFlow {
     /// The instructions of a block. They are found by halving.
-    fn block(&self, block: u32) -> &[Instr]
+    pub fn block(&self, block: u32) -> &[Instr]
         requires rise { IsNonDecreasingBy (λ i. i.at) self.now.unit.instrs }
         requires there { block < length self.now.graph.blocks }
         ensures { result.now ≡ rule.block_instrs self.now block }

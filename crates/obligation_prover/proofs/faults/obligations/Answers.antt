@@ -1,7 +1,7 @@
 use Rattle.std.proofs.Common.{◌≤◌, length, ap, ◌∙◌}
 use Rattle.std.specs.List.{flat_map}
 use Rattle.std.proofs.lemmas.List.{take_all}
-use Rattle.obligation_prover.specs.Faults.{obligations_in}
+use Rattle.obligation_prover.specs.Obligations.{obligations_in}
 use Rattle.obligation_prover.proofs.Complete.{lists_each_fault}
 use Rattle.obligation_prover.proofs.faults.obligations.Goals as goal
 

@@ -1,6 +1,6 @@
 use Rattle.std.proofs.Common.{◌≡◌, take}
 use Rattle.std.specs.List.{flat_map}
-use Rattle.obligation_prover.specs.Faults.{obligations_in}
+use Rattle.obligation_prover.specs.Obligations.{obligations_in}
 use Rattle.obligation_prover.proofs.faults.obligations.Given as goal
 
 abbrev pub invariant-loop-instr : goal.invariant-loop-instr

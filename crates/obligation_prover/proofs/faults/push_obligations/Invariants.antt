@@ -1,5 +1,6 @@
 use Rattle.std.proofs.Common.{◌≡◌, ◌++◌, map, take}
-use Rattle.obligation_prover.specs.Faults.{faults_of, obligation}
+use Rattle.abs_state.specs.Faults.{faults_of}
+use Rattle.obligation_prover.specs.Obligations.{obligation}
 use Rattle.obligation_prover.proofs.faults.push_obligations.Given as goal
 
 abbrev pub invariant-loop-kind : goal.invariant-loop-kind

@@ -1,6 +1,6 @@
 use Rattle.std.proofs.Common.{rules}
-use Rattle.obligation_prover.specs.Faults.{faults_of}
-use Rattle.obligation_prover.proofs.Steps.{avoid_all_has}
+use Rattle.abs_state.specs.Faults.{faults_of}
+use Rattle.abs_state.proofs.AvoidingSteps.{avoid_all_has}
 use Rattle.transfer_rules.specs.Acts.{variables_read}
 use Rattle.transfer_rules.specs.Post.{post}
 use Rattle.transfer_rules.specs.PostLaws.{post_holds}

@@ -1,16 +1,23 @@
 -- What is known where a fault did not come.
-use Rattle.std.specs.Prelude.{◌==◌, ℤ, pos, negsuc, Bool, true, ◌&&◌, List, [], ◌∷◌, Some, if◌then◌else◌}
+use Rattle.std.specs.Prelude.{◌≡◌, ◌==◌, ℤ, pos, negsuc, Bool, true, ◌&&◌, List, [], ◌∷◌, Some, if◌then◌else◌}
 use Rattle.std.specs.Option.{option_and_then}
 use Rattle.std.specs.Ordering.{int_eq}
 use Rattle.domain_api.specs.declared.expr.Expr.{Expr}
 use Rattle.cil_model.specs.Arithmetic.{LEAST}
+use Rattle.cil_model.specs.Effects.{Effect, Faults, HasEffect, effects}
+use Rattle.cil_model.specs.Values.{Heap}
 use Rattle.cil_model.specs.declared.instruction.CmpOp.{CmpOp}
 use Rattle.cil_model.specs.declared.instruction.CmpOp.TheVariants as comparisons
+use Rattle.cil_model.specs.declared.instruction.Instr.{Instr}
+use Rattle.cil_model.specs.declared.instruction.Op.{Op}
 use Rattle.cil_model.specs.declared.machine.FaultKind.{FaultKind}
 use Rattle.cil_model.specs.declared.machine.FaultKind.TheVariants as faults
+use Rattle.cil_model.specs.declared.machine.Frame.{Frame}
+use Rattle.cil_model.specs.declared.unit.Unit.{Unit as MethodUnit}
 use Rattle.number_facts.specs.Facts.{constant}
 use Rattle.abs_state.specs.Assumptions.{assuming}
 use Rattle.abs_state.specs.FrameFacts.{FrameFacts, State}
+use Rattle.abs_state.specs.Frames.{HoldsIn}
 use Rattle.abs_state.specs.Operands.{from_top}
 
 -- The expression is this constant.
@@ -51,3 +58,16 @@ avoid kind state = option_and_then (avoiding kind) state
 abbrev pub avoid_all : List FaultKind → State → State
 avoid_all [] state = state
 avoid_all (kind ∷ kinds) state = avoid_all kinds (avoid kind state)
+
+-- ---- what that means
+
+-- The new state holds of each frame of which the old one does, and in which an instruction with this operation does
+-- something else than to end in the fault.
+abbrev pub AssumesNo : Op → FaultKind → State → State → Type 0
+AssumesNo op kind old new = (unit : MethodUnit) (i : Instr) (f : Frame) (heap : Heap) (effect : Effect) → i.op ≡ op → HoldsIn old f
+    → HasEffect (effects unit i f heap) effect → (effect ≡ Faults kind → ⊥) → HoldsIn new f
+
+-- So for all faults.
+abbrev pub AssumesNone : Op → State → State → Type 0
+AssumesNone op old new = (unit : MethodUnit) (i : Instr) (f : Frame) (heap : Heap) (effect : Effect) → i.op ≡ op → HoldsIn old f
+    → HasEffect (effects unit i f heap) effect → ((kind : FaultKind) → effect ≡ Faults kind → ⊥) → HoldsIn new f

@@ -34,11 +34,11 @@ use Rattle.abs_state.specs.Assumptions.{assuming}
 use Rattle.abs_state.specs.FrameFacts.{FrameFacts, State, HasForm}
 use Rattle.abs_state.specs.Frames.{HoldsIn}
 use Rattle.abs_state.specs.Operands.{from_top}
+use Rattle.abs_state.specs.Avoiding.{is_just, top_compares, second_compares, no_division_overflow, amount, avoiding, avoid, avoid_all}
+use Rattle.abs_state.specs.Faults.{operator_faults, call_faults, faults_of, IsAmong}
 use Rattle.abs_state.proofs.FormsKept.{constant_number, assuming_form}
 use Rattle.abs_state.proofs.ResultsHold.{assuming_holds}
-use Rattle.obligation_prover.specs.Avoiding.{is_just, top_compares, second_compares, no_division_overflow, amount, avoiding, avoid, avoid_all}
-use Rattle.obligation_prover.specs.Faults.{operator_faults, call_faults, faults_of, IsAmong}
-use Rattle.obligation_prover.proofs.Operands.{top_is, two_are, read_number}
+use Rattle.abs_state.proofs.Operands.{top_is, two_are, read_number}
 
 -- ---- states that have the form and hold of a frame
 

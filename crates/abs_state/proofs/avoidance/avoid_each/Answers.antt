@@ -1,9 +1,9 @@
 use Rattle.std.proofs.Common.{◌≡◌, ◌<◌, length, get_or, ◌∙◌}
 use Rattle.cil_model.specs.declared.machine.FaultKind.TheVariants.{Requires}
-use Rattle.obligation_prover.specs.Avoiding.{avoid}
-use Rattle.obligation_prover.specs.Faults.{faults_of, operands_of}
-use Rattle.obligation_prover.proofs.Steps.{avoid_has, one_more_avoided}
-use Rattle.obligation_prover.proofs.assumptions.avoid_each.Goals as goal
+use Rattle.abs_state.specs.Avoiding.{avoid}
+use Rattle.abs_state.specs.Faults.{faults_of, operands_of}
+use Rattle.abs_state.proofs.AvoidingSteps.{avoid_has, one_more_avoided}
+use Rattle.abs_state.proofs.avoidance.avoid_each.Goals as goal
 
 pub loop-kind-preserved : goal.loop-kind-preserved
 loop-kind-preserved c =

@@ -5,12 +5,12 @@ ghost use Rattle.std.specs.Option.{ForSome, option_and_then};
 ghost use Rattle.cil_model.specs.declared.instruction.Op.{Op};
 ghost use Rattle.number_facts.specs.Facts.{Facts, constant};
 ghost use Rattle.abs_state.specs.FrameFacts.{IsNumber};
-ghost use Rattle.obligation_prover.specs.Avoiding as rule;
-ghost use Rattle.obligation_prover.specs.Faults.{IsAmong, faults_of, operands_of, values_asked};
-ghost use Rattle.obligation_prover.specs.Meaning.{AssumesNo, AssumesNone};
+ghost use Rattle.abs_state.specs.Avoiding as rule;
+ghost use Rattle.abs_state.specs.Avoiding.{AssumesNo, AssumesNone};
+ghost use Rattle.abs_state.specs.Faults.{IsAmong, faults_of, operands_of, values_asked};
 
 use crate::faults::faults_of;
-use abs_state::AbsState;
+use crate::state::AbsState;
 use cil_model::{CmpOp, FaultKind, Op};
 use domain_api::{Expr, NoMemory};
 
@@ -57,7 +57,7 @@ fn is_just(e: Expr, n: i32) -> bool
 }
 
 /// Assumes that a division was not that of the least int32 by -1: where the one is known, the other was another number.
-#[tactic(auto, using(crate::proofs::Steps::overflow_steps))]
+#[tactic(auto, using(crate::proofs::AvoidingSteps::overflow_steps))]
 fn assume_no_division_overflow(state: &mut AbsState) -> Result<(), NoMemory>
     requires { ForSome state.old (λ known. 2 ≤ length known.variables) }
     ensures value { OnOk result (state.new ≡ option_and_then rule.no_division_overflow state.old) }
@@ -75,7 +75,7 @@ fn assume_no_division_overflow(state: &mut AbsState) -> Result<(), NoMemory>
 }
 
 /// Assumes that the amount of a shift was one of 0 to 31.
-#[tactic(auto, using(crate::proofs::Steps::amount_steps))]
+#[tactic(auto, using(crate::proofs::AvoidingSteps::amount_steps))]
 fn assume_amount(state: &mut AbsState) -> Result<(), NoMemory>
     requires { ForSome state.old (λ known. 1 ≤ length known.variables) }
     ensures value { OnOk result (state.new ≡ option_and_then rule.amount state.old) }
@@ -85,7 +85,7 @@ fn assume_amount(state: &mut AbsState) -> Result<(), NoMemory>
 }
 
 /// Assumes that a fault did not come.
-#[tactic(auto, using(crate::proofs::Steps::avoid_steps))]
+#[tactic(auto, using(crate::proofs::AvoidingSteps::avoid_steps))]
 fn assume_avoided(state: &mut AbsState, kind: FaultKind) -> Result<(), NoMemory>
     requires { ForSome state.old (λ known. values_asked kind ≤ length known.variables) }
     ensures value { OnOk result (state.new ≡ rule.avoid kind state.old) }

@@ -1,8 +1,8 @@
 use Rattle.std.proofs.Common.{◌≡◌, ◌≤◌, length, drop}
 use Rattle.std.specs.Option.{ForSome}
-use Rattle.obligation_prover.specs.Avoiding.{avoid_all}
-use Rattle.obligation_prover.specs.Faults.{faults_of, operands_of}
-use Rattle.obligation_prover.proofs.assumptions.avoid_each.Given as goal
+use Rattle.abs_state.specs.Avoiding.{avoid_all}
+use Rattle.abs_state.specs.Faults.{faults_of, operands_of}
+use Rattle.abs_state.proofs.avoidance.avoid_each.Given as goal
 
 abbrev pub invariant-loop-kind : goal.invariant-loop-kind
 invariant-loop-kind l = record {

@@ -1,16 +1,12 @@
 -- The faults in which an operation may end, in the order in which the machine tests for them (ECMA-335 III.3).
-use Rattle.std.specs.Prelude.{◌≡◌, ◌⊎◌, ℕ, nat_le, if◌then◌else◌, map, List, [], ◌∷◌, Option, Some, None}
-use Rattle.std.specs.List.{flat_map}
+use Rattle.std.specs.Prelude.{◌≡◌, ◌⊎◌, ℕ, List, [], ◌∷◌, Option, Some}
 use Rattle.cil_model.specs.UnitCalls.{unit_call}
 use Rattle.cil_model.specs.declared.instruction.BinOp.{BinOp}
 use Rattle.cil_model.specs.declared.instruction.BinOp.TheVariants as operators
-use Rattle.cil_model.specs.declared.instruction.Instr.{Instr}
 use Rattle.cil_model.specs.declared.instruction.Op.{Op}
 use Rattle.cil_model.specs.declared.instruction.Op.TheVariants as ops
 use Rattle.cil_model.specs.declared.machine.FaultKind.{FaultKind}
 use Rattle.cil_model.specs.declared.machine.FaultKind.TheVariants as faults
-use Rattle.cil_model.specs.declared.machine.Obligation.{Obligation}
-use Rattle.cil_model.specs.declared.unit.Unit.{Unit as MethodUnit}
 use Rattle.cil_model.specs.declared.unit_numbers.UnitCall.{UnitCall}
 use Rattle.cil_model.specs.declared.unit_numbers.UnitCall.TheVariants as calls
 
@@ -56,18 +52,3 @@ operands_of _ = 0
 abbrev pub IsAmong : List FaultKind → FaultKind → Type 0
 IsAmong [] kind = ⊥
 IsAmong (fault ∷ others) kind = (kind ≡ fault) ⊎ IsAmong others kind
-
-abbrev pub obligation : Instr → FaultKind → Obligation
-obligation i kind = record { at = i.at; kind = kind; callee = None }
-
--- The obligations of an instruction: that it ends in none of these.
-abbrev pub obligations_at : Instr → List Obligation
-obligations_at i = map (obligation i) (faults_of i.op)
-
--- Those of an instruction of a unit's body. What stands before the body is never executed.
-abbrev pub obligations_in : MethodUnit → Instr → List Obligation
-obligations_in unit i = if nat_le unit.body_start i.at then obligations_at i else []
-
--- Those of a unit, in the order of its code.
-abbrev pub obligations_of : MethodUnit → List Obligation
-obligations_of unit = flat_map (obligations_in unit) unit.instrs

@@ -1,7 +1,7 @@
 use Rattle.std.proofs.Common.{◌≡◌, to_z, of_z, w64, arith}
 use Rattle.std.proofs.lemmas.Int.{ints}
 use Rattle.abs_state.proofs.FormsKept.{constant_number}
-use Rattle.obligation_prover.proofs.assumptions.constant.Goals as goal
+use Rattle.abs_state.proofs.avoidance.constant.Goals as goal
 
 pub returns-clause-number : goal.returns-clause-number
 returns-clause-number c = λ facts.

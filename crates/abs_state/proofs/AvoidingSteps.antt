@@ -15,12 +15,9 @@ use Rattle.abs_state.specs.Assumptions.{assuming, with_facts}
 use Rattle.abs_state.specs.FrameFacts.{FrameFacts, State, HasForm, variables_in}
 use Rattle.abs_state.specs.Frames.{HoldsIn}
 use Rattle.abs_state.specs.Operands.{from_top}
-use Rattle.obligation_prover.specs.Avoiding.{is_just, top_compares, second_compares, no_division_overflow, amount, avoiding, avoid, avoid_all}
-use Rattle.obligation_prover.specs.Entailed.{entailed}
-use Rattle.obligation_prover.specs.Faults.{faults_of, IsAmong}
-use Rattle.obligation_prover.specs.Meaning.{RulesOut, AssumesNo, AssumesNone}
-use Rattle.obligation_prover.proofs.Avoided.{Formed, avoid_stands, avoid_all_stands}
-use Rattle.obligation_prover.proofs.RuledOut.{entailed_is_no_fault}
+use Rattle.abs_state.specs.Avoiding.{is_just, top_compares, second_compares, no_division_overflow, amount, avoiding, avoid, avoid_all, AssumesNo, AssumesNone}
+use Rattle.abs_state.specs.Faults.{faults_of, IsAmong}
+use Rattle.abs_state.proofs.Avoided.{Formed, avoid_stands, avoid_all_stands}
 
 -- ---- how many variables there are
 
@@ -144,9 +141,6 @@ left_alone faults.Shift (Some known) a b c d = absurd (d refl)
 left_alone _ (Some known) a b c d = refl
 
 -- ---- what is promised
-
-pub rules_out : (op : Op) (kind : FaultKind) (state : State) → entailed op kind state ≡ true → RulesOut op kind state
-rules_out op kind state is = λ unit i f heap same holds has. entailed_is_no_fault state unit i f heap kind (rw same is) holds has
 
 pub formed : (state : State) → ForSome state HasForm → Formed state
 formed None form = tt
