@@ -11,3 +11,5 @@ pub mod UnitTaken
 pub mod ReadAnswers
 pub mod BuiltPlaces
 pub mod BuiltFaults
+pub mod BuiltParts
+pub mod BuiltAlone

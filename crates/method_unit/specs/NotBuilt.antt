@@ -8,20 +8,27 @@ use Rattle.cil_model.specs.declared.place.Place.TheVariants as places
 use Rattle.cil_model.specs.declared.unit.Unit.{Unit as MethodUnit}
 use Rattle.method_unit.specs.Built.{is_built}
 
-abbrev pub is_int : Place → Bool
-is_int places.Int = true
-is_int _ = false
+-- Places of this type hold a number.
+abbrev pub is_number : Place → Bool
+is_number places.Bool = true
+is_number places.Int = true
+is_number _ = false
 
-abbrev pub are_ints : List Place → Bool
-are_ints types = list_all is_int types
+abbrev pub are_numbers : List Place → Bool
+are_numbers types = list_all is_number types
+
+-- A result of this type is a number, or there is none.
+abbrev pub gives_number : Place → Bool
+gives_number places.Void = true
+gives_number place = is_number place
 
 abbrev pub has_none : {X : Type 0} → List X → Bool
 has_none [] = true
 has_none (x ∷ xs) = false
 
--- Result and arguments are int32, and there are neither locals nor clauses.
+-- Arguments and locals are numbers, and so is the result, if there is one; and there are no clauses.
 abbrev pub has_built_head : MethodUnit → Bool
-has_built_head unit = is_int unit.result && are_ints unit.args && has_none unit.locals && has_none unit.clauses
+has_built_head unit = gives_number unit.result && are_numbers unit.args && are_numbers unit.locals && has_none unit.clauses
 
 -- The IL offset of the first of these instructions that is not built.
 abbrev pub first_unbuilt : List Instr → Option ℕ

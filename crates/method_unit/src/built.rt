@@ -1,24 +1,28 @@
 //! Which instructions are built: those that the analysis knows.
 
 ghost use Rattle.std.specs.Prelude.{◌≡◌};
-ghost use Rattle.method_unit.specs.Built.{is_built, is_built_operator};
+ghost use Rattle.method_unit.specs.Built.{is_built, is_built_call};
 
-use cil_model::{BinOp, Op, is_assert};
+use cil_model::{Op, UnitCall, unit_call};
 
-fn is_built_operator(operator: BinOp) -> bool
-    ensures { result ≡ is_built_operator operator }
+/// Whether the call is one of Assert or Assume without a message.
+fn is_built_call(call: Option<UnitCall>) -> bool
+    ensures { result ≡ is_built_call call }
 {
-    matches!(operator, BinOp::Add | BinOp::Ceq | BinOp::Cgt | BinOp::Clt)
+    matches!(
+        call,
+        Some(UnitCall::Assert(false) | UnitCall::Assume(false))
+    )
 }
 
-/// Whether the operation is built. Of the calls Assert alone is.
+/// Whether the operation is built. Those on references, arrays, texts and callees are not.
 pub fn is_built(op: &Op) -> bool
     ensures { result ≡ is_built op.now }
 {
     match op {
-        Op::Nop | Op::LoadArg(_) | Op::Const(_) | Op::Return => true,
-        Op::Call(number) => is_assert(*number),
-        Op::Bin(operator) => is_built_operator(*operator),
-        _ => false,
+        Op::Null | Op::Text(_) | Op::NewArray(_) => false,
+        Op::Length | Op::LoadElem(_) | Op::StoreElem(_) => false,
+        Op::Call(number) => is_built_call(unit_call(*number)),
+        _ => true,
     }
 }

@@ -1,25 +1,35 @@
 //! Where the analysis of a unit is not built.
 
-ghost use Rattle.std.specs.Prelude.{◌≡◌, filter, nat_le};
-ghost use Rattle.method_unit.specs.NotBuilt.{are_ints, first_unbuilt, has_built_head, not_built};
+ghost use Rattle.std.specs.Prelude.{◌≡◌, [], filter, nat_le, None};
+ghost use Rattle.method_unit.specs.NotBuilt.{are_numbers, first_unbuilt, gives_number, has_built_head, not_built};
+ghost use Rattle.method_unit.specs.Units.{IsUnit};
 
 use crate::built::is_built;
 use cil_model::{Instr, Place, Unit};
 
-/// Whether each of the places is int32.
-fn are_ints(places: &[Place]) -> bool
-    ensures { result ≡ are_ints places.now }
+/// Whether each of the places is int32 or bool.
+fn are_numbers(places: &[Place]) -> bool
+    ensures { result ≡ are_numbers places.now }
 {
-    places.iter().all(|place| matches!(place, Place::Int))
+    places
+        .iter()
+        .all(|place| matches!(place, Place::Bool | Place::Int))
 }
 
-/// Whether result and arguments are int32, and there are neither locals nor clauses.
+/// Whether a result of this type is int32 or bool, or none.
+fn gives_number(place: Place) -> bool
+    ensures { result ≡ gives_number place }
+{
+    matches!(place, Place::Void | Place::Bool | Place::Int)
+}
+
+/// Whether arguments and locals are int32 or bool, the result too or none, and there are no clauses.
 fn has_built_head(unit: &Unit) -> bool
     ensures { result ≡ has_built_head unit.now }
 {
-    matches!(unit.result, Place::Int)
-        && are_ints(unit.args.as_slice())
-        && unit.locals.as_slice().is_empty()
+    gives_number(unit.result)
+        && are_numbers(unit.args.as_slice())
+        && are_numbers(unit.locals.as_slice())
         && unit.clauses.as_slice().is_empty()
 }
 
@@ -41,7 +51,9 @@ fn first_unbuilt(instrs: &[Instr], start: u32) -> Option<u32>
 /// Cost: linear in the unit.
 #[tactic(auto, unfolding(crate::specs::NotBuilt::not_built))]
 pub fn not_built(unit: &Unit) -> Option<u32>
-    ensures { result ≡ not_built unit.now }
+    ensures value { result ≡ not_built unit.now }
+    // A unit that is built calls no method.
+    ensures alone { result ≡ None → IsUnit unit.now → unit.now.callees ≡ [] }
 {
     if has_built_head(unit) {
         first_unbuilt(unit.instrs.as_slice(), unit.body_start)
