@@ -1,0 +1,6 @@
+pub mod Rounds
+pub mod Flows
+pub mod Merging
+pub mod Marks
+pub mod Finding
+pub mod Limits
