@@ -1,0 +1,87 @@
+-- Steps of the code that judges a unit.
+use Rattle.std.proofs.Common.{◌≡◌, ℕ, zero, suc, ◌+◌, ◌^◌, ◌<◌, List, [], ◌∷◌, ◌++◌, length, get_or, drop, map, All, refl, sym, ap, subst, ◌∙◌, add-one, append_assoc, append-nil, drop-cons, arith, inl, inr}
+use Rattle.std.specs.Prelude.{IsTrue}
+use Rattle.std.specs.List.{AllByRecursion, flat_map, range_with_len}
+use Rattle.std.proofs.lemmas.Bool.{cases_Bool, false≢true}
+use Rattle.std.proofs.lemmas.Grind.{flat_map-append}
+use Rattle.std.proofs.lemmas.List.Elements.{All-from_recursion}
+use Rattle.cil_model.specs.declared.instruction.Instr.{Instr}
+use Rattle.cil_model.specs.declared.machine.FaultKind.{FaultKind}
+use Rattle.cil_model.specs.declared.machine.Obligation.{Obligation}
+use Rattle.flow_graph.specs.declared.graph.Graph.{Graph}
+use Rattle.flow_graph.proofs.Lying.{few_blocks}
+use Rattle.abs_state.specs.Avoiding.{avoid}
+use Rattle.abs_state.specs.FrameFacts.{State}
+use Rattle.obligation_prover.specs.Entailed.{entailed}
+use Rattle.obligation_prover.specs.Obligations.{obligation, obligations_of}
+use Rattle.transfer_rules.specs.Flow.{IsLawful}
+use Rattle.transfer_rules.specs.FlowLaws as laws
+use Rattle.transfer_rules.specs.Inductive.{HasShape, IsInductive, state_at}
+use Rattle.transfer_rules.specs.declared.unit_flow.UnitFlow.{UnitFlow}
+use Rattle.invariant_checker.specs.Inducts.{is_inductive}
+use Rattle.invariant_checker.specs.Verdicts.{unproved, verdicts, verdicts_by_blocks, verdicts_in, verdicts_in_turn, verdicts_of_block}
+use Rattle.invariant_checker.specs.declared.verdict.Verdict.{Verdict}
+use Rattle.invariant_checker.proofs.InductionTest.{inductive_by, inductive_true}
+
+-- ---- the faults of an instruction
+
+abbrev pub verdict_at : Instr → FaultKind → State → Verdict
+verdict_at i kind state = record { obligation = obligation i kind; proved = entailed i.op kind state }
+
+pub one_more_judged : (found : List Verdict) (i : Instr) (kinds : List FaultKind) (k : ℕ) (d : FaultKind) (state : State) → k < length kinds
+    → (found ++ verdict_at i (get_or kinds k d) state ∷ []) ++ verdicts_in_turn i (drop (k + 1) kinds) (avoid (get_or kinds k d) state)
+    ≡ found ++ verdicts_in_turn i (drop k kinds) state
+one_more_judged found i kinds k d state below =
+    append_assoc found (verdict_at i (get_or kinds k d) state ∷ []) (verdicts_in_turn i (drop (k + 1) kinds) (avoid (get_or kinds k d) state))
+    ∙ ap (λ (vs : List Verdict). found ++ vs) (sym (rw (drop-cons kinds k d below, add-one k) refl))
+
+-- ---- all blocks
+
+range_more : (a n : ℕ) → range_with_len a (suc n) ≡ range_with_len a n ++ (a + n) ∷ []
+range_more a zero = let same : a ≡ a + 0 = omega arith in ap (λ (k : ℕ). k ∷ []) same
+range_more a (suc n) =
+    let same : a + 1 + n ≡ a + suc n = omega arith in
+    ap (λ (ks : List ℕ). a ∷ ks) (range_more (a + 1) n ∙ ap (λ (k : ℕ). range_with_len (a + 1) n ++ k ∷ []) same)
+
+module _ (code : UnitFlow) (states : List State) where
+  pub block_judged : (k : ℕ) (state : State) (found more : List Verdict) → state ≡ state_at states k → found ≡ flat_map (verdicts_in code states) (range_with_len 0 k)
+      → more ≡ found ++ verdicts_of_block code state k → more ≡ flat_map (verdicts_in code states) (range_with_len 0 (k + 1))
+  block_judged k state found more is before here =
+      let range : range_with_len 0 (k + 1) ≡ range_with_len 0 k ++ k ∷ [] =
+      ap (range_with_len 0) (add-one k) ∙ (range_more 0 k ∙ ap (λ (n : ℕ). range_with_len 0 k ++ n ∷ []) (omega arith)) in
+      let f = verdicts_in code states in
+      here ∙ (ap (λ (vs : List Verdict). vs ++ verdicts_of_block code state k) before
+      ∙ (ap (λ (s : State). flat_map f (range_with_len 0 k) ++ verdicts_of_block code s k) is
+      ∙ (ap (λ (vs : List Verdict). flat_map f (range_with_len 0 k) ++ vs) (sym (append-nil (f k)))
+      ∙ (sym (flat_map-append f (range_with_len 0 k) (k ∷ [])) ∙ ap (flat_map f) (sym range)))))
+
+  pub few_blocks_there : IsLawful code → HasShape code states → (k : ℕ) → k < length states → k < 2 ^ 32
+  few_blocks_there lawful shape k below =
+      let few : length code.graph.blocks < 2 ^ 32 = subst (λ (g : Graph). length g.blocks < 2 ^ 32) (sym lawful.graph) (few_blocks code.unit (laws.short code lawful)) in
+      omega (arith, few, below, shape.count)
+
+  -- ---- by whether the states are an invariant
+
+  pub judged_by_blocks : IsInductive code states → verdicts code states ≡ verdicts_by_blocks code states
+  unfolding verdicts
+  judged_by_blocks inductive = rw (inductive_true code states inductive) refl
+
+  pub judged_unproved : (IsInductive code states → ⊥) → verdicts code states ≡ map unproved (obligations_of code.unit)
+  unfolding verdicts
+  judged_unproved never =
+      elim (cases_Bool (is_inductive code states)) [
+        | inl is ↦ absurd (never (inductive_by code states is))
+        | inr not ↦ rw not refl
+      ]
+
+  none_proved : (listed : List Obligation) → AllByRecursion (λ v. IsTrue v.proved → IsInductive code states) (map unproved listed)
+  none_proved [] = tt
+  none_proved (o ∷ listed) = (λ proved. absurd (false≢true proved), none_proved listed)
+
+  pub proved_where_inductive : All (λ v. IsTrue v.proved → IsInductive code states) (verdicts code states)
+  unfolding verdicts
+  proved_where_inductive =
+      elim (cases_Bool (is_inductive code states)) [
+        | inl is ↦ (λ k d below proved. inductive_by code states is)
+        | inr not ↦ rw not (All-from_recursion (λ v. IsTrue v.proved → IsInductive code states) (map unproved (obligations_of code.unit)) (none_proved (obligations_of code.unit)))
+      ]

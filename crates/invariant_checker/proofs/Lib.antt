@@ -1,0 +1,12 @@
+pub mod BlockChains
+pub mod Rows
+pub mod Guarded
+pub mod InductionTest
+pub mod Standing
+pub mod Soundness
+pub mod Covering
+pub mod Counting
+pub mod Walking
+pub mod JudgeSteps
+mod Examples
+mod UnsafeUnit

@@ -1,0 +1,65 @@
+-- A unit whose verdicts are all proved is safe.
+use Rattle.std.proofs.Common.{◌≡◌, ◌≤◌, true, false, nat_le, List, [], ◌∷◌, map, refl, arith, inl, inr}
+use Rattle.std.specs.List.{Contains}
+use Rattle.std.proofs.lemmas.Bool.{cases_Bool, false≢true}
+use Rattle.std.proofs.lemmas.Bool.Decides.{nat_tests}
+use Rattle.cil_model.specs.declared.machine.Obligation.{Obligation}
+use Rattle.flow_graph.proofs.EdgeOrder.{all_weaker}
+use Rattle.abs_state.specs.FrameFacts.{State}
+use Rattle.obligation_prover.specs.EachFault as each
+use Rattle.obligation_prover.specs.Obligations.{obligations_of}
+use Rattle.obligation_prover.proofs.Complete.{lists_each_fault}
+use Rattle.transfer_rules.specs.Acts.{is_told}
+use Rattle.transfer_rules.specs.BlockWays.{among}
+use Rattle.transfer_rules.specs.Flow.{IsLawful}
+use Rattle.transfer_rules.specs.declared.unit_flow.UnitFlow.{UnitFlow}
+use Rattle.invariant_checker.specs.Counts.{all_proved}
+use Rattle.invariant_checker.specs.Inducts.{is_inductive}
+use Rattle.invariant_checker.specs.Safety.{IsSafe}
+use Rattle.invariant_checker.specs.Verdicts.{unproved, verdicts, verdicts_by_blocks}
+use Rattle.invariant_checker.proofs.Guarded.{Guards, guarded_is_safe}
+use Rattle.invariant_checker.proofs.InductionTest.{inductive_by}
+use Rattle.invariant_checker.proofs.Standing.{IsCovered, covered_guards, told_plain}
+
+-- ---- a unit without obligations
+
+none_listed : (listed : List Obligation) (o : Obligation) → listed ≡ [] → Contains listed o → ⊥
+none_listed [] o none has = let below = has.1 in omega (arith, below)
+none_listed (p ∷ listed) o none has = cc
+
+no_obligation : (code : UnitFlow) → IsLawful code → obligations_of code.unit ≡ [] → Guards code (λ f. Unit {0})
+no_obligation code lawful none = record {
+  enters = λ f begins. tt;
+  keeps = λ f g heap after in_body on guarded step. tt;
+  rules_out = λ f heap kind index at in_body guarded step.
+      none_listed (obligations_of code.unit) _ none (lists_each_fault code.unit numbers f heap kind index at in_body.inside step);
+}
+  where
+    numbers : each.IsOfNumbers code.unit
+    numbers = record {
+      clauses = lawful.unit.clauses;
+      callees = lawful.unit.callees;
+      body =
+          all_weaker _ (λ i. code.unit.body_start ≤ i.at → each.is_of_array i.op ≡ false)
+          (λ i told inside. told_plain i.op (told (grind (arith, nat_tests, inside)))) code.unit.instrs
+          (among (λ i. is_told i.op ≡ true) (λ i. nat_le code.unit.body_start i.at) code.unit.instrs lawful.unit.told);
+    }
+
+none_unproved : (listed : List Obligation) → all_proved (map unproved listed) ≡ true → listed ≡ []
+none_unproved [] proved = refl
+none_unproved (o ∷ listed) proved = absurd (false≢true proved)
+
+-- ---- any unit
+
+pub proved_is_safe : (code : UnitFlow) (states : List State) → IsLawful code → all_proved (verdicts code states) ≡ true → IsSafe code.unit
+unfolding verdicts
+proved_is_safe code states lawful proved =
+    elim (cases_Bool (is_inductive code states)) [
+      | inl is ↦
+          let all : all_proved (verdicts_by_blocks code states) ≡ true = rw is at proved in
+          let inductive = inductive_by code states is in
+          guarded_is_safe code lawful (IsCovered code lawful states inductive all) (covered_guards code lawful states inductive all)
+      | inr not ↦
+          let all : all_proved (map unproved (obligations_of code.unit)) ≡ true = rw not at proved in
+          guarded_is_safe code lawful (λ f. Unit {0}) (no_obligation code lawful (none_unproved (obligations_of code.unit) all))
+    ]

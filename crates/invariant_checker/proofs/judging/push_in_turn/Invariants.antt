@@ -1,0 +1,12 @@
+use Rattle.std.proofs.Common.{◌≡◌, ◌++◌, ◌≤◌, length, drop}
+use Rattle.std.specs.Option.{ForSome}
+use Rattle.abs_state.specs.Faults.{faults_of, operands_of}
+use Rattle.invariant_checker.specs.Verdicts.{verdicts_at, verdicts_in_turn}
+use Rattle.invariant_checker.proofs.judging.push_in_turn.Given as goal
+
+abbrev pub invariant-loop-kind : goal.invariant-loop-kind
+invariant-loop-kind l = record {
+  same : l.found.items ++ verdicts_in_turn l.instr (drop l.kind-index (faults_of l.instr.op)) l.state
+      ≡ l.initial.found.items ++ verdicts_at l.instr l.initial.state;
+  room : ForSome l.state (λ known. operands_of l.instr.op ≤ length known.variables);
+}

@@ -1,0 +1,5 @@
+pub mod Counts
+pub mod Inducts
+pub mod Safety
+pub mod Verdicts
+pub mod Chains

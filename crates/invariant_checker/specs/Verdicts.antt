@@ -1,0 +1,56 @@
+-- The verdict on each obligation of a unit's body under states, one for each block.
+use Rattle.std.specs.Prelude.{ℕ, false, List, [], ◌∷◌, ◌++◌, map, length, if◌then◌else◌}
+use Rattle.std.specs.List.{flat_map, range_with_len}
+use Rattle.cil_model.specs.declared.instruction.Instr.{Instr}
+use Rattle.cil_model.specs.declared.machine.FaultKind.{FaultKind}
+use Rattle.cil_model.specs.declared.machine.Obligation.{Obligation}
+use Rattle.cil_model.specs.declared.unit.Unit.{Unit as MethodUnit}
+use Rattle.abs_state.specs.Avoiding.{avoid}
+use Rattle.abs_state.specs.Faults.{faults_of}
+use Rattle.abs_state.specs.FrameFacts.{State}
+use Rattle.obligation_prover.specs.Entailed.{entailed}
+use Rattle.obligation_prover.specs.Obligations.{obligation, obligations_of}
+use Rattle.transfer_rules.specs.Flow.{block_instrs}
+use Rattle.transfer_rules.specs.Inductive.{state_at}
+use Rattle.transfer_rules.specs.Post.{post}
+use Rattle.transfer_rules.specs.declared.unit_flow.UnitFlow.{UnitFlow}
+use Rattle.invariant_checker.specs.Inducts.{is_inductive}
+use Rattle.invariant_checker.specs.declared.verdict.Verdict.{Verdict}
+
+-- ---- at an instruction
+
+-- Whether each of these faults is ruled out in turn, where those before it are assumed not to have come.
+abbrev pub verdicts_in_turn : Instr → List FaultKind → State → List Verdict
+verdicts_in_turn i [] state = []
+verdicts_in_turn i (kind ∷ kinds) state = record { obligation = obligation i kind; proved = entailed i.op kind state } ∷ verdicts_in_turn i kinds (avoid kind state)
+
+-- The verdicts at an instruction, from the state before it.
+abbrev pub verdicts_at : Instr → State → List Verdict
+verdicts_at i state = verdicts_in_turn i (faults_of i.op) state
+
+-- ---- in a block
+
+-- Those of instructions that follow each other, from the state before the first.
+abbrev pub verdicts_from : MethodUnit → List Instr → State → List Verdict
+verdicts_from unit [] state = []
+verdicts_from unit (i ∷ is) state = verdicts_at i state ++ verdicts_from unit is (post unit i.op state)
+
+-- Those in a block, from the state at its start.
+abbrev pub verdicts_of_block : UnitFlow → State → ℕ → List Verdict
+verdicts_of_block code state block = verdicts_from code.unit (block_instrs code block) state
+
+abbrev pub verdicts_in : UnitFlow → List State → ℕ → List Verdict
+verdicts_in code states block = verdicts_of_block code (state_at states block) block
+
+-- ---- of a unit
+
+-- Those in all blocks, in order.
+abbrev pub verdicts_by_blocks : UnitFlow → List State → List Verdict
+verdicts_by_blocks code states = flat_map (verdicts_in code states) (range_with_len 0 (length code.graph.blocks))
+
+abbrev pub unproved : Obligation → Verdict
+unproved o = record { obligation = o; proved = false }
+
+-- Each obligation of a unit with its verdict: nothing is proved by states that are no invariant.
+unfoldable pub verdicts : UnitFlow → List State → List Verdict
+verdicts code states = if is_inductive code states then verdicts_by_blocks code states else map unproved (obligations_of code.unit)

@@ -1,4 +1,0 @@
-pub mod Ranges
-pub mod Safety
-pub mod States
-pub mod Verdicts
