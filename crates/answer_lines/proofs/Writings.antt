@@ -1,0 +1,109 @@
+-- How texts that are written follow one another, and what answers they make.
+use Rattle.std.proofs.Common.{◌≡◌, ℕ, suc, ◌<◌, List, [], ◌∷◌, ◌++◌, length, get_or, take, drop, Option, Result, Ok, Err, refl, sym, ap, ◌∙◌, append_assoc, take-append-drop, inl, inr}
+use Rattle.std.specs.Prelude.{IfOk, IsErrOf}
+use Rattle.std.specs.List.{flat_map}
+use Rattle.std.proofs.Math.Seq.{drop-cons}
+use Rattle.std.proofs.lemmas.List.Concat.{flat_map-append}
+use Rattle.cc_base.specs.Counts.{Kept}
+use Rattle.cc_base.specs.Sink.{appended, IsFront}
+use Rattle.cc_base.proofs.CountLemmas.{Kept-refl, Kept-trans, Kept-Rose}
+use Rattle.cc_base.proofs.SinkLemmas.{appended-nil, AppendsFront-none, AppendsFront-after, AppendsFront-front}
+use Rattle.answer_lines.specs.Answers.{error_answer, output_answer}
+use Rattle.answer_lines.specs.Outcome.{Gives}
+use Rattle.answer_lines.specs.Writing.{Change, Writes}
+use Rattle.answer_lines.specs.declared.interrupt.Interrupt.{Interrupt}
+use Rattle.answer_lines.specs.declared.interrupt.Interrupt.TheVariants as interrupts
+
+-- A change of a sink, by its parts.
+abbrev pub change : Option (List ℕ) → Option (List ℕ) → ℕ → ℕ → Change
+change old new before after = record { old = old; new = new; faults_before = before; faults_after = after }
+
+-- A call that was interrupted as another one gives the same error.
+retold : {X Y : Type 0} (e f : Interrupt) → IsErrOf {T = X} (Err e) f → IsErrOf {T = Y} (Err e) f
+retold interrupts.CannotWrite interrupts.CannotWrite h = refl
+retold interrupts.NoMemory interrupts.NoMemory h = refl
+retold interrupts.CannotWrite interrupts.NoMemory h = absurd cc
+retold interrupts.NoMemory interrupts.CannotWrite h = absurd cc
+
+-- A text that is interrupted behind another one is a front of all that begins with both.
+pub writes_stop : {X Y : Type 0} (e : Interrupt) (old mid new : Option (List ℕ)) (f0 f1 f2 : ℕ) (before text whole : List ℕ)
+    → mid ≡ appended old before → Kept f0 f1 → Writes {X = X} (Err e) (change mid new f1 f2) text → IsFront (before ++ text) whole
+    → Writes {X = Y} (Err e) (change old new f0 f2) whole
+writes_stop {X} {Y} e old mid new f0 f1 f2 before text whole so_far kept w inside = record {
+  whole = tt;
+  front = AppendsFront-front old new (before ++ text) whole (AppendsFront-after old mid new before text so_far w.front) inside;
+  cause = λ is. Kept-Rose f0 f1 f2 kept (w.cause (retold {X = Y} {Y = X} e interrupts.CannotWrite is));
+  kept = Kept-trans f0 f1 f2 kept w.kept;
+}
+
+-- The texts of the first items and of the next are a front of the texts of all.
+texts_front : {X : Type 0} (text : X → List ℕ) (items : List X) (k : ℕ) (item : X) → k < length items → item ≡ get_or items k item
+    → IsFront (flat_map text (take k items) ++ text item) (flat_map text items)
+texts_front {X} text items k item lt at =
+    let split : drop k items ≡ item ∷ drop (suc k) items = drop-cons items k item lt ∙ ap (λ (x : X). x ∷ drop (suc k) items) (sym at) in
+    let whole : items ≡ take k items ++ (item ∷ drop (suc k) items) = sym (take-append-drop k items) ∙ ap (λ (r : List X). take k items ++ r) split in
+    let texts : flat_map text items ≡ flat_map text (take k items) ++ (text item ++ flat_map text (drop (suc k) items)) =
+    ap (flat_map text) whole ∙ flat_map-append text (take k items) (item ∷ drop (suc k) items) in
+    (flat_map text (drop (suc k) items), texts ∙ sym (append_assoc (flat_map text (take k items)) (text item) (flat_map text (drop (suc k) items))))
+
+-- The texts of items, one after another, are interrupted at the next.
+pub texts_stop : {X A : Type 0} (text : X → List ℕ) (items : List X) (k : ℕ) (item : X) (e : Interrupt) (old mid new : Option (List ℕ)) (f0 f1 f2 : ℕ)
+    → k < length items → item ≡ get_or items k item → mid ≡ appended old (flat_map text (take k items)) → Kept f0 f1
+    → Writes {X = A} (Err e) (change mid new f1 f2) (text item) → Writes {X = A} (Err e) (change old new f0 f2) (flat_map text items)
+texts_stop {X} {A} text items k item e old mid new f0 f1 f2 lt at so_far kept w =
+    writes_stop {X = A} {Y = A} e old mid new f0 f1 f2 (flat_map text (take k items)) (text item) (flat_map text items) so_far kept w (texts_front text items k item lt at)
+
+-- ---- answers
+
+-- A line on the sink of errors is the answer.
+pub gives_error : (status : ℕ) (line : List ℕ) (r : Result ℕ Interrupt) (o : Option (List ℕ)) (f : ℕ) (err : Change)
+    → IfOk r (λ given. given ≡ status) → Writes r err line → Gives (error_answer status line) r (change o o f f) err
+gives_error status line (Ok given) o f err is w = record {
+  status = is;
+  out_all = sym (appended-nil o);
+  err_all = w.whole;
+  out_front = tt;
+  err_front = tt;
+  cause = λ e. absurd cc;
+  out_kept = Kept-refl f;
+  err_kept = w.kept;
+}
+gives_error status line (Err e) o f err is w = record {
+  status = tt;
+  out_all = tt;
+  err_all = tt;
+  out_front = AppendsFront-none o o [] refl;
+  err_front = w.front;
+  cause = λ e. inr (w.cause e);
+  out_kept = Kept-refl f;
+  err_kept = w.kept;
+}
+
+-- A text on the sink of output was interrupted.
+pub gives_output_stop : {X : Type 0} (status : ℕ) (text : List ℕ) (i : Interrupt) (out : Change) (e : Option (List ℕ)) (g : ℕ)
+    → Writes {X = X} (Err i) out text → Gives (output_answer status text) (Err i) out (change e e g g)
+gives_output_stop {X} status text i out e g w = record {
+  status = tt;
+  out_all = tt;
+  err_all = tt;
+  out_front = w.front;
+  err_front = AppendsFront-none e e [] refl;
+  cause = λ is. inl (w.cause (retold {X = ℕ} {Y = X} i interrupts.CannotWrite is));
+  out_kept = w.kept;
+  err_kept = Kept-refl g;
+}
+
+-- A text on the sink of output is the answer.
+pub gives_output : (status : ℕ) (text : List ℕ) (r : Result ℕ Interrupt) (out : Change) (e : Option (List ℕ)) (g : ℕ)
+    → IfOk r (λ given. given ≡ status) → Writes r out text → Gives (output_answer status text) r out (change e e g g)
+gives_output status text (Ok given) out e g is w = record {
+  status = is;
+  out_all = w.whole;
+  err_all = sym (appended-nil e);
+  out_front = tt;
+  err_front = tt;
+  cause = λ e. absurd cc;
+  out_kept = w.kept;
+  err_kept = Kept-refl g;
+}
+gives_output status text (Err i) out e g is w = gives_output_stop {X = ℕ} status text i out e g w

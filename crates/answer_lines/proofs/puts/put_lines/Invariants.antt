@@ -1,0 +1,14 @@
+use Rattle.std.proofs.Common.{◌≡◌, take}
+use Rattle.cc_base.specs.Counts.{Kept}
+use Rattle.cc_base.specs.Sink.{appended}
+use Rattle.answer_lines.specs.Writing.{joined}
+use Rattle.answer_lines.proofs.puts.put_lines.Given as goal
+
+abbrev pub invariant-loop-line : goal.invariant-loop-line
+invariant-loop-line g l =
+    let written = g.S.Sink.written in
+    let faults = g.S.Sink.faults in
+    record {
+      so_far : written l.sink ≡ appended (written l.initial.sink) (joined (take l.line-index l.lines));
+      kept : Kept (faults l.initial.sink) (faults l.sink);
+    }

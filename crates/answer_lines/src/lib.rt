@@ -1,0 +1,14 @@
+//! The lines that the program writes, and what a call leaves that puts them to sinks.
+#![tactic(auto)]
+
+mod errors;
+mod interrupt;
+mod lines;
+mod puts;
+
+pub use errors::{NO_MEMORY, UNWRITTEN, USAGE};
+pub use interrupt::Interrupt;
+pub use lines::{Counts, obligation_line, proved_text, summary_line, unit_line};
+pub use puts::{
+    answer_error, answer_misfit, answer_missing, answer_refused, answer_unread, put_line, put_lines,
+};

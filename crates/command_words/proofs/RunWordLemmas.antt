@@ -1,0 +1,33 @@
+-- Words and their bytes.
+use Rattle.std.proofs.Common.{◌≡◌, ℕ, ◌-◌, All, Bool, true, List, length, take, drop, String, Global, if◌then◌else◌, ap, sym, ◌∙◌}
+use Rattle.std.specs.Bool.{IsTrue}
+use Rattle.std.specs.List.{list_all}
+use Rattle.std.specs.String.{string_bytes}
+use Rattle.std.proofs.lemmas.List.{drop-map, length-map, take-map}
+use Rattle.std.proofs.lemmas.List.Folds.{list_all-map}
+use Rattle.std.proofs.lemmas.List.Sums.{AllPass-from_list_all}
+use Rattle.run_arguments.specs.Arguments.{is_argument}
+use Rattle.command_words.specs.Words.{run_args, tells_steps, words_bytes}
+
+-- A test of the bytes of each word.
+pub all_words : (p : List ℕ → Bool) (words : List (String Global)) → list_all (λ word. p (string_bytes word)) words ≡ list_all p (words_bytes words)
+all_words p words = sym (list_all-map p (λ (word : String Global). string_bytes word) words)
+
+-- The bytes of some words on the way.
+pub words_between : (n first : ℕ) (words : List (String Global)) → words_bytes (take n (drop first words)) ≡ take n (drop first (words_bytes words))
+words_between n first words =
+    sym (take-map (λ (word : String Global). string_bytes word) n (drop first words)) ∙ ap (take n) (sym (drop-map (λ (word : String Global). string_bytes word) first words))
+
+-- The words of a run's arguments, where two more follow.
+pub args_between : (words : List (String Global)) → tells_steps (words_bytes words) ≡ true → words_bytes (take (length words - 2 - 3) (drop 3 words)) ≡ run_args (words_bytes words)
+args_between words tells =
+    words_between (length words - 2 - 3) 3 words
+    ∙ ap (λ n. take (n - 2 - 3) (drop 3 (words_bytes words))) (sym (length-map words (λ (word : String Global). string_bytes word)))
+    ∙ ap (λ b. take ((if b then length (words_bytes words) - 2 else length (words_bytes words)) - 3) (drop 3 (words_bytes words))) (sym tells)
+
+-- Words on the way whose bytes are arguments are arguments.
+pub are_arguments : (n first : ℕ) (words : List (String Global)) → list_all is_argument (take n (drop first (words_bytes words))) ≡ true
+    → All (λ word. IsTrue (is_argument (string_bytes word))) (take n (drop first words))
+are_arguments n first words all =
+    AllPass-from_list_all (λ (word : String Global). is_argument (string_bytes word)) (take n (drop first words))
+    (all_words is_argument (take n (drop first words)) ∙ ap (list_all is_argument) (words_between n first words) ∙ all)

@@ -1,0 +1,130 @@
+-- The grammar of the program's words.
+use Rattle.std.specs.Prelude.{◌≡◌, ℕ, ◌-◌, ◌^◌, ◌≤◌, true, Bool, false, not, nat_le, nat_lt, List, [], ◌∷◌, length, map, take, drop, Option, Some, None, option_map, ◌==◌, ◌&&◌, if◌then◌else◌, codes, slice_index_or}
+use Rattle.std.specs.List.{list_all}
+use Rattle.std.specs.Str.{bytes_eq}
+use Rattle.std.specs.String.{string_bytes}
+use Rattle.std.specs.declared.alloc.Global.{Global}
+use Rattle.std.specs.declared.string.String.{String}
+use Rattle.command_words.specs.declared.command.Command.{Command}
+use Rattle.command_words.specs.declared.command.Command.TheVariants as commands
+use Rattle.command_words.specs.declared.command.RunWords.{RunWords}
+use Rattle.run_arguments.specs.Arguments.{is_argument}
+use Rattle.run_arguments.specs.Numbers.{number_of_word}
+
+-- The bytes of each word.
+abbrev pub words_bytes : List (String Global) → List (List ℕ)
+words_bytes words = map (λ word. string_bytes word) words
+
+-- The word at an index.
+abbrev pub word_at : List (List ℕ) → ℕ → List ℕ
+word_at words index = slice_index_or words index []
+
+-- A word that may name a file or a method: it is not empty and does not begin with a minus sign.
+abbrev pub is_name_word : List ℕ → Bool
+is_name_word [] = false
+is_name_word (c ∷ cs) = not (c == 45)
+
+-- The command that a word tells, whose file is named by the word at an index.
+abbrev pub file_command : List ℕ → ℕ → Option Command
+file_command word index =
+    if bytes_eq word (codes "unit") then Some (commands.Unit index)
+    else if bytes_eq word (codes "list") then Some (commands.List index)
+    else if bytes_eq word (codes "check") then Some (commands.Check index)
+    else None
+
+-- The command of two words: `unit FILE`, `list FILE` or `check FILE`.
+abbrev pub command_of_two : List ℕ → List ℕ → Option Command
+command_of_two word file = if is_name_word file then file_command word 1 else None
+
+-- The command of three words: `il FILE METHOD`.
+abbrev pub command_of_three : List ℕ → List ℕ → List ℕ → Option Command
+command_of_three word file method =
+    if bytes_eq word (codes "il") && is_name_word file && is_name_word method then Some (commands.Il 1 2) else None
+
+-- ---- runs
+
+-- How many steps a run may take unless it is told, and the most that it may be told.
+abbrev pub STEPS : ℕ
+STEPS = 1000000
+
+abbrev pub MAX_STEPS : ℕ
+MAX_STEPS = 1000000000
+
+-- `--steps` is the last word but one, behind `run FILE METHOD`.
+abbrev pub tells_steps : List (List ℕ) → Bool
+tells_steps words = nat_le 5 (length words) && bytes_eq (word_at words (length words - 2)) (codes "--steps")
+
+-- Where the words of the arguments end.
+abbrev pub args_end : List (List ℕ) → ℕ
+args_end words = if tells_steps words then length words - 2 else length words
+
+abbrev pub run_steps : List (List ℕ) → Option ℕ
+run_steps words = if tells_steps words then number_of_word MAX_STEPS (word_at words (length words - 1)) else Some STEPS
+
+-- The words of the arguments.
+abbrev pub run_args : List (List ℕ) → List (List ℕ)
+run_args words = take (args_end words - 3) (drop 3 words)
+
+-- The words name a file, a method and arguments, and are no more than can be counted.
+abbrev pub names_run : List (List ℕ) → Bool
+names_run words =
+    nat_lt (length words) (2 ^ 32) && is_name_word (word_at words 1) && is_name_word (word_at words 2) && list_all is_argument (run_args words)
+
+-- The command `run FILE METHOD ARG..`, with `--steps N` as the last two words or not at all.
+unfoldable pub run_command : List (List ℕ) → Option Command
+run_command words =
+    if names_run words
+    then option_map (λ steps. commands.Run (record { file = 1; method = 2; args_end = args_end words; steps = steps })) (run_steps words) else None
+
+-- The words of a run's arguments, as the command tells them.
+abbrev pub args_told : RunWords → List (List ℕ) → List (List ℕ)
+args_told run words = take (run.args_end - 3) (drop 3 words)
+
+-- Behind the method stand arguments.
+pub record HasArguments (run : RunWords) (words : List (List ℕ)) : Type 0 where
+  pub begin : 3 ≤ run.args_end
+  pub end : run.args_end ≤ length words
+  pub each : list_all is_argument (args_told run words) ≡ true
+
+abbrev pub IfRun : Command → (RunWords → Type 0) → Type 0
+IfRun (commands.Run run) P = P run
+IfRun _ P = Unit {0}
+
+-- ---- commands
+
+-- The command that the words are, if they are one.
+abbrev pub command_of : List (List ℕ) → Option Command
+command_of (word ∷ file ∷ []) = command_of_two word file
+command_of (word ∷ file ∷ method ∷ args) =
+    if bytes_eq word (codes "run") then run_command (word ∷ file ∷ method ∷ args)
+    else if length args == 0 then command_of_three word file method
+    else None
+command_of _ = None
+
+-- The indexes of the words that name the command's files, in the order in which the files are read.
+abbrev pub file_indexes : Command → List ℕ
+file_indexes (commands.Unit file) = file ∷ []
+file_indexes (commands.List file) = file ∷ []
+file_indexes (commands.Il file method) = file ∷ []
+file_indexes (commands.Check file) = file ∷ []
+file_indexes (commands.Run run) = run.file ∷ []
+
+-- The indexes of all words that the command uses.
+abbrev pub used_indexes : Command → List ℕ
+used_indexes (commands.Unit file) = file ∷ []
+used_indexes (commands.List file) = file ∷ []
+used_indexes (commands.Il file method) = file ∷ method ∷ []
+used_indexes (commands.Check file) = file ∷ []
+used_indexes (commands.Run run) = run.file ∷ run.method ∷ []
+
+-- The words at these indexes.
+abbrev pub words_at : List (List ℕ) → List ℕ → List (List ℕ)
+words_at words indexes = map (word_at words) indexes
+
+abbrev pub command_files : List (List ℕ) → Option Command → List (List ℕ)
+command_files words None = []
+command_files words (Some command) = words_at words (file_indexes command)
+
+-- The names of the files of these words, in order. Words that are no command have none.
+abbrev pub file_names : List (List ℕ) → List (List ℕ)
+file_names words = command_files words (command_of words)

@@ -1,0 +1,206 @@
+//! The words that the program is given.
+
+ghost use Rattle.std.specs.Prelude.{◌≡◌, ◌+◌, ◌<◌, ◌≤◌, ◌^◌, All, IfSome, IsTrue, length, string_bytes};
+ghost use Rattle.std.specs.List.{list_all};
+ghost use Rattle.command_words.specs.Words.{HasArguments, IfRun, args_end, command_of, command_of_three, command_of_two, file_indexes, is_name_word, names_run, run_args, run_command, run_steps, tells_steps, used_indexes, word_at, words_bytes};
+ghost use Rattle.run_arguments.specs.Arguments as arguments;
+
+use run_arguments::{is_argument, read_number};
+use std::slice;
+
+/// What the program is asked for. Files and methods are told by the indexes of the words that name them,
+/// counted from 0.
+#[derive(Clone, Copy, Debug, PartialEq, Eq)]
+pub enum Command {
+    /// The report of the unit in a file.
+    Unit(u32),
+    /// The methods of the assembly in a file.
+    List(u32),
+    /// The instructions of a method: the file of its assembly, then the method.
+    Il(u32, u32),
+    /// The report of the assembly in a file.
+    Check(u32),
+    /// A run of a method.
+    Run(RunWords),
+}
+
+/// The words that tell a run, and how long it may be.
+#[derive(Clone, Copy, Debug, PartialEq, Eq)]
+pub struct RunWords {
+    /// The index of the word that names the file of the assembly.
+    pub file: u32,
+    /// The index of the word that names the method.
+    pub method: u32,
+    /// Where the arguments end, which begin behind the method.
+    pub args_end: u32,
+    /// How many steps the run may take.
+    pub steps: u32,
+}
+
+impl Command {
+    /// The indexes of the words that name its files, in the order in which the files are read.
+    pub fn files(&self) -> &[u32]
+        ensures { result.now ≡ file_indexes self.now }
+    {
+        match self {
+            Command::Unit(file)
+            | Command::List(file)
+            | Command::Il(file, _)
+            | Command::Check(file)
+            | Command::Run(RunWords { file, .. }) => slice::from_ref(file),
+        }
+    }
+}
+
+/// Whether a word may name a file or a method: it is not empty and does not begin with `-`.
+fn is_name_word(word: &str) -> bool
+    ensures { result ≡ is_name_word word.now }
+{
+    match word.as_bytes() {
+        [] => false,
+        [first, ..] => *first != b'-',
+    }
+}
+
+/// The command of two words.
+fn command_of_two(word: &str, file: &str) -> Option<Command>
+    ensures inside { IfSome result (λ command. All (λ index. index < 2) (used_indexes command)) }
+    ensures command { result ≡ command_of_two word.now file.now }
+{
+    if !is_name_word(file) {
+        return None;
+    }
+    match word {
+        "unit" => Some(Command::Unit(1)),
+        "list" => Some(Command::List(1)),
+        "check" => Some(Command::Check(1)),
+        _ => None,
+    }
+}
+
+/// The command of three words.
+fn command_of_three(word: &str, file: &str, method: &str) -> Option<Command>
+    ensures inside { IfSome result (λ command. All (λ index. index < 3) (used_indexes command)) }
+    ensures command { result ≡ command_of_three word.now file.now method.now }
+{
+    if word == "il" && is_name_word(file) && is_name_word(method) {
+        return Some(Command::Il(1, 2));
+    }
+    None
+}
+
+/// How many steps a run may take unless it is told.
+const STEPS: u32 = 1_000_000;
+
+/// The most steps that a run may be told.
+const MAX_STEPS: u32 = 1_000_000_000;
+
+/// Whether the last word but one, behind `run FILE METHOD`, is `--steps`.
+fn tells_steps(words: &[String]) -> bool
+    ensures told { result ≡ tells_steps (words_bytes words.now) }
+    ensures long { IsTrue result → 5 ≤ length words.now }
+{
+    words.len() >= 5 && words[words.len() - 2].as_str() == "--steps"
+}
+
+/// How many steps the words of a run allow, none where what stands behind `--steps` tells no number.
+fn run_steps(words: &[String]) -> Option<u32>
+    requires { 3 ≤ length words.now }
+    ensures { result ≡ run_steps (words_bytes words.now) }
+{
+    if tells_steps(words) {
+        read_number(words[words.len() - 1].as_str(), MAX_STEPS)
+    } else {
+        Some(STEPS)
+    }
+}
+
+/// The words of the arguments of a run.
+#[tactic(auto, using(crate::proofs::RunWordLemmas::args_between))]
+fn run_args(words: &[String]) -> &[String]
+    requires { 3 ≤ length words.now }
+    ensures args { words_bytes result.now ≡ run_args (words_bytes words.now) }
+    ensures end { 3 + length result.now ≡ args_end (words_bytes words.now) }
+{
+    if tells_steps(words) {
+        &words[3..words.len() - 2]
+    } else {
+        &words[3..]
+    }
+}
+
+/// Whether a word is an argument.
+fn is_argument_word(word: &String) -> bool
+    ensures { result ≡ arguments.is_argument (string_bytes word.now) }
+{
+    is_argument(word.as_str())
+}
+
+/// Whether each word is an argument.
+fn are_arguments(words: &[String]) -> bool
+    ensures { result ≡ list_all (λ word. arguments.is_argument (string_bytes word)) words.now }
+{
+    words.iter().all(is_argument_word)
+}
+
+/// Whether what stands for the arguments of a run are arguments.
+fn has_arguments(words: &[String]) -> bool
+    requires { 3 ≤ length words.now }
+    ensures { result ≡ list_all arguments.is_argument (run_args (words_bytes words.now)) }
+{
+    are_arguments(run_args(words))
+}
+
+/// Whether the words name a file, a method and arguments.
+fn names_run(words: &[String]) -> bool
+    requires { 3 ≤ length words.now }
+    ensures named { result ≡ names_run (words_bytes words.now) }
+    ensures few { IsTrue result → length words.now < 2 ^ 32 }
+{
+    words.len() <= u32::MAX as usize
+        && is_name_word(words[1].as_str())
+        && is_name_word(words[2].as_str())
+        && has_arguments(words)
+}
+
+/// The command of the words of a run.
+#[tactic(auto, unfolding(crate::specs::Words::run_command))]
+fn run_command(words: &[String]) -> Option<Command>
+    requires { 3 ≤ length words.now }
+    ensures inside { IfSome result (λ command. All (λ index. index < length words.now) (used_indexes command)) }
+    ensures arguments { IfSome result (λ command. IfRun command (λ run. HasArguments run (words_bytes words.now))) }
+    ensures command { result ≡ run_command (words_bytes words.now) }
+{
+    if !names_run(words) {
+        return None;
+    }
+    let steps = run_steps(words)?;
+    Some(Command::Run(RunWords {
+        file: 1,
+        method: 2,
+        args_end: 3 + run_args(words).len() as u32,
+        steps,
+    }))
+}
+
+/// The command that the words are, if they are one.
+pub fn parse_words(words: &[String]) -> Option<Command>
+    ensures inside { IfSome result (λ command. All (λ index. index < length words.now) (used_indexes command)) }
+    ensures arguments { IfSome result (λ command. IfRun command (λ run. HasArguments run (words_bytes words.now))) }
+    ensures command { result ≡ command_of (words_bytes words.now) }
+{
+    match words {
+        [word, file] => command_of_two(word.as_str(), file.as_str()),
+        [word, _, _, ..] if word.as_str() == "run" => run_command(words),
+        [word, file, method] => command_of_three(word.as_str(), file.as_str(), method.as_str()),
+        _ => None,
+    }
+}
+
+/// The word at an index.
+pub fn word_at(words: &[String], index: u32) -> &str
+    requires { index < length words.now }
+    ensures { result.now ≡ word_at (words_bytes words.now) index }
+{
+    words[index as usize].as_str()
+}
