@@ -10,6 +10,7 @@ use std::io::ErrorKind;
 use std::process::ExitCode;
 use std::rt::Env;
 use stream::Stream;
+use widening_engine::Plain;
 
 mod disk;
 mod stream;
@@ -38,5 +39,13 @@ fn main(rt: HostRuntime) -> ExitCode {
         let _ = err.put(rt.alloc(), NO_MEMORY);
         return ExitCode::from(7);
     };
-    ExitCode::from(run_words(rt.alloc(), &words, &mut files, &mut out, &mut err))
+    let mut finder = Plain::new(rt.alloc());
+    ExitCode::from(run_words(
+        rt.alloc(),
+        &words,
+        &mut files,
+        &mut out,
+        &mut err,
+        &mut finder,
+    ))
 }

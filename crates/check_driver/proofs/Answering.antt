@@ -1,27 +1,32 @@
 -- Answers, by what is met under the names of files and by the words.
-use Rattle.std.proofs.Common.{◌≡◌, ℕ, ◌≤◌, List, [], ◌∷◌, length, take, Vec, Global, Option, Some, None, Result, Contains, refl, sym, ap, ◌∙◌, arith, inl, inr, length-take}
+use Rattle.std.proofs.Common.{◌≡◌, ℕ, ◌≤◌, List, [], ◌∷◌, length, take, Vec, Global, Option, Some, None, Result, Ok, Err, Contains, refl, sym, ap, ◌∙◌, arith, inl, inr, length-take, slice_index_or}
 use Rattle.std.specs.Prelude.{codes}
 use Rattle.std.proofs.lemmas.Bool.{cases_lt, le-leb, lt-leb}
 use Rattle.std.proofs.lemmas.List.{take_all, get_or-map, length-map}
 use Rattle.asm_image.specs.Faults.{FirstBroken, assembly_tests, file_tests, large_test}
 use Rattle.asm_image.specs.declared.fault.Cause.TheVariants as causes
+use Rattle.cc_base.specs.Counts.{Kept}
 use Rattle.cc_base.specs.Tests.{first_of}
+use Rattle.cc_base.proofs.SinkLemmas.{AppendsFront-none}
 use Rattle.cc_base.specs.Files.{READ_LIMIT}
 use Rattle.cil_model.specs.Limits.{MAX_FILE_BYTES}
-use Rattle.check_driver.specs.Expected.{Answer, USAGE, error_answer, refused_answer, missing_line, missing_or, expected, unit_file_answer, list_answer, bytes_answer, files_answer, file_at, il_answer}
+use Rattle.answer_lines.specs.Answers.{Answer, USAGE, error_answer, refused_answer, missing_line}
+use Rattle.check_driver.specs.Asked.{asked_by, asked_unless, bytes_asked, check_asked, files_asked, unit_file_asked}
+use Rattle.check_driver.specs.Expected.{missing_or, expected, unit_file_answer, list_answer, check_answer, run_file_answer, bytes_answer, files_answer, file_at, il_answer}
 use Rattle.check_driver.specs.Met.{AreContents, first_missing, contents, bytes_read}
-use Rattle.check_driver.specs.Outcome.{Gives, GivesOrUnread, unread_answer}
-use Rattle.check_driver.specs.Words.{command_of, file_names, file_indexes, word_at, words_at}
-use Rattle.check_driver.specs.Writing.{Change}
-use Rattle.check_driver.specs.declared.command.Command.{Command}
-use Rattle.check_driver.specs.declared.command.Command.TheVariants as commands
-use Rattle.check_driver.specs.declared.interrupt.Interrupt.{Interrupt}
+use Rattle.answer_lines.specs.Outcome.{Gives, GivesOrUnread, unread_answer}
+use Rattle.command_words.specs.Words.{args_told, command_of, file_names, file_indexes, word_at, words_at}
+use Rattle.answer_lines.specs.Writing.{Change, Writes}
+use Rattle.command_words.specs.declared.command.Command.{Command}
+use Rattle.command_words.specs.declared.command.Command.TheVariants as commands
+use Rattle.answer_lines.specs.declared.interrupt.Interrupt.{Interrupt}
+use Rattle.answer_lines.specs.declared.interrupt.Interrupt.TheVariants as interrupts
 use Rattle.check_driver.proofs.FilesRead.{none_missing}
 
 -- ---- bytes that a read cut off
 
 -- An assembly past the limit has that fault first.
-large_first : (bytes : List ℕ) → READ_LIMIT ≤ length bytes → FirstBroken bytes ≡ Some (record { at = MAX_FILE_BYTES; cause = causes.Large })
+pub large_first : (bytes : List ℕ) → READ_LIMIT ≤ length bytes → FirstBroken bytes ≡ Some (record { at = MAX_FILE_BYTES; cause = causes.Large })
 unfolding FirstBroken assembly_tests file_tests large_test first_of
 large_first bytes past = rw (lt-leb (length bytes) MAX_FILE_BYTES (omega (arith, past))) refl
 
@@ -53,8 +58,27 @@ il_cut name method bytes limit is past =
     let cut = large_first (take limit bytes) (omega (arith, length-take limit bytes)) in
     rw (whole, cut) refl
 
+abbrev check_file_answer : List ℕ → List ℕ → Answer
+check_file_answer name bytes = check_answer name bytes (FirstBroken bytes)
+
+check_cut : (name bytes : List ℕ) (limit : ℕ) → limit ≡ READ_LIMIT → READ_LIMIT ≤ length bytes → check_file_answer name bytes ≡ check_file_answer name (take limit bytes)
+check_cut name bytes limit is past =
+    let whole = large_first bytes past in
+    let cut = large_first (take limit bytes) (omega (arith, length-take limit bytes)) in
+    rw (whole, cut) refl
+
+abbrev run_bytes_answer : List ℕ → List ℕ → List (List ℕ) → ℕ → List ℕ → Answer
+run_bytes_answer name method args steps bytes = run_file_answer name method args steps bytes (FirstBroken bytes)
+
+run_cut : (name method : List ℕ) (args : List (List ℕ)) (steps : ℕ) (bytes : List ℕ) (limit : ℕ) → limit ≡ READ_LIMIT → READ_LIMIT ≤ length bytes
+    → run_bytes_answer name method args steps bytes ≡ run_bytes_answer name method args steps (take limit bytes)
+run_cut name method args steps bytes limit is past =
+    let whole = large_first bytes past in
+    let cut = large_first (take limit bytes) (omega (arith, length-take limit bytes)) in
+    rw (whole, cut) refl
+
 -- So has every answer that has it past the limit.
-cut_alike : (answer : List ℕ → Answer) (bytes : List ℕ) (limit : ℕ) → limit ≡ READ_LIMIT → (READ_LIMIT ≤ length bytes → answer bytes ≡ answer (take limit bytes))
+cut_alike : {R : Type 0} (answer : List ℕ → R) (bytes : List ℕ) (limit : ℕ) → limit ≡ READ_LIMIT → (READ_LIMIT ≤ length bytes → answer bytes ≡ answer (take limit bytes))
     → answer bytes ≡ answer (take limit bytes)
 cut_alike answer bytes limit is past =
     elim (cases_lt (length bytes) limit) [
@@ -66,7 +90,7 @@ some_is : {X : Type 0} (x y : X) → Some x ≡ Some y → x ≡ y
 some_is x y e = cc
 
 -- What was read of the first file has the answer of what is met.
-first_alike : (answer : List ℕ → Answer) (met : List (Option (List ℕ))) (read : List (Vec ℕ Global))
+first_alike : {R : Type 0} (answer : List ℕ → R) (met : List (Option (List ℕ))) (read : List (Vec ℕ Global))
     → ((bytes : List ℕ) → READ_LIMIT ≤ length bytes → answer bytes ≡ answer (take READ_LIMIT bytes)) → AreContents met read
     → answer (file_at (contents met) 0) ≡ answer (file_at (bytes_read read) 0)
 first_alike answer [] [] past h = refl
@@ -85,6 +109,39 @@ bytes_alike (commands.List file) words met read h = first_alike (list_file_answe
 bytes_alike (commands.Il file method) words met read h =
     first_alike (il_file_answer (word_at words file) (word_at words method)) met read
     (λ bytes past. il_cut (word_at words file) (word_at words method) bytes READ_LIMIT refl past) h
+bytes_alike (commands.Check file) words met read h = first_alike (check_file_answer (word_at words file)) met read (λ bytes past. check_cut (word_at words file) bytes READ_LIMIT refl past) h
+bytes_alike (commands.Run run) words met read h =
+    first_alike (run_bytes_answer (word_at words run.file) (word_at words run.method) (args_told run words) run.steps) met read
+    (λ bytes past. run_cut (word_at words run.file) (word_at words run.method) (args_told run words) run.steps bytes READ_LIMIT refl past) h
+
+-- Of a file past the limit nothing is asked.
+unit_asked_cut : (bytes : List ℕ) (limit : ℕ) → limit ≡ READ_LIMIT → READ_LIMIT ≤ length bytes → unit_file_asked bytes ≡ unit_file_asked (take limit bytes)
+unit_asked_cut bytes limit is past =
+    let whole = le-leb READ_LIMIT (length bytes) past in
+    let cut = le-leb READ_LIMIT (length (take limit bytes)) (omega (arith, length-take limit bytes)) in
+    rw (whole, cut) refl
+
+abbrev check_file_asked : List ℕ → List (List ℕ)
+check_file_asked bytes = check_asked bytes (FirstBroken bytes)
+
+check_asked_cut : (bytes : List ℕ) (limit : ℕ) → limit ≡ READ_LIMIT → READ_LIMIT ≤ length bytes → check_file_asked bytes ≡ check_file_asked (take limit bytes)
+check_asked_cut bytes limit is past =
+    let whole = large_first bytes past in
+    let cut = large_first (take limit bytes) (omega (arith, length-take limit bytes)) in
+    rw (whole, cut) refl
+
+asked_alike : (command : Command) (met : List (Option (List ℕ))) (read : List (Vec ℕ Global)) → AreContents met read
+    → bytes_asked command (contents met) ≡ bytes_asked command (bytes_read read)
+asked_alike (commands.Unit file) met read h = first_alike unit_file_asked met read (λ bytes past. unit_asked_cut bytes READ_LIMIT refl past) h
+asked_alike (commands.Check file) met read h = first_alike check_file_asked met read (λ bytes past. check_asked_cut bytes READ_LIMIT refl past) h
+asked_alike (commands.List file) met read h = refl
+asked_alike (commands.Il file method) met read h = refl
+asked_alike (commands.Run run) met read h = refl
+
+-- The bytes of the only file.
+pub only_file : (read : List (Vec ℕ Global)) (other : Vec ℕ Global) → length read ≡ 1 → (slice_index_or read 0 other).items ≡ file_at (bytes_read read) 0
+only_file [] other one = absurd (omega (arith, one))
+only_file (file ∷ read) other one = refl
 
 -- ---- answers to a command
 
@@ -94,6 +151,18 @@ pub read_answer : (command : Command) (words : List (List ℕ)) (met : List (Opt
 read_answer command words met read h =
     let none = none_missing (words_at words (file_indexes command)) met read h in
     ap (λ (missing : Option (List ℕ)). missing_or missing (bytes_answer command words (contents met))) none ∙ bytes_alike command words met read h
+
+pub read_asked : (command : Command) (words : List (List ℕ)) (met : List (Option (List ℕ))) (read : List (Vec ℕ Global)) → AreContents met read
+    → files_asked command words met ≡ bytes_asked command (bytes_read read)
+read_asked command words met read h =
+    let none = none_missing (words_at words (file_indexes command)) met read h in
+    ap (λ (missing : Option (List ℕ)). asked_unless missing (bytes_asked command (contents met))) none ∙ asked_alike command met read h
+
+-- Where a file is missing, nothing is asked.
+pub missing_asked : (command : Command) (words : List (List ℕ)) (met : List (Option (List ℕ))) (name : List ℕ)
+    → first_missing (words_at words (file_indexes command)) met ≡ Some name → files_asked command words met ≡ []
+missing_asked command words met name first =
+    ap (λ (missing : Option (List ℕ)). asked_unless missing (bytes_asked command (contents met))) first
 
 -- A file that is missing has its answer.
 pub missing_answer : (command : Command) (words : List (List ℕ)) (met : List (Option (List ℕ))) (name : List ℕ)
@@ -108,11 +177,33 @@ gives_unread expected words indexes index failed r out err f (k, lt, at) gives =
     let there = ap (word_at words) at in
     inr (f, (k, word_at words index, simp length-map lt, get_or-map (word_at words) indexes k index (word_at words index) lt ∙ there, gives))
 
+-- A text that was written whole, whatever is answered then.
+pub written_whole : {X Y : Type 0} (x : X) (y : Y) (sink : Change) (text whole : List ℕ) → text ≡ whole → Writes (Ok x) sink text → Writes (Ok y) sink whole
+written_whole x y sink text whole same w = record { whole = rw (sym same) w.whole; front = tt; cause = λ is. absurd cc; kept = w.kept }
+
+-- Memory ran out before anything was written.
+pub gives_no_memory : (x : Answer) (out err : Change) → out.new ≡ out.old → err.new ≡ err.old → Kept out.faults_before out.faults_after → Kept err.faults_before err.faults_after
+    → Gives x (Err interrupts.NoMemory) out err
+gives_no_memory x out err out_same err_same out_kept err_kept = record {
+  status = tt;
+  out_all = tt;
+  err_all = tt;
+  out_front = AppendsFront-none out.old out.new x.out out_same;
+  err_front = AppendsFront-none err.old err.new x.err err_same;
+  cause = λ is. absurd cc;
+  out_kept = out_kept;
+  err_kept = err_kept;
+}
+
 -- ---- answers to words
 
 -- Words that are no command have the usage as their answer.
 pub no_command_answer : (words : List (List ℕ)) (met : List (Option (List ℕ))) → None ≡ command_of words → expected words met ≡ error_answer 2 USAGE
 no_command_answer words met e = rw (← e) refl
+
+-- For them nothing is asked.
+pub no_command_asked : (words : List (List ℕ)) (met : List (Option (List ℕ))) → None ≡ command_of words → asked_by words met ≡ []
+no_command_asked words met e = rw (← e) refl
 
 -- They name no file.
 pub no_command_files : (words : List (List ℕ)) → None ≡ command_of words → file_names words ≡ []

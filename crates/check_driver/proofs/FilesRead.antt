@@ -7,7 +7,7 @@ use Rattle.cc_base.specs.Counts.{Rose, Kept}
 use Rattle.cc_base.specs.Files.{Held, IsRead}
 use Rattle.cc_base.proofs.CountLemmas.{Kept-Rose}
 use Rattle.check_driver.specs.Met.{IsUnder, AreUnder, IsContent, AreContents, first_missing, Reads, ReadsOne}
-use Rattle.check_driver.specs.Words.{word_at, words_at}
+use Rattle.command_words.specs.Words.{word_at, words_at}
 use Rattle.check_driver.specs.declared.reading.Unread.{Unread}
 use Rattle.check_driver.specs.declared.reading.Unread.TheVariants as unread
 

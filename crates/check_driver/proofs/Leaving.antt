@@ -2,13 +2,13 @@
 use Rattle.std.proofs.Common.{◌≡◌, ℕ, List, [], ◌∷◌, Any, Option, Result, Ok, Err, refl, sym, ap, ◌∙◌, arith, inl, inr, ◌⊎◌}
 use Rattle.cc_base.specs.Sink.{appended, AppendsFront}
 use Rattle.cc_base.proofs.SinkLemmas.{appended-appended, appended-nil, IsFront-nil, AppendsFront-all, AppendsFront-front}
-use Rattle.check_driver.specs.Expected.{Answer, unread_line, UNWRITTEN_LINE, NO_MEMORY_LINE}
-use Rattle.check_driver.specs.Outcome.{GivesOrUnread, Leaves, Interrupted, last_line, status_of}
-use Rattle.check_driver.specs.Writing.{Change}
+use Rattle.answer_lines.specs.Answers.{Answer, unread_line, UNWRITTEN_LINE, NO_MEMORY_LINE}
+use Rattle.answer_lines.specs.Outcome.{GivesOrUnread, Leaves, Interrupted, last_line, status_of}
+use Rattle.answer_lines.specs.Writing.{Change}
 use Rattle.check_driver.proofs.Plain.{IsPlain}
-use Rattle.check_driver.proofs.Writings.{change}
-use Rattle.check_driver.specs.declared.interrupt.Interrupt.{Interrupt}
-use Rattle.check_driver.specs.declared.interrupt.Interrupt.TheVariants as interrupts
+use Rattle.answer_lines.proofs.Writings.{change}
+use Rattle.answer_lines.specs.declared.interrupt.Interrupt.{Interrupt}
+use Rattle.answer_lines.specs.declared.interrupt.Interrupt.TheVariants as interrupts
 
 -- Nothing, where the answer writes nothing, is a front of what is expected.
 unwritten_front : (out : Change) (text : List ℕ) → AppendsFront out.old out.new [] → AppendsFront out.old out.new text

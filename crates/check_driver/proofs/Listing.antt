@@ -11,9 +11,9 @@ use Rattle.cc_base.specs.Sink.{appended}
 use Rattle.cc_base.specs.declared.token.Token.{Token}
 use Rattle.cc_base.proofs.SinkLemmas.{appended-appended, appended-nil}
 use Rattle.check_driver.specs.ListText.{line_of, method_line}
-use Rattle.check_driver.specs.Writing.{Writes}
-use Rattle.check_driver.specs.declared.interrupt.Interrupt.{Interrupt}
-use Rattle.check_driver.proofs.Writings.{change, writes_stop}
+use Rattle.answer_lines.specs.Writing.{Writes}
+use Rattle.answer_lines.specs.declared.interrupt.Interrupt.{Interrupt}
+use Rattle.answer_lines.proofs.Writings.{change, writes_stop}
 
 -- The lines of the methods of a walk.
 abbrev pub lines : List MethodRow → List ℕ

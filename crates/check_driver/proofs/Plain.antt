@@ -1,5 +1,6 @@
 -- No answer has a status that tells an interruption.
-use Rattle.std.proofs.Common.{◌≢◌, ℕ, ◌≤◌, Bool, true, false, List, Option, Some, None, if◌then◌else◌, nat_le, length, arith}
+use Rattle.std.proofs.Common.{◌≡◌, ◌≢◌, ℕ, ◌<◌, ◌≤◌, slice_get, Bool, true, false, List, Option, Some, None, Result, Ok, Err, if◌then◌else◌, nat_le, length, refl, sym, ◌∙◌, arith}
+use Rattle.std.specs.Prelude.{IfOk}
 use Rattle.std.specs.Option.{option_and_then}
 use Rattle.asm_image.specs.Bodies.{method_of}
 use Rattle.asm_image.specs.Faults.{FirstBroken}
@@ -9,13 +10,35 @@ use Rattle.asm_image.specs.declared.found.Found.{Found}
 use Rattle.asm_image.specs.declared.found.Found.TheVariants.{One, Several}
 use Rattle.cc_base.specs.Files.{READ_LIMIT}
 use Rattle.cil_model.specs.declared.instruction.Instr.{Instr}
-use Rattle.check_driver.specs.Expected.{Answer, expected, command_answer, missing_or, bytes_answer, found_answer, il_answer, instrs_answer, list_answer, unit_answer, unit_file_answer, file_at}
+use Rattle.answer_lines.specs.Answers.{Answer}
+use Rattle.check_driver.specs.Expected.{expected, check_answer, command_answer, method_answer, missing_or, bytes_answer, found_answer, run_file_answer, run_found_answer, run_told, world_answer, il_answer, instrs_answer, list_answer, unit_answer, unit_file_answer, file_at}
+use Rattle.asm_image.specs.declared.method_row.MethodRow.{MethodRow}
+use Rattle.cc_base.specs.declared.token.Token.{Token}
+use Rattle.cil_eval.specs.Outcome.{last_state, outcome}
+use Rattle.cil_eval.specs.Starts.{start_refusal, start_state}
+use Rattle.cil_eval.specs.declared.limits.Limits.{Limits}
+use Rattle.cil_eval.specs.declared.start_refusal.StartRefusal.{StartRefusal}
+use Rattle.cil_eval.specs.declared.start_refusal.StartRefusal.TheVariants as refusals
+use Rattle.cil_eval.specs.declared.stop.Stop.{Stop}
+use Rattle.cil_eval.specs.declared.stop.Stop.TheVariants as stops
+use Rattle.cil_model.specs.Values.{Heap}
+use Rattle.cil_model.specs.declared.machine.World.{World}
+use Rattle.cil_model.specs.declared.place.Place.{Place}
+use Rattle.cil_model.specs.declared.unit.Unit.{Unit as MethodUnit}
+use Rattle.clause_eval.specs.declared.arg.Arg.{Arg}
+use Rattle.method_run.specs.ArgumentWords.{arguments_of}
+use Rattle.method_run.specs.EndTexts.{end_status}
+use Rattle.method_run.specs.RunAnswers.{entry_answer, outcome_answer, refusal_answer, run_answer, run_limits, start_answer}
+use Rattle.unit_builder.specs.WorldOf.{least_skipped, world_of}
+use Rattle.check_driver.specs.CheckText.{all_methods_proved}
 use Rattle.check_driver.specs.IlText.{method_instrs}
 use Rattle.check_driver.specs.Met.{first_missing, contents}
-use Rattle.range_verdicts.specs.Verdicts.{verdicts, all_proved}
-use Rattle.check_driver.specs.Words.{command_of, file_indexes, word_at, words_at}
-use Rattle.check_driver.specs.declared.command.Command.{Command}
-use Rattle.check_driver.specs.declared.command.Command.TheVariants as commands
+use Rattle.invariant_checker.specs.Counts.{all_proved}
+use Rattle.check_driver.specs.Analysis.{unit_verdicts}
+use Rattle.command_words.specs.Words.{args_told, command_of, file_indexes, word_at, words_at}
+use Rattle.command_words.specs.declared.command.Command.{Command}
+use Rattle.command_words.specs.declared.command.Command.TheVariants as commands
+use Rattle.answer_lines.specs.declared.interrupt.Interrupt.{Interrupt}
 use Rattle.method_unit.specs.BuiltUnits.{first_built_fault}
 use Rattle.method_unit.specs.UnitFile.{unit_of}
 use Rattle.method_unit.specs.declared.unit_fault.UnitFault.{UnitFault}
@@ -28,50 +51,123 @@ pub record IsPlain (status : ℕ) : Type 0 where
 plain_below : (status : ℕ) → status ≤ 3 → IsPlain status
 plain_below status few = record { read = λ e. omega (arith, e); written = λ e. omega (arith, e); memory = λ e. omega (arith, e) }
 
+-- The status of an answer to bytes that were read tells neither words that are no command nor a file that is missing.
+record IsOfBytes (status : ℕ) : Type 0 where
+  pub usage : status ≢ 2
+  pub missing : status ≢ 3
+  pub plain : IsPlain status
+
+of_few : (status : ℕ) → status ≤ 1 → IsOfBytes status
+of_few status few = record { usage = λ e. omega (arith, e, few); missing = λ e. omega (arith, e, few); plain = plain_below status (omega (arith, few)) }
+
+plain_above : (status : ℕ) → 7 < status → IsPlain status
+plain_above status above = record { read = λ e. omega (arith, e, above); written = λ e. omega (arith, e, above); memory = λ e. omega (arith, e, above) }
+
+of_high : (status : ℕ) → 7 < status → IsOfBytes status
+of_high status above = record { usage = λ e. omega (arith, e, above); missing = λ e. omega (arith, e, above); plain = plain_above status above }
+
 plain_refused : IsPlain 5
 plain_refused = record { read = λ e. omega (arith, e); written = λ e. omega (arith, e); memory = λ e. omega (arith, e) }
 
-plain_report : (proved : Bool) → IsPlain (if proved then 0 else 1)
-plain_report true = plain_below 0 (omega arith)
-plain_report false = plain_below 1 (omega arith)
+of_refused : IsOfBytes 5
+of_refused = record { usage = λ e. omega (arith, e); missing = λ e. omega (arith, e); plain = plain_refused }
 
-plain_unit : (name bytes : List ℕ) (fault : Option UnitFault) → IsPlain (unit_answer name bytes fault).status
-plain_unit name bytes None = plain_report (all_proved (verdicts (unit_of bytes)))
-plain_unit name bytes (Some fault) = plain_refused
+of_report : (proved : Bool) → IsOfBytes (if proved then 0 else 1)
+of_report true = of_few 0 (omega arith)
+of_report false = of_few 1 (omega arith)
 
-plain_either : (large : Bool) (refused answer : Answer) → IsPlain refused.status → IsPlain answer.status
-    → IsPlain (Answer.status (if large then refused else answer))
-plain_either true refused answer r a = r
-plain_either false refused answer r a = a
+of_unit : (name bytes : List ℕ) (fault : Option UnitFault) → IsOfBytes (unit_answer name bytes fault).status
+of_unit name bytes None = of_report (all_proved (unit_verdicts (unit_of bytes)))
+of_unit name bytes (Some fault) = of_refused
 
-plain_unit_file : (name bytes : List ℕ) → IsPlain (unit_file_answer name bytes).status
-plain_unit_file name bytes =
-    plain_either (nat_le READ_LIMIT (length bytes)) _ (unit_answer name bytes (first_built_fault bytes)) plain_refused (plain_unit name bytes (first_built_fault bytes))
+of_either : (large : Bool) (refused answer : Answer) → IsOfBytes refused.status → IsOfBytes answer.status
+    → IsOfBytes (Answer.status (if large then refused else answer))
+of_either true refused answer r a = r
+of_either false refused answer r a = a
 
-plain_list : (name bytes : List ℕ) (fault : Option AsmFault) → IsPlain (list_answer name bytes fault).status
-plain_list name bytes None = plain_below 0 (omega arith)
-plain_list name bytes (Some fault) = plain_refused
+of_unit_file : (name bytes : List ℕ) → IsOfBytes (unit_file_answer name bytes).status
+of_unit_file name bytes =
+    of_either (nat_le READ_LIMIT (length bytes)) _ (unit_answer name bytes (first_built_fault bytes)) of_refused (of_unit name bytes (first_built_fault bytes))
 
-plain_misfit : IsPlain 11
-plain_misfit = record { read = λ e. omega (arith, e); written = λ e. omega (arith, e); memory = λ e. omega (arith, e) }
+of_list : (name bytes : List ℕ) (fault : Option AsmFault) → IsOfBytes (list_answer name bytes fault).status
+of_list name bytes None = of_few 0 (omega arith)
+of_list name bytes (Some fault) = of_refused
 
-plain_instrs : (instrs : Option (List Instr)) → IsPlain (instrs_answer instrs).status
-plain_instrs None = plain_misfit
-plain_instrs (Some instrs) = plain_below 0 (omega arith)
+of_misfit : IsOfBytes 11
+of_misfit = of_high 11 (omega arith)
 
-plain_found : (bytes : List ℕ) (found : Option Found) → IsPlain (found_answer bytes found).status
-plain_found bytes None = plain_misfit
-plain_found bytes (Some Several) = plain_misfit
-plain_found bytes (Some (One token)) = plain_instrs (option_and_then (method_instrs bytes) (method_of bytes token))
+of_instrs : (instrs : Option (List Instr)) → IsOfBytes (instrs_answer instrs).status
+of_instrs None = of_misfit
+of_instrs (Some instrs) = of_few 0 (omega arith)
 
-plain_il : (name method bytes : List ℕ) (fault : Option AsmFault) → IsPlain (il_answer name method bytes fault).status
-plain_il name method bytes None = plain_found bytes (find_of bytes method)
-plain_il name method bytes (Some fault) = plain_refused
+of_found : (bytes : List ℕ) (found : Option Found) → IsOfBytes (found_answer bytes found).status
+of_found bytes None = of_misfit
+of_found bytes (Some Several) = of_misfit
+of_found bytes (Some (One token)) = of_instrs (option_and_then (method_instrs bytes) (method_of bytes token))
 
-plain_bytes : (command : Command) (words files : List (List ℕ)) → IsPlain (bytes_answer command words files).status
-plain_bytes (commands.Unit file) words files = plain_unit_file (word_at words file) (file_at files 0)
-plain_bytes (commands.List file) words files = plain_list (word_at words file) (file_at files 0) (FirstBroken (file_at files 0))
-plain_bytes (commands.Il file method) words files = plain_il (word_at words file) (word_at words method) (file_at files 0) (FirstBroken (file_at files 0))
+of_il : (name method bytes : List ℕ) (fault : Option AsmFault) → IsOfBytes (il_answer name method bytes fault).status
+of_il name method bytes None = of_found bytes (find_of bytes method)
+of_il name method bytes (Some fault) = of_refused
+
+of_check : (name bytes : List ℕ) (fault : Option AsmFault) → IsOfBytes (check_answer name bytes fault).status
+of_check name bytes None = of_report (all_methods_proved bytes)
+of_check name bytes (Some fault) = of_refused
+
+of_stop : (stop : Stop) → IsOfBytes (end_status stop)
+of_stop (stops.Returned value) = of_few 0 (omega arith)
+of_stop (stops.Fault kind unit at) = of_high 8 (omega arith)
+of_stop (stops.Assumed unit at) = of_high 10 (omega arith)
+of_stop stops.Steps = of_high 9 (omega arith)
+of_stop stops.Depth = of_high 9 (omega arith)
+of_stop stops.Cells = of_high 9 (omega arith)
+
+of_outcome : (w : World) (limits : Limits) (place : Place) (heap : Heap) (end : Option Stop) → IsOfBytes (run_told (outcome_answer w limits place heap end)).status
+of_outcome w limits place heap None = of_misfit
+of_outcome w limits place heap (Some stop) = of_stop stop
+
+of_refusal : (limits : Limits) (refusal : StartRefusal) → IsOfBytes (run_told (refusal_answer limits refusal)).status
+of_refusal limits refusals.Unit = of_misfit
+of_refusal limits refusals.Arguments = of_misfit
+of_refusal limits (refusals.Requires k) = of_misfit
+of_refusal limits refusals.Cells = of_high 9 (omega arith)
+
+of_start : (w : World) (limits : Limits) (unit : MethodUnit) (args : List Arg) (refusal : Option StartRefusal) → IsOfBytes (run_told (start_answer w limits unit args refusal)).status
+of_start w limits unit args (Some refusal) = of_refusal limits refusal
+of_start w limits unit args None =
+    of_outcome w limits unit.result (last_state w limits limits.steps (start_state unit 0 args)).heap (outcome w limits limits.steps (start_state unit 0 args))
+
+of_entry : (w : World) (limits : Limits) (words : List (List ℕ)) (unit : Option MethodUnit) → IsOfBytes (run_told (entry_answer w limits words unit)).status
+of_entry w limits words None = of_misfit
+of_entry w limits words (Some unit) = of_start w limits unit (arguments_of unit.args words) (start_refusal w limits 0 (arguments_of unit.args words))
+
+of_run : (w : World) (words : List (List ℕ)) (steps : ℕ) → IsOfBytes (run_told (run_answer w words steps)).status
+unfolding run_answer
+of_run w words steps = of_entry w (run_limits steps) words (slice_get w.units 0)
+
+of_world : (bytes : List ℕ) (token : Token) (args : List (List ℕ)) (steps : ℕ) (skipped : Option ℕ) → IsOfBytes (world_answer bytes token args steps skipped).status
+of_world bytes token args steps (Some skipped) = of_misfit
+of_world bytes token args steps None = of_run (world_of bytes token.0) args steps
+
+of_method : (bytes : List ℕ) (token : Token) (args : List (List ℕ)) (steps : ℕ) (method : Option MethodRow) → IsOfBytes (method_answer bytes token args steps method).status
+of_method bytes token args steps None = of_misfit
+of_method bytes token args steps (Some method) = of_world bytes token args steps (least_skipped bytes token.0)
+
+of_run_found : (bytes : List ℕ) (args : List (List ℕ)) (steps : ℕ) (found : Option Found) → IsOfBytes (run_found_answer bytes args steps found).status
+of_run_found bytes args steps None = of_misfit
+of_run_found bytes args steps (Some Several) = of_misfit
+of_run_found bytes args steps (Some (One token)) = of_method bytes token args steps (method_of bytes token)
+
+of_run_file : (name method : List ℕ) (args : List (List ℕ)) (steps : ℕ) (bytes : List ℕ) (fault : Option AsmFault) → IsOfBytes (run_file_answer name method args steps bytes fault).status
+of_run_file name method args steps bytes None = of_run_found bytes args steps (find_of bytes method)
+of_run_file name method args steps bytes (Some fault) = of_refused
+
+of_bytes : (command : Command) (words files : List (List ℕ)) → IsOfBytes (bytes_answer command words files).status
+of_bytes (commands.Unit file) words files = of_unit_file (word_at words file) (file_at files 0)
+of_bytes (commands.List file) words files = of_list (word_at words file) (file_at files 0) (FirstBroken (file_at files 0))
+of_bytes (commands.Il file method) words files = of_il (word_at words file) (word_at words method) (file_at files 0) (FirstBroken (file_at files 0))
+of_bytes (commands.Check file) words files = of_check (word_at words file) (file_at files 0) (FirstBroken (file_at files 0))
+of_bytes (commands.Run run) words files =
+    of_run_file (word_at words run.file) (word_at words run.method) (args_told run words) run.steps (file_at files 0) (FirstBroken (file_at files 0))
 
 plain_missing : (missing : Option (List ℕ)) (answer : Answer) → IsPlain answer.status → IsPlain (missing_or missing answer).status
 plain_missing None answer plain = plain
@@ -80,7 +176,28 @@ plain_missing (Some name) answer plain = plain_below 3 (omega arith)
 plain_command : (words : List (List ℕ)) (met : List (Option (List ℕ))) (command : Option Command) → IsPlain (command_answer words met command).status
 plain_command words met None = plain_below 2 (omega arith)
 plain_command words met (Some command) =
-    plain_missing (first_missing (words_at words (file_indexes command)) met) (bytes_answer command words (contents met)) (plain_bytes command words (contents met))
+    plain_missing (first_missing (words_at words (file_indexes command)) met) (bytes_answer command words (contents met)) (of_bytes command words (contents met)).plain
 
 pub plain_expected : (words : List (List ℕ)) (met : List (Option (List ℕ))) → IsPlain (expected words met).status
 plain_expected words met = plain_command words met (command_of words)
+
+-- ---- what a status tells
+
+-- An answer to bytes never tells a file to be missing.
+pub never_missing : (command : Command) (words files : List (List ℕ)) (r : Result ℕ Interrupt) (P : Type 0) → IfOk r (λ status. status ≡ (bytes_answer command words files).status)
+    → IfOk r (λ status. status ≡ 3 → P)
+never_missing command words files (Ok status) P is = λ e. absurd ((of_bytes command words files).missing (sym is ∙ e))
+never_missing command words files (Err e) P is = tt
+
+missing_usage : (missing : Option (List ℕ)) (answer : Answer) → IsOfBytes answer.status → (missing_or missing answer).status ≢ 2
+missing_usage None answer of = of.usage
+missing_usage (Some name) answer of = λ e. omega (arith, e)
+
+-- Only words that are no command are answered by the usage.
+command_usage : (words : List (List ℕ)) (met : List (Option (List ℕ))) (command : Option Command) → (command_answer words met command).status ≡ 2 → command ≡ None
+command_usage words met None e = refl
+command_usage words met (Some command) e =
+    absurd (missing_usage (first_missing (words_at words (file_indexes command)) met) (bytes_answer command words (contents met)) (of_bytes command words (contents met)) e)
+
+pub expected_usage : (words : List (List ℕ)) (met : List (Option (List ℕ))) → (expected words met).status ≡ 2 → command_of words ≡ None
+expected_usage words met e = command_usage words met (command_of words) e

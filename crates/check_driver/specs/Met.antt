@@ -4,7 +4,7 @@ use Rattle.std.specs.Option.{ForSome}
 use Rattle.std.specs.declared.alloc.Global.{Global}
 use Rattle.std.specs.declared.vec.Vec.{Vec}
 use Rattle.cc_base.specs.Files.{Held, IsRead}
-use Rattle.check_driver.specs.Words.{word_at, words_at}
+use Rattle.command_words.specs.Words.{word_at, words_at}
 use Rattle.check_driver.specs.declared.reading.Unread.{Unread}
 use Rattle.check_driver.specs.declared.reading.Unread.TheVariants as unread
 

@@ -10,12 +10,11 @@ ghost use Rattle.asm_image.specs.Find.{find_of};
 ghost use Rattle.cc_base.specs.Slices.{IsShort};
 ghost use Rattle.check_driver.specs.Expected.{found_answer, il_answer, instrs_answer};
 ghost use Rattle.check_driver.specs.IlText.{code_instrs, il_line, il_text, method_instrs};
-ghost use Rattle.check_driver.specs.Outcome.{Gives};
-ghost use Rattle.check_driver.specs.Writing.{Writes, change_of};
+ghost use Rattle.answer_lines.specs.Outcome.{Gives};
+ghost use Rattle.answer_lines.specs.Writing.{Writes, change_of};
 
 use crate::fault_text::assembly_fault_text;
-use crate::interrupt::Interrupt;
-use crate::puts::{answer_misfit, answer_refused, put_line};
+use answer_lines::{Interrupt, answer_misfit, answer_refused, put_line};
 use asm_image::{AsmRefusal, Assembly, Found, MethodRow};
 use cc_base::{Sink, Token};
 use cil_model::Instr;

@@ -1,19 +1,20 @@
 //! The program's words, what it answers to them, and the call that does it all.
 #![tactic(auto)]
 
-mod command;
-mod errors;
+mod analysis;
+mod check_answer;
 mod fault_text;
+mod finding;
 mod il_answer;
-mod interrupt;
-mod lines;
+mod judged_units;
 mod list_answer;
 mod program;
-mod puts;
 mod reading;
+mod reason_text;
 mod report;
+mod run_answer;
 mod unit_answer;
 
-pub use command::{Command, parse_words};
-pub use errors::NO_MEMORY;
+pub use answer_lines::NO_MEMORY;
+pub use command_words::{Command, RunWords, parse_words};
 pub use program::run_words;

@@ -8,12 +8,11 @@ ghost use Rattle.asm_image.specs.Faults.{FirstBroken};
 ghost use Rattle.asm_image.specs.Rows.{first_name};
 ghost use Rattle.check_driver.specs.Expected.{list_answer};
 ghost use Rattle.check_driver.specs.ListText.{line_of, list_text, method_line};
-ghost use Rattle.check_driver.specs.Outcome.{Gives};
-ghost use Rattle.check_driver.specs.Writing.{Writes, change_of};
+ghost use Rattle.answer_lines.specs.Outcome.{Gives};
+ghost use Rattle.answer_lines.specs.Writing.{Writes, change_of};
 
 use crate::fault_text::assembly_fault_text;
-use crate::interrupt::Interrupt;
-use crate::puts::{answer_refused, put_line};
+use answer_lines::{Interrupt, answer_refused, put_line};
 use asm_image::{AssemblyFile, MethodWalk};
 use cc_base::{Sink, Token, put_hex};
 use std::alloc::{AllocError, Global};

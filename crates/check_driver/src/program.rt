@@ -2,47 +2,101 @@
 
 #![tactic(auto, using(cc_base::proofs::SinkLemmas::sinks, cc_base::proofs::CountLemmas::counts))]
 
-ghost use Rattle.std.specs.Prelude.{◌≡◌, ◌⊎◌, ◌<◌, All, List, ℕ, length, Option, Some, IfOk, None};
+ghost use Rattle.std.specs.Prelude.{◌≡◌, ◌⊎◌, ◌<◌, All, Contains, List, ℕ, length, Option, Some, IfOk, IfSome, None};
+ghost use Rattle.asm_image.specs.Faults.{FirstBroken};
+ghost use Rattle.asm_image.specs.Rows.{methods_of};
+ghost use Rattle.asm_image.specs.declared.method_row.MethodRow.{MethodRow};
 ghost use Rattle.cc_base.specs.Counts.{Rose, Kept};
 ghost use Rattle.cc_base.specs.Files.{Held};
 ghost use Rattle.cc_base.specs.Sink.{AppendsFront};
-ghost use Rattle.cil_model.specs.declared.unit.Unit.{Unit as MethodUnit};
-ghost use Rattle.range_verdicts.specs.Safety.{IsSafe};
-ghost use Rattle.check_driver.specs.Expected.{bytes_answer, expected, files_answer};
+ghost use Rattle.check_driver.specs.Asked.{AnswerAsks, Asks, LeavesAsked, asked_by, bytes_asked, files_asked};
+ghost use Rattle.cil_model.specs.Runs.{Safe};
+ghost use Rattle.check_driver.specs.Checked.{AsksToCheck, IfCheck, IsHeldReportable, IsReportable, IsSafeMethod, PrintsMethod};
+ghost use Rattle.check_driver.specs.Expected.{bytes_answer, expected, file_at, files_answer, run_file_answer};
 ghost use Rattle.check_driver.specs.Met.{AreUnder, bytes_read};
-ghost use Rattle.check_driver.specs.Outcome.{Gives, GivesOrUnread, Leaves, last_line, status_of};
-ghost use Rattle.check_driver.specs.SingleUnit.{AsksFor, PrintsProved};
-ghost use Rattle.check_driver.specs.Words.{command_of, file_indexes, file_names, used_indexes, words_at, words_bytes};
-ghost use Rattle.check_driver.specs.Writing.{change_of};
+ghost use Rattle.answer_lines.specs.Outcome.{Gives, GivesOrUnread, Leaves, last_line, status_of};
+ghost use Rattle.check_driver.specs.Headline.{IsAssemblyOf, TellAllProved, WasAppended};
+ghost use Rattle.check_driver.specs.ProvedUnit.{AreSpelled, AsksForUnit, IfUnit, IsHeldSpelled, PrintsProvedUnit, SpellSafeUnit};
+ghost use Rattle.check_driver.specs.Sections.{section};
+ghost use Rattle.command_words.specs.Words.{HasArguments, IfRun, args_told, command_of, file_indexes, file_names, used_indexes, word_at, words_at, words_bytes};
+ghost use Rattle.answer_lines.specs.Writing.{change_of};
+ghost use Rattle.unit_builder.specs.WorldOf.{world_of};
 
-use crate::command::{Command, parse_words, word_at};
-use crate::errors::{NO_MEMORY, UNWRITTEN, USAGE};
+use crate::check_answer::answer_check;
 use crate::il_answer::answer_il;
-use crate::interrupt::Interrupt;
 use crate::list_answer::answer_list;
-use crate::puts::{answer_error, answer_missing, answer_unread};
 use crate::reading::{Unread, read_files};
+use crate::run_answer::{RunGiven, answer_run};
 use crate::unit_answer::answer_unit_file;
+use answer_lines::{
+    Interrupt, NO_MEMORY, UNWRITTEN, USAGE, answer_error, answer_missing, answer_unread,
+};
 use cc_base::{Files, Sink};
+use command_words::{Command, RunWords, parse_words, word_at};
 use std::alloc::Global;
+use widening_engine::Finder;
+
+/// Answers the words of a run for what was read of its file.
+fn answer_run_words<O: Sink, E: Sink>(
+    alloc: Global,
+    run: RunWords,
+    words: &[String],
+    bytes: &[u8],
+    out: &mut O,
+    err: &mut E,
+) -> Result<u8, Interrupt>
+    requires file { run.file < length words.now }
+    requires method { run.method < length words.now }
+    requires args { HasArguments run (words_bytes words.now) }
+    ensures { let given = words_bytes words.now in
+        Gives (run_file_answer (word_at given run.file) (word_at given run.method) (args_told run given) run.steps bytes.now (FirstBroken bytes.now)) result
+        (change_of O.written O.faults out.old out.new) (change_of E.written E.faults err.old err.new) }
+{
+    let given = RunGiven {
+        args: &words[3..run.args_end as usize],
+        steps: run.steps,
+    };
+    let (name, method) = (word_at(words, run.file), word_at(words, run.method));
+    answer_run(
+        alloc,
+        name.as_bytes(),
+        method.as_bytes(),
+        given,
+        bytes,
+        out,
+        err,
+    )
+}
 
 /// Answers a command for what was read of its files, of each at most `READ_LIMIT` bytes.
-fn answer_bytes<O: Sink, E: Sink>(
+fn answer_bytes<O: Sink, E: Sink, D: Finder>(
     alloc: Global,
     command: Command,
     words: &[String],
     read: &[Vec<u8>],
     out: &mut O,
     err: &mut E,
+    finder: &mut D,
 ) -> Result<u8, Interrupt>
     requires words { All (λ index. index < length words.now) (used_indexes command) }
     requires read { length read.now ≡ length (file_indexes command) }
-    ensures { Gives (bytes_answer command (words_bytes words.now) (bytes_read read.now)) result
+    requires arguments { IfRun command (λ run. HasArguments run (words_bytes words.now)) }
+    ensures answer { Gives (bytes_answer command (words_bytes words.now) (bytes_read read.now)) result
         (change_of O.written O.faults out.old out.new) (change_of E.written E.faults err.old err.new) }
+    ensures reportable { (O.written out.new ≡ O.written out.old) ⊎ IfCheck command (λ _. IsReportable (file_at (bytes_read read.now) 0)) }
+    ensures asked { Asks (bytes_asked command (bytes_read read.now)) result (D.asked finder.old) (D.asked finder.new) }
+    ensures spelled { (O.written out.new ≡ O.written out.old) ⊎ IfUnit command (λ _. AreSpelled (file_at (bytes_read read.now) 0)) }
 {
     match command {
         Command::Unit(file) => {
-            answer_unit_file(alloc, word_at(words, file).as_bytes(), &read[0], out, err)
+            answer_unit_file(
+                alloc,
+                word_at(words, file).as_bytes(),
+                &read[0],
+                out,
+                err,
+                finder,
+            )
         }
         Command::List(file) => {
             answer_list(alloc, word_at(words, file).as_bytes(), &read[0], out, err)
@@ -58,29 +112,47 @@ fn answer_bytes<O: Sink, E: Sink>(
                 err,
             )
         }
+        Command::Check(file) => {
+            answer_check(
+                alloc,
+                word_at(words, file).as_bytes(),
+                &read[0],
+                out,
+                err,
+                finder,
+            )
+        }
+        Command::Run(run) => answer_run_words(alloc, run, words, &read[0], out, err),
     }
 }
 
 /// Answers a command of these words.
-fn answer_command<F: Files, O: Sink, E: Sink>(
+fn answer_command<F: Files, O: Sink, E: Sink, D: Finder>(
     alloc: Global,
     command: Command,
     words: &[String],
     files: &mut F,
     out: &mut O,
     err: &mut E,
+    finder: &mut D,
 ) -> Result<u8, Interrupt>
-    requires { All (λ index. index < length words.now) (used_indexes command) }
+    requires inside { All (λ index. index < length words.now) (used_indexes command) }
+    requires arguments { IfRun command (λ run. HasArguments run (words_bytes words.now)) }
     ensures answer { let given = words_bytes words.now in
         let names = words_at given (file_indexes command) in
         (met : List (Option (List ℕ))) × AreUnder (F.held files.old) names met
         × GivesOrUnread (files_answer command given met) names (Rose (F.faults files.old) (F.faults files.new)) result
-        (change_of O.written O.faults out.old out.new) (change_of E.written E.faults err.old err.new) }
+        (change_of O.written O.faults out.old out.new) (change_of E.written E.faults err.old err.new)
+        × AnswerAsks (files_asked command given met) result (D.asked finder.old) (D.asked finder.new) }
     ensures missing { IfOk result (λ status. status ≡ 3 → Rose (F.missed files.old) (F.missed files.new)) }
+    ensures reportable { (O.written out.new ≡ O.written out.old)
+        ⊎ IfCheck command (λ file. IsHeldReportable (F.held files.old) (word_at (words_bytes words.now) file)) }
+    ensures spelled { (O.written out.new ≡ O.written out.old)
+        ⊎ IfUnit command (λ file. IsHeldSpelled (F.held files.old) (word_at (words_bytes words.now) file)) }
     ensures files { F.held files.new ≡ F.held files.old }
 {
     match read_files(alloc, words, command.files(), files) {
-        Ok(read) => answer_bytes(alloc, command, words, &read, out, err),
+        Ok(read) => answer_bytes(alloc, command, words, &read, out, err, finder),
         Err(Unread::Missing(file)) => answer_missing(alloc, word_at(words, file).as_bytes(), err),
         Err(Unread::Failed(file)) => answer_unread(alloc, word_at(words, file).as_bytes(), err),
         Err(Unread::NoMemory) => Err(Interrupt::NoMemory),
@@ -88,24 +160,32 @@ fn answer_command<F: Files, O: Sink, E: Sink>(
 }
 
 /// Answers the words.
-fn answer_words<F: Files, O: Sink, E: Sink>(
+fn answer_words<F: Files, O: Sink, E: Sink, D: Finder>(
     alloc: Global,
     words: &[String],
     files: &mut F,
     out: &mut O,
     err: &mut E,
+    finder: &mut D,
 ) -> Result<u8, Interrupt>
     ensures answer { let given = words_bytes words.now in
         (met : List (Option (List ℕ))) × AreUnder (F.held files.old) (file_names given) met
         × GivesOrUnread (expected given met) (file_names given) (Rose (F.faults files.old) (F.faults files.new)) result
-        (change_of O.written O.faults out.old out.new) (change_of E.written E.faults err.old err.new) }
+        (change_of O.written O.faults out.old out.new) (change_of E.written E.faults err.old err.new)
+        × AnswerAsks (asked_by given met) result (D.asked finder.old) (D.asked finder.new) }
     ensures missing { IfOk result (λ status. status ≡ 3 → Rose (F.missed files.old) (F.missed files.new)) }
     ensures usage { command_of (words_bytes words.now) ≡ None → IfOk result (λ status. status ≡ 2) }
+    ensures reportable { let given = words_bytes words.now in
+        (O.written out.new ≡ O.written out.old)
+        ⊎ IfSome (command_of given) (λ command. IfCheck command (λ file. IsHeldReportable (F.held files.old) (word_at given file))) }
+    ensures spelled { let given = words_bytes words.now in
+        (O.written out.new ≡ O.written out.old)
+        ⊎ IfSome (command_of given) (λ command. IfUnit command (λ file. IsHeldSpelled (F.held files.old) (word_at given file))) }
     ensures files { F.held files.new ≡ F.held files.old }
 {
     match parse_words(words) {
         None => answer_error(alloc, 2, USAGE, err),
-        Some(command) => answer_command(alloc, command, words, files, out, err),
+        Some(command) => answer_command(alloc, command, words, files, out, err, finder),
     }
 }
 
@@ -136,28 +216,41 @@ fn finish<E: Sink>(alloc: Global, answered: Result<u8, Interrupt>, err: &mut E) 
     }
 }
 
-/// The program: answers the words, writes to the two sinks and gives the status.
+/// The program: answers the words, writes to the two sinks and gives the status. The finder is asked for an invariant of each
+/// unit that is judged, of equal units once.
 ///
 /// Statuses 4, 6 and 7 end a call early: a device refused a read, a sink refused, memory ran out.
-pub fn run_words<F: Files, O: Sink, E: Sink>(
+pub fn run_words<F: Files, O: Sink, E: Sink, D: Finder>(
     alloc: Global,
     words: &[String],
     files: &mut F,
     out: &mut O,
     err: &mut E,
+    finder: &mut D,
 ) -> u8
-    // What is written, and the status: those that are expected for the words and for what is held under
-    // the names of their files (where that is not told, for something under each).
+    // What is written, the status, and what the finder is asked for: those that are expected for the words and for what is
+    // held under the names of their files (where that is not told, for something under each).
     ensures output { let given = words_bytes words.now in
         let failed = Rose (F.faults files.old) (F.faults files.new) in
         (met : List (Option (List ℕ))) × AreUnder (F.held files.old) (file_names given) met
         × Leaves (expected given met) (file_names given) failed result
-        (change_of O.written O.faults out.old out.new) (change_of E.written E.faults err.old err.new) }
+        (change_of O.written O.faults out.old out.new) (change_of E.written E.faults err.old err.new)
+        × LeavesAsked (asked_by given met) result (D.asked finder.old) (D.asked finder.new) }
     ensures files { F.held files.new ≡ F.held files.old }
-    // A unit that was printed as proved is safe, whatever the status.
-    ensures single_unit { (held : Held) (unit : MethodUnit) → F.held files.old ≡ Some held
-        → AsksFor (words_bytes words.now) held unit
-        → PrintsProved (O.written out.old) (O.written out.new) unit → IsSafe unit }
+    // Where the report of an assembly has told each method that one reaches by calls to be proved, no run of that one in its
+    // world is ever at a fault, whatever the status and however far the report came.
+    ensures headline { (held : Held) (k : ℕ) (bytes text : List ℕ) (method : MethodRow) → F.held files.old ≡ Some held
+        → IsAssemblyOf (words_bytes words.now) held k bytes → WasAppended (O.written out.old) (O.written out.new) text
+        → Contains (methods_of bytes) method → TellAllProved (section k text) bytes method
+        → Safe (world_of bytes method.token.0) 0 }
+    // A file that was told to be that of a proved unit is the spelling of a safe one, whatever the status.
+    ensures single_unit { (held : Held) (bytes signature : List ℕ) → F.held files.old ≡ Some held
+        → AsksForUnit (words_bytes words.now) held bytes
+        → PrintsProvedUnit (O.written out.old) (O.written out.new) signature → SpellSafeUnit bytes signature }
+    // The unit of a method of an assembly whose line was printed as proved is safe.
+    ensures checked { (held : Held) (bytes : List ℕ) (method : MethodRow) → F.held files.old ≡ Some held
+        → AsksToCheck (words_bytes words.now) held bytes → Contains (methods_of bytes) method
+        → PrintsMethod (O.written out.old) (O.written out.new) method → IsSafeMethod bytes method }
 
     // Each status that a device can bring comes only where its count rose in this call.
     ensures missing_cause { result ≡ 3 → Rose (F.missed files.old) (F.missed files.new) }
@@ -168,6 +261,6 @@ pub fn run_words<F: Files, O: Sink, E: Sink>(
     ensures usage { result ≡ 2 → command_of (words_bytes words.now) ≡ None }
     ensures no_command { command_of (words_bytes words.now) ≡ None → (result ≡ 2) ⊎ ((result ≡ 6) ⊎ (result ≡ 7)) }
 {
-    let answered = answer_words(alloc, words, files, out, err);
+    let answered = answer_words(alloc, words, files, out, err, finder);
     finish(alloc, answered, err)
 }

@@ -5,11 +5,11 @@
 ghost use Rattle.std.specs.Prelude.{◌≡◌, ◌<◌, All, List, Option, length, ℕ};
 ghost use Rattle.cc_base.specs.Counts.{Rose, Kept};
 ghost use Rattle.check_driver.specs.Met.{AreUnder, IsUnder, Reads, ReadsOne};
-ghost use Rattle.check_driver.specs.Words.{word_at, words_at, words_bytes};
+ghost use Rattle.command_words.specs.Words.{word_at, words_at, words_bytes};
 ghost use Rattle.check_driver.specs.declared.reading.Unread.TheVariants.{NoMemory};
 
-use crate::command::word_at;
 use cc_base::{Files, ReadRefusal};
+use command_words::word_at;
 use std::alloc::{AllocFailed, Global};
 
 /// Why the files of a command were not read. A file is told by the index of the word that names it.

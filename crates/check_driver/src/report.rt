@@ -3,21 +3,32 @@
 ghost use Rattle.std.specs.Prelude.{◌≡◌, ◌++◌, ◌<◌, ◌≤◌, length, All, IfOk, OnOk};
 ghost use Rattle.std.specs.List.{flat_map};
 ghost use Rattle.check_driver.specs.ReportText.{unit_report, verdict_line};
-ghost use Rattle.range_verdicts.specs.Verdicts.{verdicts};
-ghost use Rattle.check_driver.specs.Writing.{joined};
+ghost use Rattle.check_driver.specs.Analysis.{unit_verdicts};
+ghost use Rattle.answer_lines.specs.Writing.{joined};
 
-use crate::lines::{Counts, summary_line, unit_line, verdict_line};
+use answer_lines::{Counts, obligation_line, summary_line, unit_line};
 use cil_model::Unit;
-use range_verdicts::{Verdict, all_proved, proved_count};
+use invariant_checker::{Verdict, all_proved, proved_count};
+use method_run::append_kind;
 use std::alloc::{AllocError, Global};
 
+/// The line of an obligation.
+fn verdict_line(alloc: Global, verdict: Verdict) -> Result<Vec<u8>, AllocError>
+    requires { verdict.obligation.at < 65536 }
+    ensures { IfOk result (λ line. line.items ≡ verdict_line verdict) }
+{
+    let mut kind = Vec::new(alloc);
+    append_kind(alloc, &mut kind, None, verdict.obligation.kind)?;
+    obligation_line(alloc, verdict.obligation.at, &kind, verdict.proved)
+}
+
 /// Appends the lines of obligations.
-fn append_verdict_lines(
+pub fn append_verdict_lines(
     alloc: Global,
     lines: &mut Vec<Vec<u8>>,
     found: &[Verdict],
 ) -> Result<(), AllocError>
-    requires { All (λ verdict. verdict.at < 65536) found.now }
+    requires { All (λ verdict. verdict.obligation.at < 65536) found.now }
     ensures { OnOk result (joined lines.new.items ≡ joined lines.old.items ++ flat_map verdict_line found.now) }
 {
     for verdict in found {
@@ -33,9 +44,9 @@ pub fn report_lines(
     unit: &Unit,
     found: &[Verdict],
 ) -> Result<Vec<Vec<u8>>, AllocError>
-    requires verdicts { found.now ≡ verdicts unit.now }
+    requires verdicts { found.now ≡ unit_verdicts unit.now }
     requires few { length found.now ≤ 65536 }
-    requires near { All (λ verdict. verdict.at < 65536) found.now }
+    requires near { All (λ verdict. verdict.obligation.at < 65536) found.now }
     ensures { IfOk result (λ lines. joined lines.items ≡ unit_report unit.now) }
 {
     let proved = all_proved(found);
@@ -44,11 +55,11 @@ pub fn report_lines(
     append_verdict_lines(alloc, &mut lines, found)?;
     let counts = Counts {
         methods: 1,
-        proved: u32::from(proved),
-        unproved: u32::from(!proved),
+        proved: u64::from(proved),
+        unproved: u64::from(!proved),
         skipped: 0,
-        obligations: found.len() as u32,
-        proved_obligations: proved_count(found) as u32,
+        obligations: found.len() as u64,
+        proved_obligations: proved_count(found) as u64,
     };
     lines.push(summary_line(alloc, counts)?)?;
     Ok(lines)

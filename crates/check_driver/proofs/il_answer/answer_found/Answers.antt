@@ -1,7 +1,7 @@
 use Rattle.std.proofs.Common.{◌≡◌, codes}
 use Rattle.asm_image.specs.declared.found.Found.TheVariants.{Several}
-use Rattle.check_driver.specs.Expected.{misfit_line}
-use Rattle.check_driver.proofs.Writings.{gives_error}
+use Rattle.answer_lines.specs.Answers.{misfit_line}
+use Rattle.answer_lines.proofs.Writings.{gives_error}
 use Rattle.check_driver.proofs.il_answer.answer_found.Goals as goal
 
 pub returns-in-None : goal.returns-in-None

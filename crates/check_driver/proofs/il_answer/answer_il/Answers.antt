@@ -1,8 +1,8 @@
 use Rattle.std.proofs.Common.{◌≡◌, Some, refl}
 use Rattle.asm_image.specs.Faults.{FirstBroken}
-use Rattle.check_driver.specs.Expected.{refused_line}
+use Rattle.answer_lines.specs.Answers.{refused_line}
 use Rattle.check_driver.specs.FaultText.{assembly_fault_text}
-use Rattle.check_driver.proofs.Writings.{gives_error}
+use Rattle.answer_lines.proofs.Writings.{gives_error}
 use Rattle.check_driver.proofs.il_answer.answer_il.Goals as goal
 
 pub returns-in-Err-Bad : goal.returns-in-Err-Bad

@@ -1,6 +1,6 @@
 use Rattle.std.proofs.lemmas.Result.{err_from_is_err_and}
 use Rattle.check_driver.specs.IlText.{il_line, il_text}
-use Rattle.check_driver.proofs.Writings.{texts_stop}
+use Rattle.answer_lines.proofs.Writings.{texts_stop}
 use Rattle.check_driver.proofs.il_answer.put_instrs.Goals as goal
 
 pub returns-in_err-put_instr : goal.returns-in_err-put_instr

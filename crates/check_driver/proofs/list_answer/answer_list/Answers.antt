@@ -1,10 +1,10 @@
 use Rattle.std.proofs.Common.{◌≡◌, None, Some, refl}
 use Rattle.std.proofs.lemmas.Result.{err_from_is_err_and}
 use Rattle.asm_image.specs.Faults.{FirstBroken}
-use Rattle.check_driver.specs.Expected.{refused_line}
+use Rattle.answer_lines.specs.Answers.{refused_line}
 use Rattle.check_driver.specs.FaultText.{assembly_fault_text}
 use Rattle.check_driver.specs.ListText.{list_text}
-use Rattle.check_driver.proofs.Writings.{gives_error, gives_output_stop}
+use Rattle.answer_lines.proofs.Writings.{gives_error, gives_output_stop}
 use Rattle.check_driver.proofs.list_answer.answer_list.Goals as goal
 
 pub returns-in-Err : goal.returns-in-Err

@@ -1,15 +1,27 @@
-use Rattle.std.proofs.Common.{inl}
-use Rattle.check_driver.specs.Expected.{files_answer, missing_line, unread_line}
-use Rattle.check_driver.specs.Words.{file_indexes, word_at, words_bytes}
-use Rattle.check_driver.proofs.Answering.{read_answer, missing_answer, gives_unread}
-use Rattle.check_driver.proofs.Writings.{gives_error}
+use Rattle.std.proofs.Common.{inl, refl}
+use Rattle.cc_base.proofs.CountLemmas.{Kept-refl}
+use Rattle.answer_lines.specs.Answers.{missing_line, unread_line}
+use Rattle.check_driver.specs.Asked.{files_asked}
+use Rattle.check_driver.specs.Expected.{files_answer}
+use Rattle.command_words.specs.Words.{file_indexes, word_at, words_bytes}
+use Rattle.check_driver.proofs.Answering.{gives_no_memory, read_answer, read_asked, missing_answer, missing_asked, gives_unread}
+use Rattle.check_driver.proofs.Asking.{answer_asks, answer_asks_none, unasked, unread_asks}
+use Rattle.check_driver.proofs.Plain.{never_missing}
+use Rattle.check_driver.proofs.Reportable.{held_reportable}
+use Rattle.check_driver.proofs.SpelledUnits.{held_spelled}
+use Rattle.answer_lines.proofs.Writings.{gives_error}
 use Rattle.check_driver.proofs.program.answer_command.Goals as goal
 
 pub returns-in-Ok-clause-answer : goal.returns-in-Ok-clause-answer
 returns-in-Ok-clause-answer g c =
     let met = rw c.files.ensures at c.in-Ok.ensures.read in
     let same = read_answer c.args.command (words_bytes c.args.words.now) met.0 c.in-Ok.read.items met.2 in
-    (met.0, met.1, inl (rw same (rw c.deref.ensures.value at c.answer_bytes.ensures)))
+    let asked = read_asked c.args.command (words_bytes c.args.words.now) met.0 c.in-Ok.read.items met.2 in (
+      met.0,
+      met.1,
+      inl (rw same (rw c.deref.ensures.value at c.answer_bytes.ensures.answer)),
+      rw asked (answer_asks _ c.answer_bytes.result _ _ (rw c.deref.ensures.value at c.answer_bytes.ensures.asked)),
+    )
 
 pub returns-in-Err-Missing-clause-answer : goal.returns-in-Err-Missing-clause-answer
 returns-in-Err-Missing-clause-answer g c =
@@ -21,6 +33,7 @@ returns-in-Err-Missing-clause-answer g c =
       met.1,
       inl (rw (missing_answer c.args.command words met.0 name met.2.2)
           (gives_error 3 (missing_line name) c.answer_missing.result (g.O.Sink.written c.args.out.now) (g.O.Sink.faults c.args.out.now) _ c.answer_missing.ensures.status written)),
+      rw (missing_asked c.args.command words met.0 name met.2.2) (answer_asks_none c.answer_missing.result (g.D.Finder.asked c.args.finder.now)),
     )
 
 pub returns-in-Err-Failed-clause-answer : goal.returns-in-Err-Failed-clause-answer
@@ -33,4 +46,30 @@ returns-in-Err-Failed-clause-answer g c =
       met.1,
       gives_unread (files_answer c.args.command words met.0) words (file_indexes c.args.command) c.in-Err-Failed.file _ c.answer_unread.result _ _ met.2.0 met.2.1
           (gives_error 4 (unread_line name) c.answer_unread.result (g.O.Sink.written c.args.out.now) (g.O.Sink.faults c.args.out.now) _ c.answer_unread.ensures.status written),
+      unread_asks (files_asked c.args.command words met.0) c.answer_unread.result (g.D.Finder.asked c.args.finder.now) c.answer_unread.ensures.status,
     )
+
+pub returns-in-Err-NoMemory-clause-answer : goal.returns-in-Err-NoMemory-clause-answer
+returns-in-Err-NoMemory-clause-answer g c =
+    let words = words_bytes c.args.words.now in
+    let met = rw c.files.ensures at c.in-Err-NoMemory.ensures.read in (
+      met.0,
+      met.1,
+      inl (gives_no_memory (files_answer c.args.command words met.0) _ _ refl refl (Kept-refl (g.O.Sink.faults c.args.out.now)) (Kept-refl (g.E.Sink.faults c.args.err.now))),
+      unasked (files_asked c.args.command words met.0) (g.D.Finder.asked c.args.finder.now),
+    )
+
+pub returns-in-Ok-clause-missing : goal.returns-in-Ok-clause-missing
+returns-in-Ok-clause-missing g c = never_missing c.args.command (words_bytes c.args.words.now) _ c.answer_bytes.result _ c.answer_bytes.ensures.answer.status
+
+pub returns-in-Ok-clause-reportable : goal.returns-in-Ok-clause-reportable
+returns-in-Ok-clause-reportable g c =
+    let met = rw c.files.ensures at c.in-Ok.ensures.read in
+    held_reportable (g.F.Files.held c.args.files.now) c.args.command (words_bytes c.args.words.now) met.0 c.in-Ok.read.items _ met.1 met.2
+    (rw c.deref.ensures.value at c.answer_bytes.ensures.reportable)
+
+pub returns-in-Ok-clause-spelled : goal.returns-in-Ok-clause-spelled
+returns-in-Ok-clause-spelled g c =
+    let met = rw c.files.ensures at c.in-Ok.ensures.read in
+    held_spelled (g.F.Files.held c.args.files.now) c.args.command (words_bytes c.args.words.now) met.0 c.in-Ok.read.items _ met.1 met.2
+    (rw c.deref.ensures.value at c.answer_bytes.ensures.spelled)

@@ -1,5 +1,5 @@
 use Rattle.std.proofs.Common.{refl}
-use Rattle.check_driver.specs.Words.{word_at, words_bytes}
+use Rattle.command_words.specs.Words.{word_at, words_bytes}
 use Rattle.check_driver.proofs.FilesRead.{any_under, read_under}
 use Rattle.check_driver.proofs.reading.read_file.Goals as goal
 

@@ -1,6 +1,6 @@
 use Rattle.std.proofs.Common.{arith, refl}
 use Rattle.std.proofs.lemmas.Result.{err_from_is_err_and}
-use Rattle.check_driver.specs.Words.{words_at, words_bytes}
+use Rattle.command_words.specs.Words.{words_at, words_bytes}
 use Rattle.check_driver.proofs.FilesRead.{all_under, read_more, read_stop}
 use Rattle.check_driver.proofs.reading.read_files.Goals as goal
 

@@ -1,6 +1,6 @@
 use Rattle.std.proofs.Common.{◌≡◌, take}
 use Rattle.cc_base.specs.Counts.{Kept}
-use Rattle.check_driver.specs.Words.{words_bytes}
+use Rattle.command_words.specs.Words.{words_bytes}
 use Rattle.check_driver.proofs.FilesRead.{ReadSoFar}
 use Rattle.check_driver.proofs.reading.read_files.Given as goal
 

@@ -1,7 +1,7 @@
 use Rattle.std.proofs.Common.{◌≡◌, ◌++◌, take}
 use Rattle.std.specs.List.{flat_map}
 use Rattle.check_driver.specs.ReportText.{verdict_line}
-use Rattle.check_driver.specs.Writing.{joined}
+use Rattle.answer_lines.specs.Writing.{joined}
 use Rattle.check_driver.proofs.report.append_verdict_lines.Given as goal
 
 abbrev pub invariant-loop-verdict : goal.invariant-loop-verdict

@@ -1,8 +1,23 @@
-use Rattle.std.proofs.Common.{arith}
+use Rattle.std.proofs.Common.{◌≡◌, refl, ap, ◌∙◌, arith}
+use Rattle.std.proofs.lemmas.Result.{err_from_is_err_and}
+use Rattle.answer_lines.specs.Writing.{joined}
+use Rattle.check_driver.specs.ReportText.{unit_report}
+use Rattle.check_driver.proofs.Answering.{written_whole}
+use Rattle.check_driver.proofs.Asking.{asks_nothing}
 use Rattle.check_driver.proofs.unit_answer.put_report.Goals as goal
 
 pub report_lines-requires-clause-few : goal.report_lines-requires-clause-few
-report_lines-requires-clause-few g c = rw c.deref.ensures.value (omega (arith, c.in_ok-found.ensures.few, c.requires.is_unit.well_formed.limits.instructions))
+report_lines-requires-clause-few g c = rw c.deref.ensures.value (omega (arith, c.in_ok-found.ensures.within.few))
 
 pub report_lines-requires-clause-near : goal.report_lines-requires-clause-near
-report_lines-requires-clause-near g c = rw c.deref.ensures.value (λ k v lt. omega (arith, c.in_ok-found.ensures.inside k v lt, c.requires.is_unit.well_formed.limits.code))
+report_lines-requires-clause-near g c = rw c.deref.ensures.value c.in_ok-found.ensures.within.near
+
+pub returns-in_err-code-clause-asked : goal.returns-in_err-code-clause-asked
+returns-in_err-code-clause-asked g c =
+    let p = err_from_is_err_and c.from_residual.result c.from_residual.ensures.1 in
+    asks_nothing _ c.from_residual.result p.0 _ _ p.1 refl
+
+pub returns-clause-written : goal.returns-clause-written
+returns-clause-written g c =
+    let same : joined c.deref-2.result.now ≡ unit_report c.args.unit = ap joined c.deref-2.ensures.value ∙ c.in_ok-lines.ensures ∙ ap unit_report c.in_ok-code.ensures.unit in
+    written_whole c.in_ok-put_lines.field-0 c.all_proved.result _ _ _ same c.in_ok-put_lines.ensures

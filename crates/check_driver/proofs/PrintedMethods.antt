@@ -1,0 +1,171 @@
+-- Where the line that tells a method to be proved was printed in the report of its assembly, the method is safe.
+use Rattle.std.proofs.Common.{◌≡◌, ◌⊎◌, ℕ, zero, suc, ◌*◌, ◌/◌, ◌%◌, ◌<◌, ◌^◌, Bool, true, false, List, [], ◌∷◌, ◌++◌, length, map, Option, Some, None, get_or, refl, sym, ap, ◌∙◌, append_assoc, inl, inr, codes, arith}
+use Rattle.std.specs.Prelude.{Contains}
+use Rattle.std.specs.List.{flat_map}
+use Rattle.std.proofs.lemmas.Bool.{cases_lt, le-ltb, lt-ltb}
+use Rattle.std.proofs.lemmas.List.{append_cancel_left}
+use Rattle.cc_base.specs.Digits.{hex, hex_digit}
+use Rattle.asm_image.specs.Rows.{method_row}
+use Rattle.asm_image.specs.declared.method_row.MethodRow.{MethodRow}
+use Rattle.method_unit.specs.NotBuilt.{not_built}
+use Rattle.pe_reader.specs.Addresses.{metadata}
+use Rattle.invariant_checker.specs.Counts.{all_proved}
+use Rattle.invariant_checker.specs.declared.verdict.Verdict.{Verdict}
+use Rattle.check_driver.proofs.BuiltUnits.{built_is_safe}
+use Rattle.unit_builder.specs.Outcomes.{IfAnalysed, IsRunnable, entry_of, outcome_of}
+use Rattle.unit_builder.specs.declared.entry.Outcome.{Outcome}
+use Rattle.unit_builder.specs.declared.entry.Outcome.TheVariants.{Analysed, Skipped}
+use Rattle.check_driver.specs.CheckText.{Finding, Judged, Unjudged, finding, is_proved, judged_or, verdict_text}
+use Rattle.check_driver.specs.Checked.{IsSafeMethod}
+use Rattle.answer_lines.specs.Lines.{proved_text}
+use Rattle.check_driver.proofs.Reported.{entry_said, finding_said, method_said, verdict_said, verdicts_said}
+use Rattle.cc_base.proofs.DigitLemmas.{length-hex}
+
+-- ---- members of lists
+
+pub contains_first : {X : Type 0} (x y : X) (xs : List X) → Contains (x ∷ xs) y → (x ≡ y) ⊎ Contains xs y
+contains_first x y xs (zero, below, same) = inl same
+contains_first x y xs (suc k, below, same) = inr (k, omega (arith, below), same)
+
+pub contains_behind : {X : Type 0} (xs ys : List X) (y : X) → Contains (xs ++ ys) y → Contains xs y ⊎ Contains ys y
+contains_behind [] ys y has = inr has
+contains_behind (x ∷ xs) ys y has =
+    elim (contains_first x y (xs ++ ys) has) [
+      | inl same ↦ inl (0, omega arith, same)
+      | inr later ↦
+          elim (contains_behind xs ys y later) [
+            | inl (k, below, same) ↦ inl (suc k, omega (arith, below), same)
+            | inr other ↦ inr other
+          ]
+    ]
+
+pub none_contained : {X : Type 0} (y : X) → Contains [] y → ⊥
+none_contained y (k, below, same) = omega (arith, below)
+
+-- ---- numbers in base sixteen
+
+pub same_parts : (a b x y : List ℕ) → length a ≡ length b → a ++ x ≡ b ++ y → (a ≡ b) × (x ≡ y)
+same_parts [] [] x y long e = (refl, e)
+same_parts [] (d ∷ b) x y long e = absurd (omega (arith, long))
+same_parts (c ∷ a) [] x y long e = absurd (omega (arith, long))
+same_parts (c ∷ a) (d ∷ b) x y long e =
+    let first : c ≡ d = cc in
+    let later : a ++ x ≡ b ++ y = cc in
+    let both = same_parts a b x y (omega (arith, long)) later in
+    ((let same : c ∷ a ≡ d ∷ b = rw (first, both.0) refl in same), both.1)
+
+digit_tells : (m n : ℕ) → m < 16 → n < 16 → hex_digit m ≡ hex_digit n → m ≡ n
+digit_tells m n small other e =
+    elim (cases_lt m 10) [
+      | inl m_less ↦
+          elim (cases_lt n 10) [
+            | inl n_less ↦ let same = rw (lt-ltb m 10 m_less, lt-ltb n 10 n_less) at e in omega (arith, same)
+            | inr n_more ↦ let same = rw (lt-ltb m 10 m_less, le-ltb n 10 n_more) at e in absurd (omega (arith, same, m_less))
+          ]
+      | inr m_more ↦
+          elim (cases_lt n 10) [
+            | inl n_less ↦ let same = rw (le-ltb m 10 m_more, lt-ltb n 10 n_less) at e in absurd (omega (arith, same, n_less))
+            | inr n_more ↦ let same = rw (le-ltb m 10 m_more, le-ltb n 10 n_more) at e in omega (arith, same)
+          ]
+    ]
+
+hex_tells : (digits m n : ℕ) → m < 16 ^ digits → n < 16 ^ digits → hex digits m ≡ hex digits n → m ≡ n
+unfolding hex
+hex_tells zero m n small other e = omega (arith, small, other)
+hex_tells (suc digits) m n small other e =
+    let both = same_parts (hex digits (m / 16)) (hex digits (n / 16)) (hex_digit (m % 16) ∷ []) (hex_digit (n % 16) ∷ []) (length-hex digits (m / 16) ∙ sym (length-hex digits (n / 16))) e in
+    let last : hex_digit (m % 16) ≡ hex_digit (n % 16) = ap (λ (l : List ℕ). get_or l 0 0) both.1 in
+    let low = digit_tells (m % 16) (n % 16) (omega arith) (omega arith) last in
+    let power : 16 ^ suc digits ≡ 16 * 16 ^ digits = omega arith in
+    let high = hex_tells digits (m / 16) (n / 16) (omega (arith, small, power)) (omega (arith, other, power)) both.0 in
+    omega (arith, low, high)
+
+-- ---- the line of a method
+
+-- It is `method `, the token's digits and a text behind them.
+pub behind_digits : List ℕ → List ℕ → List ℕ
+behind_digits name text = codes " " ++ (name ++ (codes ": " ++ text))
+
+said_again : (token : ℕ) (name text : List ℕ) → method_said token name text ≡ codes "method " ++ (hex 8 token ++ behind_digits name text)
+unfolding method_said behind_digits
+said_again token name text =
+    let digits = codes "method " ++ hex 8 token in
+    append_assoc (digits ++ codes " " ++ name) (codes ": ") text
+    ∙ append_assoc (digits ++ codes " ") name (codes ": " ++ text)
+    ∙ append_assoc digits (codes " ") (name ++ (codes ": " ++ text))
+    ∙ append_assoc (codes "method ") (hex 8 token) (behind_digits name text)
+
+-- Equal lines tell one token, and the same behind it.
+pub same_said : (t u : ℕ) (n m x y : List ℕ) → t < 2 ^ 32 → u < 2 ^ 32 → method_said t n x ≡ method_said u m y → (t ≡ u) × (behind_digits n x ≡ behind_digits m y)
+same_said t u n m x y small other e =
+    let aligned = sym (said_again t n x) ∙ e ∙ said_again u m y in
+    let behind = append_cancel_left (codes "method ") (hex 8 t ++ behind_digits n x) (hex 8 u ++ behind_digits m y) aligned in
+    let both = same_parts (hex 8 t) (hex 8 u) (behind_digits n x) (behind_digits m y) (length-hex 8 t ∙ sym (length-hex 8 u)) behind in
+    (hex_tells 8 t u small other both.0, both.1)
+
+-- Behind one name the texts are equal.
+pub same_text : (name x y : List ℕ) → behind_digits name x ≡ behind_digits name y → x ≡ y
+unfolding behind_digits
+same_text name x y e =
+    let behind = append_cancel_left (codes " ") (name ++ (codes ": " ++ x)) (name ++ (codes ": " ++ y)) e in
+    append_cancel_left (codes ": ") x y (append_cancel_left name (codes ": " ++ x) (codes ": " ++ y) behind)
+
+-- No other line of a report is that of a method.
+no_verdict : (found : List Verdict) (token : ℕ) (name text : List ℕ) → Contains (map verdict_said found) (method_said token name text) → ⊥
+unfolding verdict_said method_said
+no_verdict [] token name text has = none_contained _ has
+no_verdict (v ∷ found) token name text has =
+    elim (contains_first (verdict_said v) (method_said token name text) (map verdict_said found) has) [
+      | inl same ↦ let letters : 32 ≡ 109 = ap (λ (l : List ℕ). get_or l 0 0) same in omega (arith, letters)
+      | inr later ↦ no_verdict found token name text later
+    ]
+
+none_of_finding : (found : Finding) (token : ℕ) (name text : List ℕ) → Contains (verdicts_said found) (method_said token name text) → ⊥
+unfolding verdicts_said
+none_of_finding (Judged found) token name text has = no_verdict found token name text has
+none_of_finding (Unjudged reason) token name text has = none_contained _ has
+
+-- ---- the line among those of some rows
+
+-- What is told of the method of a row.
+unfoldable pub row_said : List ℕ → ℕ → List ℕ
+row_said asm row = let method = method_row (metadata asm) row in method_said method.token.0 method.name (verdict_text (finding (outcome_of asm method)))
+
+pub among_rows : (asm : List ℕ) (rows : List ℕ) (token : ℕ) (name text : List ℕ)
+    → Contains (flat_map entry_said (map (entry_of asm) (map (method_row (metadata asm)) rows))) (method_said token name text)
+    → (row : ℕ) × Contains rows row × (row_said asm row ≡ method_said token name text)
+unfolding entry_said finding_said row_said
+among_rows asm [] token name text has = absurd (none_contained _ has)
+among_rows asm (row ∷ rows) token name text has =
+    let line = method_said token name text in
+    let method = method_row (metadata asm) row in
+    let found = finding (outcome_of asm method) in
+    elim (contains_behind (entry_said (entry_of asm method)) (flat_map entry_said (map (entry_of asm) (map (method_row (metadata asm)) rows))) line has) [
+      | inl here ↦
+          elim (contains_first (row_said asm row) line (verdicts_said found) here) [
+            | inl same ↦ (row, (0, omega arith, refl), same)
+            | inr verdict ↦ absurd (none_of_finding found token name text verdict)
+          ]
+      | inr later ↦
+          let there = among_rows asm rows token name text later in
+          (there.0, (suc there.1.0, omega (arith, there.1.1), there.1.2), there.2)
+    ]
+
+-- ---- what a printed `proved` tells
+
+pub proved_tells : (found : Finding) → verdict_text found ≡ codes "proved" → is_proved found ≡ true
+proved_tells (Judged found) e = by_verdict (all_proved found) e
+  where
+    by_verdict : (proved : Bool) → proved_text proved ≡ codes "proved" → proved ≡ true
+    by_verdict true e = refl
+    by_verdict false e = absurd (let letters : 117 ≡ 112 = ap (λ (l : List ℕ). get_or l 0 0) e in omega (arith, letters))
+proved_tells (Unjudged reason) e = absurd (let letters : 110 ≡ 112 = ap (λ (l : List ℕ). get_or l 0 0) e in omega (arith, letters))
+
+-- A method that is proved is analysed, built, and its unit has no obligation that is not proved.
+pub safe_by : (asm : List ℕ) (method : MethodRow) (outcome : Outcome) → outcome_of asm method ≡ outcome → is_proved (finding outcome) ≡ true → IfAnalysed outcome IsRunnable → IsSafeMethod asm method
+safe_by asm method (Analysed unit) same proved runnable = by_place (not_built unit) refl proved
+  where
+    by_place : (place : Option ℕ) → not_built unit ≡ place → is_proved (judged_or place unit) ≡ true → IsSafeMethod asm method
+    by_place None built proved = record { unit = unit; analysed = same; safe = built_is_safe unit (record { is_unit = runnable.is_unit; built = built }) proved }
+    by_place (Some at) built proved = absurd cc
+safe_by asm method (Skipped reason) same proved runnable = absurd cc

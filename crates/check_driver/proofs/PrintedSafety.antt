@@ -1,0 +1,127 @@
+-- A method is safe whose line in the report of its assembly tells it to be proved.
+use Rattle.std.proofs.Common.{◌≡◌, ℕ, zero, suc, ◌+◌, ◌<◌, ◌^◌, List, [], ◌∷◌, ◌++◌, map, get_or, None, refl, sym, ap, subst, ◌∙◌, append_assoc, inl, inr, codes, arith}
+use Rattle.std.specs.Prelude.{Contains}
+use Rattle.std.specs.List.{AllByRecursion, flat_map, range_with_len}
+use Rattle.asm_image.specs.Cells.{method_count}
+use Rattle.asm_image.specs.Faults.{FirstBroken}
+use Rattle.asm_image.specs.Rows.{method_row, methods_of, rows_of}
+use Rattle.asm_image.specs.declared.method_row.MethodRow.{MethodRow}
+use Rattle.cc_base.specs.Escapes.{escaped}
+use Rattle.cc_base.specs.Sink.{IsFront}
+use Rattle.pe_reader.specs.Addresses.{metadata}
+use Rattle.unit_builder.specs.Outcomes.{IfAnalysed, IsRunnable, entries_of, entry_of, outcome_of}
+use Rattle.unit_builder.specs.declared.entry.MethodEntry.{MethodEntry}
+use Rattle.check_driver.specs.CheckText.{all_counts, check_text, finding, method_line, verdict_text}
+use Rattle.check_driver.specs.Checked.{AreRunnable, HasLine, IsSafeMethod}
+use Rattle.answer_lines.specs.Counting.{AreBelow}
+use Rattle.check_driver.proofs.FewMethods.{methods_are_few}
+use Rattle.check_driver.proofs.PrintedMethods.{among_rows, contains_behind, contains_first, behind_digits, none_contained, proved_tells, row_said, safe_by, same_said, same_text}
+use Rattle.check_driver.proofs.Reported.{entry_said, method_said, report_is_lines, report_said, summary_front, summary_said}
+use Rattle.check_driver.proofs.ReportTexts.{all_behind, assembly_one_line, proved_one_line, rows_one_line, summary_one_line}
+use Rattle.check_driver.proofs.WholeLines.{IsOneLine, as_line, as_lines, line_among}
+
+-- ---- rows
+
+-- An element of what a list is mapped to comes of an element of the list.
+contains_map : {X Y : Type 0} (f : X → Y) (xs : List X) (y : Y) → Contains (map f xs) y → (x : X) × Contains xs x × (f x ≡ y)
+contains_map f [] y has = absurd (none_contained y has)
+contains_map f (x ∷ xs) y has =
+    elim (contains_first (f x) y (map f xs) has) [
+      | inl same ↦ (x, (0, omega arith, refl), same)
+      | inr later ↦
+          let there = contains_map f xs y later in
+          (there.0, (suc there.1.0, omega (arith, there.1.1), there.1.2), there.2)
+    ]
+
+-- What holds of all that a list is mapped to holds of what each element is.
+all_at : {X Y : Type 0} (P : Y → Type 0) (f : X → Y) (xs : List X) (x : X) → AllByRecursion P (map f xs) → Contains xs x → P (f x)
+all_at P f [] x all has = absurd (none_contained x has)
+all_at P f (other ∷ xs) x all has =
+    elim (contains_first other x xs has) [
+      | inl same ↦ subst (λ z. P (f z)) same all.0
+      | inr later ↦ all_at P f xs x all.1 later
+    ]
+
+range_below : (first count row : ℕ) → Contains (range_with_len first count) row → row < first + count
+range_below first zero row has = absurd (none_contained row has)
+range_below first (suc count) row has =
+    elim (contains_first first row (range_with_len (first + 1) count) has) [
+      | inl same ↦ omega (arith, same)
+      | inr later ↦ omega (arith, range_below (first + 1) count row later)
+    ]
+
+-- ---- the line
+
+-- A whole line of a front of the report is one of its lines.
+line_of_report : (name bytes text line : List ℕ) → AllByRecursion IsOneLine (report_said name bytes) → IsOneLine line → HasLine text (as_line line) → IsFront text (check_text name bytes)
+    → Contains (report_said name bytes) line
+line_of_report name bytes text line all one has (rest, is) =
+    let aligned : as_lines (report_said name bytes) ≡ has.before ++ (as_line line ++ (has.behind ++ rest)) =
+    report_is_lines name bytes ∙ is ∙ ap (λ (l : List ℕ). l ++ rest) has.is ∙ append_assoc has.before (as_line line ++ has.behind) rest
+    ∙ ap (λ (l : List ℕ). has.before ++ l) (append_assoc (as_line line) has.behind rest) in
+    line_among (report_said name bytes) has.before line (has.behind ++ rest) all one has.begins aligned
+
+report_one_line : (name bytes : List ℕ) → AreBelow (2 ^ 63) (all_counts (entries_of bytes)) → AllByRecursion IsOneLine (report_said name bytes)
+unfolding report_said entries_of rows_of
+report_one_line name bytes below = (
+  assembly_one_line name,
+  all_behind IsOneLine (flat_map entry_said (entries_of bytes)) (summary_said (all_counts (entries_of bytes)) ∷ [])
+      (rows_one_line bytes (range_with_len 1 (method_count (metadata bytes)))) (summary_one_line (all_counts (entries_of bytes)) below, tt),
+)
+
+-- The line of a method among those of a report is that of a row.
+row_of_report : (name bytes : List ℕ) (token : ℕ) (method text : List ℕ) → Contains (report_said name bytes) (method_said token method text)
+    → (row : ℕ) × Contains (range_with_len 1 (method_count (metadata bytes))) row × (row_said bytes row ≡ method_said token method text)
+unfolding report_said entries_of rows_of summary_said summary_front method_said
+row_of_report name bytes token method text has =
+    let line = method_said token method text in
+    let said = flat_map entry_said (entries_of bytes) in
+    let summary = summary_said (all_counts (entries_of bytes)) in
+    elim (contains_first (codes "assembly " ++ escaped name) line (said ++ summary ∷ []) has) [
+      | inl same ↦ absurd (let letters : 97 ≡ 109 = ap (λ (l : List ℕ). get_or l 0 0) same in omega (arith, letters))
+      | inr later ↦
+          elim (contains_behind said (summary ∷ []) line later) [
+            | inl here ↦ among_rows bytes (range_with_len 1 (method_count (metadata bytes))) token method text here
+            | inr last ↦
+                elim (contains_first summary line [] last) [
+                  | inl same ↦ absurd (let letters : 115 ≡ 109 = ap (λ (l : List ℕ). get_or l 0 0) same in omega (arith, letters))
+                  | inr none ↦ absurd (none_contained line none)
+                ]
+          ]
+    ]
+
+-- ---- the method
+
+-- Rows whose lines are equal but for what they tell are one.
+same_row : (bytes : List ℕ) (row other : ℕ) (text : List ℕ) → row < 2 ^ 23 + 1 → other < 2 ^ 23 + 1
+    → row_said bytes other ≡ method_said (method_row (metadata bytes) row).token.0 (method_row (metadata bytes) row).name text
+    → (other ≡ row) × (verdict_text (finding (outcome_of bytes (method_row (metadata bytes) row))) ≡ text)
+unfolding row_said method_row
+same_row bytes row other text small few e =
+    let mine = method_row (metadata bytes) row in
+    let its = method_row (metadata bytes) other in
+    let both = same_said its.token.0 mine.token.0 its.name mine.name (verdict_text (finding (outcome_of bytes its))) text (omega (arith, few)) (omega (arith, small)) e in
+    let same : other ≡ row = omega (arith, both.0) in (
+      same,
+      same_text mine.name (verdict_text (finding (outcome_of bytes mine))) text
+          (subst (λ (r : ℕ). behind_digits (method_row (metadata bytes) r).name (verdict_text (finding (outcome_of bytes (method_row (metadata bytes) r)))) ≡ behind_digits mine.name text) same both.1),
+    )
+
+pub printed_method : (name bytes text : List ℕ) (method : MethodRow) → FirstBroken bytes ≡ None → AreRunnable bytes → AreBelow (2 ^ 63) (all_counts (entries_of bytes))
+    → Contains (methods_of bytes) method → HasLine text (method_line method.token.0 method.name (codes "proved")) → IsFront text (check_text name bytes) → IsSafeMethod bytes method
+unfolding entries_of rows_of row_said method_said method_row
+printed_method name bytes text method whole runnable below has line front =
+    let md = metadata bytes in
+    let rows = range_with_len 1 (method_count md) in
+    let mine = contains_map (method_row md) rows method has in
+    let few = methods_are_few bytes whole in
+    let row = mine.0 in
+    let is_line : HasLine text (as_line (method_said (method_row md row).token.0 (method_row md row).name (codes "proved"))) =
+    subst (λ (m : MethodRow). HasLine text (method_line m.token.0 m.name (codes "proved"))) (sym mine.2) line in
+    let found = line_of_report name bytes text (method_said (method_row md row).token.0 (method_row md row).name (codes "proved"))
+    (report_one_line name bytes below) (proved_one_line (method_row md row).token.0 md row) is_line front in
+    let told = row_of_report name bytes (method_row md row).token.0 (method_row md row).name (codes "proved") found in
+    let same = same_row bytes row told.0 (codes "proved") (omega (arith, few, range_below 1 (method_count md) row mine.1)) (omega (arith, few, range_below 1 (method_count md) told.0 told.1)) told.2 in
+    let is_runnable = all_at (λ (entry : MethodEntry). IfAnalysed entry.outcome IsRunnable) (entry_of bytes) (methods_of bytes) (method_row md row) runnable (subst (Contains (methods_of bytes)) (sym mine.2) has) in
+    subst (IsSafeMethod bytes) mine.2
+    (safe_by bytes (method_row md row) (outcome_of bytes (method_row md row)) refl (proved_tells (finding (outcome_of bytes (method_row md row))) same.1) is_runnable)

@@ -1,0 +1,167 @@
+-- Where the first line that was printed for a file tells a unit to be proved, the file is the spelling of a safe one.
+use Rattle.std.proofs.Common.{◌≡◌, ◌⊎◌, ℕ, ◌≤◌, Bool, true, false, List, [], ◌∷◌, ◌++◌, get_or, length, Option, Some, None, nat_le, if◌then◌else◌, slice_get, codes, refl, sym, ap, subst, ◌∙◌, append_assoc, append-nil, inl, inr, arith}
+use Rattle.std.specs.Prelude.{IfSome}
+use Rattle.std.specs.List.{AllByRecursion, flat_map}
+use Rattle.std.proofs.lemmas.List.{append_cancel_left, length-append}
+use Rattle.cc_base.specs.Files.{Held, READ_LIMIT}
+use Rattle.cc_base.specs.Sink.{AppendsFront, IsFront}
+use Rattle.cc_base.proofs.SinkLemmas.{appended-nil}
+use Rattle.cil_model.specs.Places.{parameters_text}
+use Rattle.cil_model.specs.WellFormed.{IsUnitName}
+use Rattle.cil_model.specs.declared.unit.Unit.{Unit as MethodUnit}
+use Rattle.answer_lines.specs.Answers.{Answer}
+use Rattle.answer_lines.specs.Lines.{proved_text, signature_text, summary_line, unit_line}
+use Rattle.command_words.specs.Words.{command_files, command_of, file_names, word_at, words_at}
+use Rattle.command_words.specs.declared.command.Command.{Command}
+use Rattle.command_words.specs.declared.command.Command.TheVariants as commands
+use Rattle.method_unit.specs.BuiltUnits.{first_built_fault}
+use Rattle.method_unit.specs.UnitFile.{unit_of}
+use Rattle.method_unit.specs.declared.unit_fault.UnitFault.{UnitFault}
+use Rattle.method_unit.proofs.BuiltFaults.{none_built}
+use Rattle.invariant_checker.specs.Counts.{all_proved}
+use Rattle.check_driver.specs.Analysis.{unit_verdicts}
+use Rattle.check_driver.proofs.BuiltUnits.{built_is_safe}
+use Rattle.check_driver.specs.Expected.{command_answer, expected, files_answer, unit_answer, unit_file_answer}
+use Rattle.check_driver.specs.Met.{AreUnder}
+use Rattle.check_driver.specs.ProvedUnit.{AreSpelled, AsksForUnit, IfUnit, IsHeldSpelled, PrintsProvedUnit, SpellSafeUnit}
+use Rattle.check_driver.specs.ReportText.{unit_counts, unit_report, verdict_line}
+use Rattle.check_driver.specs.Sections.{lines_of}
+use Rattle.check_driver.proofs.CheckedSafety.{same_appended}
+use Rattle.check_driver.proofs.LinesOf.{first_line}
+use Rattle.check_driver.proofs.PlainTexts.{NoFeed, no_feed_behind, no_feed_byte, one_line, parameters_no_feed}
+use Rattle.check_driver.proofs.PrintedMethods.{same_parts}
+use Rattle.check_driver.proofs.ReportTexts.{proved_no_feed}
+use Rattle.check_driver.proofs.WholeLines.{IsOneLine, same_first}
+
+-- ---- the line of a unit
+
+-- Without its line feed.
+abbrev pub unit_said : MethodUnit → Bool → List ℕ
+unit_said unit proved = codes "unit " ++ signature_text unit ++ codes ": " ++ proved_text proved
+
+graphic_no_feed : (name : List ℕ) → AllByRecursion (λ b. (0x21 ≤ b) × (b ≤ 0x7e)) name → NoFeed name
+graphic_no_feed [] all = refl
+graphic_no_feed (b ∷ name) all = no_feed_behind (b ∷ []) name (no_feed_byte b (omega (arith, all.0.0))) (graphic_no_feed name all.1)
+
+signature_no_feed : (unit : MethodUnit) → IsUnitName unit.name → NoFeed (signature_text unit)
+signature_no_feed unit name =
+    let opened = unit.name ++ codes "(" in
+    no_feed_behind (opened ++ parameters_text unit.args) (codes ")")
+    (no_feed_behind opened (parameters_text unit.args) (no_feed_behind unit.name (codes "(") (graphic_no_feed unit.name name.graphic) refl) (parameters_no_feed unit.args)) refl
+
+unit_one_line : (unit : MethodUnit) (proved : Bool) → IsUnitName unit.name → IsOneLine (unit_said unit proved)
+unit_one_line unit proved name =
+    let head = codes "unit " ++ signature_text unit in
+    one_line (unit_said unit proved)
+    (no_feed_behind (head ++ codes ": ") (proved_text proved)
+    (no_feed_behind head (codes ": ") (no_feed_behind (codes "unit ") (signature_text unit) refl (signature_no_feed unit name)) refl) (proved_no_feed proved))
+
+-- Texts with ends of one length are equal part by part.
+same_ends : (a b x y : List ℕ) → length x ≡ length y → a ++ x ≡ b ++ y → (a ≡ b) × (x ≡ y)
+same_ends a b x y long e = same_parts a b x y (omega (arith, long, sym (length-append a x) ∙ ap length e ∙ length-append b y)) e
+
+-- A line that tells a unit to be proved tells its signature.
+verdict_told : (signature mine : List ℕ) (proved : Bool) → codes "unit " ++ signature ++ codes ": proved" ≡ codes "unit " ++ mine ++ codes ": " ++ proved_text proved
+    → (signature ≡ mine) × (proved ≡ true)
+verdict_told signature mine true e =
+    let aligned = e ∙ append_assoc (codes "unit " ++ mine) (codes ": ") (codes "proved") in
+    let both = same_ends (codes "unit " ++ signature) (codes "unit " ++ mine) (codes ": proved") (codes ": proved") refl aligned in
+    (append_cancel_left (codes "unit ") signature mine both.0, refl)
+verdict_told signature mine false e =
+    let both = same_ends (codes "unit " ++ signature) (codes "unit " ++ mine ++ codes ": ") (codes ": proved") (codes "unproved") refl e in
+    let letters : 58 ≡ 117 = ap (λ (l : List ℕ). get_or l 0 0) both.1 in
+    absurd (omega (arith, letters))
+
+-- ---- the report
+
+-- It begins with the unit's line.
+report_begins : (unit : MethodUnit) → (more : List ℕ) × (unit_report unit ≡ unit_said unit (all_proved (unit_verdicts unit)) ++ 10 ∷ more)
+unfolding unit_report
+report_begins unit =
+    let found = unit_verdicts unit in
+    let lines = flat_map verdict_line found in
+    let summary = summary_line (unit_counts found) in
+    (lines ++ summary, append_assoc (unit_line unit (all_proved found)) lines summary ∙ append_assoc (unit_said unit (all_proved found)) (codes "\n") (lines ++ summary))
+
+-- A front of it whose first line tells a unit to be proved tells this one to be so.
+report_tells : (unit : MethodUnit) (text signature : List ℕ) → IsUnitName unit.name → slice_get (lines_of text) 0 ≡ Some (codes "unit " ++ signature ++ codes ": proved")
+    → IsFront text (unit_report unit) → (signature ≡ signature_text unit) × (all_proved (unit_verdicts unit) ≡ true)
+report_tells unit text signature name first (rest, is) =
+    let line = codes "unit " ++ signature ++ codes ": proved" in
+    let proved = all_proved (unit_verdicts unit) in
+    let begins = first_line text line first in
+    let report = report_begins unit in
+    let whole : unit_report unit ≡ line ++ 10 ∷ (begins.1.0 ++ rest) =
+    is ∙ ap (λ (l : List ℕ). l ++ rest) begins.1.1 ∙ append_assoc line (10 ∷ begins.1.0) rest in
+    verdict_told signature (signature_text unit) proved
+    (same_first line (unit_said unit proved) (begins.1.0 ++ rest) report.0 begins.0 (unit_one_line unit proved name) (sym whole ∙ report.1)).0
+
+-- ---- the answer
+
+-- A text with a line is no front of nothing.
+nothing_has_lines : (text line : List ℕ) → slice_get (lines_of text) 0 ≡ Some line → IsFront text [] → ⊥
+nothing_has_lines [] line first front = cc
+nothing_has_lines (b ∷ text) line first (rest, is) = cc
+
+front_of_answer : (large : Bool) (refused answer : Answer) (text line : List ℕ) → slice_get (lines_of text) 0 ≡ Some line → refused.out ≡ []
+    → IsFront text (Answer.out (if large then refused else answer)) → IsFront text answer.out
+front_of_answer true refused answer text line first none front = absurd (nothing_has_lines text line first (subst (IsFront text) none front))
+front_of_answer false refused answer text line first none front = front
+
+answer_report : (name bytes text line : List ℕ) (fault : Option UnitFault) → slice_get (lines_of text) 0 ≡ Some line
+    → IsFront text (Answer.out (unit_answer name bytes fault)) → (fault ≡ None) × IsFront text (unit_report (unit_of bytes))
+answer_report name bytes text line None first front = (refl, front)
+answer_report name bytes text line (Some fault) first front = absurd (nothing_has_lines text line first front)
+
+-- What is met is the file.
+file_met : (words : List (List ℕ)) (file : ℕ) (held : Held) (bytes : List ℕ) (met : List (Option (List ℕ))) → held (word_at words file) ≡ Some bytes
+    → command_of words ≡ Some (commands.Unit file) → AreUnder (Some held) (words_at words (file ∷ [])) met → expected words met ≡ unit_file_answer (word_at words file) bytes
+file_met words file held bytes (under ∷ []) at command (is, last) =
+    let met_is : under ≡ Some bytes = sym (is held refl) ∙ at in
+    ap (command_answer words (under ∷ [])) command ∙ ap (λ (u : Option (List ℕ)). files_answer (commands.Unit file) words (u ∷ [])) met_is
+file_met words file held bytes [] at command h = absurd h
+file_met words file held bytes (under ∷ other ∷ met) at command h = absurd h.1
+
+-- A text with a line that begins what is expected begins the report of the unit, which is built.
+front_of_report : (words : List (List ℕ)) (held : Held) (bytes : List ℕ) (met : List (Option (List ℕ))) (text line : List ℕ) → AsksForUnit words held bytes
+    → AreUnder (Some held) (file_names words) met → slice_get (lines_of text) 0 ≡ Some line → IsFront text (Answer.out (expected words met))
+    → (first_built_fault bytes ≡ None) × IsFront text (unit_report (unit_of bytes))
+front_of_report words held bytes met text line asks under first front =
+    let name = word_at words asks.file in
+    let here = subst (λ (command : Option Command). AreUnder (Some held) (command_files words command) met) asks.command under in
+    let answer = file_met words asks.file held bytes met asks.is_held asks.command here in
+    let begins : IsFront text (Answer.out (unit_file_answer name bytes)) = subst (λ (a : Answer). IsFront text a.out) answer front in
+    answer_report name bytes text line (first_built_fault bytes) first
+    (front_of_answer (nat_le READ_LIMIT (length bytes)) _ (unit_answer name bytes (first_built_fault bytes)) text line first refl begins)
+
+-- ---- the theorem
+
+spelled_of : (told : Option Held) (words : List (List ℕ)) (held : Held) (bytes : List ℕ) → told ≡ Some held → AsksForUnit words held bytes
+    → IfSome (command_of words) (λ command. IfUnit command (λ file. IsHeldSpelled told (word_at words file))) → AreSpelled bytes
+spelled_of told words held bytes told_is asks known =
+    let here = subst (λ (command : Option Command). IfSome command (λ c. IfUnit c (λ file. IsHeldSpelled told (word_at words file)))) asks.command known in
+    here held bytes told_is asks.is_held
+
+-- A file that was asked for is the spelling of a safe unit where the first line of what was printed tells that unit to be proved.
+pub proved_unit_is_safe : (told : Option Held) (words : List (List ℕ)) (held : Held) (bytes signature : List ℕ) (met : List (Option (List ℕ))) (old new : Option (List ℕ))
+    → told ≡ Some held → AsksForUnit words held bytes → AreUnder told (file_names words) met → AppendsFront old new (expected words met).out
+    → (new ≡ old) ⊎ IfSome (command_of words) (λ command. IfUnit command (λ file. IsHeldSpelled told (word_at words file)))
+    → PrintsProvedUnit old new signature → SpellSafeUnit bytes signature
+proved_unit_is_safe told words held bytes signature met old new told_is asks under appends (inl same) prints =
+    let nothing : [] ≡ prints.text = same_appended old new [] prints.appended.before prints.text (same ∙ sym (appended-nil old)) prints.appended.was prints.appended.is in
+    absurd (nothing_has_lines prints.text _ prints.first ([], nothing ∙ sym (append-nil prints.text)))
+proved_unit_is_safe told words held bytes signature met old new told_is asks under (front, is_front, adds) (inr known) prints =
+    let unit = unit_of bytes in
+    let spelled = spelled_of told words held bytes told_is asks known in
+    let here = subst (λ (t : Option Held). AreUnder t (file_names words) met) told_is under in
+    let same : front ≡ prints.text = same_appended old new front prints.appended.before prints.text adds prints.appended.was prints.appended.is in
+    let begins = subst (λ (t : List ℕ). IsFront t (Answer.out (expected words met))) same is_front in
+    let report = front_of_report words held bytes met prints.text _ asks here prints.first begins in
+    let tells = report_tells unit prints.text signature spelled.is_unit.well_formed.name prints.first report.1 in
+    record {
+      unit = unit;
+      is_unit = spelled.is_unit;
+      spelled = sym spelled.spelled;
+      named = tells.0;
+      safe = built_is_safe unit (record { is_unit = spelled.is_unit; built = none_built bytes unit refl report.0 }) tells.1;
+    }

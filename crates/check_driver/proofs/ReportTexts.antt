@@ -1,0 +1,178 @@
+-- No text of a report's lines has a line feed.
+use Rattle.std.proofs.Common.{ℕ, ◌<◌, ◌^◌, Bool, true, false, List, [], ◌∷◌, ◌++◌, map, Option, Some, None, nat_lt, if◌then◌else◌, refl, codes, arith}
+use Rattle.std.specs.List.{AllByRecursion, flat_map}
+use Rattle.std.specs.Fmt.{decimal}
+use Rattle.asm_image.specs.Names.{printed_name}
+use Rattle.asm_image.specs.Rows.{method_row}
+use Rattle.cc_base.specs.Digits.{hex}
+use Rattle.cc_base.specs.Escapes.{escaped}
+use Rattle.cil_model.specs.declared.type_fault.TypeFault.{TypeFault}
+use Rattle.cil_model.specs.declared.type_fault.TypeFault.TheVariants as kinds
+use Rattle.contract_extract.specs.declared.clause_fault.ClauseFault.{ClauseFault}
+use Rattle.contract_extract.specs.declared.clause_fault.ClauseFault.TheVariants as clauses
+use Rattle.il_decoder.specs.Labels.{label}
+use Rattle.il_decoder.specs.declared.fault.IlFault.{IlFault}
+use Rattle.il_decoder.specs.declared.fault.IlFault.TheVariants as code
+use Rattle.method_unit.specs.NotBuilt.{not_built}
+use Rattle.pe_reader.specs.Addresses.{metadata}
+use Rattle.invariant_checker.specs.Counts.{all_proved}
+use Rattle.invariant_checker.specs.declared.verdict.Verdict.{Verdict}
+use Rattle.cil_model.specs.declared.machine.FaultKind.{FaultKind}
+use Rattle.cil_model.specs.declared.machine.FaultKind.TheVariants as faults
+use Rattle.method_run.specs.FaultTexts.{kind_text}
+use Rattle.check_driver.specs.Analysis.{unit_verdicts}
+use Rattle.unit_builder.specs.Outcomes.{entry_of, outcome_of}
+use Rattle.unit_builder.specs.declared.entry.Outcome.{Outcome}
+use Rattle.unit_builder.specs.declared.entry.Outcome.TheVariants.{Analysed, Skipped}
+use Rattle.unit_builder.specs.declared.reason.Reason.{Reason}
+use Rattle.unit_builder.specs.declared.reason.Reason.TheVariants as reasons
+use Rattle.check_driver.specs.CheckText.{Finding, Judged, Unjudged, finding, judged_or, verdict_text}
+use Rattle.answer_lines.specs.Counting.{AreBelow}
+use Rattle.check_driver.specs.ReasonText.{clause_reason, code_reason, kind_reason, opcode_text, placed, reason_text, unbuilt_text}
+use Rattle.answer_lines.specs.Lines.{proved_text}
+use Rattle.answer_lines.specs.declared.lines.Counts.{Counts}
+use Rattle.check_driver.proofs.PlainTexts.{NoFeed, decimal_no_feed, escaped_no_feed, hex_no_feed, label_no_feed, name_no_feed, no_feed_behind, number_no_feed, one_line}
+use Rattle.check_driver.proofs.Reported.{entry_said, finding_said, method_said, summary_front, summary_said, verdict_said, verdicts_said}
+use Rattle.check_driver.proofs.WholeLines.{IsOneLine}
+
+-- ---- reasons
+
+placed_no_feed : (what : List ℕ) (at : ℕ) → NoFeed what → NoFeed (placed what at)
+placed_no_feed what at none = no_feed_behind (what ++ codes " at ") (label at) (no_feed_behind what (codes " at ") none refl) (label_no_feed at)
+
+code_no_feed : (fault : IlFault) → NoFeed (code_reason fault)
+code_no_feed (code.Header at) = refl
+code_no_feed (code.Short at) = placed_no_feed (codes "N9 short") at refl
+code_no_feed (code.Opcode at opcode) =
+    let digits = if nat_lt opcode (16 ^ 2) then 2 else 4 in
+    placed_no_feed (codes "N9 " ++ opcode_text opcode) at (no_feed_behind (codes "N9 ") (opcode_text opcode) refl (no_feed_behind (codes "opcode ") (hex digits opcode) refl (hex_no_feed digits opcode)))
+code_no_feed (code.Target at) = placed_no_feed (codes "N9 target") at refl
+
+clause_no_feed : (fault : ClauseFault) → NoFeed (clause_reason fault)
+clause_no_feed (clauses.NotPure at) = placed_no_feed (codes "N10 not pure") at refl
+clause_no_feed (clauses.Backward at) = placed_no_feed (codes "N10 backward") at refl
+clause_no_feed (clauses.StackLeft at) = placed_no_feed (codes "N10 stack left") at refl
+clause_no_feed (clauses.IntoBlock at) = placed_no_feed (codes "N10 into block") at refl
+clause_no_feed (clauses.OldForm at) = placed_no_feed (codes "N10 old form") at refl
+clause_no_feed (clauses.TooLong at) = placed_no_feed (codes "N10 too long") at refl
+
+kind_no_feed : (fault : TypeFault) → NoFeed (kind_reason fault)
+kind_no_feed (kinds.Underflow at) = placed_no_feed (codes "N12 underflow") at refl
+kind_no_feed (kinds.Conflict at) = placed_no_feed (codes "N12 conflict") at refl
+kind_no_feed (kinds.WrongKind at) = placed_no_feed (codes "N12 wrong kind") at refl
+kind_no_feed (kinds.FallsOff at) = placed_no_feed (codes "N12 falls off") at refl
+kind_no_feed (kinds.Deep at) = placed_no_feed (codes "N12 deep") at refl
+
+reason_no_feed : (reason : Reason) → NoFeed (reason_text reason)
+reason_no_feed reasons.Instance = refl
+reason_no_feed reasons.Generic = refl
+reason_no_feed reasons.NoBody = refl
+reason_no_feed reasons.SignatureType = refl
+reason_no_feed reasons.LocalType = refl
+reason_no_feed reasons.LocalsNotZero = refl
+reason_no_feed reasons.Section = refl
+reason_no_feed reasons.TooLarge = refl
+reason_no_feed (reasons.Code fault) = code_no_feed fault
+reason_no_feed (reasons.Clauses fault) = clause_no_feed fault
+reason_no_feed (reasons.Token at) = placed_no_feed (codes "N11 token") at refl
+reason_no_feed (reasons.Kinds fault) = kind_no_feed fault
+
+-- ---- lines
+
+pub proved_no_feed : (proved : Bool) → NoFeed (proved_text proved)
+proved_no_feed true = refl
+proved_no_feed false = refl
+
+skipped_no_feed : (reason : List ℕ) → NoFeed reason → NoFeed (verdict_text (Unjudged reason))
+skipped_no_feed reason none = no_feed_behind (codes "not analysed: ") reason refl none
+
+finding_no_feed : (outcome : Outcome) → NoFeed (verdict_text (finding outcome))
+finding_no_feed (Analysed unit) = by_place (not_built unit)
+  where
+    by_place : (place : Option ℕ) → NoFeed (verdict_text (judged_or place unit))
+    by_place None = proved_no_feed (all_proved (unit_verdicts unit))
+    by_place (Some at) = skipped_no_feed (unbuilt_text at) (placed_no_feed (codes "N13 not built") at refl)
+finding_no_feed (Skipped reason) = skipped_no_feed (reason_text reason) (reason_no_feed reason)
+
+fault_no_feed : (kind : FaultKind) → NoFeed (kind_text None kind)
+fault_no_feed (faults.Requires k) =
+    no_feed_behind (codes "requires " ++ decimal k ++ codes " of ") [] (no_feed_behind (codes "requires " ++ decimal k) (codes " of ") (no_feed_behind (codes "requires ") (decimal k) refl (number_no_feed k)) refl) refl
+fault_no_feed (faults.Ensures k) = no_feed_behind (codes "ensures ") (decimal k) refl (number_no_feed k)
+fault_no_feed faults.Assert = refl
+fault_no_feed faults.NullUse = refl
+fault_no_feed faults.Lower = refl
+fault_no_feed faults.Upper = refl
+fault_no_feed faults.DivZero = refl
+fault_no_feed faults.DivOverflow = refl
+fault_no_feed faults.Overflow = refl
+fault_no_feed faults.Shift = refl
+fault_no_feed faults.ArraySize = refl
+
+verdict_no_feed : (v : Verdict) → NoFeed (verdict_said v)
+unfolding verdict_said
+verdict_no_feed v =
+    let place = codes "  IL_" ++ hex 4 v.obligation.at in
+    let kind = kind_text None v.obligation.kind in
+    no_feed_behind (place ++ codes " " ++ kind ++ codes ": ") (proved_text v.proved)
+    (no_feed_behind (place ++ codes " " ++ kind) (codes ": ")
+    (no_feed_behind (place ++ codes " ") kind
+    (no_feed_behind place (codes " ") (no_feed_behind (codes "  IL_") (hex 4 v.obligation.at) refl (hex_no_feed 4 v.obligation.at)) refl)
+    (fault_no_feed v.obligation.kind)) refl) (proved_no_feed v.proved)
+
+verdicts_one_line : (found : List Verdict) → AllByRecursion IsOneLine (map verdict_said found)
+verdicts_one_line [] = tt
+verdicts_one_line (v ∷ found) = (one_line (verdict_said v) (verdict_no_feed v), verdicts_one_line found)
+
+said_one_line : (found : Finding) → AllByRecursion IsOneLine (verdicts_said found)
+unfolding verdicts_said
+said_one_line (Judged found) = verdicts_one_line found
+said_one_line (Unjudged reason) = tt
+
+method_no_feed : (token : ℕ) (name text : List ℕ) → NoFeed name → NoFeed text → NoFeed (method_said token name text)
+unfolding method_said
+method_no_feed token name text none other =
+    let digits = codes "method " ++ hex 8 token in
+    no_feed_behind (digits ++ codes " " ++ name ++ codes ": ") text
+    (no_feed_behind (digits ++ codes " " ++ name) (codes ": ")
+    (no_feed_behind (digits ++ codes " ") name
+    (no_feed_behind digits (codes " ") (no_feed_behind (codes "method ") (hex 8 token) refl (hex_no_feed 8 token)) refl) none) refl) other
+
+pub all_behind : (P : List ℕ → Type 0) (a b : List (List ℕ)) → AllByRecursion P a → AllByRecursion P b → AllByRecursion P (a ++ b)
+all_behind P [] b all others = others
+all_behind P (x ∷ a) b all others = (all.0, all_behind P a b all.1 others)
+
+-- The lines of the methods of some rows.
+pub rows_one_line : (asm : List ℕ) (rows : List ℕ) → AllByRecursion IsOneLine (flat_map entry_said (map (entry_of asm) (map (method_row (metadata asm)) rows)))
+unfolding entry_said finding_said method_row
+rows_one_line asm [] = tt
+rows_one_line asm (row ∷ rows) =
+    let method = method_row (metadata asm) row in
+    let found = finding (outcome_of asm method) in
+    let text = verdict_text found in
+    let first = one_line (method_said method.token.0 method.name text) (method_no_feed method.token.0 method.name text (name_no_feed (metadata asm) row) (finding_no_feed (outcome_of asm method))) in
+    all_behind IsOneLine (entry_said (entry_of asm method)) (flat_map entry_said (map (entry_of asm) (map (method_row (metadata asm)) rows))) (first, said_one_line found) (rows_one_line asm rows)
+
+number_behind : (front : List ℕ) (n : ℕ) (what : List ℕ) → n < 2 ^ 63 → NoFeed front → NoFeed what → NoFeed (front ++ decimal n ++ what)
+number_behind front n what small none other =
+    no_feed_behind (front ++ decimal n) what (no_feed_behind front (decimal n) none (decimal_no_feed n (omega (arith, small)))) other
+
+pub summary_one_line : (n : Counts) → AreBelow (2 ^ 63) n → IsOneLine (summary_said n)
+unfolding summary_said summary_front
+summary_one_line n below =
+    let methods = codes "summary: " ++ decimal n.methods ++ codes " methods, " in
+    let proved = methods ++ decimal n.proved ++ codes " proved, " in
+    let unproved = proved ++ decimal n.unproved ++ codes " unproved, " in
+    let skipped = unproved ++ decimal n.skipped ++ codes " not analysed, " in
+    let obligations = skipped ++ decimal n.obligations ++ codes " obligations, " in
+    let first = number_behind (codes "summary: ") n.methods (codes " methods, ") below.methods refl refl in
+    let second = number_behind methods n.proved (codes " proved, ") below.proved first refl in
+    let third = number_behind proved n.unproved (codes " unproved, ") below.unproved second refl in
+    let fourth = number_behind unproved n.skipped (codes " not analysed, ") below.skipped third refl in
+    let fifth = number_behind skipped n.obligations (codes " obligations, ") below.obligations fourth refl in
+    one_line (summary_said n) (number_behind obligations n.proved_obligations (codes " proved") below.proved_obligations fifth refl)
+
+pub assembly_one_line : (name : List ℕ) → IsOneLine (codes "assembly " ++ escaped name)
+assembly_one_line name = one_line (codes "assembly " ++ escaped name) (no_feed_behind (codes "assembly ") (escaped name) refl (escaped_no_feed name))
+
+pub proved_one_line : (token : ℕ) (md : List ℕ) (row : ℕ) → IsOneLine (method_said token (printed_name md row) (codes "proved"))
+proved_one_line token md row = one_line (method_said token (printed_name md row) (codes "proved")) (method_no_feed token (printed_name md row) (codes "proved") (name_no_feed md row) refl)

@@ -1,0 +1,95 @@
+-- The report of an assembly is lines, and the lines that begin with `method` are those of its methods.
+use Rattle.std.proofs.Common.{◌≡◌, ℕ, List, [], ◌∷◌, ◌++◌, map, None, refl, sym, ap, ◌∙◌, append_assoc, append-nil, codes}
+use Rattle.std.specs.List.{flat_map}
+use Rattle.std.specs.Fmt.{decimal}
+use Rattle.cc_base.specs.Digits.{hex}
+use Rattle.cc_base.specs.Escapes.{escaped}
+use Rattle.invariant_checker.specs.declared.verdict.Verdict.{Verdict}
+use Rattle.method_run.specs.FaultTexts.{kind_text}
+use Rattle.unit_builder.specs.Outcomes.{entries_of}
+use Rattle.unit_builder.specs.declared.entry.MethodEntry.{MethodEntry}
+use Rattle.check_driver.specs.CheckText.{Finding, Judged, Unjudged, all_counts, assembly_line, check_text, entry_lines, finding, finding_lines, method_line, verdict_lines, verdict_text}
+use Rattle.answer_lines.specs.Lines.{proved_text, summary_line}
+use Rattle.check_driver.specs.ReportText.{verdict_line}
+use Rattle.answer_lines.specs.declared.lines.Counts.{Counts}
+use Rattle.check_driver.proofs.WholeLines.{as_line, as_lines}
+
+-- ---- the texts of the lines, without their line feeds
+
+unfoldable pub method_said : ℕ → List ℕ → List ℕ → List ℕ
+method_said token name text = codes "method " ++ hex 8 token ++ codes " " ++ name ++ codes ": " ++ text
+
+unfoldable pub verdict_said : Verdict → List ℕ
+verdict_said v = codes "  IL_" ++ hex 4 v.obligation.at ++ codes " " ++ kind_text None v.obligation.kind ++ codes ": " ++ proved_text v.proved
+
+-- The summary up to its last number.
+unfoldable pub summary_front : Counts → List ℕ
+summary_front n =
+    codes "summary: " ++ decimal n.methods ++ codes " methods, " ++ decimal n.proved ++ codes " proved, "
+    ++ decimal n.unproved ++ codes " unproved, " ++ decimal n.skipped ++ codes " not analysed, "
+    ++ decimal n.obligations ++ codes " obligations, " ++ decimal n.proved_obligations
+
+unfoldable pub summary_said : Counts → List ℕ
+unfolding summary_front
+summary_said n = summary_front n ++ codes " proved"
+
+unfoldable pub verdicts_said : Finding → List (List ℕ)
+verdicts_said (Judged found) = map verdict_said found
+verdicts_said (Unjudged reason) = []
+
+unfoldable pub finding_said : ℕ → List ℕ → Finding → List (List ℕ)
+finding_said token name found = method_said token name (verdict_text found) ∷ verdicts_said found
+
+unfoldable pub entry_said : MethodEntry → List (List ℕ)
+entry_said entry = finding_said entry.token.0 entry.name (finding entry.outcome)
+
+unfoldable pub report_said : List ℕ → List ℕ → List (List ℕ)
+report_said name bytes = (codes "assembly " ++ escaped name) ∷ (flat_map entry_said (entries_of bytes) ++ summary_said (all_counts (entries_of bytes)) ∷ [])
+
+-- ---- lines of lists
+
+lines_behind : (a b : List (List ℕ)) → as_lines (a ++ b) ≡ as_lines a ++ as_lines b
+lines_behind [] b = refl
+lines_behind (text ∷ a) b = ap (λ (l : List ℕ). as_line text ++ l) (lines_behind a b) ∙ sym (append_assoc (as_line text) (as_lines a) (as_lines b))
+
+verdict_is_line : (v : Verdict) → as_line (verdict_said v) ≡ verdict_line v
+unfolding verdict_said
+verdict_is_line v = refl
+
+verdicts_are_lines : (found : List Verdict) → as_lines (map verdict_said found) ≡ flat_map verdict_line found
+verdicts_are_lines [] = refl
+verdicts_are_lines (v ∷ found) = ap (λ (l : List ℕ). as_line (verdict_said v) ++ l) (verdicts_are_lines found) ∙ ap (λ (l : List ℕ). l ++ flat_map verdict_line found) (verdict_is_line v)
+
+said_of_finding : (found : Finding) → as_lines (verdicts_said found) ≡ verdict_lines found
+unfolding verdicts_said
+said_of_finding (Judged found) = verdicts_are_lines found
+said_of_finding (Unjudged reason) = refl
+
+finding_is_lines : (token : ℕ) (name : List ℕ) (found : Finding) → as_lines (finding_said token name found) ≡ finding_lines token name found
+unfolding finding_said method_said
+finding_is_lines token name found = ap (λ (l : List ℕ). method_line token name (verdict_text found) ++ l) (said_of_finding found)
+
+entries_are_lines : (entries : List MethodEntry) → as_lines (flat_map entry_said entries) ≡ flat_map entry_lines entries
+unfolding entry_said
+entries_are_lines [] = refl
+entries_are_lines (entry ∷ entries) =
+    lines_behind (entry_said entry) (flat_map entry_said entries)
+    ∙ ap (λ (l : List ℕ). l ++ as_lines (flat_map entry_said entries)) (finding_is_lines entry.token.0 entry.name (finding entry.outcome))
+    ∙ ap (λ (l : List ℕ). entry_lines entry ++ l) (entries_are_lines entries)
+
+summary_is_line : (n : Counts) → as_line (summary_said n) ≡ summary_line n
+unfolding summary_said
+summary_is_line n = append_assoc (summary_front n) (codes " proved") (10 ∷ [])
+
+-- The lines before the last one, and the last.
+lines_and_last : (before : List (List ℕ)) (last line text : List ℕ) → as_line last ≡ line → as_lines before ≡ text → as_lines (before ++ last ∷ []) ≡ text ++ line
+lines_and_last before last line text is_line are_lines =
+    lines_behind before (last ∷ []) ∙ ap (λ (l : List ℕ). as_lines before ++ l) (append-nil (as_line last)) ∙ rw (is_line, are_lines) refl
+
+pub report_is_lines : (name bytes : List ℕ) → as_lines (report_said name bytes) ≡ check_text name bytes
+unfolding report_said check_text
+report_is_lines name bytes =
+    let entries = entries_of bytes in
+    let counts = all_counts entries in
+    ap (λ (l : List ℕ). assembly_line name ++ l) (lines_and_last (flat_map entry_said entries) (summary_said counts) (summary_line counts) (flat_map entry_lines entries) (summary_is_line counts) (entries_are_lines entries))
+    ∙ sym (append_assoc (assembly_line name) (flat_map entry_lines entries) (summary_line counts))

@@ -1,0 +1,68 @@
+-- Sections of small texts.
+use Rattle.std.proofs.Common.{◌≡◌, ℕ, List, [], ◌∷◌, ◌++◌, codes, refl, sym, true, false, arith}
+use Rattle.asm_image.specs.declared.method_row.MethodRow.{MethodRow}
+use Rattle.cc_base.specs.Digits.{hex}
+use Rattle.check_driver.specs.CheckText.{assembly_line, method_line}
+use Rattle.check_driver.specs.Sections.{HasProvedLine, begins_section, lines_of, proved_line, section, sections_of}
+
+-- A line feed ends a line, and what stands behind the last one is none. A line may be empty.
+two_lines : lines_of (codes "ab\n\nc\nd") ≡ codes "ab" ∷ [] ∷ codes "c" ∷ []
+two_lines = refl
+
+unfinished : lines_of (codes "method 06000001 A::B(): proved") ≡ []
+unfinished = refl
+
+no_text : lines_of [] ≡ []
+no_text = refl
+
+-- The word and the space behind it begin a section.
+begins : begins_section (codes "assembly a.dll") ≡ true
+begins = refl
+
+-- The word alone does not, nor does it further on in a line.
+word_alone : begins_section (codes "assembly") ≡ false
+word_alone = refl
+
+further_on : begins_section (codes "  assembly a.dll") ≡ false
+further_on = refl
+
+-- Two assemblies, each with its own lines.
+abbrev both_reports : List ℕ
+both_reports = codes "before\nassembly a\nmethod 06000001 A::B(): proved\nsummary\nassembly b\nmethod 06000001 C::D(): unproved\nmethod 06000002 C::E(): proved\n"
+
+first_section : section 0 both_reports ≡ codes "method 06000001 A::B(): proved" ∷ codes "summary" ∷ []
+first_section = refl
+
+-- A line of the second is none of the first.
+second_section : section 1 both_reports ≡ codes "method 06000001 C::D(): unproved" ∷ codes "method 06000002 C::E(): proved" ∷ []
+second_section = refl
+
+-- There is no third.
+third_section : section 2 both_reports ≡ []
+third_section = refl
+
+-- A report that is cut off inside a line has the lines before.
+cut_off : section 0 (codes "assembly a\nmethod 06000001 A::B(): proved\nmethod 06000002 A::C(): proved") ≡ codes "method 06000001 A::B(): proved" ∷ []
+cut_off = refl
+
+-- Sections without lines count.
+no_lines : sections_of (lines_of (codes "assembly a\nassembly b\nx\n")) ≡ [] ∷ (codes "x" ∷ []) ∷ []
+no_lines = refl
+
+-- The line of a method has its token in eight digits, its name, and the verdict.
+its_line : (method : MethodRow) → method.token.0 ≡ 0x06000001 → method.name ≡ codes "A::B()" → proved_line method ≡ codes "method 06000001 A::B(): proved"
+unfolding hex
+its_line method token name = rw (token, name) refl
+
+is_counted : (method : MethodRow) → method.token.0 ≡ 0x06000001 → method.name ≡ codes "A::B()" → HasProvedLine (section 0 both_reports) method
+is_counted method token name = (0, omega arith, sym (its_line method token name))
+
+-- The lines of a report, as they are printed, are those of a section.
+printed_report : List ℕ
+printed_report =
+    assembly_line (codes "a.dll") ++ method_line 0x06000001 (codes "A::B()") (codes "proved") ++ codes "  IL_0007 assert: proved\n"
+    ++ method_line 0x06000002 (codes "A::C()") (codes "unproved")
+
+as_printed : section 0 printed_report ≡ codes "method 06000001 A::B(): proved" ∷ codes "  IL_0007 assert: proved" ∷ codes "method 06000002 A::C(): unproved" ∷ []
+unfolding printed_report hex
+as_printed = refl

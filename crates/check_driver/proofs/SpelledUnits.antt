@@ -1,0 +1,79 @@
+-- What is known of a unit's file whose report was begun.
+use Rattle.std.proofs.Common.{◌≡◌, ◌⊎◌, ℕ, ◌<◌, List, [], ◌∷◌, length, take, Vec, Global, Option, Some, None, option_map, refl, sym, ap, subst, ◌∙◌, inl, inr, length-take, arith}
+use Rattle.std.proofs.lemmas.Bool.{cases_lt}
+use Rattle.std.proofs.lemmas.List.{take_all}
+use Rattle.std.proofs.lemmas.Option.{same_Some}
+use Rattle.cc_base.specs.Files.{Held, READ_LIMIT}
+use Rattle.cc_base.specs.LittleEndian.{IsBytes}
+use Rattle.cc_base.specs.Tests.{first_of}
+use Rattle.cc_base.proofs.TestLemmas.{none_here}
+use Rattle.cil_model.specs.declared.unit.Unit.{Unit as MethodUnit}
+use Rattle.command_words.specs.Words.{file_indexes, word_at, words_at}
+use Rattle.command_words.specs.declared.command.Command.{Command}
+use Rattle.command_words.specs.declared.command.Command.TheVariants as commands
+use Rattle.unit_form.specs.Spelling.{unit_bytes}
+use Rattle.unit_form.specs.UnitFields.{unit_fields}
+use Rattle.unit_form.proofs.UnitTaken.{unit_taken}
+use Rattle.method_unit.specs.BuiltUnits.{built_test, code_offset, first_built_fault}
+use Rattle.method_unit.specs.UnitFile.{code_tests_of, field_test, first_unit_fault, unit_of}
+use Rattle.method_unit.specs.Units.{IsUnit}
+use Rattle.check_driver.specs.Expected.{file_at}
+use Rattle.check_driver.specs.Met.{AreContents, AreUnder, IsContent, bytes_read}
+use Rattle.check_driver.specs.ProvedUnit.{AreSpelled, IfUnit, IsHeldSpelled}
+
+-- ---- a file without a fault
+
+none_of : {X Y : Type 0} (f : X → Y) (x : Option X) → option_map f x ≡ None → x ≡ None
+none_of f None none = refl
+none_of f (Some x) none = absurd cc
+
+fields_pass : (bytes : List ℕ) → first_built_fault bytes ≡ None → first_of (unit_fields bytes).tests ≡ None
+unfolding first_built_fault first_unit_fault field_test
+fields_pass bytes none =
+    let all = none_here (first_unit_fault bytes) (built_test (code_offset bytes) (unit_of bytes) ∷ []) none in
+    none_of _ _ (none_here (field_test bytes) (code_tests_of (unit_fields bytes).value) all)
+
+-- It is the spelling of the unit that is read of it.
+spelled_again : (bytes : List ℕ) → IsBytes bytes → first_built_fault bytes ≡ None → unit_bytes (unit_of bytes) ≡ bytes
+unfolding unit_of
+spelled_again bytes fits none =
+    (unit_taken bytes (unit_of bytes) fits (fields_pass bytes none)
+    (record { name = refl; result = refl; args = refl; locals = refl; max_stack = refl; callees = refl; code = refl })).spelled
+
+pub are_spelled : (bytes : List ℕ) (unit : MethodUnit) → length bytes < READ_LIMIT → IsBytes bytes → first_built_fault bytes ≡ None → unit ≡ unit_of bytes → IsUnit unit → AreSpelled bytes
+are_spelled bytes unit whole fits none same is_unit = record { whole = whole; is_unit = subst IsUnit same is_unit; spelled = spelled_again bytes fits none }
+
+-- ---- what is held
+
+-- What was read, of less bytes than a read gives at most, was not cut.
+uncut_same : (whole bytes : List ℕ) (limit : ℕ) → take limit whole ≡ bytes → length bytes < limit → bytes ≡ whole
+uncut_same whole bytes limit cut short =
+    elim (cases_lt (length whole) limit) [
+      | inl lt ↦ sym cut ∙ take_all limit whole (omega arith)
+      | inr ge ↦ let long : length bytes ≡ limit = ap length (sym cut) ∙ omega (arith, length-take limit whole, ge) in absurd (omega (arith, long, short))
+    ]
+
+content_same : (under : Option (List ℕ)) (bytes held : List ℕ) → under ≡ Some held → IsContent under bytes → length bytes < READ_LIMIT → bytes ≡ held
+content_same under bytes held is (inl whole) short = same_Some bytes held (sym whole ∙ is)
+content_same (Some whole) bytes held is (inr cut) short =
+    uncut_same whole bytes READ_LIMIT (same_Some (take READ_LIMIT whole) bytes cut) short ∙ same_Some whole held is
+content_same None bytes held is (inr cut) short = absurd cc
+
+-- What is known of what was read of the only file is known of what is held.
+one_spelled : (files : Option Held) (name : List ℕ) (met : List (Option (List ℕ))) (read : List (Vec ℕ Global)) → AreUnder files (name ∷ []) met → AreContents met read
+    → AreSpelled (file_at (bytes_read read) 0) → IsHeldSpelled files name
+one_spelled files name (under ∷ []) (bytes ∷ read) (is, last) (content, rest) known =
+    λ held whole told_is at. subst AreSpelled (content_same under bytes.items whole (sym (is held told_is) ∙ at) content known.whole) known
+one_spelled files name (under ∷ []) [] is contents known = absurd contents
+one_spelled files name [] read is contents known = absurd is
+one_spelled files name (under ∷ other ∷ met) read is contents known = absurd is.1
+
+pub held_spelled : (files : Option Held) (command : Command) (words : List (List ℕ)) (met : List (Option (List ℕ))) (read : List (Vec ℕ Global)) (same : Type 0)
+    → AreUnder files (words_at words (file_indexes command)) met → AreContents met read → same ⊎ IfUnit command (λ _. AreSpelled (file_at (bytes_read read) 0))
+    → same ⊎ IfUnit command (λ file. IsHeldSpelled files (word_at words file))
+held_spelled files command words met read same under contents (inl is) = inl is
+held_spelled files (commands.Unit file) words met read same under contents (inr known) = inr (one_spelled files (word_at words file) met read under contents known)
+held_spelled files (commands.Check file) words met read same under contents (inr known) = inr tt
+held_spelled files (commands.List file) words met read same under contents (inr known) = inr tt
+held_spelled files (commands.Il file method) words met read same under contents (inr known) = inr tt
+held_spelled files (commands.Run run) words met read same under contents (inr known) = inr tt

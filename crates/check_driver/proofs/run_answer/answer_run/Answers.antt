@@ -1,0 +1,15 @@
+use Rattle.std.proofs.Common.{◌≡◌, Some, refl}
+use Rattle.asm_image.specs.Faults.{FirstBroken}
+use Rattle.answer_lines.specs.Answers.{refused_line}
+use Rattle.check_driver.specs.FaultText.{assembly_fault_text}
+use Rattle.answer_lines.proofs.Writings.{gives_error}
+use Rattle.check_driver.proofs.run_answer.answer_run.Goals as goal
+
+pub returns-in-Err-Bad : goal.returns-in-Err-Bad
+returns-in-Err-Bad g c =
+    let fault = c.in-Err-Bad.fault in
+    let first : FirstBroken c.args.bytes.now ≡ Some fault = (rw c.in-Err-Bad.field-0-is at c.in-Err-Bad.ensures.refused) fault refl in
+    rw first
+    (gives_error 5 (refused_line c.args.name.now (assembly_fault_text fault.cause) fault.at) c.answer_refused.result
+    (g.O.Sink.written c.args.out.now) (g.O.Sink.faults c.args.out.now) _ c.answer_refused.ensures.status
+    (rw c.assembly_fault_text.ensures at c.answer_refused.ensures.written))

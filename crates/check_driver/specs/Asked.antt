@@ -1,0 +1,114 @@
+-- Which units a call asks its finder for. A unit is told by the bytes of its file.
+use Rattle.std.specs.Prelude.{◌≡◌, ◌≢◌, ℕ, Bool, List, [], ◌∷◌, ◌++◌, length, Option, Some, None, Result, IfOk, nat_le, if◌then◌else◌}
+use Rattle.std.specs.List.{flat_map, list_any}
+use Rattle.std.specs.Str.{bytes_eq}
+use Rattle.asm_image.specs.Faults.{FirstBroken}
+use Rattle.asm_image.specs.declared.fault.AsmFault.{AsmFault}
+use Rattle.cc_base.specs.Files.{READ_LIMIT}
+use Rattle.cil_model.specs.declared.unit.Unit.{Unit as MethodUnit}
+use Rattle.method_unit.specs.BuiltUnits.{first_built_fault}
+use Rattle.method_unit.specs.NotBuilt.{not_built}
+use Rattle.method_unit.specs.UnitFile.{unit_of}
+use Rattle.method_unit.specs.declared.unit_fault.UnitFault.{UnitFault}
+use Rattle.unit_builder.specs.Outcomes.{entries_of}
+use Rattle.unit_builder.specs.declared.entry.MethodEntry.{MethodEntry}
+use Rattle.unit_builder.specs.declared.entry.Outcome.{Outcome}
+use Rattle.unit_builder.specs.declared.entry.Outcome.TheVariants.{Analysed, Skipped}
+use Rattle.unit_form.specs.Spelling.{unit_bytes}
+use Rattle.answer_lines.specs.declared.interrupt.Interrupt.{Interrupt}
+use Rattle.check_driver.specs.Expected.{file_at}
+use Rattle.check_driver.specs.Met.{contents, first_missing}
+use Rattle.command_words.specs.Words.{command_of, file_indexes, words_at}
+use Rattle.command_words.specs.declared.command.Command.{Command}
+use Rattle.command_words.specs.declared.command.Command.TheVariants as commands
+
+-- ---- each once
+
+abbrev pub is_among : List (List ℕ) → List ℕ → Bool
+is_among seen key = list_any (λ other. bytes_eq key other) seen
+
+-- Those of the keys that are not seen yet, each once, in order.
+abbrev pub unseen : List (List ℕ) → List (List ℕ) → List (List ℕ)
+unseen seen [] = []
+unseen seen (key ∷ keys) = if is_among seen key then unseen seen keys else key ∷ unseen (seen ++ key ∷ []) keys
+
+abbrev pub distinct : List (List ℕ) → List (List ℕ)
+distinct keys = unseen [] keys
+
+-- ---- the units of files
+
+abbrev pub key_if : Option ℕ → MethodUnit → List (List ℕ)
+key_if None unit = unit_bytes unit ∷ []
+key_if (Some at) unit = []
+
+-- The unit of a method, where it is judged.
+abbrev pub outcome_key : Outcome → List (List ℕ)
+outcome_key (Analysed unit) = key_if (not_built unit) unit
+outcome_key (Skipped reason) = []
+
+-- The units that are judged of these methods.
+abbrev pub judged_keys : List MethodEntry → List (List ℕ)
+judged_keys entries = flat_map (λ entry. outcome_key entry.outcome) entries
+
+-- The units of an assembly that are judged, in the order of its methods, each once.
+unfoldable pub units_asked : List ℕ → List (List ℕ)
+units_asked bytes = distinct (judged_keys (entries_of bytes))
+
+-- For the report of an assembly whose file has this first fault, or none.
+abbrev pub check_asked : List ℕ → Option AsmFault → List (List ℕ)
+check_asked bytes (Some fault) = []
+check_asked bytes None = units_asked bytes
+
+-- For the report of a unit whose file has this first fault, or none.
+abbrev pub unit_asked : List ℕ → Option UnitFault → List (List ℕ)
+unit_asked bytes (Some fault) = []
+unit_asked bytes None = unit_bytes (unit_of bytes) ∷ []
+
+abbrev pub unit_file_asked : List ℕ → List (List ℕ)
+unit_file_asked bytes = if nat_le READ_LIMIT (length bytes) then [] else unit_asked bytes (first_built_fault bytes)
+
+-- ---- commands
+
+-- For a command and the bytes of its files, in order.
+abbrev pub bytes_asked : Command → List (List ℕ) → List (List ℕ)
+bytes_asked (commands.Unit file) files = unit_file_asked (file_at files 0)
+bytes_asked (commands.Check file) files = check_asked (file_at files 0) (FirstBroken (file_at files 0))
+bytes_asked _ files = []
+
+-- Where the first file that is missing has this name, or where none is.
+abbrev pub asked_unless : Option (List ℕ) → List (List ℕ) → List (List ℕ)
+asked_unless (Some name) keys = []
+asked_unless None keys = keys
+
+-- For a command, by what is met under the names of its files.
+abbrev pub files_asked : Command → List (List ℕ) → List (Option (List ℕ)) → List (List ℕ)
+files_asked command words met = asked_unless (first_missing (words_at words (file_indexes command)) met) (bytes_asked command (contents met))
+
+abbrev pub command_asked : List (List ℕ) → List (Option (List ℕ)) → Option Command → List (List ℕ)
+command_asked words met None = []
+command_asked words met (Some command) = files_asked command words met
+
+-- For the words, where this is met under the names of their files.
+abbrev pub asked_by : List (List ℕ) → List (Option (List ℕ)) → List (List ℕ)
+asked_by words met = command_asked words met (command_of words)
+
+-- ---- what a finder was asked for
+
+-- A front of these was asked.
+abbrev pub AsksFront : List (List ℕ) → List (List ℕ) → List (List ℕ) → Type 0
+AsksFront keys old new = (front : List (List ℕ)) × ((rest : List (List ℕ)) × (keys ≡ front ++ rest)) × (new ≡ old ++ front)
+
+-- A call that gave this asked for these, or for a front of them where it was interrupted.
+pub record Asks {X E : Type 0} (keys : List (List ℕ)) (result : Result X E) (old new : List (List ℕ)) : Type 0 where
+  pub front : AsksFront keys old new
+  pub whole : IfOk result (λ _. new ≡ old ++ keys)
+
+-- So did an answer, which is interrupted too where a file was not read.
+pub record AnswerAsks (keys : List (List ℕ)) (result : Result ℕ Interrupt) (old new : List (List ℕ)) : Type 0 where
+  pub front : AsksFront keys old new
+  pub whole : IfOk result (λ status. status ≢ 4 → new ≡ old ++ keys)
+
+-- So did a call of the program that ended with this status.
+pub record LeavesAsked (keys : List (List ℕ)) (status : ℕ) (old new : List (List ℕ)) : Type 0 where
+  pub front : AsksFront keys old new
+  pub whole : status ≢ 4 → status ≢ 6 → status ≢ 7 → new ≡ old ++ keys

@@ -1,0 +1,95 @@
+-- The report of an assembly.
+use Rattle.std.specs.Prelude.{ℕ, Bool, false, List, [], ◌++◌, length, map, fold, Option, Some, None, if◌then◌else◌, codes}
+use Rattle.std.specs.List.{flat_map, list_all}
+use Rattle.cc_base.specs.Digits.{hex}
+use Rattle.cc_base.specs.Escapes.{escaped}
+use Rattle.cil_model.specs.declared.unit.Unit.{Unit as MethodUnit}
+use Rattle.method_unit.specs.NotBuilt.{not_built}
+use Rattle.invariant_checker.specs.Counts.{all_proved, proved_count}
+use Rattle.invariant_checker.specs.declared.verdict.Verdict.{Verdict}
+use Rattle.unit_builder.specs.Outcomes.{entries_of}
+use Rattle.unit_builder.specs.declared.entry.MethodEntry.{MethodEntry}
+use Rattle.unit_builder.specs.declared.entry.Outcome.{Outcome}
+use Rattle.unit_builder.specs.declared.entry.Outcome.TheVariants.{Analysed, Skipped}
+use Rattle.answer_lines.specs.Counting.{counts_plus, no_counts}
+use Rattle.check_driver.specs.Analysis.{unit_verdicts}
+use Rattle.check_driver.specs.ReasonText.{reason_text, unbuilt_text}
+use Rattle.answer_lines.specs.Lines.{proved_text, summary_line}
+use Rattle.check_driver.specs.ReportText.{verdict_line}
+use Rattle.answer_lines.specs.declared.lines.Counts.{Counts}
+
+-- ---- what is found of a method
+
+-- The verdicts on its obligations, or the words that say why it is not analysed.
+pub data Finding : Type 0 where
+  Judged : List Verdict → Finding
+  Unjudged : List ℕ → Finding
+
+abbrev pub judged_or : Option ℕ → MethodUnit → Finding
+judged_or None unit = Judged (unit_verdicts unit)
+judged_or (Some at) unit = Unjudged (unbuilt_text at)
+
+abbrev pub finding : Outcome → Finding
+finding (Analysed unit) = judged_or (not_built unit) unit
+finding (Skipped reason) = Unjudged (reason_text reason)
+
+-- ---- its lines
+
+abbrev pub verdict_text : Finding → List ℕ
+verdict_text (Judged found) = proved_text (all_proved found)
+verdict_text (Unjudged reason) = codes "not analysed: " ++ reason
+
+abbrev pub verdict_lines : Finding → List ℕ
+verdict_lines (Judged found) = flat_map verdict_line found
+verdict_lines (Unjudged reason) = []
+
+-- The line of a method: its token, its name, and what is found of it.
+abbrev pub method_line : ℕ → List ℕ → List ℕ → List ℕ
+method_line token name text = codes "method " ++ hex 8 token ++ codes " " ++ name ++ codes ": " ++ text ++ codes "\n"
+
+-- All lines of a method of which this is found.
+abbrev pub finding_lines : ℕ → List ℕ → Finding → List ℕ
+finding_lines token name found = method_line token name (verdict_text found) ++ verdict_lines found
+
+abbrev pub entry_lines : MethodEntry → List ℕ
+entry_lines entry = finding_lines entry.token.0 entry.name (finding entry.outcome)
+
+-- ---- the whole
+
+abbrev pub is_proved : Finding → Bool
+is_proved (Judged found) = all_proved found
+is_proved (Unjudged reason) = false
+
+-- What one method adds to the counts.
+abbrev pub counts_of : Finding → Counts
+counts_of (Judged found) = record {
+  methods = 1;
+  proved = if all_proved found then 1 else 0;
+  unproved = if all_proved found then 0 else 1;
+  skipped = 0;
+  obligations = length found;
+  proved_obligations = proved_count found;
+}
+counts_of (Unjudged reason) = record { methods = 1; proved = 0; unproved = 0; skipped = 1; obligations = 0; proved_obligations = 0 }
+
+-- The counts of all methods of which these are found.
+abbrev pub found_counts : List Finding → Counts
+found_counts found = fold (λ counts one. counts_plus counts (counts_of one)) no_counts found
+
+-- What is found of each method.
+abbrev pub findings : List MethodEntry → List Finding
+findings entries = map (λ entry. finding entry.outcome) entries
+
+abbrev pub all_counts : List MethodEntry → Counts
+all_counts entries = found_counts (findings entries)
+
+abbrev pub assembly_line : List ℕ → List ℕ
+assembly_line name = codes "assembly " ++ escaped name ++ codes "\n"
+
+-- The report of the assembly that a file is.
+unfoldable pub check_text : List ℕ → List ℕ → List ℕ
+check_text name bytes = assembly_line name ++ flat_map entry_lines (entries_of bytes) ++ summary_line (all_counts (entries_of bytes))
+
+-- Each method of it is proved.
+abbrev pub all_methods_proved : List ℕ → Bool
+all_methods_proved bytes = list_all is_proved (findings (entries_of bytes))

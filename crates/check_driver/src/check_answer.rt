@@ -1,0 +1,222 @@
+//! The answer to `check FILE`.
+
+#![tactic(auto, using(cc_base::proofs::SinkLemmas::sinks, cc_base::proofs::CountLemmas::counts))]
+
+ghost use Rattle.std.specs.Prelude.{◌≡◌, ◌⊎◌, ◌++◌, ◌<◌, ◌^◌, All, IfOk, OnOk, Some, if◌then◌else◌, length, map, slice_get, zip};
+ghost use Rattle.std.specs.List.{flat_map, list_all};
+ghost use Rattle.asm_image.specs.Faults.{FirstBroken};
+ghost use Rattle.asm_image.specs.Rows.{methods_of};
+ghost use Rattle.asm_image.specs.declared.method_row.MethodRow.{MethodRow};
+ghost use Rattle.check_driver.specs.Asked.{Asks, check_asked, outcome_key, units_asked, unseen};
+ghost use Rattle.check_driver.specs.CheckText.{all_methods_proved, assembly_line, check_text, finding, finding_lines, findings, found_counts, is_proved, method_line, verdict_text};
+ghost use Rattle.check_driver.specs.Checked.{AreRunnable, IsReportable};
+ghost use Rattle.answer_lines.specs.Counting.{AreBelow};
+ghost use Rattle.check_driver.specs.Expected.{check_answer};
+ghost use Rattle.check_driver.specs.Findings.{IsWithin, told, told_lines};
+ghost use Rattle.answer_lines.specs.Outcome.{Gives};
+ghost use Rattle.answer_lines.specs.Writing.{Writes, change_of, joined};
+ghost use Rattle.unit_builder.specs.Outcomes.{IfAnalysed, IsRunnable, entries_of, outcome_of};
+
+use crate::fault_text::assembly_fault_text;
+use crate::finding::Finding;
+use crate::judged_units::JudgedUnits;
+use crate::report::append_verdict_lines;
+use answer_lines::{Counts, Interrupt, answer_refused, put_lines, summary_line};
+use asm_image::{AsmRefusal, Assembly, MethodRow};
+use cc_base::{Sink, append_escaped, put_hex};
+use std::alloc::{AllocError, Global};
+use unit_builder::Units;
+use widening_engine::Finder;
+
+/// The line of a method of which this is found.
+fn method_line(alloc: Global, method: &MethodRow, finding: &Finding) -> Result<Vec<u8>, AllocError>
+    ensures { IfOk result (λ line. line.items ≡ method_line method.now.token.0 method.now.name (verdict_text (told finding.now))) }
+{
+    let mut line = Vec::from_slice(alloc, b"method ")?;
+    put_hex(alloc, &mut line, method.token.0, 8)?;
+    line.extend_from_slice(b" ")?;
+    line.extend_from_slice(method.name.as_slice())?;
+    line.extend_from_slice(b": ")?;
+    finding.append_text(alloc, &mut line)?;
+    line.extend_from_slice(b"\n")?;
+    Ok(line)
+}
+
+/// Appends the lines of a method of which this is found.
+fn append_finding(
+    alloc: Global,
+    lines: &mut Vec<Vec<u8>>,
+    method: &MethodRow,
+    finding: &Finding,
+) -> Result<(), AllocError>
+    requires { IsWithin finding.now }
+    ensures { OnOk result (joined lines.new.items ≡ joined lines.old.items ++ finding_lines method.now.token.0 method.now.name (told finding.now)) }
+{
+    lines.push(method_line(alloc, method, finding)?)?;
+    append_verdict_lines(alloc, lines, finding.verdicts())?;
+    Ok(())
+}
+
+/// Appends the lines of each method, of which these are found.
+fn append_findings(
+    alloc: Global,
+    lines: &mut Vec<Vec<u8>>,
+    methods: &[MethodRow],
+    found: &[Finding],
+) -> Result<(), AllocError>
+    requires within { All IsWithin found.now }
+    ensures { OnOk result (joined lines.new.items ≡ joined lines.old.items ++ flat_map told_lines (zip methods.now found.now)) }
+{
+    for (method, finding) in methods.iter().zip(found.iter()) {
+        append_finding(alloc, lines, method, finding)?;
+    }
+    Ok(())
+}
+
+/// What is found of the method of this index.
+fn find<D: Finder>(
+    alloc: Global,
+    units: &mut Units<'_>,
+    index: usize,
+    judged: &mut JudgedUnits,
+    finder: &mut D,
+) -> Result<Finding, AllocError>
+    requires there { index < length (methods_of units.old) }
+    ensures same { units.new ≡ units.old }
+    ensures value { (method : MethodRow) → slice_get (methods_of units.old) index ≡ Some method → IfOk result (λ found. told found ≡ finding (outcome_of units.old method)) }
+    ensures within { IfOk result IsWithin }
+    ensures runnable { (method : MethodRow) → slice_get (methods_of units.old) index ≡ Some method → IfOk result (λ _. IfAnalysed (outcome_of units.old method) IsRunnable) }
+    ensures judged { (method : MethodRow) → slice_get (methods_of units.old) index ≡ Some method
+        → OnOk result (judged.new ≡ judged.old ++ unseen judged.old (outcome_key (outcome_of units.old method))) }
+    ensures asked { (method : MethodRow) → slice_get (methods_of units.old) index ≡ Some method
+        → Asks (unseen judged.old (outcome_key (outcome_of units.old method))) result (D.asked finder.old) (D.asked finder.new) }
+{
+    let outcome = units.outcome(alloc, index)?;
+    Finding::of(alloc, outcome, judged, finder)
+}
+
+/// What is found of each method of an assembly. Of equal units one is judged.
+fn find_all<D: Finder>(
+    alloc: Global,
+    assembly: &Assembly<'_>,
+    finder: &mut D,
+) -> Result<Vec<Finding>, AllocError>
+    ensures value { IfOk result (λ found. map told found.items ≡ findings (entries_of assembly.now)) }
+    ensures within { IfOk result (λ found. All IsWithin found.items) }
+    ensures few { IfOk result (λ found. length found.items < 2 ^ 32) }
+    ensures runnable { IfOk result (λ _. AreRunnable assembly.now) }
+    ensures asked { Asks (units_asked assembly.now) result (D.asked finder.old) (D.asked finder.new) }
+{
+    let mut units = Units::of(alloc, assembly)?;
+    let mut judged = JudgedUnits::none(alloc);
+    let mut found = Vec::new(alloc);
+    for index in 0..assembly.methods().len() {
+        found.push(find(alloc, &mut units, index, &mut judged, finder)?)?;
+    }
+    Ok(found)
+}
+
+/// The counts of a report of which these are the findings.
+fn count(found: &[Finding]) -> Counts
+    requires within { All IsWithin found.now }
+    requires few { length found.now < 2 ^ 32 }
+    ensures value { result ≡ found_counts (map told found.now) }
+    ensures below { AreBelow (2 ^ 62) result }
+{
+    let mut counts = Counts::none();
+    for finding in found {
+        counts = counts.plus(finding.counts());
+    }
+    counts
+}
+
+/// Whether each method of which these are found is proved.
+fn are_proved(found: &[Finding]) -> bool
+    ensures { result ≡ list_all (λ finding. is_proved (told finding)) found.now }
+{
+    found.iter().all(Finding::is_proved)
+}
+
+/// The status of a report with these findings.
+fn status_of(found: &[Finding]) -> u8
+    ensures { result ≡ (if list_all (λ finding. is_proved (told finding)) found.now then 0 else 1) }
+{
+    if are_proved(found) { 0 } else { 1 }
+}
+
+/// The first line of a report.
+fn assembly_line(alloc: Global, name: &[u8]) -> Result<Vec<u8>, AllocError>
+    ensures { IfOk result (λ line. line.items ≡ assembly_line name.now) }
+{
+    let mut line = Vec::from_slice(alloc, b"assembly ")?;
+    append_escaped(alloc, &mut line, name)?;
+    line.extend_from_slice(b"\n")?;
+    Ok(line)
+}
+
+/// The lines of the report of an assembly of which these are the findings.
+#[tactic(auto, using(crate::proofs::ReportLines::told_are_entries), unfolding(crate::specs::CheckText::check_text))]
+fn check_lines(
+    alloc: Global,
+    name: &[u8],
+    assembly: &Assembly<'_>,
+    found: &[Finding],
+) -> Result<Vec<Vec<u8>>, AllocError>
+    requires value { map told found.now ≡ findings (entries_of assembly.now) }
+    requires within { All IsWithin found.now }
+    requires few { length found.now < 2 ^ 32 }
+    requires runnable { AreRunnable assembly.now }
+    ensures text { IfOk result (λ lines. joined lines.items ≡ check_text name.now assembly.now) }
+    ensures reportable { IfOk result (λ _. IsReportable assembly.now) }
+{
+    let mut lines = Vec::new(alloc);
+    lines.push(assembly_line(alloc, name)?)?;
+    append_findings(alloc, &mut lines, assembly.methods(), found)?;
+    lines.push(summary_line(alloc, count(found))?)?;
+    Ok(lines)
+}
+
+/// Answers for an assembly.
+fn answer_assembly<O: Sink, D: Finder>(
+    alloc: Global,
+    name: &[u8],
+    assembly: &Assembly<'_>,
+    out: &mut O,
+    finder: &mut D,
+) -> Result<u8, Interrupt>
+    ensures status { IfOk result (λ status. status ≡ (if all_methods_proved assembly.now then 0 else 1)) }
+    ensures written { Writes result (change_of O.written O.faults out.old out.new) (check_text name.now assembly.now) }
+    ensures reportable { (O.written out.new ≡ O.written out.old) ⊎ IsReportable assembly.now }
+    ensures asked { Asks (units_asked assembly.now) result (D.asked finder.old) (D.asked finder.new) }
+{
+    let found = find_all(alloc, assembly, finder)?;
+    let lines = check_lines(alloc, name, assembly, &found)?;
+    put_lines(alloc, out, &lines)?;
+    Ok(status_of(&found))
+}
+
+/// Answers `check FILE` for the bytes of the file.
+///
+/// Cost: the code of each method is read once, however many methods call it, and of equal units one is analysed. What is found
+/// of each is kept until all is.
+pub fn answer_check<O: Sink, E: Sink, D: Finder>(
+    alloc: Global,
+    name: &[u8],
+    bytes: &[u8],
+    out: &mut O,
+    err: &mut E,
+    finder: &mut D,
+) -> Result<u8, Interrupt>
+    ensures answer { Gives (check_answer name.now bytes.now (FirstBroken bytes.now)) result
+        (change_of O.written O.faults out.old out.new) (change_of E.written E.faults err.old err.new) }
+    ensures reportable { (O.written out.new ≡ O.written out.old) ⊎ IsReportable bytes.now }
+    ensures asked { Asks (check_asked bytes.now (FirstBroken bytes.now)) result (D.asked finder.old) (D.asked finder.new) }
+{
+    match Assembly::read(alloc, bytes) {
+        Err(AsmRefusal::NoMemory) => Err(Interrupt::NoMemory),
+        Err(AsmRefusal::Bad(fault)) => {
+            answer_refused(alloc, name, assembly_fault_text(fault.cause), fault.at, err)
+        }
+        Ok(assembly) => answer_assembly(alloc, name, &assembly, out, finder),
+    }
+}

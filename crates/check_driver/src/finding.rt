@@ -1,0 +1,102 @@
+//! What is found of the methods of an assembly.
+
+ghost use Rattle.std.specs.Prelude.{◌≡◌, ◌++◌, ◌<◌, ◌≤◌, All, IfOk, OnOk, length};
+ghost use Rattle.check_driver.specs.Asked.{Asks, outcome_key, unseen};
+ghost use Rattle.check_driver.specs.CheckText.{counts_of, finding, is_proved, verdict_text};
+ghost use Rattle.answer_lines.specs.Counting.{AreBelow};
+ghost use Rattle.unit_builder.specs.Outcomes.{IfAnalysed, IsRunnable};
+ghost use Rattle.check_driver.specs.Findings.{IsWithin, told, verdicts_in};
+
+use crate::judged_units::JudgedUnits;
+use crate::reason_text::{append_skipped, append_unbuilt};
+use answer_lines::{Counts, proved_text};
+use invariant_checker::{Verdict, all_proved, proved_count};
+use method_unit::not_built;
+use std::alloc::{AllocError, Global};
+use unit_builder::{Outcome, Reason};
+use widening_engine::Finder;
+
+/// What is found of a method.
+#[derive(Drop)]
+pub enum Finding {
+    /// The verdicts on its obligations.
+    Judged(Vec<Verdict>),
+    /// It is not analysed: the analysis of what stands at this IL offset is not built.
+    Unbuilt(u32),
+    /// It is not analysed for this reason.
+    Skipped(Reason),
+}
+
+impl Finding {
+    /// What is found of a method of which this comes. Where its unit is judged it is among those of the call from then on.
+    pub fn of<D: Finder>(
+        alloc: Global,
+        outcome: Outcome,
+        judged: &mut JudgedUnits,
+        finder: &mut D,
+    ) -> Result<Finding, AllocError>
+        requires { IfAnalysed outcome IsRunnable }
+        ensures value { IfOk result (λ found. told found ≡ finding outcome) }
+        ensures within { IfOk result IsWithin }
+        ensures judged { OnOk result (judged.new ≡ judged.old ++ unseen judged.old (outcome_key outcome)) }
+        ensures asked { Asks (unseen judged.old (outcome_key outcome)) result (D.asked finder.old) (D.asked finder.new) }
+    {
+        match outcome {
+            Outcome::Skipped(reason) => Ok(Finding::Skipped(reason)),
+            Outcome::Analysed(unit) => match not_built(&unit) {
+                Some(at) => Ok(Finding::Unbuilt(at)),
+                None => Ok(Finding::Judged(judged.judge(alloc, unit, finder)?)),
+            },
+        }
+    }
+
+    /// The verdicts. A method that is not analysed has none.
+    pub fn verdicts(&self) -> &[Verdict]
+        ensures { result.now ≡ verdicts_in (told self.now) }
+    {
+        match self {
+            Finding::Judged(found) => found,
+            Finding::Unbuilt(_) | Finding::Skipped(_) => &[],
+        }
+    }
+
+    /// Whether the method is proved.
+    pub fn is_proved(&self) -> bool
+        ensures { result ≡ is_proved (told self.now) }
+    {
+        match self {
+            Finding::Judged(found) => all_proved(found),
+            Finding::Unbuilt(_) | Finding::Skipped(_) => false,
+        }
+    }
+
+    /// What the method adds to the counts of a report.
+    pub fn counts(&self) -> Counts
+        requires { IsWithin self.now }
+        ensures counts { result ≡ counts_of (told self.now) }
+        ensures small { AreBelow 8193 result }
+    {
+        let found = self.verdicts();
+        let is_skipped = !matches!(self, Finding::Judged(_));
+        let is_proved = self.is_proved();
+        Counts {
+            methods: 1,
+            proved: u64::from(is_proved),
+            unproved: u64::from(!is_skipped && !is_proved),
+            skipped: u64::from(is_skipped),
+            obligations: found.len() as u64,
+            proved_obligations: proved_count(found) as u64,
+        }
+    }
+
+    /// Appends what the method's line tells of it.
+    pub fn append_text(&self, alloc: Global, line: &mut Vec<u8>) -> Result<(), AllocError>
+        ensures { OnOk result (line.new.items ≡ line.old.items ++ verdict_text (told self.now)) }
+    {
+        match self {
+            Finding::Judged(found) => line.extend_from_slice(proved_text(all_proved(found))),
+            Finding::Unbuilt(at) => append_unbuilt(alloc, line, *at),
+            Finding::Skipped(reason) => append_skipped(alloc, line, *reason),
+        }
+    }
+}
