@@ -6,13 +6,15 @@ use cc_base::{Files, MapFiles, PutRefusal, ReadRefusal, ReplaceRefusal, Sink, Ve
 use check_driver::run_words;
 use std::alloc::{AllocError, Global};
 use std::process::Abort;
+use widening_engine::Plain;
 
-/// The files and the sinks of one call of the program.
+/// The files, the sinks and the finder of one call of the program.
 #[derive(Drop)]
 pub struct Devices {
     pub files: MapFiles,
     pub out: VecSink,
     pub err: VecSink,
+    pub finder: Plain,
 }
 
 /// What the program is to answer.
@@ -30,6 +32,7 @@ impl Devices {
             files: MapFiles::new(alloc),
             out: VecSink::new(alloc),
             err: VecSink::new(alloc),
+            finder: Plain::new(alloc),
         }
     }
 
@@ -52,7 +55,14 @@ impl Devices {
         want: Answer<'_>,
     ) -> Result<(), AllocError> {
         let words = owned(alloc, words)?;
-        let status = run_words(alloc, &words, &mut self.files, &mut self.out, &mut self.err);
+        let status = run_words(
+            alloc,
+            &words,
+            &mut self.files,
+            &mut self.out,
+            &mut self.err,
+            &mut self.finder,
+        );
         if status == 7 {
             assert!(rt;
                 want.out.starts_with(&self.out.bytes),

@@ -5,6 +5,7 @@ use cc_base::MapFiles;
 use check_driver::run_words;
 use std::alloc::{AllocError, Global};
 use std::test::Fail;
+use widening_engine::Plain;
 
 /// A unit of which each line of the report is known.
 const UNIT: &[u8] =
@@ -153,7 +154,8 @@ fn a_put_that_lacks_memory_is_told(rt: HostRuntime) -> Result<(), Fail> {
         let mut files = some_files(alloc)?;
         let mut out = LackingSink::new(alloc, lacking_out);
         let mut err = LackingSink::new(alloc, lacking_err);
-        let status = run_words(alloc, &words, &mut files, &mut out, &mut err);
+        let mut finder = Plain::new(alloc);
+        let status = run_words(alloc, &words, &mut files, &mut out, &mut err, &mut finder);
         assert_eq!(rt; status, 7, "the status of {words:?}");
         assert_eq!(rt;
             out.sink.bytes.as_slice(),
@@ -177,7 +179,8 @@ fn a_read_that_lacks_memory_is_told(rt: HostRuntime) -> Result<(), Fail> {
         let mut files = LackingFiles { faults: 0 };
         let mut out = LackingSink::new(alloc, &[]);
         let mut err = LackingSink::new(alloc, lacking_err);
-        let status = run_words(alloc, &words, &mut files, &mut out, &mut err);
+        let mut finder = Plain::new(alloc);
+        let status = run_words(alloc, &words, &mut files, &mut out, &mut err, &mut finder);
         assert_eq!(rt; status, 7, "the status of {words:?}");
         assert!(rt; out.sink.bytes.is_empty());
         assert_eq!(rt;

@@ -129,7 +129,7 @@ const FIELDS: [(&[u8], &[u8]); 63] = [
 const HEAD: &[u8] = b"CCU1\x04\0T::f\x02\x01\x02\0\x02\0\0";
 
 /// The code's length and the code behind the head, each with its fault. The code begins at 00000015.
-const CODES: [(&[u8], &[u8]); 53] = [
+const CODES: [(&[u8], &[u8]); 51] = [
     // A rest behind the code; behind code that is cut; behind an instruction that is none.
     (b"\x02\0\0\0\x02\x2a\0", b"unit form at 00000017"),
     (b"\x01\0\0\0\x1f\0", b"unit form at 00000016"),
@@ -193,14 +193,15 @@ const CODES: [(&[u8], &[u8]); 53] = [
     (b"\x03\0\0\0\x02\x06\x2a", b"unit form at 00000016"),
     (b"\x03\0\0\0\x02\x14\x2a", b"unit form at 00000017"),
     (b"\x02\0\0\0\x58\x25", b"unit form at 00000015"),
-    // What is not built: behind two operands, behind a return, and with nothing wrong behind it.
-    (b"\x04\0\0\0\x02\x25\x26\x2a", b"unit not built at 00000016"),
+    // What is not built: behind instructions that are, and before another.
     (
-        b"\x05\0\0\0\x02\x02\xfe\x03\x2a",
-        b"unit not built at 00000017",
+        b"\x06\0\0\0\x02\x25\x59\x14\x26\x2a",
+        b"unit not built at 00000018",
     ),
-    (b"\x03\0\0\0\x02\x2a\x25", b"unit not built at 00000017"),
-    (b"\x04\0\0\0\x02\x02\x59\x2a", b"unit not built at 00000017"),
+    (
+        b"\x06\0\0\0\x02\x14\x26\x14\x26\x2a",
+        b"unit not built at 00000016",
+    ),
     // Each instruction is read before the first is typed, here an add without operands.
     (b"\x02\0\0\0\x58\x1f", b"unit form at 00000016"),
     // Of one argument the second, in each spelling, and a far one.
@@ -236,84 +237,59 @@ const CODES: [(&[u8], &[u8]); 53] = [
     (b"\0\0\0\0", b"unit form at 00000015"),
 ];
 
-/// Code behind an `ldarg.0` that has kinds, and whose first instruction is not built.
-const NOT_BUILT: [&[u8]; 44] = [
-    // A store, and what changes the stack alone.
-    b"\x10\0\x02\x2a",
-    b"\xfe\x0b\0\0\x02\x2a",
-    b"\x25\x26\x2a",
-    b"\x26\x02\x2a",
-    // Branches, of both forms the first and the last, and switches.
-    b"\x2b\0\x2a",
-    b"\x38\0\0\0\0\x2a",
-    b"\x2c\0\x02\x2a",
-    b"\x2d\0\x02\x2a",
-    b"\x39\0\0\0\0\x02\x2a",
-    b"\x45\0\0\0\0\x02\x2a",
-    b"\x45\x01\0\0\0\0\0\0\0\x02\x2a",
-    // Operators of one number; null, texts and arrays.
-    b"\x65\x2a",
-    b"\x66\x2a",
-    b"\x69\x2a",
+/// Code that has kinds behind an `ldarg.0`, and whose first instruction is not built.
+const NOT_BUILT: [&[u8]; 8] = [
+    // Null, texts, and new arrays of bool and of int32.
     b"\x14\x26\x2a",
     b"\x72\0\0\0\0\x26\x2a",
+    b"\x8d\x01\0\0\0\x26\x02\x2a",
+    b"\x8d\x02\0\0\0\x26\x02\x2a",
+    // The same with what takes the array, and with Assert and Assume, which take the text.
     b"\x8d\x01\0\0\0\x8e\x69\x2a",
-    b"\x8d\x02\0\0\0\x8e\x69\x2a",
-    // Calls: with a message, of Assume, and of Assume with a message.
+    b"\x8d\x02\0\0\0\x16\x94\x2a",
     b"\x72\0\0\0\0\x28\x06\0\0\0\x02\x2a",
-    b"\x28\x07\0\0\0\x02\x2a",
     b"\x72\0\0\0\0\x28\x08\0\0\0\x02\x2a",
-    // Behind a second ldarg.0: operators of two numbers and comparing branches.
-    b"\x59\x2a",
-    b"\x5a\x2a",
-    b"\x5b\x2a",
-    b"\x5c\x2a",
-    b"\x5d\x2a",
-    b"\x5e\x2a",
-    b"\x5f\x2a",
-    b"\x60\x2a",
-    b"\x61\x2a",
-    b"\x62\x2a",
-    b"\x63\x2a",
-    b"\x64\x2a",
-    b"\xd6\x2a",
-    b"\xd8\x2a",
-    b"\xda\x2a",
-    b"\xfe\x03\x2a",
-    b"\xfe\x05\x2a",
-    b"\x2e\0\x02\x2a",
-    b"\x33\0\x02\x2a",
-    b"\x37\0\x02\x2a",
-    b"\x3b\0\0\0\0\x02\x2a",
-    b"\x41\0\0\0\0\x02\x2a",
-    b"\x44\0\0\0\0\x02\x2a",
 ];
 
-/// How many of them stand behind one `ldarg.0` alone.
-const OF_ONE: usize = 21;
+/// Code behind a return, where nothing comes and any kinds will do, and whose first instruction is not built.
+const NOT_BUILT_BEHIND: [&[u8]; 7] = [
+    // The length of an array; an item of bool and of int32, read and written.
+    b"\x8e",
+    b"\x91",
+    b"\x94",
+    b"\x9c",
+    b"\x9e",
+    // Assert and Assume with a message.
+    b"\x28\x06\0\0\0",
+    b"\x28\x08\0\0\0",
+];
 
 /// Whole units that are not built for what stands before or behind their code, and units whose callees are out of order;
 /// each with its fault.
-const UNITS: [(&[u8], &[u8]); 14] = [
-    // The result: void, a bool, an array; an argument; a local.
+const UNITS: [(&[u8], &[u8]); 15] = [
+    // An array of bool and one of int32: as the result, where the code is a loop; as an argument; as a local.
     (
-        b"CCU1\x01\0f\0\0\0\0\0\0\x01\0\0\0\x2a",
+        b"CCU1\x01\0f\x03\0\0\x01\0\0\x02\0\0\0\x2b\xfe",
         b"unit not built at 00000011",
     ),
     (
-        b"CCU1\x01\0f\x01\0\0\x01\0\0\x02\0\0\0\x16\x2a",
+        b"CCU1\x01\0f\x04\0\0\x01\0\0\x02\0\0\0\x2b\xfe",
         b"unit not built at 00000011",
     ),
     (
-        b"CCU1\x01\0f\x03\0\0\x01\0\0\x02\0\0\0\x14\x2a",
-        b"unit not built at 00000011",
-    ),
-    (
-        b"CCU1\x01\0f\x02\x01\x01\0\x01\0\0\x02\0\0\0\x16\x2a",
+        b"CCU1\x01\0f\x02\x01\x03\0\x01\0\0\x02\0\0\0\x16\x2a",
         b"unit not built at 00000012",
     ),
     (
-        b"CCU1\x01\0f\x02\0\x01\x02\x01\0\0\x02\0\0\0\x16\x2a",
+        b"CCU1\x01\0f\x02\x01\x04\0\x01\0\0\x02\0\0\0\x16\x2a",
+        b"unit not built at 00000012",
+    ),
+    (
+        b"CCU1\x01\0f\x02\0\x01\x03\x01\0\0\x02\0\0\0\x16\x2a",
+        b"unit not built at 00000012",
+    ),
+    (
+        b"CCU1\x01\0f\x02\0\x01\x04\x01\0\0\x02\0\0\0\x16\x2a",
         b"unit not built at 00000012",
     ),
     // A Requires and an Ensures: the start of the body.
@@ -390,11 +366,11 @@ fn assert_code(
 #[test]
 fn what_is_not_built_is_told(rt: HostRuntime) -> Result<(), Fail> {
     let alloc = rt.alloc();
-    for code in &NOT_BUILT[..OF_ONE] {
+    for code in NOT_BUILT {
         assert_code(&rt, alloc, b"\x02", code, b"unit not built at 00000016")?;
     }
-    for code in &NOT_BUILT[OF_ONE..] {
-        assert_code(&rt, alloc, b"\x02\x02", code, b"unit not built at 00000017")?;
+    for code in NOT_BUILT_BEHIND {
+        assert_code(&rt, alloc, b"\x02\x2a", code, b"unit not built at 00000017")?;
     }
     Ok(())
 }

@@ -1,14 +1,14 @@
 //! Words that are no command, and names of files that are not there.
 
 use crate::devices::{Answer, Devices, owned};
-use check_driver::{Command, parse_words};
+use check_driver::{Command, RunWords, parse_words};
 use std::test::Fail;
 
 const USAGE: &[u8] =
     b"cccheck: usage: check FILE.. [--cache F] [--show] | run FILE METHOD ARG.. [--steps N] | list FILE | il FILE METHOD | unit FILE | gen SEED COUNT\n";
 
 /// Word lists that are no command.
-const NO_COMMANDS: [&[&str]; 23] = [
+const NO_COMMANDS: [&[&str]; 46] = [
     &[],
     &["unit"],
     &["unit", "a", "b"],
@@ -28,14 +28,40 @@ const NO_COMMANDS: [&[&str]; 23] = [
     &["il", "a.dll", "M", "N"],
     &["IL", "a.dll", "M"],
     &["check"],
-    &["check", "a.dll", "--show", "--show"],
+    &["check", ""],
+    &["check", "-x"],
+    // These are not there yet.
+    &["check", "a.dll", "--show"],
+    &["check", "a.dll", "b.dll"],
     &["check", "--cache", "F"],
     &["gen", "7", "0"],
+    &["run"],
+    &["run", "a.dll"],
+    &["run", "a.dll", "-M"],
+    &["run", "a.dll", ""],
+    &["run", "-x", "M"],
+    &["run", "", "M"],
+    // Arguments of no form.
+    &["run", "a.dll", "M", ""],
+    &["run", "a.dll", "M", "-0"],
+    &["run", "a.dll", "M", "00"],
+    &["run", "a.dll", "M", "+1"],
+    &["run", "a.dll", "M", "2147483648"],
+    &["run", "a.dll", "M", "-2147483649"],
+    &["run", "a.dll", "M", "[1,true]"],
+    &["run", "a.dll", "M", "[1, 2]"],
+    &["run", "a.dll", "M", "[1,]"],
+    &["run", "a.dll", "M", "@4294967296"],
+    &["run", "a.dll", "M", "1", "@01"],
+    // The number of steps: its form, its limit and its place.
     &["run", "a.dll", "M", "--steps", "03"],
+    &["run", "a.dll", "M", "--steps", "1000000001"],
+    &["run", "a.dll", "M", "--steps", "-1"],
+    &["run", "a.dll", "M", "1", "--steps"],
 ];
 
 /// The commands that name one file.
-const FILE_COMMANDS: [&str; 2] = ["unit", "list"];
+const FILE_COMMANDS: [&str; 3] = ["unit", "list", "check"];
 
 /// Names of missing files, and what is written of each.
 const MISSING: [(&str, &[u8]); 4] = [
@@ -72,6 +98,7 @@ fn a_missing_file_is_named(rt: HostRuntime) -> Result<(), Fail> {
             Devices::new(alloc).assert_answer(&rt, alloc, &[command, name], want)?;
         }
         Devices::new(alloc).assert_answer(&rt, alloc, &["il", name, "M"], want)?;
+        Devices::new(alloc).assert_answer(&rt, alloc, &["run", name, "M"], want)?;
     }
     Ok(())
 }
@@ -79,11 +106,31 @@ fn a_missing_file_is_named(rt: HostRuntime) -> Result<(), Fail> {
 #[test]
 fn a_command_names_its_file_by_its_index(rt: HostRuntime) -> Result<(), Fail> {
     let alloc = rt.alloc();
-    let il = Command::Il(1, 2);
-    let rows: [(&[&str], Command); 3] = [
+    let run = RunWords {
+        file: 1,
+        method: 2,
+        args_end: 3,
+        steps: 1_000_000,
+    };
+    let told = RunWords {
+        args_end: 5,
+        steps: 1_000_000_000,
+        ..run
+    };
+    let rows: [(&[&str], Command); 7] = [
         (&["unit", "a.bin"], Command::Unit(1)),
         (&["list", "a.bin"], Command::List(1)),
-        (&["il", "a.bin", "M"], il),
+        (&["check", "a.bin"], Command::Check(1)),
+        (&["il", "a.bin", "M"], Command::Il(1, 2)),
+        (&["run", "a.bin", "M"], Command::Run(run)),
+        (
+            &["run", "a.bin", "M", "[true]", "-1", "--steps", "1000000000"],
+            Command::Run(told),
+        ),
+        (
+            &["run", "a.bin", "M", "null", "@0"],
+            Command::Run(RunWords { args_end: 5, ..run }),
+        ),
     ];
     for (words, command) in rows {
         let words = owned(alloc, words)?;

@@ -35,7 +35,7 @@ pub enum Step {
 }
 
 /// The operation.
-fn op(alloc: Global, step: Step) -> Result<Op, AllocError> {
+pub fn op(alloc: Global, step: Step) -> Result<Op, AllocError> {
     Ok(match step {
         Step::Nop => Op::Nop,
         Step::LoadArg(number) => Op::LoadArg(number),
@@ -102,7 +102,7 @@ pub fn are_laid_out(instrs: &[Instr]) -> bool
 }
 
 /// A list of places.
-fn places(alloc: Global, places: &[Place]) -> Result<List<Place>, AllocError> {
+pub fn places(alloc: Global, places: &[Place]) -> Result<List<Place>, AllocError> {
     Ok(List::from_vec(Vec::from_slice(alloc, places)?))
 }
 

@@ -1,0 +1,2 @@
+pub mod StateVariables
+pub mod UnitsOfNumbers
