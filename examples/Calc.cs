@@ -49,7 +49,7 @@ namespace Demo
             return count;
         }
 
-        /// <summary>A place of the key among numbers in rising order, or -1 where it is none of them.</summary>
+        /// <summary>An index of the key among numbers in rising order, or -1 where it is none of them.</summary>
         public static int Find(int[] sorted, int key)
         {
             Contract.Requires(sorted != null);
@@ -74,7 +74,7 @@ namespace Demo
             return -1;
         }
 
-        /// <summary>Sets the numbers from a place on to one value.</summary>
+        /// <summary>Sets the numbers from an index on to one value.</summary>
         public static void Fill(int[] numbers, int from, int value)
         {
             Contract.Requires(numbers != null);

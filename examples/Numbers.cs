@@ -11,7 +11,7 @@ namespace Demo
             return a + b;
         }
 
-        /// <summary>The number behind another one, of which nothing is required.</summary>
+        /// <summary>The number after another one, of which nothing is required.</summary>
         public static int Next(int number)
         {
             Contract.Assert(number >= int.MinValue);
