@@ -1,6 +1,6 @@
 //! What the program must answer.
 
-use crate::arguments::{bytes_of, small_number_of, text_of, two_parts, word_of};
+use crate::arguments::{bytes_of, number_of, small_number_of, text_of, two_parts, word_of};
 use crate::wrong::{Stop, stop_at};
 use case_reader::Field;
 use cc_base::NamedFile;
@@ -45,6 +45,7 @@ impl Expected {
             "err_part" => self
                 .err
                 .extend_from_slice(&text_of(alloc, line, field.argument)?)?,
+            "out_nops" => append_nops(alloc, &mut self.out, field)?,
             "asks_none" => self.asked = Some(Vec::new(alloc)),
             "asks" => self.take_asked(alloc, bytes_of(alloc, line, field.argument)?)?,
             "after" => self.take_after(alloc, field)?,
@@ -84,5 +85,14 @@ impl Expected {
 fn append_line(alloc: Global, bytes: &mut Vec<u8>, field: Field<'_>) -> Result<(), Stop> {
     bytes.extend_from_slice(&text_of(alloc, field.line, field.argument)?)?;
     bytes.push(b'\n')?;
+    Ok(())
+}
+
+/// Appends the lines of so many instructions of one byte that do nothing, from the start of a method on.
+fn append_nops(alloc: Global, bytes: &mut Vec<u8>, field: Field<'_>) -> Result<(), Stop> {
+    for at in 0..number_of(alloc, field.line, field.argument)? {
+        let line = format!(in alloc; "IL_{at:04x} nop\n")?;
+        bytes.extend_from_slice(line.as_bytes())?;
+    }
     Ok(())
 }

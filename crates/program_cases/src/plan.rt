@@ -57,26 +57,25 @@ impl OpenPlan {
 }
 
 /// The method of a line `method NAME static|instance RESULT ARGUMENTS LOCALS STACK CODE`. Places are joined by commas, and
-/// `-` stands for none.
+/// `-` stands for none. A method without code has no CODE.
 fn method_of(alloc: Global, field: Field<'_>) -> Result<MethodPlan, Stop> {
     let line = field.line;
     let mut words = field.argument.splitn(7, ' ');
-    let (Some(name), Some(kind), Some(result), Some(args), Some(locals), Some(stack), Some(code)) =
-        (
-            words.next(),
-            words.next(),
-            words.next(),
-            words.next(),
-            words.next(),
-            words.next(),
-            words.next(),
-        ) else {
+    let (Some(name), Some(kind), Some(result), Some(args), Some(locals), Some(stack)) = (
+        words.next(),
+        words.next(),
+        words.next(),
+        words.next(),
+        words.next(),
+        words.next(),
+    ) else {
         return Err(stop_at(
             alloc,
             line,
             "not NAME KIND RESULT ARGUMENTS LOCALS STACK CODE",
         ));
     };
+    let code = words.next().unwrap_or("");
     Ok(MethodPlan {
         name: text_of(alloc, line, name)?,
         is_static: is_static(alloc, line, kind)?,
