@@ -30,8 +30,6 @@ mod heap_rows;
 #[cfg(test)]
 mod image_rows;
 #[cfg(test)]
-mod instruction_rows;
-#[cfg(test)]
 mod machine_rows;
 #[cfg(test)]
 mod model_rows;
