@@ -46,8 +46,6 @@ mod table_rows;
 #[cfg(test)]
 mod typing_rows;
 #[cfg(test)]
-mod unit_form_rows;
-#[cfg(test)]
 mod unit_rows;
 #[cfg(test)]
 mod writer_rows;
