@@ -30,8 +30,6 @@ mod heap_rows;
 #[cfg(test)]
 mod image_rows;
 #[cfg(test)]
-mod instruction_rows;
-#[cfg(test)]
 mod machine_rows;
 #[cfg(test)]
 mod model_rows;
@@ -47,8 +45,6 @@ mod steps;
 mod table_rows;
 #[cfg(test)]
 mod typing_rows;
-#[cfg(test)]
-mod unit_form_rows;
 #[cfg(test)]
 mod unit_rows;
 #[cfg(test)]

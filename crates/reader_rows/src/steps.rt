@@ -3,7 +3,7 @@
 ghost use Rattle.std.specs.Prelude.{◌≡◌, true};
 ghost use Rattle.stack_typer.specs.LaidOut.{AreLaidOut, LieFrom};
 
-use cil_model::{BinOp, CalleeInfo, Instr, List, Op, Place, Shape, Test};
+use cil_model::{CalleeInfo, Instr, List, Op, Place, Shape};
 use std::alloc::{AllocError, Global};
 
 /// An operation in a table.
@@ -11,55 +11,21 @@ use std::alloc::{AllocError, Global};
 pub enum Step {
     Nop,
     LoadArg(u16),
-    StoreArg(u16),
-    LoadLocal(u16),
-    StoreLocal(u16),
-    Null,
-    Const(i32),
-    Dup,
-    Pop,
     Call(u32),
     Return,
-    Goto(u32),
-    Branch(Test, u32),
     Switch(&'static [u32]),
-    Bin(BinOp),
-    Neg,
-    Not,
-    ConvI4,
-    Text,
     NewArray(u32),
-    Length,
-    LoadElem(Place),
-    StoreElem(Place),
 }
 
 /// The operation.
-pub fn op(alloc: Global, step: Step) -> Result<Op, AllocError> {
+fn op(alloc: Global, step: Step) -> Result<Op, AllocError> {
     Ok(match step {
         Step::Nop => Op::Nop,
         Step::LoadArg(number) => Op::LoadArg(number),
-        Step::StoreArg(number) => Op::StoreArg(number),
-        Step::LoadLocal(number) => Op::LoadLocal(number),
-        Step::StoreLocal(number) => Op::StoreLocal(number),
-        Step::Null => Op::Null,
-        Step::Const(number) => Op::Const(number),
-        Step::Dup => Op::Dup,
-        Step::Pop => Op::Pop,
         Step::Call(number) => Op::Call(number),
         Step::Return => Op::Return,
-        Step::Goto(at) => Op::Branch(Test::Always, at),
-        Step::Branch(test, at) => Op::Branch(test, at),
         Step::Switch(targets) => Op::Switch(List::from_vec(Vec::from_slice(alloc, targets)?)),
-        Step::Bin(operator) => Op::Bin(operator),
-        Step::Neg => Op::Neg,
-        Step::Not => Op::Not,
-        Step::ConvI4 => Op::ConvI4,
-        Step::Text => Op::Text(0x7000_0001),
         Step::NewArray(number) => Op::NewArray(number),
-        Step::Length => Op::Length,
-        Step::LoadElem(place) => Op::LoadElem(place),
-        Step::StoreElem(place) => Op::StoreElem(place),
     })
 }
 
