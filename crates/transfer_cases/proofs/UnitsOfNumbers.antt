@@ -1,0 +1,38 @@
+-- Units that were read, whose states flow along their edges.
+use Rattle.std.proofs.Common.{◌≡◌, ℕ, ◌<◌, true, List, [], length, filter, subst}
+use Rattle.std.specs.Prelude.{nat_le}
+use Rattle.std.specs.List.{AllByRecursion}
+use Rattle.cil_model.specs.FitKinds.{HasBody}
+use Rattle.cil_model.specs.Passes.{KindsOf, Stacks}
+use Rattle.cil_model.specs.Shapes.{shape_of}
+use Rattle.cil_model.specs.declared.unit.Unit.{Unit as MethodUnit}
+use Rattle.stack_typer.proofs.Unique.{kinds_once}
+use Rattle.method_unit.specs.Units.{CanRun, IsUnit}
+use Rattle.abs_state.specs.FrameFacts.{State}
+use Rattle.transfer_rules.specs.Acts.{is_told}
+use Rattle.transfer_rules.specs.Entry.{HoldsNumber}
+use Rattle.transfer_rules.specs.Flow.{Fits, GivesNumber, IsOfNumbers}
+use Rattle.transfer_rules.specs.Inductive.{HasShape, state_at}
+use Rattle.transfer_rules.specs.declared.unit_flow.UnitFlow.{UnitFlow}
+
+-- The kinds of code are one.
+pub body_of_kinds : (unit : MethodUnit) → CanRun unit → (stacks : Stacks) → KindsOf (shape_of unit) unit.instrs stacks → HasBody unit.instrs stacks unit.body_start
+body_of_kinds unit runs stacks kinds =
+    subst (λ (found : Stacks). HasBody unit.instrs found unit.body_start) (kinds_once (shape_of unit) unit.instrs runs.stacks stacks runs.kinds kinds) runs.body
+
+pub of_numbers : (unit : MethodUnit) → IsUnit unit → AllByRecursion HoldsNumber unit.args → AllByRecursion HoldsNumber unit.locals → GivesNumber unit.result
+    → unit.clauses ≡ [] → unit.callees ≡ []
+    → AllByRecursion (λ i. is_told i.op ≡ true) (filter (λ i. nat_le unit.body_start i.at) unit.instrs) → IsOfNumbers unit
+of_numbers unit is args locals result clauses callees told = record {
+  formed = is.well_formed;
+  variables = record { args = args; locals = locals };
+  result = result;
+  clauses = clauses;
+  callees = callees;
+  told = told;
+}
+
+pub fits_its_block : (code : UnitFlow) (states : List State) (block : ℕ) → HasShape code states → block < length states → Fits code block (state_at states block)
+fits_its_block code states block shape below = shape.fit block below
+
+pub ruleset units = (body_of_kinds, of_numbers, fits_its_block)
