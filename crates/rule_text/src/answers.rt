@@ -42,7 +42,10 @@ pub fn check(found: String, told: &str) -> Result<(), Failure> {
 
 /// The same of an answer that is `yes` or `no`.
 pub fn check_yes(alloc: Global, found: bool, told: &str) -> Result<(), Failure> {
-    check(String::from_str(alloc, if found { "yes" } else { "no" })?, told)
+    check(
+        String::from_str(alloc, if found { "yes" } else { "no" })?,
+        told,
+    )
 }
 
 /// The same of a state.

@@ -2,11 +2,10 @@
 
 use crate::failure::Failure;
 use case_reader::{Case, CaseFile, Field, read_cases};
-use cc_base::Refusal;
 use std::alloc::Global;
 use std::process::ExitCode;
 use std::rt::{Env, Files};
-use std::{env, fs, io};
+use std::{env, fmt, fs, io};
 
 /// What a line of a case was for.
 #[derive(Clone, Copy, Debug, PartialEq, Eq)]
@@ -104,7 +103,15 @@ impl<R: Rules> CaseRun<R> {
     /// Takes the lines of a case. A line `from NAME` stands for those of the base of this name.
     fn take_case(&mut self, case: &Case<'_>, bases: &[Case<'_>]) -> Result<(), Wrong> {
         let mut fields = case.fields.as_slice();
-        if let [Field { line, keyword: "from", argument }, others @ ..] = fields {
+        if let [
+            Field {
+                line,
+                keyword: "from",
+                argument,
+            },
+            others @ ..,
+        ] = fields
+        {
             let Some(base) = bases.iter().find(|base| base.name == *argument) else {
                 return Err(Wrong {
                     line: *line,
@@ -132,11 +139,7 @@ fn tell(rt: &(impl Print + Eprint), text: &str) -> io::Result<()> {
 }
 
 /// Runs a case. Answers how many answers it tells, or what is wrong.
-fn run_case<R: Rules>(
-    alloc: Global,
-    case: &Case<'_>,
-    bases: &[Case<'_>],
-) -> Result<u64, Wrong> {
+fn run_case<R: Rules>(alloc: Global, case: &Case<'_>, bases: &[Case<'_>]) -> Result<u64, Wrong> {
     let mut run: CaseRun<R> = CaseRun {
         rules: R::new(alloc),
         answers: 0,
@@ -160,8 +163,10 @@ fn run_cases<R: Rules>(
             Ok(more) => answers = answers.saturating_add(more),
             Err(wrong) => {
                 failed = failed.saturating_add(1);
-                let text =
-                    format!(in alloc; "{name}:{}: {}: {}", wrong.line, case.name, wrong.failure)?;
+                let text = format!(in alloc;
+                    "{name}:{}: {}: {}",
+                    wrong.line, case.name, wrong.failure
+                )?;
                 tell(rt, &text)?;
             }
         }
@@ -173,27 +178,34 @@ fn run_cases<R: Rules>(
     })
 }
 
-/// Reads a file of cases and runs them. A file that cannot be read as cases is one failure.
-fn run_file<R: Rules>(
-    rt: &(impl Print + Eprint + Files + AllocGlobal),
-    alloc: Global,
-    name: &str,
-) -> io::Result<Tally> {
-    let text = fs::read(rt, name)?;
-    let unread = match std::str::from_utf8(&text) {
-        Err(_) => format!(in alloc; "{name}: not UTF-8")?,
-        Ok(text) => match read_cases(alloc, text) {
-            Ok(file) => return run_cases::<R>(rt, alloc, name, &file),
-            Err(Refusal::Bad(fault)) => format!(in alloc; "{name}: {fault}")?,
-            Err(Refusal::NoMemory) => format!(in alloc; "{name}: no memory")?,
-        },
-    };
-    tell(rt, &unread)?;
+/// Tells that a file is not run, which is one failure.
+fn unread(rt: &(impl Print + Eprint), name: &str, why: &(impl fmt::Display)) -> io::Result<Tally> {
+    println!(rt; "{name}: {why}")?;
+    eprintln!(rt; "{name}: {why}")?;
     Ok(Tally {
         cases: 0,
         answers: 0,
         failed: 1,
     })
+}
+
+/// Reads a file of cases and runs them.
+fn run_file<R: Rules>(
+    rt: &(impl Print + Eprint + Files + AllocGlobal),
+    alloc: Global,
+    name: &str,
+) -> io::Result<Tally> {
+    let bytes = match fs::read(rt, name) {
+        Ok(bytes) => bytes,
+        Err(error) => return unread(rt, name, &error),
+    };
+    let Ok(text) = std::str::from_utf8(&bytes) else {
+        return unread(rt, name, &"not UTF-8");
+    };
+    match read_cases(alloc, text) {
+        Ok(file) => run_cases::<R>(rt, alloc, name, &file),
+        Err(refusal) => unread(rt, name, &refusal),
+    }
 }
 
 /// Runs the files of cases that the program's words name. Answers whether no case failed.
@@ -202,7 +214,10 @@ fn run_words<R: Rules>(rt: &(impl Print + Eprint + Files + Env + AllocGlobal)) -
     let mut failed = 0u64;
     for name in env::args(rt)?.skip(1) {
         let tally = run_file::<R>(rt, rt.alloc(), &name)?;
-        println!(rt; "{name}: {} cases, {} answers, {} failed", tally.cases, tally.answers, tally.failed)?;
+        println!(rt;
+            "{name}: {} cases, {} answers, {} failed",
+            tally.cases, tally.answers, tally.failed
+        )?;
         cases = cases.saturating_add(tally.cases);
         failed = failed.saturating_add(tally.failed);
     }
@@ -211,7 +226,8 @@ fn run_words<R: Rules>(rt: &(impl Print + Eprint + Files + Env + AllocGlobal)) -
 }
 
 /// Runs the files of cases that the program's words name, and tells each failure and how many cases there were. The
-/// status is 0 where there were cases and none failed, 1 where some did, and 2 where a file was not read.
+/// status is 0 where there were cases and none failed, 1 where one did or a file was not read, and 2 where nothing could be
+/// told.
 pub fn run_files<R: Rules>(rt: &(impl Print + Eprint + Files + Env + AllocGlobal)) -> ExitCode {
     match run_words::<R>(rt) {
         Ok(true) => ExitCode::from(0),

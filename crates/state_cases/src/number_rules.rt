@@ -146,7 +146,11 @@ pub fn fresh(alloc: Global, argument: &str) -> Result<(), Failure> {
     let (lo, hi, hole) = three_words(question)?;
     let hole = match hole {
         "-" => None,
-        _ => Some(hole.parse::<i64>().ok().ok_or(Failure::Unread("a hole, or -"))?),
+        _ => Some(
+            hole.parse::<i64>()
+                .ok()
+                .ok_or(Failure::Unread("a hole, or -"))?,
+        ),
     };
     match (lo.parse::<i64>(), hi.parse::<i64>()) {
         (Ok(lo), Ok(hi)) => check(fresh_text(alloc, lo, hi, hole)?, told),

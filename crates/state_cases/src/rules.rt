@@ -42,7 +42,10 @@ impl StateRules {
             "left-not" => number_rules::left_where(alloc, argument, false),
             "made" => state_rules::made(alloc, argument),
             "refused" => state_rules::refused(alloc, argument),
-            _ => self.ask_state(keyword, argument),
+            "after" | "differs" | "leq" | "ends" | "gap" | "paired-gap" => {
+                self.ask_state(keyword, argument)
+            }
+            _ => Err(Failure::Unread("a keyword")),
         }
     }
 
@@ -56,11 +59,10 @@ impl StateRules {
             "leq" => state_rules::leq(alloc, state, argument),
             "ends" => state_rules::ends(alloc, state, argument),
             "gap" => state_rules::gap(alloc, &state_rules::numbers_of(alloc, state)?, argument),
-            "paired-gap" => {
+            _ => {
                 let pair = state_rules::paired(alloc, state, current(&self.beside)?)?;
                 state_rules::gap(alloc, &pair, argument)
             }
-            _ => Err(Failure::Unread("a keyword")),
         }
     }
 
@@ -105,8 +107,16 @@ impl Rules for StateRules {
                 self.beside = Some(state(self.alloc, argument)?);
                 Ok(Line::Setting)
             }
-            "push" | "pop" | "put" | "arith" | "compare" | "assume" | "assume-not" | "norm"
-            | "join" | "widen" => self.step(keyword, argument),
+            "push"
+            | "pop"
+            | "put"
+            | "arith"
+            | "compare"
+            | "assume"
+            | "assume-not"
+            | "norm"
+            | "join"
+            | "widen" => self.step(keyword, argument),
             _ => {
                 self.ask(keyword, argument)?;
                 Ok(Line::Answer)

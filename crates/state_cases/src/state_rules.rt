@@ -4,8 +4,8 @@ use abs_state::AbsState;
 use domain_api::{Expr, Lattice, Order, Paired};
 use number_facts::Numbers;
 use rule_text::{
-    Failure, append_wide_range, are_alike, asked, check, check_yes, comparison, has_symbol, is_number,
-    may_operate, number, operator, parts, place, state, state_text, three_words,
+    Failure, append_wide_range, are_alike, asked, check, check_yes, comparison, has_symbol,
+    is_number, may_operate, number, operator, parts, place, state, state_text, three_words,
     variable_there,
 };
 use std::alloc::Global;
@@ -169,7 +169,11 @@ pub fn numbers_of(alloc: Global, state: &AbsState) -> Result<Numbers, Failure> {
 }
 
 /// `paired 0..5 6..9`: the knowledge of two states side by side.
-pub fn paired(alloc: Global, a: &AbsState, b: &AbsState) -> Result<Paired<Numbers, Numbers>, Failure> {
+pub fn paired(
+    alloc: Global,
+    a: &AbsState,
+    b: &AbsState,
+) -> Result<Paired<Numbers, Numbers>, Failure> {
     Ok(Paired {
         first: numbers_of(alloc, a)?,
         second: numbers_of(alloc, b)?,

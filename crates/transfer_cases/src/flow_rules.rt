@@ -1,11 +1,12 @@
 //! The rules on states that flow along the edges of units.
 
-use crate::flows::Flow;
+ghost use Rattle.transfer_rules.specs.Flow.{IsLawful};
+
 use abs_state::AbsState;
 use domain_api::{FlowState, Ticks};
 use rule_text::Failure;
 use std::alloc::Global;
-use transfer_rules::{UnitState, has_shape, inductive};
+use transfer_rules::{UnitFlow, UnitState, has_shape};
 
 /// States of so many blocks of which one alone may be reached.
 fn states_at(
@@ -29,27 +30,29 @@ fn states_at(
 #[tactic(auto, using(crate::proofs::UnitsOfNumbers::units))]
 pub fn along_edge(
     alloc: Global,
-    flow: &Flow,
+    code: &UnitFlow,
     state: &AbsState,
     argument: &str,
-) -> Result<AbsState, Failure> {
+) -> Result<AbsState, Failure>
+    requires { IsLawful code.now }
+{
     let Ok(edge) = argument.parse::<u32>() else {
         return Err(Failure::Unread("the number of an edge"));
     };
-    let edges = flow.code.graph.edges.as_slice();
+    let edges = code.graph.edges.as_slice();
     if edge as usize >= edges.len() {
         return Err(Failure::Unmet("the edge is there"));
     }
     let from = edges[edge as usize].from as usize;
-    let states = states_at(alloc, flow.code.graph.blocks.as_slice().len(), from, state)?;
-    if !has_shape(&flow.code, states.as_slice()) || from >= states.len() {
+    let states = states_at(alloc, code.graph.blocks.as_slice().len(), from, state)?;
+    if !has_shape(code, states.as_slice()) || from >= states.len() {
         return Err(Failure::Unmet("the state fits the edge's begin"));
     }
     let state = UnitState {
         state: states[from].copy(alloc)?,
     };
     let mut meter = Ticks { count: 0 };
-    let behind = state.along_edge(alloc, &flow.code, edge, &mut meter)?;
+    let behind = state.along_edge(alloc, code, edge, &mut meter)?;
     if meter.count != 1 {
         return Err(Failure::Found(format!(in alloc; "{} ticks", meter.count)?));
     }
@@ -57,27 +60,21 @@ pub fn along_edge(
 }
 
 /// `unknown 2`: the state of a block about which nothing is known.
-pub fn unknown(alloc: Global, flow: &Flow, argument: &str) -> Result<AbsState, Failure> {
+pub fn unknown(alloc: Global, code: &UnitFlow, argument: &str) -> Result<AbsState, Failure>
+    requires { IsLawful code.now }
+{
     let Ok(block) = argument.parse::<u32>() else {
         return Err(Failure::Unread("the number of a block"));
     };
-    if block as usize >= flow.code.graph.blocks.as_slice().len() {
+    if block as usize >= code.graph.blocks.as_slice().len() {
         return Err(Failure::Unmet("the block is there"));
     }
-    Ok(UnitState::unknown(alloc, &flow.code, block)?.state)
+    Ok(UnitState::unknown(alloc, code, block)?.state)
 }
 
 /// The state where a unit begins.
-pub fn entry(alloc: Global, flow: &Flow) -> Result<AbsState, Failure> {
-    Ok(UnitState::entry(alloc, &flow.code)?.state)
-}
-
-/// Whether there is a state for each block, and it fits.
-pub fn are_of_shape(flow: &Flow, states: &[AbsState]) -> bool {
-    has_shape(&flow.code, states)
-}
-
-/// Whether the states are an invariant.
-pub fn are_inductive(alloc: Global, flow: &Flow, states: &[AbsState]) -> Result<bool, Failure> {
-    Ok(inductive(alloc, &flow.code, states)?)
+pub fn entry(alloc: Global, code: &UnitFlow) -> Result<AbsState, Failure>
+    requires { IsLawful code.now }
+{
+    Ok(UnitState::entry(alloc, code)?.state)
 }

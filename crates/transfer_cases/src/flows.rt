@@ -1,6 +1,6 @@
 //! Units of numbers, with their graphs and kinds.
 
-ghost use Rattle.std.specs.Prelude.{◌≡◌, filter, nat_le, true, IfOk, OnOk};
+ghost use Rattle.std.specs.Prelude.{◌≡◌, filter, nat_le, true, IfOk};
 ghost use Rattle.std.specs.List.{AllByRecursion};
 ghost use Rattle.method_unit.specs.Units.{CanRun, IsUnit};
 ghost use Rattle.transfer_rules.specs.Acts.{is_told};
@@ -8,20 +8,12 @@ ghost use Rattle.transfer_rules.specs.Entry.{HoldsNumber};
 ghost use Rattle.transfer_rules.specs.Flow.{GivesNumber, IsLawful, IsOfNumbers};
 
 use crate::premises::is_op_told;
-use case_reader::bytes_of_hex;
 use cc_base::Refusal;
 use cil_model::{Instr, Place, Unit};
 use method_unit::read_unit;
 use rule_text::Failure;
 use std::alloc::Global;
 use transfer_rules::UnitFlow;
-
-/// A unit whose states can be told, with its graph and its kinds.
-#[derive(Drop)]
-pub struct Flow {
-    pub code: UnitFlow,
-    ghost lawful: { IsLawful code },
-}
 
 /// Whether a place of this type holds a number.
 fn holds_number(place: Place) -> bool
@@ -93,21 +85,14 @@ fn unit_of(alloc: Global, file: &[u8]) -> Result<Unit, Failure>
     }
 }
 
-/// The same with its graph and its kinds.
+/// The unit of a file, with its graph and its kinds.
 #[tactic(auto, using(crate::proofs::UnitsOfNumbers::units))]
-fn flow_of(alloc: Global, file: &[u8]) -> Result<Flow, Failure> {
+pub fn flow_of(alloc: Global, file: &[u8]) -> Result<UnitFlow, Failure>
+    ensures { IfOk result IsLawful }
+{
     let unit = unit_of(alloc, file)?;
     if !is_of_numbers(&unit) {
         return Err(Failure::Unmet("the unit is one of numbers"));
     }
-    let code = UnitFlow::of(alloc, unit)?;
-    Ok(Flow { code })
-}
-
-/// The unit of a file that is written as hexadecimal text.
-pub fn read_flow(alloc: Global, text: &str) -> Result<Flow, Failure> {
-    match bytes_of_hex(alloc, text)? {
-        Some(file) => flow_of(alloc, file.as_slice()),
-        None => Err(Failure::Unread("hexadecimal text")),
-    }
+    Ok(UnitFlow::of(alloc, unit)?)
 }

@@ -70,13 +70,7 @@ pub fn count_read(unit: &Unit, op: &Op) -> u64
         Op::LoadArg(n) | Op::StoreArg(n) => args + u64::from(*n) + 1,
         Op::LoadLocal(n) | Op::StoreLocal(n) => args + args + u64::from(*n) + 1,
         Op::Dup | Op::Call(_) | Op::Switch(_) | Op::Neg | Op::Not => 1,
-        Op::Return => {
-            if unit.result == Place::Void {
-                0
-            } else {
-                1
-            }
-        }
+        Op::Return => { if unit.result == Place::Void { 0 } else { 1 } }
         Op::Branch(Test::Always, _) => 0,
         Op::Branch(Test::Cmp(_), _) | Op::Bin(_) => 2,
         Op::Branch(_, _) => 1,

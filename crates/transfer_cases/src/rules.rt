@@ -1,13 +1,17 @@
 //! The rules, by the keywords of cases.
 
-use crate::flows::{Flow, read_flow};
+ghost use Rattle.std.specs.Prelude.{IfOk};
+ghost use Rattle.transfer_rules.specs.Flow.{IsLawful};
+
+use crate::flows::flow_of;
 use crate::methods::{append, read_method};
 use crate::{flow_rules, instruction_rules, obligation_rules};
 use abs_state::AbsState;
+use case_reader::bytes_of_hex;
 use cil_model::{Instr, List, Unit};
 use rule_text::{Failure, Line, Rules, check_state, check_yes, operation, state};
 use std::alloc::Global;
-use transfer_rules::entry_state;
+use transfer_rules::{UnitFlow, entry_state, has_shape, inductive};
 
 /// The state of a case that is run.
 #[derive(Drop)]
@@ -15,8 +19,9 @@ pub struct TransferRules {
     alloc: Global,
     /// The method whose instructions are asked for.
     method: Option<Unit>,
-    /// The unit along whose edges states flow.
-    flow: Option<Flow>,
+    /// The file of the unit along whose edges states flow. It is read again at each line, since a field does not keep
+    /// that the states of a unit can be told.
+    file: Option<Vec<u8>>,
     /// What its steps made of the state before them.
     state: Option<AbsState>,
     /// The states of the unit's blocks, in order.
@@ -36,8 +41,20 @@ impl TransferRules {
         there(&self.method, "a method before this line")
     }
 
-    fn the_flow(&self) -> Result<&Flow, Failure> {
-        there(&self.flow, "a unit before this line")
+    fn the_flow(&self) -> Result<UnitFlow, Failure>
+        ensures { IfOk result IsLawful }
+    {
+        match &self.file {
+            Some(file) => flow_of(self.alloc, file.as_slice()),
+            None => Err(Failure::Unread("a unit before this line")),
+        }
+    }
+
+    /// `unit 43435531..`: the unit of a file that is written as hexadecimal text.
+    fn set_unit(&mut self, argument: &str) -> Result<(), Failure> {
+        self.file = bytes_of_hex(self.alloc, argument)?;
+        let _unit = self.the_flow()?;
+        Ok(())
     }
 
     fn the_state(&self) -> Result<&AbsState, Failure> {
@@ -74,8 +91,8 @@ impl TransferRules {
     fn first_state(&self, keyword: &str, argument: &str) -> Result<AbsState, Failure> {
         match keyword {
             "before" => state(self.alloc, argument),
-            "unknown" => flow_rules::unknown(self.alloc, self.the_flow()?, argument),
-            "unit-entry" => flow_rules::entry(self.alloc, self.the_flow()?),
+            "unknown" => flow_rules::unknown(self.alloc, &self.the_flow()?, argument),
+            "unit-entry" => flow_rules::entry(self.alloc, &self.the_flow()?),
             _ => Ok(entry_state(self.alloc, self.the_method()?)?),
         }
     }
@@ -84,7 +101,7 @@ impl TransferRules {
     fn next_state(&self, keyword: &str, argument: &str) -> Result<AbsState, Failure> {
         let state = self.the_state()?;
         match keyword {
-            "edge" => flow_rules::along_edge(self.alloc, self.the_flow()?, state, argument),
+            "edge" => flow_rules::along_edge(self.alloc, &self.the_flow()?, state, argument),
             _ => instruction_rules::behind(self.alloc, state, self.the_method()?, argument),
         }
     }
@@ -100,12 +117,11 @@ impl TransferRules {
             "entails" => obligation_rules::is_entailed(alloc, self.the_state()?, argument),
             "obligations" => obligation_rules::listed(alloc, self.the_method()?, argument),
             "shape" => {
-                let found = flow_rules::are_of_shape(self.the_flow()?, self.states.as_slice());
+                let found = has_shape(&self.the_flow()?, self.states.as_slice());
                 check_yes(alloc, found, argument)
             }
             "inductive" => {
-                let states = self.states.as_slice();
-                let found = flow_rules::are_inductive(alloc, self.the_flow()?, states)?;
+                let found = inductive(alloc, &self.the_flow()?, self.states.as_slice())?;
                 check_yes(alloc, found, argument)
             }
             _ => Err(Failure::Unread("a keyword")),
@@ -118,7 +134,7 @@ impl Rules for TransferRules {
         TransferRules {
             alloc,
             method: None,
-            flow: None,
+            file: None,
             state: None,
             states: Vec::new(alloc),
         }
@@ -127,7 +143,7 @@ impl Rules for TransferRules {
     fn take(&mut self, keyword: &str, argument: &str) -> Result<Line, Failure> {
         match keyword {
             "method" => self.method = Some(read_method(self.alloc, argument)?),
-            "unit" => self.flow = Some(read_flow(self.alloc, argument)?),
+            "unit" => self.set_unit(argument)?,
             "code" => self.set_code(argument)?,
             "body" => self.set_body(argument)?,
             "at" => self.states.push(state(self.alloc, argument)?)?,
