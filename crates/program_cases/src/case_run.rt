@@ -1,0 +1,187 @@
+//! Running a case: one call of the program, or several on the same devices.
+
+use crate::arguments::{number_of, two_parts, word_of};
+use crate::devices::CaseSink;
+use crate::difference::difference;
+use crate::expected::Expected;
+use crate::given::Given;
+use crate::wrong::{Stop, Wrong, stop_at};
+use case_reader::{Case, Field};
+use check_driver::run_words;
+use std::alloc::{AllocError, Global};
+use widening_engine::Plain;
+
+/// The devices of a case, and what was read of its next call.
+#[derive(Drop)]
+struct Script {
+    alloc: Global,
+    given: Given,
+    out: CaseSink,
+    err: CaseSink,
+    finder: Plain,
+    words: Vec<String>,
+    expected: Expected,
+}
+
+/// What is wrong with the case or with an answer to it, if anything is.
+pub fn run_case(
+    alloc: Global,
+    bases: &[Case<'_>],
+    case: &Case<'_>,
+) -> Result<Option<Wrong>, AllocError> {
+    match try_case(alloc, bases, case) {
+        Ok(()) => Ok(None),
+        Err(Stop::Wrong(it)) => Ok(Some(it)),
+        Err(Stop::NoMemory) => Err(AllocError),
+    }
+}
+
+fn try_case(alloc: Global, bases: &[Case<'_>], case: &Case<'_>) -> Result<(), Stop> {
+    let mut script = Script {
+        alloc,
+        given: Given::new(alloc),
+        out: CaseSink::new(alloc),
+        err: CaseSink::new(alloc),
+        finder: Plain::new(alloc),
+        words: Vec::new(alloc),
+        expected: Expected::new(alloc),
+    };
+    for field in &case.fields {
+        script.take(bases, *field)?;
+    }
+    script.call(case.line)
+}
+
+impl Script {
+    /// Takes one more line.
+    fn take(&mut self, bases: &[Case<'_>], field: Field<'_>) -> Result<(), Stop> {
+        if self.given.take(self.alloc, field)? || self.expected.take(self.alloc, field)? {
+            return Ok(());
+        }
+        match field.keyword {
+            "words" => self.take_words(field),
+            "word" => self.take_word(field.line, field.argument),
+            "copy" => self.given.copy(self.alloc, bases, field),
+            "fails" => self.take_failing(field),
+            "lacks" => self.take_lacking(field),
+            "then" => self.call(field.line),
+            _ => Err(stop_at(self.alloc, field.line, "an unknown keyword")),
+        }
+    }
+
+    /// Words that stand on one line, parted by blanks.
+    fn take_words(&mut self, field: Field<'_>) -> Result<(), Stop> {
+        for word in field.argument.split(' ') {
+            self.take_word(field.line, word)?;
+        }
+        Ok(())
+    }
+
+    fn take_word(&mut self, line: u64, text: &str) -> Result<(), Stop> {
+        self.words.push(word_of(self.alloc, line, text)?)?;
+        Ok(())
+    }
+
+    /// `fails DEVICE N`: the call of the device with this number, from 1, fails.
+    fn take_failing(&mut self, field: Field<'_>) -> Result<(), Stop> {
+        let (device, number) = two_parts(self.alloc, field)?;
+        let number = number_of(self.alloc, field.line, number)? as u64;
+        let numbers = match device {
+            "read" => &mut self.given.files.files.fail_reads,
+            "replace" => &mut self.given.files.files.fail_replaces,
+            "out" => &mut self.out.sink.fail_puts,
+            "err" => &mut self.err.sink.fail_puts,
+            _ => return Err(stop_at(self.alloc, field.line, "an unknown device")),
+        };
+        numbers.push(number)?;
+        Ok(())
+    }
+
+    /// `lacks DEVICE N`: the call of the device with this number, from 1, lacks memory.
+    fn take_lacking(&mut self, field: Field<'_>) -> Result<(), Stop> {
+        let (device, number) = two_parts(self.alloc, field)?;
+        let number = number_of(self.alloc, field.line, number)? as u64;
+        let numbers = match device {
+            "read" => &mut self.given.files.lacking,
+            "out" => &mut self.out.lacking,
+            "err" => &mut self.err.lacking,
+            _ => return Err(stop_at(self.alloc, field.line, "an unknown device")),
+        };
+        numbers.push(number)?;
+        Ok(())
+    }
+
+    /// Calls the program, compares its answer, and begins anew with the words and answers of a next call. The line is one
+    /// to tell where the case has no better.
+    fn call(&mut self, line: u64) -> Result<(), Stop> {
+        self.given.close(self.alloc)?;
+        let replaces = self.given.files.files.replaces;
+        let status = run_words(
+            self.alloc,
+            &self.words,
+            &mut self.given.files,
+            &mut self.out,
+            &mut self.err,
+            &mut self.finder,
+        );
+        let Some((line, wanted)) = self.expected.status else {
+            return Err(stop_at(self.alloc, line, "the case has no status"));
+        };
+        if status != wanted {
+            let text = format!(in self.alloc; "status {status}")?;
+            return Err(Stop::Wrong(Wrong { line, text }));
+        }
+        self.compare_text(line)?;
+        self.compare_asked(line)?;
+        self.compare_files(line, replaces)?;
+        self.words = Vec::new(self.alloc);
+        self.expected = Expected::new(self.alloc);
+        self.out.sink.bytes.clear();
+        self.err.sink.bytes.clear();
+        self.finder = Plain::new(self.alloc);
+        Ok(())
+    }
+
+    fn compare_text(&self, line: u64) -> Result<(), Stop> {
+        let out = self.out.sink.bytes.as_slice();
+        if out != self.expected.out.as_slice() {
+            let text = difference(self.alloc, "out", &self.expected.out, out)?;
+            return Err(Stop::Wrong(Wrong { line, text }));
+        }
+        let err = self.err.sink.bytes.as_slice();
+        if err != self.expected.err.as_slice() {
+            let text = difference(self.alloc, "err", &self.expected.err, err)?;
+            return Err(Stop::Wrong(Wrong { line, text }));
+        }
+        Ok(())
+    }
+
+    fn compare_asked(&self, line: u64) -> Result<(), Stop> {
+        let Some(wanted) = &self.expected.asked else {
+            return Ok(());
+        };
+        if wanted.len() != self.finder.asked.len() {
+            return Err(stop_at(self.alloc, line, "another number of units is asked for"));
+        }
+        for (want, have) in wanted.iter().zip(&self.finder.asked) {
+            if want.as_slice() != have.as_slice() {
+                return Err(stop_at(self.alloc, line, "another unit is asked for"));
+            }
+        }
+        Ok(())
+    }
+
+    /// Without lines that say what files hold after the call, none may be replaced.
+    fn compare_files(&self, line: u64, replaces: u64) -> Result<(), Stop> {
+        let files = &self.given.files.files;
+        if self.expected.after.is_empty() && files.replaces != replaces {
+            return Err(stop_at(self.alloc, line, "a file is replaced"));
+        }
+        for file in &self.expected.after {
+            if files.get(file.name.as_str()) != Some(file.bytes.as_slice()) {
+                return Err(stop_at(self.alloc, line, "a file holds other bytes after the call"));
+            }
+        }
+        Ok(())
+    }
+}

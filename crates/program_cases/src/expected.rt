@@ -1,0 +1,98 @@
+//! What the program must answer.
+
+use crate::arguments::{bytes_of, number_of, small_number_of, text_of, two_parts, word_of};
+use crate::wrong::{Stop, stop_at};
+use case_reader::Field;
+use cc_base::NamedFile;
+use std::alloc::Global;
+
+/// What a call must answer, as far as its lines were read.
+#[derive(Drop)]
+pub struct Expected {
+    /// The status and the line that has it.
+    pub status: Option<(u64, u8)>,
+    /// What is written to the output.
+    pub out: Vec<u8>,
+    /// What is written to the errors.
+    pub err: Vec<u8>,
+    /// The bytes of the units that the finder is asked for, in order, where the case tells them.
+    pub asked: Option<Vec<Vec<u8>>>,
+    /// Files that hold other bytes after the call than before it.
+    pub after: Vec<NamedFile>,
+}
+
+impl Expected {
+    pub fn new(alloc: Global) -> Expected {
+        Expected {
+            status: None,
+            out: Vec::new(alloc),
+            err: Vec::new(alloc),
+            asked: None,
+            after: Vec::new(alloc),
+        }
+    }
+
+    /// Takes a line that says what the answer is. Answers whether it is one.
+    pub fn take(&mut self, alloc: Global, field: Field<'_>) -> Result<bool, Stop> {
+        let line = field.line;
+        match field.keyword {
+            "status" => self.take_status(alloc, field)?,
+            "out" => append_line(alloc, &mut self.out, field)?,
+            "err" => append_line(alloc, &mut self.err, field)?,
+            "out_part" => self
+                .out
+                .extend_from_slice(&text_of(alloc, line, field.argument)?)?,
+            "err_part" => self
+                .err
+                .extend_from_slice(&text_of(alloc, line, field.argument)?)?,
+            "out_nops" => append_nops(alloc, &mut self.out, field)?,
+            "asks_none" => self.asked = Some(Vec::new(alloc)),
+            "asks" => self.take_asked(alloc, bytes_of(alloc, line, field.argument)?)?,
+            "after" => self.take_after(alloc, field)?,
+            _ => return Ok(false),
+        }
+        Ok(true)
+    }
+
+    fn take_status(&mut self, alloc: Global, field: Field<'_>) -> Result<(), Stop> {
+        if self.status.is_some() {
+            return Err(stop_at(alloc, field.line, "a second status"));
+        }
+        let status = small_number_of(alloc, field.line, field.argument)?;
+        self.status = Some((field.line, status));
+        Ok(())
+    }
+
+    fn take_asked(&mut self, alloc: Global, unit: Vec<u8>) -> Result<(), Stop> {
+        match &mut self.asked {
+            Some(units) => units.push(unit)?,
+            None => self.asked = Some(vec![in alloc; unit]?),
+        }
+        Ok(())
+    }
+
+    /// `after NAME HEX`: what the file holds after the call.
+    fn take_after(&mut self, alloc: Global, field: Field<'_>) -> Result<(), Stop> {
+        let (name, hex) = two_parts(alloc, field)?;
+        let name = word_of(alloc, field.line, name)?;
+        let bytes = bytes_of(alloc, field.line, hex)?;
+        self.after.push(NamedFile { name, bytes })?;
+        Ok(())
+    }
+}
+
+/// Appends the text of a line, and a line feed.
+fn append_line(alloc: Global, bytes: &mut Vec<u8>, field: Field<'_>) -> Result<(), Stop> {
+    bytes.extend_from_slice(&text_of(alloc, field.line, field.argument)?)?;
+    bytes.push(b'\n')?;
+    Ok(())
+}
+
+/// Appends the lines of so many instructions of one byte that do nothing, from the start of a method on.
+fn append_nops(alloc: Global, bytes: &mut Vec<u8>, field: Field<'_>) -> Result<(), Stop> {
+    for at in 0..number_of(alloc, field.line, field.argument)? {
+        let line = format!(in alloc; "IL_{at:04x} nop\n")?;
+        bytes.extend_from_slice(line.as_bytes())?;
+    }
+    Ok(())
+}

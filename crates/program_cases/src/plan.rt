@@ -1,0 +1,117 @@
+//! Assemblies that a case describes: `assembly FILE NAMESPACE CLASS`, or `wide_assembly`, and a line for each method.
+
+use crate::arguments::{bytes_of, small_number_of, text_of, word_of};
+use crate::wrong::{Stop, stop_at};
+use asm_writer::{AsmPlan, MethodPlan, WriteRefusal, write_assembly};
+use case_reader::Field;
+use cil_model::Place;
+use std::alloc::Global;
+
+/// An assembly that is being described.
+#[derive(Drop)]
+pub struct OpenPlan {
+    /// The name of its file.
+    pub name: String,
+    line: u64,
+    plan: AsmPlan,
+}
+
+impl OpenPlan {
+    /// The assembly of a line `assembly FILE NAMESPACE CLASS`, as yet without methods.
+    pub fn begun(alloc: Global, field: Field<'_>, wide: bool) -> Result<OpenPlan, Stop> {
+        let mut words = field.argument.split(' ');
+        let (Some(name), Some(namespace), Some(class), None) = (
+            words.next(),
+            words.next(),
+            words.next(),
+            words.next(),
+        ) else {
+            return Err(stop_at(alloc, field.line, "not FILE NAMESPACE CLASS"));
+        };
+        Ok(OpenPlan {
+            name: word_of(alloc, field.line, name)?,
+            line: field.line,
+            plan: AsmPlan {
+                namespace: text_of(alloc, field.line, namespace)?,
+                class: text_of(alloc, field.line, class)?,
+                wide,
+                methods: Vec::new(alloc),
+            },
+        })
+    }
+
+    /// Adds the method of a line.
+    pub fn add(&mut self, alloc: Global, field: Field<'_>) -> Result<(), Stop> {
+        self.plan.methods.push(method_of(alloc, field)?)?;
+        Ok(())
+    }
+
+    /// The file of the assembly.
+    pub fn written(&self, alloc: Global) -> Result<Vec<u8>, Stop> {
+        match write_assembly(alloc, &self.plan) {
+            Ok(bytes) => Ok(bytes),
+            Err(WriteRefusal::TooLarge) => Err(stop_at(alloc, self.line, "too large an assembly")),
+            Err(WriteRefusal::NoMemory) => Err(Stop::NoMemory),
+        }
+    }
+}
+
+/// The method of a line `method NAME static|instance RESULT ARGUMENTS LOCALS STACK CODE`. Places are joined by commas, and
+/// `-` stands for none. A method without code has no CODE.
+fn method_of(alloc: Global, field: Field<'_>) -> Result<MethodPlan, Stop> {
+    let line = field.line;
+    let mut words = field.argument.splitn(7, ' ');
+    let (Some(name), Some(kind), Some(result), Some(args), Some(locals), Some(stack)) = (
+        words.next(),
+        words.next(),
+        words.next(),
+        words.next(),
+        words.next(),
+        words.next(),
+    ) else {
+        return Err(stop_at(
+            alloc,
+            line,
+            "not NAME KIND RESULT ARGUMENTS LOCALS STACK CODE",
+        ));
+    };
+    let code = words.next().unwrap_or("");
+    Ok(MethodPlan {
+        name: text_of(alloc, line, name)?,
+        is_static: is_static(alloc, line, kind)?,
+        result: place_of(alloc, line, result)?,
+        args: places_of(alloc, line, args)?,
+        locals: places_of(alloc, line, locals)?,
+        max_stack: small_number_of(alloc, line, stack)?,
+        code: bytes_of(alloc, line, code)?,
+    })
+}
+
+fn is_static(alloc: Global, line: u64, text: &str) -> Result<bool, Stop> {
+    match text {
+        "static" => Ok(true),
+        "instance" => Ok(false),
+        _ => Err(stop_at(alloc, line, "neither static nor instance")),
+    }
+}
+
+fn place_of(alloc: Global, line: u64, text: &str) -> Result<Place, Stop> {
+    match text {
+        "void" => Ok(Place::Void),
+        "bool" => Ok(Place::Bool),
+        "int32" => Ok(Place::Int),
+        "bool[]" => Ok(Place::Bools),
+        "int32[]" => Ok(Place::Ints),
+        _ => Err(stop_at(alloc, line, "not a type")),
+    }
+}
+
+fn places_of(alloc: Global, line: u64, text: &str) -> Result<Vec<Place>, Stop> {
+    let mut places = Vec::new(alloc);
+    if text != "-" {
+        for place in text.split(',') {
+            places.push(place_of(alloc, line, place)?)?;
+        }
+    }
+    Ok(places)
+}
