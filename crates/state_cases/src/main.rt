@@ -1,6 +1,6 @@
 //! Runs cases of single rules on ranges, numbers and states: what each gives, or that it may not be asked.
 //!
-//! The words are the names of files of cases. docs/TESTING.md says how a case is written.
+//! The words are the names of files of cases. docs/RULE_CASES.md says how a case is written.
 #![tactic(auto)]
 
 mod number_rules;
