@@ -1,2 +1,0 @@
-pub mod StateVariables
-pub mod UnitsOfNumbers
