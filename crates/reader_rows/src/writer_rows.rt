@@ -1,6 +1,8 @@
-//! Methods at the limits of the writer, and one past.
+//! Methods at the limits of the writer, and one past; a file of so many methods that indexes have four bytes.
 
+use asm_image::Assembly;
 use asm_writer::{AsmPlan, MethodPlan, WriteRefusal, write_assembly};
+use cc_base::Token;
 use cil_model::Place;
 use std::alloc::{AllocError, Global};
 use std::test::Fail;
@@ -58,5 +60,38 @@ fn methods_beyond_a_limit_are_not_written(rt: HostRuntime) -> Result<(), Fail> {
         };
         assert_eq!(rt; refusal, want, "{args} {locals} {max_stack} {code}");
     }
+    Ok(())
+}
+
+/// So many plans of a method without arguments, whose code has one byte.
+fn plans(alloc: Global, count: u32) -> Result<Vec<MethodPlan>, AllocError> {
+    let mut plans = Vec::new(alloc);
+    for _ in 0..count {
+        plans.push(plan_of(alloc, 0, 0, 8, 1)?)?;
+    }
+    Ok(plans)
+}
+
+#[test]
+fn indexes_have_four_bytes_in_a_large_file(rt: HostRuntime) -> Result<(), Fail> {
+    let alloc = rt.alloc();
+    let plan = AsmPlan {
+        namespace: Vec::new(alloc),
+        class: Vec::from_slice(alloc, b"C")?,
+        wide: false,
+        methods: plans(alloc, 65_536)?,
+    };
+    let bytes = write_assembly(alloc, &plan)?;
+    // HeapSizes: `#Strings` and `#Blob` have indexes of four bytes.
+    assert_eq!(rt; bytes.get(0x10_02ba), Some(&5));
+    let assembly = Assembly::read(alloc, &bytes)?;
+    let methods = assembly.methods();
+    assert_eq!(rt; methods.len(), 65_536);
+    let Some(last) = methods.last() else {
+        panic!(rt; "no methods");
+    };
+    assert_eq!(rt; last.token, Token(0x0601_0000));
+    assert_eq!(rt; last.name.as_slice(), b"C::m()".as_slice());
+    assert_eq!(rt; last.rva, 0x10_2038);
     Ok(())
 }
