@@ -1,79 +1,18 @@
-//! Numbers, printed numbers and names, tokens, and files and sinks in memory.
+//! Numbers, printed numbers and tokens, as far as no command shows them, and files and sinks in memory.
 
 use cc_base::{
-    Compressed, CompressedFault, Files, MapFiles, Offset, PutRefusal, ReadRefusal, ReplaceRefusal,
-    Sink, Token, VecSink, append_escaped, compressed_number, little_endian_law, put_hex,
-    put_number, u16_at, u32_at, u64_at, wrap32,
+    Files, MapFiles, Offset, PutRefusal, ReadRefusal, ReplaceRefusal, Sink, Token, VecSink,
+    little_endian_law, put_hex, put_number, u16_at, u32_at, u64_at, wrap32,
 };
 use std::test::Fail;
 
-/// Numbers of 64 bits, and the int32 of the same low 32 bits.
-const WRAPPED: [(i64, i32); 11] = [
-    (0, 0),
-    (-1, -1),
-    (2_147_483_647, 2_147_483_647),
-    (2_147_483_648, -2_147_483_648),
-    (4_294_967_294, -2),
-    (4_294_967_295, -1),
-    (4_294_967_296, 0),
-    (-2_147_483_648, -2_147_483_648),
-    (-2_147_483_649, 2_147_483_647),
-    (i64::MAX, -1),
-    (i64::MIN, 0),
-];
+/// Numbers of 64 bits that no operation gives, and the int32 of the same low 32 bits.
+const WRAPPED: [(i64, i32); 2] = [(i64::MAX, -1), (i64::MIN, 0)];
 
-/// Numbers in decimal.
-const DECIMALS: [(i64, &[u8]); 6] = [
-    (0, b"0"),
-    (9, b"9"),
-    (10, b"10"),
-    (-70, b"-70"),
+/// Numbers in decimal that no command prints.
+const DECIMALS: [(i64, &[u8]); 2] = [
     (i64::MAX, b"9223372036854775807"),
     (i64::MIN, b"-9223372036854775808"),
-];
-
-/// Names as they are printed: the bytes from 21 to 7e without the backslash are as they are.
-const NAMES: [(&[u8], &[u8]); 7] = [
-    (b"", b""),
-    (b"Calc::Sum(int32[])", b"Calc::Sum(int32[])"),
-    (b"\x20\x21", b"\\20!"),
-    (b"[\\]", b"[\\5c]"),
-    (b"\x7e\x7f\x80", b"~\\7f\\80"),
-    (b"\x00\x0f\x10\x1f", b"\\00\\0f\\10\\1f"),
-    (b"\xc3\xa9\xff", b"\\c3\\a9\\ff"),
-];
-
-/// Bytes with a compressed number at the front: the examples of ECMA-335 II.23.2, numbers in more bytes than
-/// they need, the least and the greatest first byte of each form, and bytes behind the number. With each are
-/// the number and how many bytes it is written in.
-const NUMBERS: [(&[u8], u32, u32); 15] = [
-    (b"\x00", 0, 1),
-    (b"\x03", 0x03, 1),
-    (b"\x7f", 0x7f, 1),
-    (b"\x80\x80", 0x80, 2),
-    (b"\xae\x57", 0x2e57, 2),
-    (b"\xbf\xff", 0x3fff, 2),
-    (b"\xc0\x00\x40\x00", 0x4000, 4),
-    (b"\xdf\xff\xff\xff", 0x1fff_ffff, 4),
-    (b"\x80\x00", 0, 2),
-    (b"\x80\x7f", 0x7f, 2),
-    (b"\xc0\x00\x00\x01", 1, 4),
-    (b"\xc1\x02\x03\x04", 0x0102_0304, 4),
-    (b"\x7f\xff", 0x7f, 1),
-    (b"\xbf\x01\xff", 0x3f01, 2),
-    (b"\xc0\x00\x00\x02\xff", 2, 4),
-];
-
-/// Bytes with none: they end inside it, or the first begins with the bits 111.
-const NO_NUMBERS: [(&[u8], CompressedFault); 8] = [
-    (b"", CompressedFault::Cut),
-    (b"\x80", CompressedFault::Cut),
-    (b"\xbf", CompressedFault::Cut),
-    (b"\xc0\x00\x00", CompressedFault::Cut),
-    (b"\xdf", CompressedFault::Cut),
-    (b"\xe0\x00\x00\x00", CompressedFault::Form),
-    (b"\xef\x00\x00\x00", CompressedFault::Form),
-    (b"\xff", CompressedFault::Form),
 ];
 
 /// Tokens, each with its table and its row. They are in order.
@@ -105,7 +44,7 @@ fn numbers_wrap_as_twos_complement(rt: HostRuntime) {
 }
 
 #[test]
-fn numbers_and_names_are_appended_as_text(rt: HostRuntime) -> Result<(), Fail> {
+fn numbers_are_appended_as_text(rt: HostRuntime) -> Result<(), Fail> {
     let alloc = rt.alloc();
     for (number, text) in DECIMALS {
         let mut line = Vec::from_slice(alloc, b"n=")?;
@@ -118,23 +57,7 @@ fn numbers_and_names_are_appended_as_text(rt: HostRuntime) -> Result<(), Fail> {
     put_hex(alloc, &mut line, 0xdead_beef, 8)?;
     put_hex(alloc, &mut line, 0xf, 1)?;
     assert_eq!(rt; line.as_slice(), b"2a0009deadbeeff".as_slice());
-    for (name, text) in NAMES {
-        let mut line = Vec::new(alloc);
-        append_escaped(alloc, &mut line, name)?;
-        assert_eq!(rt; line.as_slice(), text);
-    }
     Ok(())
-}
-
-#[test]
-fn compressed_numbers_are_read(rt: HostRuntime) {
-    for (bytes, number, width) in NUMBERS {
-        let want = Ok(Compressed { number, width });
-        assert_eq!(rt; compressed_number(bytes), want, "in {bytes:?}");
-    }
-    for (bytes, fault) in NO_NUMBERS {
-        assert_eq!(rt; compressed_number(bytes), Err(fault), "in {bytes:?}");
-    }
 }
 
 #[test]

@@ -2,17 +2,7 @@
 #![tactic(auto)]
 
 #[cfg(test)]
-mod assembly;
-#[cfg(test)]
-mod assembly_calls;
-#[cfg(test)]
-mod assembly_faults;
-#[cfg(test)]
-mod assembly_methods;
-#[cfg(test)]
 mod base_rows;
-#[cfg(test)]
-mod body_rows;
 #[cfg(test)]
 mod changes;
 #[cfg(test)]
@@ -28,17 +18,9 @@ mod graph_rows;
 #[cfg(test)]
 mod heap_rows;
 #[cfg(test)]
-mod image_rows;
+mod inner_rows;
 #[cfg(test)]
 mod machine_rows;
-#[cfg(test)]
-mod model_rows;
-#[cfg(test)]
-mod pe_rows;
-#[cfg(test)]
-mod root_rows;
-#[cfg(test)]
-mod signature_rows;
 #[cfg(test)]
 mod steps;
 #[cfg(test)]
