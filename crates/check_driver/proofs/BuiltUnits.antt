@@ -19,7 +19,7 @@ use Rattle.cil_model.specs.declared.place.Place.TheVariants as places
 use Rattle.cil_model.specs.declared.unit.Unit.{Unit as MethodUnit}
 use Rattle.cil_model.specs.declared.unit_numbers.UnitCall.{UnitCall}
 use Rattle.cil_model.specs.declared.unit_numbers.UnitCall.TheVariants as calls
-use Rattle.contract_extract.proofs.BodyRuns.{body_runs}
+use Rattle.contract_extract.proofs.BlockLemmas.BodyRuns.{body_runs}
 use Rattle.invariant_checker.specs.Counts.{all_proved}
 use Rattle.invariant_checker.specs.Safety.{IsSafe}
 use Rattle.invariant_checker.specs.Verdicts.{verdicts}

@@ -6,7 +6,7 @@ use Rattle.cil_model.specs.Runs.{instr_at}
 use Rattle.cil_model.specs.declared.instruction.Instr.{Instr}
 use Rattle.cil_model.specs.declared.shape.Shape.{Shape}
 use Rattle.contract_extract.specs.Faults.{code_faults}
-use Rattle.contract_extract.specs.declared.clause_fault.ClauseFault.{ClauseFault}
+use Rattle.contract_extract.specs.declared.faults.clause_fault.ClauseFault.{ClauseFault}
 
 -- From an IL offset on, each instruction begins where the one before it ends, has bytes, and ends in code that is short
 -- enough for its offsets to be numbers of 32 bits.

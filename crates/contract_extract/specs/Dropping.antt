@@ -10,8 +10,8 @@ use Rattle.cil_model.specs.declared.instruction.Test.TheVariants as tests
 use Rattle.cil_model.specs.declared.unit_numbers.UnitCall.{UnitCall}
 use Rattle.cil_model.specs.declared.unit_numbers.UnitCall.TheVariants as calls
 use Rattle.contract_extract.specs.Growth.{FoundAt, Keeps, forward, jump_of}
-use Rattle.contract_extract.specs.declared.ahead.Ahead.{Ahead}
-use Rattle.contract_extract.specs.declared.dropped.Dropped.{Dropped}
+use Rattle.contract_extract.specs.declared.trees.ahead.Ahead.{Ahead}
+use Rattle.contract_extract.specs.declared.trees.dropped.Dropped.{Dropped}
 
 -- ---- stacks without what is dropped
 

@@ -15,8 +15,8 @@ use Rattle.contract_extract.specs.ClauseCodes.{closing_of, start_behind}
 use Rattle.contract_extract.specs.PureCode.{is_pure}
 use Rattle.contract_extract.specs.TooLarge.{passes_limit}
 use Rattle.contract_extract.specs.Ways.{asked_by, is_old_value, way_faults}
-use Rattle.contract_extract.specs.declared.clause_fault.ClauseFault.{ClauseFault}
-use Rattle.contract_extract.specs.declared.clause_fault.ClauseFault.TheVariants.{NotPure, Backward, StackLeft, IntoBlock, OldForm, TooLong}
+use Rattle.contract_extract.specs.declared.faults.clause_fault.ClauseFault.{ClauseFault}
+use Rattle.contract_extract.specs.declared.faults.clause_fault.ClauseFault.TheVariants.{NotPure, Backward, StackLeft, IntoBlock, OldForm, TooLong}
 
 -- ---- which fault is first
 

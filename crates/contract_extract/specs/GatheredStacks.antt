@@ -3,9 +3,9 @@ use Rattle.std.specs.Prelude.{◌≡◌, ◌⊎◌, ℕ, List, [], ◌∷◌, �
 use Rattle.contract_extract.specs.JoinedStacks.{IsJoining}
 use Rattle.contract_extract.specs.SharedStacks.{AreGrounded, Stacks, least_over, lower}
 use Rattle.contract_extract.specs.Ways.{Told}
-use Rattle.contract_extract.specs.declared.arrivals.Arrival.{Arrival}
-use Rattle.contract_extract.specs.declared.arrivals.Arrival.TheVariants.{Empty, Over}
-use Rattle.contract_extract.specs.declared.clause_fault.ClauseFault.{ClauseFault}
+use Rattle.contract_extract.specs.declared.ways.arrivals.Arrival.{Arrival}
+use Rattle.contract_extract.specs.declared.ways.arrivals.Arrival.TheVariants.{Empty, Over}
+use Rattle.contract_extract.specs.declared.faults.clause_fault.ClauseFault.{ClauseFault}
 
 -- One arrival for two that differ in their calls alone.
 abbrev pub IsJoinOf : Arrival → Arrival → Arrival → Type 0

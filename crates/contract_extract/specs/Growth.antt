@@ -11,9 +11,9 @@ use Rattle.cil_model.specs.declared.instruction.Op.{Op}
 use Rattle.cil_model.specs.declared.instruction.Op.TheVariants as ops
 use Rattle.cil_model.specs.declared.instruction.Test.{Test}
 use Rattle.cil_model.specs.declared.instruction.Test.TheVariants as tests
-use Rattle.contract_extract.specs.declared.conditions.Condition.{Condition}
-use Rattle.contract_extract.specs.declared.limits.Limits.{Limits}
-use Rattle.contract_extract.specs.declared.limits.Grown.{Grown}
+use Rattle.contract_extract.specs.declared.trees.conditions.Condition.{Condition}
+use Rattle.contract_extract.specs.declared.trees.limits.Limits.{Limits}
+use Rattle.contract_extract.specs.declared.trees.limits.Grown.{Grown}
 
 -- The instruction at an IL offset has this index.
 pub record FoundAt (is : List Instr) (at index : ℕ) : Type 0 where

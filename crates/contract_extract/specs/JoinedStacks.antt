@@ -3,8 +3,8 @@ use Rattle.std.specs.Prelude.{◌≡◌, List, [], ◌∷◌, map, Option}
 use Rattle.contract_extract.specs.Faults.{first_fault}
 use Rattle.contract_extract.specs.SharedStacks.{either}
 use Rattle.contract_extract.specs.Ways.{Told}
-use Rattle.contract_extract.specs.declared.clause_fault.ClauseFault.{ClauseFault}
-use Rattle.contract_extract.specs.declared.clause_fault.ClauseFault.TheVariants.{OldForm}
+use Rattle.contract_extract.specs.declared.faults.clause_fault.ClauseFault.{ClauseFault}
+use Rattle.contract_extract.specs.declared.faults.clause_fault.ClauseFault.TheVariants.{OldForm}
 
 -- The first fault of an OldValue over the value, by its calls.
 abbrev pub called_fault : Told → Option ClauseFault

@@ -19,10 +19,10 @@ use Rattle.contract_extract.specs.JoinedStacks.{IsJoining}
 use Rattle.contract_extract.specs.PureCode.{is_pure}
 use Rattle.contract_extract.specs.SharedStacks.{AreGrounded, AreOrdered, Stacks, arrivals_at, differs, either, lacks, least, least_over, made_seen, old_fault, rest_of, with_one, with_two}
 use Rattle.contract_extract.specs.Ways.{Told, ways_behind}
-use Rattle.contract_extract.specs.declared.arrivals.Arrival.{Arrival}
-use Rattle.contract_extract.specs.declared.arrivals.Arrival.TheVariants.{Over}
-use Rattle.contract_extract.specs.declared.clause_fault.ClauseFault.{ClauseFault}
-use Rattle.contract_extract.specs.declared.clause_fault.ClauseFault.TheVariants.{StackLeft}
+use Rattle.contract_extract.specs.declared.ways.arrivals.Arrival.{Arrival}
+use Rattle.contract_extract.specs.declared.ways.arrivals.Arrival.TheVariants.{Over}
+use Rattle.contract_extract.specs.declared.faults.clause_fault.ClauseFault.{ClauseFault}
+use Rattle.contract_extract.specs.declared.faults.clause_fault.ClauseFault.TheVariants.{StackLeft}
 
 -- ---- the stacks behind it
 

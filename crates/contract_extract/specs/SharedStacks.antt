@@ -7,10 +7,10 @@ use Rattle.cil_model.specs.declared.instruction.Instr.{Instr}
 use Rattle.cil_model.specs.declared.place.Place.{Place}
 use Rattle.contract_extract.specs.Faults.{earlier, first_fault}
 use Rattle.contract_extract.specs.Ways.{Told, asked_by, made_kind, old_faults}
-use Rattle.contract_extract.specs.declared.arrivals.Arrival.{Arrival}
-use Rattle.contract_extract.specs.declared.arrivals.Arrival.TheVariants.{Empty, Over}
-use Rattle.contract_extract.specs.declared.arrivals.Seen.{Seen}
-use Rattle.contract_extract.specs.declared.clause_fault.ClauseFault.{ClauseFault}
+use Rattle.contract_extract.specs.declared.ways.arrivals.Arrival.{Arrival}
+use Rattle.contract_extract.specs.declared.ways.arrivals.Arrival.TheVariants.{Empty, Over}
+use Rattle.contract_extract.specs.declared.ways.arrivals.Seen.{Seen}
+use Rattle.contract_extract.specs.declared.faults.clause_fault.ClauseFault.{ClauseFault}
 
 -- ---- the first of faults
 

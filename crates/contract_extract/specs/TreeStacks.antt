@@ -15,16 +15,16 @@ use Rattle.cil_model.specs.declared.unit_numbers.UnitCall.{UnitCall}
 use Rattle.cil_model.specs.declared.unit_numbers.UnitCall.TheVariants as calls
 use Rattle.contract_extract.specs.Growth.{AreFlat, Keeps, tree_here}
 use Rattle.contract_extract.specs.Dropping.{without}
-use Rattle.contract_extract.specs.declared.dropped.Dropped.{Dropped}
-use Rattle.contract_extract.specs.declared.stretch.Working.{Working}
-use Rattle.contract_extract.specs.declared.conditions.Condition.{Condition}
-use Rattle.contract_extract.specs.declared.tree_stack.Counted.{Counted}
-use Rattle.contract_extract.specs.declared.tree_stack.Pair.{Pair}
-use Rattle.contract_extract.specs.declared.tree_stack.Pair.TheVariants as pairs
-use Rattle.contract_extract.specs.declared.tree_stack.Single.{Single}
-use Rattle.contract_extract.specs.declared.tree_stack.Single.TheVariants as singles
-use Rattle.contract_extract.specs.declared.tree_stack.Slot.{Slot}
-use Rattle.contract_extract.specs.declared.tree_stack.Slot.TheVariants as slots
+use Rattle.contract_extract.specs.declared.trees.dropped.Dropped.{Dropped}
+use Rattle.contract_extract.specs.declared.trees.stretch.Working.{Working}
+use Rattle.contract_extract.specs.declared.trees.conditions.Condition.{Condition}
+use Rattle.contract_extract.specs.declared.trees.tree_stack.Counted.{Counted}
+use Rattle.contract_extract.specs.declared.trees.tree_stack.Pair.{Pair}
+use Rattle.contract_extract.specs.declared.trees.tree_stack.Pair.TheVariants as pairs
+use Rattle.contract_extract.specs.declared.trees.tree_stack.Single.{Single}
+use Rattle.contract_extract.specs.declared.trees.tree_stack.Single.TheVariants as singles
+use Rattle.contract_extract.specs.declared.trees.tree_stack.Slot.{Slot}
+use Rattle.contract_extract.specs.declared.trees.tree_stack.Slot.TheVariants as slots
 
 -- ---- what stands in memory for the items of a stack
 

@@ -20,8 +20,8 @@ use Rattle.cil_model.specs.declared.unit_numbers.UnitCall.{UnitCall}
 use Rattle.cil_model.specs.declared.unit_numbers.UnitCall.TheVariants as calls
 use Rattle.contract_extract.specs.ClauseCodes.{goes_forward}
 use Rattle.contract_extract.specs.PureCode.{is_pure}
-use Rattle.contract_extract.specs.declared.clause_fault.ClauseFault.{ClauseFault}
-use Rattle.contract_extract.specs.declared.clause_fault.ClauseFault.TheVariants.{StackLeft, OldForm}
+use Rattle.contract_extract.specs.declared.faults.clause_fault.ClauseFault.{ClauseFault}
+use Rattle.contract_extract.specs.declared.faults.clause_fault.ClauseFault.TheVariants.{StackLeft, OldForm}
 
 -- ---- the calls of Result and OldValue
 

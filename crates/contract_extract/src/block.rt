@@ -9,9 +9,9 @@ ghost use Rattle.contract_extract.specs.ClauseLies.{clause_faults};
 ghost use Rattle.contract_extract.specs.Extracting.{ArePassed, BlockLeft, Goes, IsClosing, LeftBehind, ReadWithin, closed_kind, olds_of};
 ghost use Rattle.contract_extract.specs.Faults.{first_clause_fault, first_fault};
 
-use crate::clause_code::check_clause;
-use crate::clause_fault::{ClauseFault, ClauseRefusal};
-use crate::own_faults::closes;
+use crate::faults::clause_code::check_clause;
+use crate::faults::clause_fault::{ClauseFault, ClauseRefusal};
+use crate::faults::own_faults::closes;
 use crate::read_clause::{ReadClause, read_clause};
 use cil_model::{
     Clause, ClauseKind, Instr, MAX_CLAUSES, MAX_OLD_VALUES, Op, Shape, UnitCall, unit_call,
@@ -46,7 +46,7 @@ pub(crate) struct Block {
 
 impl Block {
     /// The next clause, where it keeps the limits with those that were read.
-    #[tactic(auto, using(crate::proofs::ClauseLimits::limits))]
+    #[tactic(auto, using(crate::proofs::TreeLemmas::ClauseLimits::limits))]
     fn read_within(
         &self,
         alloc: Global,

@@ -13,8 +13,8 @@ ghost use Rattle.contract_extract.specs.Extracting.{AreContracts};
 ghost use Rattle.contract_extract.specs.Faults.{first_clause_fault};
 
 use crate::block::read_clauses;
-use crate::body_code::first_body_fault;
-use crate::clause_fault::ClauseRefusal;
+use crate::faults::body_code::first_body_fault;
+use crate::faults::clause_fault::ClauseRefusal;
 use cil_model::{Clause, Instr, List, Shape};
 use std::alloc::Global;
 

@@ -6,9 +6,9 @@ ghost use Rattle.cil_model.specs.Terms.{old_count};
 ghost use Rattle.cil_model.specs.ShortCode.{AreOfShortCode};
 ghost use Rattle.contract_extract.specs.TooLarge.{is_too_large};
 
-use crate::limits::Limits;
-use crate::tree_of::grow_clause;
-use crate::trees::old_values;
+use crate::trees::limits::Limits;
+use crate::trees::tree_of::grow_clause;
+use crate::trees::tree_parts::old_values;
 use cil_model::{Instr, MAX_CONDITIONS, MAX_NODES, Tree};
 use std::alloc::{AllocError, Global};
 

@@ -14,10 +14,10 @@ use Rattle.cil_model.specs.declared.shape.Shape.{Shape}
 use Rattle.cil_model.proofs.Rows.{code_is_decoded}
 use Rattle.contract_extract.specs.Extracting.{AreContracts}
 use Rattle.contract_extract.specs.Faults.{first_clause_fault}
-use Rattle.contract_extract.specs.declared.clause_fault.ClauseFault.{ClauseFault}
+use Rattle.contract_extract.specs.declared.faults.clause_fault.ClauseFault.{ClauseFault}
 use Rattle.contract_extract.specs.declared.contracts.Contracts.{Contracts}
-use Rattle.contract_extract.proofs.AllNumbers.{all_numbers}
-use Rattle.contract_extract.proofs.BodyRuns.{body_runs}
+use Rattle.contract_extract.proofs.TreeLemmas.AllNumbers.{all_numbers}
+use Rattle.contract_extract.proofs.BlockLemmas.BodyRuns.{body_runs}
 use Rattle.il_decoder.specs.Decoding.{instructions_of}
 use Rattle.il_decoder.specs.declared.fault.IlFault.{IlFault}
 use Rattle.method_unit.specs.UnitFile.{clause_told}

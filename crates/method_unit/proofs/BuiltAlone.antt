@@ -24,8 +24,8 @@ use Rattle.cil_model.proofs.ShortCodes.{code_is_short}
 use Rattle.contract_extract.specs.ClauseCodes.{closing_of, start_behind}
 use Rattle.contract_extract.specs.Faults.{body_faults, closed_faults, fault_if, faults_in, faults_of, with_clause}
 use Rattle.contract_extract.specs.PureCode.{is_clause_call, is_pure, is_pure_before}
-use Rattle.contract_extract.specs.declared.clause_fault.ClauseFault.TheVariants.{NotPure}
-use Rattle.contract_extract.proofs.NoFaults.{no_fault_if, no_first, none_in_both}
+use Rattle.contract_extract.specs.declared.faults.clause_fault.ClauseFault.TheVariants.{NotPure}
+use Rattle.contract_extract.proofs.FaultLemmas.NoFaults.{no_fault_if, no_first, none_in_both}
 use Rattle.method_unit.specs.Built.{is_built, is_built_call}
 use Rattle.method_unit.specs.CalledInOrder.{calls_in}
 use Rattle.method_unit.specs.NotBuilt.{first_unbuilt, has_built_head, not_built}

@@ -5,7 +5,7 @@ use Rattle.cil_model.proofs.ShortCodes.{code_is_short}
 use Rattle.cil_model.specs.FitKinds.{HasBody}
 use Rattle.cil_model.specs.Shapes.{shape_of}
 use Rattle.cil_model.specs.declared.unit.Unit.{Unit as MethodUnit}
-use Rattle.contract_extract.proofs.BodyRuns.{body_runs}
+use Rattle.contract_extract.proofs.BlockLemmas.BodyRuns.{body_runs}
 use Rattle.method_unit.specs.Units.{CanRun, IsUnit}
 
 pub unit_can_run : (unit : MethodUnit) → IsUnit unit → CanRun unit

@@ -9,7 +9,7 @@ use Rattle.cil_model.specs.Limits.{MAX_BLOCKS, MAX_CODE_BYTES, MAX_INSTRUCTIONS}
 use Rattle.cil_model.specs.declared.place.Place.{Place}
 use Rattle.cil_model.specs.declared.type_fault.TypeFault.{TypeFault}
 use Rattle.contract_extract.specs.Faults.{first_clause_fault}
-use Rattle.contract_extract.specs.declared.clause_fault.ClauseFault.{ClauseFault}
+use Rattle.contract_extract.specs.declared.faults.clause_fault.ClauseFault.{ClauseFault}
 use Rattle.il_decoder.specs.Body.{header_at}
 use Rattle.il_decoder.specs.declared.body.Header.{Header}
 use Rattle.il_decoder.specs.declared.fault.IlFault.{IlFault}

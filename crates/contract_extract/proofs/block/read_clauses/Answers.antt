@@ -1,6 +1,6 @@
 use Rattle.std.proofs.Common.{◌≡◌, arith, length, subst}
 use Rattle.contract_extract.specs.Extracting.{ArePassed}
-use Rattle.contract_extract.proofs.Passed.{none_passed}
+use Rattle.contract_extract.proofs.BlockLemmas.Passed.{none_passed}
 use Rattle.contract_extract.proofs.block.read_clauses.Goals as goal
 
 pub loop-index-init : goal.loop-index-init

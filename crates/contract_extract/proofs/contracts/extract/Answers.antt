@@ -1,8 +1,8 @@
 use Rattle.std.proofs.Common.{ℕ, sym, subst, ◌∙◌}
 use Rattle.cil_model.specs.FitKinds.{HasBody}
-use Rattle.contract_extract.proofs.AllNumbers.{all_numbers}
-use Rattle.contract_extract.proofs.BodyRuns.{body_runs}
-use Rattle.contract_extract.proofs.Passed.{contracts_left, fault_left}
+use Rattle.contract_extract.proofs.TreeLemmas.AllNumbers.{all_numbers}
+use Rattle.contract_extract.proofs.BlockLemmas.BodyRuns.{body_runs}
+use Rattle.contract_extract.proofs.BlockLemmas.Passed.{contracts_left, fault_left}
 use Rattle.contract_extract.proofs.contracts.extract.Goals as goal
 
 pub returns-in-Some-clause-judged : goal.returns-in-Some-clause-judged

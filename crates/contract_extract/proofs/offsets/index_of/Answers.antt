@@ -1,6 +1,6 @@
 use Rattle.std.proofs.Common.{rules}
 use Rattle.std.proofs.lemmas.List.Sorted.{answers_always}
-use Rattle.contract_extract.proofs.Searches.{searched}
+use Rattle.contract_extract.proofs.TreeLemmas.Searches.{searched}
 use Rattle.contract_extract.proofs.offsets.index_of.Goals as goal
 
 -- The closure gives an instruction's offset.

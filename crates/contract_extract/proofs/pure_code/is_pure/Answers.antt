@@ -2,7 +2,7 @@ use Rattle.std.proofs.Common.{Option, false, ap, sym, ◌∙◌}
 use Rattle.std.specs.Option.{option_map_or}
 use Rattle.cil_model.specs.declared.instruction.Instr.{Instr}
 use Rattle.contract_extract.specs.PureCode.{calls_with_message, is_pure_before}
-use Rattle.contract_extract.proofs.Lying.{next_there}
+use Rattle.contract_extract.proofs.WayLemmas.Lying.{next_there}
 use Rattle.contract_extract.proofs.pure_code.is_pure.Goals as goal
 
 pub returns : goal.returns

@@ -1,7 +1,7 @@
 use Rattle.std.proofs.Common.{◌+◌, refl, sym, subst, ◌∙◌}
 use Rattle.cil_model.specs.declared.instruction.Instr.{Instr}
 use Rattle.contract_extract.specs.Extracting.{BlockLeft}
-use Rattle.contract_extract.proofs.Closing.{clause_code, fault_in_code, goes_carried, met}
+use Rattle.contract_extract.proofs.BlockLemmas.Closing.{clause_code, fault_in_code, goes_carried, met}
 use Rattle.contract_extract.proofs.block.Block.close.Goals as goal
 
 pub check_clause-requires : goal.check_clause-requires

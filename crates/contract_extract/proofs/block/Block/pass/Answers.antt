@@ -1,6 +1,6 @@
 use Rattle.std.proofs.Common.{sym}
 use Rattle.std.proofs.lemmas.Option.{slice_get-get_or}
-use Rattle.contract_extract.proofs.Passed.{is_closing, passes_on}
+use Rattle.contract_extract.proofs.BlockLemmas.Passed.{is_closing, passes_on}
 use Rattle.contract_extract.proofs.block.Block.pass.Goals as goal
 
 pub returns-then-not-closes : goal.returns-then-not-closes

@@ -1,0 +1,20 @@
+-- The trees of a clause's code.
+pub mod AllNumbers
+pub mod ClauseLimits
+pub mod ClauseSizeRows
+pub mod Cutting
+pub mod Ends
+pub mod FitTrees
+pub mod Forward
+pub mod Found
+pub mod Growing
+pub mod HasTree
+pub mod Looking
+pub mod NumberClauses
+pub mod PlacedCalls
+pub mod Searches
+pub mod StackLemmas
+pub mod Stretches
+pub mod TreeCounts
+pub mod UnderKinds
+pub mod Working

@@ -1,0 +1,109 @@
+//! Arrivals that differ in their calls alone, gathered to one, so that there are no more of them than six kinds or none on
+//! each instruction.
+
+ghost use Rattle.std.specs.Prelude.{◌≡◌, true, false, OnOk, IfOk, IfSome};
+ghost use Rattle.contract_extract.specs.GatheredStacks.{IsJoinOf, IsJoinedInto, IsPut, StandForSame};
+
+use crate::ways::arrivals::{Arrival, Arrivals, Seen};
+use crate::ways::made_values::lower;
+use cil_model::Kind;
+use std::alloc::{AllocError, Global};
+
+/// How many numbers the arrivals over one instruction have.
+pub(crate) const KINDS: usize = 8;
+
+/// One arrival for two that differ in their calls alone.
+fn join(a: Arrival, b: Arrival) -> Option<Arrival>
+    ensures { IfSome result (IsJoinOf a b) }
+{
+    match (a, b) {
+        (Arrival::Empty, Arrival::Empty) => Some(Arrival::Empty),
+        (Arrival::Over(a, m), Arrival::Over(b, n)) => {
+            if m != n || a.kind != b.kind {
+                return None;
+            }
+            let call = lower(a.call, b.call);
+            Some(Arrival::Over(Seen { kind: a.kind, call }, m))
+        }
+        _ => None,
+    }
+}
+
+/// The number of a kind, or of none.
+fn kind_number(kind: Option<Kind>) -> usize {
+    match kind {
+        None => 1,
+        Some(Kind::Int) => 2,
+        Some(Kind::Native) => 3,
+        Some(Kind::Ints) => 4,
+        Some(Kind::Bools) => 5,
+        Some(Kind::NullRef) => 6,
+        Some(Kind::Text) => 7,
+    }
+}
+
+/// The number of an arrival by all but its call.
+pub(crate) fn number(arrival: Arrival) -> usize {
+    match arrival {
+        Arrival::Empty => 0,
+        Arrival::Over(value, below) => below
+            .saturating_mul(KINDS)
+            .saturating_add(kind_number(value.kind)),
+    }
+}
+
+/// Joins the arrival with the one at a place, where they differ in their calls alone, and says whether they do.
+fn join_at(gathered: &mut Arrivals, place: usize, arrival: Arrival) -> bool
+    ensures joined { result ≡ true → IsJoinedInto gathered.old arrival gathered.new }
+    ensures same { result ≡ false → gathered.new ≡ gathered.old }
+{
+    let Some(there) = gathered.get(place) else {
+        return false;
+    };
+    let Some(joined) = join(there, arrival) else {
+        return false;
+    };
+    gathered.set(place, joined);
+    true
+}
+
+/// Where an arrival was put that has the number of this one, if one was.
+fn place_of(places: &[usize], arrival: Arrival) -> Option<usize> {
+    places.get(number(arrival)).copied()
+}
+
+/// Remembers where the arrival is put.
+fn remember(places: &mut [usize], arrival: Arrival, place: usize) {
+    let number = number(arrival);
+    if number < places.len() {
+        places[number] = place;
+    }
+}
+
+/// Puts an arrival to others. `places` tells where one with its number may stand; what stands there is looked at.
+fn put(gathered: &mut Arrivals, places: &mut [usize], arrival: Arrival) -> Result<(), AllocError>
+    ensures { OnOk result (IsPut gathered.old arrival gathered.new) }
+{
+    if let Some(place) = place_of(places, arrival)
+        && join_at(gathered, place, arrival)
+    {
+        return Ok(());
+    }
+    remember(places, arrival, gathered.len());
+    gathered.push(arrival)
+}
+
+/// The arrivals, gathered. What `places` holds does not matter.
+pub(crate) fn gathered(
+    alloc: Global,
+    places: &mut [usize],
+    arrivals: &[Arrival],
+) -> Result<Arrivals, AllocError>
+    ensures { IfOk result (StandForSame arrivals.now) }
+{
+    let mut gathered = Arrivals::new(alloc);
+    for arrival in arrivals {
+        put(&mut gathered, places, *arrival)?;
+    }
+    Ok(gathered)
+}
