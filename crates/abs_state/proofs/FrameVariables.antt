@@ -20,7 +20,7 @@ set_behind [] ys i v = ap (λ n. set ys n v) (zero-add i)
 set_behind (x ∷ xs) ys i v =
     ap (λ n. set (x ∷ (xs ++ ys)) n v) (behind_more (length xs) i) ∙ ap (λ zs. x ∷ zs) (set_behind xs ys i v)
 
--- the arguments come behind those at the entry
+-- the arguments come after those at the entry
 set_args : (entry args locals stack : List Value) (i : ℕ) (v : Value) → i < length args
     → entry ++ set args i v ++ locals ++ stack ≡ set (entry ++ args ++ locals ++ stack) (length entry + i) v
 set_args entry args locals stack i v below =
@@ -33,7 +33,7 @@ pub variables_of-args : (f : Frame) (i : ℕ) (v : Value) → i < length f.args
     → variables_of (record f { args = set f.args i v }) ≡ set (variables_of f) (length f.entry_args + i) v
 variables_of-args f i v below = set_args f.entry_args f.args f.locals (reverse f.stack) i v below
 
--- and the locals behind the arguments
+-- and the locals after the arguments
 set_locals : (before locals stack : List Value) (i : ℕ) (v : Value) → i < length locals → before ++ set locals i v ++ stack ≡ set (before ++ locals ++ stack) (length before + i) v
 set_locals before locals stack i v below =
     let inner : length before + i < length (before ++ locals) = omega (arith, below, length-append before locals) in

@@ -34,7 +34,7 @@ some_on_top : (known : FrameFacts) (o : Option Made) (values choice : List ℤ) 
 some_on_top known None values choice c holds form yields = elim yields [ ]
 some_on_top known (Some made) values choice c holds form yields = on_top_holds known values choice made c holds form yields
 
--- where an operator gives a number, something is reached behind it, with that number on top
+-- where an operator gives a number, something is reached after it, with that number on top
 pub result_holds : (op : BinOp) (a b : Expr) (known : FrameFacts) (values choice : List ℤ) (c : ℤ) → HoldsBy known values choice → HasForm known
     → IsNumber known.facts a → IsNumber known.facts b → operated op (value choice a) (value choice b) ≡ Ok c
     → Holds (with_result op a b known) (values ++ c ∷ [])

@@ -37,7 +37,7 @@ byte = between (pos 0) (pos 255)
 abbrev pub is_byte : Span → Bool
 is_byte r = int_le (pos 0) r.lo && int_le r.hi (pos 255)
 
--- A number as it is put into a place: a bool takes a number that is one of bool, and of another nothing is known behind.
+-- A number as it is put into a place: a bool takes a number that is one of bool, and of another nothing is known after.
 unfoldable pub placed : Facts → Expr → Place → Made
 placed facts e places.Bool = if is_byte (range_of facts e) then record { expr = e; facts = facts } else noted facts byte
 placed facts e _ = record { expr = e; facts = facts }

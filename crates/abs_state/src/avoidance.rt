@@ -49,7 +49,7 @@ pub fn constant(n: i32) -> Expr
     }
 }
 
-/// Whether the expression is this constant.
+/// Returns whether the expression is this constant.
 fn is_just(e: Expr, n: i32) -> bool
     ensures { result ≡ rule.is_just e n }
 {

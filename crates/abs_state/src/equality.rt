@@ -6,14 +6,14 @@ use crate::known::Known;
 use domain_api::Expr;
 use interval_domain::Range;
 
-/// Whether two ranges are equal.
+/// Returns whether two ranges are equal.
 fn is_same_range(a: Range, b: Range) -> bool
     ensures { IsTrue result ↔ (a ≡ b) }
 {
     a.lo() == b.lo() && a.hi() == b.hi() && a.hole() == b.hole()
 }
 
-/// Whether two lists of ranges are equal.
+/// Returns whether two lists of ranges are equal.
 fn are_same_ranges(a: &[Range], b: &[Range]) -> bool
     ensures { IsTrue result ↔ (a.now ≡ b.now) }
 {
@@ -28,14 +28,14 @@ fn are_same_ranges(a: &[Range], b: &[Range]) -> bool
     true
 }
 
-/// Whether two expressions are equal.
+/// Returns whether two expressions are equal.
 fn is_same_expr(a: Expr, b: Expr) -> bool
     ensures { IsTrue result ↔ (a ≡ b) }
 {
     a.sym == b.sym && a.k == b.k
 }
 
-/// Whether two lists of expressions are equal.
+/// Returns whether two lists of expressions are equal.
 fn are_same_exprs(a: &[Expr], b: &[Expr]) -> bool
     ensures { IsTrue result ↔ (a.now ≡ b.now) }
 {
@@ -51,7 +51,7 @@ fn are_same_exprs(a: &[Expr], b: &[Expr]) -> bool
 }
 
 impl Known {
-    /// Whether the same is known.
+    /// Returns whether the same is known.
     pub(crate) fn same(&self, other: &Known) -> bool
         ensures { IsTrue result ↔ (self.now ≡ other.now) }
     {

@@ -13,7 +13,7 @@ use crate::number::Number;
 use domain_api::{NoMemory, Values};
 use std::alloc::Global;
 
-/// What is known of a number that is one of two.
+/// Returns what is known of a number that is one of two.
 #[tactic(auto, unfolding(crate::specs::Join::joined))]
 fn joined(a: Number, b: Number) -> Number
     ensures { result ≡ join.joined a b }
@@ -35,7 +35,7 @@ fn widened(a: Number, b: Number) -> Number
     }
 }
 
-/// Whether the second may be each number that the first may be.
+/// Returns whether the second may be each number that the first may be.
 #[tactic(auto, unfolding(crate::specs::Inclusion::included))]
 fn is_included(a: Number, b: Number) -> bool
     ensures { result ≡ inclusion.included a b }
@@ -44,7 +44,7 @@ fn is_included(a: Number, b: Number) -> bool
 }
 
 impl Known {
-    /// What holds wherever one of two does.
+    /// Returns what holds wherever one of two does.
     #[tactic(auto, using(crate::proofs::Building::pair_steps))]
     pub(crate) fn joined(&self, alloc: Global, other: &Known) -> Result<Known, NoMemory>
         requires first { HasForm self.now }
@@ -74,7 +74,7 @@ impl Known {
         Ok(known)
     }
 
-    /// Whether each variable that is no constant has the next symbol, and no other symbol is there.
+    /// Returns whether each variable that is no constant has the next symbol, and no other symbol is there.
     pub(crate) fn is_numbered(&self) -> bool
         ensures { result ≡ inclusion.numbered 0 (length self.now.facts.ranges) self.now.variables }
     {
@@ -91,7 +91,7 @@ impl Known {
         count == self.numbers.ranges.len()
     }
 
-    /// Whether each number that a variable may be, it may be in the other too.
+    /// Returns whether each number that a variable may be, it may be in the other too.
     #[tactic(auto, using(crate::proofs::Building::pair_steps))]
     pub(crate) fn is_included(&self, other: &Known) -> bool
         requires first { HasForm self.now }
@@ -120,7 +120,7 @@ impl Known {
         Ok(known)
     }
 
-    /// What is known of variables of which each is known by itself.
+    /// Returns what is known of variables of which each is known by itself.
     #[tactic(auto, using(crate::proofs::Building::pair_steps))]
     pub(crate) fn of_numbers(alloc: Global, numbers: &[Number]) -> Result<Known, NoMemory>
         ensures { IfOk result (λ known. known ≡ of_numbers numbers.now) }

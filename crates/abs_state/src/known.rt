@@ -66,7 +66,7 @@ impl Known {
         self.numbers.ranges[sym as usize - 1]
     }
 
-    /// What is known of an expression by itself.
+    /// Returns what is known of an expression by itself.
     #[tactic(auto, using(crate::specs::OwnRanges::own_range), unfolding(crate::specs::NormalForm::number_at))]
     pub(crate) fn number_at(&self, e: Expr) -> Number
         requires number { IsNumber self.now.facts e }
@@ -79,7 +79,7 @@ impl Known {
         Number::Among(self.range_at(e.sym).add(&Range::constant(e.k)))
     }
 
-    /// What is known of a variable by itself.
+    /// Returns what is known of a variable by itself.
     #[tactic(auto, using(crate::proofs::Building::number_in_place))]
     pub(crate) fn number(&self, i: usize) -> Number
         requires there { i < length self.now.variables }

@@ -19,7 +19,7 @@ fn byte() -> Range
     Range::constant(0).hull(&Range::constant(255))
 }
 
-/// Whether the numbers of an expression are all numbers of bool.
+/// Returns whether the numbers of an expression are all numbers of bool.
 fn is_byte(numbers: &Numbers, e: Expr) -> bool
     requires there { e.sym ≤ length numbers.now.ranges }
     ensures { result ≡ rule.is_byte (range_of numbers.now e) }

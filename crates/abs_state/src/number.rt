@@ -38,7 +38,7 @@ impl Number {
         }
     }
 
-    /// What is known of a copy.
+    /// Returns what is known of a copy.
     pub(crate) fn copied(self) -> Number
         ensures { result ≡ copied self }
     {

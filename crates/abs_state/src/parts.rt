@@ -18,7 +18,7 @@ use std::marker::Model;
 /// A state as lists.
 #[derive(Drop)]
 pub struct Parts {
-    /// Whether something is reached. Where nothing is, both lists are empty.
+    /// True where something is reached. Where nothing is, both lists are empty.
     pub reached: bool,
     /// The expression of each variable: the arguments at the entry, the arguments, the locals, the stack from the bottom.
     pub variables: Vec<Expr>,
@@ -34,7 +34,7 @@ impl Model for Parts {
     ghost view = { λ p. record { reached = p.reached; variables = p.variables.items; ranges = p.ranges.items } };
 }
 
-/// Whether a hole lies strictly between two ends.
+/// Returns whether a hole lies strictly between two ends.
 fn is_inner(lo: i64, hi: i64, hole: Option<i64>) -> bool
     ensures { result ≡ tests.is_inner lo hi hole }
 {
@@ -44,7 +44,7 @@ fn is_inner(lo: i64, hi: i64, hole: Option<i64>) -> bool
     }
 }
 
-/// Whether the numbers of a range are int32, and there is one.
+/// Returns whether the numbers of a range are int32, and there is one.
 #[tactic(auto, unfolding(crate::specs::FormTests::is_narrow))]
 fn is_narrow(range: &Range) -> bool
     ensures { result ≡ tests.is_narrow range.now }
@@ -56,14 +56,14 @@ fn is_narrow(range: &Range) -> bool
         && is_inner(lo, hi, range.hole())
 }
 
-/// Whether this holds of each range.
+/// Returns whether this holds of each range.
 fn are_narrow(ranges: &[Range]) -> bool
     ensures { result ≡ list_all tests.is_narrow ranges.now }
 {
     ranges.iter().all(is_narrow)
 }
 
-/// Whether the ends of an expression's numbers are int32.
+/// Returns whether the ends of an expression's numbers are int32.
 fn is_int32(numbers: &Numbers, e: Expr) -> bool
     requires there { e.sym ≤ length numbers.now.ranges }
     ensures { result ≡ tests.has_int32_ends numbers.now e }
@@ -72,7 +72,7 @@ fn is_int32(numbers: &Numbers, e: Expr) -> bool
     i128::from(i32::MIN) <= lo && hi <= i128::from(i32::MAX)
 }
 
-/// Whether the symbol of an expression is there, and its numbers are int32.
+/// Returns whether the symbol of an expression is there, and its numbers are int32.
 #[tactic(auto, unfolding(crate::specs::FormTests::is_number))]
 fn is_number(numbers: &Numbers, e: Expr) -> bool
     ensures { result ≡ tests.is_number numbers.now e }
@@ -80,14 +80,14 @@ fn is_number(numbers: &Numbers, e: Expr) -> bool
     e.sym as usize <= numbers.ranges.len() && is_int32(numbers, e)
 }
 
-/// Whether this holds of each expression.
+/// Returns whether this holds of each expression.
 fn are_numbers(numbers: &Numbers, variables: &[Expr]) -> bool
     ensures { result ≡ list_all (tests.is_number numbers.now) variables.now }
 {
     variables.iter().all(|e| is_number(numbers, *e))
 }
 
-/// Whether what is known has its form.
+/// Returns whether what is known has its form.
 fn has_form(known: &Known) -> bool
     ensures { result ≡ tests.has_form known.now }
 {
@@ -95,7 +95,7 @@ fn has_form(known: &Known) -> bool
         && are_numbers(&known.numbers, known.variables.as_slice())
 }
 
-/// What is known by these parts, where something is reached.
+/// Returns what is known by these parts, where something is reached.
 fn known_from(alloc: Global, parts: &Parts) -> Result<Known, NoMemory>
     ensures { IfOk result (λ known. known ≡ known_from parts.now.variables parts.now.ranges) }
 {

@@ -61,7 +61,7 @@ impl AbsState {
         })
     }
 
-    /// Whether something is reached.
+    /// Returns whether something is reached.
     pub fn reached(&self) -> bool
         ensures reached { IsTrue result ↔ IsSome self.now }
         ensures form { ForSome self.now HasForm }
@@ -81,7 +81,7 @@ impl AbsState {
         }
     }
 
-    /// Whether two states are equal.
+    /// Returns whether two states are equal.
     pub fn same(&self, other: &AbsState) -> bool
         ensures { IsTrue result ↔ (self.now ≡ other.now) }
     {
@@ -103,7 +103,7 @@ impl AbsState {
         }
     }
 
-    /// How many variables there are. 0 where nothing is reached.
+    /// Returns how many variables there are. 0 where nothing is reached.
     pub fn var_count(&self) -> u64
         ensures { result ≡ length (variables_in self.now) }
     {
@@ -130,7 +130,7 @@ impl AbsState {
         variables[variables.len() - 1 - depth as usize]
     }
 
-    /// What is known, where something is reached.
+    /// Returns what is known, where something is reached.
     fn known(&self) -> &Known
         requires reached { IsSome self.now }
         ensures value { self.now ≡ Some result.now }

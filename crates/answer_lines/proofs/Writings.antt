@@ -25,7 +25,7 @@ retold interrupts.NoMemory interrupts.NoMemory h = refl
 retold interrupts.CannotWrite interrupts.NoMemory h = absurd cc
 retold interrupts.NoMemory interrupts.CannotWrite h = absurd cc
 
--- A text that is interrupted behind another one is a front of all that begins with both.
+-- A text that is interrupted after another one is a prefix of all that begins with both.
 pub writes_stop : {X Y : Type 0} (e : Interrupt) (old mid new : Option (List ℕ)) (f0 f1 f2 : ℕ) (before text whole : List ℕ)
     → mid ≡ appended old before → Kept f0 f1 → Writes {X = X} (Err e) (change mid new f1 f2) text → IsFront (before ++ text) whole
     → Writes {X = Y} (Err e) (change old new f0 f2) whole
@@ -36,7 +36,7 @@ writes_stop {X} {Y} e old mid new f0 f1 f2 before text whole so_far kept w insid
   kept = Kept-trans f0 f1 f2 kept w.kept;
 }
 
--- The texts of the first items and of the next are a front of the texts of all.
+-- The texts of the first items and of the next are a prefix of the texts of all.
 texts_front : {X : Type 0} (text : X → List ℕ) (items : List X) (k : ℕ) (item : X) → k < length items → item ≡ get_or items k item
     → IsFront (flat_map text (take k items) ++ text item) (flat_map text items)
 texts_front {X} text items k item lt at =

@@ -11,7 +11,7 @@ use Rattle.answer_lines.specs.declared.interrupt.Interrupt.TheVariants as interr
 abbrev pub WritesAll : Change → List ℕ → Type 0
 WritesAll sink text = sink.new ≡ appended sink.old text
 
--- The call gave the answer, or was interrupted behind a front of what it writes, by a fault of a sink or
+-- The call gave the answer, or was interrupted after a prefix of what it writes, by a fault of a sink or
 -- for want of memory.
 pub record Gives (answer : Answer) (result : Result ℕ Interrupt) (out err : Change) : Type 0 where
   pub status : IfOk result (λ status. status ≡ answer.status)
@@ -45,7 +45,7 @@ last_line (Ok status) = []
 last_line (Err interrupts.CannotWrite) = UNWRITTEN_LINE
 last_line (Err interrupts.NoMemory) = NO_MEMORY_LINE
 
--- The sink of errors has a front of one text, and behind it a front of the line that tells the status.
+-- The sink of errors has a prefix of one text, and after it a prefix of the line that tells the status.
 abbrev pub Interrupted : List ℕ → List ℕ → Change → Type 0
 Interrupted line text err =
     (first second : List ℕ) × IsFront first text × IsFront second line × (err.new ≡ appended err.old (first ++ second))
@@ -56,12 +56,12 @@ pub record Leaves (expected : Answer) (names : List (List ℕ)) (failed : Type 0
   -- Where nothing interrupts it, the answer is the expected one.
   pub answered : status ≢ 4 → status ≢ 6 → status ≢ 7
       → (status ≡ expected.status) × WritesAll out expected.out × WritesAll err expected.err
-  -- What was written is a front of what is expected, whatever happens.
+  -- What was written is a prefix of what is expected, whatever happens.
   pub front : AppendsFront out.old out.new expected.out
   -- Status 4 comes with the line of one of the files alone, and nothing on the sink of output.
   pub unread : status ≡ 4 → failed × Any (λ name. WritesAll err (unread_line name)) names
   pub unread_out : status ≡ 4 → WritesAll out []
-  -- Statuses 6 and 7 come behind a front of what would have been written, and with a front of their line.
+  -- Statuses 6 and 7 come after a prefix of what would have been written, and with a prefix of their line.
   pub unwritten : status ≡ 6 → Interrupted UNWRITTEN_LINE expected.err err
       ⊎ (failed × Any (λ name. Interrupted UNWRITTEN_LINE (unread_line name) err) names)
   pub no_memory : status ≡ 7 → Interrupted NO_MEMORY_LINE expected.err err

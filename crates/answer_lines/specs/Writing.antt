@@ -31,7 +31,7 @@ change_of written faults before after = record {
   faults_after = faults after;
 }
 
--- The call wrote the text, or was interrupted behind a front of it, by a fault of the sink or for
+-- The call wrote the text, or was interrupted after a prefix of it, by a fault of the sink or for
 -- want of memory.
 pub record Writes {X : Type 0} (result : Result X Interrupt) (sink : Change) (text : List ℕ) : Type 0 where
   pub whole : OnOk result (sink.new ≡ appended sink.old text)

@@ -13,7 +13,7 @@ pub const USAGE: &[u8] =
 /// What is written where a sink refused.
 pub const UNWRITTEN: &[u8] = b"cccheck: cannot write\n";
 
-/// The line that tells that memory ran out.
+/// The line that reports that memory ran out.
 pub const NO_MEMORY: &[u8] = b"cccheck: no memory\n";
 
 /// The line of a file that is not there.
@@ -36,7 +36,7 @@ pub fn unread_line(alloc: Global, name: &[u8]) -> Result<Vec<u8>, AllocError>
     Ok(line)
 }
 
-/// The line that tells why the words name no method that can be shown.
+/// The line that reports why the words name no method that can be shown.
 pub fn misfit_line(alloc: Global, reason: &[u8]) -> Result<Vec<u8>, AllocError>
     ensures { IfOk result (λ line. line.items ≡ misfit_line reason.now) }
 {

@@ -64,7 +64,7 @@ fn append_count(
     line.extend_from_slice(what)
 }
 
-/// How many methods and obligations a report has, and how they were found.
+/// The number of methods and obligations that a report has, and how they were found.
 #[derive(Clone, Copy)]
 pub struct Counts {
     /// All methods.

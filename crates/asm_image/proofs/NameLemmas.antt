@@ -58,7 +58,7 @@ parameters-opens_none : (others : List Place) → opens_none (parameters_text ot
 parameters-opens_none [] = refl
 parameters-opens_none (place ∷ others) = both (place_text place) (flat_map next_parameter others) (place-opens_none place) (next-opens_none others)
 
--- What stands behind the parenthesis that opens.
+-- What stands after the parenthesis that opens.
 abbrev pub behind : SigTypes → List ℕ
 behind (types.Known known) = parameters_text known.args ++ codes ")"
 behind types.Other = codes "?)"

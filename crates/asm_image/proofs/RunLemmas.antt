@@ -18,7 +18,7 @@ must-both : (a b : Bool) (fault : AsmFault) → must (a && b) fault ≡ None →
 must-both true b fault e = refl
 must-both false b fault e = absurd cc
 
--- A type whose tests are passed begins its run where the one before does, or behind it.
+-- A type whose tests are passed begins its run where the one before does, or after it.
 step-rises : (md : List ℕ) (base k : ℕ) → first_of (type_tests md base (k + 1 + 1)) ≡ None → method_list md (k + 1) ≤ method_list md (k + 1 + 1)
 unfolding type_tests
 step-rises md base k e =
@@ -70,7 +70,7 @@ owner-more md row k (suc n) begins later =
     let one : owner_among md row (suc (k + n)) ≡ owner_among md row (k + n) = rw test refl in
     rw more (one ∙ owner-more md row k n begins (λ j low high. later j low (omega arith)))
 
--- The next type's run begins behind the method.
+-- The next type's run begins after the method.
 pub owner_stop : (md : List ℕ) (row k : ℕ) → RunsRise md → Begins md k row → k < type_count md → row < method_list md (k + 1) → k ≡ owner md row
 unfolding owner
 owner_stop md row k rise begins lt past =

@@ -62,7 +62,7 @@ unfoldable pub owner_among : List ℕ → ℕ → ℕ → ℕ
 owner_among md row zero = 0
 owner_among md row (suc types) = if nat_le (method_list md (suc types)) row then suc types else owner_among md row types
 
--- The type that owns a method. A type's run ends where the next one begins, and the last run behind the
+-- The type that owns a method. A type's run ends where the next one begins, and the last run after the
 -- last method.
 unfoldable pub owner : List ℕ → ℕ → ℕ
 owner md row = owner_among md row (type_count md)

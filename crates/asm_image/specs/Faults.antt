@@ -56,7 +56,7 @@ text_test md base table row column = must (is_some (string_at md (cell md table 
 abbrev pub least_list : List ℕ → ℕ → ℕ
 least_list md row = if row == 1 then 1 else method_list md (row - 1)
 
--- A type's run of methods begins no earlier than that, and at most behind the last method.
+-- A type's run of methods begins no earlier than that, and at most after the last method.
 abbrev pub list_test : List ℕ → ℕ → ℕ → Option AsmFault
 list_test md base row =
     must (nat_le (least_list md row) (method_list md row) && nat_le (method_list md row) (method_count md + 1)) (index_out md base type_def row type_def_method_list)

@@ -7,7 +7,7 @@ use Rattle.signature_blobs.specs.declared.method.SigTypes.{SigTypes}
 use Rattle.signature_blobs.specs.declared.method.SigTypes.TheVariants as types
 use Rattle.asm_image.specs.Cells.{type_name, namespace, method_name, signature, owner}
 
--- A type's name behind its namespace. A point stands between, where there is a namespace.
+-- A type's name after its namespace. A point stands between, where there is a namespace.
 abbrev pub qualified : List ℕ → List ℕ → List ℕ
 qualified [] name = escaped name
 qualified (byte ∷ bytes) name = escaped (byte ∷ bytes) ++ codes "." ++ escaped name
@@ -17,7 +17,7 @@ abbrev pub owner_text : List ℕ → ℕ → List ℕ
 owner_text md zero = []
 owner_text md (suc k) = qualified (namespace md (suc k)) (type_name md (suc k))
 
--- The type of the parameter of an index from 0 on, behind a comma where it is not the first.
+-- The type of the parameter of an index from 0 on, after a comma where it is not the first.
 abbrev pub parameter_text : ℕ → Place → List ℕ
 parameter_text zero place = place_text place
 parameter_text (suc index) place = next_parameter place

@@ -21,7 +21,7 @@ pub record IsFile (inside : file.Inside) : Type 0 where
   pub offset_kept : inside.metadata.offset ≡ metadata_at inside.image
   pub rise : RunsRise inside.metadata.bytes
 
--- A walk is at a method or behind the last, and the type is one whose run begins at or before that method.
+-- A walk is at a method or after the last, and the type is one whose run begins at or before that method.
 pub record IsWalk (md : List ℕ) (row owner : ℕ) (owner_name : List ℕ) : Type 0 where
   pub first : 1 ≤ row
   pub last : row ≤ method_count md + 1

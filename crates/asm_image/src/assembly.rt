@@ -79,7 +79,7 @@ fn read_methods(alloc: Global, file: &AssemblyFile<'_>) -> Result<Vec<MethodRow>
     Ok(methods)
 }
 
-/// What two sets of methods without a common one mean together.
+/// Returns what two sets of methods without a common one mean together.
 fn either(first: Option<Found>, second: Option<Found>) -> Option<Found>
     ensures { result ≡ either first second }
 {
@@ -89,7 +89,7 @@ fn either(first: Option<Found>, second: Option<Found>) -> Option<Found>
     }
 }
 
-/// What is meant once one method more is.
+/// Returns what is meant once one method more is.
 fn one_more(before: Option<Found>, token: Token) -> Found
     ensures { result ≡ one_more before token }
 {
@@ -146,7 +146,7 @@ impl<'a> Assembly<'a> {
         self.methods.get(token.row() as usize - 1)
     }
 
-    /// What a name means: the methods whose printed name it is, whole or up to the types of the parameters.
+    /// Returns what a name means: the methods whose printed name it is, whole or up to the types of the parameters.
     /// None where there is no such method.
     ///
     /// Cost: two look-ups, and one comparison for each method that has the name up to the types. It takes
@@ -212,7 +212,7 @@ impl<'a> Assembly<'a> {
         tokens::element_of(self.file.metadata(), token)
     }
 
-    /// What a token of a call names: a method of the assembly, a method of the class `Contract`, or
+    /// Returns what a token of a call names: a method of the assembly, a method of the class `Contract`, or
     /// anything else (III.3.19).
     pub fn callee_of(&self, token: Token) -> Callee
         ensures { result ≡ callee_of (metadata self.now) token.0 }

@@ -22,13 +22,13 @@ use signature_blobs::spec_sig;
 /// The tag of TypeRef in a MemberRefParent (II.24.2.6).
 const PARENT_TYPE_REF: u32 = 1;
 
-/// How many values the tag of a MemberRefParent has.
+/// The number of values that the tag of a MemberRefParent has.
 const PARENT_TAGS: u32 = 8;
 
 /// The tag of MemberRef in a MethodDefOrRef.
 const METHOD_MEMBER_REF: u32 = 1;
 
-/// How many values the tag of a MethodDefOrRef has.
+/// The number of values that the tag of a MethodDefOrRef has.
 const METHOD_TAGS: u32 = 2;
 
 /// A method of the class `Contract`.
@@ -129,7 +129,7 @@ fn number_among(methods: &[ContractMethod], name: &[u8], signature: &[u8]) -> Op
     None
 }
 
-/// Whether a row of the table TypeRef is the class `Contract`.
+/// Returns whether a row of the table TypeRef is the class `Contract`.
 #[tactic(auto, using(metadata_tables::proofs::ColumnLemmas::known_columns), unfolding(crate::specs::Calls::is_contract_class))]
 fn is_contract_class(metadata: &Metadata<'_>, row: u32) -> bool
     requires { HasRow metadata.now.bytes type_ref row }
@@ -159,7 +159,7 @@ fn tagged_row(metadata: &Metadata<'_>, table: u8, tag: u32, tags: u32, index: u3
     }
 }
 
-/// Whether a row of the table MemberRef is a method of the class `Contract`.
+/// Returns whether a row of the table MemberRef is a method of the class `Contract`.
 #[tactic(auto, using(metadata_tables::proofs::ColumnLemmas::known_columns), unfolding(crate::specs::Calls::is_contract_method))]
 fn is_contract_method(metadata: &Metadata<'_>, row: u32) -> bool
     requires { HasRow metadata.now.bytes member_ref row }
@@ -237,7 +237,7 @@ fn numbered(number: Option<u32>) -> Callee
     }
 }
 
-/// What a row of the table MemberRef calls.
+/// Returns what a row of the table MemberRef calls.
 fn plain_callee(metadata: &Metadata<'_>, row: u32) -> Callee
     requires { HasRow metadata.now.bytes member_ref row }
     ensures { result ≡ numbered (member_number metadata.now.bytes plain_methods row) }
@@ -248,7 +248,7 @@ fn plain_callee(metadata: &Metadata<'_>, row: u32) -> Callee
     }
 }
 
-/// What a token calls.
+/// Returns what a token calls.
 #[tactic(auto, unfolding(crate::specs::Calls::callee_of))]
 pub fn callee_of(metadata: &Metadata<'_>, token: Token) -> Callee
     ensures { result ≡ callee_of metadata.now.bytes token.0 }

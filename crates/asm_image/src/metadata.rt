@@ -52,7 +52,7 @@ impl<'a> Metadata<'a> {
         &self.tables
     }
 
-    /// How many rows a table has, 0 where there is no such table.
+    /// Returns how many rows a table has, 0 where there is no such table.
     pub fn row_count(&self, table: u8) -> u32
         ensures count { result ≡ row_count self.now.bytes table }
         ensures few { 2 * result * length (columns_of table) ≤ MAX_FILE_BYTES }
@@ -129,7 +129,7 @@ impl<'a> Metadata<'a> {
         }
     }
 
-    /// Whether the text that a cell names is this one.
+    /// Returns whether the text that a cell names is this one.
     ///
     /// Cost: linear in the length of `known`.
     #[tactic(auto, using(crate::proofs::TextLemmas::known_text))]

@@ -30,7 +30,7 @@ const ABSTRACT: u16 = 0x0400;
 const PINVOKE_IMPL: u16 = 0x2000;
 
 impl MethodRow {
-    /// Whether the method has a body of IL: an address, and flags that say so (II.23.1.10 and II.23.1.11).
+    /// Returns whether the method has a body of IL: an address, and flags that say so (II.23.1.10 and II.23.1.11).
     pub fn has_il_body(&self) -> bool
         ensures { result ≡ has_il_body self.now }
     {

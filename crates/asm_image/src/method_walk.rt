@@ -26,7 +26,7 @@ use std::marker::Model;
 #[derive(Drop)]
 pub struct MethodWalk<'f, 'a> {
     metadata: &'f Metadata<'a>,
-    /// The row of the current method, or the one behind the last.
+    /// The row of the current method, or the one after the last.
     row: u32,
     /// A type whose run of methods begins at or before that row, 0 for none.
     owner: u32,
@@ -80,7 +80,7 @@ fn method_at(metadata: &Metadata<'_>, row: u32) -> Method
     }
 }
 
-/// Appends the printed name of a method behind that of its type.
+/// Appends the printed name of a method after that of its type.
 #[tactic(auto, using(metadata_tables::proofs::ColumnLemmas::known_columns))]
 fn append_own_name(
     alloc: Global,

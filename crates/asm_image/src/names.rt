@@ -15,7 +15,7 @@ use metadata_tables::table::TYPE_DEF;
 use signature_blobs::{Places, SigTypes};
 use std::alloc::{AllocError, Global};
 
-/// Appends the name of a type behind its namespace.
+/// Appends the name of a type after its namespace.
 fn append_qualified(
     alloc: Global,
     line: &mut Vec<u8>,
@@ -31,7 +31,7 @@ fn append_qualified(
     append_escaped(alloc, line, name)
 }
 
-/// Appends the type of the parameter of an index from 0 on, behind a comma where it is not the first.
+/// Appends the type of the parameter of an index from 0 on, after a comma where it is not the first.
 fn append_place(line: &mut Vec<u8>, index: usize, place: Place) -> Result<(), AllocError>
     ensures { OnOk result (line.new.items ≡ line.old.items ++ parameter_text index place) }
 {

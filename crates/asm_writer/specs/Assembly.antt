@@ -19,6 +19,6 @@ section_of plan =
     let l = layout_of plan in
     section l.bodies.bytes (metadata l plan.methods.items)
 
--- The file of a plan: the headers, and the section behind them.
+-- The file of a plan: the headers, and the section after them.
 unfoldable pub assembly_bytes : AsmPlan → List ℕ
 assembly_bytes plan = headers plan.wide (length (section_of plan)) ++ section_of plan

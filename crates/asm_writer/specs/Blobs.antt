@@ -6,7 +6,7 @@ use Rattle.asm_writer.specs.declared.plan.MethodPlan.{MethodPlan}
 use Rattle.asm_writer.specs.Packing.{Packing, packed, filled}
 use Rattle.asm_writer.specs.Signatures.{VOID, BOOLEAN, I4, STRING, SZARRAY, MVAR, blob, signature_blob, local_blob}
 
--- The blobs in the order of the heap. Those of the methods stand behind them.
+-- The blobs in the order of the heap. Those of the methods stand after them.
 abbrev pub cited_blobs : List Blob
 cited_blobs =
     blobs.Empty ∷ blobs.Condition ∷ blobs.ConditionAndMessage ∷ blobs.Nothing ∷ blobs.Result ∷ blobs.OldValue
@@ -39,7 +39,7 @@ blob_index blobs.OfInt = 7
 blob_index blobs.OfBools = 8
 blob_index blobs.OfInts = 9
 
--- The same of the blobs of the method of this index: its signature, and behind it its locals.
+-- The same of the blobs of the method of this index: its signature, and after it its locals.
 abbrev pub signature_index : ℕ → ℕ
 signature_index method = length cited_blobs + 2 * method
 

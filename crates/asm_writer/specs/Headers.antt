@@ -24,7 +24,7 @@ cli_header rva size = Four 72 ∷ Four 0 ∷ Four rva ∷ Four size ∷ Zeros 56
 abbrev pub cli_header_size : ℕ
 cli_header_size = numbers_width (cli_header 0 0)
 
--- Where the first method body stands in memory, behind the CLI header.
+-- Where the first method body stands in memory, after the CLI header.
 abbrev pub bodies_rva : ℕ
 bodies_rva = section_rva + cli_header_size
 
@@ -40,7 +40,7 @@ file_header wide =
     Four 0x4550 ∷ Two (if wide then 0x8664 else 0x14c) ∷ Two 1 ∷ Zeros 12
     ∷ Two (numbers_width (optional_header wide)) ∷ Two 0 ∷ []
 
--- The one section header (II.25.3), of a section of this size behind the headers.
+-- The one section header (II.25.3), of a section of this size after the headers.
 abbrev pub section_numbers : ℕ → List Number
 section_numbers size = Four 0 ∷ Four section_rva ∷ Four size ∷ Four file_alignment ∷ Zeros 16 ∷ []
 

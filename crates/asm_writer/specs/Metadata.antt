@@ -16,7 +16,7 @@ user_strings = 0 ∷ 0x11 ∷ flat_map (λ letter. letter ∷ 0 ∷ []) (codes "
 abbrev pub guids : List ℕ
 guids = 1 ∷ 2 ∷ 3 ∷ 4 ∷ 5 ∷ 6 ∷ 7 ∷ 8 ∷ 9 ∷ 10 ∷ 11 ∷ 12 ∷ 13 ∷ 14 ∷ 15 ∷ 16 ∷ []
 
--- A text with a zero behind it, filled up to a multiple of four.
+-- A text with a zero after it, filled up to a multiple of four.
 unfoldable pub padded_text : List ℕ → List ℕ
 padded_text text = padded 4 (zero_ended text)
 
@@ -69,7 +69,7 @@ root size all = root_front (length all) ++ (joined size all).headers
 unfoldable pub root_size : List Stream → ℕ
 root_size all = length (root 0 all)
 
--- The root, and behind it the streams.
+-- The root, and after it the streams.
 unfoldable pub metadata : Layout → List MethodPlan → List ℕ
 metadata l methods =
     let all = streams (tables_stream l methods) l in

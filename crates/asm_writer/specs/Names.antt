@@ -6,7 +6,7 @@ use Rattle.asm_writer.specs.declared.plan.AsmPlan.{AsmPlan}
 use Rattle.asm_writer.specs.declared.plan.MethodPlan.{MethodPlan}
 use Rattle.asm_writer.specs.Packing.{Packing, packed, filled}
 
--- The names in the order of the heap. Those of the methods stand behind them.
+-- The names in the order of the heap. Those of the methods stand after them.
 abbrev pub cited_names : List Name
 cited_names =
     names.Empty ∷ names.Object ∷ names.System ∷ names.Int32 ∷ names.Boolean ∷ names.Contract ∷ names.Contracts

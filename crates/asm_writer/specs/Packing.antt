@@ -1,4 +1,4 @@
--- Items one behind another.
+-- Items one after another.
 use Rattle.std.specs.Prelude.{ℕ, List, [], ◌∷◌, ◌++◌, length, fold}
 use Rattle.asm_writer.specs.Padding.{padded}
 
@@ -7,7 +7,7 @@ pub record Packing : Type 0 where
   pub bytes : List ℕ
   pub offsets : List ℕ
 
--- The next item begins behind the bytes that there are.
+-- The next item begins after the bytes that there are.
 abbrev pub begun : Packing → Packing
 begun packing = record { bytes = packing.bytes; offsets = packing.offsets ++ length packing.bytes ∷ [] }
 

@@ -20,7 +20,7 @@ use Rattle.asm_writer.specs.Rows.{table_rows}
 use Rattle.asm_writer.specs.Stream.{stream_numbers, count_numbers, tables_stream}
 use Rattle.asm_writer.specs.Tables.{all_tables}
 
--- The items of a heap, one behind another.
+-- The items of a heap, one after another.
 abbrev pub items_size : List (List ℕ) → ℕ
 items_size items = sum_by length items
 

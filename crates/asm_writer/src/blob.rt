@@ -20,7 +20,7 @@ pub enum Blob {
     Empty,
     /// The signature of a call with a condition.
     Condition,
-    /// The same with a message behind the condition.
+    /// The same with a message after the condition.
     ConditionAndMessage,
     /// The signature of a call with no arguments.
     Nothing,

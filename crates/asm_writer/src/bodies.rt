@@ -14,7 +14,7 @@ use crate::table::Table;
 use cc_base::Token;
 use std::alloc::{AllocError, Global};
 
-/// How many bytes stand before the code.
+/// The number of bytes that stand before the code.
 const HEADER_SIZE: usize = 12;
 
 /// The token of the method's locals, where it has any, in this row of StandAloneSig.
@@ -47,7 +47,7 @@ fn append_body(out: &mut Vec<u8>, row: u32, method: &MethodPlan) -> Result<(), A
     append_fill(out, 4, HEADER_SIZE + method.code.len())
 }
 
-/// How many rows of StandAloneSig the method has.
+/// Returns how many rows of StandAloneSig the method has.
 #[tactic(auto, unfolding(crate::specs::Bodies::locals_rows))]
 pub fn locals_rows(method: &MethodPlan) -> u32
     ensures is { result ≡ locals_rows method.now }

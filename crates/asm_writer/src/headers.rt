@@ -15,10 +15,10 @@ pub const FILE_ALIGNMENT: usize = 0x200;
 /// Where the section stands in memory.
 const SECTION_RVA: u64 = 0x2000;
 
-/// How many bytes the CLI header has.
+/// The number of bytes that the CLI header has.
 const CLI_HEADER_SIZE: u64 = 72;
 
-/// Where the first method body stands in memory, behind the CLI header.
+/// Where the first method body stands in memory, after the CLI header.
 pub const BODIES_RVA: u64 = SECTION_RVA + CLI_HEADER_SIZE;
 
 /// Appends the MS-DOS header.

@@ -28,9 +28,9 @@ pub struct Layout {
     pub blobs: Packed,
     /// The bodies of the methods.
     pub bodies: Packed,
-    /// How many rows MethodDef has.
+    /// The number of rows that MethodDef has.
     methods: usize,
-    /// How many rows StandAloneSig has.
+    /// The number of rows that StandAloneSig has.
     locals: usize,
 }
 
@@ -48,7 +48,7 @@ fn heap_index(heap: &Packed, item: usize) -> Number
     index(heap.is_wide(), heap.offset(item))
 }
 
-/// How many rows StandAloneSig has.
+/// Returns how many rows StandAloneSig has.
 fn locals_count(methods: &[MethodPlan]) -> usize
     ensures { result ≡ sum_by locals_rows methods.now }
 {
@@ -60,7 +60,7 @@ fn locals_count(methods: &[MethodPlan]) -> usize
 }
 
 impl Layout {
-    /// What the rows of the plan cite.
+    /// Returns what the rows of the plan cite.
     #[tactic(auto, using(crate::proofs::RowLemmas::count_methods, crate::proofs::RowLemmas::count_locals))]
     pub fn new(alloc: Global, plan: &AsmPlan) -> Result<Layout, AllocError>
         requires within { All (λ m. IsTrue (is_within m)) plan.now.methods.items }
@@ -76,7 +76,7 @@ impl Layout {
         })
     }
 
-    /// How many rows a table has.
+    /// Returns how many rows a table has.
     pub fn row_count(&self, table: Table) -> usize
         ensures { result ≡ row_count self.now table }
     {
@@ -87,7 +87,7 @@ impl Layout {
         }
     }
 
-    /// Whether an index into these tables has four bytes, where this many of its bits are the tag
+    /// Returns whether an index into these tables has four bytes, where this many of its bits are the tag
     /// (II.24.2.6).
     fn is_wide_index(&self, tables: &[Table], tag_bits: u8) -> bool
         requires { tag_bits ≤ 16 }

@@ -11,7 +11,7 @@ use crate::tables::tables_stream;
 use std::alloc::{AllocError, Global};
 use std::marker::Model;
 
-/// How many bytes the root has, with the headers of the five streams.
+/// The number of bytes that the root has, with the headers of the five streams.
 const ROOT_SIZE: u64 = 108;
 
 /// The heap `#US`, which has the one message `contract`.

@@ -1,4 +1,4 @@
-//! Items one behind another, and where each begins.
+//! Items one after another, and where each begins.
 
 ghost use Rattle.std.specs.Prelude.{◌≡◌, ◌<◌, ◌^◌, [], ◌∷◌, nat_le, length, slice_index, OnOk};
 ghost use Rattle.asm_writer.specs.Packing.{begun, pushed, filled, packed};
@@ -7,7 +7,7 @@ use crate::padding::pad;
 use std::alloc::{AllocError, Global};
 use std::marker::Model;
 
-/// Items one behind another: their bytes, and the offset at which each begins.
+/// Items one after another: their bytes, and the offset at which each begins.
 #[derive(Drop)]
 pub struct Packed {
     pub bytes: Vec<u8>,
@@ -69,7 +69,7 @@ impl Packed {
         self.offsets.get(index).copied().unwrap_or(0)
     }
 
-    /// Whether an offset has four bytes in a column, in place of two (II.24.2.6).
+    /// Returns whether an offset has four bytes in a column, in place of two (II.24.2.6).
     pub fn is_wide(&self) -> bool
         ensures { result ≡ nat_le (2 ^ 16) (length self.now.bytes) }
     {

@@ -13,7 +13,7 @@ pub struct AsmPlan {
     pub namespace: Vec<u8>,
     /// The name of the class and of the assembly, in UTF-8.
     pub class: Vec<u8>,
-    /// Whether the file is PE32+, for x64, in place of PE32.
+    /// True where the file is PE32+, for x64, in place of PE32.
     pub wide: bool,
     /// The methods of the class, in the order of their rows.
     pub methods: Vec<MethodPlan>,
@@ -24,7 +24,7 @@ pub struct AsmPlan {
 pub struct MethodPlan {
     /// The name, in UTF-8.
     pub name: Vec<u8>,
-    /// Whether it has no `this`.
+    /// True where it has no `this`.
     pub is_static: bool,
     /// What it returns.
     pub result: Place,
@@ -32,7 +32,7 @@ pub struct MethodPlan {
     pub args: Vec<Place>,
     /// Its local variables.
     pub locals: Vec<Place>,
-    /// How many stack slots its body has.
+    /// The number of stack slots that its body has.
     pub max_stack: u8,
     /// The bytes of its instructions, with the tokens of the file that is written.
     pub code: Vec<u8>,

@@ -117,7 +117,7 @@ pub const METHOD_SPECS: [[Field; 2]; 8] = [
     [OLD_VALUE, Blobs(Blob::OfInts)],
 ];
 
-/// How many rows a table has, but for those of MethodDef and StandAloneSig.
+/// Returns how many rows a table has, but for those of MethodDef and StandAloneSig.
 pub fn fixed_count(table: Table) -> usize
     ensures { result ≡ length (fixed_rows table) }
 {

@@ -33,7 +33,7 @@ fn type_bytes(place: Place) -> &'static [u8]
     }
 }
 
-/// How many bytes types have together.
+/// Returns how many bytes types have together.
 fn types_size(places: &[Place]) -> usize
     requires { length places.now ≤ 128 }
     ensures is { result ≡ length (flat_map type_bytes places.now) }
@@ -46,7 +46,7 @@ fn types_size(places: &[Place]) -> usize
     size
 }
 
-/// How many bytes a compressed number has.
+/// Returns how many bytes a compressed number has.
 #[tactic(auto, unfolding(crate::specs::Signatures::compressed))]
 fn compressed_size(n: usize) -> usize
     requires { n < 0x4000 }
@@ -81,7 +81,7 @@ fn append_types(out: &mut Vec<u8>, places: &[Place]) -> Result<(), AllocError>
     Ok(())
 }
 
-/// How many bytes the signature of a method has.
+/// Returns how many bytes the signature of a method has.
 #[tactic(auto, unfolding(crate::specs::Signatures::signature))]
 fn signature_size(method: &MethodPlan) -> usize
     requires { length method.now.args.items ≤ 128 }

@@ -84,7 +84,7 @@ impl CodedIndex {
         }
     }
 
-    /// How many of the low bits tell the table.
+    /// Returns how many of the low bits tell the table.
     pub fn tag_bits(self) -> u8
         ensures is { result ≡ tag_bits self }
         ensures bound { result ≤ 3 }

@@ -17,7 +17,7 @@ use std::alloc::{AllocError, Global};
 /// A token has 24 bits for a row (III.1.9).
 const TOO_MANY_METHODS: usize = 1 << 24;
 
-/// Whether the method keeps the limits on its code and on its variables.
+/// Returns whether the method keeps the limits on its code and on its variables.
 #[tactic(auto, unfolding(crate::specs::Limits::is_within))]
 fn is_within(method: &MethodPlan) -> bool
     ensures { result ≡ is_within method.now }
@@ -30,7 +30,7 @@ fn is_within(method: &MethodPlan) -> bool
         && args + locals + method.max_stack as usize <= MAX_VARIABLES
 }
 
-/// Whether all methods keep their limits.
+/// Returns whether all methods keep their limits.
 fn all_within(methods: &[MethodPlan]) -> bool
     ensures { result ≡ list_all is_within methods.now }
 {

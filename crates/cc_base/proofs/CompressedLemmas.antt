@@ -10,7 +10,7 @@ use Rattle.cc_base.specs.declared.compressed.Compressed.{Compressed}
 use Rattle.cc_base.specs.declared.compressed.CompressedFault.{CompressedFault}
 use Rattle.cc_base.specs.declared.compressed.CompressedFault.TheVariants.{Cut, Form}
 
--- A spelling of the number that was found stands at the front of the bytes.
+-- A spelling of the number that was found stands at the start of the bytes.
 pub record Spelled (bytes : List ℕ) (found : Compressed) : Type 0 where
   pub spelling : List ℕ
   pub rest : List ℕ

@@ -1,4 +1,4 @@
--- How bytes that are appended follow one another, and the fronts of lists.
+-- How bytes that are appended follow one another, and the prefixes of lists.
 use Rattle.std.proofs.Common.{◌≡◌, ℕ, List, [], ◌++◌, Option, Some, None, refl, ap, sym, ◌∙◌, append_assoc, append-nil}
 use Rattle.cc_base.specs.Sink.{appended, IsFront, AppendsFront}
 
@@ -12,18 +12,18 @@ pub appended-nil : (told : Option (List ℕ)) → appended told [] ≡ told
 appended-nil None = refl
 appended-nil (Some w) = ap Some (append-nil w)
 
--- The empty list is a front of each list.
+-- The empty list is a prefix of each list.
 pub IsFront-nil : (w : List ℕ) → IsFront [] w
 IsFront-nil w = (w, refl)
 
--- A list is a front of itself.
+-- A list is a prefix of itself.
 pub IsFront-refl : (w : List ℕ) → IsFront w w
 IsFront-refl w = ([], sym (append-nil w))
 
 pub IsFront-trans : (f g w : List ℕ) → IsFront f g → IsFront g w → IsFront f w
 IsFront-trans f g w (r, e) (s, d) = (r ++ s, d ∙ ap (λ (x : List ℕ). x ++ s) e ∙ append_assoc f r s)
 
--- A front of a list is a front of it with more behind.
+-- A front of a list is a prefix of it with more after.
 pub IsFront-more : (f w z : List ℕ) → IsFront f w → IsFront f (w ++ z)
 IsFront-more f w z (r, e) = (r ++ z, ap (λ (x : List ℕ). x ++ z) e ∙ append_assoc f r z)
 
@@ -31,19 +31,19 @@ IsFront-more f w z (r, e) = (r ++ z, ap (λ (x : List ℕ). x ++ z) e ∙ append
 pub IsFront-after : (a f w : List ℕ) → IsFront f w → IsFront (a ++ f) (a ++ w)
 IsFront-after a f w (r, e) = (r, ap (λ (x : List ℕ). a ++ x) e ∙ sym (append_assoc a f r))
 
--- The whole of the bytes is a front of them.
+-- The whole of the bytes is a prefix of them.
 pub AppendsFront-all : (old new : Option (List ℕ)) (bytes : List ℕ) → new ≡ appended old bytes → AppendsFront old new bytes
 AppendsFront-all old new bytes e = (bytes, IsFront-refl bytes, e)
 
--- Nothing is a front of the bytes.
+-- Nothing is a prefix of the bytes.
 pub AppendsFront-none : (old new : Option (List ℕ)) (bytes : List ℕ) → new ≡ old → AppendsFront old new bytes
 AppendsFront-none old new bytes e = ([], IsFront-nil bytes, e ∙ sym (appended-nil old))
 
--- A front of the bytes is a front of them with more behind.
+-- A front of the bytes is a prefix of them with more after.
 pub AppendsFront-more : (old new : Option (List ℕ)) (xs ys : List ℕ) → AppendsFront old new xs → AppendsFront old new (xs ++ ys)
 AppendsFront-more old new xs ys (f, isFront, e) = (f, IsFront-more f xs ys isFront, e)
 
--- Bytes that are written whole, and then a front of further ones.
+-- Bytes that are written whole, and then a prefix of further ones.
 pub AppendsFront-after : (old mid new : Option (List ℕ)) (xs ys : List ℕ)
     → mid ≡ appended old xs → AppendsFront mid new ys → AppendsFront old new (xs ++ ys)
 AppendsFront-after old mid new xs ys whole (f, isFront, e) = (

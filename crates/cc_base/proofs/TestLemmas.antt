@@ -1,4 +1,4 @@
--- The first fault of tests: test by test, list behind list, and by number.
+-- The first fault of tests: test by test, list after list, and by number.
 use Rattle.std.proofs.Common.{◌≡◌, ℕ, zero, suc, ◌+◌, ◌-◌, ◌<◌, ◌≤◌, List, [], ◌∷◌, ◌++◌, map, Bool, true, false, Option, Some, None, refl, sym, ap, subst, ◌∙◌, arith, inl, inr}
 use Rattle.std.specs.Prelude.{Result, Ok, Err, IsOk, IfErr, IsErrAnd, ◌↔◌}
 use Rattle.std.specs.List.{AllByRecursion, flat_map, range_with_len}
@@ -38,7 +38,7 @@ pub must-failed : {F : Type 0} (holds : Bool) (fault : F) (rest : List (Option F
 unfolding first_of
 must-failed holds fault rest so = rw so refl
 
--- ---- one list of tests behind another
+-- ---- one list of tests after another
 
 pub first_of-append : {F : Type 0} (tests rest : List (Option F)) → first_of (tests ++ rest) ≡ option_or (first_of tests) (first_of rest)
 unfolding first_of

@@ -20,7 +20,7 @@ compressed (first ∷ rest) =
     else if nat_lt first 0xE0 then low_bits 29 4 (first ∷ rest)
     else Err Form
 
--- The number in one byte, in two behind the bits 10, or in four behind the bits 110. It may stand in
+-- The number in one byte, in two after the bits 10, or in four after the bits 110. It may stand in
 -- more bytes than it needs.
 abbrev pub SpellsNumber : ℕ → List ℕ → Type 0
 SpellsNumber n bytes =

@@ -5,7 +5,7 @@ use Rattle.std.specs.Prelude.{◌≡◌, ℕ, List, ◌++◌, Option, option_map
 abbrev pub appended : Option (List ℕ) → List ℕ → Option (List ℕ)
 appended told bytes = option_map (λ written. written ++ bytes) told
 
--- The first list is a front of the second.
+-- The first list is a prefix of the second.
 abbrev pub IsFront : List ℕ → List ℕ → Type 0
 IsFront front whole = (rest : List ℕ) × (whole ≡ front ++ rest)
 

@@ -10,7 +10,7 @@ use byteorder::{BigEndian, ByteOrder};
 pub struct Compressed {
     /// The number, below 2^29.
     pub number: u32,
-    /// How many bytes it is written in: 1, 2 or 4.
+    /// The number of bytes that it is written in: 1, 2 or 4.
     pub width: u32,
 }
 

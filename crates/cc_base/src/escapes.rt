@@ -7,7 +7,7 @@ ghost use Rattle.cc_base.specs.Sink.{IsFront};
 use crate::digits::put_hex;
 use std::alloc::{AllocError, Global};
 
-/// Whether a byte of a name is printed as it is.
+/// Returns whether a byte of a name is printed as it is.
 fn is_plain(byte: u8) -> bool
     ensures { result ≡ is_plain byte }
 {

@@ -25,17 +25,17 @@ pub struct NamedFile {
 pub struct MapFiles {
     /// The files that are held.
     pub files: Vec<NamedFile>,
-    /// How many reads there were.
+    /// The number of reads.
     pub reads: u64,
     /// The reads that are to fail, by their number from 1, where they name a file that is held.
     pub fail_reads: Vec<u64>,
-    /// How many replacements there were.
+    /// The number of replacements.
     pub replaces: u64,
     /// The replacements that are to fail, by their number from 1.
     pub fail_replaces: Vec<u64>,
-    /// How many reads found no file.
+    /// The number of reads that found no file.
     pub missed: u64,
-    /// How many calls failed because they were to.
+    /// The number of calls that failed because they were to.
     pub faults: u64,
 }
 

@@ -12,11 +12,11 @@ use std::alloc::Global;
 pub struct VecSink {
     /// All that was written.
     pub bytes: Vec<u8>,
-    /// How many puts there were.
+    /// The number of puts.
     pub puts: u64,
     /// The puts that are to fail and write nothing, by their number from 1.
     pub fail_puts: Vec<u64>,
-    /// How many puts failed because they were to.
+    /// The number of puts that failed because they were to.
     pub faults: u64,
 }
 

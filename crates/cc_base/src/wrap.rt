@@ -3,7 +3,7 @@
 ghost use Rattle.std.specs.Prelude.{◌≡◌};
 ghost use Rattle.cc_base.specs.Wrap.{wrap32};
 
-/// How many numbers of 32 bits there are.
+/// 2^32, the number of numbers of 32 bits.
 const COUNT: i64 = 4_294_967_296;
 
 /// The number from -2^31 to 2^31 - 1 that differs from n by a multiple of 2^32.

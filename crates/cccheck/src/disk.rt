@@ -46,7 +46,7 @@ impl<R: fs::Files + Drop> Disk<R> {
     }
 }
 
-/// What stands under a name, cut to the first `READ_LIMIT` bytes.
+/// Returns what stands under a name, cut to the first `READ_LIMIT` bytes.
 fn read_cut(alloc: Global, rt: &impl fs::Files, name: &str) -> io::Result<Vec<u8>> {
     let mut bytes = Vec::new(alloc);
     let file = fs::open(rt, name)?;

@@ -15,7 +15,7 @@ use widening_engine::Plain;
 mod disk;
 mod stream;
 
-/// The words behind the program's name. Where one of them is no text there are none.
+/// The words after the program's name. Where one of them is no text there are none.
 fn words(rt: &(impl Env + AllocGlobal)) -> Result<Vec<String>, AllocError> {
     let mut words = Vec::new(rt.alloc());
     match env::args(rt) {

@@ -17,12 +17,12 @@ front_none keys old = ([], (keys, refl), sym (append-nil old))
 pub front_all : (keys old new : Keys) → new ≡ old ++ keys → AsksFront keys old new
 front_all keys old new is = (keys, ([], sym (append-nil keys)), is)
 
--- A front is a front of more.
+-- A front is a prefix of more.
 pub front_more : (keys more old new : Keys) → AsksFront keys old new → AsksFront (keys ++ more) old new
 front_more keys more old new (front, (rest, whole), is) =
     (front, (rest ++ more, ap (λ (l : Keys). l ++ more) whole ∙ append_assoc front rest more), is)
 
--- What was asked before, and a front of what comes next.
+-- What was asked before, and a prefix of what comes next.
 pub front_behind : (before keys old mid new : Keys) → mid ≡ old ++ before → AsksFront keys mid new → AsksFront (before ++ keys) old new
 front_behind before keys old mid new first (front, (rest, whole), is) =
     (before ++ front, (rest, ap (λ (l : Keys). before ++ l) whole ∙ sym (append_assoc before front rest)), is ∙ ap (λ (l : Keys). l ++ front) first ∙ append_assoc old before front)

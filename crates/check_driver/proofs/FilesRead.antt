@@ -62,7 +62,7 @@ none_missing (name ∷ names) (None ∷ met) (b ∷ read) (inr is, h) = absurd c
 none_missing (name ∷ names) (Some bytes ∷ met) [] h = absurd h
 none_missing (name ∷ names) (None ∷ met) [] h = absurd h
 
--- A name under which nothing is met, behind files that were read, is the first that is missing.
+-- A name under which nothing is met, after files that were read, is the first that is missing.
 missing_behind : (told : Option Held) (names : List (List ℕ)) (name : List ℕ) (others : List (List ℕ)) (met rest : List (Option (List ℕ))) (read : List (Vec ℕ Global))
     → AreUnder told names met → AreContents met read → first_missing (names ++ name ∷ others) (met ++ None ∷ rest) ≡ Some name
 missing_behind told [] name others [] rest read h of = refl

@@ -13,11 +13,11 @@ Keys = List (List ℕ)
 
 -- ---- unseen keys
 
--- What a key and these behind it bring, where it is among those that were seen or not.
+-- What a key and these after it bring, where it is among those that were seen or not.
 abbrev brought_by : Keys → List ℕ → Bool → Keys → Keys
 brought_by seen key among keys = if among then unseen seen keys else key ∷ unseen (seen ++ key ∷ []) keys
 
--- Of keys behind others those are unseen that are so behind what the others bring.
+-- Of keys after others those are unseen that are so after what the others bring.
 pub unseen_behind : (seen a b : Keys) → unseen seen (a ++ b) ≡ unseen seen a ++ unseen (seen ++ unseen seen a) b
 unseen_behind seen [] b = ap (λ (s : Keys). unseen s b) (sym (append-nil seen))
 unseen_behind seen (key ∷ a) b = by_test (is_among seen key) (unseen_behind seen a b) (unseen_behind (seen ++ key ∷ []) a b)
@@ -59,7 +59,7 @@ judged_next asm methods n method judged new next so_far adds =
     let key = outcome_key (outcome_of asm method) in
     adds ∙ ap (λ (l : Keys). l ++ unseen l key) so_far ∙ sym (distinct_behind (keys_of asm (take n methods)) key) ∙ sym (ap distinct (keys_next asm methods n method next))
 
--- What was asked for some first methods is a front of what is asked for all.
+-- What was asked for some first methods is a prefix of what is asked for all.
 pub front_of_whole : (asm : List ℕ) (methods : List MethodRow) (n : ℕ) (old new : Keys)
     → AsksFront (distinct (keys_of asm (take n methods))) old new → AsksFront (distinct (keys_of asm methods)) old new
 front_of_whole asm methods n old new front =
@@ -69,7 +69,7 @@ front_of_whole asm methods n old new front =
     let whole : distinct first ++ unseen (distinct first) rest ≡ distinct (keys_of asm methods) = sym (distinct_behind first rest) ∙ ap distinct all in
     subst (λ (keys : Keys). AsksFront keys old new) whole (front_more (distinct first) (unseen (distinct first) rest) old new front)
 
--- A front of what the next method asks for, behind what those before it asked for.
+-- A front of what the next method asks for, after what those before it asked for.
 pub front_at_next : (asm : List ℕ) (methods : List MethodRow) (n : ℕ) (method : MethodRow) (judged old mid new : Keys) → take (n + 1) methods ≡ take n methods ++ method ∷ []
     → judged ≡ distinct (keys_of asm (take n methods)) → mid ≡ old ++ judged → AsksFront (unseen judged (outcome_key (outcome_of asm method))) mid new
     → AsksFront (distinct (keys_of asm methods)) old new

@@ -10,11 +10,11 @@ use Rattle.answer_lines.proofs.Writings.{change}
 use Rattle.answer_lines.specs.declared.interrupt.Interrupt.{Interrupt}
 use Rattle.answer_lines.specs.declared.interrupt.Interrupt.TheVariants as interrupts
 
--- Nothing, where the answer writes nothing, is a front of what is expected.
+-- Nothing, where the answer writes nothing, is a prefix of what is expected.
 unwritten_front : (out : Change) (text : List ℕ) → AppendsFront out.old out.new [] → AppendsFront out.old out.new text
 unwritten_front out text h = AppendsFront-front out.old out.new [] text h (IsFront-nil text)
 
--- What was written is a front of what is expected, whatever came of it.
+-- What was written is a prefix of what is expected, whatever came of it.
 pub front_given : (x : Answer) (names : List (List ℕ)) (failed : Type 0) (r : Result ℕ Interrupt) (out err : Change)
     → GivesOrUnread x names failed r out err → AppendsFront out.old out.new x.out
 front_given x names failed (Ok status) out err (inl g) = AppendsFront-all out.old out.new x.out g.out_all
@@ -50,7 +50,7 @@ leaves_answer x names failed status out old mid new g0 g1 g2 same plain (inr (f,
 
 -- ---- an interruption
 
--- A front of a text, and behind it a front of a line.
+-- A front of a text, and after it a prefix of a line.
 two_fronts : (old mid new : Option (List ℕ)) (text line : List ℕ) (before after : ℕ) → AppendsFront old mid text → AppendsFront mid new line → Interrupted line text (change old new before after)
 two_fronts old mid new text line before after (first, infirst, m) (second, insecond, n) =
     (first, second, infirst, insecond, n ∙ ap (λ (o : Option (List ℕ)). appended o second) m ∙ appended-appended old first second)

@@ -38,7 +38,7 @@ lines_one_line (byte ∷ text) = by_byte (byte == 10) refl (lines_one_line text)
     by_byte true is all = (tt, all)
     by_byte false is all = behind_byte (lines_of text) (λ same. true≢false (sym (eq-eqb byte 10 same) ∙ is)) all
 
--- The first line, and what stands behind it.
+-- The first line, and what stands after it.
 pub first_line : (text line : List ℕ) → slice_get (lines_of text) 0 ≡ Some line → IsOneLine line × ((more : List ℕ) × (text ≡ line ++ 10 ∷ more))
 first_line text line first = by_lines (lines_of text) first (lines_one_line text) (text_is_lines text)
   where

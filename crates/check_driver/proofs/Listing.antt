@@ -19,7 +19,7 @@ use Rattle.answer_lines.proofs.Writings.{change, writes_stop}
 abbrev pub lines : List MethodRow → List ℕ
 lines walk = flat_map method_line walk
 
--- Of the lines of a walk a front was written, and behind it come those of the rest.
+-- Of the lines of a walk a front was written, and after it come those of the rest.
 pub record AtRest (old mid : Option (List ℕ)) (rest walk : List MethodRow) : Type 0 where
   pub front : List ℕ
   pub so_far : mid ≡ appended old front

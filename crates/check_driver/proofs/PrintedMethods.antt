@@ -82,7 +82,7 @@ hex_tells (suc digits) m n small other e =
 
 -- ---- the line of a method
 
--- It is `method `, the token's digits and a text behind them.
+-- It is `method `, the token's digits and a text after them.
 pub behind_digits : List ℕ → List ℕ → List ℕ
 behind_digits name text = codes " " ++ (name ++ (codes ": " ++ text))
 
@@ -95,7 +95,7 @@ said_again token name text =
     ∙ append_assoc digits (codes " ") (name ++ (codes ": " ++ text))
     ∙ append_assoc (codes "method ") (hex 8 token) (behind_digits name text)
 
--- Equal lines tell one token, and the same behind it.
+-- Equal lines tell one token, and the same after it.
 pub same_said : (t u : ℕ) (n m x y : List ℕ) → t < 2 ^ 32 → u < 2 ^ 32 → method_said t n x ≡ method_said u m y → (t ≡ u) × (behind_digits n x ≡ behind_digits m y)
 same_said t u n m x y small other e =
     let aligned = sym (said_again t n x) ∙ e ∙ said_again u m y in

@@ -52,7 +52,7 @@ range_below first (suc count) row has =
 
 -- ---- the line
 
--- A whole line of a front of the report is one of its lines.
+-- A whole line of a prefix of the report is one of its lines.
 line_of_report : (name bytes text line : List ℕ) → AllByRecursion IsOneLine (report_said name bytes) → IsOneLine line → HasLine text (as_line line) → IsFront text (check_text name bytes)
     → Contains (report_said name bytes) line
 line_of_report name bytes text line all one has (rest, is) =

@@ -29,7 +29,7 @@ told_are_entries asm found same = lines_of asm (methods_of asm) found same
 pub told_are_proved : (asm : List ℕ) (found : List Found) → map told found ≡ findings (entries_of asm) → list_all (λ one. is_proved (told one)) found ≡ all_methods_proved asm
 told_are_proved asm found same = sym (list_all-map is_proved told found) ∙ ap (list_all is_proved) same
 
--- The lines of a report, one behind another.
+-- The lines of a report, one after another.
 pub report_of : (name asm : List ℕ) (found : List Found) (first lines all : List (Vec ℕ Global)) (line last : Vec ℕ Global) (methods : List MethodRow) (counts : Counts)
     → first ≡ [] ++ line ∷ [] → joined lines ≡ joined first ++ flat_map told_lines (zip methods found) → all ≡ lines ++ last ∷ []
     → line.items ≡ assembly_line name → methods ≡ methods_of asm → last.items ≡ summary_line counts → counts ≡ found_counts (map told found) → map told found ≡ findings (entries_of asm)

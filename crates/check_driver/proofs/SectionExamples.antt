@@ -5,7 +5,7 @@ use Rattle.cc_base.specs.Digits.{hex}
 use Rattle.check_driver.specs.CheckText.{assembly_line, method_line}
 use Rattle.check_driver.specs.Sections.{HasProvedLine, begins_section, lines_of, proved_line, section, sections_of}
 
--- A line feed ends a line, and what stands behind the last one is none. A line may be empty.
+-- A line feed ends a line, and what stands after the last one is none. A line may be empty.
 two_lines : lines_of (codes "ab\n\nc\nd") ≡ codes "ab" ∷ [] ∷ codes "c" ∷ []
 two_lines = refl
 
@@ -15,7 +15,7 @@ unfinished = refl
 no_text : lines_of [] ≡ []
 no_text = refl
 
--- The word and the space behind it begin a section.
+-- The word and the space after it begin a section.
 begins : begins_section (codes "assembly a.dll") ≡ true
 begins = refl
 

@@ -45,7 +45,7 @@ first_of (c ∷ cs) =
       | inr other ↦ with_first c cs other (first_of cs)
     ]
 
--- The front of a text of lines that ends with a line is its first line and a front of the others that does so too.
+-- The front of a text of lines that ends with a line is its first line and a prefix of the others that does so too.
 behind_first : (text more : List ℕ) (before rest : List ℕ) → IsOneLine text → as_line text ++ more ≡ (before ++ codes "\n") ++ rest
     → (front : List ℕ) × EndsLine front × (more ≡ front ++ rest)
 unfolding FirstOf

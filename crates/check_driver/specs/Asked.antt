@@ -98,7 +98,7 @@ asked_by words met = command_asked words met (command_of words)
 abbrev pub AsksFront : List (List ℕ) → List (List ℕ) → List (List ℕ) → Type 0
 AsksFront keys old new = (front : List (List ℕ)) × ((rest : List (List ℕ)) × (keys ≡ front ++ rest)) × (new ≡ old ++ front)
 
--- A call that gave this asked for these, or for a front of them where it was interrupted.
+-- A call that gave this asked for these, or for a prefix of them where it was interrupted.
 pub record Asks {X E : Type 0} (keys : List (List ℕ)) (result : Result X E) (old new : List (List ℕ)) : Type 0 where
   pub front : AsksFront keys old new
   pub whole : IfOk result (λ _. new ≡ old ++ keys)

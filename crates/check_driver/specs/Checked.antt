@@ -20,7 +20,7 @@ pub record AsksToCheck (words : List (List ℕ)) (held : Held) (bytes : List ℕ
   pub command : command_of words ≡ Some (commands.Check file)
   pub is_held : held (word_at words file) ≡ Some bytes
 
--- A line begins behind this: nothing stands before it, or a whole line.
+-- A line begins after this: nothing stands before it, or a whole line.
 abbrev pub EndsLine : List ℕ → Type 0
 EndsLine before = (before ≡ []) ⊎ ((lines : List ℕ) × (before ≡ lines ++ codes "\n"))
 

@@ -9,7 +9,7 @@ abbrev pub longer : ℕ → List (List ℕ) → List (List ℕ)
 longer byte [] = []
 longer byte (line ∷ lines) = (byte ∷ line) ∷ lines
 
--- The lines of a text, each without the line feed that ends it. What stands behind the last line feed is no line.
+-- The lines of a text, each without the line feed that ends it. What stands after the last line feed is no line.
 abbrev pub lines_of : List ℕ → List (List ℕ)
 lines_of [] = []
 lines_of (byte ∷ text) = if byte == 10 then [] ∷ lines_of text else longer byte (lines_of text)
@@ -18,7 +18,7 @@ lines_of (byte ∷ text) = if byte == 10 then [] ∷ lines_of text else longer b
 abbrev pub begins_section : List ℕ → Bool
 begins_section line = starts_with nat_eq line (codes "assembly ")
 
--- The sections of lines, in order. Each has the lines behind one that begins a section, up to the next such line.
+-- The sections of lines, in order. Each has the lines after one that begins a section, up to the next such line.
 abbrev pub sections_of : List (List ℕ) → List (List (List ℕ))
 sections_of [] = []
 sections_of (line ∷ lines) =

@@ -73,7 +73,7 @@ fn append_findings(
     Ok(())
 }
 
-/// What is found of the method of this index.
+/// Returns what is found of the method of this index.
 fn find<D: Finder>(
     alloc: Global,
     units: &mut Units<'_>,
@@ -95,7 +95,7 @@ fn find<D: Finder>(
     Finding::of(alloc, outcome, judged, finder)
 }
 
-/// What is found of each method of an assembly. Of equal units one is judged.
+/// Returns what is found of each method of an assembly. Of equal units one is judged.
 fn find_all<D: Finder>(
     alloc: Global,
     assembly: &Assembly<'_>,
@@ -130,7 +130,7 @@ fn count(found: &[Finding]) -> Counts
     counts
 }
 
-/// Whether each method of which these are found is proved.
+/// Returns whether each method of which these are found is proved.
 fn are_proved(found: &[Finding]) -> bool
     ensures { result ≡ list_all (λ finding. is_proved (told finding)) found.now }
 {

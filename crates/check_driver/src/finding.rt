@@ -28,7 +28,8 @@ pub enum Finding {
 }
 
 impl Finding {
-    /// What is found of a method of which this comes. Where its unit is judged it is among those of the call from then on.
+    /// Returns what is found of a method of which this comes. Where its unit is judged it is among those of the call
+    /// from then on.
     pub fn of<D: Finder>(
         alloc: Global,
         outcome: Outcome,
@@ -60,7 +61,7 @@ impl Finding {
         }
     }
 
-    /// Whether the method is proved.
+    /// Returns whether the method is proved.
     pub fn is_proved(&self) -> bool
         ensures { result ≡ is_proved (told self.now) }
     {
@@ -70,7 +71,7 @@ impl Finding {
         }
     }
 
-    /// What the method adds to the counts of a report.
+    /// Returns what the method adds to the counts of a report.
     pub fn counts(&self) -> Counts
         requires { IsWithin self.now }
         ensures counts { result ≡ counts_of (told self.now) }
@@ -89,7 +90,7 @@ impl Finding {
         }
     }
 
-    /// Appends what the method's line tells of it.
+    /// Appends what the method's line says of it.
     pub fn append_text(&self, alloc: Global, line: &mut Vec<u8>) -> Result<(), AllocError>
         ensures { OnOk result (line.new.items ≡ line.old.items ++ verdict_text (told self.now)) }
     {

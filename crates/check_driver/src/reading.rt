@@ -12,7 +12,7 @@ use cc_base::{Files, ReadRefusal};
 use command_words::word_at;
 use std::alloc::{AllocFailed, Global};
 
-/// Why the files of a command were not read. A file is told by the index of the word that names it.
+/// The reasons why the files of a command were not read. A file is given by the list index of the word that names it.
 #[derive(Clone, Copy)]
 pub enum Unread {
     /// It is not there.

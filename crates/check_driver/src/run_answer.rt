@@ -23,12 +23,12 @@ use method_run::{RunAnswer, run_method};
 use std::alloc::Global;
 use unit_builder::{Units, WorldRefusal, world_of};
 
-/// The words of a run behind the method's name.
+/// The words of a run after the method's name.
 #[derive(Clone, Copy)]
 pub struct RunGiven<'a> {
     /// The words of the arguments.
     pub args: &'a [String],
-    /// How many steps the run may take.
+    /// The number of steps that the run may take.
     pub steps: u32,
 }
 

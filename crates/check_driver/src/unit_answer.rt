@@ -25,7 +25,7 @@ use method_unit::{UnitRefusal, read_built_unit};
 use std::alloc::Global;
 use widening_engine::Finder;
 
-/// Puts the report of a unit, and tells whether the unit is proved.
+/// Puts the report of a unit, and returns whether the unit is proved.
 fn put_report<O: Sink, D: Finder>(
     alloc: Global,
     unit: Unit,

@@ -11,7 +11,7 @@ use Rattle.clause_eval.specs.declared.arg.Arg.TheVariants as args
 abbrev two : Arg
 two = args.Ints (pos 1 ∷ pos 2 ∷ [])
 
--- Same makes no copy, and a new array comes behind those before it.
+-- Same makes no copy, and a new array comes after those before it.
 one_array : values_of (two ∷ args.Same 0 ∷ []) ≡ values.Array 0 ∷ values.Array 0 ∷ []
 one_array = refl
 

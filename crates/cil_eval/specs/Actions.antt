@@ -26,7 +26,7 @@ acted Assumed rest heap s i = Ends (stops.Assumed s.running.unit i.at)
 acted Cells rest heap s i = Ends stops.Cells
 acted Stuck rest heap s i = StuckTurn
 
--- The run goes on behind an action.
+-- The run goes on after an action.
 abbrev pub goes_on : Action → Bool
 goes_on (Push value) = true
 goes_on Next = true

@@ -18,7 +18,7 @@ abbrev pub array_count : List Arg → ℕ
 array_count [] = 0
 array_count (arg ∷ others) = if is_array arg then array_count others + 1 else array_count others
 
--- The value of an argument behind so many arrays, where that of an earlier argument is told.
+-- The value of an argument after so many arrays, where that of an earlier argument is told.
 abbrev pub value_by : ℕ → (ℕ → Value) → Arg → Value
 value_by arrays earlier (args.Int n) = values.Int n
 value_by arrays earlier (args.Bool b) = values.Int (byte_of b)

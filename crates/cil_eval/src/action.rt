@@ -5,9 +5,9 @@ use cil_model::{FaultKind, Value};
 /// What an instruction does, once its operands are taken from the stack.
 #[derive(Clone, Copy, Debug, PartialEq, Eq)]
 pub(crate) enum Action {
-    /// Pushes a value, and goes on behind the instruction.
+    /// Pushes a value, and goes on after the instruction.
     Push(Value),
-    /// Goes on behind the instruction.
+    /// Goes on after the instruction.
     Next,
     /// Goes on at an IL offset.
     Jump(u32),

@@ -69,7 +69,7 @@ pub(crate) fn length(stack: &mut Pile<Value>, memory: &Memory) -> Action
     }
 }
 
-/// Whether an array of this type has an item at an index, or else why not.
+/// Returns whether an array of this type has an item at an index, or else why not.
 fn bound(place: Place, index: u32, n: i32, memory: &Memory) -> Action
     ensures { result ≡ bounded place n (slice_get memory.now.heap index) }
 {

@@ -55,7 +55,7 @@ pub(crate) fn call(
     None
 }
 
-/// What a return takes from the stack, as it is put into the result.
+/// Returns what a return takes from the stack, as it is put into the result.
 fn result_of(place: Place, stack: &Pile<Value>, memory: &Memory) -> Option<Option<Value>>
     ensures { result ≡ calls.result_of memory.now.heap place stack.now.top }
 {

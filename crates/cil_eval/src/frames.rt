@@ -64,7 +64,7 @@ impl Frames {
         self.positions.clear();
     }
 
-    /// Whether there is a frame, and room for one value more and for a frame of any method.
+    /// Returns whether there is a frame, and room for one value more and for a frame of any method.
     pub fn have_space(&self) -> bool
         ensures { IsTrue result ↔ HasSpace self.now }
     {

@@ -9,14 +9,14 @@ ghost use Rattle.clause_eval.specs.Stores.{cells_of};
 use cil_model::{Place, Value};
 use clause_eval::{Arg, Memory, Pile, is_array, item_count};
 
-/// Whether a place is one of arrays.
+/// Returns whether a place is one of arrays.
 fn is_arrays(place: Place) -> bool
     ensures { result ≡ given.is_arrays place }
 {
     matches!(place, Place::Ints | Place::Bools)
 }
 
-/// Whether the parameter of this number has the place.
+/// Returns whether the parameter of this number has the place.
 #[tactic(auto, using(clause_eval::proofs::PileLemmas::turned_last, crate::proofs::StartLemmas::not_last))]
 fn has_place(types: &[Place], k: usize, place: Place) -> bool
     ensures { result ≡ given.has_place (reverse types.now) k place }
@@ -30,7 +30,7 @@ fn has_place(types: &[Place], k: usize, place: Place) -> bool
     *last == place
 }
 
-/// Whether an argument fits its parameter, given the earlier ones.
+/// Returns whether an argument fits its parameter, given the earlier ones.
 fn arg_fits(earlier: &[Place], place: Place, arg: &Arg) -> bool
     ensures { result ≡ given.arg_fits (reverse earlier.now) place arg.now }
 {
@@ -44,7 +44,7 @@ fn arg_fits(earlier: &[Place], place: Place, arg: &Arg) -> bool
     }
 }
 
-/// Whether arguments fit a method's parameters: there is one for each, of its type.
+/// Returns whether arguments fit a method's parameters: there is one for each, of its type.
 #[tactic(auto, using(clause_eval::proofs::PileLemmas::turned_last, crate::proofs::StartLemmas::none_fit))]
 pub(crate) fn args_fit(types: &[Place], args: &[Arg]) -> bool
     ensures { result ≡ given.args_fit types.now args.now }
@@ -58,7 +58,7 @@ pub(crate) fn args_fit(types: &[Place], args: &[Arg]) -> bool
     arg_fits(earlier, *place, arg) && args_fit(earlier, before)
 }
 
-/// How many arrays arguments make.
+/// Returns how many arrays arguments make.
 #[tactic(auto, using(clause_eval::proofs::PileLemmas::turned_last))]
 fn array_count(args: &[Arg]) -> u32
     requires { length args.now ≤ 128 }
@@ -106,7 +106,7 @@ pub(crate) fn put_values_of(args: &[Arg], values: &mut Pile<Value>)
     }
 }
 
-/// Whether there are cells for the arrays that arguments make.
+/// Returns whether there are cells for the arrays that arguments make.
 #[tactic(auto, using(crate::proofs::StartLemmas::cells_left, crate::proofs::StartLemmas::no_cells))]
 pub(crate) fn have_cells(args: &[Arg], limit: usize) -> bool
     ensures { result ≡ nat_le (cells_of (heap_of args.now)) limit }

@@ -23,7 +23,7 @@ pub struct Machine<'a> {
     memory: Memory,
     /// The values of the arguments of a run that is to start.
     values: Pile<Value>,
-    /// How many steps were taken, with the one that ended the run.
+    /// The number of steps taken, with the one that ended the run.
     taken: u32,
     /// How the run ended, if it did so by itself.
     ended: Option<Stop>,

@@ -85,7 +85,7 @@ fn store_local(n: u16, unit: &Unit, frames: &mut Frames, memory: &Memory) -> Act
     }
 }
 
-/// What an operation does that neither calls a method nor returns (ECMA-335 III.3 and III.4).
+/// Returns what an operation does that neither calls a method nor returns (ECMA-335 III.3 and III.4).
 pub(crate) fn perform(op: &Op, unit: &Unit, frames: &mut Frames, memory: &mut Memory) -> Action
     ensures performs { AllByRecursion IsLength frames.old.stack.top → Performs memory.old.limit unit.now op.now result frames.old frames.new memory.old.heap memory.new.heap }
     ensures stays { Stays frames.old frames.new }

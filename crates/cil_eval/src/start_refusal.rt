@@ -1,6 +1,6 @@
 //! Why runs do not start.
 
-/// Why a run does not start. The first of these that holds is told.
+/// The reasons why a run does not start. The first that holds is reported.
 #[derive(Clone, Copy, Debug, PartialEq, Eq)]
 pub enum StartRefusal {
     /// There is no unit of this index.

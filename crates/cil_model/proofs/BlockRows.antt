@@ -28,12 +28,12 @@ no_block = refl
 
 -- ---- blocks
 
--- At offset 12, behind the branch at 15, and at its target 17 behind the return.
+-- At offset 12, after the branch at 15, and at its target 17 after the return.
 blocks_of_sum : block_count sum ≡ 3
 unfolding unit_call
 blocks_of_sum = refl
 
--- A branch back to 2, and a switch to 2 and to 13: at 0, 2, 4, 13 and behind the switch at 12.
+-- A branch back to 2, and a switch to 2 and to 13: at 0, 2, 4, 13 and after the switch at 12.
 abbrev loops : MethodUnit
 loops =
     small places.Void [] []
@@ -54,7 +54,7 @@ behind_the_switch = refl
 within_a_block : is_block_start loops 5 ≡ false
 within_a_block = refl
 
--- What no way reaches has its block too, behind a branch that is always taken.
+-- What no way reaches has its block too, after a branch that is always taken.
 blocks_not_reached : block_count (small places.Void [] [] ((2, Branch Always 3) ∷ (1, Nop) ∷ (1, Return) ∷ [])) ≡ 3
 blocks_not_reached = refl
 

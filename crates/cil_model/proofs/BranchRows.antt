@@ -1,4 +1,4 @@
--- Where branches and switches go: to a target of theirs, or behind themselves.
+-- Where branches and switches go: to a target of theirs, or after themselves.
 use Rattle.std.proofs.Common.{◌≡◌, ℕ, pos, negsuc, List, [], ◌∷◌, codes, refl}
 use Rattle.cil_model.specs.Effects.{GoesOn, effects}
 use Rattle.cil_model.specs.declared.instruction.CmpOp.TheVariants as comparisons

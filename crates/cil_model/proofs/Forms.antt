@@ -73,7 +73,7 @@ same_offsets (x ∷ xs) (y ∷ ys) more small others same e =
 same_instr : (i j : Instr) → i.at ≡ j.at → i.size ≡ j.size → i.op ≡ j.op → i ≡ j
 same_instr i j at size op = λ k. record { at = at k; size = size k; op = op k }
 
--- Both spell one instruction, and nothing stands behind.
+-- Both spell one instruction, and nothing stands after.
 abbrev pub Same : Instr → Instr → List ℕ → Type 0
 Same i j more = (more ≡ []) × (i ≡ j)
 

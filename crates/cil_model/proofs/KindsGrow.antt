@@ -191,7 +191,7 @@ module _ (shape : Shape) (is : List Instr) where
   fault_stays [] fault t e = cc
   fault_stays (i ∷ rest) fault t e = cc
 
-  -- An instruction of a pass, and the others behind it.
+  -- An instruction of a pass, and the others after it.
   visit : (rest : List Instr) (i : Instr) (s t : Stacks) (outcome : Result Stacks TypeFault) → outcome ≡ visited shape is s i (stack_at is s i.at)
       → pass_over shape is rest outcome ≡ Ok t → (mid : Stacks) × (outcome ≡ Ok mid) × Grows s mid × (pass_over shape is rest (Ok mid) ≡ Ok t)
   visit rest i s t (Err fault) v e = absurd (fault_stays rest fault t e)

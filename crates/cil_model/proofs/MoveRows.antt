@@ -22,7 +22,7 @@ use Rattle.cil_model.proofs.SmallRuns.{Comes, computed, small}
 abbrev frame : List Value → Frame
 frame stack = record { unit = 0; at = 4; stack = stack; locals = []; args = []; entry_args = []; entry_heap = [] }
 
--- The operation with the first stack goes on behind itself with the second.
+-- The operation with the first stack goes on after itself with the second.
 abbrev Leaves : Op → List Value → List Value → Type 0
 Leaves op before after =
     effects (small places.Void [] [] []) (record { at = 4; size = 1; op = op }) (frame before) [] ≡ GoesOn (record (frame after) { at = 5 }) [] ∷ []

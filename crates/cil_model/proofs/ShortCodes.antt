@@ -37,7 +37,7 @@ code_is_short is code spelled short = let parts = code_lies 0 is code spelled.sp
 
 -- ---- lists that rise
 
--- Each number is below those behind it.
+-- Each number is below those after it.
 abbrev pub Rises : List ℕ → Type 0
 Rises xs = AllPairs (λ a b. a < b) xs
 

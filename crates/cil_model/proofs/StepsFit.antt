@@ -213,6 +213,6 @@ module _ (unit : MethodUnit) (i : Instr) (f : Frame) (heap : Heap) (kinds after 
   row_comes (ops.Call number) new e row own = call_comes (unit_call number) new e row own
   row_comes _ new e row own = own row
 
-  -- A frame that goes on has values of the kinds behind the instruction.
+  -- A frame that goes on has values of the kinds after the instruction.
   pub comes : (new : Config) → Row (FreeCall unit) i.op [] unit i f heap new → ConfigFits (successors i.op (i.at + i.size)) after new
   comes new row = row_comes i.op new typed row (effects_come new)

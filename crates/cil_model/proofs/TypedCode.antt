@@ -120,7 +120,7 @@ module _ (unit : MethodUnit) (stacks : Stacks) (decoded : AreDecoded unit.instrs
       local_step_keeps unit f heap fits.heap_is fits.frame new
       (record { locals = hold_values heap unit.locals f.locals fits.frame.locals; constants = constants_fit unit.instrs decoded.constants }) step
 
-  -- A step that goes on goes to one of the instruction's successors, with values of the kinds behind it.
+  -- A step that goes on goes to one of the instruction's successors, with values of the kinds after it.
   record GoesOn (i : Instr) (g : Frame) (after : Heap) : Type 0 where
     left : List Kind
     onward : AllByRecursion (λ at. Absorbs (stack_at unit.instrs stacks at) left) (successors i.op (i.at + i.size))

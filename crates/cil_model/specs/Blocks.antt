@@ -22,7 +22,7 @@ abbrev pub closes : Op → Bool
 closes (ops.Call number) = is_closing_call (unit_call number)
 closes _ = false
 
--- The IL offset behind the last instruction that closes something, or this one where none does.
+-- The IL offset after the last instruction that closes something, or this one where none does.
 abbrev pub behind_last_closing : ℕ → List Instr → ℕ
 behind_last_closing at [] = at
 behind_last_closing at (i ∷ is) = behind_last_closing (if closes i.op then i.at + i.size else at) is

@@ -23,7 +23,7 @@ use Rattle.cil_model.specs.declared.unit.Unit.{Unit as MethodUnit}
 abbrev pub args_of : Heap → List Place → List Value → Option (List Value)
 args_of heap places stack = put_all heap places (reverse (take (length places) stack))
 
--- The caller goes on behind the call, without the arguments.
+-- The caller goes on after the call, without the arguments.
 abbrev pub behind_call : Instr → ℕ → Frame → Frame
 behind_call i count f = record f { at = i.at + i.size; stack = drop count f.stack }
 

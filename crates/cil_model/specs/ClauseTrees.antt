@@ -54,7 +54,7 @@ with_call (Some (calls.Result place)) items = Some (Tree terms.Result ∷ items)
 with_call (Some (calls.OldValue place)) (Tree a ∷ rest) = Some (Tree (terms.Old a) ∷ rest)
 with_call _ _ = None
 
--- The stack behind an operation that goes on to the next instruction. conv.i4 leaves its tree: a length counts as
+-- The stack after an operation that goes on to the next instruction. conv.i4 leaves its tree: a length counts as
 -- the same int32.
 abbrev pub items_behind : Op → List Item → Option (List Item)
 items_behind ops.Nop items = Some items
@@ -144,7 +144,7 @@ clause_before is start None = []
 clause_before is start (Some (kind, message)) = (kind, tree_of is start) ∷ []
 
 -- The clauses that the calls of these instructions close. The code of the first begins at this IL offset, and that of
--- each other one behind the call that closes the one before it, or behind EndContractBlock.
+-- each other one after the call that closes the one before it, or after EndContractBlock.
 abbrev pub clauses_from : List Instr → ℕ → List Instr → List (ClauseKind × Option Term)
 clauses_from is start [] = []
 clauses_from is start (i ∷ rest) =

@@ -1,4 +1,4 @@
--- The code of a method: its instructions, one behind another.
+-- The code of a method: its instructions, one after another.
 use Rattle.std.specs.Prelude.{◌≡◌, ℕ, ◌+◌, Bool, true, false, ◌==◌, ◌||◌, List, [], ◌∷◌, ◌++◌}
 use Rattle.std.specs.List.{AllByRecursion}
 use Rattle.cil_model.specs.Blocks.{branch_targets}

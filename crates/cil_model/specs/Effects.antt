@@ -46,7 +46,7 @@ pub data Effect : Type 0 where
 abbrev pub goes_to : ℕ → Frame → Heap → List Value → List Effect
 goes_to at f heap stack = GoesOn (record f { at = at; stack = stack }) heap ∷ []
 
--- The frame goes on behind the instruction, with this stack.
+-- The frame goes on after the instruction, with this stack.
 abbrev pub goes_on : Instr → Frame → Heap → List Value → List Effect
 goes_on i f heap stack = goes_to (i.at + i.size) f heap stack
 
@@ -55,7 +55,7 @@ abbrev pub pushes : Instr → Frame → Heap → List Value → Option Value →
 pushes i f heap rest None = []
 pushes i f heap rest (Some value) = goes_on i f heap (value ∷ rest)
 
--- The frame goes on at the target where the test holds, and else behind the instruction.
+-- The frame goes on at the target where the test holds, and else after the instruction.
 abbrev pub branches : ℕ → Instr → Frame → Heap → List Value → Option Bool → List Effect
 branches target i f heap rest None = []
 branches target i f heap rest (Some true) = goes_to target f heap rest
@@ -131,7 +131,7 @@ branches_by tests.False target i f heap (value ∷ rest) = branches target i f h
 branches_by (tests.Cmp op) target i f heap (b ∷ a ∷ rest) = branches target i f heap rest (compares_values op a b)
 branches_by _ target i f heap _ = []
 
--- The target of a number, which is taken as unsigned. One that there is not goes on behind the instruction.
+-- The target of a number, which is taken as unsigned. One that there is not goes on after the instruction.
 abbrev pub switches_to : Instr → Frame → Heap → List Value → Option ℕ → List Effect
 switches_to i f heap rest None = goes_on i f heap rest
 switches_to i f heap rest (Some target) = goes_to target f heap rest

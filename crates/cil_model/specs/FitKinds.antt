@@ -81,7 +81,27 @@ is_executed_call _ = true
 
 abbrev pub is_executed : Op → Bool
 is_executed (ops.Call number) = is_executed_call (unit_call number)
-is_executed _ = true
+is_executed ops.Nop = true
+is_executed (ops.LoadArg n) = true
+is_executed (ops.StoreArg n) = true
+is_executed (ops.LoadLocal n) = true
+is_executed (ops.StoreLocal n) = true
+is_executed ops.Null = true
+is_executed (ops.Const n) = true
+is_executed ops.Dup = true
+is_executed ops.Pop = true
+is_executed ops.Return = true
+is_executed (ops.Branch test target) = true
+is_executed (ops.Switch targets) = true
+is_executed (ops.Bin operator) = true
+is_executed ops.Neg = true
+is_executed ops.Not = true
+is_executed ops.ConvI4 = true
+is_executed (ops.Text token) = true
+is_executed (ops.NewArray number) = true
+is_executed ops.Length = true
+is_executed (ops.LoadElem place) = true
+is_executed (ops.StoreElem place) = true
 
 -- What stands at the IL offset is executed, if an instruction does.
 abbrev pub IsExecutedAt : List Instr → ℕ → Type 0

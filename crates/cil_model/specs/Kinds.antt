@@ -132,7 +132,12 @@ operand_count shape (ops.NewArray number) = 1
 operand_count shape ops.Length = 1
 operand_count shape (ops.LoadElem place) = 2
 operand_count shape (ops.StoreElem place) = 3
-operand_count shape _ = 0
+operand_count shape ops.Nop = 0
+operand_count shape (ops.LoadArg n) = 0
+operand_count shape (ops.LoadLocal n) = 0
+operand_count shape ops.Null = 0
+operand_count shape (ops.Const n) = 0
+operand_count shape (ops.Text token) = 0
 
 -- The stack, where the test holds.
 abbrev pub when : Bool → List Kind → Option (List Kind)
@@ -237,7 +242,7 @@ abbrev pub popped : List Kind → Option (List Kind)
 popped (kind ∷ rest) = Some rest
 popped [] = None
 
--- The stack behind an operation, where it finds operands of kinds that it takes.
+-- The stack after an operation, where it finds operands of kinds that it takes.
 abbrev pub behind : Shape → Op → List Kind → Option (List Kind)
 behind shape ops.Nop stack = Some stack
 behind shape (ops.LoadArg n) stack = loaded (slice_get shape.args n) stack
@@ -262,12 +267,12 @@ behind shape ops.Length stack = behind_length stack
 behind shape (ops.LoadElem place) stack = behind_load place stack
 behind shape (ops.StoreElem place) stack = behind_store place stack
 
--- The stack behind an instruction, within its size.
+-- The stack after an instruction, within its size.
 abbrev pub within_size : Shape → ℕ → Option (List Kind) → Result (List Kind) TypeFault
 within_size shape at None = Err (WrongKind at)
 within_size shape at (Some stack) = if nat_lt shape.max_stack (length stack) then Err (Deep at) else Ok stack
 
--- The stack behind an instruction, or its fault: first that an operand is missing, then that one has a wrong
+-- The stack after an instruction, or its fault: first that an operand is missing, then that one has a wrong
 -- kind, and last that the stack is too deep.
 abbrev pub typed : Shape → Instr → List Kind → Result (List Kind) TypeFault
 typed shape i stack =

@@ -13,7 +13,7 @@ use Rattle.cil_model.specs.declared.place.Place.TheVariants as places
 
 -- ---- operands
 
--- The width of an operand, and the operation that is made of the IL offset behind the instruction and the
+-- The width of an operand, and the operation that is made of the IL offset after the instruction and the
 -- operand's number.
 abbrev pub Form : Type 0
 Form = ℕ × (ℕ → ℕ → Op)

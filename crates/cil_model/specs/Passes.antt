@@ -97,7 +97,7 @@ abbrev pub going_on : List Instr → Stacks → Option ℕ → List Kind → Lis
 going_on is stacks (Some at) stack ats = Err (Conflict at)
 going_on is stacks None stack ats = Ok (come_to_all is stacks stack ats)
 
--- An instruction passes the stack behind it to all that may follow.
+-- An instruction passes the stack after it to all that may follow.
 abbrev pub follow : List Instr → Stacks → Instr → Result (List Kind) TypeFault → Result Stacks TypeFault
 follow is stacks i (Err fault) = Err fault
 follow is stacks i (Ok stack) =
@@ -108,7 +108,7 @@ abbrev pub visited : Shape → List Instr → Stacks → Instr → Option (List 
 visited shape is stacks i None = Ok stacks
 visited shape is stacks i (Some stack) = follow is stacks i (typed shape i stack)
 
--- The instructions of a pass, in rising order. What one brings counts for those behind it in the same pass.
+-- The instructions of a pass, in rising order. What one brings counts for those after it in the same pass.
 abbrev pub pass_over : Shape → List Instr → List Instr → Result Stacks TypeFault → Result Stacks TypeFault
 pass_over shape is [] stacks = stacks
 pass_over shape is (i ∷ rest) (Err fault) = Err fault

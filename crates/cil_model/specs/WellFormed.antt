@@ -28,7 +28,25 @@ abbrev pub NamesSomething : Op → Type 0
 NamesSomething (ops.Call number) = IsSome (unit_call number)
 NamesSomething (ops.NewArray number) = IsSome (array_place number)
 NamesSomething (ops.Text number) = number ≡ 0
-NamesSomething op = Unit {0}
+NamesSomething ops.Nop = Unit {0}
+NamesSomething (ops.LoadArg n) = Unit {0}
+NamesSomething (ops.StoreArg n) = Unit {0}
+NamesSomething (ops.LoadLocal n) = Unit {0}
+NamesSomething (ops.StoreLocal n) = Unit {0}
+NamesSomething ops.Null = Unit {0}
+NamesSomething (ops.Const n) = Unit {0}
+NamesSomething ops.Dup = Unit {0}
+NamesSomething ops.Pop = Unit {0}
+NamesSomething ops.Return = Unit {0}
+NamesSomething (ops.Branch test target) = Unit {0}
+NamesSomething (ops.Switch targets) = Unit {0}
+NamesSomething (ops.Bin operator) = Unit {0}
+NamesSomething ops.Neg = Unit {0}
+NamesSomething ops.Not = Unit {0}
+NamesSomething ops.ConvI4 = Unit {0}
+NamesSomething ops.Length = Unit {0}
+NamesSomething (ops.LoadElem place) = Unit {0}
+NamesSomething (ops.StoreElem place) = Unit {0}
 
 -- The number of the callee that an operation calls.
 abbrev pub called_by : Op → Option ℕ

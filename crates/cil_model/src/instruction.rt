@@ -11,7 +11,7 @@ pub type Targets = List<u32>;
 pub struct Instr {
     /// Its IL offset.
     pub at: u32,
-    /// How many bytes it has, which tells its spelling.
+    /// The number of its bytes, which says how it is spelled.
     pub size: u32,
     /// What it does.
     pub op: Op,

@@ -8,7 +8,7 @@ ghost use Rattle.cil_model.specs.Passes.{merged_kind};
 use crate::instruction::{BinOp, CmpOp};
 use crate::place::{Kind, Place};
 
-/// What is pushed of a place: none of void.
+/// Returns what is pushed of a place: none of void.
 pub fn kind_of(place: Place) -> Option<Kind>
     ensures { result ≡ kind_of place }
 {
@@ -20,7 +20,7 @@ pub fn kind_of(place: Place) -> Option<Kind>
     }
 }
 
-/// Whether a place takes a value of the kind. Null fits both kinds of arrays.
+/// Returns whether a place takes a value of the kind. Null fits both kinds of arrays.
 pub fn takes(place: Place, kind: Kind) -> bool
     ensures { result ≡ takes place kind }
 {
@@ -32,28 +32,28 @@ pub fn takes(place: Place, kind: Kind) -> bool
     }
 }
 
-/// Whether the kind is that of numbers.
+/// Returns whether the kind is that of numbers.
 pub fn is_number(kind: Kind) -> bool
     ensures { result ≡ is_number kind }
 {
     matches!(kind, Kind::Int | Kind::Native)
 }
 
-/// Whether the kind is that of references.
+/// Returns whether the kind is that of references.
 pub fn is_reference(kind: Kind) -> bool
     ensures { result ≡ is_reference kind }
 {
     matches!(kind, Kind::Ints | Kind::Bools | Kind::NullRef)
 }
 
-/// Whether an array of this type may be of the kind, or null.
+/// Returns whether an array of this type may be of the kind, or null.
 pub fn is_array_of(place: Place, kind: Kind) -> bool
     ensures { result ≡ is_array_of place kind }
 {
     is_reference(kind) && takes(place, kind)
 }
 
-/// Whether they are references to arrays of one type, or one of them null.
+/// Returns whether they are references to arrays of one type, or one of them null.
 fn are_comparable(a: Kind, b: Kind) -> bool
     ensures { result ≡ are_comparable a b }
 {
@@ -70,14 +70,14 @@ fn is_equality(op: CmpOp) -> bool
     matches!(op, CmpOp::Eq | CmpOp::NeUn)
 }
 
-/// Whether a branch may compare values of these kinds.
+/// Returns whether a branch may compare values of these kinds.
 pub fn compares_kinds(op: CmpOp, a: Kind, b: Kind) -> bool
     ensures { result ≡ compares_kinds op a b }
 {
     (is_number(a) && is_number(b)) || (is_equality(op) && are_comparable(a, b))
 }
 
-/// Whether an instruction may push such a comparison.
+/// Returns whether an instruction may push such a comparison.
 pub fn pushes_comparison(op: CmpOp, a: Kind, b: Kind) -> bool
     ensures { result ≡ pushes_comparison op a b }
 {
@@ -87,7 +87,7 @@ pub fn pushes_comparison(op: CmpOp, a: Kind, b: Kind) -> bool
     }
 }
 
-/// Whether a branch may test a value of the kind.
+/// Returns whether a branch may test a value of the kind.
 pub fn is_tested(kind: Kind) -> bool
     ensures { result ≡ is_tested kind }
 {
@@ -108,7 +108,7 @@ pub fn comparison_of(operator: BinOp) -> Option<CmpOp>
     }
 }
 
-/// What two kinds merge to: a kind with itself to itself, and null with an array to the array.
+/// Returns what two kinds merge to: a kind with itself to itself, and null with an array to the array.
 pub fn merged_kind(a: Kind, b: Kind) -> Option<Kind>
     ensures { result ≡ merged_kind a b }
 {

@@ -10,7 +10,7 @@ use crate::shape::Shape;
 use crate::unit::CalleeInfo;
 use crate::unit_numbers::{UnitCall, unit_call};
 
-/// How many values a result of this place is.
+/// Returns how many values a result of this place is.
 fn result_count(place: Place) -> usize
     ensures { result ≡ result_count place }
 {
@@ -56,7 +56,7 @@ fn test_operands(test: Test) -> usize
     }
 }
 
-/// How many values the operation takes.
+/// Returns how many values the operation takes.
 pub fn operand_count(shape: &Shape, op: &Op) -> usize
     ensures { result ≡ operand_count shape.now op.now }
 {
@@ -76,6 +76,6 @@ pub fn operand_count(shape: &Shape, op: &Op) -> usize
         | Op::ConvI4
         | Op::NewArray(_)
         | Op::Length => 1,
-        _ => 0,
+        Op::Nop | Op::LoadArg(_) | Op::LoadLocal(_) | Op::Null | Op::Const(_) | Op::Text(_) => 0,
     }
 }

@@ -34,7 +34,7 @@ fn put_parameters(text: &mut Vec<u8>, places: &[Place]) -> Result<(), AllocError
     }
 }
 
-/// Appends the types of parameters, each behind a comma. An error may leave some of them.
+/// Appends the types of parameters, each after a comma. An error may leave some of them.
 fn put_next_parameters(text: &mut Vec<u8>, places: &[Place]) -> Result<(), AllocError>
     ensures ok { OnOk result (text.new.items ≡ text.old.items ++ flat_map next_parameter places.now) }
 {

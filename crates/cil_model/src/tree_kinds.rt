@@ -97,7 +97,7 @@ impl Tree {
         }
     }
 
-    /// How many conditions stand on a way from the root to a leaf at most.
+    /// Returns how many conditions stand on a way from the root to a leaf at most.
     pub fn condition_depth(&self) -> u32
         requires small { term_size self.now < 2 ^ 32 }
         ensures depth { result ≡ condition_depth self.now }
@@ -116,7 +116,7 @@ impl Tree {
         }
     }
 
-    /// How many old values the tree has.
+    /// Returns how many old values the tree has.
     pub fn old_count(&self) -> u32
         requires small { term_size self.now < 2 ^ 32 }
         ensures count { result ≡ old_count self.now }

@@ -10,7 +10,7 @@ pub enum TypeFault {
     Conflict(u32),
     /// An operand has a kind that the instruction does not take, or an argument or a local is missing.
     WrongKind(u32),
-    /// The code ends behind the instruction.
+    /// The code ends after the instruction.
     FallsOff(u32),
     /// The instruction leaves more values than the stack holds.
     Deep(u32),

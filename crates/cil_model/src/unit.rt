@@ -22,7 +22,7 @@ pub struct Unit {
     pub result: Place,
     pub args: List<Place>,
     pub locals: List<Place>,
-    /// How many values the stack holds at most.
+    /// The number of values that the stack holds at most.
     pub max_stack: u8,
     /// The methods that the code calls, in order of first use.
     pub callees: List<CalleeInfo>,

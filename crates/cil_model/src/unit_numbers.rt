@@ -64,7 +64,7 @@ fn place_call(number: u32) -> Option<UnitCall>
     }
 }
 
-/// What a call of this number names, if it names anything.
+/// Returns what a call of this number names, if it names anything.
 #[tactic(auto, unfolding(crate::specs::UnitCalls::unit_call))]
 pub fn unit_call(number: u32) -> Option<UnitCall>
     ensures { result ≡ unit_call number }
@@ -79,7 +79,7 @@ pub fn unit_call(number: u32) -> Option<UnitCall>
     }
 }
 
-/// Whether a call of this number is `Contract.Assert` without a message.
+/// Returns whether a call of this number is `Contract.Assert` without a message.
 pub fn is_assert(number: u32) -> bool
     ensures { result ≡ is_assert (unit_call number) }
 {

@@ -87,7 +87,7 @@ with_test room store cell = if room then record store { heap = store.heap ++ cel
 pub stays : (store : Store) (cell : ArrayCell) → has_room store cell ≡ false → store ≡ with_array store cell
 stays store cell e = sym (ap (λ room. with_test room store cell) e)
 
--- The row behind which an array of these items was appended.
+-- The row after which an array of these items was appended.
 pub record Appended (cells items : List ℤ) (arrays : List Array) (place : Place) (len : ℕ) (newCells : List ℤ) (newArrays : List Array) : Type 0 where
   pub cells_are : newCells ≡ cells ++ items
   pub arrays_are : newArrays ≡ arrays ++ behind cells place len ∷ []

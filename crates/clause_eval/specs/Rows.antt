@@ -1,4 +1,4 @@
--- The arrays of a heap in one flat row of cells, the items of one behind those of another.
+-- The arrays of a heap in one flat row of cells, the items of one after those of another.
 use Rattle.std.specs.Prelude.{◌≡◌, ℕ, ◌+◌, ◌^◌, ◌<◌, ◌≤◌, ℤ, List, [], ◌∷◌, length, map, take, drop}
 use Rattle.std.specs.List.{AllByRecursion}
 use Rattle.cil_model.specs.Values.{Heap}
@@ -12,7 +12,7 @@ cell_in cells a = record { place = a.place; items = take a.len (drop a.start cel
 abbrev pub heap_in : List ℤ → List Array → Heap
 heap_in cells arrays = map (cell_in cells) arrays
 
--- The arrays lie one behind another, from this cell to that one.
+-- The arrays lie one after another, from this cell to that one.
 abbrev pub LieFrom : ℕ → List Array → ℕ → Type 0
 LieFrom start [] end = start ≡ end
 LieFrom start (a ∷ rest) end = (a.start ≡ start) × LieFrom (start + a.len) rest end

@@ -33,7 +33,7 @@ abbrev pub behind_by : Told → Told → Option (List (Option Value)) → Told
 behind_by present r None = present
 behind_by present r (Some olds) = record r { olds = Some (drop 1 olds) }
 
--- What is left to be read behind a tree.
+-- What is left to be read after a tree.
 abbrev pub behind : Term → Told → Told
 behind (terms.Len a) r = behind a r
 behind (terms.Elem place a b) r = behind b (behind a r)

@@ -134,7 +134,7 @@ fn shifted_right_unsigned(a: i32, n: i32) -> Result<i32, FaultKind>
     Ok((a.cast_unsigned() >> n as u32).cast_signed())
 }
 
-/// What an operator gives of two int32, or the fault.
+/// Returns what an operator gives of two int32, or the fault.
 pub fn operated(op: BinOp, a: i32, b: i32) -> Result<i32, FaultKind>
     ensures { result ≡ arithmetic.operated op a b }
 {
@@ -163,7 +163,7 @@ pub fn operated(op: BinOp, a: i32, b: i32) -> Result<i32, FaultKind>
     }
 }
 
-/// What an operator gives of one int32.
+/// Returns what an operator gives of one int32.
 pub fn operated_one(op: UnOp, a: i32) -> i32
     ensures { result ≡ arithmetic.operated_one op a }
 {

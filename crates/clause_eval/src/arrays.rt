@@ -19,7 +19,7 @@ pub enum Arrays<'a> {
     Given(&'a [Arg]),
 }
 
-/// Whether an argument makes an array.
+/// Returns whether an argument makes an array.
 pub fn is_array(arg: &Arg) -> bool
     ensures { result ≡ given.is_array arg.now }
 {
@@ -53,7 +53,7 @@ fn find(args: &[Arg], index: u32) -> Option<&Arg>
     find(others, index - 1)
 }
 
-/// How many items the array has that an argument makes.
+/// Returns how many items the array has that an argument makes.
 pub fn item_count(arg: &Arg) -> Option<usize>
     ensures { result ≡ given.item_count arg.now }
 {

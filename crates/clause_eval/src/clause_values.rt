@@ -23,7 +23,7 @@ fn arithmetic_value(op: BinOp, a: Value, b: Value) -> Option<Value>
     }
 }
 
-/// What an operator gives of two values, where it does not fault.
+/// Returns what an operator gives of two values, where it does not fault.
 fn binary_value(op: BinOp, a: Value, b: Value) -> Option<Value>
     ensures { result ≡ clauses.binary_value op a b }
 {
@@ -43,7 +43,7 @@ pub(crate) fn binary(op: BinOp, a: Option<Value>, b: Option<Value>) -> Option<Va
     }
 }
 
-/// What an operator gives of one value.
+/// Returns what an operator gives of one value.
 pub(crate) fn unary(op: UnOp, a: Option<Value>) -> Option<Value>
     ensures { result ≡ option_and_then (clauses.unary_value op) a }
 {

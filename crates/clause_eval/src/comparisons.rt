@@ -6,7 +6,7 @@ ghost use Rattle.cil_model.specs.Comparisons as comparisons;
 
 use cil_model::{BinOp, CmpOp, Value};
 
-/// How many numbers of 32 bits there are.
+/// 2^32, the number of numbers of 32 bits.
 const COUNT: u64 = 4_294_967_296;
 
 /// The number of 32 bits without its sign.
@@ -20,7 +20,7 @@ fn unsigned(n: i64) -> u64
     }
 }
 
-/// Whether a comparison holds of two numbers. Those without a sign take both as unsigned.
+/// Returns whether a comparison holds of two numbers. Those without a sign take both as unsigned.
 fn compares(op: CmpOp, a: i64, b: i64) -> bool
     ensures { result ≡ arithmetic.compares op a b }
 {
@@ -129,7 +129,7 @@ pub fn comparison_of(op: BinOp) -> Option<CmpOp>
     }
 }
 
-/// Whether a value is taken for true: a number other than 0, and a reference other than null.
+/// Returns whether a value is taken for true: a number other than 0, and a reference other than null.
 pub fn is_true(value: Value) -> Option<bool>
     ensures { result ≡ comparisons.is_true value }
 {

@@ -35,7 +35,7 @@ pub struct ArrayRef<'a> {
 pub struct Memory {
     /// The most cells that the arrays may take: an array of n items takes n + 1.
     limit: u32,
-    /// The items of all arrays, one array behind another.
+    /// The items of all arrays, one array after another.
     cells: Vec<i32>,
     arrays: Vec<Array>,
 }
@@ -83,7 +83,7 @@ impl Memory {
         self.arrays.clear();
     }
 
-    /// How many arrays there are.
+    /// Returns how many arrays there are.
     pub fn len(&self) -> u32
         ensures { result ≡ length self.now.heap }
     {

@@ -61,14 +61,14 @@ impl<T: Copy + Drop> Pile<T> {
         self.start = 0;
     }
 
-    /// How many items the top list has.
+    /// Returns how many items the top list has.
     pub fn len(&self) -> usize
         ensures { result ≡ length self.now.top }
     {
         self.items.len() - self.start
     }
 
-    /// Whether there is room for so many more items, and for one more list.
+    /// Returns whether there is room for so many more items, and for one more list.
     pub fn has_room_for(&self, count: u8) -> bool
         ensures { IsTrue result ↔ HasRoomFor count self.now }
     {
@@ -100,7 +100,7 @@ impl<T: Copy + Drop> Pile<T> {
         self.items.pop()
     }
 
-    /// The item of the top list behind which n were put.
+    /// The item of the top list after which n were put.
     pub fn get(&self, n: usize) -> Option<T>
         ensures { result ≡ slice_get self.now.top n }
     {
@@ -111,7 +111,7 @@ impl<T: Copy + Drop> Pile<T> {
         }
     }
 
-    /// Replaces the item of the top list behind which n were put, where there is one.
+    /// Replaces the item of the top list after which n were put, where there is one.
     pub fn set(&mut self, n: usize, item: T)
         ensures { self.new ≡ record self.old { top = slice_set self.old.top n item } }
     {

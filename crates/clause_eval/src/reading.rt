@@ -47,7 +47,7 @@ fn first_of(olds: &[Option<Value>]) -> Option<Value>
     }
 }
 
-/// The old values that are read behind it.
+/// The old values that are read after it.
 #[tactic(auto, using(crate::proofs::PileLemmas::without_last))]
 fn rest_of(olds: &[Option<Value>]) -> &[Option<Value>]
     ensures { reverse result.now ≡ drop 1 (reverse olds.now) }
@@ -105,7 +105,7 @@ impl Reading<'_> {
     }
 }
 
-/// What makes a clause hold: any number but 0.
+/// Returns what makes a clause hold: any number but 0.
 fn is_number_true(value: Option<Value>) -> bool
     ensures { result ≡ clauses.is_number_true value }
 {

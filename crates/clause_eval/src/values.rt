@@ -7,7 +7,7 @@ ghost use Rattle.clause_eval.specs.Variables.{IsArrays};
 use crate::memory::Memory;
 use cil_model::{Place, Value};
 
-/// Whether there is an array of this type at an index.
+/// Returns whether there is an array of this type at an index.
 fn has_array(memory: &Memory, place: Place, index: u32) -> bool
     ensures { result ≡ values.has_array memory.now.heap place index }
 {
@@ -48,7 +48,7 @@ pub fn put(memory: &Memory, place: Place, value: Value) -> Option<Value>
     }
 }
 
-/// What a local holds before it is stored to.
+/// Returns what a local holds before it is stored to.
 pub fn zero_of(place: Place) -> Value
     ensures { result ≡ values.zero_of place }
 {

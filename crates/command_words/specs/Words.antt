@@ -50,7 +50,7 @@ STEPS = 1000000
 abbrev pub MAX_STEPS : ℕ
 MAX_STEPS = 1000000000
 
--- `--steps` is the last word but one, behind `run FILE METHOD`.
+-- `--steps` is the last word but one, after `run FILE METHOD`.
 abbrev pub tells_steps : List (List ℕ) → Bool
 tells_steps words = nat_le 5 (length words) && bytes_eq (word_at words (length words - 2)) (codes "--steps")
 

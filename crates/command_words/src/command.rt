@@ -24,16 +24,16 @@ pub enum Command {
     Run(RunWords),
 }
 
-/// The words that tell a run, and how long it may be.
+/// The words of a run, and the number of steps that it may take.
 #[derive(Clone, Copy, Debug, PartialEq, Eq)]
 pub struct RunWords {
     /// The index of the word that names the file of the assembly.
     pub file: u32,
     /// The index of the word that names the method.
     pub method: u32,
-    /// Where the arguments end, which begin behind the method.
+    /// Where the arguments end, which begin after the method.
     pub args_end: u32,
-    /// How many steps the run may take.
+    /// The number of steps that the run may take.
     pub steps: u32,
 }
 
@@ -52,7 +52,7 @@ impl Command {
     }
 }
 
-/// Whether a word may name a file or a method: it is not empty and does not begin with `-`.
+/// Returns whether a word may name a file or a method: it is not empty and does not begin with `-`.
 fn is_name_word(word: &str) -> bool
     ensures { result ≡ is_name_word word.now }
 {
@@ -89,13 +89,13 @@ fn command_of_three(word: &str, file: &str, method: &str) -> Option<Command>
     None
 }
 
-/// How many steps a run may take unless it is told.
+/// The number of steps that a run may take where the words give none.
 const STEPS: u32 = 1_000_000;
 
-/// The most steps that a run may be told.
+/// The greatest number of steps that the words of a run may give.
 const MAX_STEPS: u32 = 1_000_000_000;
 
-/// Whether the last word but one, behind `run FILE METHOD`, is `--steps`.
+/// Returns whether the last word but one, after `run FILE METHOD`, is `--steps`.
 fn tells_steps(words: &[String]) -> bool
     ensures told { result ≡ tells_steps (words_bytes words.now) }
     ensures long { IsTrue result → 5 ≤ length words.now }
@@ -103,7 +103,7 @@ fn tells_steps(words: &[String]) -> bool
     words.len() >= 5 && words[words.len() - 2].as_str() == "--steps"
 }
 
-/// How many steps the words of a run allow, none where what stands behind `--steps` tells no number.
+/// Returns how many steps the words of a run allow, none where what stands after `--steps` tells no number.
 fn run_steps(words: &[String]) -> Option<u32>
     requires { 3 ≤ length words.now }
     ensures { result ≡ run_steps (words_bytes words.now) }
@@ -129,21 +129,21 @@ fn run_args(words: &[String]) -> &[String]
     }
 }
 
-/// Whether a word is an argument.
+/// Returns whether a word is an argument.
 fn is_argument_word(word: &String) -> bool
     ensures { result ≡ arguments.is_argument (string_bytes word.now) }
 {
     is_argument(word.as_str())
 }
 
-/// Whether each word is an argument.
+/// Returns whether each word is an argument.
 fn are_arguments(words: &[String]) -> bool
     ensures { result ≡ list_all (λ word. arguments.is_argument (string_bytes word)) words.now }
 {
     words.iter().all(is_argument_word)
 }
 
-/// Whether what stands for the arguments of a run are arguments.
+/// Returns whether what stands for the arguments of a run are arguments.
 fn has_arguments(words: &[String]) -> bool
     requires { 3 ≤ length words.now }
     ensures { result ≡ list_all arguments.is_argument (run_args (words_bytes words.now)) }
@@ -151,7 +151,7 @@ fn has_arguments(words: &[String]) -> bool
     are_arguments(run_args(words))
 }
 
-/// Whether the words name a file, a method and arguments.
+/// Returns whether the words name a file, a method and arguments.
 fn names_run(words: &[String]) -> bool
     requires { 3 ≤ length words.now }
     ensures named { result ≡ names_run (words_bytes words.now) }

@@ -14,7 +14,7 @@ abbrev pub LieFrom : ℕ → List Instr → Type 0
 LieFrom at [] = Unit {0}
 LieFrom at (i ∷ is) = (i.at ≡ at) × (0 < i.size) × (at + i.size < 2 ^ 32) × LieFrom (at + i.size) is
 
--- The instructions lie one behind another, from the start of the code on.
+-- The instructions lie one after another, from the start of the code on.
 pub record LieInOrder (is : List Instr) : Type 0 where
   pub lie : LieFrom 0 is
 

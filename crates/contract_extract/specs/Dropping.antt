@@ -62,7 +62,7 @@ makes ops.Nop = 0
 makes (ops.Branch test target) = 0
 makes _ = 1
 
--- What is dropped behind an operation that takes nothing of it.
+-- What is dropped after an operation that takes nothing of it.
 abbrev pub behind : Op → Dropped → Dropped
 behind op dropped = record { above = dropped.above - takes op + makes op; count = dropped.count }
 

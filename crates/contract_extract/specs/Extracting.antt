@@ -1,4 +1,4 @@
--- The clauses of a method as they are read, one behind another.
+-- The clauses of a method as they are read, one after another.
 use Rattle.std.specs.Prelude.{◌≡◌, ℕ, ◌+◌, ◌-◌, ◌≤◌, Bool, false, true, List, [], ◌∷◌, ◌++◌, drop, take, slice_get, map, sum_by, Option, Some, None, Result, Ok, Err}
 use Rattle.std.specs.List.{AllByRecursion}
 use Rattle.cc_base.specs.declared.refusal.Refusal.{Refusal}
@@ -38,7 +38,7 @@ pub record BlockLeft (is : List Instr) (shape : Shape) (clauses : List Clause) (
   pub counted : olds ≡ olds_of clauses
   pub within : ClausesWithinLimits clauses
 
--- The same behind the instruction of this index.
+-- The same after the instruction of this index.
 abbrev pub LeftBehind : List Instr → Shape → List Clause → ℕ → ℕ → Type 0
 LeftBehind is shape clauses olds last = (call : Instr) → slice_get is last ≡ Some call → BlockLeft is shape clauses olds (last + 1) (call.at + call.size)
 
@@ -56,7 +56,7 @@ Goes (Ok x) first P = P x
 Goes (Err (Bad fault)) first P = first ≡ Some fault
 Goes (Err NoMemory) first P = Unit {0}
 
--- What comes of a clause of this kind behind these: it is read with its old values, where it and they keep the limits.
+-- What comes of a clause of this kind after these: it is read with its old values, where it and they keep the limits.
 abbrev pub ReadWithin : List Instr → ℕ → List Clause → ClauseKind → Option (Term × ℕ) → Type 0
 ReadWithin is start clauses kind None = passes_limit (map told_by_code clauses ++ (kind, tree_of is start) ∷ []) (tree_of is start) ≡ true
 ReadWithin is start clauses kind (Some (tree, olds)) =

@@ -99,12 +99,12 @@ abbrev pub limit_faults : List Instr → ℕ → List (ClauseKind × Option Term
 limit_faults is start clauses i =
     fault_if (option_map_or (λ closed. passes_limit (with_clause is start clauses (Some closed)) (tree_of is start)) (closing i.op) false) (TooLong i.at)
 
--- What is wrong with a call that closes a clause, behind these clauses: on the ways to it, and with its size.
+-- What is wrong with a call that closes a clause, after these clauses: on the ways to it, and with its size.
 abbrev pub closed_faults : List Instr → Shape → ℕ → List (ClauseKind × Option Term) → Instr → List ClauseFault
 closed_faults is shape start clauses i =
     if closes i.op then way_faults is shape start i ++ limit_faults is start clauses i else []
 
--- All that is wrong with these instructions, where the code of a clause begins at this IL offset behind these clauses.
+-- All that is wrong with these instructions, where the code of a clause begins at this IL offset after these clauses.
 abbrev pub faults_in : List Instr → Shape → ℕ → List (ClauseKind × Option Term) → List Instr → List ClauseFault
 faults_in is shape start clauses [] = []
 faults_in is shape start clauses (i ∷ rest) =

@@ -24,7 +24,7 @@ use Rattle.contract_extract.specs.declared.ways.arrivals.Arrival.TheVariants.{Ov
 use Rattle.contract_extract.specs.declared.faults.clause_fault.ClauseFault.{ClauseFault}
 use Rattle.contract_extract.specs.declared.faults.clause_fault.ClauseFault.TheVariants.{StackLeft}
 
--- ---- the stacks behind it
+-- ---- the stacks after it
 
 -- A new value on all stacks that come to the instruction of this index, where some do.
 abbrev pub pushed : List Place → Instr → ℕ → List Arrival → List Arrival
@@ -35,7 +35,7 @@ abbrev pub behind_call : List Place → Instr → Option UnitCall → ℕ → Li
 behind_call args i (Some (calls.OldValue place)) index tops = flat_map (with_one args i) tops
 behind_call args i _ index tops = pushed args i index tops
 
--- What comes behind an operation that is no comparing branch, of what comes to it.
+-- What comes after an operation that is no comparing branch, of what comes to it.
 abbrev pub other_arrivals : List Place → Instr → Op → Stacks → ℕ → List Arrival → List Arrival
 other_arrivals args i ops.Nop stacks index tops = tops
 other_arrivals args i (ops.Branch tests.Always target) stacks index tops = tops
@@ -54,7 +54,7 @@ abbrev pub is_comparing : Op → Bool
 is_comparing (ops.Branch (tests.Cmp op) target) = true
 is_comparing _ = false
 
--- What comes behind an operation that a clause may have.
+-- What comes after an operation that a clause may have.
 abbrev pub behind_arrivals : List Place → Instr → Op → Stacks → ℕ → List Arrival → List Arrival
 behind_arrivals args i op stacks index tops =
     if is_comparing op then flat_map (rest_of stacks) (flat_map (rest_of stacks) tops) else other_arrivals args i op stacks index tops
@@ -87,7 +87,7 @@ abbrev pub arrived_fault : List Instr → Shape → Instr → Stacks → List Ar
 arrived_fault is shape i stacks tops =
     if closes i.op then closing_fault shape i stacks tops else if not (is_pure is i) then None else taking_fault shape i stacks tops
 
--- What comes behind an instruction: nothing where ways end.
+-- What comes after an instruction: nothing where ways end.
 abbrev pub passed_arrivals : List Instr → Shape → Instr → Stacks → ℕ → List Arrival → List Arrival
 passed_arrivals is shape i stacks index tops =
     if closes i.op then [] else if not (is_pure is i) then [] else behind_arrivals shape.args i i.op stacks index tops
@@ -98,7 +98,7 @@ pub record IsRestOfGathered (stacks : Stacks) (tops out : List Arrival) : Type 0
   pub gathered : StandForSame (flat_map (rest_of stacks) tops) seconds
   pub rest : out ≡ flat_map (rest_of stacks) seconds
 
--- What stands for the same stacks as what is expected behind the instruction of an index.
+-- What stands for the same stacks as what is expected after the instruction of an index.
 pub record StandFor (stacks : Stacks) (index : ℕ) (expected out : List Arrival) : Type 0 where
   pub same : (n : ℕ) → index ≤ suc n → AreOrdered stacks → (fault : List Told → Option ClauseFault) → IsJoining fault
       → least_over (suc (suc n)) stacks fault out ≡ least_over (suc (suc n)) stacks fault expected
@@ -109,7 +109,7 @@ pub record IsHome (stacks : Stacks) (index home : ℕ) : Type 0 where
   pub most : home ≤ index
   pub same : arrivals_at stacks home ≡ arrivals_at stacks index
 
--- What stands for the stacks behind an instruction, which may be gathered.
+-- What stands for the stacks after an instruction, which may be gathered.
 abbrev pub StandBehind : List Instr → Shape → Instr → Stacks → ℕ → List Arrival → Type 0
 StandBehind is shape i stacks index out = StandFor stacks index (passed_arrivals is shape i stacks index (arrivals_at stacks index)) out
 
@@ -119,7 +119,7 @@ StandBehind is shape i stacks index out = StandFor stacks index (passed_arrivals
 abbrev pub is_sent_to : List Instr → ℕ → ℕ → ℕ → Bool
 is_sent_to code index later other = nat_lt index other && option_map_or (λ i. i.at == later) (slice_get code other) false
 
--- Arrivals come to what stands at an IL offset, behind the instruction of an index.
+-- Arrivals come to what stands at an IL offset, after the instruction of an index.
 pub record AreSentTo (code : List Instr) (index later : ℕ) (out : List Arrival) (old new : Stacks) : Type 0 where
   pub lengths : length new ≡ length old
   pub come : (other : ℕ) → arrivals_at new other ≡ (if is_sent_to code index later other then arrivals_at old other ++ out else arrivals_at old other)

@@ -30,7 +30,7 @@ abbrev pub calls_with_message : Op → Bool
 calls_with_message (ops.Call number) = takes_message (unit_call number)
 calls_with_message _ = false
 
--- A clause may have the operation, where the one behind it takes a message or does not. Branches that do not go
+-- A clause may have the operation, where the one after it takes a message or does not. Branches that do not go
 -- forward are another fault.
 abbrev pub is_pure_before : Bool → Op → Bool
 is_pure_before message ops.Nop = true

@@ -101,7 +101,7 @@ slots_called (Some (calls.Result place)) stack = Some (slots.Tree (kept terms.Re
 slots_called (Some (calls.OldValue place)) stack = over_one terms.Old stack
 slots_called _ stack = None
 
--- The slots behind an operation that goes on to the next instruction.
+-- The slots after an operation that goes on to the next instruction.
 abbrev pub slots_behind : Op → List Slot → Option (List Slot)
 slots_behind ops.Nop stack = Some stack
 slots_behind (ops.LoadArg n) stack = Some (slots.Tree (kept (terms.Arg n) 1) ∷ stack)

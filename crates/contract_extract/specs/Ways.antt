@@ -85,7 +85,7 @@ made shape i operands = record {
   calls = calls_with i (flat_map (λ told. told.calls) operands);
 }
 
--- The stack behind an instruction that is no branch and takes so many values. All but nop make one value of them.
+-- The stack after an instruction that is no branch and takes so many values. All but nop make one value of them.
 abbrev pub stack_by : Shape → Instr → Op → ℕ → List Told → List Told
 stack_by shape i ops.Nop count stack = stack
 stack_by shape i op count stack = made shape i (take count stack) ∷ drop count stack
@@ -110,13 +110,13 @@ abbrev pub faults_here : Instr → Op → List Told → List ClauseFault
 faults_here i (ops.Call number) stack = old_faults_of i (unit_call number) stack
 faults_here i _ stack = []
 
--- The IL offsets to which a way goes on behind an operation: the target first.
+-- The IL offsets to which a way goes on after an operation: the target first.
 abbrev pub ways_behind : Op → ℕ → List ℕ
 ways_behind (ops.Branch tests.Always target) next = target ∷ []
 ways_behind (ops.Branch test target) next = target ∷ next ∷ []
 ways_behind _ next = next ∷ []
 
--- The stack behind an instruction that has its operands.
+-- The stack after an instruction that has its operands.
 abbrev pub stack_behind : Shape → Instr → Op → List Told → List Told
 stack_behind shape i (ops.Branch test target) stack = drop (operand_count shape (ops.Branch test target)) stack
 stack_behind shape i op stack = stack_by shape i op (operand_count shape op) stack

@@ -36,11 +36,11 @@ fn closed_kind(op: &Op) -> Option<ClauseKind>
 #[derive(Drop)]
 pub(crate) struct Block {
     pub(crate) clauses: Vec<Clause>,
-    /// How many old values the clauses have together.
+    /// The number of old values that the clauses have together.
     old_values: usize,
-    /// The index of the first instruction behind them.
+    /// The index of the first instruction after them.
     pub(crate) first: usize,
-    /// The IL offset behind them.
+    /// The IL offset after them.
     pub(crate) start: u32,
 }
 
@@ -102,7 +102,7 @@ impl Block {
         Ok(())
     }
 
-    /// Goes on behind the closing call of this index, with the clause that it closes.
+    /// Goes on after the closing call of this index, with the clause that it closes.
     fn close(
         &mut self,
         alloc: Global,
@@ -126,7 +126,7 @@ impl Block {
         Ok(())
     }
 
-    /// Goes on behind the instruction of this index, with the clause that it closes, if it closes one.
+    /// Goes on after the instruction of this index, with the clause that it closes, if it closes one.
     fn pass(
         &mut self,
         alloc: Global,

@@ -23,7 +23,7 @@ use std::alloc::Global;
 pub struct Contracts {
     /// The clauses, in the order of the calls that close them.
     pub clauses: List<Clause>,
-    /// Where the body starts, behind the block: an IL offset.
+    /// Where the body starts, after the block: an IL offset.
     pub body_start: u32,
 }
 

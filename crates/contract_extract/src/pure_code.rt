@@ -8,7 +8,7 @@ ghost use Rattle.contract_extract.specs.PureCode.{calls_with_message, is_clause_
 
 use cil_model::{Instr, Op, UnitCall, unit_call};
 
-/// Whether the call stands in a clause or closes it.
+/// Returns whether the call stands in a clause or closes it.
 fn is_clause_call(call: Option<UnitCall>) -> bool
     ensures { result ≡ is_clause_call call }
 {
@@ -24,7 +24,7 @@ fn is_clause_call(call: Option<UnitCall>) -> bool
     )
 }
 
-/// Whether the call takes a message.
+/// Returns whether the call takes a message.
 fn takes_message(call: Option<UnitCall>) -> bool
     ensures { result ≡ takes_message call }
 {
@@ -48,7 +48,7 @@ fn calls_with_message(op: &Op) -> bool
     }
 }
 
-/// Whether a clause may have the operation, where the one behind it takes a message or does not.
+/// Returns whether a clause may have the operation, where the one after it takes a message or does not.
 fn is_pure_before(message: bool, op: &Op) -> bool
     ensures { result ≡ is_pure_before message op.now }
 {
@@ -70,7 +70,7 @@ fn is_pure_before(message: bool, op: &Op) -> bool
     }
 }
 
-/// Whether the instruction of this index takes a message, if there is one.
+/// Returns whether the instruction of this index takes a message, if there is one.
 fn takes_message_at(instrs: &[Instr], index: usize) -> bool
     ensures { result ≡ option_map_or (λ next. calls_with_message next.op) (slice_get instrs.now index) false }
 {
@@ -80,7 +80,7 @@ fn takes_message_at(instrs: &[Instr], index: usize) -> bool
     }
 }
 
-/// Whether a clause may have the instruction of this index where it stands.
+/// Returns whether a clause may have the instruction of this index where it stands.
 pub(crate) fn is_pure(instrs: &[Instr], index: usize, instr: &Instr) -> bool
     requires lie { LieInOrder instrs.now }
     requires there { slice_get instrs.now index ≡ Some instr.now }

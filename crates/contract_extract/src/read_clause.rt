@@ -16,7 +16,7 @@ use std::alloc::{AllocError, Global};
 #[derive(Drop)]
 pub(crate) struct ReadClause {
     pub(crate) tree: Tree,
-    /// How many old values it has.
+    /// The number of old values that it has.
     pub(crate) old_values: usize,
 }
 

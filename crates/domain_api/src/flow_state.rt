@@ -19,7 +19,7 @@ pub trait FlowState: Lattice {
     /// Code whose states can be told. All that follows is said of such code.
     ghost lawful: { Self.Code → Type 0 };
 
-    /// How many blocks and how many edges the code has.
+    /// The numbers of blocks and of edges that the code has.
     ghost block_count: { Self.Code → ℕ };
 
     ghost edge_count: { Self.Code → ℕ };
@@ -39,7 +39,7 @@ pub trait FlowState: Lattice {
     /// the start of its target.
     ghost goes: { Self.Code → ℕ → Self.Point → Self.Point → Type 0 };
 
-    /// The state behind an edge, from the one before it.
+    /// The state after an edge, from the one before it.
     ghost along: { Self → Self.Code → ℕ → Self };
 
     /// The state where the code begins.
@@ -51,7 +51,7 @@ pub trait FlowState: Lattice {
     /// The state of what is never reached.
     ghost nothing: { Self };
 
-    /// The state behind an edge. It ticks the meter once, whatever it answers.
+    /// The state after an edge. It ticks the meter once, whatever it answers.
     fn along_edge(
         &self,
         alloc: Global,
@@ -69,7 +69,7 @@ pub trait FlowState: Lattice {
     fn copy(&self, alloc: Global) -> Result<Self, NoMemory>
         ensures { IfOk result (λ again. again ≡ self.now) };
 
-    /// Whether two states are equal.
+    /// Returns whether two states are equal.
     fn same(&self, other: &Self) -> bool
         ensures { IsTrue result ↔ (self.now ≡ other.now) };
 
@@ -106,7 +106,7 @@ pub trait FlowState: Lattice {
     ghost widen_fits: { (code : Self.Code) (block : ℕ) (a b : Self) → lawful code → fits code block a → fits code block b →
         fits code block (Self.widen a b) };
 
-    // What holds before an edge's steps holds, carried along the edge, behind them.
+    // What holds before an edge's steps holds, carried along the edge, after them.
     ghost along_fits: { (code : Self.Code) (edge : ℕ) (a : Self) → lawful code → edge < edge_count code →
         fits code (source code edge) a → fits code (target code edge) (along a code edge) };
 

@@ -35,7 +35,7 @@ pub trait Lattice {
         requires { like self.now other.now }
         ensures { IfOk result (λ widened. widened ≡ widen self.now other.now) };
 
-    /// Whether this value is shown to say at least as much as the other.
+    /// Returns whether this value is shown to say at least as much as the other.
     fn leq(&self, alloc: Global, other: &Self) -> Result<bool, NoMemory>
         requires { like self.now other.now }
         ensures { IfOk result (λ less. less ≡ leq self.now other.now) };

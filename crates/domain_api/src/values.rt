@@ -52,7 +52,7 @@ pub trait Values: Copy {
     fn widened(&self, other: &Self) -> Self
         ensures { result ≡ widened self.now other.now };
 
-    /// Whether the other set is shown to have what this one has.
+    /// Returns whether the other set is shown to have what this one has.
     fn within(&self, other: &Self) -> bool
         ensures { result ≡ within self.now other.now };
 

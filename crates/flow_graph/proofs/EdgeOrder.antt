@@ -109,7 +109,7 @@ all_join blocks (i ∷ is) =
 
 -- ---- order
 
--- Each edge comes before all behind it.
+-- Each edge comes before all after it.
 abbrev pub InOrder : List Edge → Type 0
 InOrder [] = Unit {0}
 InOrder (e ∷ es) = AllByRecursion (ComesBefore e) es × InOrder es
@@ -143,7 +143,7 @@ next_alone (ops.Switch targets) next e = absurd (false≢true (sym e))
 next_alone ops.Return next e = absurd (false≢true (sym e))
 next_alone _ next e = refl
 
--- An instruction that ends no block, behind which none starts, has no edges: the last of a block alone has some.
+-- An instruction that ends no block, after which none starts, has no edges: the last of a block alone has some.
 pub no_edges : (blocks : List ℕ) (place : Option ℕ) (i : Instr) → ends_block i.op ≡ false → place_of blocks (i.at + i.size) ≡ None → edges_out blocks place i ≡ []
 no_edges blocks None i stays none = refl
 no_edges blocks (Some from) i stays none = rw (next_alone i.op (i.at + i.size) stays, none) refl
@@ -153,7 +153,7 @@ abbrev LeaveFrom : List ℕ → ℕ → List Edge → Type 0
 LeaveFrom blocks at es = AllByRecursion (λ e. Starts blocks at ≤ suc e.from) es
 
 module _ (blocks : List ℕ) (i j : Instr) (later : List Edge) (some : 0 < i.size) (order : InOrder later) (leave : LeaveFrom blocks (i.at + i.size) later) where
-  -- Where a block starts behind the instruction, or its edges are none.
+  -- Where a block starts after the instruction, or its edges are none.
   joined : (place next : Option ℕ) → last_place (Starts blocks i.at) ≡ place → place_of blocks (i.at + i.size) ≡ next
       → (ends_block i.op ≡ true → (k : ℕ) × (next ≡ Some k)) → InOrder (edges_out blocks place i ++ later)
   joined None next is found ends = order

@@ -43,7 +43,7 @@ module _ (blocks : List ℕ) (from : ℕ) where
       ap (λ (n : ℕ). (before ++ edges_to blocks from 0 (take k xs)) ++ option_to_list (edge_to blocks from n x)) (sym (length-take-le k xs (omega arith)))
       ∙ one_more (take k xs) x before ∙ ap (λ (ys : List ℕ). before ++ edges_to blocks from 0 ys) (sym (next_item xs k x inside is))
 
--- What may follow an operation: its targets, and then what stands behind.
+-- What may follow an operation: its targets, and then what stands after.
 successors_with_next : (op : Op) (next : ℕ) → goes_behind op ≡ true → successors op next ≡ branch_targets op ++ next ∷ []
 successors_with_next ops.Return next e = absurd (false≢true e)
 successors_with_next (ops.Branch tests.Always target) next e = absurd (false≢true e)

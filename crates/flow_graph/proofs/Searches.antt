@@ -98,7 +98,7 @@ module _ (xs : List ℕ) (at starts : ℕ) (are : starts ≡ length (filter (λ 
 
 pub ruleset block_places = (block_place_fits, block_is_none, block_is_last)
 
--- ---- the parts of a list before and behind a place
+-- ---- the parts of a list before and after a place
 
 module _ {X : Type 0} (P : X → Type 0) (x : X) (xs : List X) where
   -- What holds between two places holds between those before them in the rest of the list.
@@ -139,7 +139,7 @@ module _ {X : Type 0} (p : X → Bool) where
       rw (front zero x (omega arith) (omega arith))
       (passing_rest xs k (omega arith) (tail_from_start (Passes false) x xs k front) (tail (Passes true) x xs k (length xs) behind))
 
--- What begins at an offset or behind it is a rest.
+-- What begins at an offset or after it is a rest.
 pub rest_from : (is : List Instr) (at start : ℕ) → start ≤ length is → AllWithin (λ i. nat_lt i.at at ≡ true) is 0 start
     → AllWithin (λ i. nat_lt i.at at ≡ false) is start (length is)
     → take (length is - start) (drop start is) ≡ filter (λ i. nat_le at i.at) is

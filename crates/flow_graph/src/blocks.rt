@@ -13,7 +13,7 @@ use cil_model::{Instr, Op, Unit};
 use std::alloc::Global;
 use std::slice;
 
-/// Those of the instructions that begin at an IL offset or behind it.
+/// Those of the instructions that begin at an IL offset or after it.
 fn from_offset(instrs: &[Instr], at: u32) -> &[Instr]
     requires { IsNonDecreasingBy (λ i. i.at) instrs.now }
     ensures { result.now ≡ filter (λ i. nat_le at i.at) instrs.now }
@@ -41,7 +41,7 @@ pub(crate) fn branch_targets(op: &Op) -> &[u32]
     }
 }
 
-/// Whether the operation is the last of its block whatever follows.
+/// Returns whether the operation is the last of its block whatever follows.
 fn ends_block(op: &Op) -> bool
     ensures { result ≡ ends_block op.now }
 {
@@ -89,7 +89,7 @@ fn offsets_among(alloc: Global, body: &[Instr], sorted: &[u32]) -> Result<Vec<u3
 }
 
 /// The IL offsets at which the blocks of a body start, also those that no path reaches (ECMA-335 III.1.7.2). The body is
-/// what begins at the offset `body_start` or behind it.
+/// what begins at the offset `body_start` or after it.
 ///
 /// Its time is n log n in the number of instructions and targets.
 pub fn block_starts(alloc: Global, instrs: &[Instr], body_start: u32) -> Result<Vec<u32>, NoMemory>

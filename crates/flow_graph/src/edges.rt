@@ -26,7 +26,7 @@ fn place_of(blocks: &[u32], at: u32) -> Option<u32>
     }
 }
 
-/// How many blocks start at an IL offset or before.
+/// Returns how many blocks start at an IL offset or before.
 fn starts_up_to(blocks: &[u32], at: u32) -> usize
     requires { IsStrictlyIncreasing blocks.now }
     ensures { result ≡ length (filter (λ start. nat_le start at) blocks.now) }
@@ -47,7 +47,7 @@ fn block_at(blocks: &[u32], at: u32) -> Option<u32>
     Some((starts - 1) as u32)
 }
 
-/// Whether control may go on behind the operation.
+/// Returns whether control may go on after the operation.
 fn goes_behind(op: &Op) -> bool
     ensures { result ≡ goes_behind op.now }
 {

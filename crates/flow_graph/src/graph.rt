@@ -37,7 +37,7 @@ pub struct Graph {
     pub blocks: List<u32>,
     /// The edges, by the blocks that they leave and then by their numbers.
     pub edges: List<Edge>,
-    /// The places of the heads of loops: the blocks to which an edge goes from themselves or from one behind.
+    /// The places of the heads of loops: the blocks to which an edge goes from themselves or from one after.
     /// They rise.
     pub heads: List<u32>,
 }

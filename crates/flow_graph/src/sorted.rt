@@ -4,7 +4,7 @@ ghost use Rattle.std.specs.Prelude.{◌≡◌, ◌==◌};
 ghost use Rattle.std.specs.List.{list_any};
 ghost use Rattle.std.specs.List.Sorted.{IsNonDecreasing, IsPermutation};
 
-/// Whether the number is one of these, which rise.
+/// Returns whether the number is one of these, which rise.
 pub(crate) fn is_among(sorted: &[u32], number: u32) -> bool
     requires { IsNonDecreasing sorted.now }
     ensures { result ≡ list_any (λ n. n == number) sorted.now }

@@ -20,7 +20,7 @@ use Rattle.il_decoder.proofs.Read.{Explains, operation_explained}
 
 -- ---- what is spelled is read
 
--- What stands behind the opcode of a spelling, and how the row reads it.
+-- What stands after the opcode of a spelling, and how the row reads it.
 record IsRead (size number : ℕ) (form : Option Form) (opcode : List ℕ) (i : Instr) (whole : List ℕ) : Type 0 where
   pub rest : List ℕ
   pub stands : whole ≡ opcode ++ rest
@@ -116,7 +116,7 @@ no_switch_fault at rest none =
     (λ e. cond_both (leb (4 * little_number 4 rest) (length (drop 4 rest))) _ (Err (Short at)) (λ r. IsNoOpcode r → ⊥) (λ e h. h) (λ e h. h))
     (λ e h. h) none
 
--- The answer behind the first byte, where that is FE or the opcode of a switch.
+-- The answer after the first byte, where that is FE or the opcode of a switch.
 abbrev behind_first : ℕ → ℕ → List ℕ → Bool → Bool → Result Operation IlFault
 behind_first at b rest long switches = cond long (two_byte at rest) (cond switches (switch at rest) (by_form at 1 b (short_form b) rest))
 

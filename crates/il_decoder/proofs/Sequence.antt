@@ -67,7 +67,7 @@ decodings_spell (suc most) code fits at enough passed =
 pub nothing_there : (code : List ℕ) (at : ℕ) → drop at code ≡ [] → length code ≤ at
 nothing_there code at e = omega (arith, ap length e, length-drop at code)
 
--- The first of some instructions that the code spells stands there, and the others behind it.
+-- The first of some instructions that the code spells stands there, and the others after it.
 pub first_stands : (code : List ℕ) (at : ℕ) (i : Instr) (is : List Instr) → CodeFrom at (i ∷ is) (drop at code)
     → (i.at ≡ at) × (StandsIn i code × CodeFrom (at + i.size) is (drop (at + i.size) code))
 first_stands code at i is (place, (bytes, rest, spells, there, behind)) =

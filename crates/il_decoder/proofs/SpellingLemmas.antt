@@ -38,7 +38,7 @@ Back opcode None = Unit {0}
 Back opcode (Some (width, meaning)) =
     (next n : ℕ) → n < 256 ^ width → op_bytes (next % 2 ^ 32) (length opcode + width) (meaning next n) ≡ opcode ++ little_bytes width n
 
--- A row of one opcode, whose operand stands in the bytes as it is; and the same behind FE.
+-- A row of one opcode, whose operand stands in the bytes as it is; and the same after FE.
 here : {b k : ℕ} (width : ℕ) → b ≡ k → (next n : ℕ) → n < 256 ^ width → k ∷ little_bytes width n ≡ b ∷ little_bytes width n
 here width e next n h = ap (λ (c : ℕ). c ∷ little_bytes width n) (sym e)
 
@@ -187,7 +187,7 @@ only_spelling i bytes spells =
 
 -- ---- what follows
 
--- Of two fronts of one list, one is the front of the other.
+-- Of two prefixes of one list, one is the front of the other.
 fronts : (xs ys more rest : List ℕ) → xs ++ more ≡ ys ++ rest → ((t : List ℕ) × (ys ≡ xs ++ t)) ⊎ ((t : List ℕ) × (xs ≡ ys ++ t))
 fronts [] ys more rest e = inl (ys, refl)
 fronts (x ∷ xs) [] more rest e = inr (x ∷ xs, refl)

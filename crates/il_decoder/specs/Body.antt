@@ -1,4 +1,4 @@
--- The body of a method: a header at its address, and the code behind it (II.25.4).
+-- The body of a method: a header at its address, and the code after it (II.25.4).
 use Rattle.std.specs.Prelude.{◌≡◌, ℕ, ◌+◌, ◌/◌, ◌%◌, ◌^◌, List, drop, slice_index, false, ◌==◌, if◌then◌else◌, Option, Some, None, is_some, option_map}
 use Rattle.std.specs.Int.{bit_at}
 use Rattle.std.specs.Option.{option_and_then}
@@ -44,11 +44,11 @@ header_from image rva first =
 unfoldable pub header_at : List ℕ → ℕ → Option Header
 header_at image rva = option_and_then (λ found. header_from image rva (slice_index found 0)) (bytes_at image rva 1)
 
--- The code behind a header. Both are looked up together, at the header's address.
+-- The code after a header. Both are looked up together, at the header's address.
 unfoldable pub code_at : List ℕ → ℕ → Header → Option (List ℕ)
 code_at image rva header = option_map (drop header.len) (bytes_at image rva (header.len + header.code_len))
 
--- The code of the body at an address. None where no header stands there whole, or no code behind it.
+-- The code of the body at an address. None where no header stands there whole, or no code after it.
 unfoldable pub body_code : List ℕ → ℕ → Option (List ℕ)
 body_code image rva = option_and_then (code_at image rva) (header_at image rva)
 

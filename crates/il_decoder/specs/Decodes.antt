@@ -31,7 +31,7 @@ pub record BeginsNone (code : List ℕ) (at : ℕ) : Type 0 where
   pub not_whole : (i : Instr) → i.at ≡ at → StandsIn i code → ⊥
   pub not_cut : EndsInside code at → ⊥
 
--- The opcode at an IL offset: one byte, or FE and the byte behind it (III.1.2.1).
+-- The opcode at an IL offset: one byte, or FE and the byte after it (III.1.2.1).
 abbrev pub opcode_at : List ℕ → ℕ → ℕ
 opcode_at code at = if slice_index code at == 0xfe then 0xfe00 + slice_index code (at + 1) else slice_index code at
 

@@ -18,7 +18,7 @@ use Rattle.il_decoder.specs.declared.fault.IlFault.TheVariants.{Short, Opcode, T
 abbrev pub Operation : Type 0
 Operation = Op × ℕ
 
--- The operation of an opcode of this size and number, by its row and what stands behind it.
+-- The operation of an opcode of this size and number, by its row and what stands after it.
 abbrev pub by_form : ℕ → ℕ → ℕ → Option Form → List ℕ → Result Operation IlFault
 by_form at size opcode None rest = Err (Opcode at opcode)
 by_form at size opcode (Some (width, meaning)) rest =
@@ -34,14 +34,14 @@ abbrev pub offsets_in : ℕ → List ℕ → List ℕ
 offsets_in zero bytes = []
 offsets_in (suc n) bytes = little_number 4 bytes ∷ offsets_in n (drop 4 bytes)
 
--- What stands behind a switch with this many targets, its count behind it (III.3.66).
+-- What stands after a switch with this many targets, its count after it (III.3.66).
 unfoldable pub switch_of : ℕ → ℕ → List ℕ → Result Operation IlFault
 switch_of at count offsets =
     if nat_le (4 * count) (length offsets)
     then Ok (Switch (map (target (at + (5 + 4 * count))) (offsets_in count offsets)), 5 + 4 * count)
     else Err (Short at)
 
--- What stands behind the opcode of a switch.
+-- What stands after the opcode of a switch.
 unfoldable pub switch : ℕ → List ℕ → Result Operation IlFault
 switch at rest = if nat_le 4 (length rest) then switch_of at (little_number 4 rest) (drop 4 rest) else Err (Short at)
 
@@ -63,7 +63,7 @@ decoded code at = placed at (operation at (drop at code))
 
 -- ---- all instructions
 
--- Where what stands behind a decoded instruction begins: nothing is read behind a fault.
+-- Where what stands after a decoded instruction begins: nothing is read after a fault.
 abbrev pub offset_behind : List ℕ → ℕ → Result Instr IlFault → ℕ
 offset_behind code at (Ok i) = at + i.size
 offset_behind code at (Err fault) = length code

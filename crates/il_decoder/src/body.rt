@@ -1,4 +1,4 @@
-//! A method's body: its header, and its code behind it (II.25.4).
+//! A method's body: its header, and its code after it (II.25.4).
 
 ghost use Rattle.std.specs.Prelude.{◌≡◌, ◌<◌, ◌==◌, IfErr, IfOk, None, Some, length};
 ghost use Rattle.std.specs.Int.{bit_at};
@@ -13,11 +13,11 @@ use pe_reader::Image;
 /// The body of a method.
 #[derive(Clone, Copy)]
 pub struct Body<'a> {
-    /// How many slots its stack may have (MaxStack).
+    /// The number of slots that its stack may have (MaxStack).
     pub max_stack: u16,
-    /// Whether each local is 0 or null at first (InitLocals).
+    /// True where each local is 0 or null at first (InitLocals).
     pub init_locals: bool,
-    /// Whether tables of exceptions follow the code (MoreSects).
+    /// True where tables of exceptions follow the code (MoreSects).
     pub more_sections: bool,
     /// The token of the locals' signature (LocalVarSigTok): 0 where there are no locals.
     pub local_token: u32,
@@ -32,11 +32,11 @@ pub struct Header {
     pub len: u32,
     /// The length of the code in bytes (CodeSize).
     pub code_len: u32,
-    /// How many slots the stack may have (MaxStack).
+    /// The number of slots that the stack may have (MaxStack).
     pub max_stack: u16,
-    /// Whether each local is 0 or null at first (InitLocals).
+    /// True where each local is 0 or null at first (InitLocals).
     pub init_locals: bool,
-    /// Whether tables of exceptions follow the code (MoreSects).
+    /// True where tables of exceptions follow the code (MoreSects).
     pub more_sections: bool,
     /// The token of the locals' signature (LocalVarSigTok): 0 where there are no locals.
     pub local_token: u32,
@@ -45,7 +45,7 @@ pub struct Header {
 /// The length of a fat header in bytes.
 const FAT_LEN: u32 = 12;
 
-/// A fat header's length, as it is told in the header: in units of four bytes.
+/// A fat header's length, as it stands in the header: in units of four bytes.
 const FAT_LEN_FIELD: u16 = 3;
 
 /// The bit of the flags that says that more sections follow.
@@ -54,7 +54,7 @@ const MORE_SECTS: u8 = 3;
 /// The bit of the flags that says that locals are 0 or null at first.
 const INIT_LOCALS: u8 = 4;
 
-/// Whether a bit is set.
+/// Returns whether a bit is set.
 fn has_bit(flags: u16, bit: u8) -> bool
     requires { bit < 16 }
     ensures { result ≡ (bit_at flags bit == 1) }
@@ -77,7 +77,7 @@ fn tiny_header(first: u8) -> Header
     }
 }
 
-/// The header of twelve bytes (II.25.4.3). None where it tells another length of itself.
+/// Returns the header of twelve bytes (II.25.4.3). None where it gives another length of itself.
 #[tactic(auto, unfolding(crate::specs::Body::fat_header))]
 fn fat_header(bytes: &[u8]) -> Option<Header>
     requires { length bytes.now ≡ 12 }
@@ -97,7 +97,7 @@ fn fat_header(bytes: &[u8]) -> Option<Header>
     })
 }
 
-/// The header at an address (RVA). None where none stands there whole. The code behind it may be cut.
+/// The header at an address (RVA). None where none stands there whole. The code after it may be cut.
 #[tactic(auto, unfolding(crate::specs::Body::header_at))]
 pub fn header_at(image: &Image, rva: u32) -> Option<Header>
     ensures { result ≡ header_at image.now rva }

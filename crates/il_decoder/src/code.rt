@@ -1,4 +1,4 @@
-//! The instructions of a method's code, one behind another.
+//! The instructions of a method's code, one after another.
 
 ghost use Rattle.std.specs.Prelude.{◌≡◌, ⊤, length, IfOk, List};
 ghost use Rattle.std.specs.List.{list_all};
@@ -15,7 +15,7 @@ use crate::instruction::decode_one;
 use cil_model::{Instr, Op};
 use std::alloc::Global;
 
-/// The instructions that the code spells, one behind another up to its end.
+/// The instructions that the code spells, one after another up to its end.
 #[tactic(auto, using(crate::proofs::Reading::one_by_one))]
 fn read_instructions(alloc: Global, code: &[u8]) -> Result<Vec<Instr>, IlRefusal>
     requires { IsShort code.now }
@@ -33,7 +33,7 @@ fn read_instructions(alloc: Global, code: &[u8]) -> Result<Vec<Instr>, IlRefusal
     Ok(instrs)
 }
 
-/// Whether an instruction begins at this IL offset.
+/// Returns whether an instruction begins at this IL offset.
 fn begins_at(instrs: &[Instr], at: u32) -> bool
     requires { IsNonDecreasingBy (λ i. i.at) instrs.now }
     ensures { result ≡ begins_at instrs.now at }
@@ -41,7 +41,7 @@ fn begins_at(instrs: &[Instr], at: u32) -> bool
     instrs.binary_search_by_key(&at, |i| i.at).is_ok()
 }
 
-/// Whether an instruction begins at each of these IL offsets.
+/// Returns whether an instruction begins at each of these IL offsets.
 fn begin_at_all(instrs: &[Instr], targets: &[u32]) -> bool
     requires { IsNonDecreasingBy (λ i. i.at) instrs.now }
     ensures { result ≡ list_all (begins_at instrs.now) targets.now }
@@ -49,7 +49,7 @@ fn begin_at_all(instrs: &[Instr], targets: &[u32]) -> bool
     targets.iter().all(|target| begins_at(instrs, *target))
 }
 
-/// Whether the operation branches to starts of these instructions alone.
+/// Returns whether the operation branches to starts of these instructions alone.
 fn meets_starts(instrs: &[Instr], op: &Op) -> bool
     requires { IsNonDecreasingBy (λ i. i.at) instrs.now }
     ensures { result ≡ list_all (begins_at instrs.now) (branch_targets op.now) }
@@ -87,7 +87,7 @@ fn read_code(alloc: Global, code: &[u8]) -> Result<Vec<Instr>, IlRefusal>
     Ok(instrs)
 }
 
-/// The instructions of a method's code, one behind another, where each branch meets the start of one
+/// The instructions of a method's code, one after another, where each branch meets the start of one
 /// (ECMA-335 III.1.7.2).
 ///
 /// The first instruction that the code ends inside is `Short`, the first bytes that begin none are `Opcode`,

@@ -50,7 +50,7 @@ fn switch_of(alloc: Global, at: u32, count: u32, offsets: &[u8]) -> Result<Instr
     Ok(Instr { at, size, op })
 }
 
-/// What stands behind the opcode of a switch (III.3.66).
+/// Returns what stands after the opcode of a switch (III.3.66).
 #[tactic(auto, using(crate::proofs::Carried::carried), unfolding(crate::specs::Decoding::switch))]
 fn switch(alloc: Global, at: u32, rest: &[u8]) -> Result<Instr, IlRefusal>
     requires { at + length rest.now < 2 ^ 31 }

@@ -6,7 +6,7 @@ ghost use Rattle.il_decoder.specs.Labels.{label_digits, label};
 use cc_base::{NoMemory, put_hex};
 use std::alloc::Global;
 
-/// How many digits an offset is printed with.
+/// Returns how many digits an offset is printed with.
 fn label_digits(at: u32) -> u8
     ensures digits { result ≡ label_digits at }
     ensures some { 1 ≤ result }

@@ -137,7 +137,7 @@ fn object(at: u32, opcode: u8, rest: &[u8]) -> Result<Operation, IlFault>
     }
 }
 
-/// What begins with this byte and is no switch.
+/// Returns what begins with this byte and is no switch.
 #[tactic(auto, unfolding(cil_model::specs::Opcodes::short_form))]
 pub(crate) fn one_byte(at: u32, opcode: u8, rest: &[u8]) -> Result<Operation, IlFault>
     requires { at < 2 ^ 31 }
@@ -155,7 +155,7 @@ pub(crate) fn one_byte(at: u32, opcode: u8, rest: &[u8]) -> Result<Operation, Il
     }
 }
 
-/// What FE begins, with the bytes behind it.
+/// Returns what FE begins, with the bytes after it.
 #[tactic(auto, unfolding(crate::specs::Decoding::two_byte, cil_model::specs::Opcodes::long_form))]
 pub(crate) fn two_byte(at: u32, bytes: &[u8]) -> Result<Operation, IlFault>
     ensures { result ≡ two_byte at bytes.now }

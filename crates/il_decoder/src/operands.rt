@@ -1,4 +1,4 @@
-//! Operands behind an opcode (ECMA-335 III.1.2).
+//! Operands after an opcode (ECMA-335 III.1.2).
 
 ghost use Rattle.std.specs.Prelude.{◌≡◌, ◌+◌, ◌^◌, ◌<◌, length, nat_le};
 ghost use Rattle.std.specs.Int.{w8, w32, cast_signed, cast_unsigned};

@@ -138,7 +138,7 @@ fn put_constant(out: &mut Vec<u8>, size: u32, n: i32) -> Result<(), NoMemory>
     }
 }
 
-/// How far a target lies from the next instruction, in 32 bits.
+/// Returns how far a target lies from the next instruction, in 32 bits.
 fn distance(next: u32, target: u32) -> u32
     ensures { result ≡ distance next target }
 {
@@ -220,7 +220,7 @@ fn put_spelling(out: &mut Vec<u8>, instr: &Instr) -> Result<(), NoMemory>
     }
 }
 
-/// Appends the bytes that spell an instruction, in the form that its size tells. Some bytes have to spell it.
+/// Appends the bytes that spell an instruction, in the form of its size. Some bytes have to spell it.
 /// Where memory runs out, nothing is appended.
 #[tactic(auto, using(crate::proofs::SpellingLemmas::spelling))]
 pub fn spell(alloc: Global, instr: &Instr, out: &mut Vec<u8>) -> Result<(), NoMemory>

@@ -10,7 +10,7 @@ use cc_base::{NoMemory, put_hex, put_number};
 use cil_model::{Instr, Op, Place, Test};
 use std::alloc::Global;
 
-/// What stands between the name and the operand, by the instruction's size.
+/// Returns what stands between the name and the operand, by the instruction's size.
 fn form_mark(size: u32) -> &'static [u8]
     ensures { result.now ≡ form_mark size }
 {
@@ -76,7 +76,7 @@ fn put_branch(
     put_label(alloc, out, target)
 }
 
-/// Appends labels, each behind a blank.
+/// Appends labels, each after a blank.
 fn put_targets(alloc: Global, out: &mut Vec<u8>, targets: &[u32]) -> Result<(), NoMemory>
     ensures { OnOk result (out.new.items ≡ out.old.items ++ flat_map next_target targets.now) }
 {

@@ -9,7 +9,7 @@ ghost use Rattle.interval_domain.specs.Arithmetic.{is_narrow, bits_below, common
 use crate::range::{GREATEST_32, LEAST_32, Range};
 use crate::sums::is_one;
 
-/// Whether the numbers of the range are int32.
+/// Returns whether the numbers of the range are int32.
 fn is_narrow(range: Range) -> bool
     ensures { result ≡ is_narrow range }
 {

@@ -16,7 +16,7 @@ fn kept_hole(hole: Option<i64>, other: Range) -> Option<i64>
     }
 }
 
-/// What either range has.
+/// Returns what either range has.
 #[tactic(auto, unfolding(crate::specs::Joins::hull))]
 pub fn hull(a: Range, b: Range) -> Range
     ensures { result ≡ hull a b }
@@ -75,7 +75,7 @@ fn upper_end(a: i64, b: i64) -> i64
     if a < b { ceiling_of(b) } else { a }
 }
 
-/// What either range has, with ends that settle.
+/// Returns what either range has, with ends that settle.
 #[tactic(auto, unfolding(crate::specs::Joins::widened))]
 pub fn widened(a: Range, b: Range) -> Range
     ensures { result ≡ widened a b }
@@ -85,7 +85,7 @@ pub fn widened(a: Range, b: Range) -> Range
     Range::with_hole(lo, hi, kept_hole(a.hole(), b))
 }
 
-/// Whether the range excludes the hole, if there is one.
+/// Returns whether the range excludes the hole, if there is one.
 #[tactic(auto, unfolding(crate::specs::Joins::excludes_hole))]
 fn excludes_hole(range: Range, hole: Option<i64>) -> bool
     ensures { result ≡ excludes_hole range hole }
@@ -96,7 +96,7 @@ fn excludes_hole(range: Range, hole: Option<i64>) -> bool
     }
 }
 
-/// Whether the second range has what the first has.
+/// Returns whether the second range has what the first has.
 #[tactic(auto, unfolding(crate::specs::Joins::within))]
 pub fn within(a: Range, b: Range) -> bool
     ensures { result ≡ within a b }

@@ -52,7 +52,7 @@ fn corners(a: Range, b: Range) -> Range
     )
 }
 
-/// Whether the range has the number 1 alone.
+/// Returns whether the range has the number 1 alone.
 fn is_number_one(range: Range) -> bool
     ensures { result ≡ is_number_one range }
 {

@@ -56,7 +56,7 @@ fn up_to_size(size: u64) -> Range
     )
 }
 
-/// Whether all numbers of the one range are 0 or more, and all of the other 1 or more.
+/// Returns whether all numbers of the one range are 0 or more, and all of the other 1 or more.
 fn is_plain(a: Range, b: Range) -> bool
     ensures { result ≡ (int_le (pos 0) a.lo && int_le (pos 1) b.lo) }
 {

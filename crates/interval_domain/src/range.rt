@@ -70,7 +70,7 @@ impl Range {
         Range { lo, hi, hole }
     }
 
-    /// Whether the number is none of the range.
+    /// Returns whether the number is none of the range.
     #[tactic(auto, unfolding(crate::specs::Interval::excludes))]
     pub(crate) fn excludes(&self, n: i64) -> bool
         ensures { result ≡ excludes self.now n }
@@ -174,7 +174,7 @@ impl Range {
     }
 }
 
-/// Whether the number is the hole.
+/// Returns whether the number is the hole.
 fn is_hole(hole: Option<i64>, n: i64) -> bool
     ensures { result ≡ is_hole hole n }
 {

@@ -23,7 +23,7 @@ fn near_difference(a: i64, b: i64) -> i64
     a.saturating_sub(b)
 }
 
-/// Whether the range has one number alone.
+/// Returns whether the range has one number alone.
 pub(crate) fn is_one(range: Range) -> bool
     ensures { result ≡ is_one range }
 {

@@ -187,7 +187,7 @@ module _ (unit : MethodUnit) (short : AreOfShortCode unit.instrs) (told : AllByR
   count : (at : ℕ) → Start ≤ at → is_before End at ≡ true → Starts Blocks at ≡ suc b
   count at low early = omega (arith, starts_least Blocks b at pairs below low, starts_most Blocks (suc b) at pairs early)
 
-  -- No block starts behind the first offset of the block and within it.
+  -- No block starts after the first offset of the block and within it.
   no_start : (at : ℕ) (j : Instr) → Start < at → is_before End at ≡ true → instr_at unit.instrs at ≡ Some j → is_block_start unit at ≡ true → ⊥
   no_start at j less early found marked =
       let inside = (start_at b below).inside in
@@ -237,7 +237,7 @@ module _ (unit : MethodUnit) (short : AreOfShortCode unit.instrs) (told : AllByR
         to = ap (λ (e : Edge). get_or Blocks e.to 0) is ∙ item_there Blocks place.0 target 0 (place_within Blocks target place.0 place.1).1;
       }
 
-  -- The last instruction, behind which a block starts where an instruction stands.
+  -- The last instruction, after which a block starts where an instruction stands.
   last : (i : Instr) (at : ℕ) → i.at ≡ at → IsGood unit Start i → is_before End i.at ≡ true
       → ((j : Instr) → instr_at unit.instrs (i.at + i.size) ≡ Some j → is_block_start unit (i.at + i.size) ≡ true) → IsLast unit (graph_of unit) b at i
   last i at here good early behind = record {

@@ -148,7 +148,8 @@ fn find_verdicts(
     }
 }
 
-/// Whether each obligation of a unit is proved by an invariant, which may have come from anywhere: where it is none of this
+/// Returns whether each obligation of a unit is proved by an invariant, which may have come from anywhere: where it is
+/// none of this
 /// unit, nothing is proved.
 ///
 /// Cost: that of `inductive`, and then one walk through each block, with a copy of the state at each instruction that has

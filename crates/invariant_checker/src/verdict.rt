@@ -12,14 +12,14 @@ pub struct Verdict {
     pub proved: bool,
 }
 
-/// Whether every verdict is that of a proved obligation.
+/// Returns whether every verdict is that of a proved obligation.
 pub fn all_proved(found: &[Verdict]) -> bool
     ensures value { result ≡ all_proved found.now }
 {
     found.iter().all(|verdict| verdict.proved)
 }
 
-/// How many obligations are proved.
+/// Returns how many obligations are proved.
 pub fn proved_count(found: &[Verdict]) -> usize
     ensures value { result ≡ proved_count found.now }
 {

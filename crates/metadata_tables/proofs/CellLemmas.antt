@@ -115,7 +115,7 @@ offset_kept md layout table column kept known few =
     ∙ ap (λ (xs : List ℕ). get_or xs column 0) (get_or-map-range_with_len (λ k. column_offsets (row_counts md) (heap_sizes md) (columns_of k)) 0 45 table table [] known (omega arith))
     ∙ get_or-map-range_with_len (λ k. total_width (row_counts md) (heap_sizes md) (take k (columns_of table))) 0 10 column column 0 few (omega arith)
 
--- A row ends behind its last column.
+-- A row ends after its last column.
 pub row_width-is_offset : (md : List ℕ) (table : ℕ) → row_width (row_counts md) (heap_sizes md) table ≡ column_offset md table 9
 unfolding row_width column_offset
 row_width-is_offset md table = ap (total_width (row_counts md) (heap_sizes md)) (sym (take_all 9 (columns_of table) (columns_few table)))

@@ -58,7 +58,7 @@ run-short (suc count) (suc room) end fault at width h fit short =
     ∙ run-short count room end fault (at + width) width (omega arith) (omega arith) (omega arith)
     ∙ ap (λ (place : ℕ). Some (fault place)) here
 
--- The first that passes the end is behind as many as there is room for.
+-- The first that passes the end is after as many as there is room for.
 pub run-room : (count end : ℕ) (fault : ℕ → TableFault) (at width : ℕ) → at ≤ end → end - at < count * width
     → first_of (fields end fault at (replicate count width)) ≡ Some (fault (at + (end - at) / width * width))
 run-room count end fault at zero h needed = absurd (omega arith)

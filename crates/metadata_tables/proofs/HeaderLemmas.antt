@@ -47,7 +47,7 @@ option_or-none : (o : Option Stream) → option_or o None ≡ o
 option_or-none None = refl
 option_or-none (Some s) = refl
 
--- What is found at a header, before what is found behind it.
+-- What is found at a header, before what is found after it.
 found-next : (found : Option Stream) (same : Bool) (s : Stream) (rest : Option Stream)
     → option_or found (cond same (Some s) rest) ≡ option_or (option_or found (cond same (Some s) None)) rest
 found-next None true s rest = refl

@@ -102,7 +102,7 @@ filled-more f xs i v d within same before =
     (λ k h. let other : k ≢ i = omega arith in rw get_or-set_other (before k h))
     (rw (get_or-set_same, same) refl)
 
--- What a write at a place leaves behind it.
+-- What a write at a place leaves after it.
 pub zero-behind : (xs : List ℕ) (i v : ℕ) → ((k : ℕ) → i ≤ k → get_or xs k 0 ≡ 0)
     → (k : ℕ) → i + 1 ≤ k → get_or (set xs i v) k 0 ≡ 0
 zero-behind xs i v zeros k h = let other : k ≢ i = omega arith in rw get_or-set_other (zeros k (omega arith))

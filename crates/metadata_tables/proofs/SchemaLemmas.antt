@@ -14,7 +14,7 @@ and-back : (a b : Bool) → (a && b) ≡ true → b ≡ true
 and-back true b e = e
 and-back false b e = absurd cc
 
--- What stands behind the reference at a place.
+-- What stands after the reference at a place.
 pub now_at : {A : Type 0} (references : List (Bor (List A))) (i : ℕ) (d : Bor (List A)) → i < length references
     → (get_or references i d).now ≡ get_or (map (λ r. r.now) references) i []
 now_at {A} references i d h = sym (get_or-map (λ (r : Bor (List A)). r.now) references i d [] h)

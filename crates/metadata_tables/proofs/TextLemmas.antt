@@ -87,7 +87,7 @@ some-mapped false byte (Some f) some = refl
 some-behind : (byte : ℕ) (bytes : List ℕ) → is_some (zero_ended bytes) ≡ true → is_some (zero_ended (byte ∷ bytes)) ≡ true
 some-behind byte bytes some = rw (zero_ended-cons byte bytes) (some-mapped (is_zero byte) byte (zero_ended bytes) some)
 
--- No text begins behind the last zero.
+-- No text begins after the last zero.
 pub none_at_end : (bytes : List ℕ) (i : ℕ) → length bytes ≤ i → zero_ended (drop i bytes) ≡ None
 unfolding zero_ended
 none_at_end bytes i past = rw (drop_of_length-le bytes past) refl

@@ -53,7 +53,7 @@ row_counts md = map (stored_count md) (range_with_len 0 45)
 abbrev pub row_count : List ℕ → ℕ → ℕ
 row_count md table = slice_index (row_counts md) table
 
--- Where the rows begin: behind the row counts.
+-- Where the rows begin: after the row counts.
 unfoldable pub rows_at : List ℕ → ℕ
 rows_at md = counts_at md + 4 * present_below (valid md) 64
 
@@ -66,7 +66,7 @@ unfoldable pub bytes_below : List ℕ → ℕ → ℕ → ℕ
 bytes_below counts heap_sizes table =
     sum_by (λ lower. slice_index counts lower * row_width counts heap_sizes lower) (range_with_len 0 table)
 
--- Where each of some columns begins in a row, and behind the last one where the row ends. No table has more than nine.
+-- Where each of some columns begins in a row, and after the last one where the row ends. No table has more than nine.
 unfoldable pub column_offsets : List ℕ → ℕ → List Column → List ℕ
 column_offsets counts heap_sizes columns = map (λ column. total_width counts heap_sizes (take column columns)) (range_with_len 0 10)
 
@@ -82,7 +82,7 @@ bases counts heap_sizes rows_at = map (λ table. rows_at + bytes_below counts he
 unfoldable pub base : List ℕ → ℕ → ℕ
 base md table = rows_at md + bytes_below (row_counts md) (heap_sizes md) table
 
--- Where a column, counted from 0, begins in each row of a table, and behind the last column where a row ends.
+-- Where a column, counted from 0, begins in each row of a table, and after the last column where a row ends.
 unfoldable pub column_offset : List ℕ → ℕ → ℕ → ℕ
 column_offset md table column = total_width (row_counts md) (heap_sizes md) (take column (columns_of table))
 

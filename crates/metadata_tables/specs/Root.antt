@@ -24,7 +24,7 @@ signature = 0x424a_5342
 unfoldable pub version_width : List ℕ → ℕ
 version_width md = u32_at md 12
 
--- The field Streams, which stands behind the version and the field Flags.
+-- The field Streams, which stands after the version and the field Flags.
 unfoldable pub stream_count : List ℕ → ℕ
 stream_count md = u16_at md (18 + version_width md)
 
@@ -39,7 +39,7 @@ root_tests md =
     ++ must (u32_at md 0 == signature) BadRoot
     ∷ fields (length md) (λ at. BadRoot) 4 (2 ∷ 2 ∷ 4 ∷ 4 ∷ version_width md ∷ 2 ∷ 2 ∷ [])
 
--- The name of the stream header at a place, behind its fields Offset and Size.
+-- The name of the stream header at a place, after its fields Offset and Size.
 unfoldable pub name_of : List ℕ → ℕ → Option (List ℕ)
 name_of md at = zero_ended (drop (at + 8) md)
 

@@ -25,7 +25,7 @@ pub(crate) fn zero_ended(bytes: &[u8]) -> Option<&[u8]>
     }
 }
 
-/// Whether the bytes before the first zero are this text. Of the bytes at most one more is read than
+/// Returns whether the bytes before the first zero are this text. Of the bytes at most one more is read than
 /// the text has.
 
 pub(crate) fn is_text(bytes: &[u8], text: &[u8]) -> bool
@@ -38,7 +38,7 @@ pub(crate) fn is_text(bytes: &[u8], text: &[u8]) -> bool
     }
 }
 
-/// The place behind the last zero, 0 where there is none.
+/// The place after the last zero, 0 where there is none.
 pub(crate) fn behind_last_zero(bytes: &[u8]) -> usize
     ensures { EndsTexts bytes.now result }
 {

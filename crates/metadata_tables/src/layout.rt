@@ -22,11 +22,11 @@ pub(crate) struct Layout {
     pub(crate) counts: [u32; TABLES],
     /// Where the first row of each table stands.
     pub(crate) bases: [u32; TABLES],
-    /// Where in a row of each table each column begins, and behind the last one where the row ends.
+    /// Where in a row of each table each column begins, and after the last one where the row ends.
     pub(crate) offsets: [[u8; OFFSETS]; TABLES],
 }
 
-/// How many tables the bits of Valid, which stands at a place, name.
+/// Returns how many tables the bits of Valid, which stands at a place, name.
 fn present_tables(bits: u64, at: u32) -> Result<u32, TableFault>
     ensures judged { Judges result (first_of (bits_tests bits at)) (λ _. ⊤) }
     ensures present { IfOk result (λ present. present ≡ present_below bits 64) }

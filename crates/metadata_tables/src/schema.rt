@@ -132,7 +132,7 @@ fn schema_at<'a>(schemas: &[&'a [Column]], table: u8) -> &'a [Column]
 }
 
 impl CodedIndex {
-    /// How many of the lowest bits tell the table.
+    /// Returns how many of the lowest bits tell the table.
     pub(crate) fn tag_bits(self) -> u8
         ensures { result ≡ tag_bits_of self }
     {

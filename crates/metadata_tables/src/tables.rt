@@ -23,7 +23,7 @@ use std::marker::Model;
 pub struct Tables<'a> {
     md: &'a [u8],
     strings: &'a [u8],
-    /// Where the last text of `#Strings` ends, behind its zero.
+    /// Where the last text of `#Strings` ends, after its zero.
     strings_end: usize,
     blob: &'a [u8],
     /// Where the heap `#Blob` begins.
@@ -93,7 +93,7 @@ impl<'a> Tables<'a> {
         })
     }
 
-    /// How many rows a table has, 0 where there is no such table.
+    /// Returns how many rows a table has, 0 where there is no such table.
     pub fn row_count(&self, table: u8) -> u32
         ensures count { result ≡ row_count self.now table }
         // Each cell has two bytes at least.
@@ -133,7 +133,7 @@ impl<'a> Tables<'a> {
         }
     }
 
-    /// Where a column begins in each row of a table, and behind the last column where a row ends.
+    /// Where a column begins in each row of a table, and after the last column where a row ends.
     fn offset_in_row(&self, table: u8, column: usize) -> u32
         requires table { 0 < length (columns_of table) }
         requires column { column ≤ 9 }
@@ -161,7 +161,7 @@ impl<'a> Tables<'a> {
         zero_ended(rest_from(self.strings, index))
     }
 
-    /// Whether there is a text at a place of the heap `#Strings`.
+    /// Returns whether there is a text at a place of the heap `#Strings`.
     ///
     /// Cost: one comparison.
     pub fn has_string(&self, index: u32) -> bool
@@ -170,7 +170,7 @@ impl<'a> Tables<'a> {
         (index as usize) < self.strings_end
     }
 
-    /// Whether there is this text at a place of the heap `#Strings`.
+    /// Returns whether there is this text at a place of the heap `#Strings`.
     ///
     /// Cost: linear in the length of `text`.
     pub fn string_is(&self, index: u32, text: &[u8]) -> bool

@@ -16,7 +16,7 @@ pub(crate) fn count_of(counts: &[u32; TABLES], table: u8) -> u32
     if table < TABLES { counts[table] } else { 0 }
 }
 
-/// Whether a bit is set.
+/// Returns whether a bit is set.
 pub(crate) fn has_bit(bits: u64, bit: u8) -> bool
     requires { bit < 64 }
     ensures { result ≡ (bit_at bits bit == 1) }
@@ -36,7 +36,7 @@ fn heap_index_width(heap_sizes: u8, bit: u8) -> u8
     }
 }
 
-/// Whether each of these tables has fewer rows than this.
+/// Returns whether each of these tables has fewer rows than this.
 fn are_below(counts: &[u32; TABLES], tables: &[u8], limit: u32) -> bool
     ensures { result ≡ list_all (λ table. nat_lt (slice_index counts.now table) limit) tables.now }
 {
@@ -73,10 +73,10 @@ pub(crate) fn column_width(counts: &[u32; TABLES], heap_sizes: u8, column: Colum
     }
 }
 
-/// How many numbers tell where the columns of a row begin and end.
+/// The number of offsets at which the columns of a row begin or end.
 pub(crate) const OFFSETS: usize = MOST_COLUMNS + 1;
 
-/// Where each of some columns side by side begins, and behind the last one where all of them end.
+/// Where each of some columns side by side begins, and after the last one where all of them end.
 pub(crate) fn column_offsets(
     counts: &[u32; TABLES],
     heap_sizes: u8,

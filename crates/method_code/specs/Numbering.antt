@@ -39,7 +39,25 @@ abbrev pub numbered_op : List ℕ → List ℕ → Op → Op
 numbered_op asm callees (ops.Call token) = ops.Call (call_number asm callees token)
 numbered_op asm callees (ops.NewArray token) = ops.NewArray (array_number asm token)
 numbered_op asm callees (ops.Text token) = ops.Text 0
-numbered_op asm callees op = op
+numbered_op asm callees ops.Nop = ops.Nop
+numbered_op asm callees (ops.LoadArg n) = ops.LoadArg n
+numbered_op asm callees (ops.StoreArg n) = ops.StoreArg n
+numbered_op asm callees (ops.LoadLocal n) = ops.LoadLocal n
+numbered_op asm callees (ops.StoreLocal n) = ops.StoreLocal n
+numbered_op asm callees ops.Null = ops.Null
+numbered_op asm callees (ops.Const n) = ops.Const n
+numbered_op asm callees ops.Dup = ops.Dup
+numbered_op asm callees ops.Pop = ops.Pop
+numbered_op asm callees ops.Return = ops.Return
+numbered_op asm callees (ops.Branch test target) = ops.Branch test target
+numbered_op asm callees (ops.Switch targets) = ops.Switch targets
+numbered_op asm callees (ops.Bin operator) = ops.Bin operator
+numbered_op asm callees ops.Neg = ops.Neg
+numbered_op asm callees ops.Not = ops.Not
+numbered_op asm callees ops.ConvI4 = ops.ConvI4
+numbered_op asm callees ops.Length = ops.Length
+numbered_op asm callees (ops.LoadElem place) = ops.LoadElem place
+numbered_op asm callees (ops.StoreElem place) = ops.StoreElem place
 
 -- The instruction stays at its place, and of its size.
 abbrev pub numbered_instr : List ℕ → List ℕ → Instr → Instr
@@ -49,6 +67,6 @@ numbered_instr asm callees i = record { at = i.at; size = i.size; op = numbered_
 abbrev pub numbered : List ℕ → List Instr → List Instr
 numbered asm is = map (numbered_instr asm (callees_of asm is)) is
 
--- The bytes of these instructions, one behind another.
+-- The bytes of these instructions, one after another.
 abbrev pub spelled_code : List Instr → List ℕ
 spelled_code is = flat_map spelled is

@@ -15,21 +15,22 @@ use std::marker::Model;
 /// The bit of the column Flags that says that a method is static (II.23.1.10).
 const STATIC: u16 = 0x0010;
 
-/// Whether the method is static, and has no `this`.
+/// Returns whether the method is static, and has no `this`.
 pub fn is_static(method: &MethodRow) -> bool
     ensures { result ≡ is_static method.now }
 {
     method.flags & STATIC != 0 && !method.sig.has_this
 }
 
-/// Whether each type of the signature is in the profile.
+/// Returns whether each type of the signature is in the profile.
 fn are_known(types: &SigTypes) -> bool
     ensures { result ≡ are_known types.now }
 {
     matches!(types, SigTypes::Known(_))
 }
 
-/// Whether units may have an entry of the method among their callees: it is static and not generic, and each type of its
+/// Returns whether units may have an entry of the method among their callees: it is static and not generic, and each
+/// type of its
 /// signature is in the profile.
 pub fn is_callable(method: &MethodRow) -> bool
     ensures { result ≡ is_callable method.now }

@@ -6,7 +6,7 @@ ghost use Rattle.method_code.specs.OfMethods.{is_number_clause};
 
 use cil_model::{Clause, ClauseKind, Kind, Shape};
 
-/// Whether the clause of a method of this shape is a number.
+/// Returns whether the clause of a method of this shape is a number.
 fn is_number_clause(shape: &Shape, clause: &Clause) -> bool
     ensures { result ≡ is_number_clause shape.now clause.now }
 {
@@ -17,7 +17,7 @@ fn is_number_clause(shape: &Shape, clause: &Clause) -> bool
     matches!(kind, Some(Kind::Int))
 }
 
-/// Whether each of the clauses is.
+/// Returns whether each of the clauses is.
 pub fn are_number_clauses(shape: &Shape, clauses: &[Clause]) -> bool
     ensures { result ≡ list_all (is_number_clause shape.now) clauses.now }
 {

@@ -39,7 +39,8 @@ pub struct MethodCode {
 }
 
 impl MethodCode {
-    /// What callers know of the method: its clauses, where they were read and each of them is a number; else none.
+    /// Returns what callers know of the method: its clauses, where they were read and each of them is a number; else
+    /// none.
     /// The instructions may have been moved away.
     pub fn clauses(&self) -> &[Clause]
         ensures known { (asm : List ℕ) (method : MethodRow) (instrs : List Instr) → IsCodeOf asm method (with_instrs instrs self.now)
@@ -88,7 +89,7 @@ fn read_contracts(
     }
 }
 
-/// Whether clauses were read, and each of them is a number.
+/// Returns whether clauses were read, and each of them is a number.
 fn are_numbers(shape: &Shape, contracts: &Result<Contracts, ClauseFault>) -> bool
     ensures { IfOk contracts.now (λ contracts. result ≡ list_all (is_number_clause shape.now) contracts.clauses) }
 {

@@ -62,7 +62,25 @@ fn number_op(assembly: &Assembly<'_>, callees: &CalleeSet, op: &mut Op)
         Op::Call(token) => *token = call_number(assembly, callees, *token),
         Op::NewArray(token) => *token = array_number(assembly, *token),
         Op::Text(token) => *token = 0,
-        _ => {}
+        Op::Nop
+        | Op::LoadArg(_)
+        | Op::StoreArg(_)
+        | Op::LoadLocal(_)
+        | Op::StoreLocal(_)
+        | Op::Null
+        | Op::Const(_)
+        | Op::Dup
+        | Op::Pop
+        | Op::Return
+        | Op::Branch(_, _)
+        | Op::Switch(_)
+        | Op::Bin(_)
+        | Op::Neg
+        | Op::Not
+        | Op::ConvI4
+        | Op::Length
+        | Op::LoadElem(_)
+        | Op::StoreElem(_) => {}
     }
 }
 

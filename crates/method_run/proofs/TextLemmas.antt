@@ -10,7 +10,7 @@ joined : (place : Place) (n : ℤ) (others : List ℤ)
 joined place n [] = sym (append-nil (number_text place n))
 joined place n (m ∷ others) = ap (λ rest. number_text place n ++ (44 ∷ rest)) (joined place m others)
 
--- The first item and those behind it are all.
+-- The first item and those after it are all.
 pub first_and_others : (place : Place) (line : List ℕ) (items : List ℤ) (n : ℤ) → 1 ≤ length items → n ≡ get_or items 0 (pos 0)
     → (line ++ number_text place n) ++ flat_map (next_item place) (take (length items - 1) (drop 1 items)) ≡ line ++ join_with_byte 44 (map (number_text place) items)
 first_and_others place line [] n some e = absurd (omega (arith, some))

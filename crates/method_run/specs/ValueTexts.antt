@@ -24,7 +24,7 @@ number_text place n =
     else if is_of_bools place && int_eq n (pos 1) then codes "true"
     else signed_decimal n
 
--- A number behind a comma.
+-- A number after a comma.
 abbrev pub next_item : Place → ℤ → List ℕ
 next_item place n = codes "," ++ number_text place n
 

@@ -9,7 +9,8 @@ use clause_eval::Arg;
 use run_arguments::read_argument;
 use std::alloc::{AllocError, Global};
 
-/// The type of the first of these parameters, and the parameters behind it. Where there is none left, a word is read for any
+/// The type of the first of these parameters, and the parameters after it. Where there is none left, a word is read
+/// for any
 /// type.
 fn split_first(types: &[Place]) -> (Place, &[Place])
     ensures first { result.0 ≡ first_place types.now }

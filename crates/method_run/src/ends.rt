@@ -14,7 +14,7 @@ use cil_eval::{Limits, Machine, StartRefusal, Stop};
 use cil_model::{List, Place, World};
 use std::alloc::{AllocError, Global};
 
-/// The status that tells how a run ended.
+/// Returns the status for how a run ended.
 fn end_status(stop: Stop) -> u8
     ensures { result ≡ end_status stop }
 {
@@ -35,7 +35,7 @@ fn assumed_text(alloc: Global, world: &World, index: u32, at: u32) -> Result<Vec
     Ok(text)
 }
 
-/// Words, and a number behind them.
+/// Words, and a number after them.
 fn numbered(alloc: Global, words: &[u8], number: u32) -> Result<Vec<u8>, AllocError>
     ensures { IfOk result (λ text. text.items ≡ words.now ++ decimal number) }
 {

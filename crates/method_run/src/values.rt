@@ -9,7 +9,7 @@ use cil_eval::Machine;
 use cil_model::{Place, Value};
 use std::alloc::{AllocError, Global};
 
-/// Whether the type is bool or that of its arrays.
+/// Returns whether the type is bool or that of its arrays.
 fn is_of_bools(place: Place) -> bool
     ensures { result ≡ is_of_bools place }
 {
@@ -29,7 +29,7 @@ fn put_item(alloc: Global, line: &mut Vec<u8>, place: Place, item: i32) -> Resul
     put_number(alloc, line, i64::from(item))
 }
 
-/// Appends numbers of this type, or of an array of it, each behind a comma.
+/// Appends numbers of this type, or of an array of it, each after a comma.
 fn put_next_items(
     alloc: Global,
     line: &mut Vec<u8>,

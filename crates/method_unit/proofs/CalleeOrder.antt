@@ -46,7 +46,7 @@ first_left zero offsets = refl
 first_left (suc next) [] = refl
 first_left (suc next) (offset ∷ offsets) = first_left next offsets
 
--- One behind the next is called.
+-- One after the next is called.
 called_early : (next n : ℕ) (met ns offsets : List ℕ) → AreBelow next met → next < n → tests_left next met (n ∷ ns) offsets ≡ option_map Form (slice_get offsets next)
 unfolding tests_left first_of
 called_early next n met ns offsets below less =

@@ -37,7 +37,7 @@ each_inside : (base most : ℕ) (is : List Instr) → base + most < 2 ^ 32 → A
 each_inside base most [] small all = tt
 each_inside base most (i ∷ is) small all = (omega (arith, small, all.0), each_inside base most is small all.1)
 
--- Instructions of code lie in it one behind another.
+-- Instructions of code lie in it one after another.
 pub decoded_of : (base : ℕ) (code : List ℕ) (is : List Instr) → length code ≤ 65536 → base + 65536 < 2 ^ 32 → is ≡ instructions_of code → CodeOf is code → AreDecodedOf base code is
 decoded_of base code is short small are of_code =
     let places = subst (AllByRecursion (λ i. i.at ≤ length code)) (sym are) (code_instr_places code) in

@@ -10,7 +10,7 @@ use Rattle.method_unit.specs.UnitFile.{first_uses, order_tests, order_tests_from
 abbrev pub calls_in : List Instr → List ℕ
 calls_in is = filter_map (λ i. called_by i.op) is
 
--- How many callees are called in order behind a call, if it is one, where so many are before it.
+-- How many callees are called in order after a call, if it is one, where so many are before it.
 abbrev pub next_behind : ℕ → Option ℕ → Option ℕ
 next_behind next None = Some next
 next_behind next (Some n) = if nat_lt n next then Some next else if n == next then Some (suc next) else None
@@ -19,7 +19,8 @@ next_behind next (Some n) = if nat_lt n next then Some next else if n == next th
 abbrev pub AreBelow : ℕ → List ℕ → Type 0
 AreBelow next met = (n : ℕ) → list_any (λ m. m == n) met ≡ nat_lt n next
 
--- So many callees were called in order. These calls are left, and what they say of the callees behind is what the code says of all.
+-- So many callees were called in order. These calls are left, and what they say of the callees after is what the code
+-- says of all.
 pub record AreCalled (is : List Instr) (next : ℕ) (left : List ℕ) : Type 0 where
   pub met : List ℕ
   pub below : AreBelow next met

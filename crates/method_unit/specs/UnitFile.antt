@@ -59,7 +59,25 @@ abbrev pub names_something : ℕ → Op → Bool
 names_something callees (ops.Call number) = is_some (unit_call number) && option_map_or (λ callee. nat_lt callee callees) (called_by (ops.Call number)) true
 names_something callees (ops.NewArray number) = is_some (array_place number)
 names_something callees (ops.Text number) = number == 0
-names_something callees _ = true
+names_something callees ops.Nop = true
+names_something callees (ops.LoadArg n) = true
+names_something callees (ops.StoreArg n) = true
+names_something callees (ops.LoadLocal n) = true
+names_something callees (ops.StoreLocal n) = true
+names_something callees ops.Null = true
+names_something callees (ops.Const n) = true
+names_something callees ops.Dup = true
+names_something callees ops.Pop = true
+names_something callees ops.Return = true
+names_something callees (ops.Branch test target) = true
+names_something callees (ops.Switch targets) = true
+names_something callees (ops.Bin operator) = true
+names_something callees ops.Neg = true
+names_something callees ops.Not = true
+names_something callees ops.ConvI4 = true
+names_something callees ops.Length = true
+names_something callees (ops.LoadElem place) = true
+names_something callees (ops.StoreElem place) = true
 
 abbrev pub number_test : ℕ → ℕ → Instr → Option UnitFault
 number_test base callees i = must (names_something callees i.op) (form_at base i.at)
@@ -129,7 +147,7 @@ instr_tests base shape offsets is =
     ∷ (order_tests is offsets
     ++ (typing_test base is shape ∷ []))))
 
--- All that is tested behind the fields.
+-- All that is tested after the fields.
 unfoldable pub code_tests_of : FieldsOfUnit → List (Option UnitFault)
 code_tests_of fields =
     decoding_test fields.code_offset fields.code ∷ instr_tests fields.code_offset (shape_told fields) fields.callee_offsets (instructions_of fields.code)

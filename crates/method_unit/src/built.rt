@@ -5,7 +5,7 @@ ghost use Rattle.method_unit.specs.Built.{is_built, is_built_call};
 
 use cil_model::{Op, UnitCall, unit_call};
 
-/// Whether the call is one of Assert or Assume without a message.
+/// Returns whether the call is one of Assert or Assume without a message.
 fn is_built_call(call: Option<UnitCall>) -> bool
     ensures { result ≡ is_built_call call }
 {
@@ -15,7 +15,7 @@ fn is_built_call(call: Option<UnitCall>) -> bool
     )
 }
 
-/// Whether the operation is built. Those on references, arrays, texts and callees are not.
+/// Returns whether the operation is built. Those on references, arrays, texts and callees are not.
 pub fn is_built(op: &Op) -> bool
     ensures { result ≡ is_built op.now }
 {
@@ -23,6 +23,20 @@ pub fn is_built(op: &Op) -> bool
         Op::Null | Op::Text(_) | Op::NewArray(_) => false,
         Op::Length | Op::LoadElem(_) | Op::StoreElem(_) => false,
         Op::Call(number) => is_built_call(unit_call(*number)),
-        _ => true,
+        Op::Nop
+        | Op::LoadArg(_)
+        | Op::StoreArg(_)
+        | Op::LoadLocal(_)
+        | Op::StoreLocal(_)
+        | Op::Const(_)
+        | Op::Dup
+        | Op::Pop
+        | Op::Return
+        | Op::Branch(_, _)
+        | Op::Switch(_)
+        | Op::Bin(_)
+        | Op::Neg
+        | Op::Not
+        | Op::ConvI4 => true,
     }
 }

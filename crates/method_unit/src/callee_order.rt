@@ -23,7 +23,8 @@ fn called_by(op: &Op) -> Option<u32>
     }
 }
 
-/// How many callees are called in order behind an operation, where so many are before it. There is none behind a call of
+/// Returns how many callees are called in order after an operation, where so many are before it. There is none after a
+/// call of
 /// another than the next one.
 fn next_behind(next: usize, op: &Op) -> Option<usize>
     requires { next + 1 < 2 ^ 64 }
@@ -38,7 +39,7 @@ fn next_behind(next: usize, op: &Op) -> Option<usize>
     }
 }
 
-/// How many callees are called, each after those before it, up to the first call of another.
+/// Returns how many callees are called, each after those before it, up to the first call of another.
 #[tactic(auto, using(crate::proofs::CalleeOrder::in_order))]
 fn called_in_order(instrs: &[Instr]) -> usize
     ensures { (offsets : List ℕ) → first_of (order_tests instrs.now offsets) ≡ option_map Form (slice_get offsets result) }

@@ -6,21 +6,21 @@ ghost use Rattle.method_unit.specs.Units.{IsUnit};
 
 use cil_model::{CalleeInfo, Clause, Node, Place, Tree, Unit};
 
-/// Whether two runs of bytes are equal.
+/// Returns whether two runs of bytes are equal.
 fn same_bytes(a: &[u8], b: &[u8]) -> bool
     ensures same { Decides result (a.now ≡ b.now) }
 {
     a == b
 }
 
-/// Whether two lists of places are equal.
+/// Returns whether two lists of places are equal.
 fn same_places(a: &[Place], b: &[Place]) -> bool
     ensures same { Decides result (a.now ≡ b.now) }
 {
     a == b
 }
 
-/// Whether two trees are equal.
+/// Returns whether two trees are equal.
 fn same_tree(a: &Tree, b: &Tree) -> bool
     ensures same { Decides result (a.now ≡ b.now) }
 {
@@ -45,14 +45,14 @@ fn same_tree(a: &Tree, b: &Tree) -> bool
     }
 }
 
-/// Whether two clauses are equal.
+/// Returns whether two clauses are equal.
 fn same_clause(a: &Clause, b: &Clause) -> bool
     ensures same { Decides result (a.now ≡ b.now) }
 {
     a.kind == b.kind && same_tree(&a.tree, &b.tree)
 }
 
-/// Whether two lists of clauses are equal.
+/// Returns whether two lists of clauses are equal.
 #[tactic(auto, using(crate::proofs::SameLists::one_differs))]
 fn same_clauses(a: &[Clause], b: &[Clause]) -> bool
     ensures same { Decides result (a.now ≡ b.now) }
@@ -68,7 +68,7 @@ fn same_clauses(a: &[Clause], b: &[Clause]) -> bool
     true
 }
 
-/// Whether two callees are equal.
+/// Returns whether two callees are equal.
 fn same_callee(a: &CalleeInfo, b: &CalleeInfo) -> bool
     ensures same { Decides result (a.now ≡ b.now) }
 {
@@ -78,7 +78,7 @@ fn same_callee(a: &CalleeInfo, b: &CalleeInfo) -> bool
         && same_clauses(a.clauses.as_slice(), b.clauses.as_slice())
 }
 
-/// Whether two lists of callees are equal.
+/// Returns whether two lists of callees are equal.
 #[tactic(auto, using(crate::proofs::SameLists::one_differs))]
 fn same_callees(a: &[CalleeInfo], b: &[CalleeInfo]) -> bool
     ensures same { Decides result (a.now ≡ b.now) }
@@ -94,7 +94,8 @@ fn same_callees(a: &[CalleeInfo], b: &[CalleeInfo]) -> bool
     true
 }
 
-/// Whether two units are equal. Well formed units are equal where their files are, so instructions, clauses and the start
+/// Returns whether two units are equal. Well formed units are equal where their files are, so instructions, clauses
+/// and the start
 /// of the body, which the code tells, are not compared.
 #[tactic(auto, using(crate::proofs::SameUnits::same_spelled))]
 pub fn same_unit(a: &Unit, b: &Unit) -> bool

@@ -7,7 +7,7 @@ ghost use Rattle.method_unit.specs.Units.{IsUnit};
 use crate::built::is_built;
 use cil_model::{Instr, Place, Unit};
 
-/// Whether each of the places is int32 or bool.
+/// Returns whether each of the places is int32 or bool.
 fn are_numbers(places: &[Place]) -> bool
     ensures { result ≡ are_numbers places.now }
 {
@@ -16,14 +16,14 @@ fn are_numbers(places: &[Place]) -> bool
         .all(|place| matches!(place, Place::Bool | Place::Int))
 }
 
-/// Whether a result of this type is int32 or bool, or none.
+/// Returns whether a result of this type is int32 or bool, or none.
 fn gives_number(place: Place) -> bool
     ensures { result ≡ gives_number place }
 {
     matches!(place, Place::Void | Place::Bool | Place::Int)
 }
 
-/// Whether arguments and locals are int32 or bool, the result too or none, and there are no clauses.
+/// Returns whether arguments and locals are int32 or bool, the result too or none, and there are no clauses.
 fn has_built_head(unit: &Unit) -> bool
     ensures { result ≡ has_built_head unit.now }
 {

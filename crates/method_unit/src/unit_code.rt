@@ -39,7 +39,7 @@ pub fn check_count(instrs: &[Instr], base: u32) -> Result<(), UnitFault>
     }
 }
 
-/// Whether the operand of a call, of a new array or of a text is a number of a unit with so many callees.
+/// Returns whether the operand of a call, of a new array or of a text is a number of a unit with so many callees.
 fn names_something(callees: usize, op: &Op) -> bool
     ensures { result ≡ names_something callees op.now }
 {
@@ -50,7 +50,25 @@ fn names_something(callees: usize, op: &Op) -> bool
         },
         Op::NewArray(number) => array_place(*number).is_some(),
         Op::Text(number) => *number == 0,
-        _ => true,
+        Op::Nop
+        | Op::LoadArg(_)
+        | Op::StoreArg(_)
+        | Op::LoadLocal(_)
+        | Op::StoreLocal(_)
+        | Op::Null
+        | Op::Const(_)
+        | Op::Dup
+        | Op::Pop
+        | Op::Return
+        | Op::Branch(_, _)
+        | Op::Switch(_)
+        | Op::Bin(_)
+        | Op::Neg
+        | Op::Not
+        | Op::ConvI4
+        | Op::Length
+        | Op::LoadElem(_)
+        | Op::StoreElem(_) => true,
     }
 }
 

@@ -19,7 +19,7 @@ use Rattle.number_facts.proofs.Meaning.{symbol_allowed, range_has, changed_holds
 use Rattle.number_facts.proofs.ConstantValues.{constant_value}
 use Rattle.number_facts.proofs.GapLaws.{at_most_holds, equal_holds}
 
--- one step behind another
+-- one step after another
 then_holds : (o : Option Facts) (f : Facts → Option Facts) (ns : List ℤ) → SomeHolds o ns → ((facts : Facts) → Holds facts ns → SomeHolds (f facts) ns)
     → SomeHolds (option_and_then f o) ns
 then_holds None f ns holds next = elim holds [ ]

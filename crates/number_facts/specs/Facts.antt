@@ -72,7 +72,7 @@ number_of numbers (suc s) = get_or numbers s (pos 0)
 abbrev pub value : List ℤ → Expr → ℤ
 value numbers e = number_of numbers e.sym +ℤ e.k
 
--- The facts hold of the numbers, perhaps with one more behind them, the expression's number n.
+-- The facts hold of the numbers, perhaps with one more after them, the expression's number n.
 abbrev pub HoldsWith : Facts → Expr → List ℤ → ℤ → Type 0
 HoldsWith facts e numbers n =
     (Holds facts numbers × (value numbers e ≡ n)) ⊎ (Holds facts (numbers ++ n ∷ []) × (value (numbers ++ n ∷ []) e ≡ n))

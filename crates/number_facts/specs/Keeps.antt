@@ -17,7 +17,7 @@ abbrev pub SomeHolds : Option Facts → List ℤ → Type 0
 SomeHolds None numbers = ⊥
 SomeHolds (Some facts) numbers = Holds facts numbers
 
--- Something is reached, the facts hold there of the numbers, perhaps with n behind them, and the expression is worth n.
+-- Something is reached, the facts hold there of the numbers, perhaps with n after them, and the expression is worth n.
 abbrev pub Yields : Option Made → List ℤ → ℤ → Type 0
 Yields None numbers n = ⊥
 Yields (Some made) numbers n = HoldsWith made.facts made.expr numbers n

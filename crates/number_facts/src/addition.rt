@@ -35,7 +35,7 @@ pub(crate) fn differences(r: Span, q: Span) -> Span
     Span::between(minus(r.lo, q.hi), minus(r.hi, q.lo))
 }
 
-/// Whether the expression is a constant, and the numbers are int32 also with it added.
+/// Returns whether the expression is a constant, and the numbers are int32 also with it added.
 fn takes(r: Span, e: Expr) -> bool
     requires first { IsSmall r }
     requires least { negsuc 4294967295 ≤ℤ e.k }
@@ -45,7 +45,7 @@ fn takes(r: Span, e: Expr) -> bool
     e.sym == 0 && stays(r, i128::from(e.k))
 }
 
-/// Whether the numbers are int32 also with k added.
+/// Returns whether the numbers are int32 also with k added.
 fn stays(r: Span, k: i128) -> bool
     requires first { IsSmall r }
     requires second { IsEnd k }

@@ -25,7 +25,7 @@ use cil_model::BinOp;
 use domain_api::{Expr, NoMemory};
 use interval_domain::Range;
 
-/// What an operator gives of two constants, where it does not fault.
+/// Returns what an operator gives of two constants, where it does not fault.
 fn of_constants(op: BinOp, a: Expr, b: Expr) -> Option<i32>
     ensures { result ≡ rule.of_constants op a b }
 {
@@ -74,7 +74,7 @@ impl Numbers {
         (nearest(lo), nearest(hi))
     }
 
-    /// What is known of the result by the ranges of both.
+    /// Returns what is known of the result by the ranges of both.
     #[tactic(auto, unfolding(crate::specs::Arith::by_ranges))]
     fn by_ranges(&self, op: BinOp, a: Expr, b: Expr) -> Outcome
         requires first { IsThere self.now a }
@@ -111,7 +111,7 @@ impl Numbers {
         }
     }
 
-    /// What is known of the result of an operator.
+    /// Returns what is known of the result of an operator.
     #[tactic(auto, unfolding(crate::specs::Arith::outcome))]
     fn outcome(&self, op: BinOp, a: Expr, b: Expr) -> Outcome
         requires first { IsThere self.now a }

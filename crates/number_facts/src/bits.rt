@@ -46,7 +46,7 @@ fn ones_over(r: Span, q: Span) -> i128
     all_ones(greater(r.hi, q.hi))
 }
 
-/// Whether the numbers are 0 and 1, or one of them.
+/// Returns whether the numbers are 0 and 1, or one of them.
 fn is_bit(r: Span) -> bool
     ensures { result ≡ rule.is_bit r }
 {

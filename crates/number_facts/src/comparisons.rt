@@ -12,14 +12,14 @@ use cil_model::BinOp;
 use domain_api::{Expr, NoMemory, Values};
 use interval_domain::Range;
 
-/// Whether one range has one number alone, and the other does not have it.
+/// Returns whether one range has one number alone, and the other does not have it.
 fn is_one_excluded(r: Span, q: Span) -> bool
     ensures { result ≡ one_excluded r q }
 {
     r.is_one() && q.excludes(r.lo)
 }
 
-/// Whether the expression is a constant that is an int32.
+/// Returns whether the expression is a constant that is an int32.
 pub(crate) fn is_constant(e: Expr) -> bool
     ensures { result ≡ is_constant e }
 {
@@ -35,7 +35,7 @@ fn bit() -> Range
 }
 
 impl Numbers {
-    /// Whether the first is known to be less than the second, or known not to be.
+    /// Returns whether the first is known to be less than the second, or known not to be.
     #[tactic(auto, unfolding(crate::specs::Comparisons::less_known))]
     fn less_known(&self, a: Expr, b: Expr) -> Option<bool>
         requires first { a.sym ≤ length self.now.ranges }
@@ -51,7 +51,7 @@ impl Numbers {
         }
     }
 
-    /// Whether they are known to differ.
+    /// Returns whether they are known to differ.
     #[tactic(auto, unfolding(crate::specs::Comparisons::apart))]
     fn is_apart(&self, a: Expr, b: Expr) -> bool
         requires first { a.sym ≤ length self.now.ranges }
@@ -63,7 +63,7 @@ impl Numbers {
         self.is_less(a, b) || self.is_less(b, a) || is_one_excluded(r, q) || is_one_excluded(q, r)
     }
 
-    /// Whether they are known to be equal, or known not to be.
+    /// Returns whether they are known to be equal, or known not to be.
     #[tactic(auto, unfolding(crate::specs::Comparisons::equal_known))]
     fn equal_known(&self, a: Expr, b: Expr) -> Option<bool>
         requires first { a.sym ≤ length self.now.ranges }
@@ -95,7 +95,7 @@ impl Numbers {
         }
     }
 
-    /// Whether a comparison is known to be true, or known to be false.
+    /// Returns whether a comparison is known to be true, or known to be false.
     #[tactic(auto, unfolding(crate::specs::Comparisons::known))]
     fn known(&self, op: BinOp, a: Expr, b: Expr) -> Option<bool>
         requires first { a.sym ≤ length self.now.ranges }
@@ -112,7 +112,8 @@ impl Numbers {
         }
     }
 
-    /// What a comparison pushes: 1 where it is true and 0 where it is false. Each operator that is none is taken for
+    /// Returns what a comparison pushes: 1 where it is true and 0 where it is false. Each operator that is none is
+    /// taken for
     /// one of which nothing is known.
     ///
     /// # Errors

@@ -130,7 +130,7 @@ fn product(a: i32, b: i32) -> i128
     times(i128::from(a), i128::from(b))
 }
 
-/// What an operator gives of two int32. None exactly where it faults.
+/// Returns what an operator gives of two int32. None exactly where it faults.
 pub(crate) fn operated(op: BinOp, a: i32, b: i32) -> Option<i32>
     ensures { result ≡ result_ok (arithmetic.operated op a b) }
 {

@@ -9,7 +9,7 @@ use crate::exact::{less_by, more_by, sum_of};
 use crate::numbers::Numbers;
 use domain_api::Expr;
 
-/// What is left of 1.
+/// Returns what is left of 1.
 fn rest(more: i64) -> i64
     requires { (pos 0 ≤ℤ more) × (more ≤ℤ pos 1) }
     ensures { result ≡ pos 1 -ℤ more }
@@ -18,7 +18,7 @@ fn rest(more: i64) -> i64
 }
 
 impl Numbers {
-    /// How far the second symbol is known to lie above the first.
+    /// Returns how far the second symbol is known to lie above the first.
     #[tactic(auto, unfolding(crate::specs::Gap::gap))]
     pub(crate) fn distance(&self, s: u32, t: u32) -> i128
         requires first { s ≤ length self.now.ranges }
@@ -31,7 +31,7 @@ impl Numbers {
         i128::from(self.range_at(t).lo()) - i128::from(self.range_at(s).hi())
     }
 
-    /// Whether the first expression and a number more are known to be at most the second.
+    /// Returns whether the first expression and a number more are known to be at most the second.
     #[tactic(auto, unfolding(crate::specs::Gap::at_most))]
     pub(crate) fn is_at_most(&self, a: Expr, more: i64, b: Expr) -> bool
         requires first { a.sym ≤ length self.now.ranges }
@@ -41,7 +41,7 @@ impl Numbers {
         less_by(sum_of(a.k, more), b.k) <= self.distance(a.sym, b.sym)
     }
 
-    /// Whether the first expression and a number more are known to be more than the second.
+    /// Returns whether the first expression and a number more are known to be more than the second.
     #[tactic(auto, unfolding(crate::specs::Gap::at_most))]
     pub(crate) fn is_beyond(&self, a: Expr, more: i64, b: Expr) -> bool
         requires first { a.sym ≤ length self.now.ranges }
@@ -70,7 +70,7 @@ impl Numbers {
         more_by(self.range_of(e).lo, more)
     }
 
-    /// Whether the first expression is known to be less than the second.
+    /// Returns whether the first expression is known to be less than the second.
     pub(crate) fn is_less(&self, a: Expr, b: Expr) -> bool
         requires first { a.sym ≤ length self.now.ranges }
         requires second { b.sym ≤ length self.now.ranges }
@@ -79,7 +79,7 @@ impl Numbers {
         self.is_at_most(a, 1, b)
     }
 
-    /// Whether they are known to be equal.
+    /// Returns whether they are known to be equal.
     #[tactic(auto, unfolding(crate::specs::Gap::equal))]
     pub(crate) fn is_equal(&self, a: Expr, b: Expr) -> bool
         requires first { a.sym ≤ length self.now.ranges }

@@ -18,7 +18,7 @@ fn capped(far: i128) -> Option<i64>
 }
 
 impl Numbers {
-    /// Whether the symbol is there.
+    /// Returns whether the symbol is there.
     fn has(&self, sym: u32) -> bool
         ensures { result ≡ nat_le sym (length self.now.ranges) }
     {

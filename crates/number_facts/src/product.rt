@@ -52,7 +52,7 @@ pub(crate) fn corners(r: Span, q: Span) -> Span
     )
 }
 
-/// Whether the expression is this constant.
+/// Returns whether the expression is this constant.
 fn is_the_constant(e: Expr, k: i64) -> bool
     ensures { result ≡ rule.is_the_constant e k }
 {

@@ -16,7 +16,7 @@ pub(crate) const LEAST: i128 = -2_147_483_648;
 /// The greatest int32.
 pub(crate) const GREATEST: i128 = 2_147_483_647;
 
-/// How many numbers of 32 bits there are.
+/// 2^32, the number of numbers of 32 bits.
 const COUNT: i128 = 4_294_967_296;
 
 /// All numbers from `lo` to `hi`, but for the hole. There is none where `lo` is above `hi`.
@@ -55,21 +55,21 @@ impl Span {
         }
     }
 
-    /// Whether it has one number alone.
+    /// Returns whether it has one number alone.
     pub fn is_one(self) -> bool
         ensures { result ≡ is_one self }
     {
         self.lo == self.hi
     }
 
-    /// Whether its numbers are 0 or more.
+    /// Returns whether its numbers are 0 or more.
     pub fn is_not_negative(self) -> bool
         ensures { result ≡ is_not_negative self }
     {
         0 <= self.lo
     }
 
-    /// Whether the number is none of it.
+    /// Returns whether the number is none of it.
     #[tactic(auto, unfolding(crate::specs::Spans::excludes))]
     pub fn excludes(self, n: i128) -> bool
         ensures { result ≡ excludes self n }
@@ -95,7 +95,7 @@ impl Span {
     }
 }
 
-/// Whether the number is an int32.
+/// Returns whether the number is an int32.
 pub(crate) fn is_int32(n: i128) -> bool
     ensures { result ≡ is_int32 n }
 {
@@ -120,7 +120,7 @@ fn moved_hole(hole: Option<i64>, k: i64) -> Option<i128>
     }
 }
 
-/// Whether the number is the hole.
+/// Returns whether the number is the hole.
 fn is_hole(hole: Option<i128>, n: i128) -> bool
     ensures { result ≡ is_hole hole n }
 {

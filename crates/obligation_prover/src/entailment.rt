@@ -18,7 +18,7 @@ use domain_api::Expr;
 /// The least int32.
 const LEAST_INT32: i128 = -2_147_483_648;
 
-/// Whether the number is the hole of a range.
+/// Returns whether the number is the hole of a range.
 fn is_hole(hole: Option<i128>, n: i128) -> bool
     ensures { result ≡ spans.is_hole hole n }
 {
@@ -28,7 +28,7 @@ fn is_hole(hole: Option<i128>, n: i128) -> bool
     }
 }
 
-/// Whether the number is none that the expression may have.
+/// Returns whether the number is none that the expression may have.
 #[tactic(auto, unfolding(number_facts::specs::Spans::excludes))]
 fn is_excluded(state: &AbsState, e: Expr, n: i128) -> bool
     requires reached { IsSome state.now }
@@ -39,7 +39,7 @@ fn is_excluded(state: &AbsState, e: Expr, n: i128) -> bool
     n < lo || hi < n || is_hole(hole, n)
 }
 
-/// Whether each number of the expression is an amount of a shift: from 0 to 31.
+/// Returns whether each number of the expression is an amount of a shift: from 0 to 31.
 #[tactic(auto, unfolding(crate::specs::Entailed::are_amounts))]
 fn is_amount(state: &AbsState, e: Expr) -> bool
     requires reached { IsSome state.now }
@@ -50,14 +50,14 @@ fn is_amount(state: &AbsState, e: Expr) -> bool
     0 <= lo && hi <= 31
 }
 
-/// Whether both ends of a range are int32.
+/// Returns whether both ends of a range are int32.
 fn are_ends_int32(ends: (i64, i64)) -> bool
     ensures { result ≡ (int_le LEAST ends.0 && int_le ends.1 GREATEST) }
 {
     i64::from(i32::MIN) <= ends.0 && ends.1 <= i64::from(i32::MAX)
 }
 
-/// Whether the exact result of an operator is an int32.
+/// Returns whether the exact result of an operator is an int32.
 fn is_int32(state: &AbsState, op: BinOp, a: Expr, b: Expr) -> bool
     requires reached { IsSome state.now }
     requires first { ForSome state.now (λ known. IsNumber known.facts a) }
@@ -67,7 +67,7 @@ fn is_int32(state: &AbsState, op: BinOp, a: Expr, b: Expr) -> bool
     are_ends_int32(state.exact_ends(op, a, b))
 }
 
-/// Whether the fault is ruled out at an operator of a and b.
+/// Returns whether the fault is ruled out at an operator of a and b.
 #[tactic(auto, unfolding(crate::specs::Entailed::rules_out))]
 fn is_ruled_out(state: &AbsState, kind: FaultKind, op: BinOp, a: Expr, b: Expr) -> bool
     requires reached { IsSome state.now }
@@ -84,7 +84,7 @@ fn is_ruled_out(state: &AbsState, kind: FaultKind, op: BinOp, a: Expr, b: Expr) 
     }
 }
 
-/// Whether the fault is ruled out at a call: what is asserted is not 0.
+/// Returns whether the fault is ruled out at a call: what is asserted is not 0.
 #[tactic(auto, unfolding(crate::specs::Entailed::rules_out_at_call))]
 fn is_ruled_out_at_call(state: &AbsState, kind: FaultKind, e: Expr) -> bool
     requires reached { IsSome state.now }
@@ -97,7 +97,7 @@ fn is_ruled_out_at_call(state: &AbsState, kind: FaultKind, e: Expr) -> bool
     }
 }
 
-/// Whether the fault is ruled out at an operation, where something is reached.
+/// Returns whether the fault is ruled out at an operation, where something is reached.
 #[tactic(auto, unfolding(crate::specs::Entailed::entailed_by))]
 fn is_entailed(state: &AbsState, op: &Op, kind: FaultKind) -> bool
     requires reached { IsSome state.now }
@@ -117,7 +117,8 @@ fn is_entailed(state: &AbsState, op: &Op, kind: FaultKind) -> bool
     }
 }
 
-/// Whether a state rules out that an operation ends in this fault. It is to assume already that the faults that are
+/// Returns whether a state rules out that an operation ends in this fault. It is to assume already that the faults
+/// that are
 /// tested before it did not come.
 ///
 /// Cost: constant.

@@ -23,7 +23,7 @@ optional_at bytes = file_header_at bytes + 20
 unfoldable pub magic : List ℕ → ℕ
 magic bytes = u16_at bytes (optional_at bytes)
 
--- How far behind the optional header's start its data directories stand (II.25.2.3.3).
+-- How far after the optional header's start its data directories stand (II.25.2.3.3).
 unfoldable pub directories_offset : List ℕ → ℕ
 directories_offset bytes = if magic bytes == 0x20b then 112 else 96
 

@@ -21,7 +21,7 @@ const PE32: u16 = 0x10b;
 /// The optional header's magic number in PE32+.
 const PE32_PLUS: u16 = 0x20b;
 
-/// Where the PE file header stands: behind the signature that the MS-DOS header names.
+/// Where the PE file header stands: after the signature that the MS-DOS header names.
 #[tactic(auto, using(cc_base::proofs::TestLemmas::first_tests), unfolding(crate::specs::Faults::signature_tests, crate::specs::Places::signature_at, crate::specs::Places::file_header_at))]
 pub fn file_header_place(bytes: &[u8]) -> Result<u32, PeFault>
     requires { IsShort bytes.now }
@@ -41,7 +41,7 @@ pub fn file_header_place(bytes: &[u8]) -> Result<u32, PeFault>
 /// What the PE file header says of the headers that follow it.
 #[derive(Clone, Copy)]
 pub struct FileHeader {
-    /// How many sections there are.
+    /// The number of sections.
     pub sections: u16,
     /// The length of the optional header in bytes.
     pub optional_len: u16,

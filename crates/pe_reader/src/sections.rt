@@ -27,7 +27,7 @@ pub struct Sections {
 struct Section {
     /// The address of its first byte.
     address: u32,
-    /// How many of its bytes the file holds.
+    /// The number of its bytes that the file holds.
     len: u32,
     /// Where in the file they begin.
     place: u32,
@@ -120,7 +120,7 @@ impl Sections {
 }
 
 impl Section {
-    /// Whether the address lies in the section.
+    /// Returns whether the address lies in the section.
     fn contains(self, rva: u32) -> bool
         ensures { result ≡ covers self.address self.len rva }
     {

@@ -10,7 +10,7 @@ use std::alloc::{AllocError, Global};
 use std::process::Abort;
 use std::test::Fail;
 
-/// What is read of code in a method with result int32, or its first fault.
+/// Returns what is read of code in a method with result int32, or its first fault.
 #[tactic(auto, using(cil_model::proofs::ShortCodes::code_is_short))]
 fn read(
     rt: &impl Abort,

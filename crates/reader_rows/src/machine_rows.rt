@@ -146,22 +146,22 @@ fn runs_do_not_start(rt: HostRuntime) -> Result<(), Fail> {
     Ok(())
 }
 
-/// Whether a run starts.
+/// Returns whether a run starts.
 fn starts(machine: &mut Machine<'_>, args: &[Arg]) -> bool {
     machine.start(0, args).is_ok()
 }
 
-/// Whether the run ends so within so many further steps.
+/// Returns whether the run ends so within so many further steps.
 fn ends_in(machine: &mut Machine<'_>, steps: u32, stop: Stop) -> bool {
     machine.run(steps) == stop
 }
 
-/// Whether one step more tells this.
+/// Returns whether one step more tells this.
 fn steps_to(machine: &mut Machine<'_>, stop: Option<Stop>) -> bool {
     machine.step() == stop
 }
 
-/// Whether the machine has an array of these items there.
+/// Returns whether the machine has an array of these items there.
 fn has_elements(machine: &Machine<'_>, array: u32, items: &[i32]) -> bool {
     match machine.elements(array) {
         Some(found) => found == items,
@@ -169,7 +169,7 @@ fn has_elements(machine: &Machine<'_>, array: u32, items: &[i32]) -> bool {
     }
 }
 
-/// Whether a run of `Alias` that is taken up and told again goes so.
+/// Returns whether a run of `Alias` that is taken up and told again goes so.
 fn goes_on(machine: &mut Machine<'_>) -> bool {
     let end = Stop::Returned(Some(Value::Int(9)));
     // The fourth instruction puts 9 into the array.

@@ -43,7 +43,7 @@ pub fn code(alloc: Global, steps: &[Step]) -> Result<Vec<Instr>, AllocError> {
     Ok(instrs)
 }
 
-/// Whether the instructions lie one behind another, from this IL offset on.
+/// Returns whether the instructions lie one after another, from this IL offset on.
 fn lie_from(instrs: &[Instr], at: u32) -> bool
     ensures { result ≡ true → LieFrom at instrs.now }
 {
@@ -60,7 +60,7 @@ fn lie_from(instrs: &[Instr], at: u32) -> bool
     }
 }
 
-/// Whether the instructions lie one behind another, from the start of the code on.
+/// Returns whether the instructions lie one after another, from the start of the code on.
 pub fn are_laid_out(instrs: &[Instr]) -> bool
     ensures { result ≡ true → AreLaidOut instrs.now }
 {

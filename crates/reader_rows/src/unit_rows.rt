@@ -47,7 +47,7 @@ fn units_are_written_as_they_are_read(rt: HostRuntime) -> Result<(), Fail> {
     Ok(())
 }
 
-/// Whether the units of two files are equal: nothing, where one of them is none.
+/// Returns whether the units of two files are equal: nothing, where one of them is none.
 fn are_same(
     rt: &impl Abort,
     alloc: Global,

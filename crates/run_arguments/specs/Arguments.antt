@@ -25,7 +25,7 @@ is_int word = is_some (int_of_word word)
 abbrev pub is_bool : List ℕ → Bool
 is_bool word = is_some (bool_of_word word)
 
--- The number behind an at sign: that of an earlier argument.
+-- The number after an at sign: that of an earlier argument.
 abbrev pub earlier_of_word : List ℕ → Option ℕ
 earlier_of_word [] = None
 earlier_of_word (c ∷ cs) = if c == 64 then number_of_word 4294967295 cs else None

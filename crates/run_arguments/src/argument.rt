@@ -18,21 +18,21 @@ fn read_earlier(word: &str) -> Option<u32>
     read_number(word.strip_prefix('@')?, u32::MAX)
 }
 
-/// What stands between the brackets of a word.
+/// Returns what stands between the brackets of a word.
 fn between_brackets(word: &str) -> Option<&str>
     ensures { option_map (λ text. text.now) result ≡ words.between_brackets word.now }
 {
     word.strip_prefix('[')?.strip_suffix(']')
 }
 
-/// Whether what stands between brackets is a list.
+/// Returns whether what stands between brackets is a list.
 fn is_list(items: &str) -> bool
     ensures { result ≡ is_some (words.list_of Place.Ints items.now) }
 {
     items.is_empty() || are_ints(items) || are_bools(items)
 }
 
-/// Whether a word is a list in brackets.
+/// Returns whether a word is a list in brackets.
 fn is_bracketed(word: &str) -> bool
     ensures { result ≡ is_some (option_and_then (words.list_of Place.Ints) (words.between_brackets word.now)) }
 {
@@ -66,7 +66,7 @@ fn read_list(alloc: Global, items: &str, place: Place) -> Result<Arg, AllocError
     Ok(Arg::Bools(List::from_vec(bools_of(alloc, items)?)))
 }
 
-/// Whether a word has one of the forms of an argument.
+/// Returns whether a word has one of the forms of an argument.
 #[tactic(auto, unfolding(crate::specs::Arguments::is_argument, crate::specs::Arguments::argument_of))]
 fn has_form(word: &str) -> bool
     ensures { result ≡ words.is_argument word.now }
@@ -78,7 +78,8 @@ fn has_form(word: &str) -> bool
         || is_bracketed(word)
 }
 
-/// Whether a word is an argument of a run: an int32 in decimal, `true`, `false`, `null`, a list of int32 or of truth
+/// Returns whether a word is an argument of a run: an int32 in decimal, `true`, `false`, `null`, a list of int32 or of
+/// truth
 /// values in brackets with commas between them, or `@` and the number of an earlier argument. Takes time in proportion to
 /// the word, and no memory.
 pub fn is_argument(word: &str) -> bool

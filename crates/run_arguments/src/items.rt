@@ -19,14 +19,14 @@ pub(crate) fn read_bool(word: &str) -> Option<bool>
     }
 }
 
-/// Whether each item is an int32.
+/// Returns whether each item is an int32.
 pub(crate) fn are_ints(items: &str) -> bool
     ensures { result ≡ list_all is_int (items_of items.now) }
 {
     items.split(',').all(|item| read_int(item).is_some())
 }
 
-/// Whether each item is a truth value.
+/// Returns whether each item is a truth value.
 pub(crate) fn are_bools(items: &str) -> bool
     ensures { result ≡ list_all is_bool (items_of items.now) }
 {

@@ -23,7 +23,7 @@ same-map f g a zero same = refl
 same-map f g a (suc n) same =
     ap₂ (λ x xs. x ∷ xs) (same a (omega arith)) (same-map f g (a + 1) n (λ k lt. same k (omega arith)))
 
--- A place behind the last.
+-- A place after the last.
 pub places-push : (bytes : List ℕ) (len byte bits : ℕ) (place : Place) → len / 4 < length bytes
     → bits_at byte (len % 4) ≡ bits → place_of_bits bits ≡ place
     → ((k : ℕ) → k < len % 4 → bits_at byte k ≡ bits_at (get_or bytes (len / 4) 0) k)

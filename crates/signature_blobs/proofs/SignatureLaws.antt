@@ -122,7 +122,7 @@ signature_read blob bytes generic signature after b stands =
     let args = types_read blob k after signature.args b.counted.values (back_stands z w blob j after behind_y) in
     rw (start, count, result, args) refl
 
--- A blob that begins with a byte and what stands behind it.
+-- A blob that begins with a byte and what stands after it.
 record Opens (first : ℕ) (behind blob : List ℕ) : Type 0 where
   lt : 0 < length blob
   is : slice_index blob 0 ≡ first

@@ -20,7 +20,7 @@ pair_stands a b blob at p q =
     let both = join_stands (a ∷ []) (b ∷ []) blob at (at + 1) (at + 1 + 1) p q in
     record { ends = refl; parts = both.parts ∙ ap (λ (k : ℕ). a ∷ b ∷ drop k blob) (omega arith) }
 
--- what is behind the front of what stands there
+-- what is after the front of what stands there
 pub front_stands : (x y blob : List ℕ) (at after : ℕ) → Stands (x ++ y) blob at after → Stands x blob at (at + length x)
 front_stands x y blob at after p =
     let split : drop at blob ≡ x ++ (y ++ drop after blob) = p.parts ∙ append_assoc x y (drop after blob) in

@@ -36,7 +36,7 @@ abbrev pub as_types : Option Signature → SigTypes
 as_types (Some signature) = Known signature
 as_types None = Other
 
--- The types behind a convention byte. The profile has the convention 0 alone.
+-- The types after a convention byte. The profile has the convention 0 alone.
 unfoldable pub types_of : List ℕ → ℕ → Result SigTypes SigFault
 types_of blob convention =
     if convention % 16 == 0 then made as_types (signature_at blob (is_generic convention))

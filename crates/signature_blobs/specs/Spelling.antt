@@ -70,7 +70,7 @@ pub record SpellsCount (places : List Place) (bytes : List ℕ) : Type 0 where
   pub few : length places ≤ MAX_VARIABLES
   pub values : AreValues places
 
--- What stands behind the convention byte: of a generic method the number of its type parameters, the
+-- What stands after the convention byte: of a generic method the number of its type parameters, the
 -- number of parameters, the result and the parameters.
 pub record SpellsTypes (generic : Bool) (signature : Signature) (bytes : List ℕ) : Type 0 where
   pub type_count : List ℕ

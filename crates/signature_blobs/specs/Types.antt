@@ -4,7 +4,7 @@ use Rattle.cil_model.specs.declared.place.Place.{Place}
 use Rattle.cil_model.specs.declared.place.Place.TheVariants.{Void, Bool, Int, Bools, Ints}
 use Rattle.signature_blobs.specs.Reading.{Reading, known, ◌>>=◌, byte_at}
 
--- What the code behind SZARRAY says, BOOLEAN or I4, and the offset after it.
+-- What the code after SZARRAY says, BOOLEAN or I4, and the offset after it.
 abbrev pub element_of : ℕ → ℕ → Reading (Place × ℕ)
 element_of code after =
     if code == 0x02 then Ok (Some (Bools, after))

@@ -40,7 +40,7 @@ impl Places {
         }
     }
 
-    /// How many places there are.
+    /// Returns how many places there are.
     #[tactic(auto, using(crate::proofs::PlaceLemmas::packed))]
     pub fn len(&self) -> usize
         ensures count { result ≡ length self.now }
@@ -49,7 +49,7 @@ impl Places {
         usize::from(self.len)
     }
 
-    /// The place of an index from 0 on, none behind the last.
+    /// The place of an index from 0 on, none after the last.
     #[tactic(auto, using(crate::proofs::PlaceLemmas::packed))]
     pub fn get(&self, index: usize) -> Option<Place>
         ensures place { result ≡ slice_get self.now index }

@@ -51,7 +51,7 @@ fn spec_of(blob: &[u8]) -> Result<Option<Place>, SigFault>
 
 /// The type argument that a MethodSpec's blob gives a generic method.
 ///
-/// None where there are more of them or none, or where its type is outside the profile. Bytes behind it
+/// None where there are more of them or none, or where its type is outside the profile. Bytes after it
 /// are not read. Another first byte than that of an instantiation is `Form` at 0, a blob that ends too
 /// early `Short` at its end.
 pub fn spec_sig(blob: &[u8]) -> Result<Option<Place>, SigFault>

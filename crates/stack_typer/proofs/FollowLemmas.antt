@@ -1,4 +1,4 @@
--- How the stack behind an instruction goes on, by the two parts of its successors.
+-- How the stack after an instruction goes on, by the two parts of its successors.
 use Rattle.std.proofs.Common.{◌≡◌, ℕ, ◌+◌, Bool, true, false, List, ◌++◌, Some, None, Ok, Err, if◌then◌else◌, refl, ap, ◌∙◌}
 use Rattle.cil_model.specs.Passes.{Stacks, successors, lowest_conflict, come_to_all, going_on, follow}
 use Rattle.cil_model.specs.declared.instruction.Instr.{Instr}

@@ -20,7 +20,7 @@ tells_set most stacks k now before changed within read same fewer = record {
       omega (arith, g, fewer e);
 }
 
--- A step behind another one.
+-- A step after another one.
 pub tells_both : (most : ℕ) (a b c : Stacks) (x y : Bool) → Tells most a b x → Tells most b c y → Tells most a c (x || y)
 tells_both most a b c false y first second = record {
   same = λ e. second.same e ∙ first.same refl;

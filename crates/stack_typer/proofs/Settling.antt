@@ -17,7 +17,7 @@ use Rattle.stack_typer.proofs.Unique.{fault_once, not_both}
 
 -- ---- one pass
 
--- No stack behind an instruction is higher than the shape lets it be.
+-- No stack after an instruction is higher than the shape lets it be.
 within_size-fits : (shape : Shape) (at : ℕ) (stack : Option (List Kind)) (after : List Kind) → within_size shape at stack ≡ Ok after → length after ≤ shape.max_stack
 within_size-fits shape at None after e = absurd (cc)
 within_size-fits shape at (Some stack) after e =

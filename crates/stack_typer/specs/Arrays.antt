@@ -1,4 +1,4 @@
--- The stack behind an array alone.
+-- The stack after an array alone.
 use Rattle.std.specs.Prelude.{List, [], ◌∷◌, Option, None}
 use Rattle.cil_model.specs.Kinds.{is_array_of, when}
 use Rattle.cil_model.specs.declared.place.Kind.{Kind}

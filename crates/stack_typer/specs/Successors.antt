@@ -13,15 +13,15 @@ targets (ops.Branch test target) = target ∷ []
 targets (ops.Switch offsets) = offsets
 targets _ = []
 
--- The IL offset behind the operation, where it may go on there.
+-- The IL offset after the operation, where it may go on there.
 abbrev pub offset_behind : Op → ℕ → List ℕ
 offset_behind op next = if goes_behind op then next ∷ [] else []
 
--- The code ends behind the instruction, which may go on there.
+-- The code ends after the instruction, which may go on there.
 abbrev pub falls_off : List Instr → Instr → Bool
 falls_off is i = goes_behind i.op && not (begins_at is (i.at + i.size))
 
--- The offset behind the instruction, where it may go on there, unless the code ends there.
+-- The offset after the instruction, where it may go on there, unless the code ends there.
 abbrev pub next_offset : List Instr → Instr → Option (List ℕ)
 next_offset is i = if falls_off is i then None else Some (offset_behind i.op (i.at + i.size))
 

@@ -55,7 +55,7 @@ fn take_old(place: Place, stack: &mut Stack) -> Result<bool, AllocError>
     Ok(takes(place, kind))
 }
 
-/// Makes the stack before a call the one behind it, where the call takes the kinds that it finds, and says
+/// Makes the stack before a call the one after it, where the call takes the kinds that it finds, and says
 /// whether it does.
 pub fn call(shape: &Shape, call: Option<UnitCall>, stack: &mut Stack) -> Result<bool, AllocError>
     ensures { IfOk result (λ fits. when fits stack.new ≡ behind_call shape.now call stack.old) }

@@ -1,4 +1,4 @@
-//! How the stack behind an instruction goes on (ECMA-335 III.1.7.5 and III.1.8.1.3).
+//! How the stack after an instruction goes on (ECMA-335 III.1.7.5 and III.1.8.1.3).
 
 ghost use Rattle.std.specs.Prelude.{◌≡◌, ℕ, ◌≤◌, length, slice_get, Some, Ok, IfOk};
 ghost use Rattle.cil_model.specs.Passes.{follow};
@@ -14,7 +14,7 @@ use crate::successors::{next_offset, targets};
 use cc_base::Refusal;
 use cil_model::{Instr, TypeFault};
 
-/// Brings the stack behind an instruction, which has this index, to all that may follow, and says whether that
+/// Brings the stack after an instruction, which has this index, to all that may follow, and says whether that
 /// changed anything.
 #[tactic(auto, using(crate::proofs::FollowLemmas::follow_rules))]
 pub fn follow(

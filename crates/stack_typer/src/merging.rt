@@ -7,7 +7,7 @@ ghost use Rattle.stack_typer.specs.Room.{nulls};
 
 use cil_model::{Kind, merged_kind};
 
-/// Whether each kind merges with the one at its place.
+/// Returns whether each kind merges with the one at its place.
 #[tactic(auto, using(crate::proofs::MergeLemmas::merges_rules))]
 pub fn merges(before: &[Kind], stack: &[Kind]) -> bool
     ensures { result ≡ is_some (merged before.now stack.now) }

@@ -5,7 +5,7 @@ ghost use Rattle.cil_model.specs.Kinds.{take_each};
 
 use cil_model::{Kind, Place, takes};
 
-/// Whether each place takes the kind at its index, and there are as many of both.
+/// Returns whether each place takes the kind at its index, and there are as many of both.
 #[tactic(auto, using(crate::proofs::TakeLemmas::lengths))]
 pub fn take_each(places: &[Place], kinds: &[Kind]) -> bool
     ensures { result ≡ take_each places.now kinds.now }

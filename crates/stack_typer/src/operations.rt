@@ -157,7 +157,7 @@ fn store_element(place: Place, stack: &mut Stack) -> bool
     take_int(stack) && take_int(stack) && take_array(place, stack)
 }
 
-/// Makes the stack before an operation the one behind it, where the operation takes the kinds that it finds, and
+/// Makes the stack before an operation the one after it, where the operation takes the kinds that it finds, and
 /// says whether it does.
 pub fn operation(shape: &Shape, op: &Op, stack: &mut Stack) -> Result<bool, AllocError>
     ensures { IfOk result (λ fits. when fits stack.new ≡ behind shape.now op.now stack.old) }

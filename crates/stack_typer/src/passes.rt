@@ -122,7 +122,7 @@ fn settled_kinds(alloc: Global, instrs: &[Instr], shape: &Shape) -> Result<Kinds
 /// # Errors
 ///
 /// The first fault that the passes meet, or that memory ran out. At one instruction a missing operand comes first,
-/// then an operand of a wrong kind, then a stack that is too deep, then the end of the code behind it, and last a
+/// then an operand of a wrong kind, then a stack that is too deep, then the end of the code after it, and last a
 /// conflict at one of its successors, the lowest.
 ///
 /// # Cost

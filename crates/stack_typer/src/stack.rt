@@ -74,7 +74,7 @@ impl Stack {
         self.kinds.truncate(rest);
     }
 
-    /// Whether parameters of these places take the topmost values, the last of them the top.
+    /// Returns whether parameters of these places take the topmost values, the last of them the top.
     pub fn fits(&self, places: &[Place]) -> bool
         ensures { result ≡ take_each places.now (reverse (take (length places.now) self.now)) }
     {
@@ -99,7 +99,7 @@ impl Stack {
         })
     }
 
-    /// Whether the two stacks merge.
+    /// Returns whether the two stacks merge.
     #[tactic(auto, using(crate::proofs::TurnedLemmas::merges_turned))]
     pub fn merges_with(&self, other: &Stack) -> bool
         ensures { result ≡ is_some (merged self.now other.now) }

@@ -25,7 +25,7 @@ fn goes_behind(op: &Op) -> bool
     !matches!(op, Op::Return | Op::Branch(Test::Always, _))
 }
 
-/// The IL offset behind the instruction of this index, as a list, where the instruction may go on there.
+/// The IL offset after the instruction of this index, as a list, where the instruction may go on there.
 /// There is no list where the code ends there.
 #[tactic(auto, using(crate::proofs::OffsetLemmas::goes_on, crate::proofs::OffsetLemmas::ends_there))]
 pub fn next_offset<'a>(instrs: &'a [Instr], index: usize, instr: &Instr) -> Option<&'a [u32]>

@@ -10,7 +10,7 @@ use crate::stack::Stack;
 use cc_base::Refusal;
 use cil_model::{Instr, Shape, TypeFault, operand_count};
 
-/// Makes the stack before an instruction the one behind it.
+/// Makes the stack before an instruction the one after it.
 pub fn type_instr(shape: &Shape, instr: &Instr, stack: &mut Stack) -> Result<(), TypeRefusal>
     ensures stack { Leaves result (typed shape.now instr.now stack.old) stack.new }
     ensures within { OnOk result (length stack.new ≤ shape.now.max_stack) }

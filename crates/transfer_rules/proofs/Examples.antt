@@ -62,7 +62,7 @@ entry_of_int = refl
 
 -- ---- moves
 
--- 300 goes into a local of bool, behind an argument and its value at the entry
+-- 300 goes into a local of bool, after an argument and its value at the entry
 stored_in_bool : post (unit (places.Int ∷ []) (places.Bool ∷ [])) (ops.StoreLocal 0) (Some (frame (expr 0 (pos 7) ∷ expr 0 (pos 8) ∷ expr 0 (pos 0) ∷ expr 0 (pos 300) ∷ []) []))
     ≡ Some (frame (expr 0 (pos 7) ∷ expr 0 (pos 8) ∷ expr 1 (pos 0) ∷ []) (between (pos 0) (pos 255) ∷ []))
 unfolding post acted stored with_placed placed noted popped range_of range_at moved from_top
@@ -75,7 +75,7 @@ argument_loaded = refl
 
 -- ---- branches
 
--- brtrue of a bit: 1 along the way to the target, 0 behind it, and the bit is popped
+-- brtrue of a bit: 1 along the way to the target, 0 after it, and the bit is popped
 taken_where_one : along (unit [] []) (ops.Branch tests.True 9) 0 (Some (frame (expr 1 (pos 0) ∷ []) (between (pos 0) (pos 1) ∷ []))) ≡ Some (frame [] (between (pos 1) (pos 1) ∷ []))
 unfolding along acted chosen tested assuming assumed holding assumed_apart equal at_most gap lost_by changed ordered assumed_at_most lowered raised_to range_without without lost raised holed inner_hole behind_test popped range_of range_at moved from_top
 taken_where_one = refl
@@ -84,7 +84,7 @@ passed_where_zero : along (unit [] []) (ops.Branch tests.True 9) 1 (Some (frame 
 unfolding along acted chosen tested assuming assumed holding assumed_equal at_most gap changed assumed_at_most lowered raised_to range_without behind_test popped range_of range_at moved from_top
 passed_where_zero = refl
 
--- behind the three targets of a switch a number that is not negative is 3 or more, and of another nothing is known
+-- after the three targets of a switch a number that is not negative is 3 or more, and of another nothing is known
 default_at_least_three : along (unit [] []) (ops.Switch (5 ∷ 6 ∷ 7 ∷ [])) 3 (Some (frame (expr 1 (pos 0) ∷ []) (between (pos 0) (pos 10) ∷ []))) ≡ Some (frame [] (between (pos 3) (pos 10) ∷ []))
 unfolding along acted chosen switched assuming assumed holding assumed_at_most_unsigned at_most gap changed assumed_at_most lowered raised_to range_without popped range_of range_at moved from_top
 default_at_least_three = refl

@@ -1,4 +1,4 @@
--- What an operation does keeps what holds.
+-- Where a state holds of a frame, the state after an operation holds of the frame with which the machine goes on.
 use Rattle.std.proofs.Common.{◌≡◌, ℕ, ◌+◌, ◌<◌, ℤ, pos, negsuc, ◌-ℤ◌, ◌≤ℤ◌, neg_ℤ, Bool, true, false, int_eq, Option, Some, None, List, [], ◌∷◌, ◌++◌, length, get_or, map, Ok, Err, refl, sym, ap, subst, ◌∙◌, ⊎_elim, FitsSigned, w32, arith, length-append}
 use Rattle.std.specs.Prelude.{Result, slice_get, slice_set, set, reverse}
 use Rattle.std.specs.Option.{option_and_then, option_map}
@@ -59,7 +59,7 @@ use Rattle.transfer_rules.specs.Placing.{HasArgs, number_at, value_at, arg_at, l
 abbrev pub moved : Frame → ℕ → List Value → Frame
 moved f at stack = record f { at = at; stack = stack }
 
--- The effect is that one.
+-- Where an operation has one effect alone, the machine goes on with the frame of that effect.
 goes_alone : (f g new : Frame) (heap after : Heap) → HasEffect (GoesOn new heap ∷ []) (GoesOn g after) → g ≡ new
 goes_alone f g new heap after has = ⊎_elim (λ is. cc) (λ none. elim none [ ]) has
 
@@ -151,7 +151,7 @@ is_stored heap types n v old new is = by_place (slice_get types n) refl is
     by_place None at there = elim (no_list new there) [ ]
     by_place (Some place) at there = by_put place (put heap place v) at refl there
 
--- The top is put into variable i, which is not the top, and taken.
+-- The top is popped and stored in variable i, which is another one.
 puts : (heap : Heap) (place : Place) (known : FrameFacts) (f : Frame) (i : ℕ) (v new : Value) (rest : List Value) → HasForm known → HoldsIn (Some known) f
     → f.stack ≡ v ∷ rest → put heap place v ≡ Some new → i < length (variables_of (record f { stack = rest }))
     → (m : List ℤ) × HoldsOf (stored i place known) m × (map Int m ≡ set (variables_of (record f { stack = rest })) i new)

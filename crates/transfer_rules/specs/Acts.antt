@@ -46,7 +46,7 @@ is_told _ = true
 
 -- ---- moves
 
--- Where an argument stands among the variables: behind the arguments at the entry. The locals come next.
+-- Where an argument stands among the variables: after the arguments at the entry. The locals come next.
 abbrev pub arg_place : MethodUnit → ℕ → ℕ
 arg_place unit n = length unit.args + n
 

@@ -141,7 +141,7 @@ module _ (unit : MethodUnit) where
       all_append Leaves (edges_from (blocks_of unit) i) (flat_map (edges_from (blocks_of unit)) is)
       (edges_leave i (block_at (blocks_of unit) i.at) found.0 refl) (all_leave is found.1)
 
--- ---- instructions that lie one behind another
+-- ---- instructions that lie one after another
 
 found_more : (i : Instr) (is js : List Instr) (low : ℕ) → i.at < low → AllByRecursion (λ j. low ≤ j.at) js
     → AllByRecursion (λ j. instr_at is j.at ≡ Some j) js → AllByRecursion (λ j. instr_at (i ∷ is) j.at ≡ Some j) js
@@ -266,7 +266,7 @@ record IsGood (unit : MethodUnit) (i : Instr) : Type 0 where
   found : instr_at unit.instrs i.at ≡ Some i
   some : 0 < i.size
 
--- What lies behind an offset that is not before the end is not before it either.
+-- What lies after an offset that is not before the end is not before it either.
 pub none_before : (end : Option ℕ) (at : ℕ) (is : List Instr) → is_before end at ≡ false → AllByRecursion (λ i. at ≤ i.at) is → filter (λ i. is_before end i.at) is ≡ []
 none_before end at [] late all = refl
 none_before None at (i ∷ is) late all = absurd (false≢true (sym late))

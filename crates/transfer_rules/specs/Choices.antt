@@ -1,5 +1,5 @@
 -- What is assumed along each of the ways on from a branch (ECMA-335 III.3.5 to III.3.18 and III.3.66). The way to the
--- target has the number 0, and the one behind the branch the number 1. The ways of a switch are numbered as its targets.
+-- target has the number 0, and the one after the branch the number 1. The ways of a switch are numbered as its targets.
 use Rattle.std.specs.Prelude.{ℕ, ◌≤◌, ◌==◌, pos, Bool, true, false, not, min, List, ◌∷◌, length, nat_lt, Option, Some, option_map, if◌then◌else◌}
 use Rattle.cil_model.specs.Arithmetic.{unsigned}
 use Rattle.cil_model.specs.Comparisons.{is_true, compares_values}
@@ -23,7 +23,8 @@ tested tests.True holds known = assuming comparisons.NeUn (from_top 0 known.vari
 tested tests.False holds known = assuming comparisons.NeUn (from_top 0 known.variables) (constant (pos 0)) (not holds) known
 tested (tests.Cmp op) holds known = assuming op (from_top 1 known.variables) (from_top 0 known.variables) holds known
 
--- The number of a switch is that of the way, or, behind all targets, no less than their count where it is taken as unsigned.
+-- The number of a switch is that of the way, or, after all targets, no less than their count where it is taken as
+-- unsigned.
 unfoldable pub switched : ℕ → ℕ → FrameFacts → State
 switched count way known =
     if nat_lt way count then assuming comparisons.Eq (from_top 0 known.variables) (constant (pos way)) true known

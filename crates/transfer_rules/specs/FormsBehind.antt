@@ -1,4 +1,4 @@
--- The states behind an instruction have the form, and a variable for each value that typing leaves.
+-- The states after an instruction have the form, and a variable for each value that typing leaves.
 use Rattle.std.proofs.Common.{◌≡◌, ℕ, suc, ◌+◌, ◌-◌, ◌<◌, ◌≤◌, ◌==◌, ℤ, pos, negsuc, ◌≤ℤ◌, Bool, true, false, not, nat_lt, List, [], ◌∷◌, length, get_or, slice_get, Option, Some, None, refl, sym, ap, subst, ◌∙◌, length-append, arith}
 use Rattle.std.specs.Option.{option_and_then, option_map}
 use Rattle.std.proofs.lemmas.Bool.{cond_both, false≢true}
@@ -175,7 +175,7 @@ truth_count op a b known = omega (arith, length-append known.variables ((compare
 truth_kept : (n : ℕ) (op : BinOp) (a b : Expr) (known : FrameFacts) → HasVariables n known → HasVariables (suc n) (with_truth op a b known)
 truth_kept n op a b known has = record { form = truth_form op a b known has.form; count = truth_count op a b known ∙ ap suc has.count }
 
--- ---- the stack behind an operation
+-- ---- the stack after an operation
 
 when_same : (test : Bool) (xs ys : List Kind) → when test xs ≡ Some ys → xs ≡ ys
 when_same true xs ys is = same_Some xs ys is
@@ -255,7 +255,7 @@ popped_is : (stack after : List Kind) → kinds.popped stack ≡ Some after → 
 popped_is (kind ∷ rest) after is = ap suc (ap length (same_Some rest after is))
 popped_is [] after is = absurd (none-some after is)
 
--- ---- the state behind an operation
+-- ---- the state after an operation
 
 -- It goes on to another instruction.
 abbrev pub HasNext : Op → Type 0
@@ -263,7 +263,7 @@ HasNext ops.Return = ⊥
 HasNext op = Unit {0}
 
 module _ (unit : MethodUnit) (stack after : List Kind) (known : FrameFacts) (has : HasVariables (variable_count unit stack) known) where
-  -- So many variables as the stack behind has values.
+  -- So many variables as the stack after has values.
   kept_as : (n : ℕ) (state : State) → n ≡ variable_count unit after → AreVariables n state → AreVariables (variable_count unit after) state
   kept_as n state is kept = subst (λ (m : ℕ). AreVariables m state) is kept
 

@@ -1,4 +1,4 @@
--- The state behind an instruction, and along each way on from it.
+-- The state after an instruction, and along each way on from it.
 use Rattle.std.specs.Prelude.{ℕ}
 use Rattle.std.specs.Option.{option_and_then}
 use Rattle.cil_model.specs.declared.instruction.Op.{Op}

@@ -1,4 +1,4 @@
--- The states behind an instruction hold where it leads.
+-- The states after an instruction hold where it leads.
 use Rattle.std.proofs.Common.{◌≡◌, ℕ, true, Some, None, sym, subst}
 use Rattle.std.specs.Option.{ForSome, option_and_then}
 use Rattle.cil_model.specs.Effects.{GoesOn, HasEffect, effects}

@@ -1,4 +1,4 @@
--- What it means that a state is that behind an instruction.
+-- What it means that a state is that after an instruction.
 use Rattle.std.specs.Prelude.{◌≡◌, ℕ, ◌+◌, Some, slice_get}
 use Rattle.cil_model.specs.Configs.{IsFrameOf}
 use Rattle.cil_model.specs.Effects.{GoesOn, HasEffect, effects}

@@ -10,7 +10,7 @@ use domain_api::{NoMemory, Values};
 use interval_domain::Range;
 use std::alloc::Global;
 
-/// What is known of a number in a place of this type.
+/// Returns what is known of a number in a place of this type.
 #[tactic(auto, using(crate::specs::EntryLaws::hull_of_int32, abs_state::proofs::Bytes::hull_of_byte))]
 pub(crate) fn number_in(place: Place) -> Number
     ensures { result ≡ rule.number_in place }
@@ -42,7 +42,7 @@ fn push_zeros(numbers: &mut Vec<Number>, types: &[Place]) -> Result<(), NoMemory
     Ok(())
 }
 
-/// What is known of each variable where a method begins.
+/// Returns what is known of each variable where a method begins.
 fn numbers_at_entry(alloc: Global, unit: &Unit) -> Result<Vec<Number>, NoMemory>
     ensures { IfOk result (λ numbers. numbers.items ≡ rule.numbers_at_entry unit.now) }
 {

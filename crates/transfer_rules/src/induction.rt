@@ -10,7 +10,7 @@ use abs_state::AbsState;
 use domain_api::{Lattice, NoMemory};
 use std::alloc::Global;
 
-/// Whether the state fits the start of a block.
+/// Returns whether the state fits the start of a block.
 fn fits(code: &UnitFlow, block: usize, state: &AbsState) -> bool
     requires lawful { IsLawful code.now }
     requires block { block < length code.now.graph.blocks }
@@ -27,7 +27,7 @@ fn fits(code: &UnitFlow, block: usize, state: &AbsState) -> bool
     }
 }
 
-/// Whether each state fits the block of its place.
+/// Returns whether each state fits the block of its place.
 fn all_fit(code: &UnitFlow, states: &[AbsState]) -> bool
     requires lawful { IsLawful code.now }
     requires count { length states.now ≡ length code.now.graph.blocks }
@@ -41,7 +41,8 @@ fn all_fit(code: &UnitFlow, states: &[AbsState]) -> bool
     true
 }
 
-/// Whether there is a state for each block and each fits its block: nothing is reached, or it has one variable for each
+/// Returns whether there is a state for each block and each fits its block: nothing is reached, or it has one variable
+/// for each
 /// argument at the entry, argument, local and value on the stack there. Where typing does not come, nothing is reached.
 pub fn has_shape(code: &UnitFlow, states: &[AbsState]) -> bool
     requires lawful { IsLawful code.now }
@@ -50,7 +51,7 @@ pub fn has_shape(code: &UnitFlow, states: &[AbsState]) -> bool
     states.len() == code.graph.blocks.as_slice().len() && all_fit(code, states)
 }
 
-/// Whether the state along an edge from that of its source is included in that of its target.
+/// Returns whether the state along an edge from that of its source is included in that of its target.
 fn is_carried(
     alloc: Global,
     code: &UnitFlow,
@@ -67,7 +68,7 @@ fn is_carried(
     behind.leq(alloc, &states[way.to as usize])
 }
 
-/// Whether that is so of each edge.
+/// Returns whether that is so of each edge.
 fn all_carried(alloc: Global, code: &UnitFlow, states: &[AbsState]) -> Result<bool, NoMemory>
     requires lawful { IsLawful code.now }
     requires shape { HasShape code.now states.now }
@@ -81,7 +82,7 @@ fn all_carried(alloc: Global, code: &UnitFlow, states: &[AbsState]) -> Result<bo
     Ok(true)
 }
 
-/// Whether the state where the unit begins is included in that of the first block.
+/// Returns whether the state where the unit begins is included in that of the first block.
 fn is_begun(alloc: Global, code: &UnitFlow, states: &[AbsState]) -> Result<bool, NoMemory>
     requires lawful { IsLawful code.now }
     requires shape { HasShape code.now states.now }
@@ -92,7 +93,7 @@ fn is_begun(alloc: Global, code: &UnitFlow, states: &[AbsState]) -> Result<bool,
     entry.leq(alloc, first)
 }
 
-/// Whether the states are an invariant of the unit.
+/// Returns whether the states are an invariant of the unit.
 fn is_inductive(alloc: Global, code: &UnitFlow, states: &[AbsState]) -> Result<bool, NoMemory>
     requires lawful { IsLawful code.now }
     ensures exact { IfOk result (λ yes. IsTrue yes ↔ IsInductive code.now states.now) }
@@ -106,7 +107,8 @@ fn is_inductive(alloc: Global, code: &UnitFlow, states: &[AbsState]) -> Result<b
     all_carried(alloc, code, states)
 }
 
-/// Whether the states are an invariant of the unit: they have its shape, the state where it begins is included in that of
+/// Returns whether the states are an invariant of the unit: they have its shape, the state where it begins is included
+/// in that of
 /// the first block, and the state along each edge in that of its target.
 ///
 /// Cost: one walk through the source of each edge, up to the first edge that shows that they are none.

@@ -1,4 +1,4 @@
-//! The state behind an instruction, and along each way on from it.
+//! The state after an instruction, and along each way on from it.
 
 ghost use Rattle.std.specs.Prelude.{◌≡◌, ◌+◌, ◌≤◌, true, length, OnOk};
 ghost use Rattle.std.specs.Option.{ForSome};
@@ -14,7 +14,7 @@ use abs_state::{AbsState, avoid_all};
 use cil_model::{Op, Unit};
 use domain_api::NoMemory;
 
-/// Makes a state that of behind an instruction: none of its faults came, and its operation did what it does. Of a branch
+/// Makes a state that of after an instruction: none of its faults came, and its operation did what it does. Of a branch
 /// nothing is assumed.
 ///
 /// Cost: that of the variables that the operation reads. After want of memory the state is to be given up.
@@ -36,7 +36,8 @@ pub fn post(state: &mut AbsState, unit: &Unit, op: &Op) -> Result<(), NoMemory>
 }
 
 /// Makes a state that along the way of this number on from an instruction. The way of a branch to its target has the
-/// number 0 and the one behind it the number 1, and the ways of a switch are numbered as its targets, before the one behind
+/// number 0 and the one after it the number 1, and the ways of a switch are numbered as its targets, before the one
+/// after
 /// it. Each other instruction has one way.
 ///
 /// Cost: that of the variables that the operation reads. After want of memory the state is to be given up.

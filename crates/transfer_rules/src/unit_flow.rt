@@ -23,7 +23,7 @@ pub struct UnitFlow {
     pub kinds: Kinds,
 }
 
-/// What the typing of the unit's code depends on. It calls no method.
+/// Returns what the typing of the unit's code depends on. It calls no method.
 fn shape(alloc: Global, unit: &Unit) -> Result<Shape, NoMemory>
     requires { unit.now.callees ≡ [] }
     ensures { IfOk result (λ shape. shape ≡ shape_of unit.now) }

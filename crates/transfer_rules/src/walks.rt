@@ -16,7 +16,7 @@ use cil_model::{Instr, Kind, Unit};
 use domain_api::NoMemory;
 use std::alloc::Global;
 
-/// Those of the instructions that begin at an IL offset or behind it.
+/// Those of the instructions that begin at an IL offset or after it.
 fn from_offset(instrs: &[Instr], at: u32) -> &[Instr]
     requires { IsNonDecreasingBy (λ i. i.at) instrs.now }
     ensures { result.now ≡ filter (λ i. nat_le at i.at) instrs.now }

@@ -7,7 +7,7 @@ use Rattle.std.proofs.lemmas.List.Folds.{list_any-append}
 use Rattle.cil_model.specs.WellFormed.{InOrderOfUse}
 use Rattle.method_unit.specs.UnitFile.{first_uses}
 
--- The place of a number among others, or behind them.
+-- The place of a number among others, or after them.
 abbrev pub place_in : List ℕ → ℕ → ℕ
 place_in uses n = position_or_len (λ m. m == n) uses
 
@@ -27,7 +27,7 @@ head_behind : (here later : Bool) (k len : ℕ) → (here || later) ≡ false �
 head_behind true later k len none behind = absurd cc
 head_behind false later k len none behind = let same = behind none in omega (arith, same)
 
--- The first one behind them is at their end.
+-- The first one after them is at their end.
 place_behind : (front rest : List ℕ) (n : ℕ) → is_in front n ≡ false → place_in (front ++ n ∷ rest) n ≡ length front
 place_behind [] rest n none = rw (eq-eqb n n refl) refl
 place_behind (m ∷ front) rest n none = head_behind (m == n) (is_in front n) (place_in (front ++ n ∷ rest) n) (length front) none (place_behind front rest n)
@@ -46,7 +46,7 @@ one_met : (met front : List ℕ) (n : ℕ) → SameMet met front → SameMet (n 
 one_met met front n same k =
     ap (λ b. (n == k) || b) (same k) ∙ (or_swapped (n == k) (is_in front k) ∙ sym (list_any-append (λ m. m == k) front (n ∷ [])))
 
--- The places of these calls are in order behind the first uses.
+-- The places of these calls are in order after the first uses.
 abbrev PlacedFrom : List ℕ → List ℕ → Type 0
 PlacedFrom uses calls = (front met : List ℕ) → SameMet met front → uses ≡ front ++ first_uses met calls → InOrderOfUse (length front) (length uses) (map (place_in uses) calls)
 

@@ -46,7 +46,7 @@ drop_short skip len None code short some = absurd (none-some code some)
 drop_short skip len (Some bytes) code short some =
     subst (λ (c : List ℕ). length c ≤ len) (same_Some _ _ some) (let less = short bytes refl in let long = length-drop skip bytes in omega (arith, less, long))
 
--- The code behind a header is as long as the header says.
+-- The code after a header is as long as the header says.
 pub code_short : (asm : List ℕ) (rva : ℕ) (header : Header) (code : List ℕ) → code_at asm rva header ≡ Some code → length code ≤ header.code_len
 unfolding code_at
 code_short asm rva header code there =

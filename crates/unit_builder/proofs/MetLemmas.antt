@@ -8,7 +8,7 @@ use Rattle.unit_builder.specs.Met.{place_in, counted, first_method, IsAmong, Tel
 
 -- ---- places
 
--- A place behind the first one is one more.
+-- A place after the first one is one more.
 suc_place : (place : Option ℕ) (n : ℕ) → option_map suc place ≡ Some n → (m : ℕ) × (place ≡ Some m) × (n ≡ suc m)
 suc_place None n is = absurd cc
 suc_place (Some m) n is = (m, refl, cc)

@@ -71,7 +71,7 @@ module _ (asm : List ℕ) (from : ℕ) (tokens : List ℕ) (visits : List (Optio
       let missing = missing_is slot (slot_tells place slot is slot_is) ∙ some in
       (rw (reached, missing) refl, rw reached new_is)
 
--- ---- one method behind another
+-- ---- one method after another
 
 find_next : (test : ℕ → Bool) (n : ℕ) (ns : List ℕ) → test n ≡ false → find test (n ∷ ns) ≡ find test ns
 find_next test n ns fails = rw fails refl

@@ -4,7 +4,7 @@ use Rattle.std.specs.List.{range_with_len}
 use Rattle.unit_builder.specs.Met.{all_met, place_in}
 use Rattle.unit_builder.specs.Reach.{reaches_in}
 
--- What stands behind a number, in a list of lists; numbers are counted from 10.
+-- What stands after a number, in a list of lists; numbers are counted from 10.
 abbrev behind : List (List ℕ) → ℕ → List ℕ
 behind graph n = get_or graph (n - 10) []
 
@@ -37,7 +37,7 @@ diamond_met = refl
 pub diamond_places : filter_map (place_in (13 ∷ 10 ∷ 11 ∷ 12 ∷ [])) (12 ∷ 11 ∷ []) ≡ 3 ∷ 2 ∷ []
 diamond_places = refl
 
--- 11 is not analysed, so that nothing stands behind it: it is reached from 10, and 12 behind it is not.
+-- 11 is not analysed, so that nothing stands after it: it is reached from 10, and 12 after it is not.
 pub skipped_reached : all_reached (behind ((11 ∷ []) ∷ [] ∷ [] ∷ [])) 3 10 ≡ 10 ∷ 11 ∷ []
 skipped_reached = refl
 

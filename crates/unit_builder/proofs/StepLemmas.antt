@@ -16,7 +16,7 @@ use Rattle.unit_builder.proofs.WalkLemmas.{calls-there, step, told-calls}
 pub among_count : (asm : List ℕ) (token : Token) (count : ℕ) → count ≡ length (methods_of asm) → IsSome (method_of asm token) → IsAmong count token.0
 among_count asm token count is there = subst (λ n. IsAmong n token.0) (sym is) (named-among asm token there)
 
--- The next token is the one behind those that were visited.
+-- The next token is the one after those that were visited.
 next_is : (listed : List Token) (tokens : List ℕ) (n : ℕ) → numbers listed ≡ tokens → n < length tokens → (get_or listed n (record { 0 = 0 })).0 ≡ get_or tokens n 0
 next_is listed tokens n are lt =
     sym (get_or-map (λ t. t.0) listed n (record { 0 = 0 }) 0 (omega (arith, ap length are, length-map listed (λ t. t.0)))) ∙ ap (λ ts. get_or ts n 0) are

@@ -1,4 +1,4 @@
--- What tests tell that are passed, to the steps behind them.
+-- What tests tell that are passed, to the steps after them.
 use Rattle.std.proofs.Common.{◌≡◌, ℕ, true, not, nat_le, List, [], ◌∷◌, ◌∙◌}
 use Rattle.std.specs.Prelude.{None, Some, option_map, length}
 use Rattle.std.specs.List.{list_all}

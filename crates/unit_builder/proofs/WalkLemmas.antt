@@ -21,7 +21,7 @@ use Rattle.unit_builder.proofs.MetLemmas.{before_or_last, place-last, place-stay
 use Rattle.unit_builder.proofs.ReachLemmas.{Contains-behind, goes_on, reaches, stays_in, within_more}
 use Rattle.unit_builder.proofs.VisitLemmas.{some_is}
 
--- ---- methods that are met one behind another
+-- ---- methods that are met one after another
 
 pub some_there : {A : Type 0} (found : Option A) (x : A) → found ≡ Some x → IsSome found
 some_there found x is = ap is_some is

@@ -19,7 +19,7 @@ met_by order token (Some place) = order
 abbrev pub met : List ℕ → ℕ → List ℕ
 met order token = met_by order token (place_in order token)
 
--- So do these, one behind another.
+-- So do these, one after another.
 abbrev pub all_met : List ℕ → List ℕ → List ℕ
 all_met order [] = order
 all_met order (token ∷ tokens) = all_met (met order token) tokens

@@ -1,4 +1,4 @@
--- What some numbers reach, where `next` tells the numbers that stand behind each.
+-- What some numbers reach, where `next` tells the numbers that stand after each.
 use Rattle.std.specs.Prelude.{ℕ, zero, suc, ◌==◌, Bool, ◌||◌, List, Contains}
 use Rattle.std.specs.List.{list_any}
 

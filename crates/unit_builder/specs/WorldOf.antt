@@ -15,11 +15,11 @@ use Rattle.unit_builder.specs.declared.world.WorldRefusal.TheVariants.{NotAnalys
 
 -- ---- the world
 
--- The method, and behind it the others among these that it reaches.
+-- The method, and after it the others among these that it reaches.
 abbrev pub order_so_far : List ℕ → ℕ → List MethodRow → List ℕ
 order_so_far asm from methods = from ∷ filter (λ token. not (token == from) && is_reached asm from token) (tokens_in methods)
 
--- The method, and behind it the others that it reaches, by rising token.
+-- The method, and after it the others that it reaches, by rising token.
 unfoldable pub world_tokens : List ℕ → ℕ → List ℕ
 world_tokens asm from = order_so_far asm from (methods_of asm)
 

@@ -20,7 +20,7 @@ use cil_model::{CalleeInfo, Clause, List, Place};
 use signature_blobs::SigTypes;
 use std::alloc::Global;
 
-/// What callers know of a method by its code. It is read where nobody asked for it before.
+/// Returns what callers know of a method by its code, which is read where it was not read before.
 #[tactic(auto, using(crate::proofs::ClauseFacts::known_of, crate::proofs::ClauseFacts::none_known, crate::proofs::SlotFacts::bodiless_clauses))]
 fn clauses_known(
     alloc: Global,
@@ -58,7 +58,7 @@ fn clauses_at(
     clauses_known(alloc, assembly, method, &mut slots[index])
 }
 
-/// What callers know of a method with these clauses.
+/// Returns what callers know of a method with these clauses.
 fn info_with(
     alloc: Global,
     method: &MethodRow,
@@ -79,7 +79,7 @@ fn info_with(
     })
 }
 
-/// What is known where there is no such method.
+/// Returns what is known where there is no such method.
 fn no_info(alloc: Global) -> CalleeInfo
     ensures { result ≡ no_info }
 {
@@ -91,7 +91,7 @@ fn no_info(alloc: Global) -> CalleeInfo
     }
 }
 
-/// What callers know of the method that a token names.
+/// Returns what callers know of the method that a token names.
 #[tactic(auto, using(crate::proofs::RowFacts::token_there, crate::proofs::RowFacts::token_some, crate::proofs::CalleeFacts::no_callee, crate::proofs::CalleeFacts::no_callee_fits, crate::proofs::CalleeFacts::callee_told, crate::proofs::CalleeFacts::callee_fits))]
 fn callee_info(
     alloc: Global,
@@ -113,7 +113,7 @@ fn callee_info(
     Ok(info)
 }
 
-/// What callers know of the methods that tokens name, in order.
+/// Returns what callers know of the methods that tokens name, in order.
 #[tactic(auto, using(crate::proofs::CalleeFacts::short_at, crate::proofs::CalleeFacts::one_more, crate::proofs::CalleeFacts::all_callees))]
 pub(crate) fn callee_infos(
     alloc: Global,

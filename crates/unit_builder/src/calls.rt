@@ -17,7 +17,7 @@ use asm_image::{Assembly, MethodRow};
 use cc_base::{NoMemory, Token};
 use std::alloc::Global;
 
-/// The methods that the code of a method calls. It is read where nobody asked for it before.
+/// Returns the methods that the code of a method calls. The code is read where it was not read before.
 pub(crate) fn callees_in(
     alloc: Global,
     assembly: &Assembly<'_>,

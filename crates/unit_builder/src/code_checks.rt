@@ -32,7 +32,7 @@ pub(crate) fn check_count(instrs: &[Instr]) -> Result<(), Reason>
     Ok(())
 }
 
-/// Whether the name of the method that a token names fits a unit.
+/// Returns whether the name of the method that a token names fits a unit.
 fn has_short_name(assembly: &Assembly<'_>, token: Token) -> bool
     ensures { result ≡ has_short_name assembly.now token }
 {
@@ -42,7 +42,7 @@ fn has_short_name(assembly: &Assembly<'_>, token: Token) -> bool
     }
 }
 
-/// Whether the names of the methods that tokens name fit a unit.
+/// Returns whether the names of the methods that tokens name fit a unit.
 fn have_short_names(assembly: &Assembly<'_>, callees: &[Token]) -> bool
     ensures { result ≡ list_all (has_short_name assembly.now) callees.now }
 {
@@ -92,7 +92,7 @@ pub(crate) fn check_blocks(
     Ok(())
 }
 
-/// Whether the operand of a call, of a new array or of a text is a number of a unit with so many callees.
+/// Returns whether the operand of a call, of a new array or of a text is a number of a unit with so many callees.
 fn names_something(callees: usize, op: &Op) -> bool
     ensures { result ≡ names_something callees op.now }
 {
@@ -103,7 +103,25 @@ fn names_something(callees: usize, op: &Op) -> bool
         },
         Op::NewArray(number) => array_place(*number).is_some(),
         Op::Text(number) => *number == 0,
-        _ => true,
+        Op::Nop
+        | Op::LoadArg(_)
+        | Op::StoreArg(_)
+        | Op::LoadLocal(_)
+        | Op::StoreLocal(_)
+        | Op::Null
+        | Op::Const(_)
+        | Op::Dup
+        | Op::Pop
+        | Op::Return
+        | Op::Branch(_, _)
+        | Op::Switch(_)
+        | Op::Bin(_)
+        | Op::Neg
+        | Op::Not
+        | Op::ConvI4
+        | Op::Length
+        | Op::LoadElem(_)
+        | Op::StoreElem(_) => true,
     }
 }
 
@@ -129,7 +147,8 @@ pub(crate) fn check_numbers(instrs: &[Instr], callees: usize) -> Result<(), Reas
     Ok(())
 }
 
-/// Tests the code of a method, up to what depends on its callees, and answers its contracts, of which this was read.
+/// Tests the code of a method, up to what depends on its callees, and returns its contracts. `read` is what was read
+/// of them.
 #[tactic(auto, using(cc_base::proofs::TestLemmas::carried, cc_base::proofs::TestLemmas::first_tests), unfolding(crate::specs::Reasons::code_tests))]
 pub(crate) fn check_code<'a>(
     alloc: Global,

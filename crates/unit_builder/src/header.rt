@@ -1,4 +1,4 @@
-//! What the header of a method's body tells.
+//! The locals and the stack size of a method, from the header of its body.
 
 ghost use Rattle.std.specs.Prelude.{◌≡◌, ◌≤◌, ⊤, ℕ, List, length, option_map, Some, IfOk};
 ghost use Rattle.cc_base.specs.Tests.{first_of, Judges};
@@ -15,16 +15,16 @@ use cil_model::{MAX_CODE_BYTES, MAX_VARIABLES};
 use il_decoder::{Header, header_at};
 use signature_blobs::{LocalSig, Places};
 
-/// What a method has besides its arguments.
+/// The variables of a method besides its arguments.
 #[derive(Drop)]
 pub(crate) struct Variables {
     /// The types of its locals.
     pub locals: Places,
-    /// How many values its stack holds at most.
+    /// The number of values that its stack holds at most.
     pub max_stack: u16,
 }
 
-/// The types of the locals that a header names, none where they are not known.
+/// Returns the types of the locals that a header names. None where these do not read or are outside the profile.
 #[tactic(auto, unfolding(crate::specs::Bodies::locals_named))]
 fn locals_named(assembly: &Assembly<'_>, header: Header) -> Option<Places>
     ensures { result ≡ locals_named assembly.now header }
@@ -35,7 +35,7 @@ fn locals_named(assembly: &Assembly<'_>, header: Header) -> Option<Places>
     }
 }
 
-/// Tests what a header tells of a method with so many arguments, and its name.
+/// Tests a header of a method with so many arguments, and then the method's name.
 #[tactic(auto, unfolding(cc_base::specs::Tests::first_of, crate::specs::Reasons::header_tests, crate::specs::Bodies::locals_told))]
 fn check_header(
     assembly: &Assembly<'_>,
@@ -70,8 +70,9 @@ fn check_header(
     })
 }
 
-/// Tests the header of a method with so many arguments, where one reads, and the method's name. Where none reads, the body
-/// has the variables of one without code.
+/// Tests the header of a method with so many arguments, and then the method's name. Where no header reads, the method
+/// counts
+/// as one without locals and with a stack of 8, as a tiny header says.
 #[tactic(auto, unfolding(cc_base::specs::Tests::first_of, crate::specs::Reasons::header_tests, crate::specs::Bodies::header_of))]
 pub(crate) fn read_variables(
     assembly: &Assembly<'_>,

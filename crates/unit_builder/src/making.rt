@@ -60,7 +60,7 @@ fn shape_with(
     })
 }
 
-/// The unit of a method: what is known of its callees, and its kinds, were not asked before.
+/// Makes the unit of a method. What is known of its callees is looked up here, and that its code has kinds is tested.
 #[tactic(auto, using(cc_base::proofs::TestLemmas::carried, cc_base::proofs::TestLemmas::first_tests))]
 pub(crate) fn make_unit(
     alloc: Global,

@@ -26,7 +26,7 @@ pub(crate) fn index_of(token: Token) -> usize
 #[derive(Drop)]
 pub(crate) struct Met {
     order: Vec<Token>,
-    /// For each method of the assembly its place in the order, counted from 1, or 0.
+    /// For each method of the assembly its list index in the order plus 1, or 0.
     places: Vec<u32>,
 }
 
@@ -53,7 +53,7 @@ impl Met {
         })
     }
 
-    /// How many were met.
+    /// Returns how many were met.
     pub(crate) fn len(&self) -> usize
         ensures value { result ≡ length self.now.tokens }
         ensures few { result ≤ self.now.count }
@@ -70,7 +70,7 @@ impl Met {
         &self.order
     }
 
-    /// The place of a method in the order, none where it was not met.
+    /// Returns the list index of a method in the order, None where it was not met.
     pub(crate) fn place(&self, token: Token) -> Option<u32>
         ensures { result ≡ place_in self.now.tokens token.0 }
     {
@@ -79,7 +79,7 @@ impl Met {
         places.get(index as usize)?.checked_sub(1)
     }
 
-    /// Meets a method: it comes behind the others, unless it was met before.
+    /// Meets a method: it comes after the others, unless it was met before.
     pub(crate) fn meet(&mut self, token: Token) -> Result<(), AllocError>
         requires among { IsAmong self.old.count token.0 }
         ensures { OnOk result (self.new ≡ record self.old { tokens = met self.old.tokens token.0 }) }
@@ -92,7 +92,7 @@ impl Met {
         Ok(())
     }
 
-    /// Meets some methods, one behind another.
+    /// Meets some methods, one after another.
     pub(crate) fn meet_all(&mut self, tokens: &[Token]) -> Result<(), AllocError>
         requires among { AllByRecursion (λ token. IsAmong self.old.count token.0) tokens.now }
         ensures { OnOk result (self.new ≡ record self.old { tokens = all_met self.old.tokens (map (λ token. token.0) tokens.now) }) }

@@ -30,7 +30,7 @@ pub(crate) fn unit_name(method: &MethodRow) -> &[u8]
     up_to_types(method.name.as_slice())
 }
 
-/// Whether a name of so many bytes fits a unit.
+/// Returns whether a name of so many bytes fits a unit.
 pub(crate) fn is_short_name(name: &[u8]) -> bool
     ensures { result ≡ is_short_name name.now }
 {

@@ -22,7 +22,7 @@ pub(crate) struct Visited {
     pub callees: Vec<Token>,
 }
 
-/// Visits a method. There is nothing to tell of one that is not analysed.
+/// Visits a method. Returns None of one that is not analysed.
 fn visit(alloc: Global, units: &mut Units<'_>, token: Token) -> Result<Option<Visited>, NoMemory>
     requires there { IsSome (method_of units.old token) }
     ensures same { units.new ≡ units.old }
@@ -48,7 +48,7 @@ fn calls_in(visited: &Option<Visited>) -> &[Token]
     }
 }
 
-/// How many methods an assembly has.
+/// Returns how many methods an assembly has.
 fn method_count(assembly: &Assembly<'_>) -> usize
     ensures value { result ≡ length (methods_of assembly.now) }
     ensures short { first_method + result ≤ 2 ^ 32 }

@@ -8,7 +8,7 @@ use cil_model::TypeFault;
 use contract_extract::ClauseFault;
 use il_decoder::IlFault;
 
-/// Why a method is not analysed. Where several of these hold, the first is told.
+/// The reasons why a method is not analysed. Where several hold, the first is reported.
 #[derive(Clone, Copy, Debug, PartialEq, Eq)]
 pub enum Reason {
     /// It is not static, or it has a `this`.

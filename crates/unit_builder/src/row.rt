@@ -1,4 +1,4 @@
-//! What the row of a method tells.
+//! The tests of a method's row.
 
 ghost use Rattle.std.specs.Prelude.{◌≡◌, ⊤};
 ghost use Rattle.cc_base.specs.Tests.{first_of, Judges};

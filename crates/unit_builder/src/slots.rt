@@ -19,9 +19,9 @@ use std::mem;
 /// What is kept of the code of a method.
 #[derive(Drop)]
 pub(crate) enum Slot {
-    /// Nobody asked for it yet.
+    /// It was not asked for yet.
     Unread,
-    /// There is none that reads.
+    /// The code does not read.
     Faulty(IlFault),
     /// All of it.
     Whole(MethodCode),
@@ -50,7 +50,7 @@ fn find_code(alloc: Global, assembly: &Assembly<'_>, method: &MethodRow) -> Resu
 }
 
 impl Slot {
-    /// What is kept of code that was found.
+    /// Returns what is kept of code that was found.
     fn of(found: Found) -> Slot
         ensures { (asm : List ℕ) (method : MethodRow) → Judges found (il_fault asm method) (IsWhole asm method) → TellsClauses asm method result }
     {
@@ -60,7 +60,7 @@ impl Slot {
         }
     }
 
-    /// Reads the code, where nobody did before.
+    /// Reads the code, where it was not read before.
     pub(crate) fn read(
         &mut self,
         alloc: Global,
@@ -78,7 +78,7 @@ impl Slot {
         Ok(())
     }
 
-    /// What callers know of the method by its code: its clauses.
+    /// Returns what callers know of the method by its code: its clauses.
     pub(crate) fn clauses(&self) -> &[Clause]
         ensures { (asm : List ℕ) (method : MethodRow) → TellsClauses asm method self.now → result.now ≡ clauses_of asm method }
     {

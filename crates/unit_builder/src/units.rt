@@ -50,7 +50,7 @@ impl<'a> Model for Units<'a> {
     ghost invariant = { λ units. AreSlots units.assembly.now units.slots.items };
 }
 
-/// The unit of the method of an index, by its parts, or the first reason why it has none.
+/// Returns the unit of the method of an index, made of its parts, or the first reason why it has none.
 #[tactic(auto, using(cc_base::proofs::TestLemmas::carried, cc_base::proofs::TestLemmas::appended, crate::proofs::RowFacts::indexed_row, crate::proofs::SlotLists::slot_set, crate::proofs::SlotLists::slot_there, crate::proofs::SlotLists::slot_within, crate::proofs::TestParts::row_body, crate::proofs::TestParts::own_short), unfolding(crate::specs::Reasons::reason_tests))]
 fn parts_at(
     alloc: Global,
@@ -86,7 +86,7 @@ fn unit_at(
     parts_at(alloc, assembly, slots, index, method)
 }
 
-/// What comes of a method that has no unit.
+/// Returns what comes of a method that has no unit.
 fn skipped(refusal: UnitRefusal) -> Result<Outcome, NoMemory>
     ensures value { (asm : List ℕ) (method : MethodRow) → JudgesOrNoMemory (Err refusal) (first_of (reason_tests asm method)) (IsMade asm method)
         → IfOk result (λ outcome. outcome ≡ outcome_of asm method) }
@@ -98,7 +98,7 @@ fn skipped(refusal: UnitRefusal) -> Result<Outcome, NoMemory>
     }
 }
 
-/// What comes of a method that has a unit or not.
+/// Returns what comes of a method that has a unit or not.
 fn outcome_of(unit: Result<Unit, UnitRefusal>) -> Result<Outcome, NoMemory>
     ensures value { (asm : List ℕ) (method : MethodRow) → JudgesOrNoMemory unit (first_of (reason_tests asm method)) (IsMade asm method)
         → IfOk result (λ outcome. outcome ≡ outcome_of asm method) }
@@ -130,7 +130,8 @@ impl<'a> Units<'a> {
         self.assembly
     }
 
-    /// What comes of the method of an index, counted from 0: its unit, or the first reason why it is not analysed.
+    /// Returns what comes of the method of an index, counted from 0: its unit, or the first reason why it is not
+    /// analysed.
     ///
     /// Cost: what its code and the code of its callees take to be read, where nobody asked for them before; and besides the
     /// passes that find kinds. The unit takes the instructions with it: who asks for the same unit again pays for the code again.

@@ -37,7 +37,7 @@ impl From<AllocError> for WorldRefusal {
     }
 }
 
-/// Puts a method behind the others, where it was reached and is not among them.
+/// Puts a method after the others, where it was reached and is not among them.
 fn put_next(order: &mut Met, reached: &Reached, token: Token) -> Result<(), WorldRefusal>
     requires among { IsAmong order.old.count token.0 }
     requires all { length reached.now.visits.items ≡ length reached.now.met.tokens }
@@ -113,7 +113,8 @@ fn world_in(alloc: Global, reached: Reached, order: &Met) -> Result<World, Alloc
     })
 }
 
-/// The world of a method: its own unit, and behind it, by rising token, those of the other methods that it reaches by calls in the
+/// The world of a method: its own unit, and after it, by rising token, those of the other methods that it reaches by
+/// calls in the
 /// bodies of analysed methods. An error is the least token of a method that it reaches and that is not analysed, or that memory
 /// ran out.
 ///

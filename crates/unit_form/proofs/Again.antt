@@ -20,7 +20,7 @@ use Rattle.unit_form.specs.declared.field_fault.FieldFault.{FieldFault}
 use Rattle.unit_form.proofs.Stands.{behind, lies, byte_read, number_read}
 use Rattle.unit_form.proofs.Taken.{AllGood, one_each}
 
--- A value is read back, and this stands behind it.
+-- A value is read back, and this stands after it.
 pub record ReadsBack {X : Type 0} (bytes : List ℕ) (parse : Parse X) (x : X) (rest : List ℕ) : Type 0 where
   pub passed : first_of parse.tests ≡ None
   pub value : parse.value ≡ x

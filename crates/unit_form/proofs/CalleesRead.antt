@@ -1,4 +1,4 @@
--- The offsets of callees that are read one behind another.
+-- The offsets of callees that are read one after another.
 use Rattle.std.proofs.Common.{◌≡◌, ℕ, suc, ◌+◌, ◌-◌, ◌<◌, ◌≤◌, List, [], ◌∷◌, ◌++◌, arith, ap, ◌∙◌, sym, append_assoc, append-nil}
 use Rattle.unit_form.specs.Callees.{callee_field, callee_offsets}
 

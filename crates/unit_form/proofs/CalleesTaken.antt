@@ -47,7 +47,7 @@ number_kind (Some numbers.NullRef) e = absurd (cc)
 number_kind (Some numbers.Text) e = absurd (cc)
 number_kind None e = absurd (cc)
 
--- What is known of a clause that is read behind these.
+-- What is known of a clause that is read after these.
 pub record GoodClause (args : List Place) (result : Place) (before : List Clause) (clause : Clause) : Type 0 where
   pub nodes : term_size clause.tree ≤ MAX_NODES
   pub conditions : condition_depth clause.tree ≤ MAX_CONDITIONS

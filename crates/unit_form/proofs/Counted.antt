@@ -1,4 +1,4 @@
--- Fields that stand one behind another, so many of them: those that are read, and those that are left.
+-- Fields that stand one after another, so many of them: those that are read, and those that are left.
 use Rattle.std.proofs.Common.{◌≡◌, ℕ, zero, suc, ◌+◌, ◌-◌, ◌<◌, ◌≤◌, List, [], ◌∷◌, ◌++◌, length, None, Some, refl, arith, ap, ◌∙◌, sym, append_assoc, append-nil}
 use Rattle.cc_base.specs.Tests.{first_of}
 use Rattle.cc_base.proofs.TestLemmas.{first_of-append_none, first_of-append_some}

@@ -1,4 +1,4 @@
--- The roots of a tree, one behind another: those that are read, and those that are left.
+-- The roots of a tree, one after another: those that are read, and those that are left.
 use Rattle.std.proofs.Common.{◌≡◌, Bool, true, false, nat_lt, if◌then◌else◌, map, ℕ, zero, suc, ◌+◌, ◌-◌, ◌<◌, ◌≤◌, List, [], ◌∷◌, ◌++◌, length, take, None, Some, refl, arith, ap, ◌∙◌, sym, subst, append_assoc, append-nil, length-append}
 use Rattle.std.proofs.lemmas.Bool.{ltb-true, ltb-false}
 use Rattle.std.proofs.lemmas.List.{length-map, map-append}
@@ -26,7 +26,7 @@ none_taken : (n : ℕ) → take {A = Root} n [] ≡ []
 none_taken zero = refl
 none_taken (suc n) = refl
 
--- What is left behind the next root.
+-- What is left after the next root.
 step : (bytes : List ℕ) (start : ℕ) (read : List Root) (most trees at : ℕ) → RootsLeft bytes start read (suc most) (suc trees) at
     → first_of (root_field bytes at).tests ≡ None
     → (first_of (tree_roots bytes start).tests ≡ first_of (roots_field most (arity (root_field bytes at).value + trees) bytes (root_field bytes at).next).tests)

@@ -146,7 +146,7 @@ variable_taken bytes at passed =
 
 -- ---- many fields
 
--- Each item is good behind those before it.
+-- Each item is good after those before it.
 abbrev pub AllGood : {X : Type 0} → (List X → X → Type 0) → List X → List X → Type 0
 AllGood Good read [] = ⊤
 AllGood Good read (x ∷ xs) = Good read x × AllGood Good (read ++ x ∷ []) xs

@@ -44,7 +44,7 @@ few_terms CondRoot (a ∷ b ∷ c ∷ terms) l = absurd (omega (arith, l))
 pub too_few : (root : Root) (trees : List Term) → length trees < arity root → rooted root (reverse trees) ≡ reverse trees
 too_few root trees l = few_terms root (reverse trees) (rw (length-reverse trees) l)
 
--- The terms of these roots, with others behind them.
+-- The terms of these roots, with others after them.
 abbrev pub terms_onto : List Root → List Term → List Term
 terms_onto [] terms = terms
 terms_onto (root ∷ roots) terms = rooted root (terms_onto roots terms)

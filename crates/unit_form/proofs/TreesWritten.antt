@@ -15,7 +15,7 @@ two a b = flat_map-append root_bytes (preorder a) (preorder b)
 three : (a b c : Term) → flat_map root_bytes (preorder a ++ (preorder b ++ preorder c)) ≡ tree_bytes a ++ (tree_bytes b ++ tree_bytes c)
 three a b c = flat_map-append root_bytes (preorder a) (preorder b ++ preorder c) ∙ ap (λ (t : List ℕ). tree_bytes a ++ t) (two b c)
 
--- What is written root by root, behind what stands there.
+-- What is written root by root, after what stands there.
 
 pub written_len : (before one two : List ℕ) (a : Term) → one ≡ before ++ root_bytes LenRoot → two ≡ one ++ tree_bytes a → two ≡ before ++ tree_bytes (Len a)
 written_len before one two a e f = f ∙ ap (λ (t : List ℕ). t ++ tree_bytes a) e ∙ append_assoc before (root_bytes LenRoot) (tree_bytes a)

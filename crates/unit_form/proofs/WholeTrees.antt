@@ -8,7 +8,7 @@ use Rattle.cil_model.specs.Terms.{Term, Const, Arg, Null, Result, Len, Elem, Bin
 use Rattle.unit_form.specs.declared.field_fault.FieldFault.TheVariants.{Short}
 use Rattle.unit_form.specs.TreeFields.{arity, root_field, roots_field, tree_of_roots, tree_roots}
 
--- These are the roots of so many trees, one behind another.
+-- These are the roots of so many trees, one after another.
 abbrev pub Complete : ℕ → List Root → Type 0
 Complete trees [] = trees ≡ 0
 Complete trees (root ∷ roots) = (others : ℕ) × (trees ≡ suc others) × Complete (arity root + others) roots

@@ -31,7 +31,7 @@ kind_number kinds.Ensures = 2
 abbrev pub kind_numbered : ℕ → ClauseKind
 kind_numbered number = if number == 1 then kinds.Requires else kinds.Ensures
 
--- The tree keeps the limits of a clause, behind clauses with so many old values.
+-- The tree keeps the limits of a clause, after clauses with so many old values.
 abbrev pub keeps_limits : ℕ → Term → Bool
 keeps_limits olds tree =
     nat_le (term_size tree) MAX_NODES && nat_le (condition_depth tree) MAX_CONDITIONS && nat_le (olds + old_count tree) MAX_OLD_VALUES
@@ -72,7 +72,7 @@ clause_field args result olds bytes at =
 abbrev pub olds_in : List Clause → ℕ
 olds_in clauses = sum_by (λ clause. old_count clause.tree) clauses
 
--- The clause behind these.
+-- The clause after these.
 abbrev pub next_clause : List Place → Place → List ℕ → List Clause → ℕ → Parse Clause
 next_clause args result bytes clauses at = clause_field args result (olds_in clauses) bytes at
 
@@ -80,7 +80,7 @@ next_clause args result bytes clauses at = clause_field args result (olds_in cla
 abbrev pub clause_fields : ℕ → List Place → Place → List ℕ → ℕ → Parse (List Clause)
 clause_fields count args result bytes at = many (next_clause args result bytes) [] count at
 
--- The clauses of a method, behind their count.
+-- The clauses of a method, after their count.
 unfoldable pub clauses_field : List Place → Place → List ℕ → ℕ → Parse (List Clause)
 clauses_field args result bytes at =
     let count = u8_field bytes at in
@@ -102,7 +102,7 @@ callee_field bytes at =
       next = clauses.next;
     }
 
--- The callee behind these.
+-- The callee after these.
 abbrev pub next_callee : List ℕ → List CalleeInfo → ℕ → Parse CalleeInfo
 next_callee bytes callees at = callee_field bytes at
 

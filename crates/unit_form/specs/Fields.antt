@@ -37,7 +37,7 @@ unfoldable pub graphic_tests : ℕ → List ℕ → List (Option FieldFault)
 graphic_tests at [] = []
 graphic_tests at (b ∷ bs) = must (is_graphic b) (Form at) ∷ graphic_tests (at + 1) bs
 
--- A name, behind its length in two bytes.
+-- A name, after its length in two bytes.
 unfoldable pub name_field : List ℕ → ℕ → Parse (List ℕ)
 name_field bytes at =
     let count = u16_field bytes at in
@@ -66,7 +66,7 @@ variable_field bytes at =
 abbrev pub variable_fields : ℕ → List ℕ → ℕ → Parse (List Place)
 variable_fields count bytes at = many (λ read. variable_field bytes) [] count at
 
--- The places of variables, behind their count. With so many others they keep the limit on the variables of a method.
+-- The places of variables, after their count. With so many others they keep the limit on the variables of a method.
 unfoldable pub variables_field : ℕ → List ℕ → ℕ → Parse (List Place)
 variables_field others bytes at =
     let count = u8_field bytes at in

@@ -4,13 +4,13 @@ use Rattle.cc_base.specs.Tests.{must}
 use Rattle.unit_form.specs.declared.field_fault.FieldFault.{FieldFault}
 use Rattle.unit_form.specs.declared.field_fault.FieldFault.TheVariants.{Short}
 
--- The tests that are made, in order, and, where each is passed, what was read and the offset behind it.
+-- The tests that are made, in order, and, where each is passed, what was read and the offset after it.
 pub record Parse (X : Type 0) : Type 0 where
   pub tests : List (Option FieldFault)
   pub value : X
   pub next : ℕ
 
--- This is what is read, and the offset behind it, in these bytes.
+-- This is what is read, and the offset after it, in these bytes.
 abbrev pub IsRead : {X : Type 0} → List ℕ → Parse X → X → ℕ → Type 0
 IsRead bytes parse value next = (value ≡ parse.value) × (next ≡ parse.next) × (next ≤ length bytes)
 
@@ -18,7 +18,7 @@ IsRead bytes parse value next = (value ≡ parse.value) × (next ≡ parse.next)
 unfoldable pub field : List ℕ → ℕ → ℕ → Option FieldFault
 field bytes at size = must (nat_le (at + size) (length bytes)) (Short at)
 
--- So many fields, one behind another, where those that were read before tell the form of the next.
+-- So many fields, one after another, where those that were read before tell the form of the next.
 unfoldable pub many : {X : Type 0} → (List X → ℕ → Parse X) → List X → ℕ → ℕ → Parse (List X)
 many one read zero at = record { tests = []; value = []; next = at }
 many one read (suc count) at =

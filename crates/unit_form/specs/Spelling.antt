@@ -12,18 +12,18 @@ use Rattle.cil_model.specs.declared.unit.Unit.{Unit as MethodUnit}
 use Rattle.unit_form.specs.Callees.{kind_number}
 use Rattle.unit_form.specs.TreeSpelling.{ByteArgs, tree_bytes}
 
--- A name, behind its length.
+-- A name, after its length.
 abbrev pub name_bytes : List ℕ → List ℕ
 name_bytes name = little_bytes 2 (length name) ++ name
 
--- Places, behind their count.
+-- Places, after their count.
 abbrev pub places_bytes : List Place → List ℕ
 places_bytes places = length places ∷ map place_number places
 
 abbrev pub clause_bytes : Clause → List ℕ
 clause_bytes clause = kind_number clause.kind ∷ tree_bytes clause.tree
 
--- Clauses, behind their count.
+-- Clauses, after their count.
 abbrev pub clauses_bytes : List Clause → List ℕ
 clauses_bytes clauses = length clauses ∷ flat_map clause_bytes clauses
 

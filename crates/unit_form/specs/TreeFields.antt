@@ -56,7 +56,7 @@ unary_of_byte b = if b == 0x65 then Some unary.Neg else if b == 0x66 then Some u
 
 -- ---- one root
 
--- How many bytes the operand behind a tag has.
+-- How many bytes the operand after a tag has.
 abbrev pub operand_size : ℕ → ℕ
 operand_size tag = if tag == 1 then 4 else if tag == 2 || (nat_le 6 tag && nat_le tag 8) then 1 else 0
 
@@ -80,7 +80,7 @@ root_of tag operand =
     else if tag == 8 then option_map UnRoot (unary_of_byte (slice_index operand 0))
     else bare_root tag
 
--- The operand behind a tag, as a field of its own.
+-- The operand after a tag, as a field of its own.
 unfoldable pub operand_field : ℕ → List ℕ → ℕ → Parse Root
 operand_field tag bytes at =
     let operand = bytes_field (operand_size tag) bytes at in

@@ -38,7 +38,7 @@ max_stack_field variables bytes at =
     let size = u8_field bytes at in
     record { tests = size.tests ++ (must (nat_le (variables + size.value) MAX_VARIABLES) (Form at) ∷ []); value = size.value; next = size.next }
 
--- The code, behind its length. Nothing stands behind it.
+-- The code, after its length. Nothing stands after it.
 unfoldable pub code_field : List ℕ → ℕ → Parse (List ℕ)
 code_field bytes at =
     let count = u32_field bytes at in

@@ -12,7 +12,7 @@ use crate::places::{read_place, read_variables};
 use cil_model::{CalleeInfo, List};
 use std::alloc::Global;
 
-/// The callee at this offset, and the offset behind it.
+/// The callee at this offset, and the offset after it.
 #[tactic(auto, using(cc_base::proofs::TestLemmas::appended, cc_base::proofs::TestLemmas::carried), unfolding(crate::specs::Callees::callee_field))]
 fn read_callee(alloc: Global, bytes: &[u8], at: u32) -> Result<(CalleeInfo, u32), FieldRefusal>
     requires short { length bytes.now ≤ 2147483647 }
@@ -31,7 +31,7 @@ fn read_callee(alloc: Global, bytes: &[u8], at: u32) -> Result<(CalleeInfo, u32)
     Ok((callee, at))
 }
 
-/// So many callees from this offset on, the offsets at which they begin, and the offset behind them.
+/// So many callees from this offset on, the offsets at which they begin, and the offset after them.
 #[tactic(auto, using(crate::proofs::Counted::none_read, crate::proofs::Counted::all_read, crate::proofs::CalleesRead::offsets_left))]
 pub fn read_callees(
     alloc: Global,

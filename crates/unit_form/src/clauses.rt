@@ -29,7 +29,8 @@ fn kind_of_number(number: u8) -> Option<ClauseKind>
     }
 }
 
-/// Whether a clause of a method of these arguments and this result may have the tree, behind clauses with so many old
+/// Returns whether a clause of a method of these arguments and this result may have the tree, after clauses with so
+/// many old
 /// values.
 fn is_clause_tree(
     tree: &Tree,
@@ -70,7 +71,7 @@ fn kept_tree(
     Ok(None)
 }
 
-/// The tree of a clause at this offset, and the offset behind it.
+/// The tree of a clause at this offset, and the offset after it.
 #[tactic(auto, using(crate::proofs::ClausesRead::kept_small, crate::proofs::ClausesRead::kept_read, crate::proofs::ClausesRead::kept_refused, crate::proofs::ClausesRead::tree_cut))]
 fn read_tree(
     alloc: Global,
@@ -94,8 +95,9 @@ fn read_tree(
     }
 }
 
-/// The clause at this offset, of a method of these arguments and this result, behind clauses with so many old values; and
-/// the offset behind it.
+/// The clause at this offset, of a method of these arguments and this result, after clauses with so many old values;
+/// and
+/// the offset after it.
 #[tactic(auto, using(cc_base::proofs::TestLemmas::appended, cc_base::proofs::TestLemmas::first_tests, cc_base::proofs::TestLemmas::carried), unfolding(crate::specs::Callees::clause_field))]
 fn read_clause(
     alloc: Global,
@@ -118,7 +120,7 @@ fn read_clause(
     Ok((Clause { kind, tree }, next))
 }
 
-/// So many clauses of a method of these arguments and this result, from this offset on, and the offset behind them.
+/// So many clauses of a method of these arguments and this result, from this offset on, and the offset after them.
 #[tactic(auto, using(crate::proofs::Counted::none_read, crate::proofs::Counted::all_read))]
 fn read_each(
     alloc: Global,
@@ -145,7 +147,7 @@ fn read_each(
     Ok((clauses, at))
 }
 
-/// The clauses of a method of these arguments and this result, behind their count, and the offset behind them.
+/// The clauses of a method of these arguments and this result, after their count, and the offset after them.
 #[tactic(auto, using(cc_base::proofs::TestLemmas::appended, cc_base::proofs::TestLemmas::first_tests, cc_base::proofs::TestLemmas::carried), unfolding(crate::specs::Callees::clauses_field, crate::specs::Fields::u8_field))]
 pub fn read_clauses(
     alloc: Global,

@@ -8,7 +8,7 @@ ghost use Rattle.unit_form.specs.Parses.{IsRead};
 use crate::field_fault::FieldFault;
 use crate::numbers::{bytes_field, u16_field};
 
-/// Whether a byte may stand in a name: a graphic character of ASCII.
+/// Returns whether a byte may stand in a name: a graphic character of ASCII.
 fn is_graphic(byte: u8) -> bool
     ensures { result ≡ is_graphic byte }
 {
@@ -29,7 +29,7 @@ fn check_graphic(at: u32, text: &[u8]) -> Result<(), FieldFault>
     Ok(())
 }
 
-/// A name, behind its length, and the offset behind it.
+/// A name, after its length, and the offset after it.
 #[tactic(auto, using(cc_base::proofs::TestLemmas::appended), unfolding(crate::specs::Fields::name_field))]
 pub fn read_name(bytes: &[u8], at: u32) -> Result<(&[u8], u32), FieldFault>
     requires short { length bytes.now ≤ 2147483647 }

@@ -34,7 +34,7 @@ fn read_variable(bytes: &[u8], at: u32) -> Result<Place, FieldFault>
     Ok(place)
 }
 
-/// The places of so many variables, and the offset behind them.
+/// The places of so many variables, and the offset after them.
 #[tactic(auto, using(crate::proofs::Counted::read_next, crate::proofs::Counted::read_fault, crate::proofs::Counted::all_read, crate::proofs::Counted::none_read))]
 fn read_each(
     alloc: Global,
@@ -56,7 +56,7 @@ fn read_each(
     Ok((places, at))
 }
 
-/// The places of variables, behind their count, and the offset behind them. There are so many other variables of the
+/// The places of variables, after their count, and the offset after them. There are so many other variables of the
 /// method.
 #[tactic(auto, using(cc_base::proofs::TestLemmas::appended, cc_base::proofs::TestLemmas::first_tests, cc_base::proofs::TestLemmas::carried), unfolding(crate::specs::Fields::variables_field, crate::specs::Fields::u8_field))]
 pub fn read_variables(

@@ -22,7 +22,7 @@ pub enum Root {
 }
 
 impl Root {
-    /// How many trees stand below it.
+    /// Returns how many trees stand below it.
     pub fn arity(self) -> usize
         ensures arity { result ≡ arity (told self) }
         ensures few { result ≤ 3 }

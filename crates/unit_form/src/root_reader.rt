@@ -13,7 +13,7 @@ use crate::numbers::{bytes_field, u8_field};
 use crate::root::{Root, operator_of_byte, unary_of_byte};
 use cil_model::Place;
 
-/// How many bytes the operand behind a tag has.
+/// Returns how many bytes the operand after a tag has.
 fn operand_size(tag: u8) -> u32
     ensures { result ≡ operand_size tag }
 {
@@ -62,7 +62,7 @@ fn root_of(tag: u8, operand: &[u8]) -> Option<Root>
     }
 }
 
-/// The root of a tag whose operand stands at this offset, and the offset behind it.
+/// The root of a tag whose operand stands at this offset, and the offset after it.
 #[tactic(auto, using(crate::proofs::Operands::operand_cut, crate::proofs::Operands::operand_broken, crate::proofs::Operands::operand_read))]
 fn read_operand(bytes: &[u8], at: u32, tag: u8) -> Result<(Root, u32), FieldFault>
     requires short { length bytes.now ≤ 2147483647 }
@@ -76,14 +76,14 @@ fn read_operand(bytes: &[u8], at: u32, tag: u8) -> Result<(Root, u32), FieldFaul
     }
 }
 
-/// Whether a byte is the tag of a root.
+/// Returns whether a byte is the tag of a root.
 fn is_tag(tag: u8) -> bool
     ensures { result ≡ is_tag tag }
 {
     tag >= 1 && tag <= 10
 }
 
-/// The root at this offset, and the offset behind it.
+/// The root at this offset, and the offset after it.
 #[tactic(auto, using(cc_base::proofs::TestLemmas::appended, cc_base::proofs::TestLemmas::first_tests), unfolding(crate::specs::TreeFields::root_field))]
 pub fn read_root(bytes: &[u8], at: u32) -> Result<(Root, u32), FieldFault>
     requires short { length bytes.now ≤ 2147483647 }

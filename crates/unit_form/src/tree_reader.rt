@@ -22,7 +22,8 @@ fn keep(roots: &mut Vec<Root>, root: Root) -> Result<(), AllocError>
     Ok(())
 }
 
-/// The roots of the tree at an offset, in preorder, and the offset behind it. Of a tree with more roots than a clause may
+/// The roots of the tree at an offset, in preorder, and the offset after it. Of a tree with more roots than a clause
+/// may
 /// have nodes only so many are kept, and one more.
 #[tactic(auto, using(crate::proofs::RootsRead::reading))]
 pub fn read_roots(alloc: Global, bytes: &[u8], start: u32) -> Result<(Vec<Root>, u32), FieldRefusal>

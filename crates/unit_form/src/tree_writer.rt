@@ -47,7 +47,7 @@ fn unary_byte(operator: UnOp) -> u8
     }
 }
 
-/// Appends the constant behind its tag.
+/// Appends the constant after its tag.
 fn append_constant(out: &mut Vec<u8>, n: i32) -> Result<(), AllocError>
     ensures { OnOk result (out.new.items ≡ out.old.items ++ root_bytes (told (Root.Const n))) }
 {

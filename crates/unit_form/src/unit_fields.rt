@@ -25,7 +25,7 @@ pub struct UnitFields<'a> {
     pub result: Place,
     pub args: Vec<Place>,
     pub locals: Vec<Place>,
-    /// How many values the stack holds at most.
+    /// The number of values that the stack holds at most.
     pub max_stack: u8,
     /// The methods that the code calls.
     pub callees: Vec<CalleeInfo>,
@@ -70,7 +70,7 @@ fn read_max_stack(bytes: &[u8], at: u32, variables: usize) -> Result<u8, FieldFa
     Ok(size)
 }
 
-/// The code, behind its length. Nothing stands behind it.
+/// The code, after its length. Nothing stands after it.
 #[tactic(auto, using(cc_base::proofs::TestLemmas::appended, cc_base::proofs::TestLemmas::first_tests), unfolding(crate::specs::UnitFields::code_field))]
 fn read_code(bytes: &[u8], at: u32) -> Result<&[u8], FieldFault>
     requires short { length bytes.now ≤ 2147483647 }

@@ -10,7 +10,7 @@ use crate::tree_writer::append_tree;
 use cil_model::{CalleeInfo, Clause, ClauseKind, Place, Unit};
 use std::alloc::{AllocError, Global};
 
-/// Appends a name behind its length.
+/// Appends a name after its length.
 fn append_name(out: &mut Vec<u8>, name: &[u8]) -> Result<(), AllocError>
     requires short { length name.now < 2 ^ 16 }
     ensures { OnOk result (out.new.items ≡ out.old.items ++ name_bytes name.now) }
@@ -20,7 +20,7 @@ fn append_name(out: &mut Vec<u8>, name: &[u8]) -> Result<(), AllocError>
     Ok(())
 }
 
-/// Appends places behind their count.
+/// Appends places after their count.
 fn append_places(out: &mut Vec<u8>, places: &[Place]) -> Result<(), AllocError>
     requires few { length places.now < 2 ^ 8 }
     ensures { OnOk result (out.new.items ≡ out.old.items ++ places_bytes places.now) }
@@ -45,7 +45,7 @@ fn append_clause(out: &mut Vec<u8>, clause: &Clause) -> Result<(), AllocError>
     append_tree(out, &clause.tree)
 }
 
-/// Appends clauses behind their count.
+/// Appends clauses after their count.
 fn append_clauses(out: &mut Vec<u8>, clauses: &[Clause]) -> Result<(), AllocError>
     requires few { length clauses.now < 2 ^ 8 }
     requires args { AllByRecursion HasByteArgs clauses.now }

@@ -51,7 +51,7 @@ module _ {S : Type 0} (flow : Flow S) (states : List S) where
       ∙ ap (λ (t : Bool). incoming_by flow (places n) states block ++ map (behind flow states) (cond t (n ∷ []) [])) not_there
       ∙ append-nil (incoming_by flow (places n) states block))
 
-  -- The states that flow into blocks, with what is behind one more edge.
+  -- The states that flow into blocks, with what is after one more edge.
   pub merged_more : (n : ℕ) → flow.target n < flow.blocks
       → set (map (merged_by flow (places n) states) (places flow.blocks)) (flow.target n) (Some (joined flow.join (merged_by flow (places n) states (flow.target n)) (behind flow states n)))
       ≡ map (merged_by flow (places (n + 1)) states) (places flow.blocks)

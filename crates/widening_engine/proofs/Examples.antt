@@ -4,7 +4,7 @@ use Rattle.widening_engine.specs.Rounds.{Flow, all_unknown, first_inductive, is_
 
 -- ---- which states flow where
 
--- The edges 0 → 1, 1 → 0, 1 → 0 and 1 → 1 among three blocks, with a state of their own behind each.
+-- The edges 0 → 1, 1 → 0, 1 → 0 and 1 → 1 among three blocks, with a state of their own after each.
 crossing : Flow ℕ
 crossing = record {
   blocks = 3;
@@ -20,7 +20,7 @@ crossing = record {
   leq = nat_le;
 }
 
--- The entry comes first, and then what is behind the edges, in their order. Into the last block nothing flows.
+-- The entry comes first, and then what is after the edges, in their order. Into the last block nothing flows.
 in_order : next crossing (7 ∷ 7 ∷ 7 ∷ []) ≡ 134 ∷ 25 ∷ 7 ∷ []
 unfolding next crossing
 in_order = refl
@@ -99,7 +99,7 @@ at_once : first_inductive (turning 7 (λ a. a + 1) (λ a b. true)) ≡ 0 ∷ []
 unfolding turning first_inductive is_inductive round round_from next widened
 at_once = refl
 
--- What is behind an edge has to be included in the state of its target, and not the other way round.
+-- What is after an edge has to be included in the state of its target, and not the other way round.
 edge_tested : (is_inductive (turning 1 (λ a. a + 5) nat_le) (3 ∷ []) ≡ false) × (is_inductive (turning 1 (λ a. 2) nat_le) (3 ∷ []) ≡ true)
 unfolding turning is_inductive
 edge_tested = (refl, refl)

@@ -14,7 +14,7 @@ pub record Flow (S : Type 0) : Type 0 where
   pub entry : S
   pub nothing : S
   pub unknown : ℕ → S
-  -- The state behind an edge, from the one before it.
+  -- The state after an edge, from the one before it.
   pub along : S → ℕ → S
   pub join : S → S → S
   pub widen : S → S → S
@@ -44,7 +44,7 @@ all_unknown flow = for_each_block flow flow.unknown
 
 -- ---- what flows into a block
 
--- The state behind an edge, from that of its source.
+-- The state after an edge, from that of its source.
 abbrev pub behind : {S : Type 0} → Flow S → List S → ℕ → S
 behind flow states edge = flow.along (state_at flow states (flow.source edge)) edge
 
@@ -57,7 +57,7 @@ abbrev pub incoming_by : {S : Type 0} → Flow S → List ℕ → List S → ℕ
 incoming_by flow edges states block =
     entering flow block ++ map (behind flow states) (filter (λ edge. flow.target edge == block) edges)
 
--- What flows into a block: the state where the code begins, and then the one behind each edge to it, edges in order.
+-- What flows into a block: the state where the code begins, and then the one after each edge to it, edges in order.
 abbrev pub incoming : {S : Type 0} → Flow S → List S → ℕ → List S
 incoming flow states block = incoming_by flow (places flow.edges) states block
 
@@ -72,7 +72,7 @@ merge flow (a ∷ others) = fold flow.join a others
 unfoldable pub next : {S : Type 0} → Flow S → List S → List S
 next flow states = for_each_block flow (λ block. merge flow (incoming flow states block))
 
--- The edge goes back to the block, from it or from one behind.
+-- The edge goes back to the block, from it or from one after.
 abbrev pub goes_back : {S : Type 0} → Flow S → ℕ → ℕ → Bool
 goes_back flow block edge = flow.target edge == block && nat_le (flow.target edge) (flow.source edge)
 
@@ -96,7 +96,7 @@ round flow (suc n) = round_from flow (suc n) (round flow n)
 
 -- ---- where they settle
 
--- What is behind the edge is included in the state of its target.
+-- What is after the edge is included in the state of its target.
 abbrev pub is_carried : {S : Type 0} → Flow S → List S → ℕ → Bool
 is_carried flow states edge = flow.leq (behind flow states edge) (state_at flow states (flow.target edge))
 
@@ -104,7 +104,7 @@ is_carried flow states edge = flow.leq (behind flow states edge) (state_at flow 
 abbrev pub is_begun : {S : Type 0} → Flow S → List S → Bool
 is_begun flow states = flow.leq flow.entry (state_at flow states 0)
 
--- That is so, and what is behind each edge is included in the state of its target.
+-- That is so, and what is after each edge is included in the state of its target.
 unfoldable pub is_inductive : {S : Type 0} → Flow S → List S → Bool
 is_inductive flow states = is_begun flow states && list_all (is_carried flow states) (places flow.edges)
 

@@ -27,7 +27,7 @@ fn no_marks(alloc: Global, count: usize) -> Result<Vec<bool>, NoMemory>
     (0..count).map(|_| false).collect(alloc)
 }
 
-/// For each of so many blocks, whether it is the head of a loop: an edge goes back to it, from it or from one behind.
+/// For each of so many blocks, whether it is the head of a loop: an edge goes back to it, from it or from one after.
 ///
 /// Cost: one pass over the edges.
 pub(crate) fn heads(alloc: Global, count: usize, edges: &[Edge]) -> Result<Vec<bool>, NoMemory>

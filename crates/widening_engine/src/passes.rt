@@ -14,7 +14,7 @@ use std::alloc::Global;
 pub(crate) struct Pass<S> {
     /// For each block the join of the states that flow into it, if any do.
     pub merged: Vec<Option<S>>,
-    /// Whether all that flows into a block is included in its state.
+    /// True where all that flows into a block is included in its state.
     pub inductive: bool,
 }
 
@@ -46,7 +46,7 @@ fn merge<S: FlowState + Drop>(
     Ok(())
 }
 
-/// Whether that was so before, and the first state is included in the second.
+/// Returns whether that was so before, and the first state is included in the second.
 fn still_included<S: FlowState>(
     alloc: Global,
     before: bool,
@@ -158,11 +158,11 @@ fn states_of<S: FlowState + Drop>(alloc: Global, merged: Vec<Option<S>>) -> Resu
 pub(crate) struct Round<S> {
     /// The states a plain round later.
     pub next: Vec<S>,
-    /// Whether all that flows into a block is included in its state.
+    /// True where all that flows into a block is included in its state.
     pub inductive: bool,
 }
 
-/// Whether the states are inductive, and the states a plain round later.
+/// Returns whether the states are inductive, and the states a plain round later.
 ///
 /// Cost: one walk along each edge. The first state that flows into a block is moved, and each further one joined to it.
 pub(crate) fn next_round<S: FlowState + Drop>(

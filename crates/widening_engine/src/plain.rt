@@ -29,7 +29,7 @@ fn settled_states(alloc: Global, code: &UnitFlow) -> Result<Vec<UnitState>, NoMe
     limit::<UnitState>(alloc, code, &code.graph, &mut meter)
 }
 
-/// What is known in states of a unit.
+/// Returns what is known in states of a unit.
 fn known(alloc: Global, states: Vec<UnitState>) -> Result<Vec<AbsState>, NoMemory>
     ensures { IfOk result (λ known. known.items ≡ map (λ a. a.state) states.items) }
 {

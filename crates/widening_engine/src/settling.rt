@@ -147,7 +147,7 @@ fn settled<S: FlowState + Drop>(
 /// each block, nothing is known, and that is carried on in the same way. `NoMemory` where memory runs out.
 ///
 /// Cost: in each round one walk along each edge and one comparison for it, up to the first that fails; a join for each
-/// state that flows into a block behind another one, and one widening for each head. One state is kept for each block
+/// state that flows into a block after another one, and one widening for each head. One state is kept for each block
 /// in a round, and one in the next.
 pub fn limit<S: FlowState + Drop>(
     alloc: Global,

@@ -181,7 +181,7 @@ module _ (is : List Instr) (shape : Shape) (clauses : List Clause) (olds first s
         ∙ ap (λ b. if b then TooLong closed.call.at ∷ [] else []) large in
         whole ∙ by_size is shape start Told Code closed.call Rest closed.none closed.closes_it some lie no_fault limit
 
-    -- Where the clause has no fault, this is what is left behind it.
+    -- Where the clause has no fault, this is what is left after it.
     behind : (after : List Clause) (olds_after : ℕ) → limit_faults is start Told closed.call ≡ [] → with_clause is start Told (closing closed.call.op) ≡ map told_by_code after
         → Told ++ clause_before is start (closing closed.call.op) ≡ map told_by_code after → olds_after ≡ olds_of after → ClausesWithinLimits after
         → LeftBehind is shape after olds_after last

@@ -228,7 +228,7 @@ pub record IsCode (is : List Instr) (shape : Shape) (start : ℕ) (call : Instr)
 
 module _ (is : List Instr) (shape : Shape) (start : ℕ) (call : Instr) (code : IsCode is shape start call) (stacks : Stacks) (decoded : AreDecoded is)
     (kinds_of : KindsOf shape is stacks) where
-  -- The stack behind the call is empty.
+  -- The stack after the call is empty.
   abbrev BehindEmpty : Type 0
   BehindEmpty = stack_at is stacks (call.at + call.size) ≡ Some []
 
@@ -236,7 +236,7 @@ module _ (is : List Instr) (shape : Shape) (start : ℕ) (call : Instr) (code : 
   Reaches most = (at : ℕ) (told : List Told) (before : List Kind) → left is at ≤ most → start ≤ at → at ≤ call.at → stack_at is stacks at ≡ Some before
       → length told ≡ length before → faults_from most is shape call at told ≡ [] → BehindEmpty
 
-  -- What is wrong behind an instruction at an IL offset.
+  -- What is wrong after an instruction at an IL offset.
   abbrev faults_later : ℕ → ℕ → ℕ → List Told → List ClauseFault
   faults_later most at later told = if goes_forward at later call then faults_from most is shape call later told else []
 
@@ -314,6 +314,7 @@ module _ (is : List Instr) (shape : Shape) (start : ℕ) (call : Instr) (code : 
       let same : i.at ≡ at = found_at is at i found in
       subst (ReachesAt most) same (instr_reaches most (reaches most) i (ap (instr_at is) same ∙ found) (omega (arith, same, above))) told before few inside reached long none
 
-  -- Where the code begins with an empty stack and nothing is wrong on its ways, the stack behind its closing call is empty.
+  -- Where the code begins with an empty stack and nothing is wrong on its ways, the stack after its closing call is
+  -- empty.
   pub empty_behind : stack_at is stacks start ≡ Some [] → start ≤ call.at → way_faults is shape start call ≡ [] → BehindEmpty
   empty_behind empty inside none = reaches (length is) start [] [] (left_most is start) (omega arith) inside empty refl none

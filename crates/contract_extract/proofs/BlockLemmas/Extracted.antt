@@ -69,7 +69,7 @@ first_of_drop (i ∷ is) (suc first) = first_of_drop is first
 pub begins_there : (is : List Instr) (first start : ℕ) (i : Instr) → LieFrom start (drop first is) → slice_get is first ≡ Some i → i.at ≡ start
 begins_there is first start i lie there = starts_there start (drop first is) i lie (first_of_drop is first ∙ there)
 
--- Code lies before the call behind it.
+-- Code lies before the call after it.
 below_call : (start : ℕ) (code : List Instr) (call : Instr) (rest : List Instr) → LieFrom start (code ++ call ∷ rest) → (start ≤ call.at) × AllByRecursion (λ i. i.at ≤ call.at) (code ++ call ∷ [])
 below_call start [] call rest lie = (omega (arith, lie.0), (omega arith, tt))
 below_call start (i ∷ code) call rest lie =

@@ -1,4 +1,4 @@
--- Instructions that lie one behind another, by their IL offsets.
+-- Instructions that lie one after another, by their IL offsets.
 use Rattle.std.proofs.Common.{◌≡◌, ℕ, ◌+◌, ◌<◌, ◌≤◌, ◌==◌, Bool, true, false, ◌||◌, List, [], ◌∷◌, length, Option, Some, None, if◌then◌else◌, refl, sym, ap, subst, ◌∙◌, arith}
 use Rattle.std.proofs.lemmas.Bool.{cond_both, eqb-true, eq-eqb, ne_eqb, false≢true, or_right, or_left}
 use Rattle.std.proofs.lemmas.Option.{none-some, same_Some}

@@ -8,7 +8,7 @@ use Rattle.contract_extract.specs.SharedStacks.{either}
 use Rattle.contract_extract.specs.declared.faults.clause_fault.ClauseFault.{ClauseFault}
 use Rattle.contract_extract.proofs.FaultLemmas.Earliest.{either-assoc, either-none, first_fault-append}
 
--- The first of all faults is the first so far, or of those behind.
+-- The first of all faults is the first so far, or of those after.
 abbrev pub IsFirstSoFar : ℕ → List Instr → ℕ → Option ClauseFault → Type 0
 IsFirstSoFar start body n first = either first (first_fault (flat_map (body_faults start) (drop n body))) ≡ first_fault (flat_map (body_faults start) body)
 

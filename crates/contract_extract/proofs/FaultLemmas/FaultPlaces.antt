@@ -39,7 +39,7 @@ module _ (most : ℕ) where
   within_between low high [] le all = tt
   within_between low high (f ∷ faults) le all = (omega (arith, le, all.0.1), within_between low high faults le all.1)
 
-  -- ---- the ways of a clause whose code begins behind its closing call: they end where they begin
+  -- ---- the ways of a clause whose code begins after its closing call: they end where they begin
 
   no_ways : (f : ℕ → List ClauseFault) (ats : List ℕ) → ((at : ℕ) → Within (f at)) → Within (flat_map f ats)
   no_ways f [] each = tt

@@ -26,7 +26,7 @@ first_of last operations = first_fault (all_of last operations)
 
 -- ---- one fault
 
--- Nothing, a dup, a branch to itself, a value too many, a third operand of a message, a branch behind the closing call.
+-- Nothing, a dup, a branch to itself, a value too many, a third operand of a message, a branch after the closing call.
 alone :
     (first_of 1 ((1, ops.Const (pos 1)) ∷ (5, ops.Call 1) ∷ []) ≡ None)
     × ((first_of 2 ((1, ops.Const (pos 1)) ∷ (1, ops.Dup) ∷ (5, ops.Call 1) ∷ []) ≡ Some (NotPure 1))

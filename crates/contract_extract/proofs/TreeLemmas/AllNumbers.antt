@@ -41,7 +41,7 @@ told_numbers : (shape : Shape) (clauses : List Clause) → AllByRecursion (IsNum
 told_numbers shape [] all = tt
 told_numbers shape (clause ∷ clauses) all = (all.0, told_numbers shape clauses all.1)
 
--- ---- instructions that lie one behind another
+-- ---- instructions that lie one after another
 
 all_also : (P Q : Instr → Type 0) → ((i : Instr) → P i → Q i) → (is : List Instr) → AllByRecursion P is → AllByRecursion Q is
 all_also P Q to [] all = tt
@@ -127,7 +127,7 @@ module _ (is : List Instr) (shape : Shape) (stacks : Stacks) (short : AreOfShort
         here_or_before j found below =
             subst (λ (n : ℕ). (j.at < n) ⊎ (i ≡ j)) reading.lie.0 (found_below is i j short reading.there.0 found (omega (arith, below, reading.lie.0)))
 
-    -- The code of the next clause begins behind a closing call.
+    -- The code of the next clause begins after a closing call.
     closed : stack_at is stacks (i.at + i.size) ≡ Some [] → Reading (i.at + i.size) (from + i.size) rest
     closed empty = record {
       lie = reading.lie.1;

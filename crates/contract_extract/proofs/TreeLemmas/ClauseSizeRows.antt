@@ -20,7 +20,7 @@ abbrev chained : ℕ → Term
 chained zero = Const (pos 1)
 chained (suc n) = Cond (Arg 0) (chained n) (Const (pos 0))
 
--- So many conditions, one behind another, whose sides are the same.
+-- So many conditions, one after another, whose sides are the same.
 abbrev doubled : ℕ → Term → Term
 doubled zero leaf = leaf
 doubled (suc n) leaf = Cond (Arg 0) (doubled n leaf) (doubled n leaf)

@@ -286,7 +286,7 @@ filled : (count : ℕ) (items : List Item) → drop count (replicate count Messa
 filled zero items = refl
 filled (suc count) items = filled count items
 
--- Other items behind an operation of which all is dropped.
+-- Other items after an operation of which all is dropped.
 pub record Others (op : Op) (count : ℕ) (items : List Item) : Type 0 where
   pub others : List Item
   pub same : cut 0 (count + takes op) items ≡ cut 0 (suc count) others

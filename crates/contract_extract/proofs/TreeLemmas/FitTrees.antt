@@ -118,7 +118,7 @@ module _ (shape : Shape) (ensured : Bool) where
   with_calls : (i : Instr) (inside : List ℕ) (tree : Term) (kind : Kind) → Fits inside tree kind → Fits (calls_with i inside) tree kind
   with_calls i inside tree kind fits = record { own = fits.own; is = fits.is; plain = λ none. fits.plain (no_calls i inside none); under = fits.under }
 
-  -- Of one value, which stands there with nothing behind it.
+  -- Of one value, which stands there with nothing after it.
   one_inside : (i : Instr) (told : List ℕ) (tree : Term) (kind : Kind) → Fits told tree kind → Fits (calls_with i (told ++ [])) tree kind
   one_inside i told tree kind fits = record {
     own = fits.own;

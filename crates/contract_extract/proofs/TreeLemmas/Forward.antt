@@ -1,4 +1,5 @@
--- The tree from an IL offset on, without the bound on the instructions: in code that lies one behind another, as many as it
+-- The tree from an IL offset on, without the bound on the instructions: in code that lies one after another, as many
+-- as it
 -- has are enough.
 use Rattle.std.proofs.Common.{◌≡◌, ℕ, zero, suc, ◌<◌, ◌≤◌, Bool, true, false, nat_lt, List, length, Option, Some, None, if◌then◌else◌, refl, sym, ap, ◌∙◌, arith}
 use Rattle.std.specs.Option.{option_and_then}
@@ -12,7 +13,7 @@ use Rattle.contract_extract.specs.Growth.{forward, onward, tree_here}
 use Rattle.contract_extract.proofs.BlockLemmas.InstrOffsets.{found_at, left, left_falls, left_most, left_some, none_left}
 use mathlib.Core.Path.{fun_ext}
 
--- Two ways to go on that agree behind an offset make one tree there.
+-- Two ways to go on that agree after an offset make one tree there.
 agree : (from other : ℕ → List Item → Option Term) (at : ℕ) → ((later : ℕ) (items : List Item) → at < later → from later items ≡ other later items)
     → onward from at ≡ onward other at
 agree from other at same = fun_ext (λ (later : ℕ). fun_ext (λ (items : List Item). by later items (nat_lt at later) (λ e. same later items (ltb-true at later e))))

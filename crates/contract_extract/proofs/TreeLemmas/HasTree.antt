@@ -176,7 +176,8 @@ closed_some true (top ∷ a ∷ b ∷ items) long trees = absurd (omega (arith, 
 
 -- ---- one instruction
 
--- What tells that nothing is wrong at an instruction that closes nothing: it has its operands, and nothing is wrong behind it.
+-- What tells that nothing is wrong at an instruction that closes nothing: it has its operands, and nothing is wrong
+-- after it.
 pub none_here : (closes pure lacks : Bool) (found here behind : List ClauseFault) (lack : ClauseFault) → closes ≡ false → pure ≡ true
     → (if closes then found else if not pure then [] else if lacks then lack ∷ [] else (here ++ behind)) ≡ []
     → (lacks ≡ false) × (behind ≡ [])
@@ -203,7 +204,7 @@ pub record Onward (is : List Instr) (at last later : ℕ) : Type 0 where
 module _ (is : List Instr) (shape : Shape) (last : ℕ) (allowed : ℕ → Bool) (faults : ℕ → List Told → List ClauseFault) (from : ℕ → List Item → Option Term) (i : Instr)
     (later_has : (later : ℕ) (told : List Told) (items : List Item) → Onward is i.at last later → length told ≡ length items → AreTreesBelow (allowed later) items
     → faults later told ≡ [] → IsSome (from later items)) where
-  -- What is wrong behind an operation.
+  -- What is wrong after an operation.
   abbrev wrong_behind : Op → List Told → List ClauseFault
   wrong_behind op told = flat_map (λ later. faults later (stack_behind shape i op told)) (ways_behind op (i.at + i.size))
 

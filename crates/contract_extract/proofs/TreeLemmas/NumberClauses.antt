@@ -167,7 +167,7 @@ closing_none : (op : Op) → closes op ≡ false → closing op ≡ None
 closing_none (ops.Call number) e = call_stays (unit_call number) e
 closing_none _ e = refl
 
--- What no fault at an open instruction tells: it has its operands, and nothing is wrong here or behind.
+-- What no fault at an open instruction tells: it has its operands, and nothing is wrong here or after.
 all_here : (closes pure lacks : Bool) (found here behind_it : List ClauseFault) (lack : ClauseFault) → closes ≡ false → pure ≡ true
     → (if closes then found else if not pure then [] else if lacks then lack ∷ [] else (here ++ behind_it)) ≡ []
     → (here ≡ []) × (behind_it ≡ [])

@@ -1,4 +1,5 @@
--- What is wrong from an instruction on, with all stacks that come there: what is wrong at it, and what is wrong behind it.
+-- What is wrong from an instruction on, with all stacks that come there: what is wrong at it, and what is wrong after
+-- it.
 use Rattle.std.proofs.Common.{◌≡◌, ℕ, zero, suc, ◌+◌, ◌≤◌, ◌==◌, Bool, true, false, not, List, [], ◌∷◌, length, Option, Some, None, refl, sym, ap, cond, ◌∙◌, arith}
 use Rattle.std.specs.Prelude.{nat_lt}
 use Rattle.std.specs.List.{list_any}

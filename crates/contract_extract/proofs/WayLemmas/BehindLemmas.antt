@@ -1,4 +1,4 @@
--- What is made behind an instruction stands for the stacks there.
+-- What is made after an instruction stands for the stacks there.
 use Rattle.std.proofs.Common.{◌≡◌, ℕ, suc, ◌<◌, Bool, true, false, not, ◌&&◌, List, [], ◌∷◌, length, Option, Some, None, refl, sym, ap, subst, cond, ◌∙◌, arith}
 use Rattle.std.specs.List.{flat_map}
 use Rattle.cil_model.specs.UnitCalls.{unit_call}

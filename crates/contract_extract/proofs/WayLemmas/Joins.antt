@@ -187,7 +187,7 @@ on_joins from shape i joins a b c j =
     ∙ either-turn (here a) (here b) (least (later_fault a) ways) (least (later_fault b) ways)
     ∙ sym (either-both (first_on from shape i a) (first_on from shape i b))
 
--- What is wrong at an instruction that takes so many values of so many, and behind it this.
+-- What is wrong at an instruction that takes so many values of so many, and after it this.
 abbrev choice : ℕ → ℕ → Bool → Bool → ℕ → List ClauseFault → List ClauseFault
 choice at count closing impure found rest =
     cond closing (closing_faults at count found) (cond impure [] (cond (nat_lt found count) (StackLeft at ∷ []) rest))

@@ -1,4 +1,4 @@
--- How instructions lie that come one behind another.
+-- How instructions lie that come one after another.
 use Rattle.std.proofs.Common.{◌≡◌, ℕ, zero, suc, ◌+◌, ◌<◌, ◌≤◌, ◌==◌, ◌^◌, true, false, List, [], ◌∷◌, take, drop, Some, slice_get, refl, ap, add-one, arith}
 use Rattle.std.proofs.lemmas.Bool.{ne_eqb, eq-eqb}
 use Rattle.std.proofs.lemmas.Option.{none-some, same_Some}
@@ -37,7 +37,7 @@ next_from start (j ∷ is) (suc k) i lie there =
     let test : (j.at == (i.at + i.size)) ≡ false = ne_eqb j.at (i.at + i.size) (λ f. omega (arith, lie.0, lie.1, (has_bytes (start + j.size) is k i lie.3 there).0)) in
     rw test (next_from (start + j.size) is k i lie.3 there)
 
--- The instruction behind another one is the next of the list.
+-- The instruction after another one is the next of the list.
 pub next_there : (is : List Instr) (k : ℕ) (i : Instr) → LieInOrder is → slice_get is k ≡ Some i → instr_at is (i.at + i.size) ≡ slice_get is (k + 1)
 next_there is k i lies there = rw add-one (next_from 0 is k i lies.lie there)
 

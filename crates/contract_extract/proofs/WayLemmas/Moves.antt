@@ -1,4 +1,4 @@
--- The stacks behind an instruction are those for which the arrivals behind it stand.
+-- The stacks after an instruction are those for which the arrivals after it stand.
 use Rattle.std.proofs.Common.{◌≡◌, ℕ, suc, ◌≤◌, Bool, true, false, List, [], ◌∷◌, length, take, drop, Option, Some, None, refl, sym, ap, cond, ◌∙◌, arith}
 use Rattle.std.specs.Prelude.{nat_lt}
 use Rattle.std.specs.List.{flat_map}

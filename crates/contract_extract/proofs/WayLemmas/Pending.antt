@@ -112,7 +112,7 @@ module _ (code : List Instr) (index later : ℕ) (out : List Arrival) (old new :
       let test : nat_lt index m ≡ false = le-ltb index m (omega arith) in
       sent.come m ∙ rw test refl
 
-  -- What comes to an instruction that lies behind.
+  -- What comes to an instruction that lies after.
   sent_here : (other : ℕ) (i : Instr) → index < other → slice_get code other ≡ Some i
       → arrivals_at new other ≡ cond (i.at == later) (arrivals_at old other ++ out) (arrivals_at old other)
   sent_here other i behind is =

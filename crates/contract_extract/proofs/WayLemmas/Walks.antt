@@ -25,7 +25,7 @@ module _ (is : List Instr) (shape : Shape) (closing : Instr) where
   walk (i ∷ rest) at stack =
       cond (i.at == at) (faults_at (λ later behind. cond (goes_forward at later closing) (walk rest later behind) []) is shape i stack) (walk rest at stack)
 
-  -- The same behind an instruction, where a way may go on so.
+  -- The same after an instruction, where a way may go on so.
   abbrev pub ahead : ℕ → List Instr → ℕ → List Told → List ClauseFault
   ahead at rest later stack = cond (goes_forward at later closing) (walk rest later stack) []
 
@@ -67,7 +67,7 @@ module _ (is : List Instr) (shape : Shape) (closing : Instr) where
   forward : (at later : ℕ) → goes_forward at later closing ≡ true → (at < later) × (later ≤ closing.at)
   forward at later e = let parts = and_parts (nat_lt at later) (nat_le later closing.at) e in (ltb-true at later parts.0, leb-true later closing.at parts.1)
 
-  -- What is found behind an instruction.
+  -- What is found after an instruction.
   tail_has : (low : ℕ) (i : Instr) (rest : List Instr) → low ≤ i.at → Has low (i ∷ rest) → Has (suc i.at) rest
   tail_has low i rest le has at above inside =
       has at (omega arith) inside ∙ (let test : (i.at == at) ≡ false = ne_eqb i.at at (λ e. omega arith) in rw test refl)

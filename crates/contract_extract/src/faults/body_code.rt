@@ -1,4 +1,4 @@
-//! What is wrong with the body of a method, behind the contract block.
+//! What is wrong with the body of a method, after the contract block.
 
 ghost use Rattle.std.specs.Prelude.{◌≡◌, ◌||◌, flat_map, nat_lt, true, false};
 ghost use Rattle.std.specs.List.{list_any};
@@ -13,14 +13,14 @@ use crate::faults::own_faults::branch_targets;
 use crate::ways::made_values::asked_by;
 use cil_model::{Instr, Op};
 
-/// Whether an operation of the body branches into the block before it.
+/// Returns whether an operation of the body branches into the block before it.
 fn goes_into_block(start: u32, op: &Op) -> bool
     ensures { result ≡ list_any (λ target. nat_lt target start) (branch_targets op.now) }
 {
     branch_targets(op).iter().any(|target| *target < start)
 }
 
-/// Whether an operation is a call of `Result` or `OldValue`.
+/// Returns whether an operation is a call of `Result` or `OldValue`.
 fn asks(op: &Op) -> bool
     ensures { result ≡ option_map_or (λ place. true) (asked_by op.now) false }
 {

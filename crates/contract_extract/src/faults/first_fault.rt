@@ -34,7 +34,7 @@ fn fault_rank(fault: ClauseFault) -> u8
     }
 }
 
-/// Whether the one fault comes before the other.
+/// Returns whether the one fault comes before the other.
 fn comes_before(a: ClauseFault, b: ClauseFault) -> bool
     ensures { result ≡ comes_before a b }
 {

@@ -6,7 +6,7 @@ ghost use Rattle.contract_extract.specs.SharedStacks.{arrivals_at, differs, lack
 
 use crate::ways::arrivals::{Arrival, Arrivals, arrivals_at};
 
-/// Whether a stack for which the arrival stands has fewer values than this.
+/// Returns whether a stack for which the arrival stands has fewer values than this.
 #[cycle(lacks)]
 #[tactic(auto, using(crate::proofs::FaultLemmas::HeightLemmas::lacking))]
 fn lacks(stacks: &[Arrivals], count: usize, top: Arrival) -> bool
@@ -21,7 +21,7 @@ fn lacks(stacks: &[Arrivals], count: usize, top: Arrival) -> bool
     }
 }
 
-/// Whether some stack has fewer values than this.
+/// Returns whether some stack has fewer values than this.
 #[cycle(lacks)]
 pub(crate) fn any_lacks(stacks: &[Arrivals], count: usize, tops: &[Arrival]) -> bool
     ensures { result ≡ list_any (λ top. lacks count stacks.now top) tops.now }
@@ -37,7 +37,7 @@ pub(crate) fn any_lacks(stacks: &[Arrivals], count: usize, tops: &[Arrival]) -> 
     false
 }
 
-/// Whether a stack for which the arrival stands has fewer values than this, or more.
+/// Returns whether a stack for which the arrival stands has fewer values than this, or more.
 #[cycle(differs)]
 #[tactic(auto, using(crate::proofs::FaultLemmas::HeightLemmas::differing))]
 fn differs(stacks: &[Arrivals], count: usize, top: Arrival) -> bool
@@ -54,7 +54,7 @@ fn differs(stacks: &[Arrivals], count: usize, top: Arrival) -> bool
     }
 }
 
-/// Whether some stack has fewer values than this, or more.
+/// Returns whether some stack has fewer values than this, or more.
 #[cycle(differs)]
 pub(crate) fn any_differs(stacks: &[Arrivals], count: usize, tops: &[Arrival]) -> bool
     ensures { result ≡ list_any (λ top. differs count stacks.now top) tops.now }

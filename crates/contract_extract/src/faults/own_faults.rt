@@ -16,7 +16,7 @@ use crate::ways::made_values::asked_by;
 use cil_model::{Instr, Op, Place, Shape, UnitCall, unit_call};
 use std::slice;
 
-/// Whether the operation closes a clause, or the contract block.
+/// Returns whether the operation closes a clause, or the contract block.
 pub(crate) fn closes(op: &Op) -> bool
     ensures { result ≡ closes op.now }
 {
@@ -29,7 +29,7 @@ pub(crate) fn closes(op: &Op) -> bool
     }
 }
 
-/// Whether the operation closes a `Requires`.
+/// Returns whether the operation closes a `Requires`.
 fn closes_requires(op: &Op) -> bool
     ensures { result ≡ is_requires (closing op.now) }
 {
@@ -39,7 +39,7 @@ fn closes_requires(op: &Op) -> bool
     }
 }
 
-/// Whether the operation is a call of `OldValue`.
+/// Returns whether the operation is a call of `OldValue`.
 fn is_old_value(op: &Op) -> bool
     ensures { result ≡ is_old_value op.now }
 {
@@ -60,14 +60,14 @@ pub(crate) fn branch_targets(op: &Op) -> &[u32]
     }
 }
 
-/// Whether one of the offsets is this one, or lies below it.
+/// Returns whether one of the offsets is this one, or lies below it.
 fn goes_back(at: u32, targets: &[u32]) -> bool
     ensures { result ≡ list_any (λ target. nat_le target at) targets.now }
 {
     targets.iter().any(|target| *target <= at)
 }
 
-/// Whether one of the offsets lies outside these.
+/// Returns whether one of the offsets lies outside these.
 fn goes_out(start: u32, end: u32, targets: &[u32]) -> bool
     ensures { result ≡ list_any (λ target. nat_lt target start || nat_lt end target) targets.now }
 {
@@ -90,7 +90,8 @@ fn branch_fault(start: u32, closing: &Instr, instr: &Instr) -> Option<ClauseFaul
     )
 }
 
-/// Whether a `Result` or an `OldValue` stands in a `Requires`, or a `Result` is of another place than the method's.
+/// Returns whether a `Result` or an `OldValue` stands in a `Requires`, or a `Result` is of another place than the
+/// method's.
 fn is_misplaced(result_place: Place, closing_op: &Op, instr: &Instr) -> bool
     ensures { result ≡ is_misplaced result_place (closing closing_op.now) instr.now }
 {

@@ -25,7 +25,7 @@ pub(crate) struct Ahead {
     pub(crate) dropped: Dropped,
 }
 
-/// What is known of an instruction by itself: that it works, and that a closing call drops its message.
+/// Returns what is known of an instruction by itself: that it works, and that a closing call drops its message.
 fn own_ahead(instr: &Instr) -> Ahead
     ensures { result ≡ own_ahead instr.now }
 {
@@ -39,7 +39,7 @@ fn own_ahead(instr: &Instr) -> Ahead
     }
 }
 
-/// What lies ahead of a later IL offset, where an instruction begins there.
+/// Returns what lies ahead of a later IL offset, where an instruction begins there.
 fn ahead_at(instrs: &[Instr], ahead: &[Ahead], at: u32, later: u32) -> Option<Ahead>
     requires lie { AreOfShortCode instrs.now }
     requires long { length ahead.now ≡ length instrs.now }
@@ -51,7 +51,7 @@ fn ahead_at(instrs: &[Instr], ahead: &[Ahead], at: u32, later: u32) -> Option<Ah
     Some(ahead[index])
 }
 
-/// Where the way goes on behind an instruction that makes no part of a tree.
+/// Where the way goes on after an instruction that makes no part of a tree.
 fn idle_to(instr: &Instr) -> Option<u32>
     requires { IsOfShortCode instr.now }
     ensures { result ≡ idle_to instr.now.op (instr.now.at + instr.now.size) }
@@ -63,7 +63,7 @@ fn idle_to(instr: &Instr) -> Option<u32>
     }
 }
 
-/// What lies ahead of an instruction that makes a value, from what lies ahead of the next one.
+/// Returns what lies ahead of an instruction that makes a value, from what lies ahead of the next one.
 #[tactic(auto, using(crate::proofs::TreeLemmas::Looking::own_lies))]
 fn before_value(instr: &Instr, next: Ahead) -> Ahead
     requires short { IsOfShortCode instr.now }
@@ -97,7 +97,7 @@ fn before_value(instr: &Instr, next: Ahead) -> Ahead
     }
 }
 
-/// What lies ahead of a branch that goes two ways, from what lies ahead on both.
+/// Returns what lies ahead of a branch that goes two ways, from what lies ahead on both.
 fn before_branch(instr: &Instr, target: Ahead, next: Ahead) -> Ahead
     requires short { IsOfShortCode instr.now }
     ensures { (is : List Instr) (ahead : List Ahead) (to : ℕ) → AreOfShortCode is → AreAhead is ahead → jump_of instr.now.op ≡ Some to
@@ -109,7 +109,7 @@ fn before_branch(instr: &Instr, target: Ahead, next: Ahead) -> Ahead
     }
 }
 
-/// What lies ahead of an instruction that does not close the clause.
+/// Returns what lies ahead of an instruction that does not close the clause.
 #[tactic(auto, using(crate::proofs::TreeLemmas::Looking::own_lies))]
 fn before_next(instrs: &[Instr], ahead: &[Ahead], instr: &Instr) -> Ahead
     requires lie { AreOfShortCode instrs.now }
@@ -131,7 +131,7 @@ fn before_next(instrs: &[Instr], ahead: &[Ahead], instr: &Instr) -> Ahead
     }
 }
 
-/// What lies ahead of the instruction of this index, from what lies ahead of the later ones.
+/// Returns what lies ahead of the instruction of this index, from what lies ahead of the later ones.
 #[tactic(auto, using(crate::proofs::TreeLemmas::Looking::own_lies))]
 fn ahead_of(instrs: &[Instr], ahead: &[Ahead], index: usize) -> Ahead
     requires lie { AreOfShortCode instrs.now }
@@ -153,7 +153,7 @@ fn ahead_of(instrs: &[Instr], ahead: &[Ahead], index: usize) -> Ahead
     }
 }
 
-/// What is known of each instruction by itself.
+/// Returns what is known of each instruction by itself.
 fn all_own(alloc: Global, instrs: &[Instr]) -> Result<Vec<Ahead>, AllocError>
     ensures { IfOk result (λ ahead. ahead.items ≡ map own_ahead instrs.now) }
 {

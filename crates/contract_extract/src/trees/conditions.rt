@@ -16,7 +16,7 @@ use std::alloc::{AllocError, Global};
 #[derive(Drop)]
 pub(crate) struct Condition {
     pub(crate) tree: Tree,
-    /// Whether the branch goes where the tree is not true.
+    /// True where the branch goes where the tree is not true.
     pub(crate) turned: bool,
 }
 
@@ -84,7 +84,7 @@ pub(crate) fn take_condition(
 }
 
 impl Condition {
-    /// What limits leave for the trees on both sides of the condition, if anything.
+    /// Returns what limits leave for the trees on both sides of the condition, if anything.
     pub(crate) fn leaves(&self, limits: Limits) -> Option<Limits>
         ensures { MatchOption result (is_full self.now limits ≡ true) (IsLeft self.now limits) }
     {

@@ -18,7 +18,8 @@ pub(crate) struct Dropped {
 /// Nothing is dropped.
 pub(crate) const NOTHING: Dropped = Dropped { above: 0, count: 0 };
 
-/// How many values an operation takes that a clause may have, if the stack has them. A closing call counts as none.
+/// Returns how many values an operation takes that a clause may have, if the stack has them. A closing call counts as
+/// none.
 pub(crate) fn takes(op: &Op) -> usize
     ensures { result ≡ takes op.now }
 {
@@ -34,7 +35,7 @@ pub(crate) fn takes(op: &Op) -> usize
     }
 }
 
-/// How many values it makes.
+/// Returns how many values it makes.
 pub(crate) fn makes(op: &Op) -> usize
     ensures { result ≡ makes op.now }
 {
@@ -57,7 +58,7 @@ pub(crate) fn below(dropped: Dropped, more: usize) -> Dropped
     }
 }
 
-/// What both drop.
+/// Returns what both drop.
 pub(crate) fn both(a: Dropped, b: Dropped) -> Dropped
     ensures first { IsWithin result a }
     ensures second { IsWithin result b }

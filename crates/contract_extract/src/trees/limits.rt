@@ -19,6 +19,6 @@ pub(crate) struct Limits {
 #[derive(Drop)]
 pub(crate) struct Grown {
     pub(crate) tree: Tree,
-    /// How many more nodes it might have.
+    /// The number of nodes that it might have more.
     pub(crate) nodes_left: usize,
 }

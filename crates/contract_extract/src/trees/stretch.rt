@@ -17,7 +17,7 @@ use crate::trees::tree_stack::{TreeStack, apply};
 use cil_model::{Instr, Op, Test, UnitCall, unit_call};
 use std::alloc::{AllocError, Global};
 
-/// Whether the call that closes a clause takes a message, if the operation is such a call.
+/// Returns whether the call that closes a clause takes a message, if the operation is such a call.
 pub(crate) fn closing_message(op: &Op) -> Option<bool>
     ensures { result ≡ option_map (λ closed. closed.1) (closing op.now) }
 {
@@ -30,7 +30,7 @@ pub(crate) fn closing_message(op: &Op) -> Option<bool>
     }
 }
 
-/// Whether a stretch ends at the operation.
+/// Returns whether a stretch ends at the operation.
 fn ends_stretch(op: &Op) -> bool
     ensures { result ≡ ends_stretch op.now }
 {
@@ -65,7 +65,7 @@ pub(crate) struct Working<'a> {
     pub(crate) dropped: Dropped,
 }
 
-/// Makes the stack before an instruction the one behind it, and says where the way goes on, if the code of a clause may
+/// Makes the stack before an instruction the one after it, and says where the way goes on, if the code of a clause may
 /// have the instruction there.
 #[tactic(auto, using(crate::proofs::TreeLemmas::StackLemmas::jumps_on, crate::proofs::TreeLemmas::StackLemmas::lacks, crate::proofs::TreeLemmas::StackLemmas::goes_to))]
 fn step(alloc: Global, instr: &Instr, stack: &mut TreeStack) -> Result<Option<u32>, AllocError>
@@ -103,7 +103,7 @@ fn find_working<'a>(instrs: &'a [Instr], ahead: &[Ahead], at: u32) -> Option<Wor
     })
 }
 
-/// What is dropped of the stacks that come to an IL offset.
+/// Returns what is dropped of the stacks that come to an IL offset.
 #[tactic(auto, using(crate::proofs::TreeLemmas::Looking::dropped_found, crate::proofs::TreeLemmas::Looking::dropped_nowhere))]
 fn dropped_at(instrs: &[Instr], ahead: &[Ahead], at: u32) -> Dropped
     requires lie { AreOfShortCode instrs.now }
@@ -116,7 +116,8 @@ fn dropped_at(instrs: &[Instr], ahead: &[Ahead], at: u32) -> Dropped
     }
 }
 
-/// Makes the stack behind an instruction the one that comes to a later one: what is dropped on each way from there leaves it.
+/// Makes the stack after an instruction the one that comes to a later one: what is dropped on each way from there
+/// leaves it.
 pub(crate) fn arrive(
     instrs: &[Instr],
     ahead: &[Ahead],

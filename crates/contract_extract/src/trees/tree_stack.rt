@@ -134,7 +134,7 @@ pub(crate) fn take_two(alloc: Global, root: Pair, stack: &mut TreeStack) -> Resu
     Ok(true)
 }
 
-/// What a call inside a clause makes of the stack.
+/// Returns what a call inside a clause makes of the stack.
 fn take_call(
     alloc: Global,
     call: Option<UnitCall>,
@@ -152,14 +152,14 @@ fn take_call(
     }
 }
 
-/// Whether a tree is the top.
+/// Returns whether a tree is the top.
 fn has_tree(stack: &TreeStack) -> bool
     ensures { left_if result stack.now.items ≡ under_tree stack.now.items }
 {
     matches!(stack.front(), Some(Slot::Tree(_)))
 }
 
-/// Makes the stack before an operation that is no branch the one behind it, and says whether the code of a clause may
+/// Makes the stack before an operation that is no branch the one after it, and says whether the code of a clause may
 /// have the operation there.
 pub(crate) fn apply(alloc: Global, op: &Op, stack: &mut TreeStack) -> Result<bool, AllocError>
     ensures { IfOk result (λ fits. left_if fits stack.new.items ≡ slots_behind op.now stack.old.items) }

@@ -7,7 +7,7 @@ use cil_model::Kind;
 use std::alloc::{AllocError, Global};
 use std::marker::Model;
 
-/// A value on a stack, as its tree tells it.
+/// A value on a stack, by what its tree says.
 #[derive(Clone, Copy, Debug, PartialEq, Eq)]
 pub(crate) struct Seen {
     /// The kind of the tree, if it has one.
@@ -93,7 +93,7 @@ impl Arrivals {
     }
 }
 
-/// What comes to the instruction of this index: nothing, where there is none.
+/// Returns what comes to the instruction of this index: nothing, where there is none.
 pub(crate) fn arrivals_at(stacks: &[Arrivals], index: usize) -> &[Arrival]
     ensures { result.now ≡ arrivals_at stacks.now index }
 {

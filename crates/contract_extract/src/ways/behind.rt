@@ -1,4 +1,4 @@
-//! What arrivals become behind an instruction that takes operands.
+//! What arrivals become after an instruction that takes operands.
 
 ghost use Rattle.std.specs.Prelude.{◌≡◌, [], ◌++◌, IfOk, OnOk, if◌then◌else◌};
 ghost use Rattle.std.specs.List.{flat_map};
@@ -78,7 +78,7 @@ fn push_rests(out: &mut Arrivals, stacks: &[Arrivals], tops: &[Arrival]) -> Resu
     Ok(())
 }
 
-/// What the stacks below come to where an instruction takes one operand.
+/// Returns what the stacks below come to where an instruction takes one operand.
 fn behind_one(
     alloc: Global,
     args: &[Place],
@@ -107,7 +107,7 @@ fn behind_two(
     Ok(out)
 }
 
-/// What lies below the tops.
+/// Returns what lies below the tops.
 fn rests(alloc: Global, stacks: &[Arrivals], tops: &[Arrival]) -> Result<Arrivals, AllocError>
     ensures { IfOk result (λ out. out ≡ flat_map (rest_of stacks.now) tops.now) }
 {
@@ -142,7 +142,8 @@ fn pushed(
     Ok(out)
 }
 
-/// What lies below two operands. The second ones are gathered, so that what lies below them is taken once for each
+/// Returns what lies below two operands. The second ones are gathered, so that what lies below them is taken once for
+/// each
 /// instruction.
 fn rests_of_two(
     alloc: Global,
@@ -157,7 +158,7 @@ fn rests_of_two(
     rests(alloc, stacks, seconds.as_slice())
 }
 
-/// What comes behind a call.
+/// Returns what comes after a call.
 fn behind_call(
     alloc: Global,
     args: &[Place],
@@ -174,7 +175,7 @@ fn behind_call(
     }
 }
 
-/// What comes behind an instruction that a clause may have, and that is no comparing branch.
+/// Returns what comes after an instruction that a clause may have, and that is no comparing branch.
 fn behind_other(
     alloc: Global,
     args: &[Place],
@@ -195,14 +196,14 @@ fn behind_other(
     }
 }
 
-/// Whether the operation is a comparing branch.
+/// Returns whether the operation is a comparing branch.
 fn is_comparing(op: &Op) -> bool
     ensures { result ≡ is_comparing op.now }
 {
     matches!(op, Op::Branch(Test::Cmp(_), _))
 }
 
-/// What comes behind the instruction of this index, which a clause may have.
+/// Returns what comes after the instruction of this index, which a clause may have.
 fn behind_pure(
     alloc: Global,
     hints: &mut Hints,
@@ -240,7 +241,7 @@ fn behind_gathered(
     gathered(alloc, &mut hints.places, out.as_slice())
 }
 
-/// What comes behind the instruction of this index: nothing where ways end.
+/// Returns what comes after the instruction of this index: nothing where ways end.
 pub(crate) fn behind(
     alloc: Global,
     hints: &mut Hints,

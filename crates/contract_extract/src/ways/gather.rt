@@ -1,5 +1,6 @@
-//! Arrivals that differ in their calls alone, gathered to one, so that there are no more of them than six kinds or none on
-//! each instruction.
+//! Arrivals that differ in their calls alone are joined, so that there are at most seven over one instruction: one for
+//! each of
+//! the six kinds, and one without a kind.
 
 ghost use Rattle.std.specs.Prelude.{◌≡◌, true, false, OnOk, IfOk, IfSome};
 ghost use Rattle.contract_extract.specs.GatheredStacks.{IsJoinOf, IsJoinedInto, IsPut, StandForSame};
@@ -9,10 +10,10 @@ use crate::ways::made_values::lower;
 use cil_model::Kind;
 use std::alloc::{AllocError, Global};
 
-/// How many numbers the arrivals over one instruction have.
+/// The number of numbers that are kept for the arrivals over one instruction.
 pub(crate) const KINDS: usize = 8;
 
-/// One arrival for two that differ in their calls alone.
+/// Returns one arrival for two that differ in their calls alone, and None for others.
 fn join(a: Arrival, b: Arrival) -> Option<Arrival>
     ensures { IfSome result (IsJoinOf a b) }
 {
@@ -29,7 +30,7 @@ fn join(a: Arrival, b: Arrival) -> Option<Arrival>
     }
 }
 
-/// The number of a kind, or of none.
+/// Returns the number of a kind, 1 for none. 0 is that of the empty stack.
 fn kind_number(kind: Option<Kind>) -> usize {
     match kind {
         None => 1,
@@ -42,7 +43,7 @@ fn kind_number(kind: Option<Kind>) -> usize {
     }
 }
 
-/// The number of an arrival by all but its call.
+/// Returns the number of an arrival. Arrivals that differ in their calls alone have the same.
 pub(crate) fn number(arrival: Arrival) -> usize {
     match arrival {
         Arrival::Empty => 0,
@@ -52,7 +53,7 @@ pub(crate) fn number(arrival: Arrival) -> usize {
     }
 }
 
-/// Joins the arrival with the one at a place, where they differ in their calls alone, and says whether they do.
+/// Joins the arrival with the one of a list index, where they differ in their calls alone, and returns whether they do.
 fn join_at(gathered: &mut Arrivals, place: usize, arrival: Arrival) -> bool
     ensures joined { result ≡ true → IsJoinedInto gathered.old arrival gathered.new }
     ensures same { result ≡ false → gathered.new ≡ gathered.old }
@@ -67,12 +68,12 @@ fn join_at(gathered: &mut Arrivals, place: usize, arrival: Arrival) -> bool
     true
 }
 
-/// Where an arrival was put that has the number of this one, if one was.
+/// Returns the list index at which an arrival with this one's number was put, if one was.
 fn place_of(places: &[usize], arrival: Arrival) -> Option<usize> {
     places.get(number(arrival)).copied()
 }
 
-/// Remembers where the arrival is put.
+/// Notes the list index at which the arrival is put.
 fn remember(places: &mut [usize], arrival: Arrival, place: usize) {
     let number = number(arrival);
     if number < places.len() {
@@ -80,7 +81,9 @@ fn remember(places: &mut [usize], arrival: Arrival, place: usize) {
     }
 }
 
-/// Puts an arrival to others. `places` tells where one with its number may stand; what stands there is looked at.
+/// Adds an arrival to others, or joins it with one of them. `places` has list indexes by number, of which each may be
+/// wrong:
+/// what stands there is compared.
 fn put(gathered: &mut Arrivals, places: &mut [usize], arrival: Arrival) -> Result<(), AllocError>
     ensures { OnOk result (IsPut gathered.old arrival gathered.new) }
 {
@@ -93,7 +96,7 @@ fn put(gathered: &mut Arrivals, places: &mut [usize], arrival: Arrival) -> Resul
     gathered.push(arrival)
 }
 
-/// The arrivals, gathered. What `places` holds does not matter.
+/// Returns the arrivals, joined where they differ in their calls alone. `places` may hold anything.
 pub(crate) fn gathered(
     alloc: Global,
     places: &mut [usize],

@@ -48,7 +48,7 @@ fn is_same(a: Arrival, b: Arrival) -> bool
     }
 }
 
-/// Whether these are the same arrivals.
+/// Returns whether these are the same arrivals.
 fn are_same(a: &[Arrival], b: &[Arrival]) -> bool
     ensures { result ≡ true → a.now ≡ b.now }
 {
@@ -63,7 +63,7 @@ fn are_same(a: &[Arrival], b: &[Arrival]) -> bool
     true
 }
 
-/// Whether the same arrivals come to an instruction before this one as to it.
+/// Returns whether the same arrivals come to an instruction before this one as to it.
 fn is_home(stacks: &[Arrivals], index: usize, there: usize) -> bool
     ensures { result ≡ true → IsHome stacks.now index there }
 {

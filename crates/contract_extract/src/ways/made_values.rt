@@ -109,7 +109,7 @@ pub(crate) fn made_seen(args: &[Place], instr: &Instr, operands: &[Seen]) -> See
     }
 }
 
-/// Whether there is a kind that the place does not take.
+/// Returns whether there is a kind that the place does not take.
 pub(crate) fn misfits(place: Place, kind: Option<Kind>) -> bool
     ensures { result ≡ misfits place kind }
 {

@@ -33,7 +33,7 @@ fn index_of(code: &[Instr], at: u32) -> Option<usize>
     code.binary_search_by_key(&at, |instr| instr.at).ok()
 }
 
-/// Brings arrivals to what stands at an IL offset, where that lies behind the instruction of this index.
+/// Brings arrivals to what stands at an IL offset, where that lies after the instruction of this index.
 fn send(
     code: &[Instr],
     stacks: &mut [Arrivals],
@@ -53,7 +53,7 @@ fn send(
     Ok(())
 }
 
-/// Brings arrivals to where ways go on behind the instruction of this index.
+/// Brings arrivals to where ways go on after the instruction of this index.
 fn send_on(
     code: &[Instr],
     stacks: &mut [Arrivals],
@@ -199,7 +199,7 @@ fn arrived_fault(
     taking_fault(instr, shape, stacks, tops)
 }
 
-/// Whether ways go on behind the instruction of this index, where they have its operands.
+/// Returns whether ways go on after the instruction of this index, where they have its operands.
 fn goes_on(instrs: &[Instr], index: usize, instr: &Instr) -> bool
     requires lie { LieInOrder instrs.now }
     requires there { slice_get instrs.now index ≡ Some instr.now }
