@@ -3,7 +3,7 @@ use Rattle.std.proofs.Common.{◌≡◌, ◌*◌, ◌<◌, ◌≤◌, true, fals
 use Rattle.std.specs.Prelude.{All, IfOk}
 use Rattle.std.specs.List.{AllByRecursion}
 use Rattle.std.proofs.lemmas.Bool.{false≢true}
-use Rattle.abs_state.specs.FrameFacts.{State}
+use Rattle.range_states.specs.FrameFacts.{State}
 use Rattle.cil_model.proofs.Rows.{code_is_decoded}
 use Rattle.cil_model.proofs.ShortCodes.{code_is_short}
 use Rattle.cil_model.specs.Blocks.{body_of}
@@ -32,12 +32,12 @@ use Rattle.method_unit.specs.Units.{IsUnit}
 use Rattle.method_unit.proofs.BuiltAlone.{built_alone}
 use Rattle.method_unit.proofs.BuiltParts.{built_parts}
 use Rattle.method_unit.proofs.UnitAgain.{unit_again}
-use Rattle.transfer_rules.specs.Acts.{is_told, is_told_call}
-use Rattle.transfer_rules.specs.Entry.{HoldsNumber}
-use Rattle.transfer_rules.specs.Flow.{GivesNumber, IsLawful, IsOfNumbers}
-use Rattle.transfer_rules.specs.FlowOf.{flow_of, kinds_of}
-use Rattle.transfer_rules.specs.declared.unit_flow.UnitFlow.{UnitFlow}
-use Rattle.transfer_rules.proofs.KindsFound.{found_kinds}
+use Rattle.range_rules.specs.Acts.{is_told, is_told_call}
+use Rattle.range_rules.specs.Entry.{HoldsNumber}
+use Rattle.range_rules.specs.Flow.{GivesNumber, IsLawful, IsOfNumbers}
+use Rattle.range_rules.specs.FlowOf.{flow_of, kinds_of}
+use Rattle.range_rules.specs.declared.unit_flow.UnitFlow.{UnitFlow}
+use Rattle.range_rules.proofs.KindsFound.{found_kinds}
 use Rattle.unit_form.specs.Spelling.{unit_bytes}
 use Rattle.widening_engine.specs.Limits.{limit_of}
 use Rattle.check_driver.specs.Analysis.{unit_verdicts}

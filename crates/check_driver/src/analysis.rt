@@ -5,13 +5,13 @@ ghost use Rattle.check_driver.specs.Analysis.{unit_verdicts};
 ghost use Rattle.check_driver.specs.Asked.{Asks};
 ghost use Rattle.check_driver.specs.Findings.{AreWithin};
 ghost use Rattle.method_unit.specs.BuiltUnits.{IsBuilt};
-ghost use Rattle.transfer_rules.specs.FlowOf.{flow_of};
+ghost use Rattle.range_rules.specs.FlowOf.{flow_of};
 ghost use Rattle.unit_form.specs.Spelling.{unit_bytes};
 
 use cil_model::Unit;
 use invariant_checker::{Verdict, judge};
+use range_rules::UnitFlow;
 use std::alloc::{AllocError, Global};
-use transfer_rules::UnitFlow;
 use widening_engine::Finder;
 
 /// The unit with its graph and its kinds, each found once.

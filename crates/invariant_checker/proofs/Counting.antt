@@ -18,11 +18,11 @@ use Rattle.cil_model.specs.declared.unit_numbers.UnitCall.{UnitCall}
 use Rattle.cil_model.specs.declared.unit_numbers.UnitCall.TheVariants as calls
 use Rattle.cil_model.proofs.Forms.{spelling_some}
 use Rattle.cil_model.proofs.Lists.{all_append}
-use Rattle.abs_state.specs.Faults.{call_faults, faults_of, operator_faults}
-use Rattle.abs_state.specs.FrameFacts.{State}
-use Rattle.obligation_prover.specs.Obligations.{obligation, obligations_at, obligations_in}
-use Rattle.transfer_rules.specs.Flow.{IsLawful}
-use Rattle.transfer_rules.specs.declared.unit_flow.UnitFlow.{UnitFlow}
+use Rattle.range_states.specs.Faults.{call_faults, faults_of, operator_faults}
+use Rattle.range_states.specs.FrameFacts.{State}
+use Rattle.range_obligations.specs.Obligations.{obligation, obligations_at, obligations_in}
+use Rattle.range_rules.specs.Flow.{IsLawful}
+use Rattle.range_rules.specs.declared.unit_flow.UnitFlow.{UnitFlow}
 use Rattle.invariant_checker.specs.Verdicts.{verdicts}
 use Rattle.invariant_checker.specs.declared.verdict.Verdict.{Verdict}
 use Rattle.invariant_checker.proofs.Covering.{each_told, obligations_told}

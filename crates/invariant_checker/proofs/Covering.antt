@@ -15,17 +15,17 @@ use Rattle.cil_model.specs.declared.unit.Unit.{Unit as MethodUnit}
 use Rattle.flow_graph.specs.declared.graph.Graph.{Graph}
 use Rattle.flow_graph.proofs.AlongEdges.{all_after}
 use Rattle.flow_graph.proofs.Lying.{blocks_increase}
-use Rattle.abs_state.specs.Avoiding.{avoid}
-use Rattle.abs_state.specs.Faults.{faults_of}
-use Rattle.abs_state.specs.FrameFacts.{State}
-use Rattle.obligation_prover.specs.Obligations.{obligation, obligations_at, obligations_in, obligations_of}
-use Rattle.transfer_rules.specs.BlockWays.{all_kept, none_before}
-use Rattle.transfer_rules.specs.Flow.{IsLawful, block_instrs, instrs_between, is_before}
-use Rattle.transfer_rules.specs.FlowLaws as laws
-use Rattle.transfer_rules.specs.Inductive.{state_at}
-use Rattle.transfer_rules.specs.Placing.{item_there}
-use Rattle.transfer_rules.specs.Post.{post}
-use Rattle.transfer_rules.specs.declared.unit_flow.UnitFlow.{UnitFlow}
+use Rattle.range_states.specs.Avoiding.{avoid}
+use Rattle.range_states.specs.Faults.{faults_of}
+use Rattle.range_states.specs.FrameFacts.{State}
+use Rattle.range_obligations.specs.Obligations.{obligation, obligations_at, obligations_in, obligations_of}
+use Rattle.range_rules.specs.BlockWays.{all_kept, none_before}
+use Rattle.range_rules.specs.Flow.{IsLawful, block_instrs, instrs_between, is_before}
+use Rattle.range_rules.specs.FlowLaws as laws
+use Rattle.range_rules.specs.Inductive.{state_at}
+use Rattle.range_rules.specs.Placing.{item_there}
+use Rattle.range_rules.specs.Post.{post}
+use Rattle.range_rules.specs.declared.unit_flow.UnitFlow.{UnitFlow}
 use Rattle.invariant_checker.specs.Inducts.{is_inductive}
 use Rattle.invariant_checker.specs.Verdicts.{unproved, verdicts, verdicts_at, verdicts_from, verdicts_in, verdicts_in_turn}
 use Rattle.invariant_checker.specs.declared.verdict.Verdict.{Verdict}

@@ -7,21 +7,21 @@ use Rattle.cil_model.specs.declared.machine.Obligation.{Obligation}
 use Rattle.cil_model.specs.declared.place.Place.TheVariants as places
 use Rattle.cil_model.specs.declared.unit.Unit.{Unit as MethodUnit}
 use Rattle.cil_model.proofs.Laid.{method}
-use Rattle.number_facts.specs.Assume.{assumed, assumed_apart, assumed_at_most, assumed_equal, changed, holding, lost, lowered, ordered, raised}
-use Rattle.number_facts.specs.Facts.{range_at, range_of}
-use Rattle.number_facts.specs.Gap.{at_most, equal, gap}
-use Rattle.number_facts.specs.Spans.{excludes, moved}
-use Rattle.abs_state.specs.Assumptions.{assuming}
-use Rattle.abs_state.specs.Avoiding.{avoiding, no_division_overflow}
-use Rattle.abs_state.specs.FrameFacts.{FrameFacts}
-use Rattle.abs_state.specs.Moves.{appended, pushed}
-use Rattle.abs_state.specs.NormalForm.{number_at, of_numbers}
-use Rattle.abs_state.specs.Operands.{from_top}
-use Rattle.obligation_prover.specs.Entailed.{entailed_by, rules_out}
-use Rattle.transfer_rules.specs.Acts.{acted}
-use Rattle.transfer_rules.specs.Entry.{entry}
-use Rattle.transfer_rules.specs.FlowOf.{flow_of, kinds_of}
-use Rattle.transfer_rules.specs.Post.{post}
+use Rattle.range_facts.specs.Assume.{assumed, assumed_apart, assumed_at_most, assumed_equal, changed, holding, lost, lowered, ordered, raised}
+use Rattle.range_facts.specs.Facts.{range_at, range_of}
+use Rattle.range_facts.specs.Gap.{at_most, equal, gap}
+use Rattle.range_facts.specs.Spans.{excludes, moved}
+use Rattle.range_states.specs.Assumptions.{assuming}
+use Rattle.range_states.specs.Avoiding.{avoiding, no_division_overflow}
+use Rattle.range_states.specs.FrameFacts.{FrameFacts}
+use Rattle.range_states.specs.Moves.{appended, pushed}
+use Rattle.range_states.specs.NormalForm.{number_at, of_numbers}
+use Rattle.range_states.specs.Operands.{from_top}
+use Rattle.range_obligations.specs.Entailed.{entailed_by, rules_out}
+use Rattle.range_rules.specs.Acts.{acted}
+use Rattle.range_rules.specs.Entry.{entry}
+use Rattle.range_rules.specs.FlowOf.{flow_of, kinds_of}
+use Rattle.range_rules.specs.Post.{post}
 use Rattle.invariant_checker.specs.Inducts.{is_inductive}
 use Rattle.invariant_checker.specs.Verdicts.{verdicts}
 

@@ -24,9 +24,9 @@ use Rattle.cil_model.proofs.Lists.{all_append, of_found}
 use Rattle.cil_model.proofs.StepsKeep.{KeepsFrame, MakesValues, entry_frame_is, local_step_keeps}
 use Rattle.cil_model.proofs.TypedCode.{typed_code_steps}
 use Rattle.flow_graph.proofs.StepsGo.{step_goes}
-use Rattle.transfer_rules.specs.Flow.{Begins, IsLawful}
-use Rattle.transfer_rules.specs.FlowLaws as laws
-use Rattle.transfer_rules.specs.declared.unit_flow.UnitFlow.{UnitFlow}
+use Rattle.range_rules.specs.Flow.{Begins, IsLawful}
+use Rattle.range_rules.specs.FlowLaws as laws
+use Rattle.range_rules.specs.declared.unit_flow.UnitFlow.{UnitFlow}
 use Rattle.invariant_checker.specs.Safety.{IsSafe}
 
 -- ---- steps stay in the body

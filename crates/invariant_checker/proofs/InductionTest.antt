@@ -5,15 +5,15 @@ use Rattle.std.proofs.lemmas.Bool.{and_parts, cases_lt, eq-eqb, eqb-true, falseâ
 use Rattle.std.proofs.lemmas.Option.{none-some, same_Some}
 use Rattle.cil_model.specs.declared.place.Kind.{Kind}
 use Rattle.cil_model.specs.declared.unit.Unit.{Unit as MethodUnit}
-use Rattle.abs_state.specs.FormTests.{has_form}
-use Rattle.abs_state.specs.FrameFacts.{FrameFacts, State, HasForm}
-use Rattle.abs_state.specs.StateParts.{parts_of}
-use Rattle.abs_state.specs.Inclusion.{leq}
-use Rattle.abs_state.proofs.PartsOfStates.{formed, round_trip}
-use Rattle.transfer_rules.specs.Entry.{entry}
-use Rattle.transfer_rules.specs.Flow.{FitsKinds, variable_count, kinds_at}
-use Rattle.transfer_rules.specs.Inductive.{IsInductive, state_at}
-use Rattle.transfer_rules.specs.declared.unit_flow.UnitFlow.{UnitFlow}
+use Rattle.range_states.specs.FormTests.{has_form}
+use Rattle.range_states.specs.FrameFacts.{FrameFacts, State, HasForm}
+use Rattle.range_states.specs.StateParts.{parts_of}
+use Rattle.range_states.specs.Inclusion.{leq}
+use Rattle.range_states.proofs.PartsOfStates.{formed, round_trip}
+use Rattle.range_rules.specs.Entry.{entry}
+use Rattle.range_rules.specs.Flow.{FitsKinds, variable_count, kinds_at}
+use Rattle.range_rules.specs.Inductive.{IsInductive, state_at}
+use Rattle.range_rules.specs.declared.unit_flow.UnitFlow.{UnitFlow}
 use Rattle.invariant_checker.specs.Inducts.{fits_block, fits_kinds, has_shape, is_carried, is_inductive}
 
 -- ---- a test of numbers below another

@@ -10,14 +10,14 @@ use Rattle.cil_model.specs.declared.machine.FaultKind.{FaultKind}
 use Rattle.cil_model.specs.declared.machine.Obligation.{Obligation}
 use Rattle.flow_graph.specs.declared.graph.Graph.{Graph}
 use Rattle.flow_graph.proofs.Lying.{few_blocks}
-use Rattle.abs_state.specs.Avoiding.{avoid}
-use Rattle.abs_state.specs.FrameFacts.{State}
-use Rattle.obligation_prover.specs.Entailed.{entailed}
-use Rattle.obligation_prover.specs.Obligations.{obligation, obligations_of}
-use Rattle.transfer_rules.specs.Flow.{IsLawful}
-use Rattle.transfer_rules.specs.FlowLaws as laws
-use Rattle.transfer_rules.specs.Inductive.{HasShape, IsInductive, state_at}
-use Rattle.transfer_rules.specs.declared.unit_flow.UnitFlow.{UnitFlow}
+use Rattle.range_states.specs.Avoiding.{avoid}
+use Rattle.range_states.specs.FrameFacts.{State}
+use Rattle.range_obligations.specs.Entailed.{entailed}
+use Rattle.range_obligations.specs.Obligations.{obligation, obligations_of}
+use Rattle.range_rules.specs.Flow.{IsLawful}
+use Rattle.range_rules.specs.FlowLaws as laws
+use Rattle.range_rules.specs.Inductive.{HasShape, IsInductive, state_at}
+use Rattle.range_rules.specs.declared.unit_flow.UnitFlow.{UnitFlow}
 use Rattle.invariant_checker.specs.Inducts.{is_inductive}
 use Rattle.invariant_checker.specs.Verdicts.{unproved, verdicts, verdicts_by_blocks, verdicts_in, verdicts_in_turn, verdicts_of_block}
 use Rattle.invariant_checker.specs.declared.verdict.Verdict.{Verdict}

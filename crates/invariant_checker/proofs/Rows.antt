@@ -20,7 +20,7 @@ use Rattle.cil_model.specs.declared.machine.Value.{Value}
 use Rattle.cil_model.specs.declared.unit.Unit.{Unit as MethodUnit}
 use Rattle.cil_model.specs.declared.unit_numbers.UnitCall.{UnitCall}
 use Rattle.cil_model.specs.declared.unit_numbers.UnitCall.TheVariants as calls
-use Rattle.transfer_rules.specs.Acts.{is_told, is_told_call}
+use Rattle.range_rules.specs.Acts.{is_told, is_told_call}
 
 no_caller : (outer : List Frame) (caller : Frame) → [] ≡ outer ++ caller ∷ [] → ⊥
 no_caller [] caller e = cc

@@ -5,14 +5,14 @@ use Rattle.std.proofs.lemmas.Bool.{cases_Bool, false≢true}
 use Rattle.std.proofs.lemmas.Bool.Decides.{nat_tests}
 use Rattle.cil_model.specs.declared.machine.Obligation.{Obligation}
 use Rattle.flow_graph.proofs.EdgeOrder.{all_weaker}
-use Rattle.abs_state.specs.FrameFacts.{State}
-use Rattle.obligation_prover.specs.EachFault as each
-use Rattle.obligation_prover.specs.Obligations.{obligations_of}
-use Rattle.obligation_prover.proofs.Complete.{lists_each_fault}
-use Rattle.transfer_rules.specs.Acts.{is_told}
-use Rattle.transfer_rules.specs.BlockWays.{among}
-use Rattle.transfer_rules.specs.Flow.{IsLawful}
-use Rattle.transfer_rules.specs.declared.unit_flow.UnitFlow.{UnitFlow}
+use Rattle.range_states.specs.FrameFacts.{State}
+use Rattle.range_obligations.specs.EachFault as each
+use Rattle.range_obligations.specs.Obligations.{obligations_of}
+use Rattle.range_obligations.proofs.Complete.{lists_each_fault}
+use Rattle.range_rules.specs.Acts.{is_told}
+use Rattle.range_rules.specs.BlockWays.{among}
+use Rattle.range_rules.specs.Flow.{IsLawful}
+use Rattle.range_rules.specs.declared.unit_flow.UnitFlow.{UnitFlow}
 use Rattle.invariant_checker.specs.Counts.{all_proved}
 use Rattle.invariant_checker.specs.Inducts.{is_inductive}
 use Rattle.invariant_checker.specs.Safety.{IsSafe}

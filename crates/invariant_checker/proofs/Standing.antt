@@ -17,30 +17,30 @@ use Rattle.cil_model.specs.declared.machine.Frame.{Frame}
 use Rattle.cil_model.specs.declared.place.Kind.{Kind}
 use Rattle.cil_model.specs.declared.unit.Unit.{Unit as MethodUnit}
 use Rattle.cil_model.proofs.KindsSettle.{reached_begins}
-use Rattle.abs_state.specs.Avoiding.{avoid}
-use Rattle.abs_state.specs.Faults.{faults_of}
-use Rattle.abs_state.specs.FrameFacts.{State, HasForm}
-use Rattle.abs_state.specs.Frames.{HoldsIn}
-use Rattle.abs_state.specs.Inclusion.{leq}
-use Rattle.abs_state.specs.NormalForm.{norm}
-use Rattle.abs_state.specs.StatesHold.{leq_holds}
-use Rattle.abs_state.proofs.MovesHold.{norm_holds}
-use Rattle.obligation_prover.specs.EachFault.{AreEntailedInTurn, is_of_array}
-use Rattle.obligation_prover.proofs.InTurn.{in_turn}
-use Rattle.transfer_rules.specs.Acts.{is_told}
-use Rattle.transfer_rules.specs.BlockWays.{IsLeft, IsPassed}
-use Rattle.transfer_rules.specs.Choices.{way_of}
-use Rattle.transfer_rules.specs.Entry.{entry}
-use Rattle.transfer_rules.specs.Flow.{Begins, FitsKinds, IsLawful, along_edge, block_instrs, edge_at, kinds_at, start_of, through}
-use Rattle.transfer_rules.specs.FlowLaws as laws
-use Rattle.transfer_rules.specs.FlowSteps.{form_of, post_fits, through_fits, through_holds}
-use Rattle.transfer_rules.specs.Inductive.{IsInductive, state_at}
-use Rattle.transfer_rules.specs.Placing.{item_there}
-use Rattle.transfer_rules.specs.Post.{post}
-use Rattle.transfer_rules.specs.PostLaws.{post_holds}
-use Rattle.transfer_rules.specs.Steps.{GoesBy}
-use Rattle.transfer_rules.specs.declared.unit_flow.UnitFlow.{UnitFlow}
-use Rattle.transfer_rules.proofs.WayLaws.{takes_way}
+use Rattle.range_states.specs.Avoiding.{avoid}
+use Rattle.range_states.specs.Faults.{faults_of}
+use Rattle.range_states.specs.FrameFacts.{State, HasForm}
+use Rattle.range_states.specs.Frames.{HoldsIn}
+use Rattle.range_states.specs.Inclusion.{leq}
+use Rattle.range_states.specs.NormalForm.{norm}
+use Rattle.range_states.specs.StatesHold.{leq_holds}
+use Rattle.range_states.proofs.MovesHold.{norm_holds}
+use Rattle.range_obligations.specs.EachFault.{AreEntailedInTurn, is_of_array}
+use Rattle.range_obligations.proofs.InTurn.{in_turn}
+use Rattle.range_rules.specs.Acts.{is_told}
+use Rattle.range_rules.specs.BlockWays.{IsLeft, IsPassed}
+use Rattle.range_rules.specs.Choices.{way_of}
+use Rattle.range_rules.specs.Entry.{entry}
+use Rattle.range_rules.specs.Flow.{Begins, FitsKinds, IsLawful, along_edge, block_instrs, edge_at, kinds_at, start_of, through}
+use Rattle.range_rules.specs.FlowLaws as laws
+use Rattle.range_rules.specs.FlowSteps.{form_of, post_fits, through_fits, through_holds}
+use Rattle.range_rules.specs.Inductive.{IsInductive, state_at}
+use Rattle.range_rules.specs.Placing.{item_there}
+use Rattle.range_rules.specs.Post.{post}
+use Rattle.range_rules.specs.PostLaws.{post_holds}
+use Rattle.range_rules.specs.Steps.{GoesBy}
+use Rattle.range_rules.specs.declared.unit_flow.UnitFlow.{UnitFlow}
+use Rattle.range_rules.proofs.WayLaws.{takes_way}
 use Rattle.invariant_checker.specs.Chains.{IsChain, Leads}
 use Rattle.invariant_checker.specs.Counts.{all_proved}
 use Rattle.invariant_checker.specs.Verdicts.{verdicts_at, verdicts_by_blocks, verdicts_from, verdicts_in, verdicts_in_turn}

@@ -7,15 +7,15 @@ use Rattle.cil_model.specs.declared.instruction.Instr.{Instr}
 use Rattle.cil_model.specs.declared.instruction.Op.{Op}
 use Rattle.cil_model.specs.declared.instruction.Op.TheVariants as ops
 use Rattle.cil_model.specs.declared.unit.Unit.{Unit as MethodUnit}
-use Rattle.abs_state.specs.Faults.{operands_of}
-use Rattle.abs_state.specs.FrameFacts.{State}
-use Rattle.transfer_rules.specs.Flow.{Fits, IsLawful, block_instrs, start_of}
-use Rattle.transfer_rules.specs.FlowLaws as laws
-use Rattle.transfer_rules.specs.FlowSteps.{post_fits, reads}
-use Rattle.transfer_rules.specs.Post.{post}
-use Rattle.transfer_rules.specs.Walking.{CanPass, front}
-use Rattle.transfer_rules.specs.declared.unit_flow.UnitFlow.{UnitFlow}
-use Rattle.transfer_rules.proofs.Ways.{asked_there}
+use Rattle.range_states.specs.Faults.{operands_of}
+use Rattle.range_states.specs.FrameFacts.{State}
+use Rattle.range_rules.specs.Flow.{Fits, IsLawful, block_instrs, start_of}
+use Rattle.range_rules.specs.FlowLaws as laws
+use Rattle.range_rules.specs.FlowSteps.{post_fits, reads}
+use Rattle.range_rules.specs.Post.{post}
+use Rattle.range_rules.specs.Walking.{CanPass, front}
+use Rattle.range_rules.specs.declared.unit_flow.UnitFlow.{UnitFlow}
+use Rattle.range_rules.proofs.Ways.{asked_there}
 use Rattle.invariant_checker.specs.Chains.{CanJudge}
 use Rattle.invariant_checker.specs.Verdicts.{verdicts_at, verdicts_from}
 use Rattle.invariant_checker.specs.declared.verdict.Verdict.{Verdict}

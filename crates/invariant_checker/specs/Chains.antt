@@ -8,11 +8,11 @@ use Rattle.cil_model.specs.Shapes.{shape_of}
 use Rattle.cil_model.specs.declared.instruction.Instr.{Instr}
 use Rattle.cil_model.specs.declared.unit.Unit.{Unit as MethodUnit}
 use Rattle.flow_graph.specs.declared.graph.Graph.{Graph}
-use Rattle.abs_state.specs.FrameFacts.{State}
-use Rattle.transfer_rules.specs.Acts.{is_told}
-use Rattle.transfer_rules.specs.BlockWays.{IsPassed}
-use Rattle.transfer_rules.specs.Choices.{IsShortSwitch}
-use Rattle.transfer_rules.specs.Flow.{FitsKinds, no_edge}
+use Rattle.range_states.specs.FrameFacts.{State}
+use Rattle.range_rules.specs.Acts.{is_told}
+use Rattle.range_rules.specs.BlockWays.{IsPassed}
+use Rattle.range_rules.specs.Choices.{IsShortSwitch}
+use Rattle.range_rules.specs.Flow.{FitsKinds, no_edge}
 
 -- An edge of the graph goes from this block by this number to the block that starts at the target.
 pub record Leads (graph : Graph) (block way target : ℕ) : Type 0 where

@@ -3,13 +3,13 @@ use Rattle.std.specs.Prelude.{ℕ, ◌==◌, Bool, true, false, ◌&&◌, List, 
 use Rattle.std.specs.List.{list_all, range_with_len}
 use Rattle.cil_model.specs.declared.place.Kind.{Kind}
 use Rattle.cil_model.specs.declared.unit.Unit.{Unit as MethodUnit}
-use Rattle.abs_state.specs.FormTests.{has_form}
-use Rattle.abs_state.specs.FrameFacts.{FrameFacts, State}
-use Rattle.abs_state.specs.Inclusion.{leq}
-use Rattle.transfer_rules.specs.Entry.{entry}
-use Rattle.transfer_rules.specs.Flow.{along_edge, edge_at, kinds_at, variable_count}
-use Rattle.transfer_rules.specs.Inductive.{state_at}
-use Rattle.transfer_rules.specs.declared.unit_flow.UnitFlow.{UnitFlow}
+use Rattle.range_states.specs.FormTests.{has_form}
+use Rattle.range_states.specs.FrameFacts.{FrameFacts, State}
+use Rattle.range_states.specs.Inclusion.{leq}
+use Rattle.range_rules.specs.Entry.{entry}
+use Rattle.range_rules.specs.Flow.{along_edge, edge_at, kinds_at, variable_count}
+use Rattle.range_rules.specs.Inductive.{state_at}
+use Rattle.range_rules.specs.declared.unit_flow.UnitFlow.{UnitFlow}
 
 -- What is known has the form, and so many variables.
 abbrev pub has_variables : ℕ → FrameFacts → Bool

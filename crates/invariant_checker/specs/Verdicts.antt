@@ -5,15 +5,15 @@ use Rattle.cil_model.specs.declared.instruction.Instr.{Instr}
 use Rattle.cil_model.specs.declared.machine.FaultKind.{FaultKind}
 use Rattle.cil_model.specs.declared.machine.Obligation.{Obligation}
 use Rattle.cil_model.specs.declared.unit.Unit.{Unit as MethodUnit}
-use Rattle.abs_state.specs.Avoiding.{avoid}
-use Rattle.abs_state.specs.Faults.{faults_of}
-use Rattle.abs_state.specs.FrameFacts.{State}
-use Rattle.obligation_prover.specs.Entailed.{entailed}
-use Rattle.obligation_prover.specs.Obligations.{obligation, obligations_of}
-use Rattle.transfer_rules.specs.Flow.{block_instrs}
-use Rattle.transfer_rules.specs.Inductive.{state_at}
-use Rattle.transfer_rules.specs.Post.{post}
-use Rattle.transfer_rules.specs.declared.unit_flow.UnitFlow.{UnitFlow}
+use Rattle.range_states.specs.Avoiding.{avoid}
+use Rattle.range_states.specs.Faults.{faults_of}
+use Rattle.range_states.specs.FrameFacts.{State}
+use Rattle.range_obligations.specs.Entailed.{entailed}
+use Rattle.range_obligations.specs.Obligations.{obligation, obligations_of}
+use Rattle.range_rules.specs.Flow.{block_instrs}
+use Rattle.range_rules.specs.Inductive.{state_at}
+use Rattle.range_rules.specs.Post.{post}
+use Rattle.range_rules.specs.declared.unit_flow.UnitFlow.{UnitFlow}
 use Rattle.invariant_checker.specs.Inducts.{is_inductive}
 use Rattle.invariant_checker.specs.declared.verdict.Verdict.{Verdict}
 

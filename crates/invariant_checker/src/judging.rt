@@ -3,22 +3,22 @@
 ghost use Rattle.std.specs.Prelude.{◌≡◌, ◌++◌, ◌+◌, ◌*◌, ◌<◌, ◌≤◌, All, IfOk, IsTrue, OnOk, length, map};
 ghost use Rattle.std.specs.Option.{ForSome};
 ghost use Rattle.cil_model.specs.Limits.{MAX_VARIABLES};
-ghost use Rattle.abs_state.specs.Faults.{operands_of};
-ghost use Rattle.obligation_prover.specs.Obligations.{obligations_of};
-ghost use Rattle.transfer_rules.specs.Flow.{Fits, IsLawful};
-ghost use Rattle.transfer_rules.specs.Inductive.{HasShape, IsInductive};
+ghost use Rattle.range_states.specs.Faults.{operands_of};
+ghost use Rattle.range_obligations.specs.Obligations.{obligations_of};
+ghost use Rattle.range_rules.specs.Flow.{Fits, IsLawful};
+ghost use Rattle.range_rules.specs.Inductive.{HasShape, IsInductive};
 ghost use Rattle.invariant_checker.specs.Chains.{CanJudge};
 ghost use Rattle.invariant_checker.specs.Counts as counts;
 ghost use Rattle.invariant_checker.specs.Safety.{IsSafe};
 ghost use Rattle.invariant_checker.specs.Verdicts as rule;
 
 use crate::verdict::Verdict;
-use abs_state::{AbsState, Invariant, avoid, faults_of};
 use cil_model::{Instr, Obligation, Unit};
 use domain_api::NoMemory;
-use obligation_prover::{entails, obligations};
+use range_obligations::{entails, obligations};
+use range_rules::{UnitFlow, inductive, post};
+use range_states::{AbsState, Invariant, avoid, faults_of};
 use std::alloc::Global;
-use transfer_rules::{UnitFlow, inductive, post};
 
 /// Appends a verdict for each fault of an instruction. Each is judged where those before it are assumed not to have come.
 fn push_in_turn(

@@ -1,8 +1,8 @@
 -- What a state's variables tell, where it may be reached or not.
 use Rattle.std.proofs.Common.{◌≡◌, ℕ, ◌<◌, ◌≤◌, Some, None, length, refl, subst}
 use Rattle.std.specs.Option.{ForSome}
-use Rattle.abs_state.specs.FrameFacts.{State, HasForm, variables_in}
-use Rattle.abs_state.specs.RangeStates.{AreAlike}
+use Rattle.range_states.specs.FrameFacts.{State, HasForm, variables_in}
+use Rattle.range_states.specs.RangeStates.{AreAlike}
 
 pub place_there : (s : State) (i : ℕ) → i < length (variables_in s) → ForSome s (λ known. i < length known.variables)
 place_there s i below = λ known is. subst (λ (t : State). i < length (variables_in t)) is below

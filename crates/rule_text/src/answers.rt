@@ -2,7 +2,7 @@
 
 use crate::failure::Failure;
 use crate::states::{state, state_text};
-use abs_state::AbsState;
+use range_states::AbsState;
 use std::alloc::Global;
 
 /// A question, and the text of its answer behind ` = `.

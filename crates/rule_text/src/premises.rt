@@ -3,17 +3,17 @@
 ghost use Rattle.std.specs.Prelude.{◌≡◌, ◌<◌, ◌≤◌, true, length, IfOk, OnOk, IsSome};
 ghost use Rattle.std.specs.List.{AllByRecursion};
 ghost use Rattle.std.specs.Option.{ForSome};
-ghost use Rattle.number_facts.specs.Facts.{AreNarrow, IsNarrow, IsThere};
-ghost use Rattle.number_facts.specs.Owed.{Divides, Shifts};
-ghost use Rattle.abs_state.specs.FrameFacts.{IsNumber};
-ghost use Rattle.abs_state.specs.RangeStates.{AreAlike};
+ghost use Rattle.range_facts.specs.Facts.{AreNarrow, IsNarrow, IsThere};
+ghost use Rattle.range_facts.specs.Owed.{Divides, Shifts};
+ghost use Rattle.range_states.specs.FrameFacts.{IsNumber};
+ghost use Rattle.range_states.specs.RangeStates.{AreAlike};
 
 use crate::failure::Failure;
-use abs_state::AbsState;
 use cil_model::BinOp;
 use domain_api::{Expr, NoMemory};
 use interval_domain::Range;
-use number_facts::Numbers;
+use range_facts::Numbers;
+use range_states::AbsState;
 use std::alloc::Global;
 
 /// The least int32.

@@ -3,8 +3,8 @@
 use crate::failure::Failure;
 use crate::numbers::{append_number, operand};
 use crate::ranges::{append_range, range};
-use abs_state::{AbsState, Parts};
 use interval_domain::Range;
+use range_states::{AbsState, Parts};
 use std::alloc::{AllocError, Global};
 
 /// Reads the variables of a state.

@@ -2,7 +2,7 @@
 
 use cil_model::{BinOp, CmpOp};
 use domain_api::{Expr, NoMemory};
-use number_facts::Numbers;
+use range_facts::Numbers;
 use rule_text::{
     Failure, append_number, append_range, append_wide_range, asked, check, comparison, is_there,
     may_operate, narrow, operand, operator, symbol_there, three_words,

@@ -1,7 +1,7 @@
 //! The rules, by the keywords of cases.
 
 use crate::{number_rules, range_rules, state_rules};
-use abs_state::AbsState;
+use range_states::AbsState;
 use rule_text::{Failure, Line, Rules, check_state, state};
 use std::alloc::Global;
 

@@ -1,8 +1,8 @@
 //! The rules on states.
 
-use abs_state::AbsState;
 use domain_api::{Expr, Lattice, Order, Paired};
-use number_facts::Numbers;
+use range_facts::Numbers;
+use range_states::AbsState;
 use rule_text::{
     Failure, append_wide_range, are_alike, asked, check, check_yes, comparison, has_symbol,
     is_number, may_operate, number, operator, parts, place, state, state_text, three_words,

@@ -8,12 +8,12 @@ use Rattle.cil_model.specs.Shapes.{shape_of}
 use Rattle.cil_model.specs.declared.unit.Unit.{Unit as MethodUnit}
 use Rattle.stack_typer.proofs.Unique.{kinds_once}
 use Rattle.method_unit.specs.Units.{CanRun, IsUnit}
-use Rattle.abs_state.specs.FrameFacts.{State}
-use Rattle.transfer_rules.specs.Acts.{is_told}
-use Rattle.transfer_rules.specs.Entry.{HoldsNumber}
-use Rattle.transfer_rules.specs.Flow.{Fits, GivesNumber, IsOfNumbers}
-use Rattle.transfer_rules.specs.Inductive.{HasShape, state_at}
-use Rattle.transfer_rules.specs.declared.unit_flow.UnitFlow.{UnitFlow}
+use Rattle.range_states.specs.FrameFacts.{State}
+use Rattle.range_rules.specs.Acts.{is_told}
+use Rattle.range_rules.specs.Entry.{HoldsNumber}
+use Rattle.range_rules.specs.Flow.{Fits, GivesNumber, IsOfNumbers}
+use Rattle.range_rules.specs.Inductive.{HasShape, state_at}
+use Rattle.range_rules.specs.declared.unit_flow.UnitFlow.{UnitFlow}
 
 -- The kinds of code are one.
 pub body_of_kinds : (unit : MethodUnit) → CanRun unit → (stacks : Stacks) → KindsOf (shape_of unit) unit.instrs stacks → HasBody unit.instrs stacks unit.body_start

@@ -1,12 +1,12 @@
 //! The rules on states that flow along the edges of units.
 
-ghost use Rattle.transfer_rules.specs.Flow.{IsLawful};
+ghost use Rattle.range_rules.specs.Flow.{IsLawful};
 
-use abs_state::AbsState;
 use domain_api::{FlowState, Ticks};
+use range_rules::{UnitFlow, UnitState, has_shape};
+use range_states::AbsState;
 use rule_text::Failure;
 use std::alloc::Global;
-use transfer_rules::{UnitFlow, UnitState, has_shape};
 
 /// States of so many blocks of which one alone may be reached.
 fn states_at(

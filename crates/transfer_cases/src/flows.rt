@@ -3,17 +3,17 @@
 ghost use Rattle.std.specs.Prelude.{◌≡◌, filter, nat_le, true, IfOk};
 ghost use Rattle.std.specs.List.{AllByRecursion};
 ghost use Rattle.method_unit.specs.Units.{CanRun, IsUnit};
-ghost use Rattle.transfer_rules.specs.Acts.{is_told};
-ghost use Rattle.transfer_rules.specs.Entry.{HoldsNumber};
-ghost use Rattle.transfer_rules.specs.Flow.{GivesNumber, IsLawful, IsOfNumbers};
+ghost use Rattle.range_rules.specs.Acts.{is_told};
+ghost use Rattle.range_rules.specs.Entry.{HoldsNumber};
+ghost use Rattle.range_rules.specs.Flow.{GivesNumber, IsLawful, IsOfNumbers};
 
 use crate::premises::is_op_told;
 use cc_base::Refusal;
 use cil_model::{Instr, Place, Unit};
 use method_unit::read_unit;
+use range_rules::UnitFlow;
 use rule_text::Failure;
 use std::alloc::Global;
-use transfer_rules::UnitFlow;
 
 /// Whether a place of this type holds a number.
 fn holds_number(place: Place) -> bool

@@ -1,11 +1,11 @@
 //! The rules on instructions.
 
 use crate::premises::{count_read, few, short, told};
-use abs_state::AbsState;
 use cil_model::{Op, Unit};
+use range_rules::{along, post};
+use range_states::AbsState;
 use rule_text::{Failure, asked, check_state, operation, state_text, variables_there};
 use std::alloc::Global;
-use transfer_rules::{along, post};
 
 /// Takes the state behind an instruction.
 fn go_behind(state: &mut AbsState, unit: &Unit, op: &Op) -> Result<(), Failure> {

@@ -1,9 +1,9 @@
 //! The rules on obligations.
 
 use crate::premises::count_operands;
-use abs_state::AbsState;
 use cil_model::{Obligation, Unit};
-use obligation_prover::{entails, obligations};
+use range_obligations::{entails, obligations};
+use range_states::AbsState;
 use rule_text::{Failure, asked, check_yes, fault, operation, variables_there};
 use std::alloc::Global;
 

@@ -2,9 +2,9 @@
 
 ghost use Rattle.std.specs.Prelude.{◌≡◌, ◌+◌, ◌≤◌, true, length, OnOk};
 ghost use Rattle.cil_model.specs.Limits.{MAX_VARIABLES};
-ghost use Rattle.transfer_rules.specs.Acts.{is_told, variables_read};
-ghost use Rattle.transfer_rules.specs.Choices.{IsShortSwitch};
-ghost use Rattle.abs_state.specs.Faults.{operands_of};
+ghost use Rattle.range_rules.specs.Acts.{is_told, variables_read};
+ghost use Rattle.range_rules.specs.Choices.{IsShortSwitch};
+ghost use Rattle.range_states.specs.Faults.{operands_of};
 
 use cil_model::{Op, Place, Test, Unit, UnitCall, unit_call};
 use rule_text::Failure;

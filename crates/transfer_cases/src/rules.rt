@@ -1,17 +1,17 @@
 //! The rules, by the keywords of cases.
 
 ghost use Rattle.std.specs.Prelude.{IfOk};
-ghost use Rattle.transfer_rules.specs.Flow.{IsLawful};
+ghost use Rattle.range_rules.specs.Flow.{IsLawful};
 
 use crate::flows::flow_of;
 use crate::methods::{append, read_method};
 use crate::{flow_rules, instruction_rules, obligation_rules};
-use abs_state::AbsState;
 use case_reader::bytes_of_hex;
 use cil_model::{Instr, List, Unit};
+use range_rules::{UnitFlow, entry_state, has_shape, inductive};
+use range_states::AbsState;
 use rule_text::{Failure, Line, Rules, check_state, check_yes, operation, state};
 use std::alloc::Global;
-use transfer_rules::{UnitFlow, entry_state, has_shape, inductive};
 
 /// The state of a case that is run.
 #[derive(Drop)]

@@ -20,8 +20,8 @@ use Rattle.cil_model.specs.declared.instruction.Test.TheVariants as tests
 use Rattle.flow_graph.proofs.GraphFacts.{blocks_counted}
 use Rattle.flow_graph.specs.BlocksOf.{block_at, blocks_of}
 use Rattle.flow_graph.specs.EdgesOf.{edge_to, edges_from, edges_out, edges_to}
-use Rattle.transfer_rules.specs.Flow.{IsLawful}
-use Rattle.transfer_rules.specs.declared.unit_flow.UnitFlow.{UnitFlow}
+use Rattle.range_rules.specs.Flow.{IsLawful}
+use Rattle.range_rules.specs.declared.unit_flow.UnitFlow.{UnitFlow}
 use Rattle.unit_form.specs.Spelling.{HasFields}
 use Rattle.widening_engine.specs.Flows.{AreNumbered}
 use Rattle.widening_engine.specs.Limits.{unit_flow}

@@ -1,14 +1,14 @@
 -- Where the analysis of a unit settles.
 use Rattle.std.specs.Prelude.{List, None, length, map}
-use Rattle.abs_state.specs.FrameFacts.{State}
-use Rattle.abs_state.specs.Inclusion as inclusion
-use Rattle.abs_state.specs.Join as join
-use Rattle.abs_state.specs.Widening as widening
-use Rattle.transfer_rules.specs.Entry.{entry}
-use Rattle.transfer_rules.specs.Flow.{along_edge, edge_at}
-use Rattle.transfer_rules.specs.Unknown.{unknown}
-use Rattle.transfer_rules.specs.declared.unit_flow.UnitFlow.{UnitFlow}
-use Rattle.transfer_rules.specs.declared.unit_state.UnitState.{UnitState}
+use Rattle.range_states.specs.FrameFacts.{State}
+use Rattle.range_states.specs.Inclusion as inclusion
+use Rattle.range_states.specs.Join as join
+use Rattle.range_states.specs.Widening as widening
+use Rattle.range_rules.specs.Entry.{entry}
+use Rattle.range_rules.specs.Flow.{along_edge, edge_at}
+use Rattle.range_rules.specs.Unknown.{unknown}
+use Rattle.range_rules.specs.declared.unit_flow.UnitFlow.{UnitFlow}
+use Rattle.range_rules.specs.declared.unit_state.UnitState.{UnitState}
 use Rattle.widening_engine.specs.Rounds.{Flow, limit}
 
 -- How states of a unit flow along the edges of its graph.

@@ -1,14 +1,14 @@
 //! What finds the invariants of units.
 
 ghost use Rattle.std.specs.Prelude.{◌≡◌, ℕ, List, [], ◌∷◌, ◌++◌, IfOk, OnOk, OnErr};
-ghost use Rattle.transfer_rules.specs.Flow.{IsLawful};
+ghost use Rattle.range_rules.specs.Flow.{IsLawful};
 ghost use Rattle.unit_form.specs.Spelling.{unit_bytes};
 ghost use Rattle.widening_engine.specs.Limits.{limit_of};
 
-use abs_state::Invariant;
 use domain_api::NoMemory;
+use range_rules::UnitFlow;
+use range_states::Invariant;
 use std::alloc::Global;
-use transfer_rules::UnitFlow;
 
 /// What finds the invariants of units.
 pub trait Finder {

@@ -1,16 +1,16 @@
 //! A finder that computes each round anew.
 
 ghost use Rattle.std.specs.Prelude.{◌≡◌, [], map, IfOk};
-ghost use Rattle.transfer_rules.specs.Flow.{IsLawful};
+ghost use Rattle.range_rules.specs.Flow.{IsLawful};
 ghost use Rattle.widening_engine.specs.Limits.{limit_of, unit_flow};
 ghost use Rattle.widening_engine.specs.Rounds.{limit};
 
 use crate::finder::Finder;
 use crate::settling::limit;
-use abs_state::{AbsState, Invariant};
 use domain_api::{NoMemory, Ticks};
+use range_rules::{UnitFlow, UnitState};
+use range_states::{AbsState, Invariant};
 use std::alloc::Global;
-use transfer_rules::{UnitFlow, UnitState};
 use unit_form::unit_bytes;
 
 /// A finder that computes each round anew, and keeps nothing but the bytes of the units that it was asked for.

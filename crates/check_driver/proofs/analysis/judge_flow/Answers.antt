@@ -1,5 +1,5 @@
 use Rattle.std.proofs.Common.{subst, sym}
-use Rattle.transfer_rules.specs.Flow.{IsLawful}
+use Rattle.range_rules.specs.Flow.{IsLawful}
 use Rattle.check_driver.proofs.Asking.{asks_all}
 use Rattle.check_driver.proofs.BuiltUnits.{lawful_flow, verdicts_are, within_limits}
 use Rattle.check_driver.proofs.analysis.judge_flow.Goals as goal

@@ -1,5 +1,5 @@
 use Rattle.std.proofs.Common.{arith}
-use Rattle.transfer_rules.proofs.Inducing.{item_is}
+use Rattle.range_rules.proofs.Inducing.{item_is}
 use Rattle.invariant_checker.proofs.JudgeSteps.{block_judged, few_blocks_there}
 use Rattle.invariant_checker.proofs.judging.judge_blocks.Goals as goal
 

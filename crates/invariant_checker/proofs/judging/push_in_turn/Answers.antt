@@ -1,8 +1,8 @@
 use Rattle.std.proofs.Common.{◌≡◌, ◌∷◌, ◌++◌, ◌<◌, [], length, get_or, ◌∙◌}
 use Rattle.cil_model.specs.declared.machine.FaultKind.TheVariants.{Requires}
-use Rattle.abs_state.specs.Avoiding.{avoid}
-use Rattle.abs_state.specs.Faults.{faults_of, operands_of}
-use Rattle.abs_state.proofs.AvoidingSteps.{avoid_has}
+use Rattle.range_states.specs.Avoiding.{avoid}
+use Rattle.range_states.specs.Faults.{faults_of, operands_of}
+use Rattle.range_states.proofs.AvoidingSteps.{avoid_has}
 use Rattle.invariant_checker.proofs.JudgeSteps.{one_more_judged, verdict_at}
 use Rattle.invariant_checker.proofs.judging.push_in_turn.Goals as goal
 

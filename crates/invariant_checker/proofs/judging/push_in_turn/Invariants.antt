@@ -1,6 +1,6 @@
 use Rattle.std.proofs.Common.{◌≡◌, ◌++◌, ◌≤◌, length, drop}
 use Rattle.std.specs.Option.{ForSome}
-use Rattle.abs_state.specs.Faults.{faults_of, operands_of}
+use Rattle.range_states.specs.Faults.{faults_of, operands_of}
 use Rattle.invariant_checker.specs.Verdicts.{verdicts_at, verdicts_in_turn}
 use Rattle.invariant_checker.proofs.judging.push_in_turn.Given as goal
 

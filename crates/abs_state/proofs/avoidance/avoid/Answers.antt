@@ -1,5 +1,0 @@
-use Rattle.abs_state.proofs.AvoidingSteps.{assumes_no}
-use Rattle.abs_state.proofs.avoidance.avoid.Goals as goal
-
-pub returns-clause-sound : goal.returns-clause-sound
-returns-clause-sound c = λ op among. rw c.in_ok-assume_avoided.ensures.value (assumes_no op c.args.kind c.args.state.now c.reached.ensures.form among)

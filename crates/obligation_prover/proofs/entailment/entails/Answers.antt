@@ -1,9 +1,0 @@
-use Rattle.std.proofs.Common.{rules, sym, ◌∙◌}
-use Rattle.obligation_prover.proofs.RuledOut.{entailed_rules_out}
-use Rattle.obligation_prover.proofs.entailment.entails.Goals as goal
-
-pub returns-clause-value : goal.returns-clause-value
-returns-clause-value c = search rules
-
-pub returns-clause-sound : goal.returns-clause-sound
-returns-clause-sound c = λ shown. entailed_rules_out c.args.op.now c.args.kind c.args.state.now (sym (returns-clause-value c) ∙ shown)

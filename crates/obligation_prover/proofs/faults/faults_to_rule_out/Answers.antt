@@ -1,9 +1,0 @@
-use Rattle.obligation_prover.proofs.Complete.{no_other}
-use Rattle.obligation_prover.proofs.InTurn.{in_turn}
-use Rattle.obligation_prover.proofs.faults.faults_to_rule_out.Goals as goal
-
-pub returns-clause-complete : goal.returns-clause-complete
-returns-clause-complete c = rw c.faults_of.ensures.value (no_other c.args.op.now)
-
-pub returns-clause-safe : goal.returns-clause-safe
-returns-clause-safe c = rw c.faults_of.ensures.value (in_turn c.args.op.now)

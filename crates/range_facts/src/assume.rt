@@ -1,0 +1,286 @@
+//! What is known where a comparison is assumed to hold, or not to hold.
+
+ghost use Rattle.std.specs.Prelude.{◌≡◌, ◌≤◌, ◌≤ℤ◌, ℤ, pos, Bool, true, length, IfOk, OnErr, Option, Some};
+ghost use Rattle.std.specs.Option.{is_some};
+ghost use Rattle.std.specs.Int.{int_min, int_max};
+ghost use Rattle.interval_domain.specs.Interval.{without};
+ghost use Rattle.range_facts.specs.Fresh.{range_without};
+ghost use Rattle.range_facts.specs.Sizes.{IsBounded};
+ghost use Rattle.range_facts.specs.Assume as rule;
+
+use crate::exact::{below, less_by};
+use crate::numbers::{Numbers, constant, range_without};
+use cil_model::CmpOp;
+use domain_api::{Expr, NoMemory};
+use interval_domain::Range;
+
+/// The comparison that holds where another does not.
+fn contrary(op: CmpOp) -> CmpOp
+    ensures { result ≡ rule.contrary op }
+{
+    match op {
+        CmpOp::Eq => CmpOp::NeUn,
+        CmpOp::Ge => CmpOp::Lt,
+        CmpOp::Gt => CmpOp::Le,
+        CmpOp::Le => CmpOp::Gt,
+        CmpOp::Lt => CmpOp::Ge,
+        CmpOp::NeUn => CmpOp::Eq,
+        CmpOp::GeUn => CmpOp::LtUn,
+        CmpOp::GtUn => CmpOp::LeUn,
+        CmpOp::LeUn => CmpOp::GtUn,
+        CmpOp::LtUn => CmpOp::GeUn,
+    }
+}
+
+/// The numbers of a range up to a number.
+#[tactic(auto, using(crate::proofs::Stored::none_below))]
+fn range_upto(range: Range, hi: i128) -> Option<Range>
+    ensures { result ≡ range_without range.lo (int_min range.hi hi) range.hole }
+{
+    if hi < i128::from(range.lo()) {
+        return None;
+    }
+    range_without(
+        range.lo(),
+        i128::from(range.hi()).min(hi) as i64,
+        range.hole(),
+    )
+}
+
+/// The numbers of a range from a number on.
+#[tactic(auto, using(crate::proofs::Stored::none_below))]
+fn range_from(range: Range, lo: i128) -> Option<Range>
+    ensures { result ≡ range_without (int_max range.lo lo) range.hi range.hole }
+{
+    if i128::from(range.hi()) < lo {
+        return None;
+    }
+    range_without(
+        i128::from(range.lo()).max(lo) as i64,
+        range.hi(),
+        range.hole(),
+    )
+}
+
+/// The numbers of a range but for one.
+#[tactic(auto, unfolding(interval_domain::specs::Interval::without))]
+fn range_but_for(range: Range, n: i128) -> Option<Range>
+    ensures { result ≡ without range n }
+{
+    match i64::try_from(n) {
+        Ok(n) => range.without(n),
+        Err(_) => Some(range),
+    }
+}
+
+impl Numbers {
+    /// Gives a symbol another range. That of symbol 0 is never changed.
+    #[tactic(auto, using(crate::proofs::Symbols::changes), unfolding(crate::specs::Assume::changed))]
+    fn change(&mut self, sym: u32, range: Option<Range>) -> bool
+        requires there { sym ≤ length self.old.ranges }
+        ensures reached { result ≡ is_some (rule.changed self.old sym range) }
+        ensures facts { result ≡ true → rule.changed self.old sym range ≡ Some self.new }
+        ensures count { length self.new.ranges ≡ length self.old.ranges }
+    {
+        if sym == 0 {
+            return true;
+        }
+        let Some(range) = range else {
+            return false;
+        };
+        self.ranges[sym as usize - 1] = range;
+        true
+    }
+
+    /// The expression is at most a number.
+    #[tactic(auto, unfolding(crate::specs::Assume::lowered))]
+    fn lower(&mut self, e: Expr, n: i128) -> bool
+        requires there { e.sym ≤ length self.old.ranges }
+        requires number { IsBounded n }
+        ensures reached { result ≡ is_some (rule.lowered self.old e n) }
+        ensures facts { result ≡ true → rule.lowered self.old e n ≡ Some self.new }
+        ensures count { length self.new.ranges ≡ length self.old.ranges }
+    {
+        self.change(e.sym, range_upto(self.range_at(e.sym), below(n, e.k)))
+    }
+
+    /// The expression is at least a number.
+    #[tactic(auto, unfolding(crate::specs::Assume::raised))]
+    fn raise(&mut self, e: Expr, n: i128) -> bool
+        requires there { e.sym ≤ length self.old.ranges }
+        requires number { IsBounded n }
+        ensures reached { result ≡ is_some (rule.raised self.old e n) }
+        ensures facts { result ≡ true → rule.raised self.old e n ≡ Some self.new }
+        ensures count { length self.new.ranges ≡ length self.old.ranges }
+    {
+        self.change(e.sym, range_from(self.range_at(e.sym), below(n, e.k)))
+    }
+
+    /// The first expression and a number more, 0 or 1, are at most the second.
+    #[tactic(auto, unfolding(crate::specs::Assume::assumed_at_most))]
+    fn assume_at_most(&mut self, a: Expr, more: i64, b: Expr) -> bool
+        requires first { a.sym ≤ length self.old.ranges }
+        requires second { b.sym ≤ length self.old.ranges }
+        requires one { (pos 0 ≤ℤ more) × (more ≤ℤ pos 1) }
+        ensures reached { result ≡ is_some (rule.assumed_at_most self.old a more b) }
+        ensures facts { result ≡ true → rule.assumed_at_most self.old a more b ≡ Some self.new }
+        ensures count { length self.new.ranges ≡ length self.old.ranges }
+    {
+        if self.is_beyond(a, more, b) {
+            return false;
+        }
+        let hi = self.end_below(b, more);
+        let lo = self.end_above(a, more);
+        self.lower(a, hi) && self.raise(b, lo)
+    }
+
+    /// The first expression is less than the second.
+    fn assume_less(&mut self, a: Expr, b: Expr) -> bool
+        requires first { a.sym ≤ length self.old.ranges }
+        requires second { b.sym ≤ length self.old.ranges }
+        ensures reached { result ≡ is_some (rule.assumed_less self.old a b) }
+        ensures facts { result ≡ true → rule.assumed_less self.old a b ≡ Some self.new }
+        ensures count { length self.new.ranges ≡ length self.old.ranges }
+    {
+        self.assume_at_most(a, 1, b)
+    }
+
+    /// The two are equal.
+    #[tactic(auto, unfolding(crate::specs::Assume::assumed_equal))]
+    fn assume_equal(&mut self, a: Expr, b: Expr) -> bool
+        requires first { a.sym ≤ length self.old.ranges }
+        requires second { b.sym ≤ length self.old.ranges }
+        ensures reached { result ≡ is_some (rule.assumed_equal self.old a b) }
+        ensures facts { result ≡ true → rule.assumed_equal self.old a b ≡ Some self.new }
+        ensures count { length self.new.ranges ≡ length self.old.ranges }
+    {
+        self.assume_at_most(a, 0, b) && self.assume_at_most(b, 0, a)
+    }
+
+    /// The first expression is not the number of the second, where that has one alone.
+    #[tactic(auto, unfolding(crate::specs::Assume::lost))]
+    fn lose(&mut self, a: Expr, b: Expr) -> bool
+        requires first { a.sym ≤ length self.old.ranges }
+        requires second { b.sym ≤ length self.old.ranges }
+        ensures reached { result ≡ is_some (rule.lost self.old a b) }
+        ensures facts { result ≡ true → rule.lost self.old a b ≡ Some self.new }
+        ensures count { length self.new.ranges ≡ length self.old.ranges }
+    {
+        let r = self.range_of(b);
+        if !r.is_one() {
+            return true;
+        }
+        self.change(
+            a.sym,
+            range_but_for(self.range_at(a.sym), less_by(r.lo, a.k)),
+        )
+    }
+
+    /// Of two that differ one is less, where the other order is ruled out.
+    #[tactic(auto, unfolding(crate::specs::Assume::ordered))]
+    fn assume_ordered(&mut self, a: Expr, b: Expr) -> bool
+        requires first { a.sym ≤ length self.old.ranges }
+        requires second { b.sym ≤ length self.old.ranges }
+        ensures reached { result ≡ is_some (rule.ordered self.old a b) }
+        ensures facts { result ≡ true → rule.ordered self.old a b ≡ Some self.new }
+        ensures count { length self.new.ranges ≡ length self.old.ranges }
+    {
+        if self.is_at_most(a, 0, b) {
+            self.assume_less(a, b)
+        } else if self.is_at_most(b, 0, a) {
+            self.assume_less(b, a)
+        } else {
+            true
+        }
+    }
+
+    /// The two differ.
+    #[tactic(auto, unfolding(crate::specs::Assume::assumed_apart))]
+    fn assume_apart(&mut self, a: Expr, b: Expr) -> bool
+        requires first { a.sym ≤ length self.old.ranges }
+        requires second { b.sym ≤ length self.old.ranges }
+        ensures reached { result ≡ is_some (rule.assumed_apart self.old a b) }
+        ensures facts { result ≡ true → rule.assumed_apart self.old a b ≡ Some self.new }
+        ensures count { length self.new.ranges ≡ length self.old.ranges }
+    {
+        if self.is_equal(a, b) {
+            return false;
+        }
+        self.lose(a, b) && self.lose(b, a) && self.assume_ordered(a, b)
+    }
+
+    /// The first is less than the second, where both are taken as unsigned.
+    #[tactic(auto, unfolding(crate::specs::Assume::assumed_less_unsigned))]
+    fn assume_less_unsigned(&mut self, a: Expr, b: Expr) -> bool
+        requires first { a.sym ≤ length self.old.ranges }
+        requires second { b.sym ≤ length self.old.ranges }
+        ensures reached { result ≡ is_some (rule.assumed_less_unsigned self.old a b) }
+        ensures facts { result ≡ true → rule.assumed_less_unsigned self.old a b ≡ Some self.new }
+        ensures count { length self.new.ranges ≡ length self.old.ranges }
+    {
+        if self.range_of(b).is_not_negative() {
+            self.assume_at_most(constant(0), 0, a) && self.assume_less(a, b)
+        } else if a.sym == 0 && a.k == 0 {
+            self.assume_apart(b, constant(0))
+        } else {
+            true
+        }
+    }
+
+    /// The first is at most the second, where both are taken as unsigned.
+    #[tactic(auto, unfolding(crate::specs::Assume::assumed_at_most_unsigned))]
+    fn assume_at_most_unsigned(&mut self, a: Expr, b: Expr) -> bool
+        requires first { a.sym ≤ length self.old.ranges }
+        requires second { b.sym ≤ length self.old.ranges }
+        ensures reached { result ≡ is_some (rule.assumed_at_most_unsigned self.old a b) }
+        ensures facts { result ≡ true → rule.assumed_at_most_unsigned self.old a b ≡ Some self.new }
+        ensures count { length self.new.ranges ≡ length self.old.ranges }
+    {
+        if self.range_of(b).is_not_negative() {
+            self.assume_at_most(constant(0), 0, a) && self.assume_at_most(a, 0, b)
+        } else {
+            true
+        }
+    }
+
+    /// The comparison holds.
+    #[tactic(auto, unfolding(crate::specs::Assume::holding))]
+    fn assume_holding(&mut self, op: CmpOp, a: Expr, b: Expr) -> bool
+        requires first { a.sym ≤ length self.old.ranges }
+        requires second { b.sym ≤ length self.old.ranges }
+        ensures reached { result ≡ is_some (rule.holding op self.old a b) }
+        ensures facts { result ≡ true → rule.holding op self.old a b ≡ Some self.new }
+        ensures count { length self.new.ranges ≡ length self.old.ranges }
+    {
+        match op {
+            CmpOp::Eq => self.assume_equal(a, b),
+            CmpOp::Ge => self.assume_at_most(b, 0, a),
+            CmpOp::Gt => self.assume_less(b, a),
+            CmpOp::Le => self.assume_at_most(a, 0, b),
+            CmpOp::Lt => self.assume_less(a, b),
+            CmpOp::NeUn => self.assume_apart(a, b),
+            CmpOp::GeUn => self.assume_at_most_unsigned(b, a),
+            CmpOp::GtUn => self.assume_less_unsigned(b, a),
+            CmpOp::LeUn => self.assume_at_most_unsigned(a, b),
+            CmpOp::LtUn => self.assume_less_unsigned(a, b),
+        }
+    }
+
+    /// Assumes that a comparison holds, or that it does not. False exactly where nothing is reached then, and what is
+    /// known is to be given up.
+    ///
+    /// # Errors
+    ///
+    /// Want of memory. This version takes none.
+    #[tactic(auto, unfolding(crate::specs::Assume::assumed))]
+    pub fn assume_cmp(&mut self, op: CmpOp, a: Expr, b: Expr, holds: bool) -> Result<bool, NoMemory>
+        requires first { a.sym ≤ length self.old.ranges }
+        requires second { b.sym ≤ length self.old.ranges }
+        ensures reached { IfOk result (λ reached. reached ≡ is_some (rule.assumed op self.old a b holds)) }
+        ensures facts { IfOk result (λ reached. reached ≡ true → rule.assumed op self.old a b holds ≡ Some self.new) }
+        ensures count { length self.new.ranges ≡ length self.old.ranges }
+        ensures err { OnErr result (self.new ≡ self.old) }
+    {
+        Ok(self.assume_holding(if holds { op } else { contrary(op) }, a, b))
+    }
+}

@@ -1,0 +1,63 @@
+//! Shifts.
+
+ghost use Rattle.std.specs.Prelude.{◌≡◌, ◌≤◌, length};
+ghost use Rattle.range_facts.specs.Facts.{AreNarrow, IsThere};
+ghost use Rattle.range_facts.specs.Shifts.{IsAmount};
+ghost use Rattle.range_facts.specs.Shifts as rule;
+
+use crate::exact::power;
+use crate::numbers::{Numbers, constant};
+use crate::outcome::Outcome;
+use crate::span::Span;
+use domain_api::Expr;
+
+/// Numbers shifted to the right.
+#[tactic(auto, unfolding(crate::specs::Shifts::shifted_right))]
+pub(crate) fn shifted_right(r: Span, b: Expr) -> Span
+    requires amount { b.sym ≡ 0 → IsAmount b.k }
+    ensures { result ≡ rule.shifted_right r b }
+{
+    if b.sym == 0 {
+        let places = b.k as u32;
+        Span::between(r.lo >> places, r.hi >> places)
+    } else {
+        Span::between(r.lo.min(0), r.hi.max(-1))
+    }
+}
+
+impl Numbers {
+    /// A number shifted to the left.
+    #[tactic(auto, unfolding(crate::specs::Shifts::shifted_left))]
+    pub(crate) fn shifted_left(&self, a: Expr, b: Expr) -> Outcome
+        requires first { IsThere self.now a }
+        requires amount { b.sym ≡ 0 → IsAmount b.k }
+        requires narrow { AreNarrow self.now }
+        ensures { result ≡ rule.shifted_left self.now a b }
+    {
+        if b.sym == 0 {
+            self.product(a, constant(power(b.k)))
+        } else {
+            Outcome::Within(Span::full())
+        }
+    }
+
+    /// An unsigned number shifted to the right.
+    #[tactic(auto, unfolding(crate::specs::Shifts::shifted_right_unsigned))]
+    pub(crate) fn shifted_right_unsigned(&self, a: Expr, b: Expr) -> Outcome
+        requires first { a.sym ≤ length self.now.ranges }
+        requires amount { b.sym ≡ 0 → IsAmount b.k }
+        ensures { result ≡ rule.shifted_right_unsigned self.now a b }
+    {
+        let r = self.range_of(a);
+        if r.is_not_negative() {
+            return Outcome::Within(shifted_right(r, b));
+        }
+        if b.sym != 0 {
+            return Outcome::Within(Span::full());
+        }
+        if b.k == 0 {
+            return Outcome::Is(a);
+        }
+        Outcome::Within(Span::between(0, i128::from(u32::MAX >> b.k as u32)))
+    }
+}

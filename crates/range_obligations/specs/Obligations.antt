@@ -1,0 +1,23 @@
+-- The obligations of a unit: that no instruction of its body ends in a fault.
+use Rattle.std.specs.Prelude.{nat_le, if◌then◌else◌, map, List, [], None}
+use Rattle.std.specs.List.{flat_map}
+use Rattle.cil_model.specs.declared.instruction.Instr.{Instr}
+use Rattle.cil_model.specs.declared.machine.FaultKind.{FaultKind}
+use Rattle.cil_model.specs.declared.machine.Obligation.{Obligation}
+use Rattle.cil_model.specs.declared.unit.Unit.{Unit as MethodUnit}
+use Rattle.range_states.specs.Faults.{faults_of}
+
+abbrev pub obligation : Instr → FaultKind → Obligation
+obligation i kind = record { at = i.at; kind = kind; callee = None }
+
+-- The obligations of an instruction: that it ends in none of these.
+abbrev pub obligations_at : Instr → List Obligation
+obligations_at i = map (obligation i) (faults_of i.op)
+
+-- Those of an instruction of a unit's body. What stands before the body is never executed.
+abbrev pub obligations_in : MethodUnit → Instr → List Obligation
+obligations_in unit i = if nat_le unit.body_start i.at then obligations_at i else []
+
+-- Those of a unit, in the order of its code.
+abbrev pub obligations_of : MethodUnit → List Obligation
+obligations_of unit = flat_map (obligations_in unit) unit.instrs

@@ -1,0 +1,120 @@
+-- What the tests of an invariant tell.
+use Rattle.std.proofs.Common.{◌≡◌, ℕ, zero, suc, ◌+◌, ◌<◌, Bool, true, List, [], ◌∷◌, length, get_or, None, Result, refl, sym, ap, subst, ◌∙◌, arith, inl, inr}
+use Rattle.std.specs.Prelude.{◌↔◌, IsTrue, IfOk}
+use Rattle.std.proofs.lemmas.Bool.{cases_lt}
+use Rattle.std.proofs.lemmas.Result.{IfOk-weaker}
+use Rattle.flow_graph.specs.declared.graph.Edge.{Edge}
+use Rattle.cil_model.specs.declared.machine.Frame.{Frame}
+use Rattle.range_states.specs.FrameFacts.{State}
+use Rattle.range_states.specs.Frames.{HoldsIn}
+use Rattle.range_states.specs.StatesHold.{leq_holds}
+use Rattle.range_states.specs.Inclusion.{leq}
+use Rattle.range_states.specs.RangeStates.{AreAlike}
+use Rattle.range_rules.specs.Entry.{entry}
+use Rattle.range_rules.specs.Flow.{Fits, IsLawful, along_edge, edge_at, kinds_at, no_edge}
+use Rattle.range_rules.specs.FlowLaws as laws
+use Rattle.range_rules.specs.Inductive.{AllCarried, ComesTo, HasShape, IsBegun, IsInductive, state_at}
+use Rattle.range_rules.specs.declared.unit_flow.UnitFlow.{UnitFlow}
+
+-- ---- one more
+
+pub one_more : (P : ℕ → Type 0) (n : ℕ) → ((k : ℕ) → k < n → P k) → P n → (k : ℕ) → k < n + 1 → P k
+one_more P n before here k below =
+    elim (cases_lt k n) [
+      | inl less ↦ before k less
+      | inr not ↦ (let same : k ≡ n = omega (arith, below, not) in subst P (sym same) here)
+    ]
+
+same_item : (states : List State) (i : ℕ) (d e : State) → i < length states → get_or states i d ≡ get_or states i e
+same_item [] i d e below = absurd (omega (arith, below))
+same_item (s ∷ states) zero d e below = refl
+same_item (s ∷ states) (suc i) d e below = same_item states i d e (omega (arith, below))
+
+pub item_is : (states : List State) (i : ℕ) (s : State) → i < length states → s ≡ get_or states i s → s ≡ state_at states i
+item_is states i s below is = is ∙ same_item states i s None below
+
+-- ---- one edge
+
+-- An answer whether one state is included in another.
+pub told_so : {E : Type 0} (r : Result Bool E) (a b c d : State) → IfOk r (λ less. less ≡ leq a b) → a ≡ c → b ≡ d → IfOk r (λ yes. IsTrue yes ↔ (leq c d ≡ true))
+told_so r a b c d answer p q = IfOk-weaker r _ (λ yes. IsTrue yes ↔ (leq c d ≡ true)) (λ less is. same less (is ∙ both)) answer
+  where
+    both : leq a b ≡ leq c d
+    both = cc
+
+    same : (less : Bool) → less ≡ leq c d → IsTrue less ↔ (leq c d ≡ true)
+    same less is = (λ yes. sym is ∙ yes, λ yes. is ∙ yes)
+
+module _ (code : UnitFlow) (lawful : IsLawful code) (states : List State) (shape : HasShape code states) (k : ℕ) (below : k < length code.graph.edges) (edges : List Edge)
+    (are : edges ≡ code.graph.edges) where
+  abbrev edge : Edge
+  edge = get_or edges k no_edge
+
+  edge_is : edge ≡ edge_at code k
+  edge_is = ap (λ (es : List Edge). get_or es k no_edge) are
+
+  pub from_below : edge.from < length states
+  from_below = subst (λ (e : Edge). e.from < length states) (sym edge_is) (subst (λ (n : ℕ). (edge_at code k).from < n) (sym shape.count) (laws.joins code lawful k below).from)
+
+  pub to_below : edge.to < length states
+  to_below = subst (λ (e : Edge). e.to < length states) (sym edge_is) (subst (λ (n : ℕ). (edge_at code k).to < n) (sym shape.count) (laws.joins code lawful k below).to)
+
+  pub from_is : (s : State) → s ≡ get_or states edge.from s → s ≡ state_at states (edge_at code k).from
+  from_is s is = item_is states edge.from s from_below is ∙ ap (λ (e : Edge). state_at states e.from) edge_is
+
+  pub to_is : (s : State) → s ≡ get_or states edge.to s → s ≡ state_at states (edge_at code k).to
+  to_is s is = item_is states edge.to s to_below is ∙ ap (λ (e : Edge). state_at states e.to) edge_is
+
+  pub from_fits : (s : State) → s ≡ get_or states edge.from s → Fits code (edge_at code k).from s
+  from_fits s is = subst (Fits code (edge_at code k).from) (sym (from_is s is))
+      (shape.fit (edge_at code k).from (subst (λ (e : Edge). e.from < length states) edge_is from_below))
+
+  to_fits : (s : State) → s ≡ get_or states edge.to s → Fits code (edge_at code k).to s
+  to_fits s is = subst (Fits code (edge_at code k).to) (sym (to_is s is))
+      (shape.fit (edge_at code k).to (subst (λ (e : Edge). e.to < length states) edge_is to_below))
+
+  pub are_alike : (s t behind : State) → s ≡ get_or states edge.from s → t ≡ get_or states edge.to t → behind ≡ along_edge s code k → AreAlike behind t
+  are_alike s t behind from to is =
+      laws.alike code.unit (kinds_at code (edge_at code k).to) behind t
+      (subst (Fits code (edge_at code k).to) (sym is) (laws.along_kept code lawful k below s (from_fits s from))) (to_fits t to)
+
+-- ---- the first block
+
+module _ (code : UnitFlow) (lawful : IsLawful code) (states : List State) (shape : HasShape code states) where
+  pub first_there : 0 < length states
+  first_there = subst (λ (n : ℕ). 0 < n) (sym shape.count) (laws.has_block code lawful)
+
+  pub first_alike : (s first : State) → s ≡ entry code.unit → first ≡ get_or states 0 first → AreAlike s first
+  first_alike s first is there =
+      laws.alike code.unit (kinds_at code 0) s first (subst (Fits code 0) (sym is) (laws.entry_fits code lawful))
+      (subst (Fits code 0) (sym (item_is states 0 first first_there there)) (shape.fit 0 first_there))
+
+-- what is left to show where the shape is right and the first state is included
+pub inductive_where : {E : Type 0} (r : Result Bool E) (code : UnitFlow) (states : List State) → HasShape code states → IsBegun code states
+    → IfOk r (λ yes. IsTrue yes ↔ AllCarried code states) → IfOk r (λ yes. IsTrue yes ↔ IsInductive code states)
+inductive_where r code states shape begun answer =
+    IfOk-weaker r _ (λ yes. IsTrue yes ↔ IsInductive code states)
+    (λ yes is. (λ e. record { shape = shape; begun = begun; edges = is.0 e }, λ inductive. is.1 inductive.edges)) answer
+
+-- ---- what an invariant is for
+
+module _ (code : UnitFlow) (lawful : IsLawful code) (states : List State) (inductive : IsInductive code states) where
+  fits_at : (block : ℕ) → block < length code.graph.blocks → Fits code block (state_at states block)
+  fits_at block below = inductive.shape.fit block (subst (λ (n : ℕ). block < n) (sym inductive.shape.count) below)
+
+  pub holds_there : (n block : ℕ) (f : Frame) → ComesTo code n block f → HoldsIn (state_at states block) f
+  holds_there zero block f (begins, first) =
+      subst (λ (b : ℕ). HoldsIn (state_at states b) f) (sym first)
+      (leq_holds (entry code.unit) (state_at states 0) f
+      (laws.alike code.unit (kinds_at code 0) (entry code.unit) (state_at states 0) (laws.entry_fits code lawful) (fits_at 0 (laws.has_block code lawful)))
+      inductive.begun (laws.entry_keeps code lawful f begins))
+  holds_there (suc n) block f (k, below, target, (before, comes, goes)) =
+      let edge = edge_at code k in
+      let ends = laws.joins code lawful k below in
+      let here = fits_at edge.from ends.from in
+      let behind = along_edge (state_at states edge.from) code k in
+      subst (λ (b : ℕ). HoldsIn (state_at states b) f) target
+      (leq_holds behind (state_at states edge.to) f
+      (laws.alike code.unit (kinds_at code edge.to) behind (state_at states edge.to) (laws.along_kept code lawful k below (state_at states edge.from) here) (fits_at edge.to ends.to))
+      (inductive.edges k below)
+      (laws.along_keeps code lawful k below (state_at states edge.from) before f here goes (holds_there n edge.from before comes)))

@@ -1,0 +1,123 @@
+//! Whether states, one for each block, are an invariant.
+
+ghost use Rattle.std.specs.Prelude.{◌≡◌, ◌<◌, ◌↔◌, true, length, IfOk, IsTrue};
+ghost use Rattle.range_rules.specs.Flow.{Fits, IsLawful};
+ghost use Rattle.range_rules.specs.Inductive.{AllCarried, AllFit, HasShape, HoldsWhereItComes, IsBegun, IsCarried, IsInductive};
+
+use crate::entry::entry_state;
+use crate::unit_flow::UnitFlow;
+use domain_api::{Lattice, NoMemory};
+use range_states::AbsState;
+use std::alloc::Global;
+
+/// Returns whether the state fits the start of a block.
+fn fits(code: &UnitFlow, block: usize, state: &AbsState) -> bool
+    requires lawful { IsLawful code.now }
+    requires block { block < length code.now.graph.blocks }
+    ensures { IsTrue result ↔ Fits code.now block state.now }
+{
+    if !state.reached() {
+        return true;
+    }
+    let args = code.unit.args.as_slice().len();
+    let locals = code.unit.locals.as_slice().len();
+    match code.kinds_at(block) {
+        None => false,
+        Some(kinds) => state.var_count() == (args + args + locals + kinds.len()) as u64,
+    }
+}
+
+/// Returns whether each state fits the block of its place.
+fn all_fit(code: &UnitFlow, states: &[AbsState]) -> bool
+    requires lawful { IsLawful code.now }
+    requires count { length states.now ≡ length code.now.graph.blocks }
+    ensures { IsTrue result ↔ AllFit code.now states.now }
+{
+    for block in 0..states.len() {
+        if !fits(code, block, &states[block]) {
+            return false;
+        }
+    }
+    true
+}
+
+/// Returns whether there is a state for each block and each fits its block: nothing is reached, or it has one variable
+/// for each
+/// argument at the entry, argument, local and value on the stack there. Where typing does not come, nothing is reached.
+pub fn has_shape(code: &UnitFlow, states: &[AbsState]) -> bool
+    requires lawful { IsLawful code.now }
+    ensures exact { IsTrue result ↔ HasShape code.now states.now }
+{
+    states.len() == code.graph.blocks.as_slice().len() && all_fit(code, states)
+}
+
+/// Returns whether the state along an edge from that of its source is included in that of its target.
+fn is_carried(
+    alloc: Global,
+    code: &UnitFlow,
+    states: &[AbsState],
+    edge: usize,
+) -> Result<bool, NoMemory>
+    requires lawful { IsLawful code.now }
+    requires shape { HasShape code.now states.now }
+    requires edge { edge < length code.now.graph.edges }
+    ensures { IfOk result (λ yes. IsTrue yes ↔ IsCarried code.now states.now edge) }
+{
+    let way = code.graph.edges.as_slice()[edge];
+    let behind = code.along_edge(alloc, &states[way.from as usize], edge)?;
+    behind.leq(alloc, &states[way.to as usize])
+}
+
+/// Returns whether that is so of each edge.
+fn all_carried(alloc: Global, code: &UnitFlow, states: &[AbsState]) -> Result<bool, NoMemory>
+    requires lawful { IsLawful code.now }
+    requires shape { HasShape code.now states.now }
+    ensures { IfOk result (λ yes. IsTrue yes ↔ AllCarried code.now states.now) }
+{
+    for edge in 0..code.graph.edges.as_slice().len() {
+        if !is_carried(alloc, code, states, edge)? {
+            return Ok(false);
+        }
+    }
+    Ok(true)
+}
+
+/// Returns whether the state where the unit begins is included in that of the first block.
+fn is_begun(alloc: Global, code: &UnitFlow, states: &[AbsState]) -> Result<bool, NoMemory>
+    requires lawful { IsLawful code.now }
+    requires shape { HasShape code.now states.now }
+    ensures { IfOk result (λ yes. IsTrue yes ↔ IsBegun code.now states.now) }
+{
+    let first = &states[0];
+    let entry = entry_state(alloc, &code.unit)?;
+    entry.leq(alloc, first)
+}
+
+/// Returns whether the states are an invariant of the unit.
+fn is_inductive(alloc: Global, code: &UnitFlow, states: &[AbsState]) -> Result<bool, NoMemory>
+    requires lawful { IsLawful code.now }
+    ensures exact { IfOk result (λ yes. IsTrue yes ↔ IsInductive code.now states.now) }
+{
+    if !has_shape(code, states) {
+        return Ok(false);
+    }
+    if !is_begun(alloc, code, states)? {
+        return Ok(false);
+    }
+    all_carried(alloc, code, states)
+}
+
+/// Returns whether the states are an invariant of the unit: they have its shape, the state where it begins is included
+/// in that of
+/// the first block, and the state along each edge in that of its target.
+///
+/// Cost: one walk through the source of each edge, up to the first edge that shows that they are none.
+pub fn inductive(alloc: Global, code: &UnitFlow, states: &[AbsState]) -> Result<bool, NoMemory>
+    requires lawful { IsLawful code.now }
+    ensures exact { IfOk result (λ yes. IsTrue yes ↔ IsInductive code.now states.now) }
+    // The state of each block then holds of each frame that comes there along edges.
+    ensures sound { IfOk result (λ yes. IsTrue yes → HoldsWhereItComes code.now states.now) }
+{
+    let yes = is_inductive(alloc, code, states)?;
+    Ok(yes)
+}

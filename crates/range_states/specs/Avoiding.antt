@@ -1,0 +1,73 @@
+-- What is known where a fault did not come.
+use Rattle.std.specs.Prelude.{◌≡◌, ◌==◌, ℤ, pos, negsuc, Bool, true, ◌&&◌, List, [], ◌∷◌, Some, if◌then◌else◌}
+use Rattle.std.specs.Option.{option_and_then}
+use Rattle.std.specs.Ordering.{int_eq}
+use Rattle.domain_api.specs.declared.expr.Expr.{Expr}
+use Rattle.cil_model.specs.Arithmetic.{LEAST}
+use Rattle.cil_model.specs.Effects.{Effect, Faults, HasEffect, effects}
+use Rattle.cil_model.specs.Values.{Heap}
+use Rattle.cil_model.specs.declared.instruction.CmpOp.{CmpOp}
+use Rattle.cil_model.specs.declared.instruction.CmpOp.TheVariants as comparisons
+use Rattle.cil_model.specs.declared.instruction.Instr.{Instr}
+use Rattle.cil_model.specs.declared.instruction.Op.{Op}
+use Rattle.cil_model.specs.declared.machine.FaultKind.{FaultKind}
+use Rattle.cil_model.specs.declared.machine.FaultKind.TheVariants as faults
+use Rattle.cil_model.specs.declared.machine.Frame.{Frame}
+use Rattle.cil_model.specs.declared.unit.Unit.{Unit as MethodUnit}
+use Rattle.range_facts.specs.Facts.{constant}
+use Rattle.range_states.specs.Assumptions.{assuming}
+use Rattle.range_states.specs.FrameFacts.{FrameFacts, State}
+use Rattle.range_states.specs.Frames.{HoldsIn}
+use Rattle.range_states.specs.Operands.{from_top}
+
+-- The expression is this constant.
+abbrev pub is_just : Expr → ℤ → Bool
+is_just e n = (e.sym == 0) && int_eq e.k n
+
+-- The top of the stack compares so with a constant.
+abbrev pub top_compares : CmpOp → ℤ → FrameFacts → State
+top_compares op n known = assuming op (from_top 0 known.variables) (constant n) true known
+
+-- And so does what lies below it.
+abbrev pub second_compares : CmpOp → ℤ → FrameFacts → State
+second_compares op n known = assuming op (from_top 1 known.variables) (constant n) true known
+
+-- The quotient was not that of the least int32 and -1: where the one is known, the other was another.
+unfoldable pub no_division_overflow : FrameFacts → State
+no_division_overflow known =
+    if is_just (from_top 1 known.variables) LEAST then top_compares comparisons.NeUn (negsuc 0) known
+    else if is_just (from_top 0 known.variables) (negsuc 0) then second_compares comparisons.NeUn LEAST known
+    else Some known
+
+-- The amount of a shift was one of 0 to 31.
+unfoldable pub amount : FrameFacts → State
+amount known = option_and_then (top_compares comparisons.Le (pos 31)) (top_compares comparisons.Ge (pos 0) known)
+
+-- The fault did not come. Of an overflow nothing is assumed.
+unfoldable pub avoiding : FaultKind → FrameFacts → State
+avoiding faults.DivZero known = top_compares comparisons.NeUn (pos 0) known
+avoiding faults.Assert known = top_compares comparisons.NeUn (pos 0) known
+avoiding faults.DivOverflow known = no_division_overflow known
+avoiding faults.Shift known = amount known
+avoiding _ known = Some known
+
+abbrev pub avoid : FaultKind → State → State
+avoid kind state = option_and_then (avoiding kind) state
+
+-- None of the faults came.
+abbrev pub avoid_all : List FaultKind → State → State
+avoid_all [] state = state
+avoid_all (kind ∷ kinds) state = avoid_all kinds (avoid kind state)
+
+-- ---- what that means
+
+-- The new state holds of each frame of which the old one does, and in which an instruction with this operation does
+-- something else than to end in the fault.
+abbrev pub AssumesNo : Op → FaultKind → State → State → Type 0
+AssumesNo op kind old new = (unit : MethodUnit) (i : Instr) (f : Frame) (heap : Heap) (effect : Effect) → i.op ≡ op → HoldsIn old f
+    → HasEffect (effects unit i f heap) effect → (effect ≡ Faults kind → ⊥) → HoldsIn new f
+
+-- So for all faults.
+abbrev pub AssumesNone : Op → State → State → Type 0
+AssumesNone op old new = (unit : MethodUnit) (i : Instr) (f : Frame) (heap : Heap) (effect : Effect) → i.op ≡ op → HoldsIn old f
+    → HasEffect (effects unit i f heap) effect → ((kind : FaultKind) → effect ≡ Faults kind → ⊥) → HoldsIn new f

@@ -1,0 +1,17 @@
+-- What a state says of a frame of the machine.
+use Rattle.std.specs.Prelude.{◌≡◌, ℤ, List, ◌++◌, map, reverse}
+use Rattle.cil_model.specs.declared.machine.Frame.{Frame}
+use Rattle.cil_model.specs.declared.machine.Value.{Value}
+use Rattle.cil_model.specs.declared.machine.Value.TheVariants as values
+use Rattle.range_states.specs.FrameFacts.{State, Holds}
+
+-- The values of a frame's variables, in order: the arguments at its entry, the arguments, the locals, and the stack from
+-- the bottom.
+abbrev pub variables_of : Frame → List Value
+variables_of frame = frame.entry_args ++ frame.args ++ frame.locals ++ reverse frame.stack
+
+-- The state holds of the frame: its variables are int32 of which it holds.
+pub record HoldsIn (state : State) (frame : Frame) : Type 0 where
+  pub numbers : List ℤ
+  pub holds : Holds state numbers
+  pub values : map (λ n. values.Int n) numbers ≡ variables_of frame
