@@ -62,14 +62,6 @@ pub judged_push : (entries : Entries) (key : Vec ℕ Global) (found : Vec Verdic
 judged_push [] key found judged is = (is, tt)
 judged_push (entry ∷ entries) key found judged is = (judged.0, judged_push entries key found judged.1 is)
 
--- ---- one key
-
-pub known_key : (seen : List (List ℕ)) (key : List ℕ) → is_among seen key ≡ true → unseen seen (key ∷ []) ≡ []
-known_key seen key known = rw known refl
-
-pub new_key : (seen : List (List ℕ)) (key : List ℕ) → is_among seen key ≡ false → unseen seen (key ∷ []) ≡ key ∷ []
-new_key seen key new = rw new refl
-
 -- What is noted last.
 pub noted_last : (old new : Entries) (key : Vec ℕ Global) (found : Vec Verdict Global) (seen : List (List ℕ)) → keys_in old ≡ seen → is_among seen key.items ≡ false
     → new ≡ inserted old key found → new ≡ old ++ (key, found) ∷ []
