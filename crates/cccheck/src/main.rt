@@ -10,7 +10,7 @@ use std::io::ErrorKind;
 use std::process::ExitCode;
 use std::rt::Env;
 use stream::Stream;
-use widening_engine::Plain;
+use widening_engine::Dirty;
 
 mod disk;
 mod stream;
@@ -39,7 +39,7 @@ fn main(rt: HostRuntime) -> ExitCode {
         let _ = err.put(rt.alloc(), NO_MEMORY);
         return ExitCode::from(7);
     };
-    let mut finder = Plain::new(rt.alloc());
+    let mut finder = Dirty::new(rt.alloc());
     ExitCode::from(run_words(
         rt.alloc(),
         &words,

@@ -71,7 +71,7 @@ module _ {S : Type 0} (flow : Flow S) (states : List S) where
       in_turn true true true = refl
       in_turn true true false = refl
 
-  merge_is : (all : List S) → unwrap_or (reduce flow.join all) flow.nothing ≡ merge flow all
+  pub merge_is : (all : List S) → unwrap_or (reduce flow.join all) flow.nothing ≡ merge flow all
   merge_is [] = refl
   merge_is (a ∷ others) = refl
 
@@ -132,7 +132,7 @@ module _ {S : Type 0} (flow : Flow S) (fits : ℕ → S → Type 0) (keeps : Kee
   fits-merge block h [] fit = keeps.nothing block h
   fits-merge block h (a ∷ others) fit = fit
 
-  fits-merged : (block : ℕ) → block < flow.blocks → fits block (merge flow (incoming flow states block))
+  pub fits-merged : (block : ℕ) → block < flow.blocks → fits block (merge flow (incoming flow states block))
   unfolding merged_by
   fits-merged block h = fits-merge block h (incoming flow states block) (merged_fits flow.edges block (omega arith))
 

@@ -5,3 +5,11 @@ pub mod BlockSteps
 pub mod Rounds
 mod Examples
 pub mod UnitSizes
+pub mod Counting
+pub mod Refreshing
+pub mod KeptStates
+pub mod Stepping
+pub mod Working
+pub mod Forgetting
+pub mod Seeking
+pub mod Tries

@@ -4,3 +4,5 @@ pub mod Merging
 pub mod Marks
 pub mod Finding
 pub mod Limits
+pub mod Work
+pub mod Kept

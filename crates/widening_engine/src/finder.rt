@@ -1,13 +1,13 @@
 //! What finds the invariants of units.
 
-ghost use Rattle.std.specs.Prelude.{◌≡◌, ℕ, List, [], ◌∷◌, ◌++◌, IfOk, OnOk, OnErr};
+ghost use Rattle.std.specs.Prelude.{◌≡◌, ℕ, List, [], ◌∷◌, ◌++◌, map, IfOk, OnOk, OnErr};
 ghost use Rattle.range_rules.specs.Flow.{IsLawful};
 ghost use Rattle.unit_form.specs.Spelling.{unit_bytes};
 ghost use Rattle.widening_engine.specs.Limits.{limit_of};
 
 use domain_api::NoMemory;
-use range_rules::UnitFlow;
-use range_states::Invariant;
+use range_rules::{UnitFlow, UnitState};
+use range_states::{AbsState, Invariant};
 use std::alloc::Global;
 
 /// What finds the invariants of units.
@@ -23,4 +23,11 @@ pub trait Finder {
         ensures value { IfOk result (λ found. found.states.items ≡ limit_of code.now) }
         ensures asked { OnOk result (asked self.new ≡ asked self.old ++ unit_bytes code.now.unit ∷ []) }
         ensures kept { OnErr result (asked self.new ≡ asked self.old) };
+}
+
+/// What is known in states of a unit.
+pub(crate) fn known(alloc: Global, states: Vec<UnitState>) -> Result<Vec<AbsState>, NoMemory>
+    ensures { IfOk result (λ known. known.items ≡ map (λ a. a.state) states.items) }
+{
+    states.into_iter().map(|a| a.state).collect(alloc)
 }

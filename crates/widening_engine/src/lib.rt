@@ -2,13 +2,19 @@
 //! units by them.
 #![tactic(auto)]
 
+mod dirty;
 mod finder;
 mod heads;
+mod keeping;
+mod kept;
+mod kept_block;
 mod passes;
 mod plain;
 mod settling;
 mod widening;
 
+pub use dirty::Dirty;
 pub use finder::Finder;
+pub use keeping::{States, kept_rounds};
 pub use plain::Plain;
 pub use settling::limit;

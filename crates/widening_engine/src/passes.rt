@@ -1,9 +1,11 @@
 //! Passes over the edges: whether states are inductive, and what the next ones are.
 
-ghost use Rattle.std.specs.Prelude.{◌≡◌, ◌<◌, ◌+◌, ◌^◌, ◌&&◌, [], length, slice_set, slice_index_or, map, unwrap_or, IfOk, OnOk, IfSome, Some, None};
+ghost use Rattle.std.specs.Prelude.{◌≡◌, ◌<◌, ◌≤◌, ◌+◌, ◌^◌, ◌&&◌, [], length, slice_set, slice_index_or, map, unwrap_or, IfOk, OnOk, IfSome, Some, None};
+ghost use Rattle.domain_api.specs.Meter.{after_tick};
 ghost use Rattle.widening_engine.specs.Flows.{AreEdges, FitBlocks, flow_of};
 ghost use Rattle.widening_engine.specs.Merging.{HasPassed, joined};
 ghost use Rattle.widening_engine.specs.Rounds.{is_inductive, next, places};
+ghost use Rattle.widening_engine.specs.Work.{after_ticks};
 
 use domain_api::{FlowState, NoMemory};
 use flow_graph::Edge;
@@ -14,7 +16,7 @@ use std::alloc::Global;
 pub(crate) struct Pass<S> {
     /// For each block the join of the states that flow into it, if any do.
     pub merged: Vec<Option<S>>,
-    /// True where all that flows into a block is included in its state.
+    /// Whether all that flows into a block is included in its state.
     pub inductive: bool,
 }
 
@@ -103,7 +105,9 @@ impl<S: FlowState + Drop> Pass<S> {
         requires from { edge.from ≡ S.source code.now place }
         requires to { edge.to ≡ S.target code.now place }
         requires passed { HasPassed (flow_of S.FlowState.own S.Lattice code.now) states.now (places place) self.old }
-        ensures { OnOk result (HasPassed (flow_of S.FlowState.own S.Lattice code.now) states.now (places (place + 1)) self.new) }
+        ensures passed { OnOk result (HasPassed (flow_of S.FlowState.own S.Lattice code.now) states.now (places (place + 1)) self.new) }
+        // In every answer.
+        ensures ticked { S.Gauge.count meter.new ≡ after_tick (S.Gauge.count meter.old) }
     {
         let behind = states[edge.from as usize].along_edge(alloc, code, place, meter)?;
         let target = &states[edge.to as usize];
@@ -124,7 +128,9 @@ fn over_edges<S: FlowState + Drop>(
     requires fit { FitBlocks (flow_of S.FlowState.own S.Lattice code.now) (S.fits code.now) states.now }
     requires edges { AreEdges (flow_of S.FlowState.own S.Lattice code.now) edges.now }
     requires few { S.edge_count code.now < 2 ^ 32 }
-    ensures { IfOk result (HasPassed (flow_of S.FlowState.own S.Lattice code.now) states.now (places (S.edge_count code.now))) }
+    ensures passed { IfOk result (HasPassed (flow_of S.FlowState.own S.Lattice code.now) states.now (places (S.edge_count code.now))) }
+    ensures ticked { OnOk result (S.Gauge.count meter.new ≡ after_ticks (S.edge_count code.now) (S.Gauge.count meter.old)) }
+    ensures most { S.Gauge.count meter.new ≤ S.Gauge.count meter.old + S.edge_count code.now }
 {
     let mut pass = begin(alloc, code, states)?;
     for place in 0..edges.len() {
@@ -158,7 +164,7 @@ fn states_of<S: FlowState + Drop>(alloc: Global, merged: Vec<Option<S>>) -> Resu
 pub(crate) struct Round<S> {
     /// The states a plain round later.
     pub next: Vec<S>,
-    /// True where all that flows into a block is included in its state.
+    /// Whether all that flows into a block is included in its state.
     pub inductive: bool,
 }
 
@@ -180,6 +186,8 @@ pub(crate) fn next_round<S: FlowState + Drop>(
     ensures inductive { IfOk result (λ round. round.inductive ≡ is_inductive (flow_of S.FlowState.own S.Lattice code.now) states.now) }
     ensures fit { IfOk result (λ round.
         FitBlocks (flow_of S.FlowState.own S.Lattice code.now) (S.fits code.now) round.next.items) }
+    ensures ticked { OnOk result (S.Gauge.count meter.new ≡ after_ticks (S.edge_count code.now) (S.Gauge.count meter.old)) }
+    ensures most { S.Gauge.count meter.new ≤ S.Gauge.count meter.old + S.edge_count code.now }
 {
     let pass = over_edges(alloc, code, edges, states, meter)?;
     let next = states_of(alloc, pass.merged)?;

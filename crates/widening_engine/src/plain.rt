@@ -1,58 +1,78 @@
 //! A finder that computes each round anew.
 
-ghost use Rattle.std.specs.Prelude.{◌≡◌, [], map, IfOk};
+ghost use Rattle.std.specs.Prelude.{◌≡◌, ◌≤◌, ◌+◌, ◌*◌, ◌++◌, ◌∷◌, [], length, map, IfOk, OnOk, OnErr};
 ghost use Rattle.range_rules.specs.Flow.{IsLawful};
+ghost use Rattle.unit_form.specs.Spelling.{unit_bytes};
 ghost use Rattle.widening_engine.specs.Limits.{limit_of, unit_flow};
 ghost use Rattle.widening_engine.specs.Rounds.{limit};
+ghost use Rattle.widening_engine.specs.Work.{after_ticks, rounds};
 
-use crate::finder::Finder;
+use crate::finder::{Finder, known};
 use crate::settling::limit;
 use domain_api::{NoMemory, Ticks};
 use range_rules::{UnitFlow, UnitState};
-use range_states::{AbsState, Invariant};
+use range_states::Invariant;
 use std::alloc::Global;
 use unit_form::unit_bytes;
 
-/// A finder that computes each round anew, and keeps nothing but the bytes of the units that it was asked for.
+/// A finder that computes each round anew.
 #[derive(Drop)]
 pub struct Plain {
     /// The bytes of the units that it was asked for, in order.
     pub asked: Vec<Vec<u8>>,
+    /// The edges that it computed.
+    pub meter: Ticks,
 }
 
 /// The states of a unit where they settle.
-fn settled_states(alloc: Global, code: &UnitFlow) -> Result<Vec<UnitState>, NoMemory>
+fn settled_states(
+    alloc: Global,
+    code: &UnitFlow,
+    meter: &mut Ticks,
+) -> Result<Vec<UnitState>, NoMemory>
     requires { IsLawful code.now }
-    ensures { IfOk result (λ states. states.items ≡ limit (unit_flow code.now)) }
+    ensures value { IfOk result (λ states. states.items ≡ limit (unit_flow code.now)) }
+    ensures most { meter.new.count ≤ meter.old.count + length (rounds (unit_flow code.now)) * length code.now.graph.edges }
+    ensures ticked { OnOk result (meter.new.count ≡ after_ticks (length (rounds (unit_flow code.now)) * length code.now.graph.edges) meter.old.count) }
 {
-    let mut meter = Ticks { count: 0 };
-    limit::<UnitState>(alloc, code, &code.graph, &mut meter)
-}
-
-/// Returns what is known in states of a unit.
-fn known(alloc: Global, states: Vec<UnitState>) -> Result<Vec<AbsState>, NoMemory>
-    ensures { IfOk result (λ known. known.items ≡ map (λ a. a.state) states.items) }
-{
-    states.into_iter().map(|a| a.state).collect(alloc)
+    limit::<UnitState>(alloc, code, &code.graph, meter)
 }
 
 impl Plain {
-    /// A finder that was not asked for any unit yet.
+    /// A finder that was not asked for any unit yet. It takes no memory.
     pub fn new(alloc: Global) -> Plain
-        ensures { result.asked.items ≡ [] }
+        ensures asked { result.asked.items ≡ [] }
+        ensures none { result.meter.count ≡ 0 }
     {
         Plain {
             asked: Vec::new(alloc),
+            meter: Ticks { count: 0 },
         }
+    }
+
+    /// How many edges were computed since the finder was made, up to 2^64 - 1. It takes no memory.
+    pub fn edges(&self) -> u64
+        ensures { result ≡ self.now.meter.count }
+    {
+        self.meter.count
     }
 }
 
 impl Finder for Plain {
     ghost asked = { λ finder. map (λ bytes. bytes.items) finder.asked.items };
 
-    fn find(&mut self, alloc: Global, code: &UnitFlow) -> Result<Invariant, NoMemory> {
+    fn find(&mut self, alloc: Global, code: &UnitFlow) -> Result<Invariant, NoMemory>
+        requires lawful { IsLawful code.now }
+        ensures value { IfOk result (λ found. found.states.items ≡ limit_of code.now) }
+        ensures asked { OnOk result (map (λ bytes. bytes.items) self.new.asked.items ≡ map (λ bytes. bytes.items) self.old.asked.items ++ unit_bytes code.now.unit ∷ []) }
+        ensures kept { OnErr result (map (λ bytes. bytes.items) self.new.asked.items ≡ map (λ bytes. bytes.items) self.old.asked.items) }
+        // Each edge is computed in each round, and in every answer no other is counted.
+        ensures most { self.new.meter.count ≤ self.old.meter.count + length (rounds (unit_flow code.now)) * length code.now.graph.edges }
+        ensures ticked { OnOk result
+            (self.new.meter.count ≡ after_ticks (length (rounds (unit_flow code.now)) * length code.now.graph.edges) self.old.meter.count) }
+    {
         let bytes = unit_bytes(alloc, &code.unit)?;
-        let states = settled_states(alloc, code)?;
+        let states = settled_states(alloc, code, &mut self.meter)?;
         let states = known(alloc, states)?;
         self.asked.push(bytes)?;
         Ok(Invariant { states })

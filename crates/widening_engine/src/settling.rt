@@ -1,10 +1,11 @@
 //! The rounds, and where they settle.
 
-ghost use Rattle.std.specs.Prelude.{◌≡◌, ◌⊎◌, ◌<◌, ◌+◌, ◌^◌, true, length, map, option_map, IfOk, IfSome};
+ghost use Rattle.std.specs.Prelude.{◌≡◌, ◌⊎◌, ◌<◌, ◌≤◌, ◌+◌, ◌*◌, ◌^◌, true, length, map, option_map, IfOk, IfSome, OnOk};
 ghost use Rattle.std.specs.List.{find};
 ghost use Rattle.widening_engine.specs.Flows.{AreEdges, AreNumbered, FitBlocks, IsGraphOf, flow_of};
 ghost use Rattle.widening_engine.specs.Finding.{AreFound};
 ghost use Rattle.widening_engine.specs.Rounds.{all_unknown, first_inductive, is_head, is_inductive, last_round, limit, next, places, round, settled};
+ghost use Rattle.widening_engine.specs.Work.{after_ticks, first_stop, rounds, sought, tried};
 
 use crate::heads::heads;
 use crate::passes::next_round;
@@ -58,6 +59,10 @@ fn first_round<S: FlowState + Drop>(
     ensures first { let flow = flow_of S.FlowState.own S.Lattice code.now in IfOk result (λ found.
         option_map (λ f. f.states.items) found ≡ find (is_inductive flow) (map (round flow) (places (last_round flow + 1)))) }
     ensures found { IfOk result (λ found. IfSome found (AreFound (flow_of S.FlowState.own S.Lattice code.now) (S.fits code.now))) }
+    ensures ticked { let flow = flow_of S.FlowState.own S.Lattice code.now in
+        OnOk result (S.Gauge.count meter.new ≡ after_ticks (length (tried flow (first_stop flow)) * flow.edges) (S.Gauge.count meter.old)) }
+    ensures most { let flow = flow_of S.FlowState.own S.Lattice code.now in
+        S.Gauge.count meter.new ≤ S.Gauge.count meter.old + length (tried flow (first_stop flow)) * flow.edges }
 {
     let edges = graph.edges.as_slice();
     let count = graph.blocks.as_slice().len();
@@ -96,6 +101,10 @@ fn first_found<S: FlowState + Drop>(
     requires numbered { AreNumbered (flow_of S.FlowState.own S.Lattice code.now) }
     ensures first { IfOk result (λ found. found.states.items ≡ first_inductive (flow_of S.FlowState.own S.Lattice code.now)) }
     ensures found { IfOk result (AreFound (flow_of S.FlowState.own S.Lattice code.now) (S.fits code.now)) }
+    ensures ticked { let flow = flow_of S.FlowState.own S.Lattice code.now in
+        OnOk result (S.Gauge.count meter.new ≡ after_ticks (length (sought flow (first_stop flow)) * flow.edges) (S.Gauge.count meter.old)) }
+    ensures most { let flow = flow_of S.FlowState.own S.Lattice code.now in
+        S.Gauge.count meter.new ≤ S.Gauge.count meter.old + length (sought flow (first_stop flow)) * flow.edges }
 {
     match first_round(alloc, code, graph, meter)? {
         Some(found) => Ok(found),
@@ -130,6 +139,10 @@ fn settled<S: FlowState + Drop>(
     requires found { AreFound (flow_of S.FlowState.own S.Lattice code.now) (S.fits code.now) found }
     ensures value { IfOk result (λ states. states.items ≡ settled (flow_of S.FlowState.own S.Lattice code.now) found.states.items) }
     ensures fit { IfOk result (λ states. FitBlocks (flow_of S.FlowState.own S.Lattice code.now) (S.fits code.now) states.items) }
+    ensures ticked { let flow = flow_of S.FlowState.own S.Lattice code.now in
+        OnOk result (S.Gauge.count meter.new ≡ after_ticks (2 * flow.edges) (S.Gauge.count meter.old)) }
+    ensures most { let flow = flow_of S.FlowState.own S.Lattice code.now in
+        S.Gauge.count meter.new ≤ S.Gauge.count meter.old + 2 * flow.edges }
 {
     let later = next_round(alloc, code, edges, found.next.as_slice(), meter)?.next;
     let last = next_round(alloc, code, edges, later.as_slice(), meter)?;
@@ -163,6 +176,11 @@ pub fn limit<S: FlowState + Drop>(
     // They are inductive, or nothing is known.
     ensures settled { let flow = flow_of S.FlowState.own S.Lattice code.now in
         IfOk result (λ states. (is_inductive flow states.items ≡ true) ⊎ (states.items ≡ all_unknown flow)) }
+    // Each edge is computed in each round, and in every answer no other is counted.
+    ensures ticked { let flow = flow_of S.FlowState.own S.Lattice code.now in
+        OnOk result (S.Gauge.count meter.new ≡ after_ticks (length (rounds flow) * flow.edges) (S.Gauge.count meter.old)) }
+    ensures most { let flow = flow_of S.FlowState.own S.Lattice code.now in
+        S.Gauge.count meter.new ≤ S.Gauge.count meter.old + length (rounds flow) * flow.edges }
 {
     let found = first_found(alloc, code, graph, meter)?;
     settled(alloc, code, graph.edges.as_slice(), found, meter)

@@ -7,11 +7,11 @@ use Rattle.widening_engine.proofs.passes.next_round.Goals as goal
 pub returns-clause-next : goal.returns-clause-next
 returns-clause-next g c =
     let flow : Flow _ = flow_of g.S.FlowState g.S.Lattice c.args.code.now in
-    c.in_ok-next.ensures ∙ ap (λ items. map (λ state. unwrap_or state flow.nothing) items) c.in_ok-pass.ensures.merged ∙ next_from_merged flow c.args.states.now
+    c.in_ok-next.ensures ∙ ap (λ items. map (λ state. unwrap_or state flow.nothing) items) c.in_ok-pass.ensures.passed.merged ∙ next_from_merged flow c.args.states.now
 
 pub returns-clause-inductive : goal.returns-clause-inductive
 unfolding is_inductive
-returns-clause-inductive g c = c.in_ok-pass.ensures.inductive
+returns-clause-inductive g c = c.in_ok-pass.ensures.passed.inductive
 
 pub returns-clause-fit : goal.returns-clause-fit
 returns-clause-fit g c =

@@ -1,8 +1,10 @@
-use Rattle.std.proofs.Common.{◌∙◌, None, Some, ap, sym, length, map, option_map}
+use Rattle.std.proofs.Common.{◌∙◌, ◌*◌, ◌≤◌, ◌+◌, arith, None, Some, ap, sym, length, map, option_map}
 use Rattle.widening_engine.specs.Flows.{flow_of}
 use Rattle.widening_engine.specs.Rounds.{Flow, next, places}
+use Rattle.widening_engine.specs.Work.{after_ticks}
 use Rattle.widening_engine.proofs.EdgeSteps.{keeps}
 use Rattle.widening_engine.proofs.Rounds.{first_given, unknown_fits}
+use Rattle.widening_engine.proofs.Tries.{and_more, as_counted, round_ticks, sought_more, sought_same, tried_at_most, within_sought}
 use Rattle.widening_engine.proofs.settling.first_found.Goals as goal
 
 pub next_round-requires-clause-fit : goal.next_round-requires-clause-fit
@@ -37,3 +39,45 @@ returns-in_ok-round-in-None-clause-found g c =
       next = c.in_ok-round-in-None.ensures.next ∙ ap (next flow) c.as_slice-in-None-2.ensures.value;
       next_fit = c.in_ok-round-in-None.ensures.fit;
     }
+
+pub returns-in-Some-clause-ticked : goal.returns-in-Some-clause-ticked
+returns-in-Some-clause-ticked g c =
+    let flow : Flow _ = flow_of g.S.FlowState g.S.Lattice c.args.code.now in
+    let first = g.S.Gauge.Meter.count c.args.meter.now in
+    c.in_ok-found.ensures.ticked ∙ ap (λ n. after_ticks (n * flow.edges) first) (sought_same flow _ (ap (option_map (λ found. found.states.items)) (sym c.in-Some.is) ∙ c.in_ok-found.ensures.first))
+
+pub returns-in-Some-clause-most : goal.returns-in-Some-clause-most
+returns-in-Some-clause-most g c =
+    let flow : Flow _ = flow_of g.S.FlowState g.S.Lattice c.args.code.now in
+    let first = g.S.Gauge.Meter.count c.args.meter.now in
+    as_counted flow _ first _ c.in_ok-found.ensures.ticked _ (tried_at_most flow)
+
+pub returns-in_err-found-clause-most : goal.returns-in_err-found-clause-most
+returns-in_err-found-clause-most g c =
+    let flow : Flow _ = flow_of g.S.FlowState g.S.Lattice c.args.code.now in
+    let first = g.S.Gauge.Meter.count c.args.meter.now in
+    let most = c.first_round.ensures.most in within_sought flow first _ most
+
+pub returns-in_err-states-in-None-clause-most : goal.returns-in_err-states-in-None-clause-most
+returns-in_err-states-in-None-clause-most g c =
+    let flow : Flow _ = flow_of g.S.FlowState g.S.Lattice c.args.code.now in
+    let first = g.S.Gauge.Meter.count c.args.meter.now in
+    as_counted flow _ first _ c.in_ok-found.ensures.ticked _ (tried_at_most flow)
+
+pub returns-in_err-round-in-None-clause-most : goal.returns-in_err-round-in-None-clause-most
+returns-in_err-round-in-None-clause-most g c =
+    let flow : Flow _ = flow_of g.S.FlowState g.S.Lattice c.args.code.now in
+    let first = g.S.Gauge.Meter.count c.args.meter.now in
+    and_more flow _ first _ _ c.in_ok-found.ensures.ticked c.next_round-in-None.ensures.most _ (let more = sought_more flow (ap (option_map (λ found. found.states.items)) (sym c.in-None.is) ∙ c.in_ok-found.ensures.first) in omega (arith, more))
+
+pub returns-in_ok-round-in-None-clause-most : goal.returns-in_ok-round-in-None-clause-most
+returns-in_ok-round-in-None-clause-most g c =
+    let flow : Flow _ = flow_of g.S.FlowState g.S.Lattice c.args.code.now in
+    let first = g.S.Gauge.Meter.count c.args.meter.now in
+    and_more flow _ first _ _ c.in_ok-found.ensures.ticked c.next_round-in-None.ensures.most _ (let more = sought_more flow (ap (option_map (λ found. found.states.items)) (sym c.in-None.is) ∙ c.in_ok-found.ensures.first) in omega (arith, more))
+
+pub returns-in_ok-round-in-None-clause-ticked : goal.returns-in_ok-round-in-None-clause-ticked
+returns-in_ok-round-in-None-clause-ticked g c =
+    let flow : Flow _ = flow_of g.S.FlowState g.S.Lattice c.args.code.now in
+    let first = g.S.Gauge.Meter.count c.args.meter.now in
+    c.in_ok-round-in-None.ensures.ticked ∙ ap (after_ticks flow.edges) c.in_ok-found.ensures.ticked ∙ round_ticks _ flow.edges first ∙ ap (λ n. after_ticks (n * flow.edges) first) (sought_more flow (ap (option_map (λ found. found.states.items)) (sym c.in-None.is) ∙ c.in_ok-found.ensures.first))

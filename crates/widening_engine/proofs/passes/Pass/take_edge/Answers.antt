@@ -50,8 +50,8 @@ merge-requires-clause-like g c =
     (get_or c.args.self.now.merged.items c.args.edge.to None)
     (subst (FitsIfAny (g.S.FlowState.fits code (flow.target n))) (sym item) (merged_fits flow (g.S.FlowState.fits code) law states c.requires.fit n (flow.target n) (omega (arith, c.requires.place))))
 
-pub returns : goal.returns
-returns g c =
+pub returns-clause-passed : goal.returns-clause-passed
+returns-clause-passed g c =
     let m = g.met.S.FlowState in
     let code = c.args.code.now in
     let states = c.args.states.now in

@@ -1,0 +1,77 @@
+-- Edges that are computed again, one after another.
+use Rattle.std.proofs.Common.{◌≡◌, ◌≢◌, ℕ, ◌+◌, ◌<◌, ◌≤◌, Bool, true, false, List, cond, length, get_or, refl, sym, ap, subst, ◌∙◌, arith, set, inl, inr, get_or-set_same, get_or-set_other}
+use Rattle.std.proofs.lemmas.Bool.{cases_eq}
+use Rattle.std.proofs.lemmas.List.{length-set}
+use Rattle.widening_engine.specs.Kept.{IsMarked, IsRefreshed, states_of}
+use Rattle.widening_engine.specs.Rounds.{Flow, behind}
+use Rattle.widening_engine.specs.declared.kept.Kept.{Kept}
+
+-- The state behind the edge, computed again if its source has changed.
+abbrev pub computed : {S : Type 0} → Flow S → List Bool → Kept S → ℕ → S
+computed flow changed old edge = cond (get_or changed (flow.source edge) false) (behind flow (states_of old.blocks.items) edge) (get_or old.behind.items edge flow.nothing)
+
+-- The first edges are computed again.
+pub record AreRefreshing {S : Type 0} (flow : Flow S) (changed : List Bool) (old : Kept S) (edge : ℕ) (new : Kept S) : Type 0 where
+  pub entry : new.entry ≡ old.entry
+  pub blocks : new.blocks.items ≡ old.blocks.items
+  pub count : length new.stale.items ≡ length old.stale.items
+  pub edges : length new.behind.items ≡ length old.behind.items
+  pub done : (k : ℕ) → k < edge → get_or new.behind.items k flow.nothing ≡ computed flow changed old k
+  pub rest : (k : ℕ) → edge ≤ k → get_or new.behind.items k flow.nothing ≡ get_or old.behind.items k flow.nothing
+  pub stale : (block : ℕ) → get_or new.stale.items block false ≡ false → get_or old.stale.items block false ≡ false
+  pub same : (k : ℕ) → k < edge → get_or new.stale.items (flow.target k) false ≡ false → get_or new.behind.items k flow.nothing ≡ get_or old.behind.items k flow.nothing
+
+module _ {S : Type 0} (flow : Flow S) (changed : List Bool) (old : Kept S) where
+  pub refreshing_none : AreRefreshing flow changed old 0 old
+  refreshing_none = record {
+    entry = refl;
+    blocks = refl;
+    count = refl;
+    edges = refl;
+    done = λ k h. absurd (omega arith);
+    rest = λ k h. refl;
+    stale = λ block h. h;
+    same = λ k h not. refl;
+  }
+
+  -- One more edge.
+  pub refreshing_more : (edge : ℕ) (again : Bool) (mid new : Kept S) → again ≡ get_or changed (flow.source edge) false → edge < length old.behind.items
+      → AreRefreshing flow changed old edge mid → new.entry ≡ mid.entry → new.blocks.items ≡ mid.blocks.items
+      → new.behind.items ≡ set mid.behind.items edge (cond again (behind flow (states_of mid.blocks.items) edge) (get_or mid.behind.items edge flow.nothing))
+      → IsMarked (flow.target edge) mid.stale.items new.stale.items (new.behind.items ≡ mid.behind.items) → AreRefreshing flow changed old (edge + 1) new
+  refreshing_more edge again mid new tells inside so_far entry blocks behind_is marked =
+      let value : S = cond again (behind flow (states_of mid.blocks.items) edge) (get_or mid.behind.items edge flow.nothing) in
+      let value_is : value ≡ computed flow changed old edge = λ i. cond (tells i) (behind flow (states_of (so_far.blocks i)) edge) (so_far.rest edge (omega arith) i) in
+      let other : (k : ℕ) → k ≢ edge → get_or new.behind.items k flow.nothing ≡ get_or mid.behind.items k flow.nothing =
+      λ k ne. ap (λ (items : List S). get_or items k flow.nothing) behind_is ∙ get_or-set_other mid.behind.items edge k value flow.nothing ne in
+      let here : get_or new.behind.items edge flow.nothing ≡ value =
+      ap (λ (items : List S). get_or items edge flow.nothing) behind_is ∙ get_or-set_same mid.behind.items edge value flow.nothing (omega (arith, so_far.edges)) in
+      record {
+        entry = entry ∙ so_far.entry;
+        blocks = blocks ∙ so_far.blocks;
+        count = marked.count ∙ so_far.count;
+        edges = ap length behind_is ∙ length-set mid.behind.items edge value ∙ so_far.edges;
+        done = λ k h. elim (cases_eq k edge) [
+          | inl e ↦ subst (λ (j : ℕ). get_or new.behind.items j flow.nothing ≡ computed flow changed old j) (sym e) (here ∙ value_is)
+          | inr ne ↦ other k ne ∙ so_far.done k (omega arith)
+        ];
+        rest = λ k h. let ne : k ≢ edge = omega arith in other k ne ∙ so_far.rest k (omega arith);
+        stale = λ block not. so_far.stale block (marked.kept block not);
+        same = λ k h not. elim (cases_eq k edge) [
+          | inl e ↦ subst (λ (j : ℕ). get_or new.behind.items j flow.nothing ≡ get_or old.behind.items j flow.nothing) (sym e)
+              (ap (λ (items : List S). get_or items edge flow.nothing) (marked.told (subst (λ (j : ℕ). get_or new.stale.items (flow.target j) false ≡ false) e not)) ∙ so_far.rest edge (omega arith))
+          | inr ne ↦ other k ne ∙ so_far.same k (omega arith) (marked.kept (flow.target k) not)
+        ];
+      }
+
+  -- All edges.
+  pub refreshing_all : (new : Kept S) → length old.behind.items ≡ flow.edges → AreRefreshing flow changed old flow.edges new → IsRefreshed flow changed old new
+  refreshing_all new many all = record {
+    entry = all.entry;
+    blocks = all.blocks;
+    count = all.count;
+    edges = all.edges ∙ many;
+    behind = all.done;
+    stale = all.stale;
+    same = all.same;
+  }

@@ -1,0 +1,18 @@
+use Rattle.std.proofs.Common.{◌∙◌, ap, map}
+use Rattle.widening_engine.specs.Limits.{limit_of, unit_flow}
+use Rattle.widening_engine.specs.Work.{work}
+use Rattle.widening_engine.proofs.Seeking.{at_most}
+use Rattle.widening_engine.proofs.dirty.DirtyFinder.find.Goals as goal
+
+pub returns-clause-value : goal.returns-clause-value
+unfolding limit_of
+returns-clause-value c = c.in_ok-states-2.ensures ∙ ap (map (λ a. a.state)) c.in_ok-states.ensures.value
+
+pub returns-in_err-states-2-clause-work : goal.returns-in_err-states-2-clause-work
+returns-in_err-states-2-clause-work c = at_most (λ equal. work equal (unit_flow c.args.code.now)) _ _ c.in_ok-states.ensures.ticked
+
+pub returns-in_err-push-clause-work : goal.returns-in_err-push-clause-work
+returns-in_err-push-clause-work c = at_most (λ equal. work equal (unit_flow c.args.code.now)) _ _ c.in_ok-states.ensures.ticked
+
+pub returns-clause-work : goal.returns-clause-work
+returns-clause-work c = at_most (λ equal. work equal (unit_flow c.args.code.now)) _ _ c.in_ok-states.ensures.ticked

@@ -1,0 +1,12 @@
+use Rattle.std.proofs.Common.{◌≡◌, get_or, count_by, false}
+use Rattle.widening_engine.specs.Flows.{flow_of}
+use Rattle.widening_engine.specs.Rounds.{places}
+use Rattle.widening_engine.specs.Work.{after_ticks}
+use Rattle.widening_engine.proofs.Refreshing.{AreRefreshing}
+use Rattle.widening_engine.proofs.kept.Kept.refresh.Given as goal
+
+abbrev pub invariant-loop-place : goal.invariant-loop-place
+invariant-loop-place g l = record {
+  refreshing : AreRefreshing (flow_of g.S.FlowState g.S.Lattice l.fn.code) l.changed l.fn.self l.place l.self;
+  ticked : g.S.Gauge.Meter.count l.meter ≡ after_ticks (count_by (λ edge. get_or l.changed (g.S.FlowState.source l.fn.code edge) false) (places l.place)) (g.S.Gauge.Meter.count l.fn.meter);
+}

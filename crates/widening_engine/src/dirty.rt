@@ -1,0 +1,79 @@
+//! A finder that computes only what changed.
+
+ghost use Rattle.std.specs.Prelude.{◌≡◌, ◌≤◌, ◌+◌, ◌++◌, ◌∷◌, [], map, IfOk, OnOk, OnErr};
+ghost use Rattle.range_rules.specs.Flow.{IsLawful};
+ghost use Rattle.unit_form.specs.Spelling.{unit_bytes};
+ghost use Rattle.widening_engine.specs.Limits.{limit_of, unit_flow};
+ghost use Rattle.widening_engine.specs.Rounds.{limit};
+ghost use Rattle.widening_engine.specs.Work.{HasCounted, HasCountedAtMost, work};
+
+use crate::finder::{Finder, known};
+use crate::keeping::kept_rounds;
+use domain_api::{NoMemory, Ticks};
+use range_rules::{UnitFlow, UnitState};
+use range_states::Invariant;
+use std::alloc::Global;
+use unit_form::unit_bytes;
+
+/// A finder that computes the state along an edge again only where that of its source has changed.
+#[derive(Drop)]
+pub struct Dirty {
+    /// The bytes of the units that it was asked for, in order.
+    pub asked: Vec<Vec<u8>>,
+    /// The edges that it computed.
+    pub meter: Ticks,
+}
+
+/// The states of a unit where they settle.
+fn settled_states(
+    alloc: Global,
+    code: &UnitFlow,
+    meter: &mut Ticks,
+) -> Result<Vec<UnitState>, NoMemory>
+    requires { IsLawful code.now }
+    ensures value { IfOk result (λ states. states.items ≡ limit (unit_flow code.now)) }
+    ensures work { HasCountedAtMost (λ equal. work equal (unit_flow code.now)) meter.old.count meter.new.count }
+    ensures ticked { OnOk result (HasCounted (λ equal. work equal (unit_flow code.now)) meter.old.count meter.new.count) }
+{
+    kept_rounds::<UnitState>(alloc, code, &code.graph, meter)
+}
+
+impl Dirty {
+    /// A finder that was not asked for any unit yet. It takes no memory.
+    pub fn new(alloc: Global) -> Dirty
+        ensures asked { result.asked.items ≡ [] }
+        ensures none { result.meter.count ≡ 0 }
+    {
+        Dirty {
+            asked: Vec::new(alloc),
+            meter: Ticks { count: 0 },
+        }
+    }
+
+    /// How many edges were computed since the finder was made, up to 2^64 - 1. It takes no memory.
+    pub fn edges(&self) -> u64
+        ensures { result ≡ self.now.meter.count }
+    {
+        self.meter.count
+    }
+}
+
+impl Finder for Dirty {
+    ghost asked = { λ finder. map (λ bytes. bytes.items) finder.asked.items };
+
+    fn find(&mut self, alloc: Global, code: &UnitFlow) -> Result<Invariant, NoMemory>
+        requires lawful { IsLawful code.now }
+        ensures value { IfOk result (λ found. found.states.items ≡ limit_of code.now) }
+        ensures asked { OnOk result (map (λ bytes. bytes.items) self.new.asked.items ≡ map (λ bytes. bytes.items) self.old.asked.items ++ unit_bytes code.now.unit ∷ []) }
+        ensures kept { OnErr result (map (λ bytes. bytes.items) self.new.asked.items ≡ map (λ bytes. bytes.items) self.old.asked.items) }
+        // In every answer.
+        ensures work { HasCountedAtMost (λ equal. work equal (unit_flow code.now)) self.old.meter.count self.new.meter.count }
+        ensures ticked { OnOk result (HasCounted (λ equal. work equal (unit_flow code.now)) self.old.meter.count self.new.meter.count) }
+    {
+        let bytes = unit_bytes(alloc, &code.unit)?;
+        let states = settled_states(alloc, code, &mut self.meter)?;
+        let states = known(alloc, states)?;
+        self.asked.push(bytes)?;
+        Ok(Invariant { states })
+    }
+}
