@@ -1,5 +1,5 @@
-//! Code that is written once for any domain, and the least domain that it is used at. There is nothing here but tests: what
-//! they show is that the contracts of the traits are enough, which no case can.
+//! Code that is written once for any domain, and the least domain that it is used at. There is nothing here but tests:
+//! what they show is that the contracts of the traits are enough, which no case can.
 #![tactic(auto)]
 
 #[cfg(test)]

@@ -4,9 +4,9 @@
 //! A *number* is `7`, or `s2`, `s2+7` or `s2-7` of symbol 2. A *range* is `0..9`, or `0..9!5` without 5, or `int32`.
 //!
 //! A *state* is `unreachable`, or a list of its variables in order, each a number, `empty` where there are none. Then
-//! may follow what is known of symbols, each fact behind a `;`: `s1 s1+3 7; s1 in 0..9!5`. A variable may be written as
-//! a range too: that is a new symbol of this range, as in `0..9 s1+3`, and `(0..9)+3` the same with 3 added. Symbols are
-//! numbered from 1 on as they come, and each has one range.
+//! may follow what is known of symbols, each fact behind a `;`: `s1 s1+3 7; s1 in 0..9!5`. A variable may be written
+//! as a range too: that is a new symbol of this range, as in `0..9 s1+3`, and `(0..9)+3` the same with 3 added. Symbols
+//! are numbered from 1 on as they come, and each has one range.
 #![tactic(auto)]
 
 mod answers;

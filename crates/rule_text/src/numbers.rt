@@ -30,8 +30,8 @@ fn new_symbol(text: &str) -> Option<(Range, i64)> {
     Some((range(ends)?, added.parse::<i64>().ok()?))
 }
 
-/// The number of a text, where a range stands for a new symbol of this range. Its range is put behind those of the other
-/// symbols.
+/// The number of a text, where a range stands for a new symbol of this range. Its range is put behind those of the
+/// other symbols.
 pub fn operand(ranges: &mut Vec<Range>, text: &str) -> Result<Option<Expr>, AllocError> {
     let Some((range, k)) = new_symbol(text) else {
         return Ok(number(text));

@@ -56,8 +56,8 @@ fn operation_of(alloc: Global, name: &str, operand: &str) -> Result<Option<Op>, 
     }))
 }
 
-/// The operation of a text: its name (ECMA-335 III.3), and where it has one its operand. A call has the number of what is
-/// called, a switch that of its targets. Each target is the IL offset 0.
+/// The operation of a text: its name (ECMA-335 III.3), and where it has one its operand. A call has the number of what
+/// is called, a switch that of its targets. Each target is the IL offset 0.
 pub fn operation(alloc: Global, text: &str) -> Result<Op, Failure> {
     let found = match text.split_once(' ') {
         None => plain_operation(text),

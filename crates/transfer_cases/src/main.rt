@@ -1,5 +1,5 @@
-//! Runs cases of single rules of transfer: what instructions do to states, how states flow along the edges of units, which
-//! faults are to be ruled out and which a state rules out.
+//! Runs cases of single rules of transfer: what instructions do to states, how states flow along the edges of units,
+//! which faults are to be ruled out and which a state rules out.
 //!
 //! The words are the names of files of cases. docs/RULE_CASES.md says how a case is written.
 #![tactic(auto)]

@@ -61,7 +61,7 @@ impl TransferRules {
         there(&self.state, "a state before this line")
     }
 
-    /// The code of the method, one operation a word, from which IL offset on its body goes.
+    /// `code nop, add`: the instructions of the method, of one byte each.
     fn set_code(&mut self, argument: &str) -> Result<(), Failure> {
         let alloc = self.alloc;
         let Some(unit) = &mut self.method else {
