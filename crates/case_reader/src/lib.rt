@@ -2,8 +2,8 @@
 //!
 //! A file is UTF-8 text. An empty line and one that begins with `#` say nothing. A *case* begins with a line
 //! `case NAME`, has lines of a keyword and its argument, and ends with a line `end`. What several cases share stands
-//! before them in a *base*, which begins with `base NAME` and ends likewise. The last line is `cases N`, with the number of
-//! cases, so that a file which was cut is told from a whole one.
+//! before them in a *base*, which begins with `base NAME` and ends likewise. The last line is `cases N`, with the
+//! number of cases, so that a file which was cut is told from a whole one.
 #![tactic(auto)]
 
 mod case;

@@ -111,8 +111,8 @@ impl Script {
         Ok(())
     }
 
-    /// Calls the program, compares its answer, and begins anew with the words and answers of a next call. The line is one
-    /// to tell where the case has no better.
+    /// Calls the program, compares its answer, and begins anew with the words and answers of a next call. The line is
+    /// one to tell where the case has no better.
     fn call(&mut self, line: u64) -> Result<(), Stop> {
         self.given.close(self.alloc)?;
         let replaces = self.given.files.files.replaces;

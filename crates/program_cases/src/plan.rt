@@ -56,8 +56,8 @@ impl OpenPlan {
     }
 }
 
-/// The method of a line `method NAME static|instance RESULT ARGUMENTS LOCALS STACK CODE`. Places are joined by commas, and
-/// `-` stands for none. A method without code has no CODE.
+/// The method of a line `method NAME static|instance RESULT ARGUMENTS LOCALS STACK CODE`. Places are joined by commas,
+/// and `-` stands for none. A method without code has no CODE.
 fn method_of(alloc: Global, field: Field<'_>) -> Result<MethodPlan, Stop> {
     let line = field.line;
     let mut words = field.argument.splitn(7, ' ');

@@ -226,8 +226,8 @@ fn run_words<R: Rules>(rt: &(impl Print + Eprint + Files + Env + AllocGlobal)) -
 }
 
 /// Runs the files of cases that the program's words name, and tells each failure and how many cases there were. The
-/// status is 0 where there were cases and none failed, 1 where one did or a file was not read, and 2 where nothing could
-/// be told.
+/// status is 0 where there were cases and none failed, 1 where one did or a file was not read, and 2 where nothing
+/// could be told.
 pub fn run_files<R: Rules>(rt: &(impl Print + Eprint + Files + Env + AllocGlobal)) -> ExitCode {
     match run_words::<R>(rt) {
         Ok(true) => ExitCode::from(0),

@@ -33,8 +33,8 @@ fn types(alloc: Global, text: &str) -> Result<Vec<Place>, Failure> {
     Ok(types)
 }
 
-/// The method of a text: the type of its result, and then those of its arguments in parentheses and those of its locals,
-/// as in `void (int32 bool) int32`. It has no code.
+/// The method of a text: the type of its result, and then those of its arguments in parentheses and those of its
+/// locals, as in `void (int32 bool) int32`. It has no code.
 pub fn read_method(alloc: Global, text: &str) -> Result<Unit, Failure> {
     let Some((gives, rest)) = text.split_once(" (") else {
         return Err(Failure::Unread("a result and arguments"));
