@@ -1,0 +1,161 @@
+-- What is found among rows that rise.
+use Rattle.std.proofs.Common.{◌≡◌, ℕ, zero, suc, ◌<◌, ◌≤◌, ◌==◌, nat_le, Bool, true, false, List, [], ◌∷◌, length, get_or, take, drop, filter, Some, None, refl, ap, ◌∙◌, arith, inl, inr}
+use Rattle.std.specs.List.{AllByRecursion, AllWithin}
+use Rattle.std.specs.List.Sorted.{IsPartitionedBy, IsNonDecreasingBy}
+use Rattle.std.proofs.lemmas.Bool.{cases_Bool, cases_order, and_parts, eq-eqb, ne_eqb, le-leb, lt-leb}
+use Rattle.std.proofs.lemmas.Bool.Decides.{nat_tests}
+use Rattle.pentagon_domain.specs.declared.bound_row.BoundRow.{BoundRow}
+use Rattle.pentagon_domain.specs.Rows.{is_before, is_of, is_found, StandsBefore, AreBounds, rows_from, stored, place_of}
+
+-- ---- the row at a place
+
+pub found_here : (rows : List BoundRow) (place s t : ℕ) (d : BoundRow) → place < length rows → is_found rows place s t ≡ is_of (get_or rows place d) s t
+found_here [] place s t d inside = absurd (omega arith)
+found_here (row ∷ rows) zero s t d inside = refl
+found_here (row ∷ rows) (suc place) s t d inside = found_here rows place s t d (omega arith)
+
+pub found_past : (rows : List BoundRow) (place s t : ℕ) → length rows ≤ place → is_found rows place s t ≡ false
+found_past [] place s t past = refl
+found_past (row ∷ rows) zero s t past = absurd (omega arith)
+found_past (row ∷ rows) (suc place) s t past = found_past rows place s t (omega arith)
+
+pub inside_found : (rows : List BoundRow) (place s t : ℕ) → is_found rows place s t ≡ true → place < length rows
+inside_found [] place s t found = absurd cc
+inside_found (row ∷ rows) zero s t found = omega arith
+inside_found (row ∷ rows) (suc place) s t found = let rest = inside_found rows place s t found in omega (arith, rest)
+
+-- ---- the order of rows
+
+pub before_trans : (a b : BoundRow) (s t : ℕ) → is_before a b.s b.t ≡ true → is_before b s t ≡ true → is_before a s t ≡ true
+before_trans a b s t first second = grind (arith, nat_tests)
+
+before_low : (row : BoundRow) (s t : ℕ) → is_before row s t ≡ true → row.s ≤ s
+before_low row s t before = grind (arith, nat_tests)
+
+later_at : (row : BoundRow) (rows : List BoundRow) (k : ℕ) (d : BoundRow) → AllByRecursion (StandsBefore row) rows → k < length rows → StandsBefore row (get_or rows k d)
+later_at row [] k d later inside = absurd (omega arith)
+later_at row (next ∷ rows) zero d later inside = later.0
+later_at row (next ∷ rows) (suc k) d later inside = later_at row rows k d later.1 (omega arith)
+
+partitioned_more : (row : BoundRow) (rows : List BoundRow) (s t : ℕ) → AllByRecursion (StandsBefore row) rows → IsPartitionedBy (λ row. is_before row s t) rows
+    → (i j : ℕ) (d : BoundRow) → i ≤ j → j < length (row ∷ rows) → is_before (get_or (row ∷ rows) j d) s t ≡ true → is_before (get_or (row ∷ rows) i d) s t ≡ true
+partitioned_more row rows s t later rest zero zero d up inside is = is
+partitioned_more row rows s t later rest zero (suc j) d up inside is = before_trans row (get_or rows j d) s t (later_at row rows j d later (omega arith)) is
+partitioned_more row rows s t later rest (suc i) zero d up inside is = absurd (omega (arith, up))
+partitioned_more row rows s t later rest (suc i) (suc j) d up inside is = rest i j d (omega (arith, up)) (omega (arith, inside)) is
+
+-- Rows before those of two symbols come first.
+pub partitioned : (rows : List BoundRow) (s t : ℕ) → AreBounds rows → IsPartitionedBy (λ row. is_before row s t) rows
+partitioned [] s t form = λ i j d up inside is. absurd (omega (arith, inside))
+partitioned (row ∷ rows) s t form = partitioned_more row rows s t form.1 (partitioned rows s t form.2)
+
+-- So many rows stand before them.
+pub place_is : (rows : List BoundRow) (s t i : ℕ) → i ≤ length rows → AllWithin (λ row. is_before row s t ≡ true) rows 0 i
+    → AllWithin (λ row. is_before row s t ≡ false) rows i (length rows) → i ≡ place_of rows s t
+place_is [] s t i le front behind = omega arith
+place_is (row ∷ rows) s t zero le front behind = rw (behind zero row (omega arith) (omega arith)) refl
+place_is (row ∷ rows) s t (suc i) le front behind =
+    rw (front zero row (omega arith) (omega arith))
+    (ap suc
+    (place_is rows s t i (omega (arith, le)) (λ k d low high. front (suc k) d (omega arith) (omega (arith, high)))
+    (λ k d low high. behind (suc k) d (omega (arith, low)) (omega (arith, high)))))
+
+-- ---- the rows of one symbol
+
+rise_more : (row : BoundRow) (rows : List BoundRow) → AllByRecursion (StandsBefore row) rows → IsNonDecreasingBy (λ row. row.s) rows
+    → (i j : ℕ) (d : BoundRow) → i ≤ j → j < length (row ∷ rows) → (get_or (row ∷ rows) i d).s ≤ (get_or (row ∷ rows) j d).s
+rise_more row rows later rest zero zero d up inside = omega arith
+rise_more row rows later rest zero (suc j) d up inside = before_low row (get_or rows j d).s (get_or rows j d).t (later_at row rows j d later (omega arith))
+rise_more row rows later rest (suc i) zero d up inside = absurd (omega (arith, up))
+rise_more row rows later rest (suc i) (suc j) d up inside = rest i j d (omega (arith, up)) (omega (arith, inside))
+
+pub symbols_rise : (rows : List BoundRow) → AreBounds rows → IsNonDecreasingBy (λ row. row.s) rows
+symbols_rise [] form = λ i j d up inside. absurd (omega (arith, inside))
+symbols_rise (row ∷ rows) form = rise_more row rows form.1 (symbols_rise rows form.2)
+
+-- Where those that pass come first, they are so many from the front.
+pub passing_front : {X : Type 0} (p : X → Bool) (xs : List X) (k : ℕ) → k ≤ length xs → AllWithin (λ x. p x ≡ true) xs 0 k → AllWithin (λ x. p x ≡ false) xs k (length xs)
+    → take k xs ≡ filter p xs
+passing_front p [] zero le front behind = refl
+passing_front p [] (suc k) le front behind = refl
+passing_front p (x ∷ xs) zero le front behind =
+    rw (behind zero x (omega arith) (omega arith))
+    (passing_front p xs zero (omega arith) (λ j d low high. absurd (omega (arith, low, high))) (λ j d low high. behind (suc j) d (omega arith) (omega (arith, high))))
+passing_front p (x ∷ xs) (suc k) le front behind =
+    rw (front zero x (omega arith) (omega arith))
+    (ap (λ ys. x ∷ ys)
+    (passing_front p xs k (omega (arith, le)) (λ j d low high. front (suc j) d (omega arith) (omega (arith, high)))
+    (λ j d low high. behind (suc j) d (omega (arith, low)) (omega (arith, high)))))
+
+-- Where those that pass come last, they are what is left behind so many.
+pub passing_rest : {X : Type 0} (p : X → Bool) (xs : List X) (k : ℕ) → k ≤ length xs → AllWithin (λ x. p x ≡ false) xs 0 k → AllWithin (λ x. p x ≡ true) xs k (length xs)
+    → drop k xs ≡ filter p xs
+passing_rest p [] zero le front behind = refl
+passing_rest p [] (suc k) le front behind = refl
+passing_rest p (x ∷ xs) zero le front behind =
+    rw (behind zero x (omega arith) (omega arith))
+    (ap (λ ys. x ∷ ys)
+    (passing_rest p xs zero (omega arith) (λ j d low high. absurd (omega (arith, low, high))) (λ j d low high. behind (suc j) d (omega arith) (omega (arith, high)))))
+passing_rest p (x ∷ xs) (suc k) le front behind =
+    rw (front zero x (omega arith) (omega arith))
+    (passing_rest p xs k (omega (arith, le)) (λ j d low high. front (suc j) d (omega arith) (omega (arith, high)))
+    (λ j d low high. behind (suc j) d (omega (arith, low)) (omega (arith, high))))
+
+-- The rows from a symbol on and up to it are those of the symbol.
+pub from_and_up_to : (rows : List BoundRow) (s : ℕ) → filter (λ row. nat_le row.s s) (filter (λ row. nat_le s row.s) rows) ≡ rows_from rows s
+from_and_up_to [] s = refl
+from_and_up_to (row ∷ rows) s =
+    let rest = from_and_up_to rows s in
+    elim (cases_order row.s s) [
+      | inl same ↦ rw (le-leb s row.s (omega (arith, same)), le-leb row.s s (omega (arith, same)), eq-eqb row.s s same) (ap (λ ys. row ∷ ys) rest)
+      | inr (inl low) ↦ rw (lt-leb s row.s low, ne_eqb row.s s (λ e. omega (arith, e, low))) rest
+      | inr (inr high) ↦ rw (le-leb s row.s (omega (arith, high)), lt-leb row.s s high, ne_eqb row.s s (λ e. omega (arith, e, high))) rest
+    ]
+
+-- ---- the constant of two symbols
+
+pub skipped : (row : BoundRow) (rows : List BoundRow) (s t : ℕ) → is_of row s t ≡ false → stored (row ∷ rows) s t ≡ stored rows s t
+skipped row rows s t other =
+    elim (cases_Bool (row.s == s)) [
+      | inl same ↦ let there : (row.t == t) ≡ false = rw same at other in rw (same, there) refl
+      | inr apart ↦ rw apart refl
+    ]
+
+hit : (row : BoundRow) (rows : List BoundRow) (s t : ℕ) → is_of row s t ≡ true → stored (row ∷ rows) s t ≡ Some row.k
+hit row rows s t is = let parts = and_parts (row.s == s) (row.t == t) is in rw (parts.0, parts.1) refl
+
+pub before_other : (row : BoundRow) (s t : ℕ) → is_before row s t ≡ true → is_of row s t ≡ false
+before_other row s t before = grind (arith, nat_tests)
+
+pub stored_found : (rows : List BoundRow) (s t : ℕ) (d : BoundRow) → is_found rows (place_of rows s t) s t ≡ true → stored rows s t ≡ Some (get_or rows (place_of rows s t) d).k
+stored_found [] s t d found = absurd cc
+stored_found (row ∷ rows) s t d found =
+    elim (cases_Bool (is_before row s t)) [
+      | inl before ↦
+          let later : is_found rows (place_of rows s t) s t ≡ true = rw before at found in
+          rw before (skipped row rows s t (before_other row s t before) ∙ stored_found rows s t d later)
+      | inr behind ↦ let here : is_of row s t ≡ true = rw behind at found in rw behind (hit row rows s t here)
+    ]
+
+later_other : (row later : BoundRow) (s t : ℕ) → is_before row s t ≡ false → is_of row s t ≡ false → is_before row later.s later.t ≡ true → is_of later s t ≡ false
+later_other row later s t behind other before = grind (arith, nat_tests)
+
+nothing_later : (row : BoundRow) (rows : List BoundRow) (s t : ℕ) → is_before row s t ≡ false → is_of row s t ≡ false → AllByRecursion (StandsBefore row) rows → stored rows s t ≡ None
+nothing_later row [] s t behind other later = refl
+nothing_later row (next ∷ rows) s t behind other later =
+    skipped next rows s t (later_other row next s t behind other later.0) ∙ nothing_later row rows s t behind other later.1
+
+pub stored_nowhere : (rows : List BoundRow) (s t : ℕ) → AreBounds rows → is_found rows (place_of rows s t) s t ≡ false → stored rows s t ≡ None
+stored_nowhere [] s t form missing = refl
+stored_nowhere (row ∷ rows) s t form missing =
+    elim (cases_Bool (is_before row s t)) [
+      | inl before ↦
+          let later : is_found rows (place_of rows s t) s t ≡ false = rw before at missing in
+          skipped row rows s t (before_other row s t before) ∙ stored_nowhere rows s t form.2 later
+      | inr behind ↦
+          let here : is_of row s t ≡ false = rw behind at missing in
+          skipped row rows s t here ∙ nothing_later row rows s t behind here form.1
+    ]
+
+-- What a search for a constant rests on.
+pub ruleset finds = (stored_found, stored_nowhere, inside_found)

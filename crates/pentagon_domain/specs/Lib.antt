@@ -1,0 +1,5 @@
+pub mod Rows
+pub mod Rising
+pub mod Gaps
+pub mod Reach
+pub mod GapsHold

@@ -1,0 +1,120 @@
+//! The bounds that are stored.
+
+ghost use Rattle.std.specs.Prelude.{◌≡◌, ℕ, ℤ, [], ◌↔◌, IsSome, IfSome, IsTrue, IfOk, OnOk, OnErr};
+
+use crate::bound_row::BoundRow;
+use crate::changes::add;
+use crate::forms::{are_bounds, are_same};
+use crate::search::{rows_from, stored};
+use domain_api::NoMemory;
+use std::alloc::Global;
+use std::marker::Model;
+
+/// Bounds of symbols, each s + k <= t of two distinct symbols other than 0, and for two symbols one at most.
+/// Contracts see them as their rows: each pair of symbols once, rising by the first, then by the second.
+#[derive(Drop)]
+pub struct Bounds {
+    rows: Vec<BoundRow>,
+}
+
+impl Model for Bounds {
+    ghost use Rattle.std.specs.Prelude.{List};
+    ghost use Rattle.pentagon_domain.specs.declared.bound_row.BoundRow.{BoundRow};
+    ghost use Rattle.pentagon_domain.specs.Rows.{AreBounds};
+
+    ghost Value = { List BoundRow };
+
+    ghost view = { λ bounds. bounds.rows.items };
+
+    ghost invariant = { λ bounds. AreBounds bounds.rows.items };
+}
+
+impl Bounds {
+    ghost use Rattle.pentagon_domain.specs.Rows.{AreBounds, rows_from, stored, with_bound};
+    ghost use Rattle.pentagon_domain.specs.Gaps.{Allows, LiesAbove};
+
+    /// No bound. Takes no memory.
+    pub fn new(alloc: Global) -> Bounds
+        ensures { result ≡ [] }
+    {
+        Bounds {
+            rows: Vec::new(alloc),
+        }
+    }
+
+    /// No bound, and room for so many.
+    pub fn with_capacity(alloc: Global, count: usize) -> Result<Bounds, NoMemory>
+        ensures { IfOk result (λ bounds. bounds ≡ []) }
+    {
+        Ok(Bounds {
+            rows: Vec::with_capacity(alloc, count)?,
+        })
+    }
+
+    /// The bounds of these rows. None exactly where they are not in order, each pair once, or one is of equal symbols
+    /// or of symbol 0. Takes no memory, and costs one pass.
+    pub fn of_rows(rows: Vec<BoundRow>) -> Option<Bounds>
+        ensures some { IsSome result ↔ AreBounds rows.items }
+        ensures value { IfSome result (λ bounds. bounds ≡ rows.items) }
+    {
+        if are_bounds(&rows) {
+            Some(Bounds { rows })
+        } else {
+            None
+        }
+    }
+
+    /// The rows, rising by the first symbol, then by the second. Takes no memory.
+    pub fn rows(&self) -> &[BoundRow]
+        ensures value { result.now ≡ self.now }
+        ensures form { AreBounds self.now }
+    {
+        &self.rows
+    }
+
+    /// The rows that go from a symbol, rising by the second one. They are found by halving; no memory is taken.
+    pub fn rows_from(&self, s: u32) -> &[BoundRow]
+        ensures value { result.now ≡ rows_from self.now s }
+        ensures form { AreBounds self.now }
+    {
+        rows_from(&self.rows, s)
+    }
+
+    /// The constant of the bound of two symbols. It is found by halving; no memory is taken.
+    pub fn stored(&self, s: u32, t: u32) -> Option<i64>
+        ensures { result ≡ stored self.now s t }
+    {
+        stored(&self.rows, s, t)
+    }
+
+    /// Adds the bound s + k <= t; of two bounds of the same symbols the greater k is kept. Where the
+    /// symbols are equal or one is 0, nothing is stored. After an error nothing has changed.
+    ///
+    /// The place is found by halving, and a new row moves those behind it: rows that come in their order cost the
+    /// search alone.
+    #[tactic(auto, using(crate::proofs::Allowing::with_bound_allows))]
+    pub fn add_bound(&mut self, s: u32, t: u32, k: i64) -> Result<(), NoMemory>
+        ensures value { OnOk result (self.new ≡ with_bound self.old s t k) }
+        ensures unchanged { OnErr result (self.new ≡ self.old) }
+        ensures keeps { OnOk result ((number : ℕ → ℤ) → Allows self.old number → LiesAbove number s t k →
+            Allows self.new number) }
+    {
+        add(&mut self.rows, BoundRow { s, t, k })
+    }
+
+    /// The same bounds again. Costs one pass.
+    pub fn copy(&self, alloc: Global) -> Result<Bounds, NoMemory>
+        ensures { IfOk result (λ again. again ≡ self.now) }
+    {
+        Ok(Bounds {
+            rows: Vec::from_slice(alloc, self.rows.as_slice())?,
+        })
+    }
+
+    /// Returns whether both are the same bounds. Takes no memory, and costs one pass at most.
+    pub fn same(&self, other: &Bounds) -> bool
+        ensures { IsTrue result ↔ (self.now ≡ other.now) }
+    {
+        are_same(&self.rows, &other.rows)
+    }
+}

@@ -1,0 +1,151 @@
+//! How far symbols are known to lie above others.
+
+ghost use Rattle.std.specs.Prelude.{◌≡◌, ◌≢◌, ◌==◌, List, ℕ, ℤ, ◌+ℤ◌, EachIndex, slice_index_or, option_map, option_and_then, if◌then◌else◌};
+ghost use Rattle.domain_api.specs.Order.{greater_gap};
+ghost use Rattle.pentagon_domain.specs.declared.bound_row.BoundRow.{BoundRow};
+ghost use Rattle.pentagon_domain.specs.Gaps as rule;
+ghost use Rattle.pentagon_domain.specs.Gaps.{cut, greatest_sum};
+ghost use Rattle.pentagon_domain.specs.Reach.{reach};
+
+use crate::bound_row::BoundRow;
+use crate::bounds::Bounds;
+use domain_api::Order;
+
+/// An exact number as a gap of 64 bits.
+#[tactic(auto, unfolding(crate::specs::Gaps::cut))]
+fn cut(exact: i128) -> Option<i64>
+    ensures { result ≡ cut exact }
+{
+    if exact > i128::from(i64::MAX) {
+        Some(i64::MAX)
+    } else if exact < i128::from(i64::MIN) {
+        None
+    } else {
+        Some(exact as i64)
+    }
+}
+
+/// The sum of two constants.
+pub(crate) fn sum_of(a: i64, b: i64) -> i128
+    ensures { result ≡ a +ℤ b }
+{
+    i128::from(a) + i128::from(b)
+}
+
+/// The greater of a gap and of an exact number, as a gap of 64 bits.
+fn greater_of(gap: Option<i64>, exact: i128) -> Option<i64>
+    ensures { result ≡ greater_gap gap (cut exact) }
+{
+    match (gap, cut(exact)) {
+        (None, more) => more,
+        (known, None) => known,
+        (Some(known), Some(more)) => Some(known.max(more)),
+    }
+}
+
+/// The greater of a gap and of an exact number, as a gap of 64 bits: the number is cut to the greatest of them, and
+/// counts for nothing below the least. So a gap by bounds alone, as `gaps_from` writes it, becomes that where the
+/// ranges of two distinct symbols tell the exact number.
+pub fn raised_gap(gap: Option<i64>, exact: i128) -> Option<i64>
+    ensures value { result ≡ greater_gap gap (cut exact) }
+    ensures with_ranges { (rows : List BoundRow) (s t : ℕ) → s ≢ t → gap ≡ rule.gap rows s t →
+        result ≡ rule.gap_with rows exact s t }
+{
+    greater_of(gap, exact)
+}
+
+/// Raises the gap to one symbol.
+fn raise(gaps: &mut [Option<i64>], t: u32, exact: i128)
+    ensures { EachIndex gaps.new (λ i. slice_index_or gaps.new i None ≡
+        (if t == i then greater_gap (slice_index_or gaps.old i None) (cut exact) else slice_index_or gaps.old i None)) }
+{
+    let place = t as usize;
+    if place < gaps.len() {
+        gaps[place] = greater_of(gaps[place], exact);
+    }
+}
+
+/// Raises the gap to each symbol by what a bound says that goes to it, behind one of the constant k.
+fn raise_all(gaps: &mut [Option<i64>], rows: &[BoundRow], k: i64)
+    ensures { EachIndex gaps.new (λ t. slice_index_or gaps.new t None ≡
+        greater_gap (slice_index_or gaps.old t None) (reach k rows.now t)) }
+{
+    for row in rows {
+        raise(gaps, row.t, sum_of(k, row.k));
+    }
+}
+
+/// Forgets all gaps.
+fn clear(gaps: &mut [Option<i64>])
+    ensures { EachIndex gaps.new (λ t. slice_index_or gaps.new t None ≡ None) }
+{
+    for gap in gaps.iter_mut() {
+        *gap = None;
+    }
+}
+
+impl Bounds {
+    ghost use Rattle.pentagon_domain.specs.Rows.{stored};
+    ghost use Rattle.pentagon_domain.specs.Gaps.{Allows, LiesAbove, gap, gap_with};
+
+    /// The gap of two symbols where from the number of the first to that of the second it is known to be
+    /// `between` at least, as by their ranges: the greatest of what is stored, of two stored constants behind each
+    /// other, and of `between`; 0 of a symbol and itself. An exact number, cut to 64 bits once. It costs what `gap`
+    /// costs, and takes no memory.
+    #[tactic(auto, using(crate::proofs::Reaches::gap_with_apart, crate::proofs::Reaches::gap_with_same))]
+    pub fn gap_with(&self, s: u32, t: u32, between: i128) -> Option<i64>
+        ensures value { result ≡ gap_with self.now between s t }
+        ensures holds { (number : ℕ → ℤ) (k : ℤ) → result ≡ Some k → Allows self.now number →
+            LiesAbove number s t between → LiesAbove number s t k }
+    {
+        if s == t {
+            return Some(0);
+        }
+        raised_gap(self.gap(s, t), between)
+    }
+
+    /// Writes the gaps from a symbol: into each place that to the symbol of the place. It costs the length of `gaps`,
+    /// the bounds from the symbol, and those from each symbol to which these go, and takes no memory.
+    pub fn gaps_from(&self, s: u32, gaps: &mut [Option<i64>])
+        ensures { EachIndex gaps.new (λ t. slice_index_or gaps.new t None ≡ gap self.now s t) }
+    {
+        clear(gaps);
+        let firsts = self.rows_from(s);
+        raise_all(gaps, firsts, 0);
+        self.raise_behind(firsts, gaps);
+        if (s as usize) < gaps.len() {
+            gaps[s as usize] = Some(0);
+        }
+    }
+
+    /// Raises the gap to each symbol by what bounds say behind those of a symbol.
+    fn raise_behind(&self, firsts: &[BoundRow], gaps: &mut [Option<i64>])
+        ensures { EachIndex gaps.new (λ t. slice_index_or gaps.new t None ≡
+            greater_gap (slice_index_or gaps.old t None) (option_and_then cut (greatest_sum self.now firsts.now t))) }
+    {
+        for first in firsts {
+            raise_all(gaps, self.rows_from(first.t), first.k);
+        }
+    }
+
+    /// Returns what is stored of two symbols, as a gap.
+    pub(crate) fn stored_gap(&self, s: u32, t: u32) -> Option<i64>
+        ensures { result ≡ option_and_then cut (stored self.now s t) }
+    {
+        match self.stored(s, t) {
+            None => None,
+            Some(k) => cut(i128::from(k)),
+        }
+    }
+
+    /// The greater of a gap and of what a bound tells with the one behind it that goes to a symbol.
+    pub(crate) fn raised_behind(&self, known: Option<i64>, first: &BoundRow, t: u32) -> Option<i64>
+        ensures { result ≡ greater_gap known (option_and_then cut
+            (option_map (λ l. first.now.k +ℤ l) (stored self.now first.now.t t))) }
+    {
+        match self.stored(first.t, t) {
+            None => known,
+            Some(k) => greater_of(known, sum_of(first.k, k)),
+        }
+    }
+}

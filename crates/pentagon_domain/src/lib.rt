@@ -1,0 +1,17 @@
+//! What is known of the differences of symbols: bounds s + k <= t, as a domain of the analysis.
+#![tactic(auto)]
+
+mod bound_row;
+mod bounds;
+mod changes;
+mod forms;
+mod gaps;
+mod order;
+mod search;
+
+pub use bound_row::BoundRow;
+pub use bounds::Bounds;
+pub use gaps::raised_gap;
+
+#[cfg(test)]
+mod tests;
