@@ -1,8 +1,8 @@
 -- Rounds that are gone through, one after another, and how much work they were.
-use Rattle.std.proofs.Common.{◌≡◌, ℕ, ◌+◌, ◌<◌, ◌≤◌, nat_le, Bool, true, false, List, [], ◌∷◌, map, Option, Some, None, refl, sym, ap, subst, ◌∙◌, arith}
+use Rattle.std.proofs.Common.{◌≡◌, ℕ, ◌+◌, ◌<◌, ◌≤◌, nat_le, Bool, true, false, List, [], ◌∷◌, Option, Some, None, refl, sym, ap, ◌∙◌, arith}
 use Rattle.std.specs.List.{find}
 use Rattle.widening_engine.specs.Kept.{IsKept, states_of}
-use Rattle.widening_engine.specs.Rounds.{Flow, all_unknown, first_inductive, is_inductive, last_round, limit, never_reached, next, places, round, settled}
+use Rattle.widening_engine.specs.Rounds.{Flow, all_unknown, first_inductive, is_inductive, last_round, never_reached, next, places, round}
 use Rattle.widening_engine.specs.Work.{HasCounted, HasCountedAtMost, IsTried, after_round, after_ticks, changes, changes_along, first_stop, sought, tried, work}
 use Rattle.widening_engine.specs.declared.kept.Kept.{Kept}
 use Rattle.widening_engine.proofs.Counting.{ticks_add, ticks_most}

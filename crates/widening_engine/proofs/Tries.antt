@@ -1,5 +1,5 @@
 -- How many edges are computed where each round is computed anew.
-use Rattle.std.proofs.Common.{◌≡◌, ℕ, zero, suc, ◌+◌, ◌*◌, ◌<◌, ◌≤◌, Bool, true, false, List, [], ◌∷◌, ◌++◌, length, map, Option, Some, None, option_map, refl, sym, ap, subst, ◌∙◌, arith, length-append}
+use Rattle.std.proofs.Common.{◌≡◌, ℕ, ◌+◌, ◌*◌, ◌<◌, ◌≤◌, true, List, [], ◌∷◌, length, map, Option, Some, None, option_map, refl, sym, ap, subst, ◌∙◌, arith, length-append}
 use Rattle.std.specs.List.{find}
 use Rattle.std.proofs.lemmas.List.FromFn.{length-map-range_with_len}
 use Rattle.std.proofs.Math.Nat.{mul-le-mul_left}
@@ -7,7 +7,7 @@ use Rattle.widening_engine.specs.Rounds.{Flow, all_unknown, first_inductive, is_
 use Rattle.widening_engine.specs.Work.{after_ticks, first_stop, rounds, sought, tried}
 use Rattle.widening_engine.proofs.Counting.{ticks_add, ticks_most}
 use Rattle.widening_engine.proofs.Rounds.{AreUnsettled}
-use Rattle.widening_engine.proofs.Working.{find_by_number, found_above, none_step, some_step}
+use Rattle.widening_engine.proofs.Working.{find_by_number, found_above, some_step}
 
 pub no_round : (edges first : ℕ) → first ≡ after_ticks (0 * edges) first
 no_round edges first = let none : 0 * edges ≡ 0 = omega arith in ap (λ (n : ℕ). after_ticks n first) (sym none)

@@ -1,6 +1,6 @@
-use Rattle.std.proofs.Common.{◌≡◌, ◌∙◌, ap, sym, length, map}
+use Rattle.std.proofs.Common.{◌∙◌, ap, length}
 use Rattle.widening_engine.specs.Flows.{flow_of}
-use Rattle.widening_engine.specs.Rounds.{Flow, is_head, places, settled}
+use Rattle.widening_engine.specs.Rounds.{Flow}
 use Rattle.widening_engine.proofs.Marks.{heads_in_flow}
 use Rattle.widening_engine.proofs.Rounds.{limit_from}
 use Rattle.widening_engine.proofs.Seeking.{begun_most, sought_within, whole, whole_most}

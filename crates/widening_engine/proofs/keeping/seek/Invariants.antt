@@ -1,5 +1,3 @@
-use Rattle.std.proofs.Common.{◌≡◌, ◌+◌, None, map}
-use Rattle.std.specs.List.{find}
 use Rattle.widening_engine.specs.Flows.{flow_of}
 use Rattle.widening_engine.proofs.Seeking.{AreSought}
 use Rattle.widening_engine.proofs.keeping.seek.Given as goal

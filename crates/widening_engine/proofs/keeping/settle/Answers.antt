@@ -1,7 +1,7 @@
-use Rattle.std.proofs.Common.{◌≡◌, ◌∙◌, ap, sym}
+use Rattle.std.proofs.Common.{◌∙◌, ap, sym}
 use Rattle.widening_engine.specs.Flows.{flow_of}
 use Rattle.widening_engine.specs.Kept.{states_of}
-use Rattle.widening_engine.specs.Rounds.{Flow, is_inductive, next}
+use Rattle.widening_engine.specs.Rounds.{Flow, next}
 use Rattle.widening_engine.proofs.Rounds.{settled_here, settled_later}
 use Rattle.widening_engine.proofs.Seeking.{at_most, both, once_most, twice, twice_most}
 use Rattle.widening_engine.proofs.keeping.settle.Goals as goal

@@ -1,4 +1,4 @@
-use Rattle.std.proofs.Common.{◌≡◌, ◌∙◌, None, Some, Bool, true, false, cond, get_or, set, sym, ap, arith}
+use Rattle.std.proofs.Common.{◌≡◌, ◌∙◌, None, Some, Bool, cond, get_or, set, sym, ap}
 use Rattle.std.proofs.lemmas.List.{set-set, get_or_read}
 use Rattle.widening_engine.specs.Merging.{joined}
 use Rattle.widening_engine.proofs.kept.join_into.Goals as goal

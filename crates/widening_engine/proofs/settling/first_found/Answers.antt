@@ -1,4 +1,4 @@
-use Rattle.std.proofs.Common.{◌∙◌, ◌*◌, ◌≤◌, ◌+◌, arith, None, Some, ap, sym, length, map, option_map}
+use Rattle.std.proofs.Common.{◌∙◌, ◌*◌, arith, None, Some, ap, sym, length, map, option_map}
 use Rattle.widening_engine.specs.Flows.{flow_of}
 use Rattle.widening_engine.specs.Rounds.{Flow, next, places}
 use Rattle.widening_engine.specs.Work.{after_ticks}
@@ -68,13 +68,13 @@ pub returns-in_err-round-in-None-clause-most : goal.returns-in_err-round-in-None
 returns-in_err-round-in-None-clause-most g c =
     let flow : Flow _ = flow_of g.S.FlowState g.S.Lattice c.args.code.now in
     let first = g.S.Gauge.Meter.count c.args.meter.now in
-    and_more flow _ first _ _ c.in_ok-found.ensures.ticked c.next_round-in-None.ensures.most _ (let more = sought_more flow (ap (option_map (λ found. found.states.items)) (sym c.in-None.is) ∙ c.in_ok-found.ensures.first) in omega (arith, more))
+    and_more flow _ first _ _ c.in_ok-found.ensures.ticked c.next_round.ensures.most _ (let more = sought_more flow (ap (option_map (λ found. found.states.items)) (sym c.in-None.is) ∙ c.in_ok-found.ensures.first) in omega (arith, more))
 
 pub returns-in_ok-round-in-None-clause-most : goal.returns-in_ok-round-in-None-clause-most
 returns-in_ok-round-in-None-clause-most g c =
     let flow : Flow _ = flow_of g.S.FlowState g.S.Lattice c.args.code.now in
     let first = g.S.Gauge.Meter.count c.args.meter.now in
-    and_more flow _ first _ _ c.in_ok-found.ensures.ticked c.next_round-in-None.ensures.most _ (let more = sought_more flow (ap (option_map (λ found. found.states.items)) (sym c.in-None.is) ∙ c.in_ok-found.ensures.first) in omega (arith, more))
+    and_more flow _ first _ _ c.in_ok-found.ensures.ticked c.next_round.ensures.most _ (let more = sought_more flow (ap (option_map (λ found. found.states.items)) (sym c.in-None.is) ∙ c.in_ok-found.ensures.first) in omega (arith, more))
 
 pub returns-in_ok-round-in-None-clause-ticked : goal.returns-in_ok-round-in-None-clause-ticked
 returns-in_ok-round-in-None-clause-ticked g c =

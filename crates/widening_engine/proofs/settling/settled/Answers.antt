@@ -1,4 +1,4 @@
-use Rattle.std.proofs.Common.{◌∙◌, ◌*◌, ◌≤◌, ◌+◌, ap, sym, arith}
+use Rattle.std.proofs.Common.{◌∙◌, ap, sym, arith}
 use Rattle.widening_engine.specs.Flows.{flow_of}
 use Rattle.widening_engine.specs.Rounds.{Flow, is_inductive, next}
 use Rattle.widening_engine.proofs.Rounds.{settled_here, settled_later}

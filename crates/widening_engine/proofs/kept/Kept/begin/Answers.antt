@@ -1,7 +1,7 @@
-use Rattle.std.proofs.Common.{◌≡◌, ◌<◌, ◌≤◌, ◌+◌, ◌∙◌, ℕ, Bool, true, List, length, map, ap, sym, subst, arith}
+use Rattle.std.proofs.Common.{◌≤◌, ◌+◌, ◌∙◌, true, length, map, ap, subst}
 use Rattle.std.proofs.lemmas.List.FromFn.{length-map-range_with_len}
-use Rattle.widening_engine.specs.Flows.{FitBlocks, flow_of}
-use Rattle.widening_engine.specs.Kept.{no_block, states_of}
+use Rattle.widening_engine.specs.Flows.{flow_of}
+use Rattle.widening_engine.specs.Kept.{no_block}
 use Rattle.widening_engine.specs.Rounds.{Flow, places}
 use Rattle.widening_engine.specs.Work.{after_ticks}
 use Rattle.widening_engine.proofs.EdgeSteps.{keeps}

@@ -1,4 +1,4 @@
-use Rattle.std.proofs.Common.{◌≡◌, ◌<◌, ◌∙◌, ℕ, Bool, None, Some, List, Option, false, cond, refl, ap, sym, map, set, length, get_or, arith}
+use Rattle.std.proofs.Common.{◌≡◌, ◌<◌, ◌∙◌, None, Some, cond, refl, ap, map, set, get_or, arith}
 use Rattle.std.proofs.lemmas.List.FromFn.{get_or-map-range_with_len}
 use Rattle.widening_engine.specs.Flows.{flow_of}
 use Rattle.widening_engine.specs.Kept.{states_of}

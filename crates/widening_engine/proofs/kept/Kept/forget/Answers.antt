@@ -1,6 +1,6 @@
-use Rattle.std.proofs.Common.{◌≡◌, ◌<◌, ◌∙◌, ℕ, Bool, List, length, ap, sym, subst, arith}
+use Rattle.std.proofs.Common.{◌∙◌, Bool, List, length, ap, sym, subst}
 use Rattle.std.proofs.lemmas.Result.{on_ok_weaker}
-use Rattle.widening_engine.specs.Flows.{FitBlocks, flow_of}
+use Rattle.widening_engine.specs.Flows.{flow_of}
 use Rattle.widening_engine.specs.Kept.{AreTold, states_of}
 use Rattle.widening_engine.specs.Rounds.{Flow, all_unknown}
 use Rattle.widening_engine.proofs.EdgeSteps.{keeps}

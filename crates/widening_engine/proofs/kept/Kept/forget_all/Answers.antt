@@ -1,7 +1,7 @@
-use Rattle.std.proofs.Common.{◌≡◌, ◌<◌, ◌∙◌, ℕ, length, get_or, refl, ap, sym, subst, arith}
+use Rattle.std.proofs.Common.{◌≡◌, ◌<◌, ◌∙◌, length, refl, subst, arith}
 use Rattle.std.proofs.lemmas.List.{get_or_read}
 use Rattle.widening_engine.specs.Flows.{flow_of}
-use Rattle.widening_engine.specs.Kept.{TellsChange, no_block}
+use Rattle.widening_engine.specs.Kept.{no_block}
 use Rattle.widening_engine.specs.Rounds.{Flow}
 use Rattle.widening_engine.proofs.Forgetting.{AreForgetting, forgetting_all, forgetting_more}
 use Rattle.widening_engine.proofs.kept.Kept.forget_all.Goals as goal

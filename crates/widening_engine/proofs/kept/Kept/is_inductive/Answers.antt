@@ -1,8 +1,8 @@
-use Rattle.std.proofs.Common.{◌≡◌, ◌<◌, ◌+◌, ◌∙◌, ℕ, Bool, true, false, ap, sym, subst, refl, length, get_or, arith, below_more}
+use Rattle.std.proofs.Common.{◌≡◌, ◌<◌, ◌∙◌, true, sym, subst, refl, length, arith, below_more}
 use Rattle.std.proofs.lemmas.List.{get_or_read}
 use Rattle.widening_engine.specs.Flows.{flow_of}
 use Rattle.widening_engine.specs.Kept.{states_of}
-use Rattle.widening_engine.specs.Rounds.{Flow, behind, is_begun, is_carried, state_at}
+use Rattle.widening_engine.specs.Rounds.{Flow, behind, is_carried, state_at}
 use Rattle.widening_engine.proofs.EdgeSteps.{behind_fits, keeps}
 use Rattle.widening_engine.proofs.KeptStates.{all_carried, behind_at, not_begun, not_carried, state_read}
 use Rattle.widening_engine.proofs.kept.Kept.is_inductive.Goals as goal

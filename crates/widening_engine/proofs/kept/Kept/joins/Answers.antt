@@ -1,10 +1,10 @@
-use Rattle.std.proofs.Common.{◌≡◌, ◌<◌, ◌≤◌, ◌+◌, ◌∙◌, Bool, None, Some, List, Option, cond, ap, sym, subst, map, set, length, get_or, false, refl, arith}
+use Rattle.std.proofs.Common.{◌≡◌, ◌<◌, ◌∙◌, None, Some, cond, ap, sym, subst, map, set, length, get_or, arith}
 use Rattle.std.proofs.lemmas.List.{get_or_read}
 use Rattle.std.proofs.lemmas.List.FromFn.{length-map-range_with_len}
 use Rattle.widening_engine.specs.Flows.{flow_of}
 use Rattle.widening_engine.specs.Kept.{joined_anew, states_of}
 use Rattle.widening_engine.specs.Merging.{joined}
-use Rattle.widening_engine.specs.Rounds.{Flow, behind, places}
+use Rattle.widening_engine.specs.Rounds.{Flow, places}
 use Rattle.widening_engine.proofs.EdgeSteps.{FitsIfAny, behind_fits, keeps, like_before}
 use Rattle.widening_engine.proofs.KeptStates.{anew_at, anew_fits, anew_more, behind_at, mark_read}
 use Rattle.widening_engine.proofs.kept.Kept.joins.Goals as goal

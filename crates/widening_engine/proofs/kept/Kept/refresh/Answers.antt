@@ -1,10 +1,9 @@
 use Rattle.std.proofs.Common.{◌≡◌, ◌<◌, ◌≤◌, ◌+◌, ◌∙◌, ℕ, Bool, ap, sym, subst, arith, cond, get_or, false, count_by}
 use Rattle.widening_engine.specs.Flows.{flow_of}
-use Rattle.widening_engine.specs.Kept.{states_of}
 use Rattle.widening_engine.specs.Rounds.{Flow, places}
 use Rattle.widening_engine.specs.Work.{after_ticks}
 use Rattle.widening_engine.proofs.Counting.{count_more, count_up_to, same_tick, ticks_add, ticks_most}
-use Rattle.widening_engine.proofs.Refreshing.{AreRefreshing, refreshing_all, refreshing_more, refreshing_none}
+use Rattle.widening_engine.proofs.Refreshing.{AreRefreshing, refreshing_all, refreshing_more}
 use Rattle.widening_engine.proofs.kept.Kept.refresh.Goals as goal
 
 pub returns-in_err-refresh_edge-clause-most : goal.returns-in_err-refresh_edge-clause-most

@@ -1,7 +1,6 @@
-use Rattle.std.proofs.Common.{◌≡◌, ◌<◌, ◌∙◌, ap, sym, subst, arith}
+use Rattle.std.proofs.Common.{◌<◌, sym, subst}
 use Rattle.widening_engine.specs.Flows.{flow_of}
-use Rattle.widening_engine.specs.Kept.{states_of}
-use Rattle.widening_engine.specs.Rounds.{Flow, behind, state_at}
+use Rattle.widening_engine.specs.Rounds.{Flow}
 use Rattle.widening_engine.proofs.KeptStates.{state_read}
 use Rattle.widening_engine.proofs.kept.Kept.refresh_edge.Goals as goal
 

@@ -1,7 +1,7 @@
-use Rattle.std.proofs.Common.{◌≡◌, ◌<◌, ◌∙◌, ℕ, Bool, List, length, ap, sym, subst, arith}
+use Rattle.std.proofs.Common.{◌∙◌, Bool, List, length, ap, sym, subst}
 use Rattle.std.proofs.lemmas.List.FromFn.{length-map-range_with_len}
 use Rattle.std.proofs.lemmas.Result.{on_ok_weaker}
-use Rattle.widening_engine.specs.Flows.{FitBlocks, flow_of}
+use Rattle.widening_engine.specs.Flows.{flow_of}
 use Rattle.widening_engine.specs.Kept.{AreTold, states_of}
 use Rattle.widening_engine.specs.Rounds.{Flow}
 use Rattle.widening_engine.specs.Work.{after_round}

@@ -1,4 +1,4 @@
-use Rattle.std.proofs.Common.{◌≡◌, ◌≤◌, ◌+◌, ◌*◌, ◌∙◌, ap, map, length, arith}
+use Rattle.std.proofs.Common.{◌*◌, ◌∙◌, ap, map, length, arith}
 use Rattle.widening_engine.specs.Limits.{limit_of, unit_flow}
 use Rattle.widening_engine.specs.Work.{rounds}
 use Rattle.widening_engine.proofs.Counting.{ticks_most}
