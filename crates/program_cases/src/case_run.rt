@@ -9,7 +9,7 @@ use crate::wrong::{Stop, Wrong, stop_at};
 use case_reader::{Case, Field};
 use check_driver::run_words;
 use std::alloc::{AllocError, Global};
-use widening_engine::Plain;
+use widening_engine::{Dirty, Plain};
 
 /// The devices of a case, and what was read of its next call.
 #[derive(Drop)]
@@ -18,9 +18,46 @@ struct Script {
     given: Given,
     out: CaseSink,
     err: CaseSink,
-    finder: Plain,
+    finders: Finders,
     words: Vec<String>,
     expected: Expected,
+}
+
+/// The finders of a case: that of the program, and the one that computes each round anew.
+#[derive(Drop)]
+struct Finders {
+    dirty: Dirty,
+    plain: Plain,
+    /// The next call is handed the one that computes each round anew.
+    is_plain: bool,
+}
+
+impl Finders {
+    fn new(alloc: Global) -> Finders {
+        Finders {
+            dirty: Dirty::new(alloc),
+            plain: Plain::new(alloc),
+            is_plain: false,
+        }
+    }
+
+    /// The bytes of the units that were asked for, in order.
+    fn asked(&self) -> &[Vec<u8>] {
+        if self.is_plain {
+            &self.plain.asked
+        } else {
+            &self.dirty.asked
+        }
+    }
+
+    /// The number of edges that were computed.
+    fn edges(&self) -> u64 {
+        if self.is_plain {
+            self.plain.edges()
+        } else {
+            self.dirty.edges()
+        }
+    }
 }
 
 /// What is wrong with the case or with an answer to it, if anything is.
@@ -42,7 +79,7 @@ fn try_case(alloc: Global, bases: &[Case<'_>], case: &Case<'_>) -> Result<(), St
         given: Given::new(alloc),
         out: CaseSink::new(alloc),
         err: CaseSink::new(alloc),
-        finder: Plain::new(alloc),
+        finders: Finders::new(alloc),
         words: Vec::new(alloc),
         expected: Expected::new(alloc),
     };
@@ -64,6 +101,10 @@ impl Script {
             "copy" => self.given.copy(self.alloc, bases, field),
             "fails" => self.take_failing(field),
             "lacks" => self.take_lacking(field),
+            "plain" => {
+                self.finders.is_plain = true;
+                Ok(())
+            }
             "then" => self.call(field.line),
             _ => Err(stop_at(self.alloc, field.line, "an unknown keyword")),
         }
@@ -116,14 +157,7 @@ impl Script {
     fn call(&mut self, line: u64) -> Result<(), Stop> {
         self.given.close(self.alloc)?;
         let replaces = self.given.files.files.replaces;
-        let status = run_words(
-            self.alloc,
-            &self.words,
-            &mut self.given.files,
-            &mut self.out,
-            &mut self.err,
-            &mut self.finder,
-        );
+        let status = self.answer();
         let Some((line, wanted)) = self.expected.status else {
             return Err(stop_at(self.alloc, line, "the case has no status"));
         };
@@ -138,8 +172,21 @@ impl Script {
         self.expected = Expected::new(self.alloc);
         self.out.sink.bytes.clear();
         self.err.sink.bytes.clear();
-        self.finder = Plain::new(self.alloc);
+        self.finders = Finders::new(self.alloc);
         Ok(())
+    }
+
+    /// The status of the call.
+    fn answer(&mut self) -> u8 {
+        let files = &mut self.given.files;
+        let (out, err) = (&mut self.out, &mut self.err);
+        if self.finders.is_plain {
+            let finder = &mut self.finders.plain;
+            run_words(self.alloc, &self.words, files, out, err, finder)
+        } else {
+            let finder = &mut self.finders.dirty;
+            run_words(self.alloc, &self.words, files, out, err, finder)
+        }
     }
 
     fn compare_text(&self, line: u64) -> Result<(), Stop> {
@@ -157,13 +204,20 @@ impl Script {
     }
 
     fn compare_asked(&self, line: u64) -> Result<(), Stop> {
+        if let Some(edges) = self.expected.edges
+            && edges != self.finders.edges()
+        {
+            let text = format!(in self.alloc; "{} edges are computed", self.finders.edges())?;
+            return Err(Stop::Wrong(Wrong { line, text }));
+        }
         let Some(wanted) = &self.expected.asked else {
             return Ok(());
         };
-        if wanted.len() != self.finder.asked.len() {
+        let found = self.finders.asked();
+        if wanted.len() != found.len() {
             return Err(stop_at(self.alloc, line, "another number of units is asked for"));
         }
-        for (want, have) in wanted.iter().zip(&self.finder.asked) {
+        for (want, have) in wanted.iter().zip(found) {
             if want.as_slice() != have.as_slice() {
                 return Err(stop_at(self.alloc, line, "another unit is asked for"));
             }

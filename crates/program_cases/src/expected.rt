@@ -17,6 +17,8 @@ pub struct Expected {
     pub err: Vec<u8>,
     /// The bytes of the units that the finder is asked for, in order, where the case tells them.
     pub asked: Option<Vec<Vec<u8>>>,
+    /// The number of edges that the finder computes, where the case tells it.
+    pub edges: Option<u64>,
     /// Files that hold other bytes after the call than before it.
     pub after: Vec<NamedFile>,
 }
@@ -28,6 +30,7 @@ impl Expected {
             out: Vec::new(alloc),
             err: Vec::new(alloc),
             asked: None,
+            edges: None,
             after: Vec::new(alloc),
         }
     }
@@ -48,6 +51,7 @@ impl Expected {
             "out_nops" => append_nops(alloc, &mut self.out, field)?,
             "asks_none" => self.asked = Some(Vec::new(alloc)),
             "asks" => self.take_asked(alloc, bytes_of(alloc, line, field.argument)?)?,
+            "edges" => self.edges = Some(number_of(alloc, line, field.argument)? as u64),
             "after" => self.take_after(alloc, field)?,
             _ => return Ok(false),
         }
