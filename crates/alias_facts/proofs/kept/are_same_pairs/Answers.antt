@@ -1,0 +1,20 @@
+use Rattle.std.proofs.Common.{sym, ◌∙◌, true≢false}
+use Rattle.alias_facts.specs.PairsOf.{kept_pairs}
+use Rattle.alias_facts.proofs.KeptLaws.{order-kept_pairs}
+use Rattle.alias_facts.proofs.RowLaws.{covers_same, same_covers}
+use Rattle.alias_facts.proofs.kept.are_same_pairs.Goals as goal
+
+pub returns-then-covers : goal.returns-then-covers
+returns-then-covers c =
+    let one = kept_pairs c.args.pairs.now c.args.marks.now in
+    let other = kept_pairs c.args.other_pairs.now c.args.other_marks.now in (
+      λ is. covers_same one other (order-kept_pairs c.args.pairs.now c.args.marks.now)
+          (order-kept_pairs c.args.other_pairs.now c.args.other_marks.now) (c.covers.ensures.0 c.if-covers.true) (c.covers-then-covers.ensures.0 is),
+      λ same. c.covers-then-covers.ensures.1 (same_covers other one (sym same)),
+    )
+
+pub returns-else-covers : goal.returns-else-covers
+returns-else-covers c =
+    let one = kept_pairs c.args.pairs.now c.args.marks.now in
+    let other = kept_pairs c.args.other_pairs.now c.args.other_marks.now in
+    (λ is. absurd (true≢false (sym is ∙ c.if-covers.false)), λ same. c.covers.ensures.1 (same_covers one other same))

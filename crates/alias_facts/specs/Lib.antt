@@ -1,0 +1,3 @@
+pub mod NullnessOf
+pub mod PairsOf
+pub mod KeptPairs

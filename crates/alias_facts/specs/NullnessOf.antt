@@ -1,0 +1,69 @@
+-- What is known of whether a reference is null.
+use Rattle.std.specs.Prelude.{◌≡◌, Bool, true, false, not, ◌||◌}
+use Rattle.alias_facts.specs.declared.nullness.Nullness.{Nullness}
+use Rattle.alias_facts.specs.declared.nullness.Nullness.TheVariants.{May, NotNull, Null}
+
+-- What is known where the one or the other is: nothing, unless both tell the same.
+abbrev pub joined : Nullness → Nullness → Nullness
+joined May _ = May
+joined NotNull NotNull = NotNull
+joined NotNull _ = May
+joined Null Null = Null
+joined Null _ = May
+
+-- The first tells at least as much as the second.
+abbrev pub entailed : Nullness → Nullness → Bool
+entailed _ May = true
+entailed May _ = false
+entailed NotNull NotNull = true
+entailed NotNull Null = false
+entailed Null Null = true
+entailed Null NotNull = false
+
+-- A reference that is null, or is not, as this tells.
+abbrev pub Agrees : Nullness → Bool → Type 0
+Agrees May _ = Unit {0}
+Agrees NotNull is_null = is_null ≡ false
+Agrees Null is_null = is_null ≡ true
+
+-- ---- laws
+
+-- What the one or the other tells, both joined tell.
+pub joined_left : (a b : Nullness) (is_null : Bool) → Agrees a is_null → Agrees (joined a b) is_null
+joined_left May b is_null agrees = tt
+joined_left NotNull May is_null agrees = tt
+joined_left NotNull NotNull is_null agrees = agrees
+joined_left NotNull Null is_null agrees = tt
+joined_left Null May is_null agrees = tt
+joined_left Null NotNull is_null agrees = tt
+joined_left Null Null is_null agrees = agrees
+
+pub joined_right : (a b : Nullness) (is_null : Bool) → Agrees b is_null → Agrees (joined a b) is_null
+joined_right May b is_null agrees = tt
+joined_right NotNull May is_null agrees = tt
+joined_right NotNull NotNull is_null agrees = agrees
+joined_right NotNull Null is_null agrees = tt
+joined_right Null May is_null agrees = tt
+joined_right Null NotNull is_null agrees = tt
+joined_right Null Null is_null agrees = agrees
+
+-- What is entailed holds where that which entails it does.
+pub entailed_agrees : (a b : Nullness) (is_null : Bool) → entailed a b ≡ true → Agrees a is_null → Agrees b is_null
+entailed_agrees a May is_null less agrees = tt
+entailed_agrees May NotNull is_null less agrees = cc
+entailed_agrees May Null is_null less agrees = cc
+entailed_agrees NotNull NotNull is_null less agrees = agrees
+entailed_agrees NotNull Null is_null less agrees = cc
+entailed_agrees Null NotNull is_null less agrees = cc
+entailed_agrees Null Null is_null less agrees = agrees
+
+-- ---- two references
+
+abbrev pub is_null : Nullness → Bool
+is_null May = false
+is_null NotNull = false
+is_null Null = true
+
+-- Two references cannot be the same array: they are kept apart, their places differ, or one is null.
+abbrev pub must_differ : (kept same_place : Bool) (a b : Nullness) → Bool
+must_differ kept same_place a b = kept || (not same_place || (is_null a || is_null b))

@@ -1,0 +1,142 @@
+//! References that are not the same array.
+
+ghost use Rattle.std.specs.Prelude.{◌≡◌, ◌≢◌, ◌↔◌, [], IfOk, IsTrue, OnErr, OnOk};
+ghost use Rattle.alias_facts.specs.NullnessOf.{must_differ};
+ghost use Rattle.alias_facts.specs.PairsOf.{AreInOrder, AreProper, contains, ordered, with_all_before, with_pair};
+
+use crate::kept::{all_pairs, are_same_pairs, is_kept};
+use crate::marks::mark;
+use crate::nullness::Nullness;
+use crate::pair_list::{insert, is_proper, ordered};
+use domain_api::NoMemory;
+use std::alloc::Global;
+use std::marker::Model;
+
+/// Pairs of references that are not the same array. Contracts see them as a list, each once and lower first, by the lower
+/// reference and then by the higher one.
+///
+/// A pair takes eight bytes. A reference that is apart from all before it takes four, however many these are.
+#[derive(Drop)]
+pub struct Apart {
+    /// Pairs that are kept one by one, in order.
+    pairs: Vec<(u32, u32)>,
+    /// References that are apart from each one from 1 up to the one before them, in order.
+    marks: Vec<u32>,
+}
+
+impl Model for Apart {
+    ghost use Rattle.std.specs.Prelude.{List, ℕ};
+
+    ghost Value = { List (ℕ × ℕ) };
+
+    ghost use Rattle.alias_facts.specs.PairsOf.{kept_pairs};
+    ghost use Rattle.alias_facts.specs.KeptPairs.{AreKept};
+
+    ghost view = { λ apart. kept_pairs apart.pairs.items apart.marks.items };
+
+    ghost invariant = { λ apart. AreKept apart.pairs.items apart.marks.items };
+}
+
+impl Apart {
+    /// No pair.
+    pub fn new(alloc: Global) -> Apart
+        ensures { result ≡ [] }
+    {
+        Apart {
+            pairs: Vec::new(alloc),
+            marks: Vec::new(alloc),
+        }
+    }
+
+    /// These pairs alone.
+    pub fn of_pairs(alloc: Global, pairs: Vec<(u32, u32)>) -> Apart
+        requires in_order { AreInOrder pairs.items }
+        requires proper { AreProper pairs.items }
+        ensures { result ≡ pairs.items }
+    {
+        Apart {
+            pairs,
+            marks: Vec::new(alloc),
+        }
+    }
+
+    /// Whether the two are kept apart, in whatever order they are given. A reference is never apart from itself, nor reference 0
+    /// from any.
+    ///
+    /// Cost: what is kept is halved.
+    pub fn is_apart(&self, r: u32, q: u32) -> bool
+        ensures kept { result ≡ contains self.now (ordered r q) }
+        ensures different { IsTrue result → r ≢ q }
+    {
+        is_kept(self.pairs.as_slice(), self.marks.as_slice(), ordered(r, q))
+    }
+
+    /// Keeps two references apart, in whatever order they are given. A reference and itself, and reference 0 and another, are
+    /// never kept. Want of memory leaves what was kept.
+    ///
+    /// Cost: the pairs behind this one are moved.
+    pub fn set_apart(&mut self, r: u32, q: u32) -> Result<(), NoMemory>
+        ensures ok { OnOk result (self.new ≡ with_pair (ordered r q) self.old) }
+        ensures err { OnErr result (self.new ≡ self.old) }
+    {
+        let pair = ordered(r, q);
+        if !is_proper(pair) {
+            return Ok(());
+        }
+        insert(&mut self.pairs, pair)?;
+        Ok(())
+    }
+
+    /// Keeps a reference apart from each one from 1 up to the one before it. Want of memory leaves what was kept.
+    ///
+    /// Cost: a reference that is higher than all for which this was asked goes behind them, whatever the number of pairs.
+    pub fn set_apart_from_earlier(&mut self, r: u32) -> Result<(), NoMemory>
+        ensures ok { OnOk result (self.new ≡ with_all_before r self.old) }
+        ensures err { OnErr result (self.new ≡ self.old) }
+    {
+        mark(&mut self.marks, r)?;
+        Ok(())
+    }
+
+    /// All pairs, in order.
+    ///
+    /// Cost: where no reference is marked as apart from all before it, that of a copy. Each pair that a mark stands for is put
+    /// in its place, and the pairs behind it are moved.
+    pub fn pairs(&self, alloc: Global) -> Result<Vec<(u32, u32)>, NoMemory>
+        ensures value { IfOk result (λ pairs. pairs.items ≡ self.now) }
+        ensures in_order { IfOk result (λ pairs. AreInOrder pairs.items) }
+        ensures proper { IfOk result (λ pairs. AreProper pairs.items) }
+    {
+        all_pairs(alloc, self.pairs.as_slice(), self.marks.as_slice())
+    }
+
+    /// Whether both keep the same pairs.
+    ///
+    /// Cost: each pair of the one is sought in the other. A reference that both mark is looked at once.
+    pub fn same(&self, other: &Apart) -> bool
+        ensures { IsTrue result ↔ (self.now ≡ other.now) }
+    {
+        are_same_pairs(
+            self.pairs.as_slice(),
+            self.marks.as_slice(),
+            other.pairs.as_slice(),
+            other.marks.as_slice(),
+        )
+    }
+
+    /// The same pairs again.
+    pub fn copy(&self, alloc: Global) -> Result<Apart, NoMemory>
+        ensures { IfOk result (λ again. again ≡ self.now) }
+    {
+        let pairs = Vec::from_slice(alloc, self.pairs.as_slice())?;
+        let marks = Vec::from_slice(alloc, self.marks.as_slice())?;
+        Ok(Apart { pairs, marks })
+    }
+}
+
+/// Whether two references cannot be the same array: they are kept apart, their places differ, or one is null.
+pub fn cannot_be_same(kept: bool, same_place: bool, a: Nullness, b: Nullness) -> bool
+    ensures { result ≡ must_differ kept same_place a b }
+{
+    kept || !same_place || a == Nullness::Null || b == Nullness::Null
+}

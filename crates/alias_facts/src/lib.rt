@@ -1,0 +1,11 @@
+//! What is known of references alone: which are null, and which are not the same array.
+#![tactic(auto)]
+
+mod apart;
+mod kept;
+mod marks;
+mod nullness;
+mod pair_list;
+
+pub use apart::{Apart, cannot_be_same};
+pub use nullness::Nullness;

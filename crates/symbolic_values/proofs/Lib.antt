@@ -1,0 +1,9 @@
+pub mod Keys
+pub mod Noting
+pub mod Tables
+pub mod Origins
+pub mod Pairings
+pub mod WorthLaws
+pub mod MeaningLaws
+pub mod PairedMeaning
+pub mod SymbolUses

@@ -1,0 +1,42 @@
+-- A table of what tells uses apart, beside the uses.
+use Rattle.std.proofs.Common.{◌≡◌, ℕ, ◌+◌, Bool, true, false, ◌||◌, not, cond, List, [], ◌∷◌, ◌++◌, map, refl, sym, ap, ◌∙◌}
+use Rattle.std.specs.List.{list_any, position_or_len}
+use Rattle.symbolic_values.specs.FirstUses.{noted}
+use Rattle.symbolic_values.proofs.Noting.{noted_known, noted_new}
+
+module _ {X Y : Type 0} (same : X → X → Bool) (eq : Y → Y → Bool) (f : X → Y) (agree : (u k : X) → eq (f u) (f k) ≡ same u k) where
+  any-table : (u : X) (known : List X) → list_any (eq (f u)) (map f known) ≡ list_any (same u) known
+  any-table u [] = refl
+  any-table u (k ∷ known) =
+      ap (λ b. b || list_any (eq (f u)) (map f known)) (agree u k) ∙ ap (λ b. same u k || b) (any-table u known)
+
+  place-table : (u : X) (known : List X) → position_or_len (eq (f u)) (map f known) ≡ position_or_len (same u) known
+  place-table u [] = refl
+  place-table u (k ∷ known) =
+      ap (λ b. cond (not b) (1 + position_or_len (eq (f u)) (map f known)) 0) (agree u k)
+      ∙ ap (λ n. cond (not (same u k)) (1 + n) 0) (place-table u known)
+
+  -- What a table of the known uses tells of one more.
+  pub record Tells (known : List X) (u : X) (is_new : Bool) (place : ℕ) : Type 0 where
+    pub place_is : place ≡ position_or_len (same u) known
+    pub is_known : is_new ≡ false → noted same known u ≡ known
+    pub is_behind : is_new ≡ true → noted same known u ≡ known ++ u ∷ []
+
+  not_false : (b : Bool) → not b ≡ false → b ≡ true
+  not_false true is = refl
+  not_false false is = cc
+
+  not_true : (b : Bool) → not b ≡ true → b ≡ false
+  not_true true is = cc
+  not_true false is = refl
+
+  pub told : (known : List X) (u : X) (id : Y) (table : List Y) (is_new : Bool) (place : ℕ)
+      → id ≡ f u → table ≡ map f known → is_new ≡ not (list_any (eq id) table) → place ≡ position_or_len (eq id) table → Tells known u is_new place
+  told known u id table is_new place id_is same_table added index =
+      let any : list_any (eq id) table ≡ list_any (same u) known =
+      ap (λ y. list_any (eq y) table) id_is ∙ ap (list_any (eq (f u))) same_table ∙ any-table u known in
+      record {
+        place_is = index ∙ ap (λ y. position_or_len (eq y) table) id_is ∙ ap (position_or_len (eq (f u))) same_table ∙ place-table u known;
+        is_known = λ is. noted_known same known u (not_false (list_any (same u) known) (ap not (sym any) ∙ sym added ∙ is));
+        is_behind = λ is. noted_new same known u (not_true (list_any (same u) known) (ap not (sym any) ∙ sym added ∙ is));
+      }

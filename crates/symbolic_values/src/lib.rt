@@ -1,0 +1,17 @@
+//! Names of numbers: how the symbols of two states are paired, numbered by first use, and what of their definitions
+//! stays.
+#![tactic(auto)]
+
+mod def;
+mod env;
+mod naming;
+mod pairing;
+mod pairs;
+mod renaming;
+mod uses;
+
+pub use def::Def;
+pub use env::Env;
+pub use pairing::{first_use_order, pair_up};
+pub use pairs::{Key, Pairs};
+pub use renaming::renamed;
