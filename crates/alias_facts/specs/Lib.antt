@@ -1,3 +1,4 @@
 pub mod NullnessOf
 pub mod PairsOf
 pub mod KeptPairs
+pub mod Following

@@ -1,12 +1,13 @@
 //! References that are not the same array.
 
-ghost use Rattle.std.specs.Prelude.{◌≡◌, ◌≢◌, ◌↔◌, [], IfOk, IsTrue, OnErr, OnOk};
+ghost use Rattle.std.specs.Prelude.{◌≡◌, ◌≢◌, ◌↔◌, [], IfOk, IfSome, IsSome, IsTrue, OnErr, OnOk};
 ghost use Rattle.alias_facts.specs.NullnessOf.{must_differ};
 ghost use Rattle.alias_facts.specs.PairsOf.{AreInOrder, AreProper, contains, ordered, with_all_before, with_pair};
 
 use crate::kept::{all_pairs, are_same_pairs, is_kept};
 use crate::marks::mark;
 use crate::nullness::Nullness;
+use crate::pair_forms::are_kept_pairs;
 use crate::pair_list::{insert, is_proper, ordered};
 use domain_api::NoMemory;
 use std::alloc::Global;
@@ -48,15 +49,19 @@ impl Apart {
         }
     }
 
-    /// These pairs alone.
-    pub fn of_pairs(alloc: Global, pairs: Vec<(u32, u32)>) -> Apart
-        requires in_order { AreInOrder pairs.items }
-        requires proper { AreProper pairs.items }
-        ensures { result ≡ pairs.items }
+    /// These pairs alone. None exactly where they are not in order, each once, or one is not proper: its lower reference
+    /// is 0, or does not come first. Takes no memory, and costs one pass.
+    pub fn of_pairs(alloc: Global, pairs: Vec<(u32, u32)>) -> Option<Apart>
+        ensures some { IsSome result ↔ (AreInOrder pairs.items × AreProper pairs.items) }
+        ensures value { IfSome result (λ apart. apart ≡ pairs.items) }
     {
-        Apart {
-            pairs,
-            marks: Vec::new(alloc),
+        if are_kept_pairs(pairs.as_slice()) {
+            Some(Apart {
+                pairs,
+                marks: Vec::new(alloc),
+            })
+        } else {
+            None
         }
     }
 

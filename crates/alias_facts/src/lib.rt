@@ -5,6 +5,7 @@ mod apart;
 mod kept;
 mod marks;
 mod nullness;
+mod pair_forms;
 mod pair_list;
 
 pub use apart::{Apart, cannot_be_same};
