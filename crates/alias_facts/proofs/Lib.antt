@@ -4,3 +4,4 @@ pub mod Neighbours
 pub mod KeptLaws
 pub mod MarkLists
 pub mod RowLaws
+pub mod ApartLaws

@@ -1,6 +1,7 @@
 //! References that are not the same array.
 
-ghost use Rattle.std.specs.Prelude.{◌≡◌, ◌≢◌, ◌↔◌, [], IfOk, IfSome, IsSome, IsTrue, OnErr, OnOk};
+ghost use Rattle.std.specs.Prelude.{◌≡◌, ◌≢◌, ◌↔◌, ℕ, Option, [], IfOk, IfSome, IsSome, IsTrue, OnErr, OnOk};
+ghost use Rattle.alias_facts.specs.Arrays.{AllDiffer, Differ, DiffersFromEarlier};
 ghost use Rattle.alias_facts.specs.NullnessOf.{must_differ};
 ghost use Rattle.alias_facts.specs.PairsOf.{AreInOrder, AreProper, contains, ordered, with_all_before, with_pair};
 
@@ -72,6 +73,7 @@ impl Apart {
     pub fn is_apart(&self, r: u32, q: u32) -> bool
         ensures kept { result ≡ contains self.now (ordered r q) }
         ensures different { IsTrue result → r ≢ q }
+        ensures differ { IsTrue result → (array : ℕ → Option ℕ) → AllDiffer array self.now → Differ array r q }
     {
         is_kept(self.pairs.as_slice(), self.marks.as_slice(), ordered(r, q))
     }
@@ -80,9 +82,12 @@ impl Apart {
     /// never kept. Want of memory leaves what was kept.
     ///
     /// Cost: the pairs behind this one are moved.
+    #[tactic(auto, using(crate::proofs::ApartLaws::with_pair_differ))]
     pub fn set_apart(&mut self, r: u32, q: u32) -> Result<(), NoMemory>
         ensures ok { OnOk result (self.new ≡ with_pair (ordered r q) self.old) }
         ensures err { OnErr result (self.new ≡ self.old) }
+        ensures keeps { OnOk result ((array : ℕ → Option ℕ) → AllDiffer array self.old → Differ array r q →
+            AllDiffer array self.new) }
     {
         let pair = ordered(r, q);
         if !is_proper(pair) {
@@ -98,6 +103,8 @@ impl Apart {
     pub fn set_apart_from_earlier(&mut self, r: u32) -> Result<(), NoMemory>
         ensures ok { OnOk result (self.new ≡ with_all_before r self.old) }
         ensures err { OnErr result (self.new ≡ self.old) }
+        ensures keeps { OnOk result ((array : ℕ → Option ℕ) → AllDiffer array self.old → DiffersFromEarlier array r →
+            AllDiffer array self.new) }
     {
         mark(&mut self.marks, r)?;
         Ok(())
