@@ -96,3 +96,13 @@ must_differ_sound array r q false true May May apart places first second is = ab
 must_differ_sound array r q false true May NotNull apart places first second is = absurd (true≢false (sym is))
 must_differ_sound array r q false true NotNull May apart places first second is = absurd (true≢false (sym is))
 must_differ_sound array r q false true NotNull NotNull apart places first second is = absurd (true≢false (sym is))
+
+-- ---- as the code asks
+
+pub told_first : (kept told : Bool) → told ≡ true → true ≡ (kept || told)
+told_first true told is = refl
+told_first false told is = sym is
+
+pub kept_last : (kept told : Bool) → told ≡ false → kept ≡ (kept || told)
+kept_last true told is = refl
+kept_last false told is = sym is

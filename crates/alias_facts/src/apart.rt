@@ -1,8 +1,8 @@
 //! References that are not the same array.
 
-ghost use Rattle.std.specs.Prelude.{◌≡◌, ◌≢◌, ◌↔◌, ℕ, Option, [], IfOk, IfSome, IsSome, IsTrue, OnErr, OnOk};
-ghost use Rattle.alias_facts.specs.Arrays.{AllDiffer, Differ, DiffersFromEarlier};
-ghost use Rattle.alias_facts.specs.NullnessOf.{must_differ};
+ghost use Rattle.std.specs.Prelude.{◌≡◌, ◌≢◌, ◌↔◌, ℕ, Option, false, [], IfOk, IfSome, IsSome, IsTrue, OnErr, OnOk};
+ghost use Rattle.alias_facts.specs.Arrays.{AllDiffer, Differ, DiffersFromEarlier, is_no_array};
+ghost use Rattle.alias_facts.specs.NullnessOf.{Agrees, are_told_apart, must_differ};
 ghost use Rattle.alias_facts.specs.PairsOf.{AreInOrder, AreProper, contains, ordered, with_all_before, with_pair};
 
 use crate::kept::{all_pairs, are_same_pairs, is_kept};
@@ -110,6 +110,20 @@ impl Apart {
         Ok(())
     }
 
+    /// Returns whether two references cannot be the same array: they are kept apart, their places differ, or one is null.
+    /// Given are whether their places are the same, and what is known of each. A null reference and itself cannot be the
+    /// same array, as it is none.
+    ///
+    /// Cost: what is kept is halved, where the places and what is known do not tell.
+    pub fn cannot_be_same(&self, r: u32, q: u32, same_place: bool, a: Nullness, b: Nullness) -> bool
+        ensures value { result ≡ must_differ (contains self.now (ordered r q)) same_place a b }
+        ensures sound { IsTrue result → (array : ℕ → Option ℕ) → AllDiffer array self.now →
+            (same_place ≡ false → Differ array r q) → Agrees a (is_no_array (array r)) →
+            Agrees b (is_no_array (array q)) → Differ array r q }
+    {
+        are_told_apart(same_place, a, b) || self.is_apart(r, q)
+    }
+
     /// All pairs, in order.
     ///
     /// Cost: where no reference is marked as apart from all before it, that of a copy. Each pair that a mark stands for is put
@@ -146,9 +160,10 @@ impl Apart {
     }
 }
 
-/// Returns whether two references cannot be the same array: they are kept apart, their places differ, or one is null.
-pub fn cannot_be_same(kept: bool, same_place: bool, a: Nullness, b: Nullness) -> bool
-    ensures { result ≡ must_differ kept same_place a b }
+/// Returns whether two references cannot be the same array by what is known of each: their places differ, or one is
+/// null.
+fn are_told_apart(same_place: bool, a: Nullness, b: Nullness) -> bool
+    ensures { result ≡ are_told_apart same_place a b }
 {
-    kept || !same_place || a == Nullness::Null || b == Nullness::Null
+    !same_place || a == Nullness::Null || b == Nullness::Null
 }
