@@ -138,7 +138,8 @@ impl Apart {
 
     /// Returns whether both keep the same pairs.
     ///
-    /// Cost: each pair of the one is sought in the other. A reference that both mark is looked at once.
+    /// Cost: one pass over the pairs where neither has a reference that is marked as apart from all before it. Else each
+    /// pair of the one is sought in the other, and a reference that both mark is looked at once.
     pub fn same(&self, other: &Apart) -> bool
         ensures { IsTrue result ↔ (self.now ≡ other.now) }
     {
