@@ -1,5 +1,5 @@
 -- What is kept, pair by pair and by marks.
-use Rattle.std.proofs.Common.{◌≡◌, ℕ, zero, suc, ◌-◌, ◌<◌, ◌≤◌, ◌==◌, nat_lt, nat_le, Bool, true, false, ◌&&◌, ◌||◌, List, [], ◌∷◌, ◌++◌, if◌then◌else◌, refl, sym, ap, ◌∙◌, true≢false, arith}
+use Rattle.std.proofs.Common.{◌≡◌, ℕ, zero, suc, ◌-◌, ◌<◌, ◌≤◌, ◌==◌, nat_lt, nat_le, Bool, true, false, ◌&&◌, ◌||◌, List, [], ◌∷◌, ◌++◌, if◌then◌else◌, ◌↔◌, IsTrue, refl, sym, ap, ◌∙◌, true≢false, arith}
 use Rattle.std.specs.List.{list_any, flat_map}
 use Rattle.std.proofs.lemmas.Bool.Decides.{nat_tests}
 use Rattle.std.proofs.lemmas.List.Folds.{list_any-append}
@@ -129,6 +129,14 @@ apart_answer pairs marks p proper among here all proper_is among_is here_is =
 
 pub kept_alone : (pairs : List Pair) (marks : List ℕ) → AreInOrder pairs → marks ≡ [] → kept_pairs pairs marks ≡ pairs
 kept_alone pairs marks order none = ap (kept_pairs pairs) none ∙ inserted_again pairs order
+
+-- Without marks the pairs are those that are kept.
+pub same_alone : (pairs other : List Pair) (marks other_marks : List ℕ) (answer : Bool) → AreInOrder pairs → AreInOrder other → marks ≡ [] → other_marks ≡ []
+    → IsTrue answer ↔ (pairs ≡ other) → IsTrue answer ↔ (kept_pairs pairs marks ≡ kept_pairs other other_marks)
+same_alone pairs other marks other_marks answer order other_order none other_none told = (
+  λ is. kept_alone pairs marks order none ∙ told.0 is ∙ sym (kept_alone other other_marks other_order other_none),
+  λ same. told.1 (sym (kept_alone pairs marks order none) ∙ same ∙ kept_alone other other_marks other_order other_none),
+)
 
 -- ---- what is kept is proper
 

@@ -1,5 +1,6 @@
 -- Pairs are in one order.
-use Rattle.std.proofs.Common.{◌≡◌, ◌==◌, Bool, true, false, ◌&&◌, refl, arith}
+use Rattle.std.proofs.Common.{◌≡◌, ◌==◌, Bool, true, false, ◌&&◌, refl, sym, ap, ◌∙◌, arith}
+use Rattle.std.specs.Bool.{Decides}
 use Rattle.std.proofs.lemmas.Bool.Decides.{nat_tests, Decides-eqb}
 use Rattle.alias_facts.specs.PairsOf.{Pair, same_pair, comes_before}
 
@@ -17,6 +18,9 @@ same_is a b is =
     let first : a.0 ≡ b.0 = (Decides-eqb a.0 b.0).0 both.0 in
     let second : a.1 ≡ b.1 = (Decides-eqb a.1 b.1).0 both.1 in
     λ i. (first i, second i)
+
+pub same_decides : (a b : Pair) → Decides (same_pair a b) (a ≡ b)
+same_decides a b = (same_is a b, λ same. ap (same_pair a) (sym same) ∙ same_itself a)
 
 pub before_apart : (a b : Pair) → comes_before a b ≡ true → same_pair a b ≡ false
 before_apart a b is = grind (arith, nat_tests)

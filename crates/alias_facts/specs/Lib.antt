@@ -1,3 +1,5 @@
 pub mod NullnessOf
 pub mod PairsOf
 pub mod KeptPairs
+pub mod Following
+pub mod Arrays

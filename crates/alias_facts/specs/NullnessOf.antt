@@ -64,6 +64,10 @@ is_null May = false
 is_null NotNull = false
 is_null Null = true
 
+-- The places of two references differ, or one of the two is null.
+abbrev pub are_told_apart : (same_place : Bool) (a b : Nullness) → Bool
+are_told_apart same_place a b = not same_place || (is_null a || is_null b)
+
 -- Two references cannot be the same array: they are kept apart, their places differ, or one is null.
 abbrev pub must_differ : (kept same_place : Bool) (a b : Nullness) → Bool
-must_differ kept same_place a b = kept || (not same_place || (is_null a || is_null b))
+must_differ kept same_place a b = kept || are_told_apart same_place a b

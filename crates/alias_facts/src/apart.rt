@@ -1,12 +1,14 @@
 //! References that are not the same array.
 
-ghost use Rattle.std.specs.Prelude.{◌≡◌, ◌≢◌, ◌↔◌, [], IfOk, IsTrue, OnErr, OnOk};
-ghost use Rattle.alias_facts.specs.NullnessOf.{must_differ};
+ghost use Rattle.std.specs.Prelude.{◌≡◌, ◌≢◌, ◌↔◌, ℕ, Option, false, [], IfOk, IfSome, IsSome, IsTrue, OnErr, OnOk};
+ghost use Rattle.alias_facts.specs.Arrays.{AllDiffer, Differ, DiffersFromEarlier, is_no_array};
+ghost use Rattle.alias_facts.specs.NullnessOf.{Agrees, are_told_apart, must_differ};
 ghost use Rattle.alias_facts.specs.PairsOf.{AreInOrder, AreProper, contains, ordered, with_all_before, with_pair};
 
 use crate::kept::{all_pairs, are_same_pairs, is_kept};
 use crate::marks::mark;
 use crate::nullness::Nullness;
+use crate::pair_forms::are_kept_pairs;
 use crate::pair_list::{insert, is_proper, ordered};
 use domain_api::NoMemory;
 use std::alloc::Global;
@@ -48,15 +50,19 @@ impl Apart {
         }
     }
 
-    /// These pairs alone.
-    pub fn of_pairs(alloc: Global, pairs: Vec<(u32, u32)>) -> Apart
-        requires in_order { AreInOrder pairs.items }
-        requires proper { AreProper pairs.items }
-        ensures { result ≡ pairs.items }
+    /// These pairs alone. None exactly where they are not in order, each once, or one is not proper: its lower reference
+    /// is 0, or does not come first. Takes no memory, and costs one pass.
+    pub fn of_pairs(alloc: Global, pairs: Vec<(u32, u32)>) -> Option<Apart>
+        ensures some { IsSome result ↔ (AreInOrder pairs.items × AreProper pairs.items) }
+        ensures value { IfSome result (λ apart. apart ≡ pairs.items) }
     {
-        Apart {
-            pairs,
-            marks: Vec::new(alloc),
+        if are_kept_pairs(pairs.as_slice()) {
+            Some(Apart {
+                pairs,
+                marks: Vec::new(alloc),
+            })
+        } else {
+            None
         }
     }
 
@@ -67,6 +73,7 @@ impl Apart {
     pub fn is_apart(&self, r: u32, q: u32) -> bool
         ensures kept { result ≡ contains self.now (ordered r q) }
         ensures different { IsTrue result → r ≢ q }
+        ensures differ { IsTrue result → (array : ℕ → Option ℕ) → AllDiffer array self.now → Differ array r q }
     {
         is_kept(self.pairs.as_slice(), self.marks.as_slice(), ordered(r, q))
     }
@@ -75,9 +82,12 @@ impl Apart {
     /// never kept. Want of memory leaves what was kept.
     ///
     /// Cost: the pairs behind this one are moved.
+    #[tactic(auto, using(crate::proofs::ApartLaws::with_pair_differ))]
     pub fn set_apart(&mut self, r: u32, q: u32) -> Result<(), NoMemory>
         ensures ok { OnOk result (self.new ≡ with_pair (ordered r q) self.old) }
         ensures err { OnErr result (self.new ≡ self.old) }
+        ensures keeps { OnOk result ((array : ℕ → Option ℕ) → AllDiffer array self.old → Differ array r q →
+            AllDiffer array self.new) }
     {
         let pair = ordered(r, q);
         if !is_proper(pair) {
@@ -93,9 +103,25 @@ impl Apart {
     pub fn set_apart_from_earlier(&mut self, r: u32) -> Result<(), NoMemory>
         ensures ok { OnOk result (self.new ≡ with_all_before r self.old) }
         ensures err { OnErr result (self.new ≡ self.old) }
+        ensures keeps { OnOk result ((array : ℕ → Option ℕ) → AllDiffer array self.old → DiffersFromEarlier array r →
+            AllDiffer array self.new) }
     {
         mark(&mut self.marks, r)?;
         Ok(())
+    }
+
+    /// Returns whether two references cannot be the same array: they are kept apart, their places differ, or one is null.
+    /// Given are whether their places are the same, and what is known of each. A null reference and itself cannot be the
+    /// same array, as it is none.
+    ///
+    /// Cost: what is kept is halved, where the places and what is known do not tell.
+    pub fn cannot_be_same(&self, r: u32, q: u32, same_place: bool, a: Nullness, b: Nullness) -> bool
+        ensures value { result ≡ must_differ (contains self.now (ordered r q)) same_place a b }
+        ensures sound { IsTrue result → (array : ℕ → Option ℕ) → AllDiffer array self.now →
+            (same_place ≡ false → Differ array r q) → Agrees a (is_no_array (array r)) →
+            Agrees b (is_no_array (array q)) → Differ array r q }
+    {
+        are_told_apart(same_place, a, b) || self.is_apart(r, q)
     }
 
     /// All pairs, in order.
@@ -112,7 +138,8 @@ impl Apart {
 
     /// Returns whether both keep the same pairs.
     ///
-    /// Cost: each pair of the one is sought in the other. A reference that both mark is looked at once.
+    /// Cost: one pass over the pairs where neither has a reference that is marked as apart from all before it. Else each
+    /// pair of the one is sought in the other, and a reference that both mark is looked at once.
     pub fn same(&self, other: &Apart) -> bool
         ensures { IsTrue result ↔ (self.now ≡ other.now) }
     {
@@ -134,9 +161,10 @@ impl Apart {
     }
 }
 
-/// Returns whether two references cannot be the same array: they are kept apart, their places differ, or one is null.
-pub fn cannot_be_same(kept: bool, same_place: bool, a: Nullness, b: Nullness) -> bool
-    ensures { result ≡ must_differ kept same_place a b }
+/// Returns whether two references cannot be the same array by what is known of each: their places differ, or one is
+/// null.
+fn are_told_apart(same_place: bool, a: Nullness, b: Nullness) -> bool
+    ensures { result ≡ are_told_apart same_place a b }
 {
-    kept || !same_place || a == Nullness::Null || b == Nullness::Null
+    !same_place || a == Nullness::Null || b == Nullness::Null
 }

@@ -1,6 +1,6 @@
 //! Pairs that are kept one by one, and by marks of references that are apart from all before them.
 
-ghost use Rattle.std.specs.Prelude.{◌≡◌, ◌↔◌, true, IfOk, IsTrue, OnOk};
+ghost use Rattle.std.specs.Prelude.{◌≡◌, ◌↔◌, true, [], IfOk, IsTrue, OnOk};
 ghost use Rattle.std.specs.List.{flat_map, list_all};
 ghost use Rattle.alias_facts.specs.KeptPairs.{AreKept};
 ghost use Rattle.alias_facts.specs.PairsOf.{AreInOrder, AreProper, Covers, all_inserted, contains, is_proper, kept_pairs, pairs_before};
@@ -107,6 +107,20 @@ fn covers(
     has_all(pairs, marks, other_pairs) && has_rows(pairs, marks, other_marks)
 }
 
+/// Returns whether no reference is marked.
+fn has_no_mark(marks: &[u32]) -> bool
+    ensures { IsTrue result → marks.now ≡ [] }
+{
+    marks.is_empty()
+}
+
+/// Returns whether both lists have the same pairs in the same order.
+fn are_equal(pairs: &[(u32, u32)], other: &[(u32, u32)]) -> bool
+    ensures { IsTrue result ↔ (pairs.now ≡ other.now) }
+{
+    pairs == other
+}
+
 /// Returns whether the same pairs are kept.
 pub(crate) fn are_same_pairs(
     pairs: &[(u32, u32)],
@@ -118,5 +132,8 @@ pub(crate) fn are_same_pairs(
     requires other { AreKept other_pairs.now other_marks.now }
     ensures { IsTrue result ↔ (kept_pairs pairs.now marks.now ≡ kept_pairs other_pairs.now other_marks.now) }
 {
+    if has_no_mark(marks) && has_no_mark(other_marks) {
+        return are_equal(pairs, other_pairs);
+    }
     covers(pairs, marks, other_pairs, other_marks) && covers(other_pairs, other_marks, pairs, marks)
 }

@@ -5,7 +5,8 @@ mod apart;
 mod kept;
 mod marks;
 mod nullness;
+mod pair_forms;
 mod pair_list;
 
-pub use apart::{Apart, cannot_be_same};
+pub use apart::Apart;
 pub use nullness::Nullness;

@@ -28,7 +28,7 @@ fn is_same(a: (u32, u32), b: (u32, u32)) -> bool
 }
 
 /// Returns whether a pair comes before another: by the first reference, then by the second.
-fn comes_before(a: (u32, u32), b: (u32, u32)) -> bool
+pub(crate) fn comes_before(a: (u32, u32), b: (u32, u32)) -> bool
     ensures { result ≡ comes_before a b }
 {
     a.0 < b.0 || (a.0 == b.0 && a.1 < b.1)

@@ -1,6 +1,6 @@
 use Rattle.std.proofs.Common.{sym, ◌∙◌, true≢false}
 use Rattle.alias_facts.specs.PairsOf.{kept_pairs}
-use Rattle.alias_facts.proofs.KeptLaws.{order-kept_pairs}
+use Rattle.alias_facts.proofs.KeptLaws.{order-kept_pairs, same_alone}
 use Rattle.alias_facts.proofs.RowLaws.{covers_same, same_covers}
 use Rattle.alias_facts.proofs.kept.are_same_pairs.Goals as goal
 
@@ -18,3 +18,8 @@ returns-else-covers c =
     let one = kept_pairs c.args.pairs.now c.args.marks.now in
     let other = kept_pairs c.args.other_pairs.now c.args.other_marks.now in
     (λ is. absurd (true≢false (sym is ∙ c.if-covers.false)), λ same. c.covers.ensures.1 (same_covers one other same))
+
+pub returns-then-has_no_mark-2 : goal.returns-then-has_no_mark-2
+returns-then-has_no_mark-2 c =
+    same_alone c.args.pairs.now c.args.other_pairs.now c.args.marks.now c.args.other_marks.now c.are_equal.result c.requires.one.in_order
+    c.requires.other.in_order (c.has_no_mark.ensures c.if-has_no_mark.true) (c.has_no_mark-then-has_no_mark.ensures c.if-has_no_mark-2.true) c.are_equal.ensures

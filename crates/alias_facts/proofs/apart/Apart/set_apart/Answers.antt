@@ -1,6 +1,8 @@
 use Rattle.std.proofs.Common.{◌≡◌, true, sym, ap, subst, ◌∙◌, if◌then◌else◌}
 use Rattle.alias_facts.specs.PairsOf.{AreProper, inserted, is_proper, kept_pairs, with_pair}
 use Rattle.alias_facts.proofs.KeptLaws.{kept_one_more, proper_inserted}
+use Rattle.alias_facts.specs.Arrays.{AllDiffer}
+use Rattle.alias_facts.proofs.ApartLaws.{with_pair_differ}
 use Rattle.alias_facts.proofs.apart.Apart.set_apart.Goals as goal
 
 pub invariant_of-self-2 : goal.invariant_of-self-2
@@ -20,3 +22,7 @@ returns-clause-ok c =
     ap (λ pairs. kept_pairs pairs c.self.inside.marks.items) c.in_ok-insert.ensures.ok
     ∙ kept_one_more c.self.inside.pairs.items c.self.inside.marks.items pair ∙ ap (inserted pair) c.self.view_is
     ∙ sym (ap (λ b. if b then inserted pair old else old) is) ∙ ap (λ p. with_pair p old) c.ordered-pair.ensures
+
+pub returns-clause-keeps : goal.returns-clause-keeps
+returns-clause-keeps c = λ array all differ.
+    subst (AllDiffer array) (sym (returns-clause-ok c)) (with_pair_differ c.args.self.now array c.args.r c.args.q all differ)
