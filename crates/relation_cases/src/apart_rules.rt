@@ -1,7 +1,7 @@
 //! The rules on references.
 
 use crate::words::{reference, separate};
-use alias_facts::{Apart, Nullness, cannot_be_same};
+use alias_facts::{Apart, Nullness};
 use rule_text::{Failure, asked, check, check_yes, two_words};
 use std::alloc::{AllocError, Global};
 
@@ -108,8 +108,8 @@ pub fn must_differ(alloc: Global, apart: &Apart, argument: &str) -> Result<(), F
         "two-places" => false,
         _ => return Err(Failure::Unread("one-place or two-places")),
     };
-    let kept = apart.is_apart(reference(r)?, reference(q)?);
-    let found = cannot_be_same(kept, same_place, nullness(a)?, nullness(b)?);
+    let (r, q) = (reference(r)?, reference(q)?);
+    let found = apart.cannot_be_same(r, q, same_place, nullness(a)?, nullness(b)?);
     check_yes(alloc, found, told)
 }
 
