@@ -1,0 +1,16 @@
+pub mod ClauseLaws
+pub mod InclusionLaw
+pub mod InclusionSteps
+pub mod Laws
+pub mod LimitLaw
+pub mod LimitSteps
+pub mod LoadLaw
+pub mod NameSteps
+pub mod PlaceSteps
+pub mod RenamingLaw
+pub mod Replacing
+pub mod Shown
+pub mod Spans
+pub mod StoreLaw
+pub mod StoreSteps
+pub mod WholeLaw

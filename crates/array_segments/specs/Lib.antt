@@ -1,0 +1,10 @@
+pub mod Comparing
+pub mod Counted
+pub mod Growing
+pub mod Inclusion
+pub mod Loading
+pub mod Meaning
+pub mod Renaming
+pub mod SegmentLists
+pub mod Segments
+pub mod Storing
