@@ -24,5 +24,4 @@ is_own u = u.s == u.t && int_eq u.shift (pos 0)
 -- The names, with that of the symbol that has the key at a place.
 abbrev pub with_own : Pairing → ℕ → List (Option Expr) → List (Option Expr)
 with_own pairs place names =
-    if is_own (get_or pairs.keys place origin)
-    then set names (get_or pairs.keys place origin).s (named_at pairs (pos 0) (Some place)) else names
+    if is_own (get_or pairs.keys place origin) then set names (get_or pairs.keys place origin).s (named_at pairs (pos 0) (Some place)) else names
