@@ -1,9 +1,9 @@
 -- Pairs that are apart are not the same array, and stay so.
-use Rattle.std.proofs.Common.{◌≡◌, ℕ, zero, suc, ◌-◌, ◌<◌, ◌≤◌, nat_lt, Bool, true, false, ◌||◌, List, [], ◌∷◌, Option, Some, None, if◌then◌else◌, refl, sym, ap, ◌∙◌, subst, true≢false, arith}
+use Rattle.std.proofs.Common.{◌≡◌, ℕ, zero, suc, ◌-◌, ◌≤◌, nat_lt, Bool, true, false, ◌||◌, List, [], ◌∷◌, Option, Some, None, if◌then◌else◌, refl, sym, ap, ◌∙◌, subst, true≢false, arith}
 use Rattle.alias_facts.specs.declared.nullness.Nullness.{Nullness}
 use Rattle.alias_facts.specs.declared.nullness.Nullness.TheVariants.{May, NotNull, Null}
 use Rattle.alias_facts.specs.NullnessOf.{Agrees, must_differ}
-use Rattle.alias_facts.specs.PairsOf.{Pair, ordered, same_pair, comes_before, is_proper, contains, inserted, all_inserted, with_pair, pairs_up_to, pairs_before, with_all_before}
+use Rattle.alias_facts.specs.PairsOf.{Pair, ordered, same_pair, comes_before, is_proper, contains, inserted, all_inserted, with_pair, pairs_up_to, with_all_before}
 use Rattle.alias_facts.specs.Arrays.{Differ, AllDiffer, DiffersFromEarlier, is_no_array}
 use Rattle.alias_facts.proofs.Orders.{same_is}
 

@@ -1,4 +1,4 @@
--- What it means that references are apart: they are not the same array.
+-- References that are apart are not the same array.
 use Rattle.std.specs.Prelude.{◌≡◌, ℕ, ◌<◌, Bool, true, false, List, Option, Some, None}
 use Rattle.std.specs.List.{AllByRecursion}
 use Rattle.alias_facts.specs.PairsOf.{Pair}

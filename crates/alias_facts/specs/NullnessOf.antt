@@ -1,9 +1,9 @@
--- What is known of whether a reference is null.
+-- Knowledge of references that may be null.
 use Rattle.std.specs.Prelude.{◌≡◌, Bool, true, false, not, ◌||◌}
 use Rattle.alias_facts.specs.declared.nullness.Nullness.{Nullness}
 use Rattle.alias_facts.specs.declared.nullness.Nullness.TheVariants.{May, NotNull, Null}
 
--- What is known where the one or the other is: nothing, unless both tell the same.
+-- Where the one or the other holds nothing is known, unless both tell the same.
 abbrev pub joined : Nullness → Nullness → Nullness
 joined May _ = May
 joined NotNull NotNull = NotNull
@@ -28,7 +28,7 @@ Agrees Null is_null = is_null ≡ true
 
 -- ---- laws
 
--- What the one or the other tells, both joined tell.
+-- Both joined tell only what each of the two tells.
 pub joined_left : (a b : Nullness) (is_null : Bool) → Agrees a is_null → Agrees (joined a b) is_null
 joined_left May b is_null agrees = tt
 joined_left NotNull May is_null agrees = tt
@@ -47,7 +47,7 @@ joined_right Null May is_null agrees = tt
 joined_right Null NotNull is_null agrees = tt
 joined_right Null Null is_null agrees = agrees
 
--- What is entailed holds where that which entails it does.
+-- The knowledge that is entailed holds where that which entails it does.
 pub entailed_agrees : (a b : Nullness) (is_null : Bool) → entailed a b ≡ true → Agrees a is_null → Agrees b is_null
 entailed_agrees a May is_null less agrees = tt
 entailed_agrees May NotNull is_null less agrees = cc

@@ -89,7 +89,8 @@ fn has_row(pairs: &[(u32, u32)], marks: &[u32], reference: u32) -> bool
 /// Returns whether each of these references is kept apart from each one before it.
 fn has_rows(pairs: &[(u32, u32)], marks: &[u32], references: &[u32]) -> bool
     requires { AreKept pairs.now marks.now }
-    ensures { result ≡ list_all (λ r. list_all (contains (kept_pairs pairs.now marks.now)) (pairs_before r)) references.now }
+    ensures { result ≡
+        list_all (λ r. list_all (contains (kept_pairs pairs.now marks.now)) (pairs_before r)) references.now }
 {
     references.iter().all(|r| has_row(pairs, marks, *r))
 }

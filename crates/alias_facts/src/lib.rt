@@ -1,4 +1,4 @@
-//! What is known of references alone: which are null, and which are not the same array.
+//! Facts of references alone: which are null, and which are not the same array.
 #![tactic(auto)]
 
 mod apart;

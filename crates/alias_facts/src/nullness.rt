@@ -1,9 +1,9 @@
-//! Whether a reference is null.
+//! Knowledge of references that may be null.
 
 ghost use Rattle.std.specs.Prelude.{◌≡◌};
 ghost use Rattle.alias_facts.specs.NullnessOf.{entailed, joined};
 
-/// Returns what is known of a reference.
+/// A reference may be null, or it is known to be null or not.
 #[derive(Clone, Copy, Debug, PartialEq, Eq)]
 pub enum Nullness {
     /// It may be null.
@@ -15,7 +15,7 @@ pub enum Nullness {
 }
 
 impl Nullness {
-    /// Returns what is known where the one or the other is.
+    /// Returns the knowledge where the one or the other holds: nothing, unless both are equal.
     pub fn join(self, other: Nullness) -> Nullness
         ensures { result ≡ joined self other }
     {

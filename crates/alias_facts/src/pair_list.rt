@@ -34,7 +34,7 @@ pub(crate) fn comes_before(a: (u32, u32), b: (u32, u32)) -> bool
     a.0 < b.0 || (a.0 == b.0 && a.1 < b.1)
 }
 
-/// The number of of the pairs come before one.
+/// The number of pairs that come before one.
 fn place_of(pairs: &[(u32, u32)], pair: (u32, u32)) -> usize
     requires { AreInOrder pairs.now }
     ensures place { result ≡ prefix_len (λ p. comes_before p pair) pairs.now }

@@ -7,3 +7,4 @@ pub mod WorthLaws
 pub mod MeaningLaws
 pub mod PairedMeaning
 pub mod SymbolUses
+pub mod OwnNameLaws

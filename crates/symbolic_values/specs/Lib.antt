@@ -5,4 +5,5 @@ pub mod Identities
 pub mod Table
 pub mod Worth
 pub mod Names
+pub mod OwnNames
 pub mod Meaning

@@ -2,7 +2,7 @@
 
 use domain_api::Expr;
 
-/// Returns what a symbol is known to be. All but the difference are truths: the symbol is 1 where they hold, and else
+/// The value that a symbol is known to have. All but the difference are truths: the symbol is 1 where they hold, and else
 /// 0.
 #[derive(Clone, Copy, Debug, PartialEq, Eq)]
 pub enum Def {

@@ -5,6 +5,7 @@
 mod def;
 mod env;
 mod naming;
+mod own_names;
 mod pairing;
 mod pairs;
 mod renaming;

@@ -40,7 +40,7 @@ fn place_of(keys: &[Key], e: Expr, f: Expr) -> Option<usize>
 
 impl Pairs {
     /// The expression of the key at a place.
-    fn name_at(&self, place: usize, k: i64) -> Option<Expr>
+    pub(crate) fn name_at(&self, place: usize, k: i64) -> Option<Expr>
         requires { place < length self.now.keys }
         ensures { result ≡ named_at self.now k (Some place) }
     {

@@ -6,7 +6,7 @@ use domain_api::{Expr, NoMemory};
 use std::alloc::Global;
 use std::marker::Model;
 
-/// Returns what two pairs of expressions have in common that get one symbol: an expression s + k of a first state and
+/// The key that pairs of expressions with one symbol have in common: an expression s + k of a first state and
 /// t + l of a second have the key of s, t and l - k.
 #[derive(Clone, Copy, Debug, PartialEq, Eq)]
 pub struct Key {
@@ -14,13 +14,13 @@ pub struct Key {
     pub s: u32,
     /// The symbol in the second state.
     pub t: u32,
-    /// Returns how far the constant in the second state lies above the one in the first, l - k.
+    /// The distance of the constant in the second state from the one in the first, l - k.
     pub shift: i64,
     /// The constant in the first state at the first use, k.
     pub first: i64,
 }
 
-/// Returns how the expressions of two states are named together. Contracts see both lists.
+/// The expressions of two states, named together. Contracts see both lists.
 ///
 /// The key of number i, from 1 on, stands at place i - 1. Symbol i is worth what the expressions of its first use are
 /// worth: in the first state s + first, in the second t + first + shift. Symbol 0 is the number 0.

@@ -16,7 +16,7 @@ use std::marker::Model;
 /// Up to so many keys are found one by one.
 const FEW: usize = 16;
 
-/// Returns what tells keys apart.
+/// The parts of a key that tell it apart from others.
 #[derive(Clone, Copy, Debug, PartialEq, Eq, Hash)]
 pub(crate) struct Identity {
     s: u32,
@@ -113,7 +113,7 @@ fn place_in_few(keys: &mut Vec<Key>, used: &Key) -> Result<usize, NoMemory>
 }
 
 impl Identity {
-    /// Returns what tells a key apart.
+    /// Returns the parts that tell a key apart from others.
     fn of(key: &Key) -> Identity
         ensures { result ≡ identity_of key.now }
     {
