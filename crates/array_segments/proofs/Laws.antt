@@ -1,4 +1,4 @@
--- What segments say of an array stays true: what is loaded has the item, and behind a store they hold of the items behind it.
+-- Loads and stores keep what segments say true: a loaded set has the item, and behind a store they hold of the items behind it.
 use Rattle.std.proofs.Common.{◌≡◌, ◌≢◌, ℕ, ◌+◌, ◌<◌, ◌≤◌, ℤ, pos, Bool, ◌⊎◌, inl, inr, List, [], ◌∷◌, length, get_or, set, arith, refl, get_or-set_other, get_or-set_same, length-set, Option}
 use Rattle.std.specs.List.{AllByRecursion, splice}
 use Rattle.domain_api.specs.declared.expr.Expr.{Expr}
@@ -27,7 +27,7 @@ module _ {C : Type 0} (contains : C → ℤ → Type 0) (hull : C → C → C) (
   load_lists (first ∷ uppers) contents marks form holds =
       load_has contains number items first uppers contents marks (segments_there first uppers contents marks form) holds.from_zero holds.spans gap obeys at index is below hull full keeps_left keeps_right
 
-  -- What is loaded has the item at the index.
+  -- The loaded set has the item at the index.
   pub load_law : (lists : Lists C) → HasForm lists → Holds contains number items lists → contains (loaded hull full gap lists at) (item items index)
   load_law lists form holds = load_lists lists.bounds lists.contents lists.marks form holds
 

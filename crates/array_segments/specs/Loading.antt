@@ -1,4 +1,4 @@
--- Which segments an index may lie in, and what the item there is in.
+-- Loads, and the segments that an index may lie in.
 use Rattle.std.specs.Prelude.{ℕ, suc, ◌+◌, ℤ, Bool, if◌then◌else◌, List, [], ◌∷◌, length, take, drop, slice_range, Option, unwrap_or}
 use Rattle.std.specs.List.{reduce}
 use Rattle.domain_api.specs.declared.expr.Expr.{Expr}
@@ -34,6 +34,6 @@ stop gap lists at = stop_from gap lists at (start gap lists at)
 abbrev pub hull_between : {C : Type 0} → (C → C → C) → C → List C → ℕ → ℕ → C
 hull_between hull full contents from to = unwrap_or (reduce hull (slice_range contents from to)) full
 
--- What the item at the index is in.
+-- A set that has the item at the index.
 abbrev pub loaded : {C : Type 0} → (C → C → C) → C → (ℕ → ℕ → Option ℤ) → Lists C → Expr → C
 loaded hull full gap lists at = hull_between hull full lists.contents (start gap lists at) (stop gap lists at)

@@ -1,4 +1,4 @@
--- What segments say of an array: a list of numbers, under a choice of a number for each symbol.
+-- The meaning of segments, for an array as a list of numbers, under a choice of a number for each symbol.
 use Rattle.std.specs.Prelude.{◌≡◌, ℕ, ◌<◌, ℤ, pos, ◌+ℤ◌, ◌≤ℤ◌, ◌<ℤ◌, Bool, false, List, [], ◌∷◌, length, get_or, drop, Option, None, Some}
 use Rattle.std.specs.List.{AllByRecursion}
 use Rattle.domain_api.specs.declared.expr.Expr.{Expr}
@@ -51,7 +51,7 @@ pub record Holds {C : Type 0} (contains : C → ℤ → Type 0) (number : ℕ �
   pub from_zero : AreWorth number (pos 0) (get_or lists.bounds 0 [])
   pub spans : Spans contains number items (pos 0) (segments_of lists) (pos (length items))
 
--- What a gap says is true of the numbers.
+-- The numbers lie as far from each other as the gaps say.
 abbrev pub Obeys : (ℕ → ℕ → Option ℤ) → (ℕ → ℤ) → Type 0
 Obeys gap number = (s t : ℕ) (k : ℤ) → gap s t ≡ Some k → (number s +ℤ k) ≤ℤ number t
 

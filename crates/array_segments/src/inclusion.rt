@@ -61,7 +61,7 @@ fn sum(x: i64, a: i64) -> i128
     i128::from(x) + i128::from(a)
 }
 
-/// How far the second would have to lie above the first.
+/// Returns how far the second would have to lie above the first.
 fn distance(x: i128, y: i128) -> i128
     requires x_low { negsuc (2 ^ 64) ≤ℤ x }
     requires x_high { x ≤ℤ pos (2 ^ 64) }

@@ -1,4 +1,4 @@
-//! Which segments an index may lie in, and what is loaded there.
+//! Loads, and the segments that an index may lie in.
 
 ghost use Rattle.std.specs.Prelude.{◌≡◌, ◌≤◌, ◌<◌, ℕ, ℤ, List, map, drop, length};
 ghost use Rattle.std.specs.List.{reduce};
@@ -80,7 +80,7 @@ impl<C: Values> Segs<C> {
         first_end(order, &self.bounds[..self.contents.len()], from + 1, at)
     }
 
-    /// What the segments from one bound to another have.
+    /// Returns a set that has what the segments from one bound to another have.
     pub(crate) fn hull_between(&self, from: usize, to: usize) -> C
         requires order { from ≤ to }
         requires within { to ≤ length self.now.contents.items }
@@ -92,7 +92,7 @@ impl<C: Values> Segs<C> {
         }
     }
 
-    /// What the item at the index is in. It looks at each bound once, and takes no memory.
+    /// Returns a set that has the item at the index. It looks at each bound once, and takes no memory.
     pub fn load<O: Order>(&self, order: &O, at: Expr) -> C
         requires form { HasForm (lists_of self.now) }
         ensures value { result ≡ loaded C.hull C.full (O.gap order.now) (lists_of self.now) at }

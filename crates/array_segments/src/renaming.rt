@@ -16,7 +16,7 @@ use domain_api::{Expr, NoMemory, Values};
 use std::alloc::Global;
 use symbolic_values::renamed;
 
-/// What is known of the items before a bound that is left out.
+/// The items before a bound that is left out, as far as they are known.
 #[derive(Clone, Copy)]
 pub(crate) struct Part<C> {
     pub content: C,

@@ -7,8 +7,8 @@ ghost use Rattle.array_segments.specs.SegmentLists.{HasForm, whole};
 use domain_api::{Expr, NoMemory, Values};
 use std::alloc::Global;
 
-/// What is known of an array's items. The bounds go from 0 to the array's length and never fall, and the expressions of
-/// one bound are all equal. Between each two neighbours lies a segment, whose items are in its content.
+/// An array's items, as far as they are known. The bounds go from 0 to the array's length and never fall, and the
+/// expressions of one bound are all equal. Between each two neighbours lies a segment, whose items are in its content.
 ///
 /// There are 1 to 12 segments, one content and one mark for each, one bound more, and 1 to 4 expressions at a bound.
 /// The constant 0 is among those of the first bound.
@@ -16,7 +16,7 @@ use std::alloc::Global;
 pub struct Segs<C> {
     /// The bounds, in order: at each place equal expressions.
     pub bounds: Vec<Vec<Expr>>,
-    /// What the items of each segment are in.
+    /// For each segment, a set that has its items.
     pub contents: Vec<C>,
     /// Tells whether the segment may be empty.
     pub marks: Vec<bool>,

@@ -131,7 +131,7 @@ impl<C: Values> Segs<C> {
         self.add_at(order, at, value);
     }
 
-    /// Which segments a store replaces, and what stays of them.
+    /// Returns the segments that a store replaces, and what stays of them.
     fn touched<O: Order>(&self, order: &O, at: Expr, next: Expr) -> Touched
         requires form { HasForm (lists_of self.now) }
         requires next { next ≡ next_of at }
