@@ -70,7 +70,7 @@ abbrev pub names_run : List (List ℕ) → Bool
 names_run words =
     nat_lt (length words) (2 ^ 32) && is_name_word (word_at words 1) && is_name_word (word_at words 2) && list_all is_argument (run_args words)
 
--- The command `run FILE METHOD ARG..`, with `--steps N` as the last two words or not at all.
+-- The command that runs a method: its file, its name and its arguments, and after them perhaps a limit on steps.
 unfoldable pub run_command : List (List ℕ) → Option Command
 run_command words =
     if names_run words
