@@ -6,15 +6,6 @@ use std::process::Abort;
 /// Bytes to stand at an offset.
 pub type Change = (usize, &'static [u8]);
 
-/// The parts, one after another.
-pub fn joined(alloc: Global, parts: &[&[u8]]) -> Result<Vec<u8>, AllocError> {
-    let mut bytes = Vec::new(alloc);
-    for part in parts {
-        bytes.extend_from_slice(part)?;
-    }
-    Ok(bytes)
-}
-
 /// Puts other bytes at an offset of the file, where it has room for them there, and tells whether it has.
 pub fn put(file: &mut [u8], at: usize, bytes: &[u8]) -> bool {
     let is_there = at <= file.len() && bytes.len() <= file.len() - at;

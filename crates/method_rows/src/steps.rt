@@ -1,4 +1,4 @@
-//! What the tests of typing share: operations in tables, and the code and the shapes that are made of them.
+//! What tables of code share: operations, and the code and the shapes that are made of them.
 
 ghost use Rattle.std.specs.Prelude.{◌≡◌, true};
 ghost use Rattle.stack_typer.specs.LaidOut.{AreLaidOut, LieFrom};
@@ -94,4 +94,13 @@ pub fn shape(alloc: Global, result_place: Place, max_stack: u16) -> Result<Shape
         max_stack,
         callees: List::from_vec(vec![in alloc; f, g]?),
     })
+}
+
+/// The parts, one after another.
+pub fn joined(alloc: Global, parts: &[&[u8]]) -> Result<Vec<u8>, AllocError> {
+    let mut bytes = Vec::new(alloc);
+    for part in parts {
+        bytes.extend_from_slice(part)?;
+    }
+    Ok(bytes)
 }

@@ -1,7 +1,6 @@
 //! Trees of clauses of more instructions than a method may have, which no command comes to.
 
-use crate::changes::joined;
-use crate::steps::shape;
+use crate::steps::{joined, shape};
 use cc_base::Refusal;
 use cil_model::Place;
 use contract_extract::{ClauseFault, Contracts, extract};
