@@ -1,6 +1,4 @@
-pub mod BlockChains
-pub mod Rows
-pub mod Guarded
+pub mod SafeRuns
 pub mod InductionTest
 pub mod Standing
 pub mod Soundness

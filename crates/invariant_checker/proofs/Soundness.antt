@@ -1,8 +1,9 @@
 -- A unit whose verdicts are all proved is safe.
-use Rattle.std.proofs.Common.{◌≡◌, ◌≤◌, true, false, nat_le, List, [], ◌∷◌, map, refl, arith, inl, inr}
+use Rattle.std.proofs.Common.{◌≡◌, ℕ, ◌≤◌, true, false, nat_le, List, [], ◌∷◌, map, refl, arith, inl, inr}
 use Rattle.std.specs.List.{Contains}
 use Rattle.std.proofs.lemmas.Bool.{cases_Bool, false≢true}
 use Rattle.std.proofs.lemmas.Bool.Decides.{nat_tests}
+use Rattle.cil_model.specs.declared.machine.FaultKind.{FaultKind}
 use Rattle.cil_model.specs.declared.machine.Obligation.{Obligation}
 use Rattle.flow_graph.proofs.EdgeOrder.{all_weaker}
 use Rattle.range_states.specs.FrameFacts.{State}
@@ -13,13 +14,14 @@ use Rattle.range_rules.specs.Acts.{is_told}
 use Rattle.range_rules.specs.BlockWays.{among}
 use Rattle.range_rules.specs.Flow.{IsLawful}
 use Rattle.range_rules.specs.declared.unit_flow.UnitFlow.{UnitFlow}
+use Rattle.range_rules.proofs.OnTheWay.{StepsToFault}
 use Rattle.invariant_checker.specs.Counts.{all_proved}
 use Rattle.invariant_checker.specs.Inducts.{is_inductive}
 use Rattle.invariant_checker.specs.Safety.{IsSafe}
 use Rattle.invariant_checker.specs.Verdicts.{unproved, verdicts, verdicts_by_blocks}
-use Rattle.invariant_checker.proofs.Guarded.{Guards, guarded_is_safe}
 use Rattle.invariant_checker.proofs.InductionTest.{inductive_by}
-use Rattle.invariant_checker.proofs.Standing.{IsCovered, covered_guards, told_plain}
+use Rattle.invariant_checker.proofs.SafeRuns.{runs_are_safe}
+use Rattle.invariant_checker.proofs.Standing.{covered_steps, told_plain}
 
 -- ---- a unit without obligations
 
@@ -27,13 +29,9 @@ none_listed : (listed : List Obligation) (o : Obligation) → listed ≡ [] → 
 none_listed [] o none has = let below = has.1 in omega (arith, below)
 none_listed (p ∷ listed) o none has = cc
 
-no_obligation : (code : UnitFlow) → IsLawful code → obligations_of code.unit ≡ [] → Guards code (λ f. Unit {0})
-no_obligation code lawful none = record {
-  enters = λ f begins. tt;
-  keeps = λ f g heap after in_body on guarded step. tt;
-  rules_out = λ f heap kind index at in_body guarded step.
-      none_listed (obligations_of code.unit) _ none (lists_each_fault code.unit numbers f heap kind index at in_body.inside step);
-}
+no_obligation : (code : UnitFlow) (lawful : IsLawful code) → obligations_of code.unit ≡ [] → (kind : FaultKind) (index at : ℕ) → StepsToFault code lawful kind index at → ⊥
+no_obligation code lawful none kind index at to =
+    none_listed (obligations_of code.unit) _ none (lists_each_fault code.unit numbers to.frame to.heap kind index at to.in_body.inside to.step)
   where
     numbers : each.IsOfNumbers code.unit
     numbers = record {
@@ -58,8 +56,8 @@ proved_is_safe code states lawful proved =
       | inl is ↦
           let all : all_proved (verdicts_by_blocks code states) ≡ true = rw is at proved in
           let inductive = inductive_by code states is in
-          guarded_is_safe code lawful (IsCovered code lawful states inductive all) (covered_guards code lawful states inductive all)
+          runs_are_safe code lawful (covered_steps code lawful states inductive all)
       | inr not ↦
           let all : all_proved (map unproved (obligations_of code.unit)) ≡ true = rw not at proved in
-          guarded_is_safe code lawful (λ f. Unit {0}) (no_obligation code lawful (none_unproved (obligations_of code.unit) all))
+          runs_are_safe code lawful (no_obligation code lawful (none_unproved (obligations_of code.unit) all))
     ]

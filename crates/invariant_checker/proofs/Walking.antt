@@ -19,7 +19,7 @@ use Rattle.range_rules.proofs.Ways.{asked_there}
 use Rattle.invariant_checker.specs.Chains.{CanJudge}
 use Rattle.invariant_checker.specs.Verdicts.{verdicts_at, verdicts_from}
 use Rattle.invariant_checker.specs.declared.verdict.Verdict.{Verdict}
-use Rattle.invariant_checker.proofs.BlockChains.{block_chain}
+use Rattle.range_rules.proofs.BlockChains.{block_chain}
 
 -- What tells of the faults of the operation is among the variables.
 abbrev pub HasOperands : Op → State → Type 0
@@ -34,8 +34,8 @@ none_or_next _ next = inl refl
 module _ (unit : MethodUnit) (state : State) where
   passes : (i j : Instr) (is : List Instr) → CanJudge unit (i ∷ j ∷ is) state → CanPass unit i state
   passes i j is can = record {
-    told = can.chain.0.told;
-    read = reads unit can.stacks can.decoded can.typing i can.at 0 (i.at + i.size) state can.chain.0.here can.chain.0.told can.chain.0.found (rw can.chain.0.next refl) can.fits;
+    told = can.chain.0.passed.told;
+    read = reads unit can.stacks can.decoded can.typing i can.at 0 (i.at + i.size) state can.chain.0.passed.here can.chain.0.passed.told can.chain.0.passed.found (rw can.chain.0.passed.next refl) can.fits;
   }
 
   goes_on : (i j : Instr) (is : List Instr) → CanJudge unit (i ∷ j ∷ is) state → CanJudge unit (j ∷ is) (post unit i.op state)
@@ -47,7 +47,7 @@ module _ (unit : MethodUnit) (state : State) where
     block = can.block;
     at = i.at + i.size;
     chain = can.chain.1;
-    fits = post_fits unit can.stacks can.decoded can.typing i can.at state can.chain.0 can.fits;
+    fits = post_fits unit can.stacks can.decoded can.typing i can.at state can.chain.0.passed can.fits;
   }
 
   ends : (i : Instr) → CanJudge unit (i ∷ []) state → HasOperands i.op state

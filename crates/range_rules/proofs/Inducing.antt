@@ -13,8 +13,9 @@ use Rattle.range_states.specs.RangeStates.{AreAlike}
 use Rattle.range_rules.specs.Entry.{entry}
 use Rattle.range_rules.specs.Flow.{Fits, IsLawful, along_edge, edge_at, kinds_at, no_edge}
 use Rattle.range_rules.specs.FlowLaws as laws
-use Rattle.range_rules.specs.Inductive.{AllCarried, ComesTo, HasShape, IsBegun, IsInductive, state_at}
+use Rattle.range_rules.specs.Inductive.{AllCarried, ComesTo, HasShape, HoldsInRuns, IsBegun, IsInductive, state_at}
 use Rattle.range_rules.specs.declared.unit_flow.UnitFlow.{UnitFlow}
+use Rattle.range_rules.proofs.OnTheWay.{runs_go_along}
 
 -- ---- one more
 
@@ -118,3 +119,7 @@ module _ (code : UnitFlow) (lawful : IsLawful code) (states : List State) (induc
       (laws.alike code.unit (kinds_at code edge.to) behind (state_at states edge.to) (laws.along_kept code lawful k below (state_at states edge.from) here) (fits_at edge.to ends.to))
       (inductive.edges k below)
       (laws.along_keeps code lawful k below (state_at states edge.from) before f here goes (holds_there n edge.from before comes)))
+
+  pub holds_in_runs : HoldsInRuns code states
+  holds_in_runs block f below here reached =
+      let (n, comes) = runs_go_along code lawful block f below here reached in holds_there n block f comes

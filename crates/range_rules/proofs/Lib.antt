@@ -9,3 +9,6 @@ pub mod Settled
 pub mod KindsFound
 pub mod Slicing
 pub mod Inducing
+pub mod BlockChains
+pub mod Rows
+pub mod OnTheWay

@@ -89,7 +89,7 @@ module _ (unit : MethodUnit) (i : Instr) (f g : Frame) (heap after : Heap) (has 
   only next op is one = only_way next g.at
       (subst (λ (ats : List ℕ). IsOneOf ats g.at) one (subst (λ (o : Op). IsOneOf (successors o (i.at + i.size)) g.at) is (effect_goes unit i f heap (GoesOn g after) has)))
 
-  taken : (op : Op) → i.op ≡ op → slice_get (successors op (i.at + i.size)) (way_of op f.stack) ≡ Some g.at
+  pub taken : (op : Op) → i.op ≡ op → slice_get (successors op (i.at + i.size)) (way_of op f.stack) ≡ Some g.at
   taken (ops.Branch test target) is =
       test_taken test target i f g heap after f.stack (subst (λ (o : Op). HasEffect (effects_of o unit i f heap) (GoesOn g after)) is has)
   taken (ops.Switch targets) is =

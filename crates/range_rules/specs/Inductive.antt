@@ -1,11 +1,16 @@
 -- Invariants: a state for each block, of which each edge shows that of its target.
-use Rattle.std.specs.Prelude.{◌≡◌, ℕ, zero, suc, ◌<◌, true, List, length, get_or, None}
+use Rattle.std.specs.Prelude.{◌≡◌, ℕ, zero, suc, ◌<◌, true, List, [], ◌∷◌, length, get_or, None}
+use Rattle.cil_model.specs.Runs.{LocalRuns}
+use Rattle.cil_model.specs.Values.{Heap}
+use Rattle.cil_model.specs.declared.machine.Config.TheVariants.{Live}
 use Rattle.cil_model.specs.declared.machine.Frame.{Frame}
+use Rattle.cil_model.specs.declared.machine.Value.{Value}
+use Rattle.cil_model.specs.declared.unit.Unit.{Unit as MethodUnit}
 use Rattle.range_states.specs.FrameFacts.{State}
 use Rattle.range_states.specs.Frames.{HoldsIn}
 use Rattle.range_states.specs.Inclusion.{leq}
 use Rattle.range_rules.specs.Entry.{entry}
-use Rattle.range_rules.specs.Flow.{Begins, Fits, GoesAlong, along_edge, edge_at}
+use Rattle.range_rules.specs.Flow.{Begins, Fits, GoesAlong, along_edge, edge_at, start_of}
 use Rattle.range_rules.specs.declared.unit_flow.UnitFlow.{UnitFlow}
 
 -- The state of a block.
@@ -51,3 +56,24 @@ ComesTo code (suc n) block f =
 -- The state of each block holds of each frame that comes there.
 abbrev pub HoldsWhereItComes : UnitFlow → List State → Type 0
 HoldsWhereItComes code states = (n block : ℕ) (f : Frame) → ComesTo code n block f → HoldsIn (state_at states block) f
+
+-- ---- runs of the machine
+
+-- A run of the unit by itself comes to the frame.
+pub record IsReached (unit : MethodUnit) (f : Frame) : Type 0 where
+  pub index : ℕ
+  pub args : List Value
+  pub heap : Heap
+  pub count : ℕ
+  pub after : Heap
+  pub runs : LocalRuns unit index args heap count (Live (f ∷ []) after)
+
+-- A run that comes to the start of a block has come there along edges.
+abbrev pub RunsGoAlong : UnitFlow → Type 0
+RunsGoAlong code = (block : ℕ) (f : Frame) → block < length code.graph.blocks → f.at ≡ start_of code block → IsReached code.unit f
+    → (n : ℕ) × ComesTo code n block f
+
+-- The state of each block holds of each frame that a run brings to its start.
+abbrev pub HoldsInRuns : UnitFlow → List State → Type 0
+HoldsInRuns code states = (block : ℕ) (f : Frame) → block < length code.graph.blocks → f.at ≡ start_of code block → IsReached code.unit f
+    → HoldsIn (state_at states block) f

@@ -13,6 +13,7 @@ pub mod Flow
 pub mod FlowOf
 pub mod SwitchSizes
 pub mod BlockWays
+pub mod Chains
 pub mod FormsBehind
 pub mod FlowSteps
 pub mod FlowLaws

@@ -2,7 +2,7 @@
 
 ghost use Rattle.std.specs.Prelude.{◌≡◌, ◌<◌, ◌↔◌, true, length, IfOk, IsTrue};
 ghost use Rattle.range_rules.specs.Flow.{Fits, IsLawful};
-ghost use Rattle.range_rules.specs.Inductive.{AllCarried, AllFit, HasShape, HoldsWhereItComes, IsBegun, IsCarried, IsInductive};
+ghost use Rattle.range_rules.specs.Inductive.{AllCarried, AllFit, HasShape, HoldsInRuns, HoldsWhereItComes, IsBegun, IsCarried, IsInductive};
 
 use crate::entry::entry_state;
 use crate::unit_flow::UnitFlow;
@@ -117,6 +117,8 @@ pub fn inductive(alloc: Global, code: &UnitFlow, states: &[AbsState]) -> Result<
     ensures exact { IfOk result (λ yes. IsTrue yes ↔ IsInductive code.now states.now) }
     // The state of each block then holds of each frame that comes there along edges.
     ensures sound { IfOk result (λ yes. IsTrue yes → HoldsWhereItComes code.now states.now) }
+    // So it does of each frame that a run of the machine brings there.
+    ensures runs { IfOk result (λ yes. IsTrue yes → HoldsInRuns code.now states.now) }
 {
     let yes = is_inductive(alloc, code, states)?;
     Ok(yes)

@@ -7,6 +7,7 @@ ghost use Rattle.cil_model.specs.Shapes.{shape_of};
 ghost use Rattle.flow_graph.specs.GraphOf.{graph_of};
 ghost use Rattle.range_rules.specs.Flow.{IsLawful, IsOfNumbers};
 ghost use Rattle.range_rules.specs.FlowOf.{flow_of, kinds_of};
+ghost use Rattle.range_rules.specs.Inductive.{RunsGoAlong};
 
 use cc_base::Refusal;
 use cil_model::{List, Shape, Unit};
@@ -52,6 +53,18 @@ fn kinds(alloc: Global, unit: &Unit) -> Result<Kinds, NoMemory>
     }
 }
 
+/// The unit, with its graph and its kinds.
+fn make_flow(alloc: Global, unit: Unit) -> Result<UnitFlow, NoMemory>
+    requires numbers { IsOfNumbers unit }
+    requires body { (stacks : Stacks) → KindsOf (shape_of unit) unit.instrs stacks → HasBody unit.instrs stacks unit.body_start }
+    ensures lawful { IfOk result IsLawful }
+    ensures value { IfOk result (λ code. code ≡ flow_of unit) }
+{
+    let graph = Graph::of(alloc, &unit)?;
+    let kinds = kinds(alloc, &unit)?;
+    Ok(UnitFlow { unit, graph, kinds })
+}
+
 impl UnitFlow {
     /// The unit, with its graph and its kinds.
     ///
@@ -62,11 +75,12 @@ impl UnitFlow {
         requires body { (stacks : Stacks) → KindsOf (shape_of unit) unit.instrs stacks → HasBody unit.instrs stacks unit.body_start }
         ensures lawful { IfOk result IsLawful }
         ensures unit { IfOk result (λ code. code.unit ≡ unit) }
+        // A run that comes to the start of a block has come there along edges.
+        ensures runs { IfOk result RunsGoAlong }
         // Nothing but the unit tells what is found.
         ensures value { IfOk result (λ code. code ≡ flow_of unit) }
     {
-        let graph = Graph::of(alloc, &unit)?;
-        let kinds = kinds(alloc, &unit)?;
-        Ok(UnitFlow { unit, graph, kinds })
+        let code = make_flow(alloc, unit)?;
+        Ok(code)
     }
 }

@@ -29,13 +29,13 @@ use Rattle.flow_graph.proofs.EdgeOrder.{Starts, all_weaker, has_place, next_alon
 use Rattle.flow_graph.proofs.Lying.{all_passing, blocks_increase}
 use Rattle.range_rules.specs.Acts.{is_told}
 use Rattle.range_rules.specs.BlockWays.{among, both, each_found, found_begins, found_in_rest, found_passes, none_before, rest_lies, start_there}
+use Rattle.range_rules.specs.Chains.{IsChain, IsLast, Leads}
 use Rattle.range_rules.specs.Choices.{IsShortSwitch}
 use Rattle.range_rules.specs.Flow.{IsLawful, block_instrs, instrs_between, is_before, no_edge, start_of}
 use Rattle.range_rules.specs.FlowLaws as laws
 use Rattle.range_rules.specs.Placing.{item_there, place_below}
 use Rattle.range_rules.specs.SwitchSizes.{all_short}
 use Rattle.range_rules.specs.declared.unit_flow.UnitFlow.{UnitFlow}
-use Rattle.invariant_checker.specs.Chains.{IsChain, IsLast, Leads}
 
 -- ---- numbers that rise
 
@@ -219,6 +219,17 @@ module _ (unit : MethodUnit) (short : AreOfShortCode unit.instrs) (told : AllByR
             absurd (no_start j.at j (omega (arith, first.high, first.some, next)) early second.found (marked_by j.at i first marks))
       ]
 
+  -- No block starts at the next instruction of the block.
+  starts_none : (i j : Instr) → IsGood unit Start i → IsGood unit Start j → j.at ≡ i.at + i.size → is_before End j.at ≡ true
+      → is_block_start unit (i.at + i.size) ≡ false
+  starts_none i j first second next early =
+      elim (cases_Bool (is_block_start unit (i.at + i.size))) [
+        | inr none ↦ none
+        | inl starts_there ↦
+            absurd (no_start j.at j (omega (arith, first.high, first.some, next)) early second.found
+            (subst (λ (at : ℕ). is_block_start unit at ≡ true) (sym next) starts_there))
+      ]
+
   -- The edge to where a block starts.
   edge_there : (i j : Instr) (n target : ℕ) → IsGood unit Start i → is_before End i.at ≡ true → slice_get (successors i.op (i.at + i.size)) n ≡ Some target
       → unit.body_start ≤ target → instr_at unit.instrs target ≡ Some j → is_block_start unit target ≡ true → Leads (graph_of unit) b n target
@@ -293,7 +304,10 @@ module _ (unit : MethodUnit) (short : AreOfShortCode unit.instrs) (told : AllByR
             let kept : filter (λ x. is_before End x.at) (j ∷ is) ≡ j ∷ filter (λ x. is_before End x.at) is = rw more refl in
             let behind : from + i.size ≡ i.at + i.size = omega (arith, lie.0) in
             rw (first, more) (
-              record { here = lie.0; told = goods.0.told; found = goods.0.found; next = on },
+              record {
+                passed = record { here = lie.0; told = goods.0.told; found = goods.0.found; next = on };
+                inner = starts_none i j goods.0 goods.1.0 next more;
+              },
               subst (λ (n : ℕ). IsChain unit (graph_of unit) b n (j ∷ filter (λ x. is_before End x.at) is)) behind
                   (subst (IsChain unit (graph_of unit) b (from + i.size)) kept others),
             )
@@ -335,6 +349,19 @@ module _ (unit : MethodUnit) (short : AreOfShortCode unit.instrs) (told : AllByR
       (rest_lies Start 0 unit.instrs short.lie (found_begins unit.instrs Start first.instr first.found)) goods start_early
       (λ k le. found_in_rest Start unit.instrs k le)
 
+  -- ---- starts
+
+  starts_apart : (n m : ℕ) → n < length Blocks → m < length Blocks → get_or Blocks n 0 ≡ get_or Blocks m 0 → n ≡ m
+  starts_apart n m first second same =
+      elim (cases_lt n m) [
+        | inl less ↦ absurd (omega (arith, pairs n m 0 less second, same))
+        | inr not ↦
+            elim (cases_lt m n) [
+              | inl less ↦ absurd (omega (arith, pairs m n 0 less first, same))
+              | inr other ↦ omega (arith, not, other)
+            ]
+      ]
+
 -- ---- lawful code
 
 pub block_chain : (code : UnitFlow) (lawful : IsLawful code) (b : ℕ) → b < length code.graph.blocks → IsChain code.unit code.graph b (start_of code b) (block_instrs code b)
@@ -343,3 +370,21 @@ block_chain code lawful b below =
     let few : length unit.code ≤ 2147483647 = omega (arith, lawful.unit.formed.limits.code) in
     subst (λ (g : Graph). b < length g.blocks → IsChain unit g b (get_or g.blocks b 0) (instrs_between (get_or g.blocks b 0) (slice_get g.blocks (b + 1)) unit.instrs)) (sym lawful.graph)
     (λ there. rw (add-one b) (chain_there unit (laws.short code lawful) lawful.unit.told (all_short unit.instrs unit.code lawful.unit.formed.code few) b there)) below
+
+-- A block starts where it does, and no other block does.
+pub record IsStartOf (code : UnitFlow) (b at : ℕ) : Type 0 where
+  pub marked : is_block_start code.unit at ≡ true
+  pub alone : (c : ℕ) → c < length code.graph.blocks → start_of code c ≡ at → c ≡ b
+
+pub block_starts_there : (code : UnitFlow) (lawful : IsLawful code) (b : ℕ) → b < length code.graph.blocks → IsStartOf code b (start_of code b)
+block_starts_there code lawful b below =
+    let unit = code.unit in
+    let few : length unit.code ≤ 2147483647 = omega (arith, lawful.unit.formed.limits.code) in
+    let switches = all_short unit.instrs unit.code lawful.unit.formed.code few in
+    record {
+      marked = subst (λ (g : Graph). b < length g.blocks → is_block_start unit (get_or g.blocks b 0) ≡ true) (sym lawful.graph)
+          (λ there. (start_at unit (laws.short code lawful) lawful.unit.told switches b there b there).marked) below;
+      alone = λ c inside same.
+          subst (λ (g : Graph). c < length g.blocks → b < length g.blocks → get_or g.blocks c 0 ≡ get_or g.blocks b 0 → c ≡ b) (sym lawful.graph)
+          (λ first second is. starts_apart unit (laws.short code lawful) lawful.unit.told switches b second c b first second is) inside below same;
+    }
