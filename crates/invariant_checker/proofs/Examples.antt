@@ -10,7 +10,7 @@ use Rattle.cil_model.proofs.Laid.{method}
 use Rattle.range_facts.specs.Assume.{assumed, assumed_apart, assumed_at_most, assumed_equal, changed, holding, lost, lowered, ordered, raised}
 use Rattle.range_facts.specs.Facts.{range_at, range_of}
 use Rattle.range_facts.specs.Gap.{at_most, equal, gap}
-use Rattle.range_facts.specs.Spans.{excludes, moved}
+use Rattle.number_spans.specs.Spans.{excludes, moved}
 use Rattle.range_states.specs.Assumptions.{assuming}
 use Rattle.range_states.specs.Avoiding.{avoiding, no_division_overflow}
 use Rattle.range_states.specs.FrameFacts.{FrameFacts}

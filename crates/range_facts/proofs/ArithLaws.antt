@@ -1,75 +1,40 @@
 -- What is known of the result of an operator is true of it.
-use Rattle.std.proofs.Common.{◌≡◌, ◌≢◌, ℕ, ◌==◌, ◌/◌, ◌%◌, ◌^◌, ◌<◌, ℤ, pos, negsuc, ◌+ℤ◌, ◌-ℤ◌, ◌*ℤ◌, ◌≤ℤ◌, Bool, true, false, ◌&&◌, cond, int_le, int_lt, int_eq, int_div, int_rem, unsigned_abs, Option, Result, Ok, Err, List, FitsSigned, refl, sym, ◌∙◌, w32, arith}
+use Rattle.std.proofs.Common.{◌≡◌, ◌≢◌, ◌==◌, ◌/◌, ◌%◌, ◌^◌, ℤ, pos, ◌+ℤ◌, ◌-ℤ◌, ◌*ℤ◌, ◌≤ℤ◌, Bool, true, false, ◌&&◌, int_div, int_rem, Option, Result, Ok, List, FitsSigned, refl, sym, ◌∙◌, w32, arith}
 use Rattle.std.specs.Result.{result_ok}
 use Rattle.std.specs.Int.{int_shr}
 use Rattle.std.proofs.lemmas.Bool.{cond_both, and_parts}
 use Rattle.std.proofs.lemmas.Bool.Decides.{Decides-int_eq}
-use Rattle.std.proofs.lemmas.Int.{ints, to_z_pos}
-use Rattle.std.proofs.Math.Nat.{div-le_self, mod-le}
+use Rattle.std.proofs.lemmas.Int.{ints}
 use Rattle.domain_api.specs.declared.expr.Expr.{Expr}
 use Rattle.cc_base.specs.Wrap.{wrap32}
-use Rattle.cil_model.specs.Arithmetic.{LEAST, GREATEST, exact, divided, divided_unsigned, shifted, operated, signed, unsigned}
+use Rattle.cil_model.specs.Arithmetic.{operated, signed, unsigned}
 use Rattle.cil_model.specs.declared.machine.FaultKind.{FaultKind}
-use Rattle.cil_model.specs.declared.machine.FaultKind.TheVariants.{DivZero, DivOverflow, Overflow, Shift}
 use Rattle.cil_model.specs.declared.instruction.BinOp.{BinOp}
 use Rattle.cil_model.specs.declared.instruction.BinOp.TheVariants as operators
 use Rattle.range_facts.specs.Arith as rule
-use Rattle.range_facts.specs.Comparisons.{is_constant}
+use Rattle.number_spans.specs.Constants.{is_constant}
 use Rattle.range_facts.specs.Facts.{Facts, Holds, AreNarrow, IsThere, range_of, value}
 use Rattle.range_facts.specs.Fresh.{settled}
 use Rattle.range_facts.specs.Keeps.{Covers, Yields}
-use Rattle.range_facts.specs.Product.{is_the_constant}
+use Rattle.number_spans.specs.Product.{is_the_constant}
 use Rattle.range_facts.specs.Quotient.{quotient, unsigned_quotient}
 use Rattle.range_facts.specs.Remainder.{remainder, unsigned_remainder}
-use Rattle.range_facts.specs.Spans.{is_int32, is_not_negative}
+use Rattle.number_spans.specs.Spans.{is_int32, is_not_negative}
 use Rattle.range_facts.specs.declared.outcome.Outcome.{Outcome}
-use Rattle.range_facts.proofs.BitLaws.{common_bits_have, bits_of_either_have, bits_of_one_have}
+use Rattle.number_spans.proofs.OperatorLaws.{ok_same, divided_gives, divided_unsigned_gives, shifted_gives, exact_gives}
+use Rattle.number_spans.proofs.OperatorLaws.{plain_quotient, plain_remainder, quotient_fits, remainder_fits}
+use Rattle.number_spans.proofs.ProductLaws.{corners_have}
+use Rattle.number_spans.proofs.ShiftLaws.{shifted_right_has}
+use Rattle.number_spans.proofs.BitLaws.{common_bits_have, bits_of_either_have, bits_of_one_have}
 use Rattle.range_facts.proofs.ConstantValues.{zero_value, constant_value, no_symbol}
 use Rattle.range_facts.proofs.Meaning.{range_has, settled_holds}
 use Rattle.range_facts.proofs.Narrow.{small, constant_low}
-use Rattle.range_facts.proofs.ProductLaws.{corners_have, product_covers}
-use Rattle.range_facts.proofs.QuotientLaws.{quotients_have}
-use Rattle.range_facts.proofs.RemainderLaws.{remainders_have}
-use Rattle.range_facts.proofs.ShiftLaws.{shifted_left_covers, shifted_right_has, shifted_right_unsigned_covers}
+use Rattle.range_facts.proofs.ProductLaws.{product_covers}
+use Rattle.number_spans.proofs.QuotientLaws.{quotients_have}
+use Rattle.number_spans.proofs.RemainderLaws.{remainders_have}
+use Rattle.range_facts.proofs.ShiftLaws.{shifted_left_covers, shifted_right_unsigned_covers}
 use Rattle.range_facts.proofs.SumLaws.{sum_covers, difference_covers, sums_have, differences_have}
-use Rattle.range_facts.proofs.Wrapping.{bits_of, full_has}
-
-ok_same : (r : Result ℤ FaultKind) (x y : ℤ) → r ≡ Ok x → r ≡ Ok y → x ≡ y
-ok_same r x y is other = grind (arith, is, other)
-
-not_ok : (r : Result ℤ FaultKind) (e : FaultKind) (y : ℤ) → r ≡ Err e → r ≡ Ok y → ⊥
-not_ok r e y is other = grind (arith, is, other)
-
--- a division that gives something is not by 0, and gives its outcome
-divided_by : (zero over : Bool) (outcome c : ℤ) → cond zero (Err DivZero) (cond over (Err DivOverflow) (Ok outcome)) ≡ Ok c → (zero ≡ false) × (outcome ≡ c)
-divided_by true over outcome c is = elim (not_ok (Err DivZero) DivZero c refl is) [ ]
-divided_by false true outcome c is = elim (not_ok (Err DivOverflow) DivOverflow c refl is) [ ]
-divided_by false false outcome c is = (refl, ok_same (Ok outcome) outcome c refl is)
-
-not_zero : (b : ℤ) → int_eq b (pos 0) ≡ false → b ≢ pos 0
-not_zero b e = λ is. grind (arith, (Decides-int_eq b (pos 0)).1 is, e)
-
-divided_gives : (a b outcome c : ℤ) → divided a b outcome ≡ Ok c → (b ≢ pos 0) × (outcome ≡ c)
-divided_gives a b outcome c is =
-    let parts = divided_by (int_eq b (pos 0)) (int_eq a LEAST && int_eq b (negsuc 0)) outcome c is in (not_zero b parts.0, parts.1)
-
-unsigned_by : (zero : Bool) (outcome c : ℤ) → cond zero (Err DivZero) (Ok outcome) ≡ Ok c → (zero ≡ false) × (outcome ≡ c)
-unsigned_by true outcome c is = elim (not_ok (Err DivZero) DivZero c refl is) [ ]
-unsigned_by false outcome c is = (refl, ok_same (Ok outcome) outcome c refl is)
-
-divided_unsigned_gives : (b c : ℤ) (outcome : ℕ) → divided_unsigned b outcome ≡ Ok c → (b ≢ pos 0) × (signed outcome ≡ c)
-divided_unsigned_gives b c outcome is = let parts = unsigned_by (int_eq b (pos 0)) (signed outcome) c is in (not_zero b parts.0, parts.1)
-
--- a shift or an operator that may overflow gives its outcome
-outcome_by : (test : Bool) (outcome c : ℤ) (e : FaultKind) → cond test (Ok outcome) (Err e) ≡ Ok c → outcome ≡ c
-outcome_by true outcome c e is = ok_same (Ok outcome) outcome c refl is
-outcome_by false outcome c e is = elim (not_ok (Err e) e c refl is) [ ]
-
-shifted_gives : (n c : ℤ) (by : ℕ → ℤ) → shifted n by ≡ Ok c → by (unsigned_abs n) ≡ c
-shifted_gives n c by is = outcome_by (int_le (pos 0) n && int_lt n (pos 32)) (by (unsigned_abs n)) c Shift is
-
-exact_gives : (n c : ℤ) → exact n ≡ Ok c → n ≡ c
-exact_gives n c is = outcome_by (int_le LEAST n && int_le n GREATEST) n c Overflow is
+use Rattle.number_spans.proofs.Wrapping.{full_has}
 
 -- ---- quotients and remainders
 
@@ -85,24 +50,6 @@ quotient_covers facts ns a b holds apart =
 remainder_covers : (facts : Facts) (ns : List ℤ) (a b : Expr) → Holds facts ns → value ns b ≢ pos 0 → Covers ns (remainder facts a b) (int_rem (value ns a) (value ns b))
 unfolding remainder
 remainder_covers facts ns a b holds apart = remainders_have _ _ _ _ (range_has facts ns a holds) (range_has facts ns b holds) apart
-
-plain_quotient : (m n : ℤ) → FitsSigned w32 m → pos 0 ≤ℤ m → pos 0 ≤ℤ n → FitsSigned w32 n → signed (unsigned m / unsigned n) ≡ int_div m n
-plain_quotient (negsuc a) n fits p q other = omega (arith, ints, p)
-plain_quotient (pos a) (negsuc b) fits p q other = omega (arith, ints, q)
-plain_quotient (pos a) (pos b) fits p q other = to_z_pos w32 (a / b) (omega (arith, ints, fits, div-le_self a b))
-
-plain_remainder : (m n : ℤ) → FitsSigned w32 m → pos 0 ≤ℤ m → pos 0 ≤ℤ n → FitsSigned w32 n → signed (unsigned m % unsigned n) ≡ int_rem m n
-plain_remainder (negsuc a) n fits p q other = omega (arith, ints, p)
-plain_remainder (pos a) (negsuc b) fits p q other = omega (arith, ints, q)
-plain_remainder (pos a) (pos b) fits p q other = to_z_pos w32 (a % b) (omega (arith, ints, fits, mod-le a b))
-
-quotient_fits : (m : ℤ) (k : ℕ) → FitsSigned w32 m → FitsSigned w32 (signed (unsigned m / k))
-quotient_fits m k fits =
-    let all : unsigned m < 4294967296 = omega (arith, ints, fits) in bits_of (unsigned m / k) (omega (arith, all, div-le_self (unsigned m) k))
-
-remainder_fits : (m : ℤ) (k : ℕ) → FitsSigned w32 m → FitsSigned w32 (signed (unsigned m % k))
-remainder_fits m k fits =
-    let all : unsigned m < 4294967296 = omega (arith, ints, fits) in bits_of (unsigned m % k) (omega (arith, all, mod-le (unsigned m) k))
 
 not_negative : (facts : Facts) (ns : List ℤ) (e : Expr) → Holds facts ns → is_not_negative (range_of facts e) ≡ true → pos 0 ≤ℤ value ns e
 not_negative facts ns e holds is = let has = range_has facts ns e holds in grind (arith, ints, is, has.above)
@@ -180,7 +127,7 @@ by_ranges_cover operators.Shl facts ns a b c given fits is =
     (λ zero one. not_both _ given.apart (both_constants ns a b zero given.other one)))
 by_ranges_cover operators.Shr facts ns a b c given fits is =
     let gives = shifted_gives (value ns b) c (λ n. int_shr (value ns a) n) is in
-    rw (← gives) (shifted_right_has ns (range_of facts a) b (value ns a) (range_has facts ns a given.holds))
+    rw (← gives) (shifted_right_has (range_of facts a) b (value ns a) (value ns b) (range_has facts ns a given.holds) (constant_value ns b))
 by_ranges_cover operators.ShrUn facts ns a b c given fits is =
     let gives = shifted_gives (value ns b) c (λ n. signed (unsigned (value ns a) / 2 ^ n)) is in
     rw (← gives) (shifted_right_unsigned_covers facts ns a b given.holds given.one)

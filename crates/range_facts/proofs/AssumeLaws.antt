@@ -10,11 +10,12 @@ use Rattle.cil_model.specs.Arithmetic.{compares, unsigned}
 use Rattle.cil_model.specs.declared.instruction.CmpOp.{CmpOp}
 use Rattle.cil_model.specs.declared.instruction.CmpOp.TheVariants as comparisons
 use Rattle.range_facts.specs.Assume.{lowered, raised, assumed_at_most, assumed_less, assumed_equal, lost, ordered, assumed_apart, assumed_less_unsigned, assumed_at_most_unsigned, holding, contrary, assumed}
-use Rattle.range_facts.specs.Facts.{Facts, Holds, constant, number_of, range_of, value}
+use Rattle.range_facts.specs.Facts.{Facts, Holds, number_of, range_of, value}
+use Rattle.number_spans.specs.Constants.{constant}
 use Rattle.range_facts.specs.Gap.{at_most, equal}
 use Rattle.range_facts.specs.Keeps.{SomeHolds}
-use Rattle.range_facts.specs.Spans.{is_one, is_not_negative}
-use Rattle.range_facts.proofs.Lost.{range_without_allows, without_allows}
+use Rattle.number_spans.specs.Spans.{is_one, is_not_negative}
+use Rattle.number_spans.proofs.Lost.{range_without_allows, without_allows}
 use Rattle.range_facts.proofs.Meaning.{symbol_allowed, range_has, changed_holds}
 use Rattle.range_facts.proofs.ConstantValues.{constant_value}
 use Rattle.range_facts.proofs.GapLaws.{at_most_holds, equal_holds}

@@ -1,7 +1,7 @@
 -- What is known of comparisons is so.
-use Rattle.std.proofs.Common.{◌≡◌, ◌≢◌, ℤ, pos, ◌≤ℤ◌, ◌<ℤ◌, Bool, true, false, ◌&&◌, ◌||◌, int_lt, int_eq, Option, Some, None, List, refl, sym, ap, ◌∙◌, inl, ⊎_elim, FitsSigned, w32, arith}
+use Rattle.std.proofs.Common.{◌≡◌, ◌≢◌, ℤ, pos, Bool, true, ◌&&◌, ◌||◌, int_lt, int_eq, Option, Some, None, List, refl, sym, ap, ◌∙◌, inl, ⊎_elim, FitsSigned, w32, arith}
 use Rattle.std.specs.Prelude.{nat_lt}
-use Rattle.std.proofs.lemmas.Bool.{cond_both, and_parts, or_cases, false_from_ne_true, true_from_ne_false}
+use Rattle.std.proofs.lemmas.Bool.{cond_both, and_parts, or_cases, false_from_ne_true}
 use Rattle.std.proofs.lemmas.Bool.Decides.{Decides-int_eq}
 use Rattle.std.proofs.lemmas.Int.{ints}
 use Rattle.domain_api.specs.declared.expr.Expr.{Expr}
@@ -10,12 +10,13 @@ use Rattle.cil_model.specs.Comparisons.{comparison_of}
 use Rattle.cil_model.specs.declared.instruction.BinOp.{BinOp}
 use Rattle.cil_model.specs.declared.instruction.BinOp.TheVariants as operators
 use Rattle.cil_model.specs.declared.instruction.CmpOp.{CmpOp}
-use Rattle.interval_domain.specs.Interval.{between}
-use Rattle.range_facts.specs.Comparisons.{less_known, one_excluded, apart, equal_known, is_constant, less_unsigned_known, known, pushed, compared}
-use Rattle.range_facts.specs.Facts.{Facts, Allows, Holds, HoldsWith, range_of, value}
+use Rattle.range_facts.specs.Comparisons.{less_known, apart, equal_known, less_unsigned_known, known, pushed, compared}
+use Rattle.number_spans.specs.Spans.{one_excluded}
+use Rattle.number_spans.specs.Constants.{is_constant}
+use Rattle.range_facts.specs.Facts.{Facts, Holds, HoldsWith, range_of, value}
 use Rattle.range_facts.specs.Gap.{at_most, less, equal}
-use Rattle.range_facts.specs.Spans.{Has, is_hole, is_one, is_not_negative, excludes}
-use Rattle.range_facts.specs.declared.span.Span.{Span}
+use Rattle.number_spans.specs.Spans.{is_not_negative}
+use Rattle.number_spans.proofs.ComparingLaws.{lt_true, lt_false, one_apart, plain_less, truth_allowed}
 use Rattle.range_facts.proofs.ConstantValues.{zero_value, constant_value}
 use Rattle.range_facts.proofs.GapLaws.{at_most_holds, equal_holds}
 use Rattle.range_facts.proofs.Meaning.{range_has, noted_holds}
@@ -25,39 +26,14 @@ abbrev Tells : Option Bool → Bool → Type 0
 Tells None so = Unit {0}
 Tells (Some b) so = b ≡ so
 
-lt-true : (m n : ℤ) → m <ℤ n → int_lt m n ≡ true
-lt-true m n h = true_from_ne_false (int_lt m n) (λ e. omega (arith, ints))
-
-lt-false : (m n : ℤ) → n ≤ℤ m → int_lt m n ≡ false
-lt-false m n h = false_from_ne_true (int_lt m n) (λ e. grind (arith, ints, h, e))
-
 pub less_tells : (facts : Facts) (ns : List ℤ) (a b : Expr) → Holds facts ns → Tells (less_known facts a b) (int_lt (value ns a) (value ns b))
 unfolding less_known
 less_tells facts ns a b holds =
     cond_both (less facts a b) _ _ (λ o. Tells o (int_lt (value ns a) (value ns b)))
-    (λ e. let le = at_most_holds facts ns a (pos 1) b holds e in sym (lt-true (value ns a) (value ns b) (omega (arith, ints, le))))
+    (λ e. let le = at_most_holds facts ns a (pos 1) b holds e in sym (lt_true (value ns a) (value ns b) (omega (arith, ints, le))))
     (λ e. cond_both (at_most facts b (pos 0) a) _ _ (λ o. Tells o (int_lt (value ns a) (value ns b)))
-    (λ f. let le = at_most_holds facts ns b (pos 0) a holds f in sym (lt-false (value ns a) (value ns b) (omega (arith, ints, le))))
+    (λ f. let le = at_most_holds facts ns b (pos 0) a holds f in sym (lt_false (value ns a) (value ns b) (omega (arith, ints, le))))
     (λ f. tt))
-
--- a range excludes none of its numbers
-is_hole-apart : (hole : Option ℤ) (n : ℤ) → hole ≢ Some n → is_hole hole n ≡ true → ⊥
-is_hole-apart None n apart is = grind (arith, is)
-is_hole-apart (Some h) n apart is = apart (ap Some ((Decides-int_eq h n).0 is))
-
-excluded_apart : (r : Span) (k n : ℤ) → Has r n → excludes r k ≡ true → k ≢ n
-unfolding excludes
-excluded_apart r k n has e = λ is. ⊎_elim
-    (λ low. grind (arith, ints, low, is, has.above))
-    (λ other. ⊎_elim (λ high. grind (arith, ints, high, is, has.below)) (λ hole. is_hole-apart r.hole n has.no_hole (rw (← is) hole)) (or_cases (int_lt r.hi k) _ other))
-    (or_cases (int_lt k r.lo) _ e)
-
-one_apart : (r q : Span) (m n : ℤ) → Has r m → Has q n → one_excluded r q ≡ true → m ≢ n
-one_apart r q m n first second e =
-    let parts = and_parts (is_one r) _ e in
-    let one = (Decides-int_eq r.lo r.hi).0 parts.0 in
-    let other = excluded_apart q r.lo n second parts.1 in
-    λ is. other (omega (arith, ints, one, first.above, first.below, is))
 
 apart_holds : (facts : Facts) (ns : List ℤ) (a b : Expr) → Holds facts ns → apart facts a b ≡ true → value ns a ≢ value ns b
 unfolding apart
@@ -84,10 +60,6 @@ equal_tells facts ns a b holds =
     (λ f. let other = apart_holds facts ns a b holds f in
     sym (false_from_ne_true (int_eq (value ns a) (value ns b)) (λ is. other ((Decides-int_eq (value ns a) (value ns b)).0 is))))
     (λ f. tt))
-
--- numbers that are not negative compare as they are
-plain_less : (m n : ℤ) → FitsSigned w32 m → FitsSigned w32 n → pos 0 ≤ℤ m → pos 0 ≤ℤ n → nat_lt (unsigned m) (unsigned n) ≡ int_lt m n
-plain_less m n first second low high = grind (arith, ints, first, second, low, high)
 
 less_unsigned_tells : (facts : Facts) (ns : List ℤ) (a b : Expr) → Holds facts ns → FitsSigned w32 (value ns a) → FitsSigned w32 (value ns b)
     → Tells (less_unsigned_known facts a b) (nat_lt (unsigned (value ns a)) (unsigned (value ns b)))
@@ -131,10 +103,6 @@ known_tells operators.ShrUn cmp facts ns a b is holds first second = tt
 known_tells operators.AddOvf cmp facts ns a b is holds first second = tt
 known_tells operators.MulOvf cmp facts ns a b is holds first second = tt
 known_tells operators.SubOvf cmp facts ns a b is holds first second = tt
-
-truth_allowed : (b : Bool) → Allows (between (pos 0) (pos 1)) (truth b)
-truth_allowed true = record { above = omega (arith, ints); below = omega (arith, ints); no_hole = λ is. grind arith }
-truth_allowed false = record { above = omega (arith, ints); below = omega (arith, ints); no_hole = λ is. grind arith }
 
 pushed_holds : (o : Option Bool) (so : Bool) (facts : Facts) (ns : List ℤ) → Holds facts ns → Tells o so
     → HoldsWith (pushed facts o).facts (pushed facts o).expr ns (truth so)

@@ -12,14 +12,18 @@ use Rattle.range_facts.specs.Assume as rule
 use Rattle.range_facts.specs.Assume.{assumed, holding, changed, assumed_at_most, assumed_equal, assumed_apart, ordered, assumed_less_unsigned, assumed_at_most_unsigned}
 use Rattle.range_facts.specs.Comparisons.{less_unsigned_known, known}
 use Rattle.range_facts.specs.Facts.{Facts, range_at, range_of}
-use Rattle.range_facts.specs.Fresh.{Made, range_without, noted, fresh, settled}
+use Rattle.range_facts.specs.Fresh.{Made, noted, fresh, settled}
+use Rattle.number_spans.specs.Stored.{range_without}
 use Rattle.range_facts.specs.Gap.{gap, at_most, equal}
-use Rattle.range_facts.specs.Product.{corners, product}
-use Rattle.range_facts.specs.Quotient.{size, quotients_by, quotients, quotient}
-use Rattle.range_facts.specs.Remainder.{remainders, remainder}
+use Rattle.number_spans.specs.Product.{corners}
+use Rattle.range_facts.specs.Product.{product}
+use Rattle.number_spans.specs.Quotient.{size, quotients_by, quotients}
+use Rattle.range_facts.specs.Quotient.{quotient}
+use Rattle.number_spans.specs.Remainder.{remainders}
+use Rattle.range_facts.specs.Remainder.{remainder}
 use Rattle.range_facts.specs.Shifts.{shifted_left, shifted_right_unsigned}
-use Rattle.range_facts.specs.Spans as spans
-use Rattle.range_facts.specs.Spans.{moved, wrapped, excludes}
+use Rattle.number_spans.specs.Spans as spans
+use Rattle.number_spans.specs.Spans.{moved, wrapped, excludes}
 use Rattle.range_facts.specs.declared.outcome.Outcome.{Outcome}
 use Rattle.range_facts.specs.declared.outcome.Outcome.TheVariants.{Is, Within}
 

@@ -1,5 +1,5 @@
 -- What facts say of the numbers that they hold of.
-use Rattle.std.proofs.Common.{◌≡◌, ◌≢◌, ℕ, zero, suc, ◌+◌, ℤ, pos, ◌+ℤ◌, ◌≤ℤ◌, Option, Some, None, List, [], ◌∷◌, ◌++◌, length, get_or, inl, inr, refl, ap, add-one, FitsSigned, w32, arith}
+use Rattle.std.proofs.Common.{◌≡◌, ◌≢◌, ℕ, zero, suc, ◌+◌, ℤ, pos, ◌≤ℤ◌, Option, Some, None, List, [], ◌∷◌, ◌++◌, length, get_or, inl, inr, refl, add-one, FitsSigned, w32, arith}
 use Rattle.std.specs.Int.{int_min, int_max}
 use Rattle.std.specs.Prelude.{set}
 use Rattle.std.specs.Option.{option_map}
@@ -11,13 +11,17 @@ use Rattle.domain_api.specs.declared.expr.Expr.{Expr}
 use Rattle.cil_model.specs.Arithmetic.{LEAST, GREATEST}
 use Rattle.interval_domain.specs.Interval.{Interval, one}
 use Rattle.range_facts.specs.Assume.{changed}
-use Rattle.range_facts.specs.Facts.{Facts, Allows, AllowAll, Holds, HoldsWith, constant, range_at, range_of, number_of, value}
+use Rattle.range_facts.specs.Facts.{Facts, AllowAll, Holds, HoldsWith, range_at, range_of, number_of, value}
+use Rattle.number_spans.specs.Stored.{Allows}
+use Rattle.number_spans.specs.Constants.{constant}
 use Rattle.range_facts.specs.Fresh.{Made, noted, fresh, settled}
-use Rattle.range_facts.specs.Keeps.{SomeAllows, SomeHolds, Yields, Covers}
-use Rattle.range_facts.specs.Spans.{Has, moved_hole, moved}
+use Rattle.number_spans.specs.Stored.{SomeAllows}
+use Rattle.range_facts.specs.Keeps.{SomeHolds, Yields, Covers}
+use Rattle.number_spans.specs.Spans.{Has}
 use Rattle.range_facts.specs.declared.outcome.Outcome.{Outcome}
 use Rattle.range_facts.specs.declared.outcome.Outcome.TheVariants.{Is, Within}
-use Rattle.range_facts.proofs.Lost.{range_without_allows}
+use Rattle.number_spans.proofs.Moved.{moved_has}
+use Rattle.number_spans.proofs.Lost.{range_without_allows}
 
 zero_allowed : Allows (one (pos 0)) (pos 0)
 zero_allowed = record { above = omega (arith, ints); below = omega (arith, ints); no_hole = λ is. grind arith }
@@ -34,21 +38,6 @@ pub symbol_allowed : (facts : Facts) (ns : List ℤ) (s : ℕ) → Holds facts n
 unfolding range_at number_of
 symbol_allowed facts ns zero holds = zero_allowed
 symbol_allowed facts ns (suc s) holds = allowed_at facts.ranges ns s holds
-
-moved_apart : (hole : Option ℤ) (n k : ℤ) → hole ≢ Some n → moved_hole hole k ≢ Some (n +ℤ k)
-moved_apart None n k apart = λ is. grind arith
-moved_apart (Some h) n k apart = λ is. apart (ap Some (omega (arith, ints, same (h +ℤ k) (n +ℤ k) is)))
-  where
-    same : (a b : ℤ) → Some a ≡ Some b → a ≡ b
-    same a b is = grind arith
-
-moved_has : (r : Interval) (n k : ℤ) → Allows r n → Has (moved r k) (n +ℤ k)
-unfolding moved
-moved_has r n k allowed = record {
-  above = omega (arith, ints, allowed.above);
-  below = omega (arith, ints, allowed.below);
-  no_hole = moved_apart r.hole n k allowed.no_hole;
-}
 
 -- what an expression is worth is a number of its range
 pub range_has : (facts : Facts) (ns : List ℤ) (e : Expr) → Holds facts ns → Has (range_of facts e) (value ns e)

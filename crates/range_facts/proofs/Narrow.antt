@@ -5,11 +5,12 @@ use Rattle.std.specs.List.{AllByRecursion}
 use Rattle.domain_api.specs.declared.expr.Expr.{Expr}
 use Rattle.cil_model.specs.Arithmetic.{LEAST, GREATEST}
 use Rattle.interval_domain.specs.Interval.{Interval, one}
-use Rattle.range_facts.specs.Facts.{Facts, IsNarrow, AreNarrow, IsThere, range_at, range_of}
+use Rattle.range_facts.specs.Facts.{Facts, AreNarrow, IsThere, range_at, range_of}
+use Rattle.number_spans.specs.Stored.{IsNarrow}
 use Rattle.range_facts.proofs.ConstantValues.{no_symbol}
-use Rattle.range_facts.specs.declared.span.Span.{Span}
-use Rattle.range_facts.specs.Sizes.{IsEnd, IsSmall}
-use Rattle.range_facts.specs.Spans.{moved}
+use Rattle.number_spans.specs.declared.span.Span.{Span}
+use Rattle.number_spans.specs.Sizes.{IsEnd, IsSmall}
+use Rattle.number_spans.specs.Spans.{moved}
 
 narrow_zero : IsNarrow (one (pos 0))
 narrow_zero = record { least = omega (arith, ints); ordered = omega (arith, ints); greatest = omega (arith, ints); inner = tt }

@@ -1,23 +1,20 @@
 -- What is known of sums and differences is true of them.
-use Rattle.std.proofs.Common.{◌≡◌, ℕ, ◌==◌, ℤ, ◌+ℤ◌, ◌-ℤ◌, true, ◌&&◌, int_le, List, FitsSigned, sym, ap, ◌∙◌, arith, w32}
+use Rattle.std.proofs.Common.{◌≡◌, ℕ, ◌==◌, ℤ, ◌+ℤ◌, ◌-ℤ◌, true, List, sym, ap, ◌∙◌, arith, w32}
 use Rattle.std.proofs.lemmas.Bool.{cond_both, and_parts}
 use Rattle.std.proofs.lemmas.Grind.{common_steps}
 use Rattle.std.proofs.lemmas.Int.{ints, int_wrap_fits}
 use Rattle.domain_api.specs.declared.expr.Expr.{Expr}
 use Rattle.cc_base.specs.Wrap.{wrap32}
-use Rattle.cil_model.specs.Arithmetic.{LEAST, GREATEST}
-use Rattle.range_facts.specs.Addition.{sum, sums, difference, differences, exact_difference, takes, plus, negated}
+use Rattle.range_facts.specs.Addition.{sum, difference, exact_difference}
+use Rattle.number_spans.specs.Sums.{sums, differences, takes, plus, negated}
 use Rattle.range_facts.specs.Facts.{Facts, Holds, number_of, range_of, value}
 use Rattle.range_facts.specs.Keeps.{Covers}
-use Rattle.range_facts.specs.Spans.{Has}
-use Rattle.range_facts.specs.declared.span.Span.{Span}
+use Rattle.number_spans.specs.Spans.{Has}
+use Rattle.number_spans.specs.declared.span.Span.{Span}
+use Rattle.number_spans.proofs.SumLaws.{takes_fits}
 use Rattle.range_facts.proofs.ConstantValues.{zero_value, constant_value}
 use Rattle.range_facts.proofs.Meaning.{range_has}
-use Rattle.range_facts.proofs.Wrapping.{wrapped_has, between_has}
-
--- a number that is an int32 also with a constant added
-takes_fits : (r : Span) (n : ℤ) (e : Expr) → Has r n → (int_le LEAST (r.lo +ℤ e.k) && int_le (r.hi +ℤ e.k) GREATEST) ≡ true → FitsSigned w32 (n +ℤ e.k)
-takes_fits r n e has is = let parts = and_parts (int_le LEAST (r.lo +ℤ e.k)) _ is in grind (arith, ints, parts.0, parts.1, has.above, has.below)
+use Rattle.number_spans.proofs.Wrapping.{wrapped_has, between_has}
 
 -- it is the sum with the constant, wrapped
 plus_is : (facts : Facts) (ns : List ℤ) (e c : Expr) (n : ℤ) → Holds facts ns → takes (range_of facts e) c ≡ true → n ≡ wrap32 (value ns e +ℤ c.k)

@@ -1,22 +1,23 @@
 -- What is known of the result of an operator.
-use Rattle.std.specs.Prelude.{ℤ, ◌&&◌, Option, Some, None, if◌then◌else◌}
-use Rattle.std.specs.Result.{result_ok}
+use Rattle.std.specs.Prelude.{ℤ, Option, Some, None}
 use Rattle.domain_api.specs.declared.expr.Expr.{Expr}
-use Rattle.cil_model.specs.Arithmetic.{operated}
 use Rattle.cil_model.specs.declared.instruction.BinOp.{BinOp}
 use Rattle.cil_model.specs.declared.instruction.BinOp.TheVariants as operators
-use Rattle.range_facts.specs.Addition.{sum, sums, difference, exact_difference}
-use Rattle.range_facts.specs.Bits.{common_bits, bits_of_either}
-use Rattle.range_facts.specs.Comparisons.{is_constant}
-use Rattle.range_facts.specs.Facts.{Facts, constant, range_of}
-use Rattle.range_facts.specs.Product.{corners, product}
+use Rattle.range_facts.specs.Addition.{sum, difference, exact_difference}
+use Rattle.number_spans.specs.Sums.{sums}
+use Rattle.number_spans.specs.Bits.{common_bits, bits_of_either}
+use Rattle.range_facts.specs.Facts.{Facts, range_of}
+use Rattle.number_spans.specs.Constants.{constant, of_constants}
+use Rattle.number_spans.specs.Product.{corners}
+use Rattle.range_facts.specs.Product.{product}
 use Rattle.range_facts.specs.Quotient.{quotient, unsigned_quotient}
 use Rattle.range_facts.specs.Remainder.{remainder, unsigned_remainder}
-use Rattle.range_facts.specs.Shifts.{shifted_left, shifted_right, shifted_right_unsigned}
-use Rattle.range_facts.specs.Spans.{full}
+use Rattle.range_facts.specs.Shifts.{shifted_left, shifted_right_unsigned}
+use Rattle.number_spans.specs.Shifts.{shifted_right}
+use Rattle.number_spans.specs.Spans.{full}
 use Rattle.range_facts.specs.declared.outcome.Outcome.{Outcome}
 use Rattle.range_facts.specs.declared.outcome.Outcome.TheVariants.{Is, Within}
-use Rattle.range_facts.specs.declared.span.Span.{Span}
+use Rattle.number_spans.specs.declared.span.Span.{Span}
 
 -- Where the result of an operator that may overflow lies before it is judged. Others are not asked for.
 unfoldable pub exact : BinOp → Facts → Expr → Expr → Span
@@ -41,10 +42,6 @@ by_ranges operators.Shl facts a b = shifted_left facts a b
 by_ranges operators.Shr facts a b = Within (shifted_right (range_of facts a) b)
 by_ranges operators.ShrUn facts a b = shifted_right_unsigned facts a b
 by_ranges op facts a b = Within (exact op facts a b)
-
--- What an operator gives of two constants, where it does not fault.
-abbrev pub of_constants : BinOp → Expr → Expr → Option ℤ
-of_constants op a b = if is_constant a && is_constant b then result_ok (operated op a.k b.k) else None
 
 abbrev pub known_or : Option ℤ → Outcome → Outcome
 known_or None outcome = outcome

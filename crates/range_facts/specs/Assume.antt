@@ -7,10 +7,11 @@ use Rattle.domain_api.specs.declared.expr.Expr.{Expr}
 use Rattle.cil_model.specs.declared.instruction.CmpOp.{CmpOp}
 use Rattle.cil_model.specs.declared.instruction.CmpOp.TheVariants as comparisons
 use Rattle.interval_domain.specs.Interval.{Interval, without}
-use Rattle.range_facts.specs.Facts.{Facts, constant, range_at, range_of}
-use Rattle.range_facts.specs.Fresh.{range_without}
+use Rattle.range_facts.specs.Facts.{Facts, range_at, range_of}
+use Rattle.number_spans.specs.Constants.{constant}
+use Rattle.number_spans.specs.Stored.{range_without}
 use Rattle.range_facts.specs.Gap.{at_most, equal}
-use Rattle.range_facts.specs.Spans.{is_one, is_not_negative}
+use Rattle.number_spans.specs.Spans.{is_one, is_not_negative}
 
 -- The facts with another range for a symbol. That of symbol 0 is never changed.
 unfoldable pub changed : Facts → ℕ → Option Interval → Option Facts

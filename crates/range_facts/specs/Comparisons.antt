@@ -1,23 +1,19 @@
 -- What is known of comparisons of numbers, where they are pushed (ECMA-335 III.3.21 to III.3.26).
-use Rattle.std.specs.Prelude.{◌==◌, pos, Bool, true, false, ◌&&◌, ◌||◌, nat_lt, Option, Some, None, if◌then◌else◌}
+use Rattle.std.specs.Prelude.{pos, Bool, true, false, ◌&&◌, ◌||◌, nat_lt, Option, Some, None, if◌then◌else◌}
 use Rattle.domain_api.specs.declared.expr.Expr.{Expr}
 use Rattle.cil_model.specs.Arithmetic.{unsigned, truth}
 use Rattle.cil_model.specs.declared.instruction.BinOp.{BinOp}
 use Rattle.cil_model.specs.declared.instruction.BinOp.TheVariants as operators
 use Rattle.interval_domain.specs.Interval.{between}
-use Rattle.range_facts.specs.Facts.{Facts, constant, range_of}
+use Rattle.range_facts.specs.Facts.{Facts, range_of}
+use Rattle.number_spans.specs.Constants.{constant, is_constant}
 use Rattle.range_facts.specs.Gap.{at_most, less, equal}
 use Rattle.range_facts.specs.Fresh.{Made, noted}
-use Rattle.range_facts.specs.Spans.{is_int32, is_one, is_not_negative, excludes}
-use Rattle.range_facts.specs.declared.span.Span.{Span}
+use Rattle.number_spans.specs.Spans.{one_excluded, is_not_negative}
 
 -- The first is less than the second, or it is known not to be.
 unfoldable pub less_known : Facts → Expr → Expr → Option Bool
 less_known facts a b = if less facts a b then Some true else if at_most facts b (pos 0) a then Some false else None
-
--- One range has one number alone, and the other does not have it.
-abbrev pub one_excluded : Span → Span → Bool
-one_excluded r q = is_one r && excludes q r.lo
 
 unfoldable pub apart : Facts → Expr → Expr → Bool
 apart facts a b =
@@ -27,10 +23,6 @@ apart facts a b =
 -- The two are equal, or they are known not to be.
 unfoldable pub equal_known : Facts → Expr → Expr → Option Bool
 equal_known facts a b = if equal facts a b then Some true else if apart facts a b then Some false else None
-
--- The expression is a constant that is an int32.
-abbrev pub is_constant : Expr → Bool
-is_constant e = (e.sym == 0) && is_int32 e.k
 
 -- The first is less than the second where both are taken as unsigned: numbers that are not negative compare as they
 -- are, and of two constants it is known.

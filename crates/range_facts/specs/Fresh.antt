@@ -1,20 +1,16 @@
 -- New symbols.
-use Rattle.std.specs.Prelude.{◌+◌, ℤ, pos, int_le, Option, Some, None, [], ◌∷◌, ◌++◌, length, if◌then◌else◌}
+use Rattle.std.specs.Prelude.{◌+◌, ℤ, pos, Option, Some, None, [], ◌∷◌, ◌++◌, length, if◌then◌else◌}
 use Rattle.std.specs.Option.{option_map}
 use Rattle.std.specs.Ordering.{int_eq}
 use Rattle.std.specs.Int.{int_min, int_max}
 use Rattle.domain_api.specs.declared.expr.Expr.{Expr}
 use Rattle.cil_model.specs.Arithmetic.{LEAST, GREATEST}
-use Rattle.interval_domain.specs.Interval.{Interval, between, without}
-use Rattle.range_facts.specs.Facts.{Facts, constant}
+use Rattle.interval_domain.specs.Interval.{Interval}
+use Rattle.number_spans.specs.Stored.{range_without}
+use Rattle.range_facts.specs.Facts.{Facts}
+use Rattle.number_spans.specs.Constants.{constant}
 use Rattle.range_facts.specs.declared.outcome.Outcome.{Outcome}
 use Rattle.range_facts.specs.declared.outcome.Outcome.TheVariants.{Is, Within}
-
--- All numbers from lo to hi, but for the hole: one that is an end moves it, and one outside counts for nothing.
--- None where there is no such number.
-unfoldable pub range_without : ℤ → ℤ → Option ℤ → Option Interval
-range_without lo hi None = if int_le lo hi then Some (between lo hi) else None
-range_without lo hi (Some hole) = if int_le lo hi then without (between lo hi) hole else None
 
 -- The expression of a number, and the facts with it.
 pub record Made : Type 0 where

@@ -1,16 +1,10 @@
 -- What it means that a rule keeps what holds.
 use Rattle.std.specs.Prelude.{◌≡◌, ℤ, List, Option, Some, None}
-use Rattle.interval_domain.specs.Interval.{Interval}
-use Rattle.range_facts.specs.Facts.{Facts, Allows, Holds, HoldsWith, value}
+use Rattle.range_facts.specs.Facts.{Facts, Holds, HoldsWith, value}
 use Rattle.range_facts.specs.Fresh.{Made}
-use Rattle.range_facts.specs.Spans.{Has}
+use Rattle.number_spans.specs.Spans.{Has}
 use Rattle.range_facts.specs.declared.outcome.Outcome.{Outcome}
 use Rattle.range_facts.specs.declared.outcome.Outcome.TheVariants.{Is, Within}
-
--- There is a range, and it allows the number.
-abbrev pub SomeAllows : Option Interval → ℤ → Type 0
-SomeAllows None n = ⊥
-SomeAllows (Some r) n = Allows r n
 
 -- Something is reached, and the facts hold there of the numbers.
 abbrev pub SomeHolds : Option Facts → List ℤ → Type 0

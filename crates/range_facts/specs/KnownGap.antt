@@ -6,7 +6,8 @@ use Rattle.std.proofs.lemmas.Bool.{cond_both, and_parts}
 use Rattle.std.proofs.lemmas.Grind.{common_steps}
 use Rattle.std.proofs.lemmas.Int.{ints, clamps}
 use Rattle.interval_domain.specs.Joins.{LEAST_64, GREATEST_64}
-use Rattle.range_facts.specs.Facts.{Facts, Allows, range_at}
+use Rattle.range_facts.specs.Facts.{Facts, range_at}
+use Rattle.number_spans.specs.Stored.{Allows}
 use Rattle.range_facts.specs.Gap.{gap}
 
 -- The number of each symbol that is there is one of its range, and that of symbol 0 is 0.

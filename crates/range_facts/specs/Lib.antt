@@ -1,5 +1,3 @@
-pub mod Sizes
-pub mod Spans
 pub mod Facts
 pub mod Fresh
 pub mod Keeps
@@ -10,8 +8,6 @@ pub mod Addition
 pub mod Product
 pub mod Quotient
 pub mod Remainder
-pub mod Bits
 pub mod Shifts
 pub mod Arith
-pub mod Owed
 pub mod KnownGap

@@ -1,89 +1,17 @@
 //! Sums and differences.
 
-ghost use Rattle.std.specs.Prelude.{◌≡◌, ◌≤ℤ◌, ◌+ℤ◌, ◌-ℤ◌, ◌&&◌, pos, negsuc, neg_ℤ, int_le};
+ghost use Rattle.std.specs.Prelude.{◌≡◌, ◌-ℤ◌};
 ghost use Rattle.cc_base.specs.Wrap.{wrap32};
-ghost use Rattle.cil_model.specs.Arithmetic as arithmetic;
-ghost use Rattle.range_facts.specs.Facts.{AreNarrow, IsThere, constant};
-ghost use Rattle.range_facts.specs.Sizes.{IsEnd, IsSmall, IsBounded};
+ghost use Rattle.range_facts.specs.Facts.{AreNarrow, IsThere};
+ghost use Rattle.number_spans.specs.Constants.{constant};
 ghost use Rattle.range_facts.specs.Addition as rule;
 
-use crate::exact::{constants_sum, less_by, minus, plus};
-use crate::numbers::{Numbers, constant};
+use crate::numbers::Numbers;
 use crate::outcome::Outcome;
-use crate::span::{GREATEST, LEAST, Span, wrap};
 use domain_api::Expr;
-
-/// The sums of two numbers.
-pub(crate) fn sums(r: Span, q: Span) -> Span
-    requires first { IsSmall r }
-    requires second { IsSmall q }
-    ensures value { result ≡ rule.sums r q }
-    ensures low { IsBounded result.lo }
-    ensures high { IsBounded result.hi }
-{
-    Span::between(plus(r.lo, q.lo), plus(r.hi, q.hi))
-}
-
-/// The differences.
-pub(crate) fn differences(r: Span, q: Span) -> Span
-    requires first { IsSmall r }
-    requires second { IsSmall q }
-    ensures value { result ≡ rule.differences r q }
-    ensures low { IsBounded result.lo }
-    ensures high { IsBounded result.hi }
-{
-    Span::between(minus(r.lo, q.hi), minus(r.hi, q.lo))
-}
-
-/// Returns whether the expression is a constant, and the numbers are int32 also with it added.
-fn takes(r: Span, e: Expr) -> bool
-    requires first { IsSmall r }
-    requires least { negsuc 4294967295 ≤ℤ e.k }
-    requires greatest { e.k ≤ℤ pos 4294967296 }
-    ensures { result ≡ rule.takes r e }
-{
-    e.sym == 0 && stays(r, i128::from(e.k))
-}
-
-/// Returns whether the numbers are int32 also with k added.
-fn stays(r: Span, k: i128) -> bool
-    requires first { IsSmall r }
-    requires second { IsEnd k }
-    ensures { result ≡ (int_le arithmetic.LEAST (r.lo +ℤ k) && int_le (r.hi +ℤ k) arithmetic.GREATEST) }
-{
-    LEAST <= plus(r.lo, k) && plus(r.hi, k) <= GREATEST
-}
-
-/// An expression with a constant added.
-fn with_constant(e: Expr, constant: Expr) -> Expr
-    requires least { (negsuc 4294967295 ≤ℤ e.k) × (negsuc 4294967295 ≤ℤ constant.k) }
-    requires greatest { (e.k ≤ℤ pos 4294967296) × (constant.k ≤ℤ pos 4294967296) }
-    ensures { result ≡ rule.plus e constant }
-{
-    Expr {
-        sym: e.sym,
-        k: constants_sum(e.k, constant.k),
-    }
-}
-
-/// The opposite number.
-fn opposite(k: i64) -> i64
-    requires { negsuc 4294967295 ≤ℤ k }
-    ensures { result ≡ neg_ℤ k }
-{
-    -k
-}
-
-/// The constant, negated.
-fn negated(e: Expr) -> Expr
-    requires { negsuc 4294967295 ≤ℤ e.k }
-    ensures { result ≡ rule.negated e }
-{
-    Expr {
-        sym: e.sym,
-        k: opposite(e.k),
-    }
-}
+use number_spans::{
+    Span, constant, differences, less_by, negated, sums, takes, with_constant, wrap,
+};
 
 /// The difference of two constants, wrapped.
 fn wrapped_difference(a: Expr, b: Expr) -> Expr

@@ -6,43 +6,21 @@ ghost use Rattle.std.specs.Int.{int_min, int_max};
 ghost use Rattle.cil_model.specs.Arithmetic as arithmetic;
 ghost use Rattle.interval_domain.specs.Arithmetic.{near};
 ghost use Rattle.range_facts.specs.Facts.{AreNarrow, IsThere};
-ghost use Rattle.range_facts.specs.Fresh.{expr_made, facts_made, fresh, noted, settled, range_without};
-ghost use Rattle.range_facts.specs.Spans.{full};
+ghost use Rattle.range_facts.specs.Fresh.{expr_made, facts_made, fresh, noted, settled};
+ghost use Rattle.number_spans.specs.Stored.{range_without};
+ghost use Rattle.number_spans.specs.Spans.{full};
 ghost use Rattle.range_facts.specs.Arith as rule;
-ghost use Rattle.range_facts.specs.Owed.{Divides, Shifts};
+ghost use Rattle.number_spans.specs.Owed.{Divides, Shifts};
 
-use crate::addition::sums;
-use crate::bits::{bits_of_either, common_bits};
-use crate::comparisons::is_constant;
-use crate::constants::operated;
-use crate::exact::int32;
-use crate::numbers::{Numbers, constant, range_without};
+use crate::numbers::Numbers;
 use crate::outcome::Outcome;
-use crate::product::corners;
-use crate::shifts::shifted_right;
-use crate::span::{GREATEST, LEAST, Span};
 use cil_model::BinOp;
 use domain_api::{Expr, NoMemory};
 use interval_domain::Range;
-
-/// Returns what an operator gives of two constants, where it does not fault.
-fn of_constants(op: BinOp, a: Expr, b: Expr) -> Option<i32>
-    ensures { result ≡ rule.of_constants op a b }
-{
-    if is_constant(a) && is_constant(b) {
-        operated(op, int32(a.k), int32(b.k))
-    } else {
-        None
-    }
-}
-
-/// The number of 64 bits that is nearest to a number.
-#[tactic(auto, unfolding(interval_domain::specs::Arithmetic::near))]
-fn nearest(n: i128) -> i64
-    ensures { result ≡ near n }
-{
-    n.max(i128::from(i64::MIN)).min(i128::from(i64::MAX)) as i64
-}
+use number_spans::{
+    Span, bits_of_either, common_bits, constant, corners, nearest, of_constants, range_within,
+    range_without, shifted_right, sums,
+};
 
 impl Numbers {
     /// Where the result of an operator that may overflow lies before it is judged.
@@ -187,17 +165,4 @@ impl Numbers {
         let outcome = self.outcome(op, a, b);
         self.settled(outcome)
     }
-}
-
-/// The int32 of a range, as they are stored.
-#[tactic(auto, using(crate::proofs::Stored::none_below))]
-fn range_within(span: Span) -> Option<Range>
-    ensures { result ≡ range_without (int_max span.lo arithmetic.LEAST) (int_min span.hi arithmetic.GREATEST) None }
-{
-    let lo = span.lo.max(LEAST);
-    let hi = span.hi.min(GREATEST);
-    if hi < lo {
-        return None;
-    }
-    range_without(lo as i64, hi as i64, None)
 }

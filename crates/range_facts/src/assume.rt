@@ -2,17 +2,14 @@
 
 ghost use Rattle.std.specs.Prelude.{◌≡◌, ◌≤◌, ◌≤ℤ◌, ℤ, pos, Bool, true, length, IfOk, OnErr, Option, Some};
 ghost use Rattle.std.specs.Option.{is_some};
-ghost use Rattle.std.specs.Int.{int_min, int_max};
-ghost use Rattle.interval_domain.specs.Interval.{without};
-ghost use Rattle.range_facts.specs.Fresh.{range_without};
-ghost use Rattle.range_facts.specs.Sizes.{IsBounded};
+ghost use Rattle.number_spans.specs.Sizes.{IsBounded};
 ghost use Rattle.range_facts.specs.Assume as rule;
 
-use crate::exact::{below, less_by};
-use crate::numbers::{Numbers, constant, range_without};
+use crate::numbers::Numbers;
 use cil_model::CmpOp;
 use domain_api::{Expr, NoMemory};
 use interval_domain::Range;
+use number_spans::{below, constant, less_by, range_but_for, range_from, range_upto};
 
 /// The comparison that holds where another does not.
 fn contrary(op: CmpOp) -> CmpOp
@@ -29,47 +26,6 @@ fn contrary(op: CmpOp) -> CmpOp
         CmpOp::GtUn => CmpOp::LeUn,
         CmpOp::LeUn => CmpOp::GtUn,
         CmpOp::LtUn => CmpOp::GeUn,
-    }
-}
-
-/// The numbers of a range up to a number.
-#[tactic(auto, using(crate::proofs::Stored::none_below))]
-fn range_upto(range: Range, hi: i128) -> Option<Range>
-    ensures { result ≡ range_without range.lo (int_min range.hi hi) range.hole }
-{
-    if hi < i128::from(range.lo()) {
-        return None;
-    }
-    range_without(
-        range.lo(),
-        i128::from(range.hi()).min(hi) as i64,
-        range.hole(),
-    )
-}
-
-/// The numbers of a range from a number on.
-#[tactic(auto, using(crate::proofs::Stored::none_below))]
-fn range_from(range: Range, lo: i128) -> Option<Range>
-    ensures { result ≡ range_without (int_max range.lo lo) range.hi range.hole }
-{
-    if i128::from(range.hi()) < lo {
-        return None;
-    }
-    range_without(
-        i128::from(range.lo()).max(lo) as i64,
-        range.hi(),
-        range.hole(),
-    )
-}
-
-/// The numbers of a range but for one.
-#[tactic(auto, unfolding(interval_domain::specs::Interval::without))]
-fn range_but_for(range: Range, n: i128) -> Option<Range>
-    ensures { result ≡ without range n }
-{
-    match i64::try_from(n) {
-        Ok(n) => range.without(n),
-        Err(_) => Some(range),
     }
 }
 

@@ -1,33 +1,18 @@
 //! What is known of comparisons of numbers, where they are pushed.
 
-ghost use Rattle.std.specs.Prelude.{◌≡◌, ◌≤◌, ◌==◌, ◌&&◌, length, pos, IfOk, OnOk, OnErr};
+ghost use Rattle.std.specs.Prelude.{◌≡◌, ◌≤◌, length, pos, IfOk, OnOk, OnErr};
 ghost use Rattle.interval_domain.specs.Interval.{between};
-ghost use Rattle.range_facts.specs.Comparisons.{less_known, one_excluded, apart, equal_known};
-ghost use Rattle.range_facts.specs.Comparisons.{is_constant, less_unsigned_known, known, compared};
+ghost use Rattle.range_facts.specs.Comparisons.{less_known, apart, equal_known, less_unsigned_known};
+ghost use Rattle.range_facts.specs.Comparisons.{known, compared};
 
-use crate::constants::unsigned;
-use crate::numbers::{Numbers, constant};
-use crate::span::Span;
+use crate::numbers::Numbers;
 use cil_model::BinOp;
 use domain_api::{Expr, NoMemory, Values};
 use interval_domain::Range;
-
-/// Returns whether one range has one number alone, and the other does not have it.
-fn is_one_excluded(r: Span, q: Span) -> bool
-    ensures { result ≡ one_excluded r q }
-{
-    r.is_one() && q.excludes(r.lo)
-}
-
-/// Returns whether the expression is a constant that is an int32.
-pub(crate) fn is_constant(e: Expr) -> bool
-    ensures { result ≡ is_constant e }
-{
-    e.sym == 0 && i32::try_from(e.k).is_ok()
-}
+use number_spans::{constant, is_constant, is_one_excluded, unsigned};
 
 /// The numbers of a truth value.
-#[tactic(auto, using(crate::proofs::Stored::hull_of_bits))]
+#[tactic(auto, using(number_spans::proofs::NoNumbers::hull_of_bits))]
 fn bit() -> Range
     ensures { result ≡ between (pos 0) (pos 1) }
 {

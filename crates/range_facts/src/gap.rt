@@ -2,12 +2,12 @@
 
 ghost use Rattle.std.specs.Prelude.{◌≡◌, ◌≤◌, length, pos, ◌≤ℤ◌, ◌-ℤ◌, ◌+ℤ◌};
 ghost use Rattle.range_facts.specs.Facts.{range_of};
-ghost use Rattle.range_facts.specs.Sizes.{IsBounded};
+ghost use Rattle.number_spans.specs.Sizes.{IsBounded};
 ghost use Rattle.range_facts.specs.Gap.{gap, at_most, equal};
 
-use crate::exact::{less_by, more_by, sum_of};
 use crate::numbers::Numbers;
 use domain_api::Expr;
+use number_spans::{less_by, more_by, sum_of};
 
 /// Returns what is left of 1.
 fn rest(more: i64) -> i64

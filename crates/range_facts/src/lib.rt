@@ -4,10 +4,7 @@
 mod addition;
 mod arith;
 mod assume;
-mod bits;
 mod comparisons;
-mod constants;
-mod exact;
 mod gap;
 mod numbers;
 mod order;
@@ -16,6 +13,5 @@ mod product;
 mod quotient;
 mod remainder;
 mod shifts;
-mod span;
 
 pub use numbers::Numbers;

@@ -2,12 +2,12 @@
 
 ghost use Rattle.std.specs.Prelude.{◌≡◌, ◌≤◌, ◌≤ℤ◌, ◌+◌, length, IfOk, OnOk, OnErr};
 ghost use Rattle.range_facts.specs.Facts.{Facts, AreNarrow, IsThere, range_at, range_of};
-ghost use Rattle.range_facts.specs.Sizes.{IsLong, IsSmall};
-ghost use Rattle.range_facts.specs.Fresh.{range_without, noted};
+ghost use Rattle.number_spans.specs.Sizes.{IsLong, IsSmall};
+ghost use Rattle.range_facts.specs.Fresh.{noted};
 
-use crate::span::Span;
 use domain_api::{Expr, NoMemory, Values};
 use interval_domain::Range;
+use number_spans::{Span, constant};
 use std::alloc::AllocError;
 use std::marker::Model;
 
@@ -26,25 +26,6 @@ impl Model for Numbers {
     ghost Value = { Facts };
 
     ghost view = { λ n. record { ranges = n.ranges.items } };
-}
-
-/// The constant of an expression that has no symbol.
-pub(crate) fn constant(k: i64) -> Expr
-    ensures { result ≡ record { sym = 0; k = k } }
-{
-    Expr { sym: 0, k }
-}
-
-/// All numbers from `lo` to `hi` but for the hole, as they are stored. None exactly where there is none.
-#[tactic(auto, unfolding(crate::specs::Fresh::range_without))]
-pub(crate) fn range_without(lo: i64, hi: i64, hole: Option<i64>) -> Option<Range>
-    ensures { result ≡ range_without lo hi hole }
-{
-    let range = Range::new(lo, hi)?;
-    match hole {
-        None => Some(range),
-        Some(hole) => range.without(hole),
-    }
 }
 
 impl Numbers {

@@ -1,7 +1,7 @@
 //! What is known of the result of an operator.
 
-use crate::span::Span;
 use domain_api::Expr;
+use number_spans::Span;
 
 /// What is known of the result of an operator.
 #[derive(Clone, Copy)]

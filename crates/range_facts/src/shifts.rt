@@ -1,29 +1,14 @@
 //! Shifts.
 
 ghost use Rattle.std.specs.Prelude.{◌≡◌, ◌≤◌, length};
+ghost use Rattle.number_spans.specs.Shifts.{IsAmount};
 ghost use Rattle.range_facts.specs.Facts.{AreNarrow, IsThere};
-ghost use Rattle.range_facts.specs.Shifts.{IsAmount};
 ghost use Rattle.range_facts.specs.Shifts as rule;
 
-use crate::exact::power;
-use crate::numbers::{Numbers, constant};
+use crate::numbers::Numbers;
 use crate::outcome::Outcome;
-use crate::span::Span;
 use domain_api::Expr;
-
-/// Numbers shifted to the right.
-#[tactic(auto, unfolding(crate::specs::Shifts::shifted_right))]
-pub(crate) fn shifted_right(r: Span, b: Expr) -> Span
-    requires amount { b.sym ≡ 0 → IsAmount b.k }
-    ensures { result ≡ rule.shifted_right r b }
-{
-    if b.sym == 0 {
-        let places = b.k as u32;
-        Span::between(r.lo >> places, r.hi >> places)
-    } else {
-        Span::between(r.lo.min(0), r.hi.max(-1))
-    }
-}
+use number_spans::{Span, constant, power, shifted_right};
 
 impl Numbers {
     /// A number shifted to the left.

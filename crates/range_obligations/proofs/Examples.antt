@@ -16,7 +16,7 @@ use Rattle.interval_domain.specs.Interval.{Interval, interval, between}
 use Rattle.range_facts.specs.Arith.{exact}
 use Rattle.range_facts.specs.Addition.{exact_difference}
 use Rattle.range_facts.specs.Facts.{range_at, range_of}
-use Rattle.range_facts.specs.Spans.{moved, excludes}
+use Rattle.number_spans.specs.Spans.{moved, excludes}
 use Rattle.range_states.specs.FrameFacts.{FrameFacts}
 use Rattle.range_states.specs.Operands.{from_top}
 use Rattle.range_obligations.specs.EachFault.{ListsEachFault}

@@ -3,7 +3,7 @@ use Rattle.std.proofs.Common.{◌≡◌, ℤ, ◌&&◌, int_le, refl, arith}
 use Rattle.std.proofs.lemmas.Int.{ints, clamps}
 use Rattle.cil_model.specs.Arithmetic.{LEAST, GREATEST}
 use Rattle.interval_domain.specs.Arithmetic.{near}
-use Rattle.range_facts.specs.declared.span.Span.{Span}
+use Rattle.number_spans.specs.declared.span.Span.{Span}
 use Rattle.range_obligations.specs.Entailed.{are_int32}
 
 low_end : (n : ℤ) → int_le LEAST (near n) ≡ int_le LEAST n

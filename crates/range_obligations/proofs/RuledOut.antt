@@ -28,10 +28,10 @@ use Rattle.cil_model.specs.declared.unit_numbers.UnitCall.{UnitCall}
 use Rattle.cil_model.specs.declared.unit_numbers.UnitCall.TheVariants as calls
 use Rattle.range_facts.specs.Arith as results
 use Rattle.range_facts.specs.Facts.{Facts, Holds, range_of, value}
-use Rattle.range_facts.specs.Spans.{Has, excludes, is_hole}
-use Rattle.range_facts.specs.declared.span.Span.{Span}
+use Rattle.number_spans.specs.Spans.{Has, excludes, is_hole}
+use Rattle.number_spans.specs.declared.span.Span.{Span}
 use Rattle.range_facts.proofs.Meaning.{range_has}
-use Rattle.range_facts.proofs.ProductLaws.{corners_have}
+use Rattle.number_spans.proofs.ProductLaws.{corners_have}
 use Rattle.range_facts.proofs.SumLaws.{sums_have, differences_have}
 use Rattle.range_states.specs.FrameFacts.{FrameFacts, State}
 use Rattle.range_states.specs.Frames.{HoldsIn}

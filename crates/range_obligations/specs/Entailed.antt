@@ -9,8 +9,8 @@ use Rattle.cil_model.specs.declared.machine.FaultKind.{FaultKind}
 use Rattle.cil_model.specs.declared.machine.FaultKind.TheVariants as faults
 use Rattle.range_facts.specs.Arith.{exact}
 use Rattle.range_facts.specs.Facts.{Facts, range_of}
-use Rattle.range_facts.specs.Spans.{excludes}
-use Rattle.range_facts.specs.declared.span.Span.{Span}
+use Rattle.number_spans.specs.Spans.{excludes}
+use Rattle.number_spans.specs.declared.span.Span.{Span}
 use Rattle.range_states.specs.FrameFacts.{FrameFacts, State}
 use Rattle.range_states.specs.Operands.{from_top}
 

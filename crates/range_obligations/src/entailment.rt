@@ -5,7 +5,7 @@ ghost use Rattle.std.specs.Option.{ForSome};
 ghost use Rattle.cil_model.specs.Arithmetic.{LEAST, GREATEST};
 ghost use Rattle.range_facts.specs.Arith.{exact};
 ghost use Rattle.range_facts.specs.Facts.{range_of};
-ghost use Rattle.range_facts.specs.Spans as spans;
+ghost use Rattle.number_spans.specs.Spans as spans;
 ghost use Rattle.range_states.specs.Faults.{operands_of};
 ghost use Rattle.range_states.specs.FrameFacts.{IsNumber};
 ghost use Rattle.range_obligations.specs.Entailed.{are_int32, are_amounts, rules_out, rules_out_at_call, entailed_by, entailed};
@@ -29,7 +29,7 @@ fn is_hole(hole: Option<i128>, n: i128) -> bool
 }
 
 /// Returns whether the number is none that the expression may have.
-#[tactic(auto, unfolding(range_facts::specs::Spans::excludes))]
+#[tactic(auto, unfolding(number_spans::specs::Spans::excludes))]
 fn is_excluded(state: &AbsState, e: Expr, n: i128) -> bool
     requires reached { IsSome state.now }
     requires there { ForSome state.now (λ known. e.sym ≤ length known.facts.ranges) }

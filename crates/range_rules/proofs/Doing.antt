@@ -7,7 +7,7 @@ use Rattle.cil_model.specs.declared.instruction.Op.{Op}
 use Rattle.cil_model.specs.declared.instruction.Op.TheVariants as ops
 use Rattle.cil_model.specs.declared.instruction.Test.{Test}
 use Rattle.cil_model.specs.declared.unit.Unit.{Unit as MethodUnit}
-use Rattle.range_facts.specs.Facts.{constant}
+use Rattle.number_spans.specs.Constants.{constant}
 use Rattle.range_states.specs.FrameFacts.{FrameFacts, State}
 use Rattle.range_states.specs.Moves.{push, pop, pushed, popped}
 use Rattle.range_rules.specs.Acts.{acted, act, arg_place, local_place, type_of, loaded, stored, duplicated, returned, operated, negated, complemented, behind_call, behind_test}

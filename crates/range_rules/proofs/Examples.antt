@@ -13,9 +13,10 @@ use Rattle.interval_domain.specs.Interval.{Interval, between, without, lost, rai
 use Rattle.range_facts.specs.Arith.{outcome}
 use Rattle.range_facts.specs.Assume.{assumed, holding, changed, lowered, raised as raised_to, lost as lost_by, assumed_at_most, assumed_apart, assumed_equal, ordered, assumed_at_most_unsigned}
 use Rattle.range_facts.specs.Facts.{range_at, range_of}
-use Rattle.range_facts.specs.Fresh.{range_without, noted, settled}
+use Rattle.number_spans.specs.Stored.{range_without}
+use Rattle.range_facts.specs.Fresh.{noted, settled}
 use Rattle.range_facts.specs.Gap.{gap, at_most, equal}
-use Rattle.range_facts.specs.Spans.{moved}
+use Rattle.number_spans.specs.Spans.{moved}
 use Rattle.range_states.specs.Arithmetic.{with_result}
 use Rattle.range_states.specs.Assumptions.{assuming}
 use Rattle.range_states.specs.FrameFacts.{FrameFacts}

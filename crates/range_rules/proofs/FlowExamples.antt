@@ -24,7 +24,7 @@ use Rattle.interval_domain.specs.Interval.{Interval, between}
 use Rattle.range_facts.specs.Assume.{assumed, holding, changed, lowered, raised, lost, ordered, assumed_at_most, assumed_apart, assumed_equal}
 use Rattle.range_facts.specs.Facts.{range_at, range_of}
 use Rattle.range_facts.specs.Gap.{gap, at_most, equal}
-use Rattle.range_facts.specs.Spans.{moved}
+use Rattle.number_spans.specs.Spans.{moved}
 use Rattle.range_states.specs.Assumptions.{assuming}
 use Rattle.range_states.specs.FrameFacts.{FrameFacts, State}
 use Rattle.range_states.specs.Moves.{appended, pushed, popped}

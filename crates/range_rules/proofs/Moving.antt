@@ -13,7 +13,7 @@ use Rattle.cil_model.specs.declared.place.Place.{Place}
 use Rattle.cil_model.specs.declared.place.Place.TheVariants as places
 use Rattle.cil_model.specs.declared.unit_numbers.UnitCall.{UnitCall}
 use Rattle.cil_model.specs.declared.unit_numbers.UnitCall.TheVariants as calls
-use Rattle.range_facts.specs.Facts.{constant}
+use Rattle.number_spans.specs.Constants.{constant}
 use Rattle.range_states.specs.Arithmetic.{arith as result_pushed, compare, with_result, with_truth}
 use Rattle.range_states.specs.FrameFacts.{FrameFacts, State, IsNumber, variables_in}
 use Rattle.range_states.specs.Moves.{push, pop, put, pushed, popped, with_placed}

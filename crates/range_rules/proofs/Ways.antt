@@ -10,7 +10,7 @@ use Rattle.cil_model.specs.declared.instruction.Op.TheVariants as ops
 use Rattle.cil_model.specs.declared.instruction.Test.{Test}
 use Rattle.cil_model.specs.declared.instruction.Test.TheVariants as tests
 use Rattle.cil_model.specs.declared.unit.Unit.{Unit as MethodUnit}
-use Rattle.range_facts.specs.Facts.{constant}
+use Rattle.number_spans.specs.Constants.{constant}
 use Rattle.range_states.specs.Assumptions.{assume}
 use Rattle.range_states.specs.FrameFacts.{FrameFacts, State, variables_in}
 use Rattle.range_states.specs.Operands.{from_top}

@@ -35,7 +35,8 @@ use Rattle.cil_model.specs.declared.place.Place.TheVariants as places
 use Rattle.cil_model.specs.declared.unit.Unit.{Unit as MethodUnit}
 use Rattle.cil_model.specs.declared.unit_numbers.UnitCall.{UnitCall}
 use Rattle.cil_model.specs.declared.unit_numbers.UnitCall.TheVariants as calls
-use Rattle.range_facts.specs.Facts.{constant, value}
+use Rattle.number_spans.specs.Constants.{constant}
+use Rattle.range_facts.specs.Facts.{value}
 use Rattle.range_facts.proofs.ConstantValues.{zero_value}
 use Rattle.range_states.specs.Arithmetic.{with_result, with_truth}
 use Rattle.range_states.specs.FrameFacts.{FrameFacts, State, HasForm, HoldsBy, HoldsOf, IsNumber}

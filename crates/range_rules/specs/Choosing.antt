@@ -22,7 +22,8 @@ use Rattle.cil_model.specs.declared.machine.Frame.{Frame}
 use Rattle.cil_model.specs.declared.machine.Value.{Value}
 use Rattle.cil_model.specs.declared.machine.Value.TheVariants.{Int}
 use Rattle.cil_model.specs.declared.unit.Unit.{Unit as MethodUnit}
-use Rattle.range_facts.specs.Facts.{constant, value}
+use Rattle.number_spans.specs.Constants.{constant}
+use Rattle.range_facts.specs.Facts.{value}
 use Rattle.range_facts.proofs.ConstantValues.{zero_value}
 use Rattle.range_states.specs.Assumptions.{assuming}
 use Rattle.range_states.specs.FrameFacts.{FrameFacts, HasForm, HoldsBy, IsNumber}

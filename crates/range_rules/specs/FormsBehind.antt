@@ -30,8 +30,9 @@ use Rattle.cil_model.specs.declared.unit.Unit.{Unit as MethodUnit}
 use Rattle.cil_model.specs.declared.unit_numbers.UnitCall.{UnitCall}
 use Rattle.cil_model.specs.declared.unit_numbers.UnitCall.TheVariants as calls
 use Rattle.range_facts.specs.Assume.{assumed}
-use Rattle.range_facts.specs.Facts.{Facts, constant}
-use Rattle.range_facts.specs.Owed.{Shifts}
+use Rattle.range_facts.specs.Facts.{Facts}
+use Rattle.number_spans.specs.Constants.{constant}
+use Rattle.number_spans.specs.Owed.{Shifts}
 use Rattle.range_facts.specs.Comparisons.{compared}
 use Rattle.range_facts.specs.Fresh.{Made}
 use Rattle.range_states.specs.Arithmetic.{with_result, with_truth, on_top}

@@ -13,9 +13,10 @@ use Rattle.cil_model.specs.declared.instruction.Op.{Op}
 use Rattle.cil_model.specs.declared.instruction.Op.TheVariants as ops
 use Rattle.cil_model.specs.declared.machine.FaultKind.TheVariants as faults
 use Rattle.range_facts.specs.Assume.{assumed, holding, assumed_at_most, assumed_apart}
-use Rattle.range_facts.specs.Facts.{Facts, constant}
+use Rattle.range_facts.specs.Facts.{Facts}
+use Rattle.number_spans.specs.Constants.{constant}
 use Rattle.range_facts.specs.Gap.{gap, at_most, equal}
-use Rattle.range_facts.specs.Owed.{NotZero, IsPlaces}
+use Rattle.number_spans.specs.Owed.{NotZero, IsPlaces}
 use Rattle.range_states.specs.Assumptions.{assuming, with_facts}
 use Rattle.range_states.specs.FrameFacts.{FrameFacts, State}
 use Rattle.range_states.specs.Operands.{from_top}

@@ -2,7 +2,7 @@
 
 ghost use Rattle.std.specs.Prelude.{◌≡◌, ◌<◌, ◌≤◌, length, OnOk};
 ghost use Rattle.std.specs.Option.{ForSome, option_and_then, option_map};
-ghost use Rattle.range_facts.specs.Owed.{Divides, Shifts};
+ghost use Rattle.number_spans.specs.Owed.{Divides, Shifts};
 ghost use Rattle.range_states.specs.Moves as moves;
 ghost use Rattle.range_states.specs.Operands.{from_top};
 ghost use Rattle.range_rules.specs.Acts as rule;

@@ -28,7 +28,8 @@ use Rattle.cil_model.specs.declared.machine.Value.TheVariants as values
 use Rattle.cil_model.specs.declared.unit.Unit.{Unit as MethodUnit}
 use Rattle.cil_model.specs.declared.unit_numbers.UnitCall.{UnitCall}
 use Rattle.cil_model.specs.declared.unit_numbers.UnitCall.TheVariants as calls
-use Rattle.range_facts.specs.Facts.{constant, value}
+use Rattle.number_spans.specs.Constants.{constant}
+use Rattle.range_facts.specs.Facts.{value}
 use Rattle.range_facts.proofs.ConstantValues.{zero_value, constant_value}
 use Rattle.range_states.specs.Assumptions.{assuming}
 use Rattle.range_states.specs.FrameFacts.{FrameFacts, State, HasForm}

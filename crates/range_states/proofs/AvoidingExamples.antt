@@ -5,9 +5,9 @@ use Rattle.domain_api.specs.declared.expr.Expr.{Expr}
 use Rattle.interval_domain.specs.Interval.{Interval, interval, between, without, lost, raised, holed, inner_hole}
 use Rattle.range_facts.specs.Assume.{assumed, holding, changed, lowered, raised as raised_to, lost as lost_by, assumed_at_most, assumed_apart, ordered}
 use Rattle.range_facts.specs.Facts.{range_at, range_of}
-use Rattle.range_facts.specs.Fresh.{range_without}
+use Rattle.number_spans.specs.Stored.{range_without}
 use Rattle.range_facts.specs.Gap.{gap, at_most, equal}
-use Rattle.range_facts.specs.Spans.{moved}
+use Rattle.number_spans.specs.Spans.{moved}
 use Rattle.range_states.specs.Assumptions.{assuming}
 use Rattle.range_states.specs.FrameFacts.{FrameFacts}
 use Rattle.range_states.specs.Operands.{from_top}

@@ -10,7 +10,8 @@ use Rattle.cil_model.specs.declared.instruction.Op.{Op}
 use Rattle.cil_model.specs.declared.machine.FaultKind.{FaultKind}
 use Rattle.cil_model.specs.declared.machine.FaultKind.TheVariants as faults
 use Rattle.range_facts.specs.Assume.{assumed}
-use Rattle.range_facts.specs.Facts.{Facts, constant}
+use Rattle.range_facts.specs.Facts.{Facts}
+use Rattle.number_spans.specs.Constants.{constant}
 use Rattle.range_states.specs.Assumptions.{assuming, with_facts}
 use Rattle.range_states.specs.FrameFacts.{FrameFacts, State, HasForm, variables_in}
 use Rattle.range_states.specs.Frames.{HoldsIn}

@@ -3,7 +3,7 @@ use Rattle.std.proofs.Common.{◌≡◌, ℕ, zero, suc, ◌+◌, ◌<◌, ◌�
 use Rattle.std.proofs.lemmas.List.{length-map, take_more, take_all, drop_all}
 use Rattle.std.proofs.Math.ListN.{get_or-map}
 use Rattle.domain_api.specs.declared.expr.Expr.{Expr}
-use Rattle.range_facts.specs.Facts.{constant}
+use Rattle.number_spans.specs.Constants.{constant}
 use Rattle.range_states.specs.FrameFacts.{FrameFacts}
 use Rattle.range_states.specs.Moves.{appended}
 use Rattle.range_states.specs.NormalForm.{number_at, numbers_in, symbol, ranges_of, variables_behind, of_numbers}

@@ -15,9 +15,10 @@ use Rattle.range_facts.specs.Assume as rule
 use Rattle.range_facts.specs.Assume.{assumed, holding, changed, assumed_at_most, assumed_apart, ordered, assumed_less_unsigned}
 use Rattle.range_facts.specs.Comparisons.{compared, known, less_known, less_unsigned_known}
 use Rattle.range_facts.specs.Facts.{number_of, range_at, range_of}
-use Rattle.range_facts.specs.Fresh.{range_without, noted, fresh, settled}
+use Rattle.number_spans.specs.Stored.{range_without}
+use Rattle.range_facts.specs.Fresh.{noted, fresh, settled}
 use Rattle.range_facts.specs.Gap.{gap, at_most, equal}
-use Rattle.range_facts.specs.Spans.{moved, wrapped}
+use Rattle.number_spans.specs.Spans.{moved, wrapped}
 use Rattle.range_states.specs.Arithmetic.{with_result, with_truth}
 use Rattle.range_states.specs.Assumptions.{assuming}
 use Rattle.range_states.specs.FormTests.{is_narrow, is_number, made_from}

@@ -17,9 +17,11 @@ use Rattle.interval_domain.specs.Interval.{Interval, one}
 use Rattle.range_facts.specs.Assume.{assumed}
 use Rattle.range_facts.specs.Comparisons.{compared}
 use Rattle.range_facts.specs.Comparisons.{known as known_truth, pushed as truth_pushed}
-use Rattle.range_facts.specs.Facts.{Facts, AreNarrow, IsNarrow, IsThere, constant, range_at, range_of}
+use Rattle.range_facts.specs.Facts.{Facts, AreNarrow, IsThere, range_at, range_of}
+use Rattle.number_spans.specs.Stored.{IsNarrow}
+use Rattle.number_spans.specs.Constants.{constant}
 use Rattle.range_facts.specs.Fresh.{Made, noted}
-use Rattle.range_facts.specs.Spans.{moved}
+use Rattle.number_spans.specs.Spans.{moved}
 use Rattle.range_facts.proofs.Narrow.{narrow_range}
 use Rattle.range_facts.proofs.NarrowLaws.{SomeAreNarrow, assumed_narrow}
 use Rattle.range_states.specs.Arithmetic.{on_top, with_truth}

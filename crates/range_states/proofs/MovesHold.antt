@@ -15,10 +15,12 @@ use Rattle.cil_model.proofs.ArithmeticFits.{low_bits_are_byte}
 use Rattle.domain_api.specs.declared.expr.Expr.{Expr}
 use Rattle.interval_domain.specs.Interval.{Interval, interval}
 use Rattle.range_facts.specs.Facts as numbers
-use Rattle.range_facts.specs.Facts.{Facts, Allows, HoldsWith, constant, range_of, value}
+use Rattle.range_facts.specs.Facts.{Facts, HoldsWith, range_of, value}
+use Rattle.number_spans.specs.Stored.{Allows}
+use Rattle.number_spans.specs.Constants.{constant}
 use Rattle.range_facts.specs.Fresh.{Made, noted}
-use Rattle.range_facts.specs.Spans.{Has}
-use Rattle.range_facts.specs.declared.span.Span.{Span}
+use Rattle.number_spans.specs.Spans.{Has}
+use Rattle.number_spans.specs.declared.span.Span.{Span}
 use Rattle.range_facts.proofs.ConstantValues.{constant_value, zero_value}
 use Rattle.range_facts.proofs.Meaning.{range_has, noted_holds}
 use Rattle.range_states.specs.Arithmetic.{on_top}

@@ -9,7 +9,7 @@ use Rattle.range_facts.specs.Arith.{outcome}
 use Rattle.range_facts.specs.Assume.{assumed}
 use Rattle.range_facts.specs.Facts.{Facts}
 use Rattle.range_facts.specs.Fresh.{Made, settled}
-use Rattle.range_facts.specs.Owed.{Shifts}
+use Rattle.number_spans.specs.Owed.{Shifts}
 use Rattle.range_states.specs.Arithmetic.{on_top, with_result, with_truth}
 use Rattle.range_states.specs.Assumptions.{assuming, with_facts}
 use Rattle.range_states.specs.FrameFacts.{FrameFacts, HasForm, IsNumber}

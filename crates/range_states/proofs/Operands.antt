@@ -7,7 +7,8 @@ use Rattle.domain_api.specs.declared.expr.Expr.{Expr}
 use Rattle.cil_model.specs.declared.machine.Frame.{Frame}
 use Rattle.cil_model.specs.declared.machine.Value.{Value}
 use Rattle.cil_model.specs.declared.machine.Value.TheVariants.{Int}
-use Rattle.range_facts.specs.Facts.{Facts, constant, value}
+use Rattle.range_facts.specs.Facts.{Facts, value}
+use Rattle.number_spans.specs.Constants.{constant}
 use Rattle.range_states.specs.FrameFacts.{FrameFacts, HasForm, HoldsBy, IsNumber}
 use Rattle.range_states.specs.Frames.{HoldsIn, variables_of}
 use Rattle.range_states.specs.Operands.{from_top}

@@ -9,7 +9,8 @@ use Rattle.std.proofs.lemmas.List.Elements.{All-from_recursion, recursion_from_A
 use Rattle.domain_api.specs.declared.expr.Expr.{Expr}
 use Rattle.cil_model.specs.Arithmetic.{LEAST, GREATEST}
 use Rattle.interval_domain.specs.Interval.{Interval}
-use Rattle.range_facts.specs.Facts.{Facts, IsInner, IsNarrow, range_of}
+use Rattle.range_facts.specs.Facts.{Facts, range_of}
+use Rattle.number_spans.specs.Stored.{IsInner, IsNarrow}
 use Rattle.range_states.specs.FormTests.{is_inner, is_narrow, is_number, has_form, made_from}
 use Rattle.range_states.specs.FrameFacts.{FrameFacts, State, HasForm, IsNumber}
 use Rattle.range_states.specs.StateParts.{StateParts, AreEmpty, AreParts, known_from, parts_of}

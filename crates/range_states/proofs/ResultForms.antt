@@ -14,17 +14,22 @@ use Rattle.cil_model.specs.declared.instruction.BinOp.TheVariants as operators
 use Rattle.cil_model.specs.declared.machine.FaultKind.{FaultKind}
 use Rattle.cil_model.proofs.ArithmeticFits.{operated_fits}
 use Rattle.interval_domain.specs.Interval.{Interval, between}
-use Rattle.range_facts.specs.Addition.{plus, negated, takes, sum, difference}
+use Rattle.number_spans.specs.Sums.{plus, negated, takes}
+use Rattle.range_facts.specs.Addition.{sum, difference}
 use Rattle.range_facts.specs.Arith as rule
-use Rattle.range_facts.specs.Comparisons.{is_constant}
-use Rattle.range_facts.specs.Facts.{Facts, AreNarrow, constant, range_at, range_of}
-use Rattle.range_facts.specs.Fresh.{Made, range_without, noted, fresh, settled}
-use Rattle.range_facts.specs.Owed.{Shifts}
-use Rattle.range_facts.specs.Product.{is_the_constant, product}
+use Rattle.number_spans.specs.Constants.{is_constant}
+use Rattle.range_facts.specs.Facts.{Facts, AreNarrow, range_at, range_of}
+use Rattle.number_spans.specs.Constants.{constant}
+use Rattle.range_facts.specs.Fresh.{Made, noted, fresh, settled}
+use Rattle.number_spans.specs.Stored.{range_without}
+use Rattle.number_spans.specs.Owed.{Shifts}
+use Rattle.number_spans.specs.Product.{is_the_constant}
+use Rattle.range_facts.specs.Product.{product}
 use Rattle.range_facts.specs.Quotient.{quotient, unsigned_quotient}
 use Rattle.range_facts.specs.Remainder.{remainder, unsigned_remainder}
-use Rattle.range_facts.specs.Shifts.{IsAmount, shifted_left, shifted_right_unsigned}
-use Rattle.range_facts.specs.Spans.{is_int32, is_not_negative, moved}
+use Rattle.number_spans.specs.Shifts.{IsAmount}
+use Rattle.range_facts.specs.Shifts.{shifted_left, shifted_right_unsigned}
+use Rattle.number_spans.specs.Spans.{is_int32, is_not_negative, moved}
 use Rattle.range_facts.specs.declared.outcome.Outcome.{Outcome}
 use Rattle.range_facts.specs.declared.outcome.Outcome.TheVariants.{Is, Within}
 use Rattle.range_facts.proofs.ConstantValues.{no_symbol}

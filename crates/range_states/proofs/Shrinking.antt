@@ -10,10 +10,11 @@ use Rattle.cil_model.specs.declared.instruction.CmpOp.{CmpOp}
 use Rattle.cil_model.specs.declared.instruction.CmpOp.TheVariants as comparisons
 use Rattle.interval_domain.specs.Interval.{Interval, interval, between, one, is_hole, raised, lowered, lost, without}
 use Rattle.range_facts.specs.Assume as rule
-use Rattle.range_facts.specs.Facts.{Facts, constant, range_at, range_of}
-use Rattle.range_facts.specs.Fresh.{range_without}
+use Rattle.range_facts.specs.Facts.{Facts, range_at, range_of}
+use Rattle.number_spans.specs.Constants.{constant}
+use Rattle.number_spans.specs.Stored.{range_without}
 use Rattle.range_facts.specs.Gap.{at_most, equal}
-use Rattle.range_facts.specs.Spans.{is_one, is_not_negative}
+use Rattle.number_spans.specs.Spans.{is_one, is_not_negative}
 
 -- The ends of the second range lie within those of the first.
 abbrev EndsWithin : Interval → Interval → Type 0

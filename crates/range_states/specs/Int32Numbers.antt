@@ -9,7 +9,8 @@ use Rattle.cil_model.specs.Arithmetic.{LEAST, GREATEST}
 use Rattle.interval_domain.specs.Interval.{Interval, one, holed, inner_hole, is_inside}
 use Rattle.interval_domain.specs.Joins.{LEAST_32, GREATEST_32, LEAST_64, GREATEST_64, hull, kept_hole, floor_of, ceiling_of, lower_end, upper_end}
 use Rattle.interval_domain.specs.Joins as ranges
-use Rattle.range_facts.specs.Facts.{Facts, AreNarrow, IsNarrow, IsInner}
+use Rattle.range_facts.specs.Facts.{Facts, AreNarrow}
+use Rattle.number_spans.specs.Stored.{IsNarrow, IsInner}
 use Rattle.range_facts.proofs.ConstantValues.{no_symbol}
 use Rattle.range_states.specs.FrameFacts.{FrameFacts, HasForm, IsNumber}
 use Rattle.range_states.specs.Join.{joined}

@@ -5,9 +5,10 @@ use Rattle.cil_model.specs.declared.place.Place.{Place}
 use Rattle.cil_model.specs.declared.place.Place.TheVariants as places
 use Rattle.domain_api.specs.declared.expr.Expr.{Expr}
 use Rattle.interval_domain.specs.Interval.{Interval, between}
-use Rattle.range_facts.specs.Facts.{Facts, constant, range_of}
+use Rattle.range_facts.specs.Facts.{Facts, range_of}
+use Rattle.number_spans.specs.Constants.{constant}
 use Rattle.range_facts.specs.Fresh.{Made, noted}
-use Rattle.range_facts.specs.declared.span.Span.{Span}
+use Rattle.number_spans.specs.declared.span.Span.{Span}
 use Rattle.range_states.specs.FrameFacts.{FrameFacts, State}
 use Rattle.range_states.specs.NormalForm.{number_at, symbol}
 use Rattle.range_states.specs.Number.{copied}

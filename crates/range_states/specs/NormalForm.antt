@@ -4,7 +4,8 @@ use Rattle.std.specs.Prelude.{ℕ, ◌+◌, ◌==◌, pos, List, [], ◌∷◌, 
 use Rattle.std.specs.Option.{option_map}
 use Rattle.domain_api.specs.declared.expr.Expr.{Expr}
 use Rattle.interval_domain.specs.Interval.{Interval, interval}
-use Rattle.range_facts.specs.Facts.{Facts, constant, range_of}
+use Rattle.range_facts.specs.Facts.{Facts, range_of}
+use Rattle.number_spans.specs.Constants.{constant}
 use Rattle.range_states.specs.FrameFacts.{FrameFacts, State}
 use Rattle.range_states.specs.declared.number.Number.{Number}
 use Rattle.range_states.specs.declared.number.Number.TheVariants.{Constant, Among}

@@ -2,7 +2,7 @@
 use Rattle.std.specs.Prelude.{◌≡◌, ℤ, if◌then◌else◌}
 use Rattle.std.specs.Ordering.{int_eq}
 use Rattle.interval_domain.specs.Interval.{Interval, one}
-use Rattle.range_facts.specs.Facts.{Allows, IsNarrow}
+use Rattle.number_spans.specs.Stored.{Allows, IsNarrow}
 use Rattle.range_states.specs.declared.number.Number.{Number}
 use Rattle.range_states.specs.declared.number.Number.TheVariants.{Constant, Among}
 

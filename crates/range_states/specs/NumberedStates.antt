@@ -8,8 +8,9 @@ use Rattle.std.proofs.lemmas.Int.{ints}
 use Rattle.std.proofs.Math.Seq.{get_or-append_seam}
 use Rattle.domain_api.specs.declared.expr.Expr.{Expr}
 use Rattle.interval_domain.specs.Interval.{Interval, interval, one}
-use Rattle.range_facts.specs.Facts.{Facts, constant, range_at, range_of}
-use Rattle.range_facts.specs.Spans.{moved, moved_hole}
+use Rattle.range_facts.specs.Facts.{Facts, range_at, range_of}
+use Rattle.number_spans.specs.Constants.{constant}
+use Rattle.number_spans.specs.Spans.{moved, moved_hole}
 use Rattle.range_facts.proofs.ConstantValues.{no_symbol}
 use Rattle.range_states.specs.FrameFacts.{FrameFacts}
 use Rattle.range_states.specs.Inclusion.{numbered}

@@ -5,9 +5,11 @@ use Rattle.std.proofs.lemmas.Bool.{cond_both}
 use Rattle.domain_api.specs.declared.expr.Expr.{Expr}
 use Rattle.interval_domain.specs.Interval.{interval}
 use Rattle.range_facts.specs.Facts as numbers
-use Rattle.range_facts.specs.Facts.{Facts, Allows, AllowAll, constant, number_of, range_of, value}
-use Rattle.range_facts.specs.Spans.{Has}
-use Rattle.range_facts.specs.declared.span.Span.{Span}
+use Rattle.range_facts.specs.Facts.{Facts, AllowAll, number_of, range_of, value}
+use Rattle.number_spans.specs.Stored.{Allows}
+use Rattle.number_spans.specs.Constants.{constant}
+use Rattle.number_spans.specs.Spans.{Has}
+use Rattle.number_spans.specs.declared.span.Span.{Span}
 use Rattle.range_facts.proofs.Meaning.{range_has}
 use Rattle.range_facts.proofs.ConstantValues.{constant_value}
 use Rattle.range_states.specs.FrameFacts.{FrameFacts, HoldsOf}

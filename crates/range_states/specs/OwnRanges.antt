@@ -8,9 +8,10 @@ use Rattle.cil_model.specs.Arithmetic.{LEAST, GREATEST}
 use Rattle.interval_domain.specs.Interval.{Interval, interval, one, holed, inner_hole}
 use Rattle.interval_domain.specs.Arithmetic.{sum, shifted, near, moved_hole}
 use Rattle.interval_domain.specs.Ends.{near_below, near_above}
-use Rattle.range_facts.specs.Facts.{Facts, AreNarrow, IsNarrow, IsInner, range_at, range_of}
-use Rattle.range_facts.specs.Spans as spans
-use Rattle.range_facts.specs.Spans.{moved}
+use Rattle.range_facts.specs.Facts.{Facts, AreNarrow, range_at, range_of}
+use Rattle.number_spans.specs.Stored.{IsNarrow, IsInner}
+use Rattle.number_spans.specs.Spans as spans
+use Rattle.number_spans.specs.Spans.{moved}
 use Rattle.range_facts.proofs.Narrow.{narrow_range, constant_low}
 use Rattle.range_states.specs.FrameFacts.{IsNumber}
 

@@ -6,7 +6,7 @@ use Rattle.std.proofs.lemmas.Bool.{cond_both, and_parts}
 use Rattle.interval_domain.specs.Interval.{Interval, Contains, one}
 use Rattle.interval_domain.specs.Joins.{within}
 use Rattle.interval_domain.specs.JoinsContain as kept
-use Rattle.range_facts.specs.Facts.{Allows, IsNarrow}
+use Rattle.number_spans.specs.Stored.{Allows, IsNarrow}
 use Rattle.range_states.specs.Inclusion.{included}
 use Rattle.range_states.specs.Join.{joined}
 use Rattle.range_states.specs.Number.{MayBe, IsInt32, range_of_number}

@@ -3,7 +3,8 @@
 ghost use Rattle.std.specs.Prelude.{◌≡◌, ◌≤◌, length, OnOk};
 ghost use Rattle.std.specs.Option.{ForSome, option_and_then};
 ghost use Rattle.cil_model.specs.declared.instruction.Op.{Op};
-ghost use Rattle.range_facts.specs.Facts.{Facts, constant};
+ghost use Rattle.range_facts.specs.Facts.{Facts};
+ghost use Rattle.number_spans.specs.Constants.{constant};
 ghost use Rattle.range_states.specs.FrameFacts.{IsNumber};
 ghost use Rattle.range_states.specs.Avoiding as rule;
 ghost use Rattle.range_states.specs.Avoiding.{AssumesNo, AssumesNone};

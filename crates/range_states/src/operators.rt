@@ -4,7 +4,7 @@ ghost use Rattle.std.specs.Prelude.{◌≡◌, ◌≤◌, true, length, Some, If
 ghost use Rattle.std.specs.Option.{is_some};
 ghost use Rattle.interval_domain.specs.Arithmetic.{near};
 ghost use Rattle.range_facts.specs.Arith.{exact};
-ghost use Rattle.range_facts.specs.Owed.{Divides, Shifts};
+ghost use Rattle.number_spans.specs.Owed.{Divides, Shifts};
 ghost use Rattle.range_states.specs.Arithmetic as rule;
 ghost use Rattle.range_states.specs.Assumptions.{assuming};
 ghost use Rattle.range_states.specs.FrameFacts.{HasForm, IsNumber};

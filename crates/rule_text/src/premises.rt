@@ -3,8 +3,9 @@
 ghost use Rattle.std.specs.Prelude.{◌≡◌, ◌<◌, ◌≤◌, true, length, IfOk, OnOk, IsSome};
 ghost use Rattle.std.specs.List.{AllByRecursion};
 ghost use Rattle.std.specs.Option.{ForSome};
-ghost use Rattle.range_facts.specs.Facts.{AreNarrow, IsNarrow, IsThere};
-ghost use Rattle.range_facts.specs.Owed.{Divides, Shifts};
+ghost use Rattle.range_facts.specs.Facts.{AreNarrow, IsThere};
+ghost use Rattle.number_spans.specs.Stored.{IsNarrow};
+ghost use Rattle.number_spans.specs.Owed.{Divides, Shifts};
 ghost use Rattle.range_states.specs.FrameFacts.{IsNumber};
 ghost use Rattle.range_states.specs.RangeStates.{AreAlike};
 

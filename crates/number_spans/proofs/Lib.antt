@@ -1,0 +1,16 @@
+pub mod NoNumbers
+pub mod Products
+pub mod Ones
+pub mod Lost
+pub mod NarrowRanges
+pub mod Wrapping
+pub mod Moved
+pub mod Along
+pub mod SumLaws
+pub mod ProductLaws
+pub mod QuotientLaws
+pub mod RemainderLaws
+pub mod ShiftLaws
+pub mod BitLaws
+pub mod ComparingLaws
+pub mod OperatorLaws

@@ -1,0 +1,11 @@
+pub mod Sizes
+pub mod Spans
+pub mod Stored
+pub mod Constants
+pub mod Sums
+pub mod Product
+pub mod Quotient
+pub mod Remainder
+pub mod Bits
+pub mod Shifts
+pub mod Owed
