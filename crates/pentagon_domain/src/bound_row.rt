@@ -16,8 +16,8 @@ pub struct BoundRow {
 impl BoundRow {
     ghost use Rattle.pentagon_domain.specs.Rows.{is_pair, is_before, is_of};
 
-    /// Returns whether such a bound is stored: its symbols are distinct, and none is 0.
-    pub(crate) fn is_kept(&self) -> bool
+    /// Returns whether it is of two symbols of which a bound is stored: distinct ones, and none is 0.
+    pub(crate) fn is_pair(&self) -> bool
         ensures { result ≡ is_pair self.now.s self.now.t }
     {
         self.s != 0 && self.t != 0 && self.s != self.t

@@ -15,7 +15,7 @@ pub(crate) fn add(rows: &mut Vec<BoundRow>, row: BoundRow) -> Result<(), NoMemor
     ensures value { OnOk result (rows.new.items ≡ with_bound rows.old.items row.s row.t row.k) }
     ensures unchanged { OnErr result (rows.new.items ≡ rows.old.items) }
 {
-    if !row.is_kept() {
+    if !row.is_pair() {
         return Ok(());
     }
     let place = place_of(rows, row.s, row.t);

@@ -20,7 +20,7 @@ fn follows(previous: Option<BoundRow>, row: &BoundRow) -> bool
 fn stands_behind(previous: Option<BoundRow>, row: &BoundRow) -> bool
     ensures { result ≡ stands_behind previous row.now }
 {
-    row.is_kept() && follows(previous, row)
+    row.is_pair() && follows(previous, row)
 }
 
 /// Returns whether these are the rows of bounds: each of two symbols of which a bound is stored, and before all later

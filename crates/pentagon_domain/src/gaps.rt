@@ -25,6 +25,14 @@ fn cut(exact: i128) -> Option<i64>
     }
 }
 
+/// A constant as a gap: it has 64 bits.
+#[tactic(auto, unfolding(crate::specs::Gaps::cut))]
+fn fitting(k: i64) -> Option<i64>
+    ensures { result ≡ cut k }
+{
+    Some(k)
+}
+
 /// The sum of two constants.
 pub(crate) fn sum_of(a: i64, b: i64) -> i128
     ensures { result ≡ a +ℤ b }
@@ -132,10 +140,7 @@ impl Bounds {
     pub(crate) fn stored_gap(&self, s: u32, t: u32) -> Option<i64>
         ensures { result ≡ option_and_then cut (stored self.now s t) }
     {
-        match self.stored(s, t) {
-            None => None,
-            Some(k) => cut(i128::from(k)),
-        }
+        fitting(self.stored(s, t)?)
     }
 
     /// The greater of a gap and of what a bound tells with the one behind it that goes to a symbol.

@@ -5,7 +5,7 @@ use crate::words::{expr, reference};
 use domain_api::Expr;
 use rule_text::{Failure, append_number, asked, check};
 use std::alloc::{AllocError, Global};
-use symbolic_values::{Def, Pairs};
+use symbolic_values::{Def, Pairs, ReferencePairs};
 
 /// The definition of two numbers, by its name.
 fn of_numbers(name: &str, x: Expr, y: Expr) -> Option<Def> {
@@ -65,7 +65,7 @@ fn definition_text(alloc: Global, found: Option<Def>) -> Result<String, AllocErr
 pub fn named(
     alloc: Global,
     numbers: &Pairs,
-    references: &Pairs,
+    references: &ReferencePairs,
     argument: &str,
 ) -> Result<(), Failure> {
     let (question, told) = asked(argument)?;

@@ -8,7 +8,7 @@ use crate::words::{expr, expr_text, exprs, reference, separate};
 use domain_api::Expr;
 use rule_text::{Failure, append_number, asked, check, two_words};
 use std::alloc::{AllocError, Global};
-use symbolic_values::{Env, Pairs, first_use_order, pair_up, renamed};
+use symbolic_values::{Env, Pairs, ReferencePairs, first_use_order, pair_up, renamed};
 
 /// The constant of a number is one of -2^32 to 2^32.
 fn is_near(e: Expr) -> bool
@@ -75,28 +75,28 @@ pub fn pair(alloc: Global, argument: &str) -> Result<Pairs, Failure> {
     paired(alloc, &a, &b)
 }
 
-/// The references of a list of words, as symbols with the constant 0.
-fn reference_exprs(alloc: Global, text: &str) -> Result<Vec<Expr>, Failure> {
-    let mut exprs = Vec::new(alloc);
+/// The references of a list of words.
+fn references(alloc: Global, text: &str) -> Result<Vec<u32>, Failure> {
+    let mut references = Vec::new(alloc);
     for word in text.split_whitespace() {
-        exprs.push(Expr {
-            sym: reference(word)?,
-            k: 0,
-        })?;
+        references.push(reference(word)?)?;
     }
-    Ok(exprs)
+    Ok(references)
 }
 
 /// `pair-references r1 null | r2 r2`: the references of two states, named together.
-pub fn pair_references(alloc: Global, argument: &str) -> Result<Pairs, Failure> {
+pub fn pair_references(alloc: Global, argument: &str) -> Result<ReferencePairs, Failure> {
     let (a, b) = two_sides(argument)?;
-    let a = Env {
-        exprs: reference_exprs(alloc, a)?,
-    };
-    let b = Env {
-        exprs: reference_exprs(alloc, b)?,
-    };
-    paired(alloc, &a, &b)
+    let a = references(alloc, a)?;
+    let b = references(alloc, b)?;
+    if a.len() != b.len() {
+        return Err(Failure::Unmet("both states have as many references"));
+    }
+    Ok(symbolic_values::pair_references(
+        alloc,
+        a.as_slice(),
+        b.as_slice(),
+    )?)
 }
 
 /// `keys s1 s2 -3 3, s0 s1 2 0`: the keys in order, each with its symbols, its shift and the constant of its first use.
@@ -132,8 +132,29 @@ pub fn names(alloc: Global, pairs: &Pairs, told: &str) -> Result<(), Failure> {
     check(names_text(alloc, again.exprs.as_slice())?, told)
 }
 
-/// `reference-names r1 null`: the new reference of each pair.
-pub fn reference_names(alloc: Global, pairs: &Pairs, told: &str) -> Result<(), Failure> {
+/// `own-names 3 = 0 s2-1 none`: the new numbers of so many symbols, from symbol 0 on, where a state is paired with
+/// itself.
+pub fn own_names(alloc: Global, pairs: &Pairs, argument: &str) -> Result<(), Failure> {
+    let (count, told) = asked(argument)?;
+    let Ok(count) = count.parse::<u16>() else {
+        return Err(Failure::Unread("how many symbols"));
+    };
+    let mut text = String::new(alloc);
+    for (index, name) in pairs.names(alloc, usize::from(count))?.iter().enumerate() {
+        separate(&mut text, index, " ")?;
+        text.push_str(&expr_text(alloc, *name)?)?;
+    }
+    check(text, told)
+}
+
+/// `reference-names r1 null`: the new reference of each pair, and also those of a copy.
+pub fn reference_names(alloc: Global, pairs: &ReferencePairs, told: &str) -> Result<(), Failure> {
+    check(references_text(alloc, &pairs.pairs)?, told)?;
+    check(references_text(alloc, &pairs.copy(alloc)?.pairs)?, told)
+}
+
+/// The text of the new references.
+fn references_text(alloc: Global, pairs: &Pairs) -> Result<String, AllocError> {
     let mut text = String::new(alloc);
     if pairs.exprs.is_empty() {
         text.push_str("none")?;
@@ -145,14 +166,17 @@ pub fn reference_names(alloc: Global, pairs: &Pairs, told: &str) -> Result<(), F
             sym => write!(text, "r{sym}")?,
         }
     }
-    check(text, told)
+    Ok(text)
 }
 
-/// `named s1+3 s2+3 = s1`: the new number of two, by the keys that are known.
+/// `named s1+3 s2+3 = s1`: the new number of two, by the keys that are known, and also by those of a copy.
 pub fn named(alloc: Global, pairs: &Pairs, argument: &str) -> Result<(), Failure> {
     let (question, told) = asked(argument)?;
     let (e, f) = two_words(question)?;
-    check(expr_text(alloc, pairs.named(expr(e)?, expr(f)?))?, told)
+    let (e, f) = (expr(e)?, expr(f)?);
+    check(expr_text(alloc, pairs.named(e, f))?, told)?;
+    let again = pairs.copy(alloc)?;
+    check(expr_text(alloc, again.named(e, f))?, told)
 }
 
 /// `first-uses s3 s1+2 = s3 s1`: the symbols in the order of their first uses.

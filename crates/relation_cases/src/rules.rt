@@ -6,7 +6,7 @@ use domain_api::{Expr, Paired};
 use pentagon_domain::Bounds;
 use rule_text::{Failure, Line, Rules};
 use std::alloc::Global;
-use symbolic_values::Pairs;
+use symbolic_values::{Pairs, ReferencePairs};
 
 /// What is known in a case that is run.
 #[derive(Drop)]
@@ -21,7 +21,7 @@ pub struct RelationRules {
     /// The numbers of two states, named together.
     numbers: Option<Pairs>,
     /// The references of two states, named together.
-    references: Option<Pairs>,
+    references: Option<ReferencePairs>,
     /// The new names of symbols, from symbol 0 on.
     symbol_names: Vec<Option<Expr>>,
     /// The new names of references, from reference 0 on.
@@ -29,7 +29,7 @@ pub struct RelationRules {
 }
 
 /// The pairs before an answer.
-fn current(pairs: &Option<Pairs>) -> Result<&Pairs, Failure> {
+fn current<T>(pairs: &Option<T>) -> Result<&T, Failure> {
     match pairs {
         Some(pairs) => Ok(pairs),
         None => Err(Failure::Unread("pairs before this line")),
@@ -77,6 +77,7 @@ impl RelationRules {
             "keys" => name_rules::keys(alloc, current(&self.numbers)?, argument),
             "names" => name_rules::names(alloc, current(&self.numbers)?, argument),
             "named" => name_rules::named(alloc, current(&self.numbers)?, argument),
+            "own-names" => name_rules::own_names(alloc, current(&self.numbers)?, argument),
             "reference-names" => {
                 name_rules::reference_names(alloc, current(&self.references)?, argument)
             }

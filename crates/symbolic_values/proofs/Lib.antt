@@ -8,3 +8,4 @@ pub mod MeaningLaws
 pub mod PairedMeaning
 pub mod SymbolUses
 pub mod OwnNameLaws
+pub mod ReferenceLaws

@@ -1,5 +1,5 @@
 -- What is named otherwise says the same.
-use Rattle.std.proofs.Common.{◌≡◌, ℕ, ℤ, pos, ◌+ℤ◌, ◌-ℤ◌, Bool, true, false, int_lt, if◌then◌else◌, List, get_or, Option, None, Some, refl, sym, ap, ◌∙◌, arith}
+use Rattle.std.proofs.Common.{◌≡◌, ℕ, ℤ, pos, ◌+ℤ◌, ◌-ℤ◌, Bool, true, false, int_lt, if◌then◌else◌, List, get_or, Option, None, Some, IfSome, refl, sym, ap, ◌∙◌, arith}
 use Rattle.std.specs.Ordering.{int_eq}
 use Rattle.std.proofs.lemmas.Int.{ints}
 use Rattle.std.proofs.lemmas.Bool.Decides.{Decides-int_eq}
@@ -7,18 +7,15 @@ use Rattle.domain_api.specs.declared.expr.Expr.{Expr}
 use Rattle.symbolic_values.specs.declared.def.Def.{Def}
 use Rattle.symbolic_values.specs.declared.def.Def.TheVariants.{Eq, Lt, LtUn, NullTest, Sub}
 use Rattle.symbolic_values.specs.Names.{moved, renamed, renamed_more, renamed_above, of_both, null_test, renamed_def, same_flag}
-use Rattle.symbolic_values.specs.Worth.{worth}
-use Rattle.symbolic_values.specs.Meaning.{truth, told}
+use Rattle.symbolic_values.specs.Worth.{NamesAgree, worth}
+use Rattle.symbolic_values.specs.Meaning.{ReferencesAgree, truth, told}
+
+-- What is there has the property.
+pub each_some : {X : Type 0} (P : X → Type 0) (found : Option X) → ((x : X) → found ≡ Some x → P x) → IfSome found P
+each_some P None each = tt
+each_some P (Some x) each = each x refl
 
 -- ---- names of symbols
-
--- The number of each symbol is that of its name.
-abbrev pub NamesAgree : List (Option Expr) → (ℕ → ℤ) → (ℕ → ℤ) → Type 0
-NamesAgree names number later = (s : ℕ) (name : Expr) → get_or names s None ≡ Some name → number s ≡ worth later name
-
--- Each reference is null where its name is.
-abbrev pub ReferencesAgree : List (Option ℕ) → (ℕ → Bool) → (ℕ → Bool) → Type 0
-ReferencesAgree names is_null later = (r q : ℕ) → get_or names r None ≡ Some q → is_null r ≡ later q
 
 pub fitting_is : (symbol : ℕ) (k : ℤ) (e : Expr) (outside : Bool) → (if outside then None else Some (record { sym = symbol; k = k })) ≡ Some e
     → record { sym = symbol; k = k } ≡ e

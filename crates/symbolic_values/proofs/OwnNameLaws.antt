@@ -12,8 +12,7 @@ use Rattle.symbolic_values.specs.declared.pairs.Key.{Key}
 use Rattle.symbolic_values.specs.Pairing.{Pairing, same_key, origin, use_of}
 use Rattle.symbolic_values.specs.Names.{as_expr, named_at, paired_expr, are_same_constant}
 use Rattle.symbolic_values.specs.OwnNames.{own_name, own_names, is_own, with_own}
-use Rattle.symbolic_values.specs.Worth.{worth, behind_uses}
-use Rattle.symbolic_values.proofs.MeaningLaws.{NamesAgree}
+use Rattle.symbolic_values.specs.Worth.{NamesAgree, worth, behind_uses}
 use Rattle.symbolic_values.proofs.PairedMeaning.{paired_expr_worth}
 use Rattle.symbolic_values.proofs.Keys.{HaveOneKey, same_key_is}
 

@@ -12,7 +12,7 @@ use Rattle.symbolic_values.specs.declared.pairs.Key.{Key}
 use Rattle.symbolic_values.specs.Pairing.{Pairing, same_key, origin, use_of}
 use Rattle.symbolic_values.specs.Names.{fitting, named_at, are_same_constant, paired_expr, as_expr, symbol_of, paired_reference, null_test, where_same, paired_def}
 use Rattle.symbolic_values.specs.Worth.{worth, worth_of_use, behind_uses}
-use Rattle.symbolic_values.specs.Meaning.{truth, told}
+use Rattle.symbolic_values.specs.Meaning.{null_behind, truth, told}
 use Rattle.symbolic_values.proofs.Keys.{HaveOneKey, same_key_is}
 use Rattle.symbolic_values.proofs.WorthLaws.{worth_later, zero_behind}
 use Rattle.symbolic_values.proofs.MeaningLaws.{fitting_is, both_told, null_told}
@@ -84,10 +84,6 @@ paired_expr_worth is_first number pairs e f g is = by (are_same_constant e f) re
     by false constant made = named_by is_first number pairs e f g (position (same_key (use_of e f)) pairs.keys) refl made
 
 -- ---- definitions
-
--- Which references are null behind the keys of paired references: those whose first use is on that side.
-abbrev pub null_behind : Bool → (ℕ → Bool) → List Key → ℕ → Bool
-null_behind is_first is_null known n = is_null (if is_first then (get_or known n origin).s else (get_or known n origin).t)
 
 reference_at : (is_first : Bool) (is_null : ℕ → Bool) (keys : List Key) (r q p place : ℕ) → same_key (use_of (as_expr r) (as_expr q)) (get_or keys place origin) ≡ true
     → place + 1 ≡ p → null_behind is_first is_null (origin ∷ keys) p ≡ is_null (if is_first then r else q)

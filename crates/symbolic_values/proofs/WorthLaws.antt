@@ -1,5 +1,5 @@
 -- A named expression is worth what was named, on either side.
-use Rattle.std.proofs.Common.{◌≡◌, ℕ, suc, ◌<◌, ℤ, ◌+ℤ◌, ◌-ℤ◌, Bool, true, false, if◌then◌else◌, List, [], ◌∷◌, length, get_or, map, refl, sym, ap, subst, ◌∙◌, arith, length-append}
+use Rattle.std.proofs.Common.{◌≡◌, ℕ, suc, ◌<◌, ◌≤◌, ℤ, ◌+ℤ◌, ◌-ℤ◌, Bool, true, false, if◌then◌else◌, List, [], ◌∷◌, length, get_or, map, refl, sym, ap, subst, ◌∙◌, arith, length-append}
 use Rattle.std.proofs.lemmas.Int.{ints}
 use Rattle.std.specs.List.{AllByRecursion, position_or_len}
 use Rattle.std.proofs.lemmas.List.Sums.{passes_at_first}
@@ -87,15 +87,22 @@ paired_worth is_first number a b same =
     ∙ all_named_worth is_first number (known_in a b) (uses_of a b) (all_known (origin ∷ []) (uses_of a b))
     ∙ uses_worth is_first number a b same
 
+inside_last : (n m : ℕ) → n < suc m → n ≤ m
+inside_last n m below = omega (arith, below)
+
+all_inside : (m : ℕ) (exprs : List Expr) → AllByRecursion (λ (e : Expr). e.sym < suc m) exprs → AllByRecursion (λ (e : Expr). e.sym ≤ m) exprs
+all_inside m [] all = tt
+all_inside m (e ∷ exprs) all = (inside_last e.sym m all.0, all_inside m exprs all.1)
+
 all_there : (known us : List Key) → AllKnown known us → AllByRecursion (λ (e : Expr). e.sym < length known) (map (named known) us)
 all_there known [] all = tt
 all_there known (u ∷ us) all = (all.0, all_there known us all.1)
 
 -- Each symbol of a new expression is 0 or that of one of the keys.
-pub paired_there : (a b : List Expr) → AllByRecursion (λ (e : Expr). e.sym < suc (length (paired a b).keys)) (paired a b).exprs
+pub paired_there : (a b : List Expr) → AllByRecursion (λ (e : Expr). e.sym ≤ length (paired a b).keys) (paired a b).exprs
 paired_there a b =
-    subst (λ known. AllByRecursion (λ (e : Expr). e.sym < length known) (paired a b).exprs) (origin_first [] (uses_of a b))
-    (all_there (known_in a b) (uses_of a b) (all_known (origin ∷ []) (uses_of a b)))
+    all_inside (length (paired a b).keys) (paired a b).exprs (subst (λ known. AllByRecursion (λ (e : Expr). e.sym < length known) (paired a b).exprs) (origin_first [] (uses_of a b))
+    (all_there (known_in a b) (uses_of a b) (all_known (origin ∷ []) (uses_of a b))))
 
 -- Two uses of one key share a symbol.
 pub one_symbol : (known : List Key) (u v : Key) → same_key u v ≡ true → (named known u).sym ≡ (named known v).sym

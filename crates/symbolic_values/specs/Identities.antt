@@ -2,7 +2,7 @@
 use Rattle.std.specs.Prelude.{Bool, ◌&&◌, ◌==◌}
 use Rattle.std.specs.Ordering.{int_eq}
 use Rattle.symbolic_values.specs.declared.pairs.Key.{Key}
-use Rattle.symbolic_values.specs.declared.uses.Identity.{Identity}
+use Rattle.symbolic_values.specs.declared.identity.Identity.{Identity}
 
 -- The symbols and the shift of a key.
 abbrev pub identity_of : Key → Identity

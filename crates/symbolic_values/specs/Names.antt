@@ -1,11 +1,11 @@
 -- Expressions and definitions in other names.
-use Rattle.std.specs.Prelude.{ℕ, ◌+◌, nat_lt, ◌==◌, ℤ, pos, negsuc, ◌+ℤ◌, ◌-ℤ◌, Bool, true, false, not, ◌&&◌, ◌||◌, int_lt, List, get_or, Option, None, Some, if◌then◌else◌}
+use Rattle.std.specs.Prelude.{ℕ, ◌+◌, nat_lt, ◌==◌, ℤ, pos, negsuc, ◌+ℤ◌, ◌-ℤ◌, Bool, true, false, not, ◌&&◌, ◌||◌, int_lt, List, get_or, map, Option, None, Some, if◌then◌else◌}
 use Rattle.std.specs.List.{position}
 use Rattle.std.specs.Ordering.{int_eq}
 use Rattle.domain_api.specs.declared.expr.Expr.{Expr}
 use Rattle.symbolic_values.specs.declared.def.Def.{Def}
 use Rattle.symbolic_values.specs.declared.def.Def.TheVariants.{Eq, Lt, LtUn, NullTest, Sub}
-use Rattle.symbolic_values.specs.Pairing.{Pairing, same_key, origin, use_of}
+use Rattle.symbolic_values.specs.Pairing.{Pairing, paired, same_key, origin, use_of}
 
 -- ---- expressions
 
@@ -43,6 +43,10 @@ paired_expr pairs e f =
 -- References pair as expressions without a constant do.
 abbrev pub as_expr : ℕ → Expr
 as_expr r = record { sym = r; k = pos 0 }
+
+-- The references of two lists, named together.
+abbrev pub paired_references : List ℕ → List ℕ → Pairing
+paired_references a b = paired (map as_expr a) (map as_expr b)
 
 abbrev pub symbol_of : Option Expr → Option ℕ
 symbol_of None = None

@@ -7,7 +7,7 @@ use Rattle.indexmap.specs.IndexSet.{IndexSet}
 use Rattle.symbolic_values.specs.declared.pairs.Key.{Key}
 use Rattle.symbolic_values.specs.Identities.{identity_of}
 use Rattle.symbolic_values.specs.NearUses.{IsNearUse}
-use Rattle.symbolic_values.specs.declared.uses.Identity.{Identity}
+use Rattle.symbolic_values.specs.declared.identity.Identity.{Identity}
 
 -- Where there is a table, it has these keys in order.
 abbrev pub IsTableOf : Option (IndexSet Identity (BuildHasherDefault FoldHasher)) → List Key → Type 0

@@ -4,10 +4,12 @@
 
 mod def;
 mod env;
+mod identity;
 mod naming;
 mod own_names;
 mod pairing;
 mod pairs;
+mod references;
 mod renaming;
 mod uses;
 
@@ -15,4 +17,5 @@ pub use def::Def;
 pub use env::Env;
 pub use pairing::{first_use_order, pair_up};
 pub use pairs::{Key, Pairs};
+pub use references::{ReferencePairs, pair_references};
 pub use renaming::renamed;

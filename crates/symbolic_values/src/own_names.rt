@@ -1,7 +1,9 @@
 //! The names of a state's symbols, where the state is paired with itself.
 
-ghost use Rattle.std.specs.Prelude.{◌≡◌, ◌<◌, length, IfOk, None, pos, set};
+ghost use Rattle.std.specs.Prelude.{◌≡◌, ◌<◌, ℕ, ℤ, ◌∷◌, true, length, IfOk, None, pos, set};
 ghost use Rattle.symbolic_values.specs.OwnNames.{is_own, own_names, with_own};
+ghost use Rattle.symbolic_values.specs.Pairing.{origin};
+ghost use Rattle.symbolic_values.specs.Worth.{NamesAgree, behind_uses};
 
 use crate::pairs::{Key, Pairs};
 use domain_api::{Expr, NoMemory};
@@ -43,6 +45,8 @@ impl Pairs {
     /// Cost: one pass over the keys, and one over the names.
     pub fn names(&self, alloc: Global, count: usize) -> Result<Vec<Option<Expr>>, NoMemory>
         ensures value { IfOk result (λ names. names.items ≡ own_names self.now count) }
+        ensures agree { IfOk result (λ names. (number : ℕ → ℤ) →
+            NamesAgree names.items number (behind_uses true number (origin ∷ self.now.keys))) }
     {
         let mut names = vec![in alloc; None; count]?;
         let mut left = self.keys.len();

@@ -1,8 +1,10 @@
 //! Pairing the expressions of two states.
 
-ghost use Rattle.std.specs.Prelude.{◌≡◌, [], ◌∷◌, length, map, IfOk};
+ghost use Rattle.std.specs.Prelude.{◌≡◌, ◌≤◌, [], ◌∷◌, length, map, IfOk};
+ghost use Rattle.std.specs.List.{AllByRecursion};
 ghost use Rattle.symbolic_values.specs.FirstUses.{first_uses};
 ghost use Rattle.symbolic_values.specs.Pairing.{AreNear, behind_first, origin, paired, same_key, symbol_use, symbols_by_first_use};
+ghost use Rattle.symbolic_values.specs.Worth.{AreWorthBoth};
 
 use crate::env::Env;
 use crate::pairs::{Key, Pairs};
@@ -11,7 +13,7 @@ use domain_api::{Expr, NoMemory};
 use std::alloc::Global;
 
 /// Two lists of expressions named together.
-fn pair(alloc: Global, a: &[Expr], b: &[Expr]) -> Result<Pairs, NoMemory>
+pub(crate) fn pair(alloc: Global, a: &[Expr], b: &[Expr]) -> Result<Pairs, NoMemory>
     requires same_length { length a.now ≡ length b.now }
     requires first { AreNear a.now }
     requires second { AreNear b.now }
@@ -23,22 +25,30 @@ fn pair(alloc: Global, a: &[Expr], b: &[Expr]) -> Result<Pairs, NoMemory>
         let used = Key::of(a[index], b[index]);
         exprs.push(uses.named(&used)?)?;
     }
-    Ok(Pairs {
-        keys: uses.into_keys(),
-        exprs,
-    })
+    Ok(uses.into_pairs(exprs))
 }
 
 /// The expressions of two states named together, place by place.
 ///
 /// A pair of s + k and t + l has the key of s, t and l - k. Keys are numbered from 1 on by their first uses, in the
 /// order of the lists: the variables before the lengths. A pair's new expression is the symbol of its key and k less
-/// the k of the key's first use. Two equal constants stay that constant. References pair as their numbers do, taken
-/// as symbols with the constant 0.
+/// the k of the key's first use. Two equal constants stay that constant.
 ///
 /// Cost: up to 16 expressions look their keys up one by one, more by a table, each once. `NoMemory` where memory runs
 /// out, and where a symbol would need more than 32 bits.
 pub fn pair_up(alloc: Global, a: &Env, b: &Env) -> Result<Pairs, NoMemory>
+    requires same_length { length a.now ≡ length b.now }
+    requires first { AreNear a.now }
+    requires second { AreNear b.now }
+    ensures value { IfOk result (λ pairs. pairs ≡ paired a.now b.now) }
+    ensures worth { IfOk result (AreWorthBoth a.now b.now) }
+    ensures named { IfOk result (λ pairs. AllByRecursion (λ e. e.sym ≤ length pairs.keys) pairs.exprs) }
+{
+    pair_envs(alloc, a, b)
+}
+
+/// The expressions of two states named together.
+fn pair_envs(alloc: Global, a: &Env, b: &Env) -> Result<Pairs, NoMemory>
     requires same_length { length a.now ≡ length b.now }
     requires first { AreNear a.now }
     requires second { AreNear b.now }

@@ -1,6 +1,7 @@
 //! Expressions and definitions in other names.
 
-ghost use Rattle.std.specs.Prelude.{◌≡◌, ◌+ℤ◌, ◌≤ℤ◌, None, get_or, negsuc, pos};
+ghost use Rattle.std.specs.Prelude.{◌≡◌, ◌+ℤ◌, ◌≤ℤ◌, IfSome, None, get_or, negsuc, pos};
+ghost use Rattle.symbolic_values.specs.Meaning.{SaysMore, SaysSame};
 ghost use Rattle.symbolic_values.specs.Names.{fitting, renamed, renamed_above, renamed_def, renamed_more};
 
 use crate::def::Def;
@@ -71,9 +72,8 @@ fn renamed_more(e: Expr, more: i64, names: &[Option<Expr>]) -> Option<Expr>
 }
 
 impl Def {
-    /// The definition, where each symbol is worth the expression at its place, and each reference is the one at its
-    /// place. None where there is none at one of these places, or where a constant leaves 64 bits.
-    pub fn renamed(self, symbols: &[Option<Expr>], references: &[Option<u32>]) -> Option<Def>
+    /// The definition in other names.
+    fn in_names(self, symbols: &[Option<Expr>], references: &[Option<u32>]) -> Option<Def>
         ensures { result ≡ renamed_def symbols.now references.now self }
     {
         match self {
@@ -85,10 +85,8 @@ impl Def {
         }
     }
 
-    /// In other names, the definition of what is greater by `more` than the symbol that this one defines: of a
-    /// difference, `more` is added to the first expression, and any other is None unless `more` is 0. None too where
-    /// a symbol or the reference has no name, or where a constant of the outcome leaves 64 bits.
-    pub fn renamed_above(
+    /// In other names, the definition of what is greater by `more`.
+    fn in_names_above(
         self,
         more: i64,
         symbols: &[Option<Expr>],
@@ -98,8 +96,32 @@ impl Def {
     {
         match self {
             Def::Sub(x, y) => Some(Def::Sub(renamed_more(x, more, symbols)?, renamed(y, symbols)?)),
-            _ if more == 0 => self.renamed(symbols, references),
+            _ if more == 0 => self.in_names(symbols, references),
             _ => None,
         }
+    }
+
+    /// The definition, where each symbol is worth the expression at its place, and each reference is the one at its
+    /// place. None where there is none at one of these places, or where a constant leaves 64 bits.
+    pub fn renamed(self, symbols: &[Option<Expr>], references: &[Option<u32>]) -> Option<Def>
+        ensures value { result ≡ renamed_def symbols.now references.now self }
+        ensures says { IfSome result (SaysSame symbols.now references.now self) }
+    {
+        self.in_names(symbols, references)
+    }
+
+    /// In other names, the definition of what is greater by `more` than the symbol that this one defines: of a
+    /// difference, `more` is added to the first expression, and any other is None unless `more` is 0. None too where
+    /// a symbol or the reference has no name, or where a constant of the outcome leaves 64 bits.
+    pub fn renamed_above(
+        self,
+        more: i64,
+        symbols: &[Option<Expr>],
+        references: &[Option<u32>],
+    ) -> Option<Def>
+        ensures value { result ≡ renamed_above more symbols.now references.now self }
+        ensures says { IfSome result (SaysMore more symbols.now references.now self) }
+    {
+        self.in_names_above(more, symbols, references)
     }
 }

@@ -7,22 +7,12 @@ ghost use Rattle.symbolic_values.specs.Pairing.{IsNear, named, number_in, origin
 ghost use Rattle.symbolic_values.specs.NearUses.{IsNearUse};
 ghost use Rattle.symbolic_values.specs.Identities.{identity_of};
 
-use crate::pairs::Key;
+use crate::identity::{FEW, Identity};
+use crate::pairs::{Key, Pairs};
 use domain_api::{Expr, NoMemory};
 use indexmap::IndexSet;
 use std::alloc::{AllocError, Global};
 use std::marker::Model;
-
-/// Up to so many keys are found one by one.
-const FEW: usize = 16;
-
-/// The parts of a key that tell it apart from others.
-#[derive(Clone, Copy, Debug, PartialEq, Eq, Hash)]
-pub(crate) struct Identity {
-    s: u32,
-    t: u32,
-    shift: i64,
-}
 
 /// The keys that were used so far, but for that of two equal constants, in the order of their first uses. Contracts see
 /// the list.
@@ -108,19 +98,6 @@ fn place_in_few(keys: &mut Vec<Key>, used: &Key) -> Result<usize, NoMemory>
             let place = keys.len();
             keys.push(*used)?;
             Ok(place)
-        }
-    }
-}
-
-impl Identity {
-    /// Returns the parts that tell a key apart from others.
-    fn of(key: &Key) -> Identity
-        ensures { result ≡ identity_of key.now }
-    {
-        Identity {
-            s: key.s,
-            t: key.t,
-            shift: key.shift,
         }
     }
 }
@@ -223,6 +200,14 @@ impl Uses {
         }
         self.place_of(used)?;
         Ok(())
+    }
+
+    /// The keys, with the new expressions.
+    pub(crate) fn into_pairs(self, exprs: Vec<Expr>) -> Pairs
+        ensures { result ≡ record { keys = self; exprs = exprs.items } }
+    {
+        let Uses { keys, table } = self;
+        Pairs::with_table(keys, exprs, table)
     }
 
     /// The keys.

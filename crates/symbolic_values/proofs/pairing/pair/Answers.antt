@@ -1,4 +1,4 @@
-use Rattle.std.proofs.Common.{sym, subst}
+use Rattle.std.proofs.Common.{sym, subst, ◌∙◌}
 use Rattle.symbolic_values.proofs.Pairings.{PairsSoFar, pairs_step, pairs_end}
 use Rattle.symbolic_values.proofs.pairing.pair.Goals as goal
 
@@ -11,5 +11,6 @@ loop-index-preserved c =
 
 pub returns : goal.returns
 returns c =
-    pairs_end c.args.a.now c.args.b.now c.loop-index.index _ c.loop-index.exprs.items c.loop-index-test.false c.requires.same_length
-    (subst (λ known. PairsSoFar c.args.a.now c.args.b.now c.loop-index.index known c.loop-index.exprs.items) (sym c.into_keys.ensures) c.loop-index.invariant)
+    c.into_pairs.ensures
+    ∙ pairs_end c.args.a.now c.args.b.now c.loop-index.index c.loop-index.uses c.loop-index.exprs.items c.loop-index-test.false c.requires.same_length
+    c.loop-index.invariant
