@@ -1,13 +1,17 @@
 -- Steps of the machine are those of the run that it does.
 use Rattle.std.specs.Prelude.{unwrap_or}
-use Rattle.std.proofs.Common.{◌≡◌, ◌≢◌, ℕ, suc, ◌+◌, ◌-◌, ◌<◌, ◌≤◌, min, false, is_some, Option, Some, None, IfSome, refl, sym, ap, subst, ◌∙◌, arith}
+use Rattle.std.proofs.Common.{◌≡◌, ◌≢◌, ℕ, zero, suc, ◌+◌, ◌-◌, ◌<◌, ◌≤◌, min, false, is_some, Option, Some, None, IfSome, refl, sym, ap, subst, ◌∙◌, arith}
+use Rattle.cil_model.specs.Runs.{Step, StepsTo}
+use Rattle.cil_model.specs.declared.machine.Config.{Config}
 use Rattle.cil_model.specs.declared.machine.World.{World}
 use Rattle.cil_eval.specs.Held.{Holds, Turned}
-use Rattle.cil_eval.specs.Machines.{Advances, ComesTo, GoesOn, IsLive, IsRun, IsSameMachine, Leads, Machinery, StopsIn, end_after, state_after}
-use Rattle.cil_eval.specs.Outcome.{State, Turn, To, Ends, Stuck, last_state, outcome, turn}
+use Rattle.cil_eval.specs.MachineSteps.{EndsAfter, EndsBy}
+use Rattle.cil_eval.specs.Machines.{Advances, ComesBySteps, ComesTo, GoesOn, IsLive, IsOneStep, IsRun, IsSameMachine, Leads, Machinery, StopsIn, end_after, state_after}
+use Rattle.cil_eval.specs.Outcome.{State, Turn, To, Ends, Stuck, config_of, last_state, outcome, turn}
 use Rattle.cil_eval.specs.declared.limits.Limits.{Limits}
 use Rattle.cil_eval.specs.declared.stop.Stop.{Stop}
 use Rattle.cil_eval.specs.declared.stop.Stop.TheVariants as stops
+use Rattle.cil_eval.proofs.TurnSteps.{Comes, turn_steps}
 
 -- ---- the definition, one step on
 
@@ -48,6 +52,16 @@ module _ (w : World) (limits : Limits) where
       by (Ends stop) = refl
       by Stuck = refl
 
+  -- A run that goes on and on has an end, whatever the limit on its steps.
+  pub has_end : (n : ℕ) (s : State) → GoesOn w limits n s → outcome w limits n s ≢ None
+  has_end zero s on = λ none. absurd (let both = sym (none_left s) ∙ none in cc)
+  has_end (suc n) s on = λ none. by (turn w limits s) (λ next onward. has_end n next onward) on.1 (sym (one_more n s) ∙ none)
+    where
+      by : (t : Turn) → ((next : State) → GoesOn w limits n next → outcome w limits n next ≢ None) → Leads (GoesOn w limits n) t → behind_turn t n ≡ None → ⊥
+      by (To next) later onward none = later next onward none
+      by (Ends stop) later onward none = cc
+      by Stuck later onward none = onward
+
 -- ---- a step of a live machine
 
 module _ (old new : Machinery) (start : State) (live : IsLive old start) (world : new.world ≡ old.world) (limits : new.limits ≡ old.limits)
@@ -77,11 +91,27 @@ module _ (old new : Machinery) (start : State) (live : IsLive old start) (world 
   leads : (n : ℕ) → Leads (GoesOn w l n) (turn w l live.state)
   leads n = (live.onward (suc n)).1
 
+  step_of : (t : Turn) → turn w l live.state ≡ t → Comes l (Step w (config_of live.state)) t
+  step_of t e = subst (Comes l (Step w (config_of live.state))) e (turn_steps w l live.state)
+
+  steps_on : (c : Config) → Step w (config_of live.state) c → StepsTo (Step new.world) (config_of start) new.taken c
+  steps_on c step =
+      let at : new.taken ≡ suc old.taken = omega (arith, taken) in
+      subst (λ n. StepsTo (Step new.world) (config_of start) n c) (sym at)
+      (subst (λ (v : World). StepsTo (Step v) (config_of start) (suc old.taken) c) (sym world) (config_of live.state, live.steps, step))
+
+  ends_so : (stop : Stop) → EndsBy l (Step w (config_of live.state)) stop → EndsAfter new.world new.limits (config_of start) new.taken stop
+  ends_so stop ends =
+      subst (λ (v : World). EndsAfter v new.limits (config_of start) new.taken stop) (sym world)
+      (subst (λ (k : Limits). EndsAfter w k (config_of start) new.taken stop) (sym limits)
+      (record { before = old.taken; last = config_of live.state; steps = live.steps; stops = ends; taken_is = taken }))
+
   comes_by : (t : Turn) → turn w l live.state ≡ t → ((n : ℕ) → Leads (GoesOn w l n) t) → Turned w t new.frames new.store.heap new.ended → ComesTo new start new.ended
   comes_by (To next) e onward (none, holds) =
       subst (ComesTo new start) (sym none) (record {
         state = next;
         holds = subst (λ v. Holds v new.frames new.store.heap next) (sym world) holds;
+        steps = steps_on (config_of next) (step_of (To next) e);
         onward = λ n. subst (λ v. GoesOn v new.limits n next) (sym world) (subst (λ k. GoesOn w k n next) (sym limits) (onward n));
         same = λ n. went n (To next) e ∙ ap (λ v. outcome v l n next) (sym world) ∙ ap (λ k. outcome new.world k n next) (sym limits);
         last = λ n. last_went n (To next) e ∙ ap (λ v. last_state v l n next) (sym world) ∙ ap (λ k. last_state new.world k n next) (sym limits);
@@ -90,6 +120,7 @@ module _ (old new : Machinery) (start : State) (live : IsLive old start) (world 
       let stopped : new.ended ≢ None = λ none. absurd (let both = sym none ∙ ended in cc) in
       subst (ComesTo new start) (sym ended) (record {
         no_limit = limited end (onward 0);
+        steps = ends_so end (step_of (Ends end) e);
         same = λ n. went n (Ends end) e;
         heap = λ n. kept stopped ∙ live.holds.heap_is ∙ ap (λ (s : State). s.heap) (sym (last_went n (Ends end) e));
       })
@@ -137,6 +168,20 @@ module _ (m : Machinery) (start : State) (run : IsRun m start) where
 
   -- ---- its arrays
 
+  pub state_now : (live : m.ended ≡ None) → state_after m m.taken start ≡ (subst (ComesTo m start) live run.comes).state
+  state_now live =
+      let here : min m.limits.steps m.taken ≡ m.taken + 0 = omega (arith, run.within) in
+      let is : IsLive m start = subst (ComesTo m start) live run.comes in
+      ap (λ n. last_state m.world m.limits n start) here ∙ is.last 0 ∙ last_of_none m.world m.limits is.state
+
+  pub by_steps : ComesBySteps m start m.ended
+  by_steps = by m.ended refl
+    where
+      by : (ended : Option Stop) → m.ended ≡ ended → ComesBySteps m start ended
+      by None e =
+          subst (λ (s : State). StepsTo (Step m.world) (config_of start) m.taken (config_of s)) (sym (state_now e)) (subst (ComesTo m start) e run.comes).steps
+      by (Some stop) e = (subst (ComesTo m start) e run.comes).steps
+
   pub heap_so_far : m.store.heap ≡ (state_after m m.taken start).heap
   heap_so_far = by m.ended refl
     where
@@ -174,6 +219,41 @@ module _ (old new : Machinery) (start : State) (run : IsRun old start) (live : o
     within = let most : new.limits.steps ≡ old.limits.steps = ap (λ (l : Limits). l.steps) same.limits in omega (arith, most, few, taken);
     comes = advanced old new start (subst (ComesTo old start) live run.comes) same.world same.limits taken kept advances;
   }
+
+  abbrev before : IsLive old start
+  before = subst (ComesTo old start) live run.comes
+
+  next_state : (next : State) → turn old.world old.limits before.state ≡ To next → state_after new new.taken start ≡ next
+  next_state next e =
+      let here : min new.limits.steps new.taken ≡ new.taken + 0 = omega (arith, step_kept.within) in
+      ap (λ n. last_state new.world new.limits n start) here
+      ∙ last_went old new start before same.world same.limits taken kept 0 (To next) e ∙ last_of_none old.world old.limits next
+
+  told : (stop : Stop) → EndsBy old.limits (Step old.world (config_of (state_after old old.taken start))) stop → IsOneStep old new start (Some stop)
+  told stops.Steps h = absurd h
+  told (stops.Returned value) h = h
+  told (stops.Fault kind unit at) h = h
+  told (stops.Assumed unit at) h = h
+  told stops.Depth h = h
+  told stops.Cells h = h
+
+  pub one_step : IsOneStep old new start new.ended
+  one_step = by (turn old.world old.limits before.state) refl (advances before.state before.holds (before.onward 1).0)
+    where
+      here : state_after old old.taken start ≡ before.state
+      here = state_now old start run live
+
+      by : (t : Turn) → turn old.world old.limits before.state ≡ t → Turned old.world t new.frames new.store.heap new.ended → IsOneStep old new start new.ended
+      by (To next) e (none, holds) =
+          subst (IsOneStep old new start) (sym none)
+          (subst (λ (s : State). Step old.world (config_of s) (config_of (state_after new new.taken start))) (sym here)
+          (subst (λ (s : State). Step old.world (config_of before.state) (config_of s)) (sym (next_state next e))
+          (step_of old new start before same.world same.limits taken kept (To next) e)))
+      by (Ends stop) e ended =
+          subst (IsOneStep old new start) (sym ended)
+          (told stop (subst (λ (s : State). EndsBy old.limits (Step old.world (config_of s)) stop) (sym here)
+          (step_of old new start before same.world same.limits taken kept (Ends stop) e)))
+      by Stuck e turned = absurd (subst (Leads (GoesOn old.world old.limits 0)) e (before.onward 1).1)
 
   same_end : (n : ℕ) → end_after new n start ≡ end_after old n start
   same_end n = ap (λ v. outcome v new.limits (min new.limits.steps n) start) same.world ∙ ap (λ (l : Limits). outcome old.world l (min l.steps n) start) same.limits

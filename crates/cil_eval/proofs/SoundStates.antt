@@ -406,7 +406,7 @@ module _ (w : World) (limits : Limits) (can : CanBeRun w) where
   make_values m unit of =
       let runs = unit_can HasBodyToRun w m unit of can.units in code_makes_values unit runs.formed.code runs.formed.locals
 
-  both : (s : State) → IsConfig w.units (config_of s) → (t : Turn) → Comes (Step w (config_of s)) t → Leads IsTyped t → Leads IsSound t
+  both : (s : State) → IsConfig w.units (config_of s) → (t : Turn) → Comes limits (Step w (config_of s)) t → Leads IsTyped t → Leads IsSound t
   both s config (To new) step typed_is = record { config = (step_keeps w (config_of s) (config_of new) make_values config step).0; typed_is = typed_is }
   both s config (Ends stops.Steps) step typed_is = absurd typed_is
   both s config (Ends _) step typed_is = tt

@@ -1,13 +1,15 @@
 -- The machine as contracts see it, and the runs that it does.
 use Rattle.std.specs.Prelude.{◌≡◌, ◌≢◌, ℕ, zero, suc, ◌+◌, ◌≤◌, min, ◌∷◌, length, Option, Some, None}
 use Rattle.std.specs.List.{AllByRecursion}
+use Rattle.cil_model.specs.Runs.{Step, StepsTo}
 use Rattle.cil_model.specs.declared.machine.Frame.{Frame}
 use Rattle.cil_model.specs.declared.machine.Value.{Value}
 use Rattle.cil_model.specs.declared.machine.World.{World}
 use Rattle.cil_eval.specs.Capacity.{HoldDepth}
 use Rattle.cil_eval.specs.Flows.{AreRunnable}
 use Rattle.cil_eval.specs.Held.{Holds, Turned, olds_of}
-use Rattle.cil_eval.specs.Outcome.{State, Turn, To, Ends, Stuck, last_state, outcome, turn}
+use Rattle.cil_eval.specs.MachineSteps.{EndsAfter, EndsBy}
+use Rattle.cil_eval.specs.Outcome.{State, Turn, To, Ends, Stuck, config_of, last_state, outcome, turn}
 use Rattle.clause_eval.specs.Piles.{Piled}
 use Rattle.cil_eval.specs.StackRows.{IsLength}
 use Rattle.clause_eval.specs.Stores.{Store}
@@ -54,10 +56,11 @@ GoesOn w limits (suc n) s = Fits w limits s × Leads (GoesOn w limits n) (turn w
 
 -- ---- runs
 
--- The machine holds the state that comes of a start by the steps that it took.
+-- The machine holds the state to which the steps lead from a start that it took.
 pub record IsLive (m : Machinery) (start : State) : Type 0 where
   pub state : State
   pub holds : Holds m.world m.frames m.store.heap state
+  pub steps : StepsTo (Step m.world) (config_of start) m.taken (config_of state)
   pub onward : (n : ℕ) → GoesOn m.world m.limits n state
   pub same : (n : ℕ) → outcome m.world m.limits (m.taken + n) start ≡ outcome m.world m.limits n state
   pub last : (n : ℕ) → last_state m.world m.limits (m.taken + n) start ≡ last_state m.world m.limits n state
@@ -65,6 +68,7 @@ pub record IsLive (m : Machinery) (start : State) : Type 0 where
 -- The run from a start ended by the steps that the machine took, and the machine has the arrays of its last state.
 pub record HasEnded (m : Machinery) (start : State) (stop : Stop) : Type 0 where
   pub no_limit : stop ≢ stops.Steps
+  pub steps : EndsAfter m.world m.limits (config_of start) m.taken stop
   pub same : (n : ℕ) → outcome m.world m.limits (m.taken + n) start ≡ Some stop
   pub heap : (n : ℕ) → m.store.heap ≡ (last_state m.world m.limits (m.taken + n) start).heap
 
@@ -84,6 +88,18 @@ end_after m n start = outcome m.world m.limits (min m.limits.steps n) start
 -- The last state of such a run.
 abbrev pub state_after : Machinery → ℕ → State → State
 state_after m n start = last_state m.world m.limits (min m.limits.steps n) start
+
+-- The steps of the machine lead from the start to where the run is: to the state that comes of so many as were taken, or to
+-- its end.
+abbrev pub ComesBySteps : Machinery → State → Option Stop → Type 0
+ComesBySteps m start None = StepsTo (Step m.world) (config_of start) m.taken (config_of (state_after m m.taken start))
+ComesBySteps m start (Some stop) = EndsAfter m.world m.limits (config_of start) m.taken stop
+
+-- One step of the machine leads from the state where the run was to the one where it is, or to its end; or no step was left.
+abbrev pub IsOneStep : Machinery → Machinery → State → Option Stop → Type 0
+IsOneStep old new start None = Step old.world (config_of (state_after old old.taken start)) (config_of (state_after new new.taken start))
+IsOneStep old new start (Some stops.Steps) = old.limits.steps ≤ old.taken
+IsOneStep old new start (Some stop) = EndsBy old.limits (Step old.world (config_of (state_after old old.taken start))) stop
 
 -- What is run, and under which limits, stays the same.
 pub record IsSameMachine (old new : Machinery) : Type 0 where

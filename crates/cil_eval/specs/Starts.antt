@@ -1,5 +1,5 @@
 -- How runs start, and why they do not.
-use Rattle.std.specs.Prelude.{◌≡◌, ℕ, ◌≤◌, nat_le, true, List, Option, Some, None, slice_get, if◌then◌else◌}
+use Rattle.std.specs.Prelude.{◌≡◌, ◌≢◌, ℕ, ◌≤◌, nat_le, true, List, Option, Some, None, slice_get, if◌then◌else◌}
 use Rattle.cil_model.specs.Clauses.{false_requires}
 use Rattle.cil_model.specs.declared.machine.Value.{Value}
 use Rattle.cil_model.specs.declared.machine.World.{World}
@@ -8,7 +8,7 @@ use Rattle.clause_eval.specs.GivenArrays.{heap_of}
 use Rattle.cil_eval.specs.Given.{args_fit, values_of}
 use Rattle.cil_eval.specs.Held.{Holds}
 use Rattle.cil_eval.specs.Machines.{IsRun, Machinery}
-use Rattle.cil_eval.specs.Outcome.{State, entry_state}
+use Rattle.cil_eval.specs.Outcome.{State, entry_state, outcome}
 use Rattle.cil_eval.specs.RunWorlds.{CanBeRun}
 use Rattle.clause_eval.specs.Stores.{Store, cells_of}
 use Rattle.cil_eval.specs.declared.frames.Frames.{Frames}
@@ -49,6 +49,7 @@ pub record Begins (old : Machinery) (index : ℕ) (args : List Arg) (new : Machi
   pub limits : new.limits ≡ old.limits
   pub taken : new.taken ≡ 0
   pub run : CanBeRun old.world → IsRun new (start_state unit index args)
+  pub never_stuck : CanBeRun old.world → (n : ℕ) → outcome old.world old.limits n (start_state unit index args) ≢ None
 
 -- A run of this unit's method may start, and these are the values of its arguments.
 pub record IsAdmitted (w : World) (limits : Limits) (index : ℕ) (args : List Arg) (values : List Value) (unit : MethodUnit) : Type 0 where

@@ -49,7 +49,7 @@ impl<'a> Machine<'a> {
     ghost use Rattle.cil_eval.specs.Outcome.{State};
     ghost use Rattle.clause_eval.specs.Lookups.{items_at};
     ghost use Rattle.cil_eval.specs.Starts.{Begins, start_refusal};
-    ghost use Rattle.cil_eval.specs.Machines.{IsNew, IsRun, IsSameMachine, StopsIn, TookStep, TookSteps, end_after, state_after};
+    ghost use Rattle.cil_eval.specs.Machines.{ComesBySteps, IsNew, IsOneStep, IsRun, IsSameMachine, StopsIn, TookStep, TookSteps, end_after, state_after};
 
     /// A machine for runs of methods of this world under these limits.
     ///
@@ -104,6 +104,7 @@ impl<'a> Machine<'a> {
 
     /// Takes one step: None where the run goes on, else how it stopped. Once a run has stopped, each later call says so too.
     pub fn step(&mut self) -> Option<Stop>
+        ensures one_step { (start : State) → IsRun self.old start → self.old.ended ≡ None → IsOneStep self.old self.new start result }
         ensures kept { (start : State) → IsRun self.old start → IsRun self.new start }
         ensures taken { TookStep self.old self.new result }
         ensures stops { (start : State) → IsRun self.old start → IfSome result (StopsIn self.old start) }
@@ -126,6 +127,7 @@ impl<'a> Machine<'a> {
     /// call takes it up there; any other stop stays.
     pub fn run(&mut self, n: u32) -> Stop
         ensures end { (start : State) → IsRun self.old start → end_after self.old (self.old.taken + n) start ≡ Some result }
+        ensures steps { (start : State) → IsRun self.old start → ComesBySteps self.new start self.new.ended }
         ensures kept { (start : State) → IsRun self.old start → IsRun self.new start }
         ensures ended { result ≢ Stop.Steps → self.new.ended ≡ Some result }
         ensures taken { (start : State) → IsRun self.old start → TookSteps self.old n self.new }

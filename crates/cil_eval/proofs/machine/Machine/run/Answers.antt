@@ -3,7 +3,7 @@ use Rattle.std.proofs.Common.{◌≡◌, ◌+◌, Some, arith, ◌∙◌, ap, sy
 use Rattle.cil_eval.specs.Machines.{Machinery}
 use Rattle.cil_eval.specs.declared.limits.Limits.{Limits}
 use Rattle.cil_eval.specs.declared.stop.Stop.TheVariants as stops
-use Rattle.cil_eval.proofs.MachineLemmas.{same_on, stops_now, stops_of_run}
+use Rattle.cil_eval.proofs.MachineLemmas.{by_steps, same_on, stops_now, stops_of_run}
 use Rattle.cil_eval.proofs.machine.Machine.run.Goals as goal
 
 pub returns-in-Some-clause-end : goal.returns-in-Some-clause-end
@@ -43,3 +43,9 @@ returns-clause-taken c =
     let mid = c.loop.invariant.kept start run in
     let most : c.loop.self.limits.steps ≡ c.args.self.now.limits.steps = ap (λ (l : Limits). l.steps) c.loop.invariant.same.limits in
     omega (arith, mid.within, most, c.loop.invariant.taken, c.loop-test.false, c.loop.auto.counter-end)
+
+pub returns-in-Some-clause-steps : goal.returns-in-Some-clause-steps
+returns-in-Some-clause-steps c = λ start run. by_steps c.step.new.self start (c.step.ensures.kept start (c.loop.invariant.kept start run))
+
+pub returns-clause-steps : goal.returns-clause-steps
+returns-clause-steps c = λ start run. by_steps c.loop.self start (c.loop.invariant.kept start run)

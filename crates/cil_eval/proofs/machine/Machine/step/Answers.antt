@@ -1,5 +1,5 @@
 use Rattle.std.proofs.Common.{◌+◌, refl}
-use Rattle.cil_eval.proofs.MachineLemmas.{ended_by_itself, no_stop, step_kept, step_stops, stops_again, stops_at_limit}
+use Rattle.cil_eval.proofs.MachineLemmas.{ended_by_itself, no_stop, one_step, step_kept, step_stops, stops_again, stops_at_limit}
 use Rattle.cil_eval.proofs.machine.Machine.step.Goals as goal
 
 pub returns-then-is_some-clause-stops : goal.returns-then-is_some-clause-stops
@@ -43,3 +43,16 @@ returns-clause-limit c =
       store = c.advance-self-inside.new.memory;
     }) start (step_kept _ _ start run (no_stop c.self.inside.ended c.if-is_some.ensures) (record { world = refl; limits = refl }) refl c.if-self.false
     c.advance-self-inside.ensures.advances c.advance-self-inside.ensures.ended) is))
+
+pub returns-clause-one_step : goal.returns-clause-one_step
+returns-clause-one_step c =
+    rw (← c.self.view_is) (λ start run live.
+    one_step _ (record {
+      world = c.self.inside.world.now;
+      limits = c.self.inside.limits;
+      taken = c.self.inside.taken + 1;
+      ended = c.advance-self-inside.result;
+      frames = c.advance-self-inside.new.frames;
+      store = c.advance-self-inside.new.memory;
+    }) start run (no_stop c.self.inside.ended c.if-is_some.ensures) (record { world = refl; limits = refl }) refl c.if-self.false
+    c.advance-self-inside.ensures.advances c.advance-self-inside.ensures.ended)
