@@ -46,15 +46,15 @@ call_few : (call : Option UnitCall) → length (call_faults call) ≤ 2
 call_few (Some (calls.Assert message)) = omega arith
 call_few _ = omega arith
 
-faults_few : (op : Op) → length (faults_of op) ≤ 2
-faults_few (ops.Bin operator) = operator_few operator
-faults_few (ops.Call number) = call_few (unit_call number)
-faults_few _ = omega arith
+faults_few : (unit : MethodUnit) (op : Op) → length (faults_of unit op) ≤ 2
+faults_few unit (ops.Bin operator) = operator_few operator
+faults_few unit (ops.Call number) = call_few (unit_call number)
+faults_few unit _ = omega arith
 
 at_few : (unit : MethodUnit) (i : Instr) → length (obligations_in unit i) ≤ 2
 at_few unit i =
-    cond_both (nat_le unit.body_start i.at) (obligations_at i) [] (λ (os : List Obligation). length os ≤ 2)
-    (λ e. omega (arith, length-map (faults_of i.op) (obligation i), faults_few i.op)) (λ e. omega arith)
+    cond_both (nat_le unit.body_start i.at) (obligations_at unit i) [] (λ (os : List Obligation). length os ≤ 2)
+    (λ e. omega (arith, length-map (faults_of unit i.op) (obligation i), faults_few unit i.op)) (λ e. omega arith)
 
 all_few : (unit : MethodUnit) (is : List Instr) → length (flat_map (obligations_in unit) is) ≤ 2 * length is
 all_few unit [] = omega arith
@@ -84,7 +84,7 @@ listed_below : (n : ℕ) (unit : MethodUnit) (is : List Instr) → AllByRecursio
 listed_below n unit [] all = tt
 listed_below n unit (i ∷ is) all =
     all_append (λ o. o.at < n) (obligations_in unit i) (flat_map (obligations_in unit) is)
-    (cond_both (nat_le unit.body_start i.at) (obligations_at i) [] (AllByRecursion (λ o. o.at < n)) (λ e. mapped_below n i (faults_of i.op) all.0) (λ e. tt))
+    (cond_both (nat_le unit.body_start i.at) (obligations_at unit i) [] (AllByRecursion (λ o. o.at < n)) (λ e. mapped_below n i (faults_of unit i.op) all.0) (λ e. tt))
     (listed_below n unit is all.1)
 
 told_below : (n : ℕ) (found : List Verdict) → AllByRecursion (λ o. o.at < n) (obligations_told found) → AllByRecursion (λ v. v.obligation.at < n) found

@@ -111,34 +111,35 @@ blocks_are_body code lawful = by (length code.graph.blocks) refl
 abbrev pub obligations_told : List Verdict → List Obligation
 obligations_told found = map (λ v. v.obligation) found
 
-told_in_turn : (i : Instr) (kinds : List FaultKind) (state : State) → obligations_told (verdicts_in_turn i kinds state) ≡ map (obligation i) kinds
-told_in_turn i [] state = refl
-told_in_turn i (kind ∷ kinds) state = ap (λ (os : List Obligation). obligation i kind ∷ os) (told_in_turn i kinds (avoid kind state))
+told_in_turn : (unit : MethodUnit) (i : Instr) (kinds : List FaultKind) (state : State) → obligations_told (verdicts_in_turn unit i kinds state) ≡ map (obligation i) kinds
+told_in_turn unit i [] state = refl
+told_in_turn unit i (kind ∷ kinds) state = ap (λ (os : List Obligation). obligation i kind ∷ os) (told_in_turn unit i kinds (avoid unit i.op kind state))
 
-told_from : (unit : MethodUnit) (is : List Instr) (state : State) → obligations_told (verdicts_from unit is state) ≡ flat_map obligations_at is
+told_from : (unit : MethodUnit) (is : List Instr) (state : State) → obligations_told (verdicts_from unit is state) ≡ flat_map (obligations_at unit) is
 told_from unit [] state = refl
 told_from unit (i ∷ is) state =
-    let front = told_in_turn i (faults_of i.op) state in
+    let front = told_in_turn unit i (faults_of unit i.op) state in
     let behind = told_from unit is (post unit i.op state) in
-    map-append (λ (v : Verdict). v.obligation) (verdicts_at i state) (verdicts_from unit is (post unit i.op state))
-    ∙ (ap (λ (os : List Obligation). os ++ obligations_told (verdicts_from unit is (post unit i.op state))) front ∙ ap (λ (os : List Obligation). obligations_at i ++ os) behind)
+    map-append (λ (v : Verdict). v.obligation) (verdicts_at unit i state) (verdicts_from unit is (post unit i.op state))
+    ∙ (ap (λ (os : List Obligation). os ++ obligations_told (verdicts_from unit is (post unit i.op state))) front ∙ ap (λ (os : List Obligation). obligations_at unit i ++ os) behind)
 
 module _ (code : UnitFlow) (states : List State) where
-  told_by_blocks : (a n : ℕ) → obligations_told (flat_map (verdicts_in code states) (range_with_len a n)) ≡ flat_map obligations_at (flat_map (block_instrs code) (range_with_len a n))
+  told_by_blocks : (a n : ℕ) → obligations_told (flat_map (verdicts_in code states) (range_with_len a n))
+      ≡ flat_map (obligations_at code.unit) (flat_map (block_instrs code) (range_with_len a n))
   told_by_blocks a zero = refl
   told_by_blocks a (suc n) =
       let front = told_from code.unit (block_instrs code a) (state_at states a) in
       let behind = told_by_blocks (a + 1) n in
       map-append (λ (v : Verdict). v.obligation) (verdicts_in code states a) (flat_map (verdicts_in code states) (range_with_len (a + 1) n))
       ∙ (ap (λ (os : List Obligation). os ++ obligations_told (flat_map (verdicts_in code states) (range_with_len (a + 1) n))) front
-      ∙ (ap (λ (os : List Obligation). flat_map obligations_at (block_instrs code a) ++ os) behind
-      ∙ sym (flat_map-append obligations_at (block_instrs code a) (flat_map (block_instrs code) (range_with_len (a + 1) n)))))
+      ∙ (ap (λ (os : List Obligation). flat_map (obligations_at code.unit) (block_instrs code a) ++ os) behind
+      ∙ sym (flat_map-append (obligations_at code.unit) (block_instrs code a) (flat_map (block_instrs code) (range_with_len (a + 1) n)))))
 
-told_of_body : (unit : MethodUnit) (is : List Instr) → flat_map obligations_at (filter (λ i. nat_le unit.body_start i.at) is) ≡ flat_map (obligations_in unit) is
+told_of_body : (unit : MethodUnit) (is : List Instr) → flat_map (obligations_at unit) (filter (λ i. nat_le unit.body_start i.at) is) ≡ flat_map (obligations_in unit) is
 told_of_body unit [] = refl
 told_of_body unit (i ∷ is) =
     elim (cases_Bool (nat_le unit.body_start i.at)) [
-      | inl kept ↦ rw kept (ap (λ (os : List Obligation). obligations_at i ++ os) (told_of_body unit is))
+      | inl kept ↦ rw kept (ap (λ (os : List Obligation). obligations_at unit i ++ os) (told_of_body unit is))
       | inr dropped ↦ rw dropped (told_of_body unit is)
     ]
 
@@ -151,6 +152,6 @@ pub each_told : (code : UnitFlow) (states : List State) → IsLawful code → ob
 unfolding verdicts
 each_told code states lawful =
     elim (cases_Bool (is_inductive code states)) [
-      | inl is ↦ rw is (told_by_blocks code states 0 (length code.graph.blocks) ∙ (ap (flat_map obligations_at) (blocks_are_body code lawful) ∙ told_of_body code.unit code.unit.instrs))
+      | inl is ↦ rw is (told_by_blocks code states 0 (length code.graph.blocks) ∙ (ap (flat_map (obligations_at code.unit)) (blocks_are_body code lawful) ∙ told_of_body code.unit code.unit.instrs))
       | inr not ↦ rw not (told_unproved (obligations_of code.unit))
     ]

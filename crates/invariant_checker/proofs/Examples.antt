@@ -12,7 +12,7 @@ use Rattle.range_facts.specs.Facts.{range_at, range_of}
 use Rattle.range_facts.specs.Gap.{at_most, equal, gap}
 use Rattle.number_spans.specs.Spans.{excludes, moved}
 use Rattle.range_states.specs.Assumptions.{assuming}
-use Rattle.range_states.specs.Avoiding.{avoiding, no_division_overflow}
+use Rattle.range_states.specs.Avoiding.{avoiding, operands_avoiding, no_division_overflow}
 use Rattle.range_states.specs.FrameFacts.{FrameFacts}
 use Rattle.range_states.specs.Moves.{appended, pushed}
 use Rattle.range_states.specs.NormalForm.{number_at, of_numbers}
@@ -39,7 +39,7 @@ too_large = record { at = 2; kind = faults.DivOverflow; callee = None }
 
 -- What is known at the entry proves both obligations.
 both_proved : verdicts (flow_of unit) (Some nothing ∷ []) ≡ record { obligation = zero_divisor; proved = true } ∷ record { obligation = too_large; proved = true } ∷ []
-unfolding verdicts is_inductive entry kinds_of of_numbers number_at post acted entailed_by rules_out avoiding no_division_overflow assuming assumed assumed_apart assumed_at_most assumed_equal changed holding lost lowered ordered raised excludes moved range_at range_of at_most equal gap from_top appended pushed
+unfolding verdicts is_inductive entry kinds_of of_numbers number_at post acted entailed_by rules_out avoiding operands_avoiding no_division_overflow assuming assumed assumed_apart assumed_at_most assumed_equal changed holding lost lowered ordered raised excludes moved range_at range_of at_most equal gap from_top appended pushed
 both_proved = refl
 
 -- That nothing is reached proves none, since the entry is.

@@ -8,6 +8,7 @@ use Rattle.std.proofs.lemmas.List.Elements.{All-from_recursion}
 use Rattle.cil_model.specs.declared.instruction.Instr.{Instr}
 use Rattle.cil_model.specs.declared.machine.FaultKind.{FaultKind}
 use Rattle.cil_model.specs.declared.machine.Obligation.{Obligation}
+use Rattle.cil_model.specs.declared.unit.Unit.{Unit as MethodUnit}
 use Rattle.flow_graph.specs.declared.graph.Graph.{Graph}
 use Rattle.flow_graph.proofs.Lying.{few_blocks}
 use Rattle.range_states.specs.Avoiding.{avoid}
@@ -25,14 +26,14 @@ use Rattle.invariant_checker.proofs.InductionTest.{inductive_by, inductive_true}
 
 -- ---- the faults of an instruction
 
-abbrev pub verdict_at : Instr → FaultKind → State → Verdict
-verdict_at i kind state = record { obligation = obligation i kind; proved = entailed i.op kind state }
+abbrev pub verdict_at : MethodUnit → Instr → FaultKind → State → Verdict
+verdict_at unit i kind state = record { obligation = obligation i kind; proved = entailed unit i.op kind state }
 
-pub one_more_judged : (found : List Verdict) (i : Instr) (kinds : List FaultKind) (k : ℕ) (d : FaultKind) (state : State) → k < length kinds
-    → (found ++ verdict_at i (get_or kinds k d) state ∷ []) ++ verdicts_in_turn i (drop (k + 1) kinds) (avoid (get_or kinds k d) state)
-    ≡ found ++ verdicts_in_turn i (drop k kinds) state
-one_more_judged found i kinds k d state below =
-    append_assoc found (verdict_at i (get_or kinds k d) state ∷ []) (verdicts_in_turn i (drop (k + 1) kinds) (avoid (get_or kinds k d) state))
+pub one_more_judged : (found : List Verdict) (unit : MethodUnit) (i : Instr) (kinds : List FaultKind) (k : ℕ) (d : FaultKind) (state : State) → k < length kinds
+    → (found ++ verdict_at unit i (get_or kinds k d) state ∷ []) ++ verdicts_in_turn unit i (drop (k + 1) kinds) (avoid unit i.op (get_or kinds k d) state)
+    ≡ found ++ verdicts_in_turn unit i (drop k kinds) state
+one_more_judged found unit i kinds k d state below =
+    append_assoc found (verdict_at unit i (get_or kinds k d) state ∷ []) (verdicts_in_turn unit i (drop (k + 1) kinds) (avoid unit i.op (get_or kinds k d) state))
     ∙ ap (λ (vs : List Verdict). found ++ vs) (sym (rw (drop-cons kinds k d below, add-one k) refl))
 
 -- ---- all blocks

@@ -51,10 +51,11 @@ told_plain (ops.LoadElem place) told = absurd (false≢true told)
 told_plain (ops.StoreElem place) told = absurd (false≢true told)
 told_plain _ told = refl
 
-entailed_in_turn : (i : Instr) (kinds : List FaultKind) (state : State) → all_proved (verdicts_in_turn i kinds state) ≡ true → AreEntailedInTurn i.op kinds state
-entailed_in_turn i [] state proved = tt
-entailed_in_turn i (kind ∷ kinds) state proved =
-    let parts = and_parts _ _ proved in (parts.0, entailed_in_turn i kinds (avoid kind state) parts.1)
+entailed_in_turn : (unit : MethodUnit) (i : Instr) (kinds : List FaultKind) (state : State) → all_proved (verdicts_in_turn unit i kinds state) ≡ true
+    → AreEntailedInTurn unit i.op kinds state
+entailed_in_turn unit i [] state proved = tt
+entailed_in_turn unit i (kind ∷ kinds) state proved =
+    let parts = and_parts _ _ proved in (parts.0, entailed_in_turn unit i kinds (avoid unit i.op kind state) parts.1)
 
 both_proved : (front behind : List Verdict) → all_proved (front ++ behind) ≡ true → (all_proved front ≡ true) × (all_proved behind ≡ true)
 both_proved front behind proved = and_parts (all_proved front) (all_proved behind) (sym (list_all-append (λ (v : Verdict). v.proved) front behind) ∙ proved)
@@ -112,7 +113,7 @@ module _ (code : UnitFlow) (lawful : IsLawful code) (states : List State) (induc
         chain = subst (λ (at : ℕ). IsChain unit code.graph b at (j ∷ is)) (sym next) stands.chain.1;
         fits = subst (λ (at : ℕ). FitsKinds unit (before at) behind) (sym next)
             (post_fits unit code.kinds (laws.decoded code lawful) lawful.kinds i f.at state passed stands.fits);
-        shown = (both_proved (verdicts_at i state) (verdicts_from unit (j ∷ is) behind) stands.shown).1;
+        shown = (both_proved (verdicts_at unit i state) (verdicts_from unit (j ∷ is) behind) stands.shown).1;
         holds = post_holds unit i.op state passed.told (form_of unit (before f.at) state stands.fits) f g
             (record { instr = i; heap = heap; after = after; does = refl; frame = step.frame; holds = stands.holds; goes = step.goes });
       }
@@ -136,9 +137,9 @@ module _ (code : UnitFlow) (lawful : IsLawful code) (states : List State) (induc
       (stands_first way.block way.first way.below way.here (holds_there code lawful states inductive way.count way.block way.first way.came))
 
   no_fault : (i : Instr) (state : State) (f : Frame) (heap : Heap) (kind : FaultKind) (index at : ℕ) → i.at ≡ f.at → is_told i.op ≡ true → instr_at unit.instrs i.at ≡ Some i
-      → ForSome state HasForm → HoldsIn state f → all_proved (verdicts_at i state) ≡ true → LocalStep unit (configs.Live (f ∷ []) heap) (configs.Fault kind index at) → ⊥
+      → ForSome state HasForm → HoldsIn state f → all_proved (verdicts_at unit i state) ≡ true → LocalStep unit (configs.Live (f ∷ []) heap) (configs.Fault kind index at) → ⊥
   no_fault i state f heap kind index at here told found form holds shown step =
-      in_turn i.op (told_plain i.op told) state form (entailed_in_turn i (faults_of i.op) state shown) kind unit i f heap refl holds
+      in_turn unit i.op (told_plain i.op told) state form (entailed_in_turn unit i (faults_of unit i.op) state shown) kind i f heap refl holds
       (step_faults_by unit i f heap kind index at lawful.unit.clauses (subst (λ (k : ℕ). instr_at unit.instrs k ≡ Some i) here found) told step)
 
   rules_out : (b : ℕ) (is : List Instr) (state : State) (f : Frame) (heap : Heap) (kind : FaultKind) (index at : ℕ) → Stands b is state f
@@ -146,11 +147,11 @@ module _ (code : UnitFlow) (lawful : IsLawful code) (states : List State) (induc
   rules_out b [] state f heap kind index at stands step = elim stands.chain [ ]
   rules_out b (i ∷ []) state f heap kind index at stands step =
       no_fault i state f heap kind index at stands.chain.here stands.chain.told stands.chain.found (form_of unit (before f.at) state stands.fits) stands.holds
-      (both_proved (verdicts_at i state) [] stands.shown).0 step
+      (both_proved (verdicts_at unit i state) [] stands.shown).0 step
   rules_out b (i ∷ j ∷ is) state f heap kind index at stands step =
       let passed : IsPassed unit f.at i = stands.chain.0.passed in
       no_fault i state f heap kind index at passed.here passed.told passed.found (form_of unit (before f.at) state stands.fits) stands.holds
-      (both_proved (verdicts_at i state) (verdicts_from unit (j ∷ is) (post unit i.op state)) stands.shown).0 step
+      (both_proved (verdicts_at unit i state) (verdicts_from unit (j ∷ is) (post unit i.op state)) stands.shown).0 step
 
   pub covered_steps : (kind : FaultKind) (index at : ℕ) → StepsToFault code lawful kind index at → ⊥
   covered_steps kind index at to =

@@ -81,7 +81,7 @@ module _ (unit : MethodUnit) (is : List Instr) (first state : State) (begun foun
   pub judged_asks : k < length (front is) → i ≡ get_or (front is) k i → HasOperands i.op state
   judged_asks below there = asked_there unit i.op state (judged_passes below there).read
 
-  pub judged_more : k < length (front is) → i ≡ get_or (front is) k i → Judged unit is first (post unit i.op state) begun (found ++ verdicts_at i state) (k + 1)
+  pub judged_more : k < length (front is) → i ≡ get_or (front is) k i → Judged unit is first (post unit i.op state) begun (found ++ verdicts_at unit i state) (k + 1)
   judged_more below there =
       let split = two_left below there in
       let j = get_or is (suc k) i in
@@ -90,7 +90,7 @@ module _ (unit : MethodUnit) (is : List Instr) (first state : State) (begun foun
       record {
         can = subst (λ (js : List Instr). CanJudge unit js (post unit i.op state)) (sym next)
             (goes_on unit state i j rest (subst (λ (js : List Instr). CanJudge unit js state) split judged.can));
-        same = rw next (append_assoc found (verdicts_at i state) (verdicts_from unit (j ∷ rest) (post unit i.op state))
+        same = rw next (append_assoc found (verdicts_at unit i state) (verdicts_from unit (j ∷ rest) (post unit i.op state))
             ∙ (ap (λ (js : List Instr). found ++ verdicts_from unit js state) (sym split) ∙ judged.same));
       }
 
@@ -107,9 +107,9 @@ module _ (unit : MethodUnit) (is : List Instr) (first state : State) (begun foun
   judged_asks_last some least most there = ends unit state i (subst (λ (js : List Instr). CanJudge unit js state) (one_left some least most there) judged.can)
 
   pub judged_all : 1 ≤ length is → length (front is) ≤ k → k ≤ length (front is) → i ≡ get_or is (length is - 1) i
-      → found ++ verdicts_at i state ≡ begun ++ verdicts_from unit is first
+      → found ++ verdicts_at unit i state ≡ begun ++ verdicts_from unit is first
   judged_all some least most there =
-      ap (λ (vs : List Verdict). found ++ vs) (sym (append-nil (verdicts_at i state)))
+      ap (λ (vs : List Verdict). found ++ vs) (sym (append-nil (verdicts_at unit i state)))
       ∙ (ap (λ (js : List Instr). found ++ verdicts_from unit js state) (sym (one_left some least most there)) ∙ judged.same)
 
 -- ---- a block

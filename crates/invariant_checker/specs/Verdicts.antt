@@ -20,20 +20,21 @@ use Rattle.invariant_checker.specs.declared.verdict.Verdict.{Verdict}
 -- ---- at an instruction
 
 -- Whether each of these faults is ruled out in turn, where those before it are assumed not to have come.
-abbrev pub verdicts_in_turn : Instr → List FaultKind → State → List Verdict
-verdicts_in_turn i [] state = []
-verdicts_in_turn i (kind ∷ kinds) state = record { obligation = obligation i kind; proved = entailed i.op kind state } ∷ verdicts_in_turn i kinds (avoid kind state)
+abbrev pub verdicts_in_turn : MethodUnit → Instr → List FaultKind → State → List Verdict
+verdicts_in_turn unit i [] state = []
+verdicts_in_turn unit i (kind ∷ kinds) state =
+    record { obligation = obligation i kind; proved = entailed unit i.op kind state } ∷ verdicts_in_turn unit i kinds (avoid unit i.op kind state)
 
--- The verdicts at an instruction, from the state before it.
-abbrev pub verdicts_at : Instr → State → List Verdict
-verdicts_at i state = verdicts_in_turn i (faults_of i.op) state
+-- The verdicts at an instruction of the unit, from the state before it.
+abbrev pub verdicts_at : MethodUnit → Instr → State → List Verdict
+verdicts_at unit i state = verdicts_in_turn unit i (faults_of unit i.op) state
 
 -- ---- in a block
 
 -- Those of instructions that follow each other, from the state before the first.
 abbrev pub verdicts_from : MethodUnit → List Instr → State → List Verdict
 verdicts_from unit [] state = []
-verdicts_from unit (i ∷ is) state = verdicts_at i state ++ verdicts_from unit is (post unit i.op state)
+verdicts_from unit (i ∷ is) state = verdicts_at unit i state ++ verdicts_from unit is (post unit i.op state)
 
 -- Those in a block, from the state at its start.
 abbrev pub verdicts_of_block : UnitFlow → State → ℕ → List Verdict

@@ -15,7 +15,7 @@ ghost use Rattle.invariant_checker.specs.Verdicts as rule;
 use crate::verdict::Verdict;
 use cil_model::{Instr, Obligation, Unit};
 use domain_api::NoMemory;
-use range_obligations::{entails, obligations};
+use range_obligations::{obligations, rules_out};
 use range_rules::{UnitFlow, inductive, post};
 use range_states::{AbsState, Invariant, avoid, faults_of};
 use std::alloc::Global;
@@ -24,21 +24,22 @@ use std::alloc::Global;
 fn push_in_turn(
     found: &mut Vec<Verdict>,
     state: &mut AbsState,
+    unit: &Unit,
     instr: &Instr,
 ) -> Result<(), NoMemory>
     requires { ForSome state.old (λ known. operands_of instr.now.op ≤ length known.variables) }
-    ensures { OnOk result (found.new.items ≡ found.old.items ++ rule.verdicts_at instr.now state.old) }
+    ensures { OnOk result (found.new.items ≡ found.old.items ++ rule.verdicts_at unit.now instr.now state.old) }
 {
-    for kind in faults_of(&instr.op) {
+    for kind in faults_of(unit, &instr.op) {
         found.push(Verdict {
             obligation: Obligation {
                 at: instr.at,
                 kind: *kind,
                 callee: None,
             },
-            proved: entails(state, &instr.op, *kind),
+            proved: rules_out(state, unit, &instr.op, *kind),
         })?;
-        avoid(state, *kind)?;
+        avoid(state, unit, &instr.op, *kind)?;
     }
     Ok(())
 }
@@ -49,16 +50,17 @@ fn push_verdicts(
     alloc: Global,
     found: &mut Vec<Verdict>,
     state: &AbsState,
+    unit: &Unit,
     instr: &Instr,
 ) -> Result<(), NoMemory>
     requires { ForSome state.now (λ known. operands_of instr.now.op ≤ length known.variables) }
-    ensures { OnOk result (found.new.items ≡ found.old.items ++ rule.verdicts_at instr.now state.now) }
+    ensures { OnOk result (found.new.items ≡ found.old.items ++ rule.verdicts_at unit.now instr.now state.now) }
 {
-    if faults_of(&instr.op).is_empty() {
+    if faults_of(unit, &instr.op).is_empty() {
         return Ok(());
     }
     let mut assumed = state.copy(alloc)?;
-    push_in_turn(found, &mut assumed, instr)
+    push_in_turn(found, &mut assumed, unit, instr)
 }
 
 /// Appends the verdicts at the instructions of a block, from the state before the first of them.
@@ -77,10 +79,10 @@ fn judge_instrs(
         return Ok(());
     };
     for instr in others {
-        push_verdicts(alloc, found, state, instr)?;
+        push_verdicts(alloc, found, state, unit, instr)?;
         post(state, unit, &instr.op)?;
     }
-    push_verdicts(alloc, found, state, last)
+    push_verdicts(alloc, found, state, unit, last)
 }
 
 /// Appends the verdicts in a block, from its state.

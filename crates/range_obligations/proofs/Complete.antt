@@ -189,7 +189,8 @@ module _ (i : Instr) (f : Frame) (heap : Heap) where
 
   -- ---- each operation
 
-  op_among : (op : Op) (unit : MethodUnit) (kind : FaultKind) → is_of_array op ≡ false → HasEffect (effects_of op unit i f heap) (Faults kind) → IsAmong (faults_of op) kind
+  op_among : (op : Op) (unit : MethodUnit) (kind : FaultKind) → is_of_array op ≡ false → HasEffect (effects_of op unit i f heap) (Faults kind)
+      → IsAmong (faults_of unit op) kind
   op_among ops.Nop unit kind numbers has = quiet ops.Nop unit kind (tt, tt) has
   op_among (ops.LoadArg n) unit kind numbers has = quiet (ops.LoadArg n) unit kind (quiet_pushes f.stack (slice_get f.args n)) has
   op_among (ops.StoreArg n) unit kind numbers has = quiet (ops.StoreArg n) unit kind (quiet_stores_arg unit n f.stack) has
@@ -213,9 +214,9 @@ module _ (i : Instr) (f : Frame) (heap : Heap) where
   op_among (ops.LoadElem place) unit kind numbers has = absurd (true≢false numbers)
   op_among (ops.StoreElem place) unit kind numbers has = absurd (true≢false numbers)
 
-pub no_other : (op : Op) → EndsInNoOther op (faults_of op)
-no_other op = λ numbers unit i f heap kind same has.
-    subst (λ (o : Op). IsAmong (faults_of o) kind) same (op_among i f heap i.op unit kind (ap is_of_array same ∙ numbers) has)
+pub no_other : (unit : MethodUnit) (op : Op) → EndsInNoOther unit op (faults_of unit op)
+no_other unit op = λ numbers i f heap kind same has.
+    subst (λ (o : Op). IsAmong (faults_of unit o) kind) same (op_among i f heap i.op unit kind (ap is_of_array same ∙ numbers) has)
 
 -- ---- steps
 
@@ -253,11 +254,11 @@ module _ (unit : MethodUnit) (numbers : IsOfNumbers unit) (i : Instr) (f : Frame
   fault_is Assumes is = absurd cc
   fault_is FindsNoRoom is = absurd cc
 
-  step_among : is_of_array i.op ≡ false → Row (FreeCall unit) i.op [] unit i f heap end → IsAmong (faults_of i.op) kind × (i.at ≡ at)
+  step_among : is_of_array i.op ≡ false → Row (FreeCall unit) i.op [] unit i f heap end → IsAmong (faults_of unit i.op) kind × (i.at ≡ at)
   step_among plain row =
       let found = by_effect i.op row in
       let is = fault_is found.0 found.2 in
-      (no_other i.op plain unit i f heap kind refl (subst (HasEffect (effects unit i f heap)) is.0 found.1), is.1)
+      (no_other unit i.op plain i f heap kind refl (subst (HasEffect (effects unit i f heap)) is.0 found.1), is.1)
 
 -- ---- the list
 
@@ -266,11 +267,11 @@ mapped i [] kind among = elim among [ ]
 mapped i (other ∷ kinds) kind (inl is) = (0, omega arith, ap (obligation i) (sym is))
 mapped i (other ∷ kinds) kind (inr later) = Contains-append_right (obligation i other ∷ []) (map (obligation i) kinds) (obligation i kind) (mapped i kinds kind later)
 
-own : (unit : MethodUnit) (i : Instr) (kind : FaultKind) → unit.body_start ≤ i.at → IsAmong (faults_of i.op) kind → Contains (obligations_in unit i) (obligation i kind)
+own : (unit : MethodUnit) (i : Instr) (kind : FaultKind) → unit.body_start ≤ i.at → IsAmong (faults_of unit i.op) kind → Contains (obligations_in unit i) (obligation i kind)
 own unit i kind within among = cond_both (nat_le unit.body_start i.at) _ _ (λ os. Contains os (obligation i kind))
-    (λ is. mapped i (faults_of i.op) kind among) (λ before. absurd (grind (arith, before, within)))
+    (λ is. mapped i (faults_of unit i.op) kind among) (λ before. absurd (grind (arith, before, within)))
 
-listed : (unit : MethodUnit) (is : List Instr) (at : ℕ) (i : Instr) (kind : FaultKind) → instr_at is at ≡ Some i → unit.body_start ≤ i.at → IsAmong (faults_of i.op) kind
+listed : (unit : MethodUnit) (is : List Instr) (at : ℕ) (i : Instr) (kind : FaultKind) → instr_at is at ≡ Some i → unit.body_start ≤ i.at → IsAmong (faults_of unit i.op) kind
     → Contains (flat_map (obligations_in unit) is) (obligation i kind)
 listed unit [] at i kind found within among = absurd (none-some i found)
 listed unit (j ∷ is) at i kind found within among = cond_both (j.at == at) _ _

@@ -20,18 +20,18 @@ same_fault : (a b : FaultKind) → Faults a ≡ Faults b → a ≡ b
 same_fault a b same = cc
 
 none_comes : (unit : MethodUnit) (i : Instr) (f : Frame) (heap : Heap) (kind : FaultKind) → HasEffect (effects unit i f heap) (Faults kind) → (kinds : List FaultKind) (state : State)
-    → ((other : FaultKind) → IsAmong kinds other → IsAmong (faults_of i.op) other) → AreEntailedInTurn i.op kinds state → Stands state f → IsAmong kinds kind → ⊥
+    → ((other : FaultKind) → IsAmong kinds other → IsAmong (faults_of unit i.op) other) → AreEntailedInTurn unit i.op kinds state → Stands state f → IsAmong kinds kind → ⊥
 none_comes unit i f heap kind has [] state within entailed stands among = among
 none_comes unit i f heap kind has (first ∷ kinds) state within entailed stands among =
     let never : kind ≡ first → ⊥ =
     λ is. entailed_is_no_fault state unit i f heap first entailed.0 stands.holds (subst (λ (k : FaultKind). HasEffect (effects unit i f heap) (Faults k)) is has) in
     ⊎_elim never
-    (λ later. none_comes unit i f heap kind has kinds (avoid first state) (λ other there. within other (inr there)) entailed.1
+    (λ later. none_comes unit i f heap kind has kinds (avoid unit i.op first state) (λ other there. within other (inr there)) entailed.1
     (avoid_stands state unit i f heap first (Faults kind) (within first (inl refl)) has (λ same. never (same_fault kind first same)) stands) later) among
 
-pub in_turn : (op : Op) → RulesOutInTurn op (faults_of op)
-in_turn op = λ numbers state form entailed kind unit i f heap same holds has.
-    none_comes unit i f heap kind has (faults_of i.op) state (λ other there. there)
-    (subst (λ (o : Op). AreEntailedInTurn o (faults_of o) state) (sym same) entailed)
+pub in_turn : (unit : MethodUnit) (op : Op) → RulesOutInTurn unit op (faults_of unit op)
+in_turn unit op = λ numbers state form entailed kind i f heap same holds has.
+    none_comes unit i f heap kind has (faults_of unit i.op) state (λ other there. there)
+    (subst (λ (o : Op). AreEntailedInTurn unit o (faults_of unit o) state) (sym same) entailed)
     (record { form = formed state form; holds = holds })
-    (no_other i.op (ap is_of_array same ∙ numbers) unit i f heap kind refl has)
+    (no_other unit i.op (ap is_of_array same ∙ numbers) i f heap kind refl has)

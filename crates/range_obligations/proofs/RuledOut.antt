@@ -33,6 +33,7 @@ use Rattle.number_spans.specs.declared.span.Span.{Span}
 use Rattle.range_facts.proofs.Meaning.{range_has}
 use Rattle.number_spans.proofs.ProductLaws.{corners_have}
 use Rattle.range_facts.proofs.SumLaws.{sums_have, differences_have}
+use Rattle.range_states.specs.Faults.{condition_depth}
 use Rattle.range_states.specs.FrameFacts.{FrameFacts, State}
 use Rattle.range_states.specs.Frames.{HoldsIn}
 use Rattle.range_states.specs.Operands.{from_top}
@@ -197,43 +198,61 @@ module _ (known : FrameFacts) (f : Frame) (holds : HoldsIn (Some known) f) (i : 
   binary_fault op None out has = arithmetic_fault op f.stack refl out has
   binary_fault op (Some cmp) out has = comparison_no_fault cmp i f heap f.stack kind has
 
-  zero_fault : (other : FaultKind) (facts : Facts) (ns : List ℤ) (e : Expr) → Holds facts ns → rules_out_at_call other facts e ≡ true → value ns e ≡ pos 0 → ⊥
-  unfolding rules_out_at_call
-  zero_fault faults.Assert facts ns e allowed out is = excluded (range_of facts e) (pos 0) (subst (Has (range_of facts e)) is (range_has facts ns e allowed)) out
-  zero_fault _ facts ns e allowed out is = false≢true out
-
-  asserts_fault : (n : ℤ) (rest : List Value) → f.stack ≡ values.Int n ∷ rest → rules_out_at_call kind known.facts (from_top 0 known.variables) ≡ true → int_eq n (pos 0) ≡ true → ⊥
+  -- What is asserted lies on top of the stack.
+  asserts_fault : (n : ℤ) (rest : List Value) → f.stack ≡ values.Int n ∷ rest → excludes (range_of known.facts (from_top 0 known.variables)) (pos 0) ≡ true
+      → int_eq n (pos 0) ≡ true → ⊥
   asserts_fault n rest is out zero =
       let top = top_is known f (values.Int n) rest is holds in
       let last : top.last ≡ n = same_int top.last n top.is in
-      zero_fault kind known.facts top.choice (from_top 0 known.variables) top.by.allowed out (top.worth ∙ last ∙ (Decides-int_eq n (pos 0)).0 zero)
+      let worth : value top.choice (from_top 0 known.variables) ≡ pos 0 = top.worth ∙ last ∙ (Decides-int_eq n (pos 0)).0 zero in
+      let range = range_of known.facts (from_top 0 known.variables) in
+      excluded range (pos 0) (subst (Has range) worth (range_has known.facts top.choice (from_top 0 known.variables) top.by.allowed)) out
     where
       same_int : (m n : ℤ) → values.Int m ≡ values.Int n → m ≡ n
       same_int m n is = cc
 
-  condition_fault : (otherwise : Effect) (stack : List Value) → f.stack ≡ stack → rules_out_at_call kind known.facts (from_top 0 known.variables) ≡ true
-      → HasEffect (tests_condition otherwise i f heap (Some stack)) (Faults kind) → ⊥
-  condition_fault otherwise (values.Int n ∷ rest) is out has = cond_both (int_eq n (pos 0)) _ _ (λ es. HasEffect es (Faults kind) → ⊥)
+  condition_fault : (stack : List Value) → f.stack ≡ stack → excludes (range_of known.facts (from_top 0 known.variables)) (pos 0) ≡ true
+      → HasEffect (tests_condition (Faults faults.Assert) i f heap (Some stack)) (Faults kind) → ⊥
+  condition_fault (values.Int n ∷ rest) is out has = cond_both (int_eq n (pos 0)) _ _ (λ es. HasEffect es (Faults kind) → ⊥)
       (λ zero there. asserts_fault n rest is out zero)
       (λ other there. ⊎_elim (λ same. cc) (λ none. none) there) has
-  condition_fault otherwise _ is out has = elim has [ ]
+  condition_fault _ is out has = elim has [ ]
 
   no_text : (rest : List Value) → f.stack ≡ values.Text ∷ rest → ⊥
   no_text rest is = let top = top_is known f values.Text rest is holds in let same : values.Int top.last ≡ values.Text = top.is in cc
 
-  message_fault : (otherwise : Effect) (message : Bool) (stack : List Value) → f.stack ≡ stack → rules_out_at_call kind known.facts (from_top 0 known.variables) ≡ true
-      → HasEffect (tests_condition otherwise i f heap (below_message message stack)) (Faults kind) → ⊥
-  message_fault otherwise false stack is out has = condition_fault otherwise stack is out has
-  message_fault otherwise true (values.Text ∷ rest) is out has = no_text rest is
-  message_fault otherwise true _ is out has = elim has [ ]
+  assert_fault : (message : Bool) (stack : List Value) → f.stack ≡ stack
+      → excludes (range_of known.facts (from_top (condition_depth message) known.variables)) (pos 0) ≡ true
+      → HasEffect (tests_condition (Faults faults.Assert) i f heap (below_message message stack)) (Faults kind) → ⊥
+  assert_fault false stack is out has = condition_fault stack is out has
+  assert_fault true (values.Text ∷ rest) is out has = no_text rest is
+  assert_fault true _ is out has = elim has [ ]
 
-  call_fault : (call : Option UnitCall) → rules_out_at_call kind known.facts (from_top 0 known.variables) ≡ true
-      → HasEffect (contract_call call i f heap) (Faults kind) → ⊥
-  call_fault (Some (calls.Assert message)) out has = message_fault (Faults faults.Assert) message f.stack refl out has
-  call_fault (Some (calls.Assume message)) out has = message_fault Assumes message f.stack refl out has
+  -- An Assert ends in no other fault.
+  only_assert : (stack : Option (List Value)) → HasEffect (tests_condition (Faults faults.Assert) i f heap stack) (Faults kind) → kind ≡ faults.Assert
+  only_assert (Some (values.Int n ∷ rest)) has = cond_both (int_eq n (pos 0)) _ _ (λ es. HasEffect es (Faults kind) → kind ≡ faults.Assert)
+      (λ zero there. ⊎_elim (λ same. cc) (λ none. absurd none) there)
+      (λ other there. ⊎_elim (λ same. cc) (λ none. absurd none) there) has
+  only_assert _ has = elim has [ ]
+
+  assume_no_fault : (stack : Option (List Value)) → HasEffect (tests_condition Assumes i f heap stack) (Faults kind) → ⊥
+  assume_no_fault (Some (values.Int n ∷ rest)) has = cond_both (int_eq n (pos 0)) _ _ (λ es. HasEffect es (Faults kind) → ⊥)
+      (λ zero there. ⊎_elim (λ same. cc) (λ none. none) there)
+      (λ other there. ⊎_elim (λ same. cc) (λ none. none) there) has
+  assume_no_fault _ has = elim has [ ]
+
+  asserted : (message : Bool) → rules_out_at_call (Some (calls.Assert message)) kind known ≡ true → kind ≡ faults.Assert
+      → excludes (range_of known.facts (from_top (condition_depth message) known.variables)) (pos 0) ≡ true
+  unfolding rules_out_at_call
+  asserted message ruled is = subst (λ (k : FaultKind). rules_out_at_call (Some (calls.Assert message)) k known ≡ true) is ruled
+
+  call_fault : (call : Option UnitCall) → rules_out_at_call call kind known ≡ true → HasEffect (contract_call call i f heap) (Faults kind) → ⊥
+  call_fault (Some (calls.Assert message)) out has =
+      assert_fault message f.stack refl (asserted message out (only_assert (below_message message f.stack) has)) has
+  call_fault (Some (calls.Assume message)) out has = assume_no_fault (below_message message f.stack) has
   call_fault _ out has = elim has [ ]
 
-  op_fault : (op : Op) (unit : MethodUnit) → entailed_by op kind known ≡ true → HasEffect (effects_of op unit i f heap) (Faults kind) → ⊥
+  op_fault : (op : Op) (unit : MethodUnit) → entailed_by unit op kind known ≡ true → HasEffect (effects_of op unit i f heap) (Faults kind) → ⊥
   unfolding entailed_by
   op_fault (ops.Bin op) unit out has = binary_fault op (comparison_of op) out has
   op_fault (ops.Call number) unit out has = call_fault (unit_call number) out has
@@ -241,9 +260,9 @@ module _ (known : FrameFacts) (f : Frame) (holds : HoldsIn (Some known) f) (i : 
 
 -- What is entailed is not the fault in which the instruction ends.
 pub entailed_is_no_fault : (state : State) (unit : MethodUnit) (i : Instr) (f : Frame) (heap : Heap) (kind : FaultKind)
-    → entailed i.op kind state ≡ true → HoldsIn state f → HasEffect (effects unit i f heap) (Faults kind) → ⊥
+    → entailed unit i.op kind state ≡ true → HoldsIn state f → HasEffect (effects unit i f heap) (Faults kind) → ⊥
 entailed_is_no_fault None unit i f heap kind out holds has = elim holds.holds [ ]
 entailed_is_no_fault (Some known) unit i f heap kind out holds has = op_fault known f holds i heap kind i.op unit out has
 
-pub entailed_rules_out : (op : Op) (kind : FaultKind) (state : State) → entailed op kind state ≡ true → RulesOut op kind state
-entailed_rules_out op kind state is = λ unit i f heap same holds has. entailed_is_no_fault state unit i f heap kind (rw same is) holds has
+pub entailed_rules_out : (unit : MethodUnit) (op : Op) (kind : FaultKind) (state : State) → entailed unit op kind state ≡ true → RulesOut unit op kind state
+entailed_rules_out unit op kind state is = λ i f heap same holds has. entailed_is_no_fault state unit i f heap kind (rw same is) holds has

@@ -27,20 +27,21 @@ is_of_array (ops.LoadElem place) = true
 is_of_array (ops.StoreElem place) = true
 is_of_array _ = false
 
--- An instruction with this operation ends in no other fault than these, where it is not one of arrays.
-abbrev pub EndsInNoOther : Op → List FaultKind → Type 0
-EndsInNoOther op kinds = is_of_array op ≡ false → (unit : MethodUnit) (i : Instr) (f : Frame) (heap : Heap) (kind : FaultKind) → i.op ≡ op
+-- An instruction of the unit with this operation ends in no other fault than these, where it is not one of arrays.
+abbrev pub EndsInNoOther : MethodUnit → Op → List FaultKind → Type 0
+EndsInNoOther unit op kinds = is_of_array op ≡ false → (i : Instr) (f : Frame) (heap : Heap) (kind : FaultKind) → i.op ≡ op
     → HasEffect (effects unit i f heap) (Faults kind) → IsAmong kinds kind
 
 -- Each of these faults is entailed in the state in which those before it are assumed not to have come.
-abbrev pub AreEntailedInTurn : Op → List FaultKind → State → Type 0
-AreEntailedInTurn op [] state = Unit {0}
-AreEntailedInTurn op (kind ∷ kinds) state = (entailed op kind state ≡ true) × AreEntailedInTurn op kinds (avoid kind state)
+abbrev pub AreEntailedInTurn : MethodUnit → Op → List FaultKind → State → Type 0
+AreEntailedInTurn unit op [] state = Unit {0}
+AreEntailedInTurn unit op (kind ∷ kinds) state = (entailed unit op kind state ≡ true) × AreEntailedInTurn unit op kinds (avoid unit op kind state)
 
--- Where these are entailed in turn, no instruction with this operation ends in any fault, where it is not one of arrays.
-abbrev pub RulesOutInTurn : Op → List FaultKind → Type 0
-RulesOutInTurn op kinds = is_of_array op ≡ false → (state : State) → ForSome state HasForm → AreEntailedInTurn op kinds state
-    → (kind : FaultKind) → RulesOut op kind state
+-- Where these are entailed in turn, no instruction of the unit with this operation ends in any fault, where it is not one of
+-- arrays.
+abbrev pub RulesOutInTurn : MethodUnit → Op → List FaultKind → Type 0
+RulesOutInTurn unit op kinds = is_of_array op ≡ false → (state : State) → ForSome state HasForm → AreEntailedInTurn unit op kinds state
+    → (kind : FaultKind) → RulesOut unit op kind state
 
 -- A unit of numbers: it has no clauses and no callees, and its body has no instruction of arrays.
 pub record IsOfNumbers (unit : MethodUnit) : Type 0 where

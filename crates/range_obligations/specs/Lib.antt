@@ -2,3 +2,4 @@ pub mod Obligations
 pub mod Entailed
 pub mod Meaning
 pub mod EachFault
+pub mod ByObligation

@@ -10,7 +10,6 @@ use Rattle.cil_model.specs.declared.unit.Unit.{Unit as MethodUnit}
 use Rattle.range_states.specs.FrameFacts.{State}
 use Rattle.range_states.specs.Frames.{HoldsIn}
 
--- No instruction with this operation ends in the fault in a frame of which the state holds.
-abbrev pub RulesOut : Op → FaultKind → State → Type 0
-RulesOut op kind state = (unit : MethodUnit) (i : Instr) (f : Frame) (heap : Heap) → i.op ≡ op → HoldsIn state f
-    → HasEffect (effects unit i f heap) (Faults kind) → ⊥
+-- No instruction of the unit with this operation ends in the fault in a frame of which the state holds.
+abbrev pub RulesOut : MethodUnit → Op → FaultKind → State → Type 0
+RulesOut unit op kind state = (i : Instr) (f : Frame) (heap : Heap) → i.op ≡ op → HoldsIn state f → HasEffect (effects unit i f heap) (Faults kind) → ⊥

@@ -10,13 +10,13 @@ use Rattle.range_states.specs.Faults.{faults_of}
 abbrev pub obligation : Instr → FaultKind → Obligation
 obligation i kind = record { at = i.at; kind = kind; callee = None }
 
--- The obligations of an instruction: that it ends in none of these.
-abbrev pub obligations_at : Instr → List Obligation
-obligations_at i = map (obligation i) (faults_of i.op)
+-- The obligations of an instruction of the unit: that it ends in none of its faults.
+abbrev pub obligations_at : MethodUnit → Instr → List Obligation
+obligations_at unit i = map (obligation i) (faults_of unit i.op)
 
--- Those of an instruction of a unit's body. What stands before the body is never executed.
+-- Those of it where it stands in the unit's body. What stands before the body is never executed.
 abbrev pub obligations_in : MethodUnit → Instr → List Obligation
-obligations_in unit i = if nat_le unit.body_start i.at then obligations_at i else []
+obligations_in unit i = if nat_le unit.body_start i.at then obligations_at unit i else []
 
 -- Those of a unit, in the order of its code.
 abbrev pub obligations_of : MethodUnit → List Obligation

@@ -6,12 +6,12 @@ ghost use Rattle.cil_model.specs.Arithmetic.{LEAST, GREATEST};
 ghost use Rattle.range_facts.specs.Arith.{exact};
 ghost use Rattle.range_facts.specs.Facts.{range_of};
 ghost use Rattle.number_spans.specs.Spans as spans;
-ghost use Rattle.range_states.specs.Faults.{operands_of};
+ghost use Rattle.range_states.specs.Faults.{condition_values, operands_of};
 ghost use Rattle.range_states.specs.FrameFacts.{IsNumber};
 ghost use Rattle.range_obligations.specs.Entailed.{are_int32, are_amounts, rules_out, rules_out_at_call, entailed_by, entailed};
 ghost use Rattle.range_obligations.specs.Meaning.{RulesOut};
 
-use cil_model::{BinOp, FaultKind, Op};
+use cil_model::{BinOp, FaultKind, Op, Unit, UnitCall, unit_call};
 use domain_api::Expr;
 use range_states::AbsState;
 
@@ -84,25 +84,31 @@ fn is_ruled_out(state: &AbsState, kind: FaultKind, op: BinOp, a: Expr, b: Expr) 
     }
 }
 
-/// Returns whether the fault is ruled out at a call: what is asserted is not 0.
+/// Returns whether the fault is ruled out at a call: what is asserted, which lies on top of the stack or below a message,
+/// is not 0.
 #[tactic(auto, unfolding(crate::specs::Entailed::rules_out_at_call))]
-fn is_ruled_out_at_call(state: &AbsState, kind: FaultKind, e: Expr) -> bool
+fn is_ruled_out_at_call(state: &AbsState, call: Option<UnitCall>, kind: FaultKind) -> bool
     requires reached { IsSome state.now }
-    requires number { ForSome state.now (λ known. IsNumber known.facts e) }
-    ensures { ForSome state.now (λ known. result ≡ rules_out_at_call kind known.facts e) }
+    requires operands { ForSome state.now (λ known. condition_values call ≤ length known.variables) }
+    ensures { ForSome state.now (λ known. result ≡ rules_out_at_call call kind known) }
 {
-    match kind {
-        FaultKind::Assert => is_excluded(state, e, 0),
+    match (call, kind) {
+        (Some(UnitCall::Assert(false)), FaultKind::Assert) => {
+            is_excluded(state, state.from_top(0), 0)
+        }
+        (Some(UnitCall::Assert(true)), FaultKind::Assert) => {
+            is_excluded(state, state.from_top(1), 0)
+        }
         _ => false,
     }
 }
 
 /// Returns whether the fault is ruled out at an operation, where something is reached.
 #[tactic(auto, unfolding(crate::specs::Entailed::entailed_by))]
-fn is_entailed(state: &AbsState, op: &Op, kind: FaultKind) -> bool
+fn is_entailed(state: &AbsState, unit: &Unit, op: &Op, kind: FaultKind) -> bool
     requires reached { IsSome state.now }
     requires operands { ForSome state.now (λ known. operands_of op.now ≤ length known.variables) }
-    ensures { ForSome state.now (λ known. result ≡ entailed_by op.now kind known) }
+    ensures { ForSome state.now (λ known. result ≡ entailed_by unit.now op.now kind known) }
 {
     match op {
         Op::Bin(operator) => is_ruled_out(
@@ -112,24 +118,23 @@ fn is_entailed(state: &AbsState, op: &Op, kind: FaultKind) -> bool
             state.from_top(1),
             state.from_top(0),
         ),
-        Op::Call(_) => is_ruled_out_at_call(state, kind, state.from_top(0)),
+        Op::Call(number) => is_ruled_out_at_call(state, unit_call(*number), kind),
         _ => false,
     }
 }
 
-/// Returns whether a state rules out that an operation ends in this fault. It is to assume already that the faults
-/// that are
-/// tested before it did not come.
+/// Returns whether a state rules out that an instruction of the unit with this operation ends in the fault. It is to
+/// assume already that the faults that are tested before it did not come.
 ///
 /// Cost: constant.
-pub fn entails(state: &AbsState, op: &Op, kind: FaultKind) -> bool
+pub fn rules_out(state: &AbsState, unit: &Unit, op: &Op, kind: FaultKind) -> bool
     requires operands { ForSome state.now (λ known. operands_of op.now ≤ length known.variables) }
-    ensures value { result ≡ entailed op.now kind state.now }
+    ensures value { result ≡ entailed unit.now op.now kind state.now }
     // The machine does not end in a fault that is ruled out.
-    ensures sound { result ≡ true → RulesOut op.now kind state.now }
+    ensures sound { result ≡ true → RulesOut unit.now op.now kind state.now }
 {
     if !state.reached() {
         return true;
     }
-    is_entailed(state, op, kind)
+    is_entailed(state, unit, op, kind)
 }

@@ -10,24 +10,25 @@ use domain_api::NoMemory;
 use range_states::faults_of;
 use std::alloc::Global;
 
-/// The faults that are to be ruled out at an operation on numbers, in the order in which the machine tests for them.
+/// The faults that are to be ruled out at an instruction of the unit with this operation, in the order in which the machine
+/// tests for them.
 ///
 /// Cost: constant.
-pub fn faults_to_rule_out(op: &Op) -> &'static [FaultKind]
-    ensures value { result.now ≡ faults_of op.now }
-    // Where the operation is not one of arrays, no instruction with it ends in another fault.
-    ensures complete { EndsInNoOther op.now result.now }
-    // Where a state entails each of them in turn, no instruction with it ends in a fault.
-    ensures safe { RulesOutInTurn op.now result.now }
+pub fn faults_to_rule_out(unit: &Unit, op: &Op) -> &'static [FaultKind]
+    ensures value { result.now ≡ faults_of unit.now op.now }
+    // Where the operation is not one of arrays, no instruction of the unit with it ends in another fault.
+    ensures complete { EndsInNoOther unit.now op.now result.now }
+    // Where a state entails each of them in turn, no instruction of the unit with it ends in a fault.
+    ensures safe { RulesOutInTurn unit.now op.now result.now }
 {
-    faults_of(op)
+    faults_of(unit, op)
 }
 
-/// Appends the obligations of an instruction.
-fn push_obligations(found: &mut Vec<Obligation>, instr: &Instr) -> Result<(), NoMemory>
-    ensures { OnOk result (found.new.items ≡ found.old.items ++ obligations_at instr.now) }
+/// Appends the obligations of an instruction of the unit.
+fn push_obligations(found: &mut Vec<Obligation>, unit: &Unit, instr: &Instr) -> Result<(), NoMemory>
+    ensures { OnOk result (found.new.items ≡ found.old.items ++ obligations_at unit.now instr.now) }
 {
-    for kind in faults_to_rule_out(&instr.op) {
+    for kind in faults_to_rule_out(unit, &instr.op) {
         found.push(Obligation {
             at: instr.at,
             kind: *kind,
@@ -37,7 +38,7 @@ fn push_obligations(found: &mut Vec<Obligation>, instr: &Instr) -> Result<(), No
     Ok(())
 }
 
-/// Appends those of an instruction of the unit's body.
+/// Appends those of an instruction where it stands in the unit's body.
 fn push_body_obligations(
     found: &mut Vec<Obligation>,
     unit: &Unit,
@@ -48,7 +49,7 @@ fn push_body_obligations(
     if instr.at < unit.body_start {
         return Ok(());
     }
-    push_obligations(found, instr)?;
+    push_obligations(found, unit, instr)?;
     Ok(())
 }
 

@@ -23,7 +23,7 @@ use Rattle.range_states.specs.FrameFacts.{FrameFacts}
 use Rattle.range_states.specs.Moves.{appended, pushed, popped, placed, with_placed}
 use Rattle.range_states.specs.NormalForm.{number_at, of_numbers}
 use Rattle.range_states.specs.Operands.{from_top}
-use Rattle.range_states.specs.Avoiding.{avoiding, amount, no_division_overflow}
+use Rattle.range_states.specs.Avoiding.{avoiding, operands_avoiding, amount, no_division_overflow}
 use Rattle.range_rules.specs.Acts.{acted, loaded, stored, negated, behind_test}
 use Rattle.range_rules.specs.Choices.{tested, switched, chosen}
 use Rattle.range_rules.specs.Entry.{entry, zero_in}
@@ -102,13 +102,13 @@ second_case = refl
 
 -- a division by 0 to 9 goes on with 1 to 9, and by 0 it does not go on
 division_by_zero : post (unit [] []) (ops.Bin operators.Div) (Some (frame (expr 0 (pos 8) ∷ expr 0 (pos 0) ∷ []) [])) ≡ None
-unfolding post avoiding assuming assumed holding assumed_apart equal at_most gap from_top
+unfolding post avoiding operands_avoiding assuming assumed holding assumed_apart equal at_most gap from_top
 division_by_zero = refl
 
 -- the least int32 is divided by another number than -1
-least_divided : avoiding faults.DivOverflow (frame (expr 0 (negsuc 2147483647) ∷ expr 1 (pos 0) ∷ []) (between (negsuc 0) (pos 5) ∷ []))
+least_divided : operands_avoiding faults.DivOverflow (frame (expr 0 (negsuc 2147483647) ∷ expr 1 (pos 0) ∷ []) (between (negsuc 0) (pos 5) ∷ []))
     ≡ Some (frame (expr 0 (negsuc 2147483647) ∷ expr 1 (pos 0) ∷ []) (between (pos 0) (pos 5) ∷ []))
-unfolding avoiding no_division_overflow assuming assumed holding assumed_apart equal at_most gap lost_by changed ordered assumed_at_most lowered raised_to range_without without lost raised holed inner_hole range_of range_at moved from_top
+unfolding operands_avoiding no_division_overflow assuming assumed holding assumed_apart equal at_most gap lost_by changed ordered assumed_at_most lowered raised_to range_without without lost raised holed inner_hole range_of range_at moved from_top
 least_divided = refl
 
 -- -2147483648 is negated to itself
@@ -117,7 +117,7 @@ unfolding post acted negated with_result outcome settled popped from_top int_wra
 least_negated = refl
 
 -- a shift by 0 to 40 is one by 0 to 31
-amount_assumed : avoiding faults.Shift (frame (expr 0 (pos 1) ∷ expr 1 (pos 0) ∷ []) (between (negsuc 2) (pos 40) ∷ []))
+amount_assumed : operands_avoiding faults.Shift (frame (expr 0 (pos 1) ∷ expr 1 (pos 0) ∷ []) (between (negsuc 2) (pos 40) ∷ []))
     ≡ Some (frame (expr 0 (pos 1) ∷ expr 1 (pos 0) ∷ []) (between (pos 0) (pos 31) ∷ []))
-unfolding avoiding amount assuming assumed holding at_most gap changed assumed_at_most lowered raised_to range_without range_of range_at moved from_top
+unfolding operands_avoiding amount assuming assumed holding at_most gap changed assumed_at_most lowered raised_to range_without range_of range_at moved from_top
 amount_assumed = refl

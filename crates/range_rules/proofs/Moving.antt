@@ -8,7 +8,6 @@ use Rattle.cil_model.specs.declared.instruction.BinOp.{BinOp}
 use Rattle.cil_model.specs.declared.instruction.BinOp.TheVariants as operators
 use Rattle.cil_model.specs.declared.instruction.CmpOp.{CmpOp}
 use Rattle.cil_model.specs.declared.instruction.Test.TheVariants as tests
-use Rattle.cil_model.specs.declared.machine.FaultKind.TheVariants as faults
 use Rattle.cil_model.specs.declared.place.Place.{Place}
 use Rattle.cil_model.specs.declared.place.Place.TheVariants as places
 use Rattle.cil_model.specs.declared.unit_numbers.UnitCall.{UnitCall}
@@ -18,9 +17,9 @@ use Rattle.range_states.specs.Arithmetic.{arith as result_pushed, compare, with_
 use Rattle.range_states.specs.FrameFacts.{FrameFacts, State, IsNumber, variables_in}
 use Rattle.range_states.specs.Moves.{push, pop, put, pushed, popped, with_placed}
 use Rattle.range_states.specs.Operands.{from_top}
-use Rattle.range_states.specs.Avoiding.{avoiding, avoid}
+use Rattle.range_states.specs.Avoiding.{condition_met}
 use Rattle.range_states.proofs.NumbersStay.{popped_keeps}
-use Rattle.range_rules.specs.Acts.{loaded, stored, duplicated, returned, given, operated, negated, complemented, behind_call, behind_test}
+use Rattle.range_rules.specs.Acts.{loaded, stored, duplicated, returned, given, operated, negated, complemented, condition_taken, behind_call, behind_test}
 use Rattle.range_rules.specs.Placing.{item_there}
 
 pub load_is : (i : ℕ) (e : Expr) (state : State) → slice_get (variables_in state) i ≡ Some e → push e state ≡ option_map (loaded i) state
@@ -110,20 +109,37 @@ complement_is e (Some known) is = rw is refl
 
 -- ---- calls and branches
 
-pub assume_is : (message : Bool) (state : State) → pop (avoid faults.Assert state) ≡ option_and_then (behind_call (Some (calls.Assume message))) state
-unfolding behind_call avoiding
+pub lone_taken : (state : State) → pop state ≡ option_map (condition_taken false) state
+lone_taken None = refl
+lone_taken (Some known) = refl
+
+pub both_taken : (state : State) → pop (pop state) ≡ option_map (condition_taken true) state
+both_taken None = refl
+both_taken (Some known) = refl
+
+pub assume_is : (message : Bool) (state : State)
+    → option_map (condition_taken message) (option_and_then (condition_met message) state) ≡ option_and_then (behind_call (Some (calls.Assume message))) state
+unfolding behind_call
 assume_is message None = refl
 assume_is message (Some known) = refl
 
-other_call : (call : Option UnitCall) (known : FrameFacts) → ((message : Bool) → call ≢ Some (calls.Assume message)) → behind_call call known ≡ Some (popped known)
+pub assert_is : (message : Bool) (state : State) → option_map (condition_taken message) state ≡ option_and_then (behind_call (Some (calls.Assert message))) state
 unfolding behind_call
-other_call None known other = refl
-other_call (Some (calls.Assume message)) known other = absurd (other message refl)
-other_call (Some _) known other = refl
+assert_is message None = refl
+assert_is message (Some known) = refl
 
-pub call_is : (call : Option UnitCall) (state : State) → ((message : Bool) → call ≢ Some (calls.Assume message)) → pop state ≡ option_and_then (behind_call call) state
-call_is call None other = refl
-call_is call (Some known) other = sym (other_call call known other)
+other_call : (call : Option UnitCall) (known : FrameFacts) → ((message : Bool) → call ≢ Some (calls.Assume message))
+    → ((message : Bool) → call ≢ Some (calls.Assert message)) → behind_call call known ≡ Some known
+unfolding behind_call
+other_call None known assume assert = refl
+other_call (Some (calls.Assume message)) known assume assert = absurd (assume message refl)
+other_call (Some (calls.Assert message)) known assume assert = absurd (assert message refl)
+other_call (Some _) known assume assert = refl
+
+pub call_is : (call : Option UnitCall) (state : State) → ((message : Bool) → call ≢ Some (calls.Assume message))
+    → ((message : Bool) → call ≢ Some (calls.Assert message)) → state ≡ option_and_then (behind_call call) state
+call_is call None assume assert = refl
+call_is call (Some known) assume assert = sym (other_call call known assume assert)
 
 pub always_is : (state : State) → state ≡ option_map (behind_test tests.Always) state
 unfolding behind_test
@@ -157,7 +173,10 @@ pub ruleset moving = (
   operator_is,
   negation_is,
   complement_is,
+  lone_taken,
+  both_taken,
   assume_is,
+  assert_is,
   call_is,
   always_is,
   two_popped,

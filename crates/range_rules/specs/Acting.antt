@@ -43,7 +43,7 @@ use Rattle.range_states.specs.FrameFacts.{FrameFacts, State, HasForm, HoldsBy, H
 use Rattle.range_states.specs.Frames.{HoldsIn, variables_of}
 use Rattle.range_states.specs.Moves.{pushed, popped, with_placed}
 use Rattle.range_states.specs.Operands.{from_top}
-use Rattle.range_states.specs.Avoiding.{top_compares}
+use Rattle.range_states.specs.Avoiding.{condition_met}
 use Rattle.range_states.proofs.FormsKept.{constant_number, popped_form}
 use Rattle.range_states.proofs.FrameVariables.{variables_of-stack, variables_of-args, variables_of-locals}
 use Rattle.range_states.proofs.MadeHold.{worth_fits}
@@ -52,7 +52,7 @@ use Rattle.range_states.proofs.NumbersStay.{popped_keeps}
 use Rattle.range_states.proofs.ResultsHold.{result_holds, truth_holds}
 use Rattle.range_states.proofs.Avoided.{top_stands}
 use Rattle.range_states.proofs.Operands.{top_is, two_are, read_number}
-use Rattle.range_rules.specs.Acts.{acted, is_told, is_told_call, loaded, stored, duplicated, given, operated, negated, complemented, behind_call, behind_test, arg_place, local_place, type_of}
+use Rattle.range_rules.specs.Acts.{acted, is_told, is_told_call, loaded, stored, duplicated, given, operated, negated, complemented, condition_taken, behind_call, behind_test, arg_place, local_place, type_of}
 use Rattle.range_rules.specs.Placing.{HasArgs, number_at, value_at, arg_at, local_at, item_there, place_below, with_last, popped_by}
 
 -- ---- where the frame goes on
@@ -425,7 +425,8 @@ module _ (unit : MethodUnit) (known : FrameFacts) (f : Frame) (form : HasForm kn
       (λ zero there. elim (⊎_elim (λ is. other (sym is)) (λ none. none) there) [ ])
       (λ nonzero there. (nonzero, goes_alone f g _ heap after there)) has
 
-  popped_state : (state : State) (v : Value) (rest : List Value) → f.stack ≡ v ∷ rest → HoldsIn state f → HoldsIn (option_map popped state) (moved f (i.at + i.size) rest)
+  popped_state : (state : State) (v : Value) (rest : List Value) → f.stack ≡ v ∷ rest → HoldsIn state f
+      → HoldsIn (option_map (condition_taken false) state) (moved f (i.at + i.size) rest)
   popped_state None v rest is there = elim there.holds [ ]
   popped_state (Some k) v rest is there = pops k f (i.at + i.size) v rest is there
 
@@ -436,11 +437,12 @@ module _ (unit : MethodUnit) (known : FrameFacts) (f : Frame) (form : HasForm kn
   assert_passed _ is has = elim has [ ]
 
   assume_passed : (stack : List Value) → f.stack ≡ stack → HasEffect (rows.tests_condition Assumes i f heap (Some stack)) (GoesOn g after)
-      → HoldsIn (option_map popped (top_compares comparisons.NeUn (pos 0) known)) g
+      → HoldsIn (option_map (condition_taken false) (condition_met false known)) g
+  unfolding condition_met
   assume_passed (Int n ∷ rest) is has =
       let through = passed Assumes n rest (λ same. cc) has in
       let stands = top_stands comparisons.NeUn (pos 0) n rest known f (omega (arith, ints)) (omega (arith, ints)) is (rw through.0 refl) form holds in
-      holds_there _ g _ through.1 (popped_state (top_compares comparisons.NeUn (pos 0) known) (Int n) rest is stands.holds)
+      holds_there _ g _ through.1 (popped_state (condition_met false known) (Int n) rest is stands.holds)
   assume_passed _ is has = elim has [ ]
 
   call_passed : (call : Option UnitCall) → is_told_call call ≡ true → HasEffect (rows.contract_call call i f heap) (GoesOn g after) → HoldsIn (behind_call call known) g

@@ -7,7 +7,6 @@ use Rattle.cil_model.specs.UnitCalls.{unit_call}
 use Rattle.cil_model.specs.declared.instruction.BinOp.{BinOp}
 use Rattle.cil_model.specs.declared.instruction.BinOp.TheVariants as operators
 use Rattle.cil_model.specs.declared.instruction.CmpOp.{CmpOp}
-use Rattle.cil_model.specs.declared.instruction.CmpOp.TheVariants as comparisons
 use Rattle.cil_model.specs.declared.instruction.Op.{Op}
 use Rattle.cil_model.specs.declared.instruction.Op.TheVariants as ops
 use Rattle.cil_model.specs.declared.instruction.Test.{Test}
@@ -23,7 +22,8 @@ use Rattle.range_states.specs.Arithmetic.{with_result, with_truth}
 use Rattle.range_states.specs.FrameFacts.{FrameFacts, State}
 use Rattle.range_states.specs.Moves.{pushed, popped, with_placed}
 use Rattle.range_states.specs.Operands.{from_top}
-use Rattle.range_states.specs.Avoiding.{top_compares}
+use Rattle.range_states.specs.Avoiding.{condition_met}
+use Rattle.range_states.specs.Faults.{condition_values}
 
 -- ---- which operations are told of
 
@@ -92,10 +92,16 @@ complemented known = with_result operators.Sub (constant (negsuc 0)) (from_top 0
 
 -- ---- calls and branches
 
+-- A condition is taken, and a message on it.
+abbrev pub condition_taken : Bool → FrameFacts → FrameFacts
+condition_taken false known = popped known
+condition_taken true known = popped (popped known)
+
 -- Behind an Assume its condition is not 0. Behind an Assert that is assumed with its fault.
 unfoldable pub behind_call : Option UnitCall → FrameFacts → State
-behind_call (Some (calls.Assume message)) known = option_map popped (top_compares comparisons.NeUn (pos 0) known)
-behind_call _ known = Some (popped known)
+behind_call (Some (calls.Assume message)) known = option_map (condition_taken message) (condition_met message known)
+behind_call (Some (calls.Assert message)) known = Some (condition_taken message known)
+behind_call _ known = Some known
 
 -- A branch takes what it tests.
 unfoldable pub behind_test : Test → FrameFacts → FrameFacts
@@ -140,7 +146,7 @@ variables_read unit (ops.StoreArg n) = arg_place unit n + 1
 variables_read unit (ops.LoadLocal n) = local_place unit n + 1
 variables_read unit (ops.StoreLocal n) = local_place unit n + 1
 variables_read unit ops.Dup = 1
-variables_read unit (ops.Call number) = 1
+variables_read unit (ops.Call number) = condition_values (unit_call number)
 variables_read unit ops.Return = result_count unit.result
 variables_read unit (ops.Branch test target) = operands test
 variables_read unit (ops.Switch targets) = 1

@@ -23,13 +23,13 @@ use Rattle.cil_model.proofs.KindsSettle.{Absorbs, Settled, settled}
 use Rattle.cil_model.proofs.Lists.{of_found}
 use Rattle.range_states.specs.FrameFacts.{FrameFacts, State, HasForm}
 use Rattle.range_states.specs.Frames.{HoldsIn}
-use Rattle.range_states.specs.Avoiding.{avoid_all}
+use Rattle.range_states.specs.Avoiding.{avoid_all, avoid_each}
 use Rattle.range_states.specs.Faults.{faults_of}
 use Rattle.range_rules.specs.Acts.{acted, is_told, IsReady, variables_read, operands}
 use Rattle.range_rules.specs.BlockWays.{IsPassed, IsLeft, IsWay}
 use Rattle.range_rules.specs.Choices.{chosen}
 use Rattle.range_rules.specs.Flow.{FitsKinds, HasVariables, variable_count, through, GoesThrough}
-use Rattle.range_rules.specs.FormsBehind.{AreVariables, HasNext, then_kept, avoid_all_kept, chosen_kept, acted_kept, loaded_is, stored_is, call_is, test_is, switch_is, operator_is, number_is, doubled_is}
+use Rattle.range_rules.specs.FormsBehind.{AreVariables, HasNext, then_kept, one_taken, avoid_all_kept, chosen_kept, acted_kept, loaded_is, stored_is, call_is, test_is, switch_is, operator_is, number_is, doubled_is}
 use Rattle.range_rules.specs.Post.{post, along}
 use Rattle.range_rules.specs.PostLaws.{post_holds, along_holds}
 use Rattle.range_rules.specs.Ready.{avoided_ready, chosen_ready}
@@ -86,7 +86,8 @@ reads_there unit stack after known (ops.StoreArg n) has told next is = omega (ar
 reads_there unit stack after known (ops.LoadLocal n) has told next is = omega (arith, (loaded_is unit.locals n stack after is).0, has.count)
 reads_there unit stack after known (ops.StoreLocal n) has told next is = omega (arith, (stored_is unit.locals n stack after is).0, has.count)
 reads_there unit stack after known ops.Dup has told next is = omega (arith, (doubled_is stack after is).0, has.count)
-reads_there unit stack after known (ops.Call number) has told next is = omega (arith, call_is unit (unit_call number) stack after told is, has.count)
+reads_there unit stack after known (ops.Call number) has told next is =
+    omega (arith, one_taken (unit_call number) told, call_is unit (unit_call number) stack after told is, has.count)
 reads_there unit stack after known ops.Return has told next is = elim next [ ]
 reads_there unit stack after known (ops.Branch test target) has told next is =
     test_reads test (length known.variables) (omega (arith, test_is test stack after is, has.count))
@@ -103,24 +104,24 @@ then_ready : (m n : ℕ) (P : FrameFacts → Type 0) (next : FrameFacts → Stat
 then_ready m n P next None has ready more = tt
 then_ready m n P next (Some known) has ready more = more known has (ready known refl)
 
-none_avoided : (kinds : List FaultKind) → avoid_all kinds None ≡ None
-none_avoided [] = refl
-none_avoided (kind ∷ kinds) = none_avoided kinds
+none_avoided : (unit : MethodUnit) (op : Op) (kinds : List FaultKind) → avoid_each unit op kinds None ≡ None
+none_avoided unit op [] = refl
+none_avoided unit op (kind ∷ kinds) = none_avoided unit op kinds
 
 none_behind : (unit : MethodUnit) (op : Op) → post unit op None ≡ None
 unfolding post
-none_behind unit op = rw (none_avoided (faults_of op)) refl
+none_behind unit op = rw (none_avoided unit op (faults_of unit op)) refl
 
 none_along : (unit : MethodUnit) (op : Op) (way : ℕ) → along unit op way None ≡ None
 unfolding along
-none_along unit op way = rw (none_avoided (faults_of op)) refl
+none_along unit op way = rw (none_avoided unit op (faults_of unit op)) refl
 
 post_kept : (unit : MethodUnit) (stack after : List Kind) (op : Op) (state : State) → AreVariables (variable_count unit stack) state → is_told op ≡ true → OperandFits op → HasNext op
     → kinds.behind (shape_of unit) op stack ≡ Some after → AreVariables (variable_count unit after) (post unit op state)
 unfolding post
 post_kept unit stack after op state has told fits next is =
-    then_ready (variable_count unit stack) (variable_count unit after) (IsReady op) (acted unit op) (avoid_all (faults_of op) state)
-    (avoid_all_kept (variable_count unit stack) (faults_of op) state has) (avoided_ready op state)
+    then_ready (variable_count unit stack) (variable_count unit after) (IsReady op) (acted unit op) (avoid_all unit op state)
+    (avoid_all_kept (variable_count unit stack) unit op state has) (avoided_ready unit op state)
     (λ known more ready. acted_kept unit stack after known more op told fits next is ready)
 
 along_kept : (unit : MethodUnit) (stack after : List Kind) (op : Op) (way : ℕ) (state : State) → AreVariables (variable_count unit stack) state → is_told op ≡ true → OperandFits op
@@ -128,9 +129,9 @@ along_kept : (unit : MethodUnit) (stack after : List Kind) (op : Op) (way : ℕ)
 unfolding along
 along_kept unit stack after op way state has told fits next is =
     let n = variable_count unit stack in
-    then_ready n (variable_count unit after) (IsReady op) (acted unit op) (option_and_then (chosen op way) (avoid_all (faults_of op) state))
-    (then_kept n n (chosen op way) (avoid_all (faults_of op) state) (avoid_all_kept n (faults_of op) state has) (λ known more. chosen_kept n op way known more))
-    (chosen_ready op way (avoid_all (faults_of op) state) (avoided_ready op state))
+    then_ready n (variable_count unit after) (IsReady op) (acted unit op) (option_and_then (chosen op way) (avoid_all unit op state))
+    (then_kept n n (chosen op way) (avoid_all unit op state) (avoid_all_kept n unit op state has) (λ known more. chosen_kept n op way known more))
+    (chosen_ready op way (avoid_all unit op state) (avoided_ready unit op state))
     (λ known more ready. acted_kept unit stack after known more op told fits next is ready)
 
 goes_on : (op : Op) (next n at : ℕ) → slice_get (successors op next) n ≡ Some at → HasNext op

@@ -44,12 +44,13 @@ use Rattle.range_states.specs.NormalForm.{number_at}
 use Rattle.range_states.specs.Operands.{from_top}
 use Rattle.range_states.specs.declared.number.Number.{Number}
 use Rattle.range_states.specs.declared.number.Number.TheVariants.{Constant, Among}
-use Rattle.range_states.specs.Avoiding.{is_just, top_compares, no_division_overflow, amount, avoiding, avoid, avoid_all}
+use Rattle.range_states.specs.Avoiding.{is_just, top_compares, no_division_overflow, amount, operands_avoiding, condition_met, call_avoiding, avoiding, avoid, avoid_each, avoid_all}
+use Rattle.range_states.specs.Faults.{condition_values, faults_of}
 use Rattle.range_states.proofs.FormsKept.{assuming_form, constant_number, pushed_form, popped_form, put_form, truth_form}
 use Rattle.range_states.proofs.NumbersStay.{popped_keeps}
 use Rattle.range_states.proofs.ResultForms.{result_form}
 use Rattle.range_states.proofs.Operands.{read_number}
-use Rattle.range_rules.specs.Acts.{acted, is_told, is_told_call, loaded, stored, duplicated, given, operated, negated, complemented, behind_call, behind_test, arg_place, local_place, type_of, IsReady}
+use Rattle.range_rules.specs.Acts.{acted, is_told, is_told_call, loaded, stored, duplicated, given, operated, negated, complemented, condition_taken, behind_call, behind_test, arg_place, local_place, type_of, IsReady}
 use Rattle.range_rules.specs.Choices.{tested, switched, chosen}
 use Rattle.range_rules.specs.Flow.{HasVariables, variable_count}
 use Rattle.range_rules.specs.Placing.{place_below}
@@ -95,18 +96,36 @@ amount_kept n known has = then_kept n n (top_compares comparisons.Le (pos 31)) (
     (assuming_kept n comparisons.Ge (from_top 0 known.variables) (constant (pos 0)) true known has)
     (λ next more. assuming_kept n comparisons.Le (from_top 0 next.variables) (constant (pos 31)) true next more)
 
-avoiding_kept : (n : ℕ) (kind : FaultKind) (known : FrameFacts) → HasVariables n known → AreVariables n (avoiding kind known)
-unfolding avoiding
-avoiding_kept n faults.DivZero known has = assuming_kept n comparisons.NeUn (from_top 0 known.variables) (constant (pos 0)) true known has
-avoiding_kept n faults.Assert known has = assuming_kept n comparisons.NeUn (from_top 0 known.variables) (constant (pos 0)) true known has
-avoiding_kept n faults.DivOverflow known has = overflow_kept n known has
-avoiding_kept n faults.Shift known has = amount_kept n known has
-avoiding_kept n _ known has = has
+operands_kept : (n : ℕ) (kind : FaultKind) (known : FrameFacts) → HasVariables n known → AreVariables n (operands_avoiding kind known)
+unfolding operands_avoiding
+operands_kept n faults.DivZero known has = assuming_kept n comparisons.NeUn (from_top 0 known.variables) (constant (pos 0)) true known has
+operands_kept n faults.DivOverflow known has = overflow_kept n known has
+operands_kept n faults.Shift known has = amount_kept n known has
+operands_kept n _ known has = has
 
-pub avoid_all_kept : (n : ℕ) (kinds : List FaultKind) (state : State) → AreVariables n state → AreVariables n (avoid_all kinds state)
-avoid_all_kept n [] state has = has
-avoid_all_kept n (kind ∷ kinds) state has =
-    avoid_all_kept n kinds (avoid kind state) (then_kept n n (avoiding kind) state has (λ known more. avoiding_kept n kind known more))
+condition_kept : (n : ℕ) (message : Bool) (known : FrameFacts) → HasVariables n known → AreVariables n (condition_met message known)
+unfolding condition_met
+condition_kept n false known has = assuming_kept n comparisons.NeUn (from_top 0 known.variables) (constant (pos 0)) true known has
+condition_kept n true known has = assuming_kept n comparisons.NeUn (from_top 1 known.variables) (constant (pos 0)) true known has
+
+call_kept : (n : ℕ) (call : Option UnitCall) (kind : FaultKind) (known : FrameFacts) → HasVariables n known → AreVariables n (call_avoiding call kind known)
+unfolding call_avoiding
+call_kept n (Some (calls.Assert message)) faults.Assert known has = condition_kept n message known has
+call_kept n _ kind known has = has
+
+avoiding_kept : (n : ℕ) (unit : MethodUnit) (op : Op) (kind : FaultKind) (known : FrameFacts) → HasVariables n known → AreVariables n (avoiding unit op kind known)
+unfolding avoiding
+avoiding_kept n unit (ops.Bin operator) kind known has = operands_kept n kind known has
+avoiding_kept n unit (ops.Call number) kind known has = call_kept n (unit_call number) kind known has
+avoiding_kept n unit _ kind known has = has
+
+each_kept : (n : ℕ) (unit : MethodUnit) (op : Op) (kinds : List FaultKind) (state : State) → AreVariables n state → AreVariables n (avoid_each unit op kinds state)
+each_kept n unit op [] state has = has
+each_kept n unit op (kind ∷ kinds) state has =
+    each_kept n unit op kinds (avoid unit op kind state) (then_kept n n (avoiding unit op kind) state has (λ known more. avoiding_kept n unit op kind known more))
+
+pub avoid_all_kept : (n : ℕ) (unit : MethodUnit) (op : Op) (state : State) → AreVariables n state → AreVariables n (avoid_all unit op state)
+avoid_all_kept n unit op state has = each_kept n unit op (faults_of unit op) state has
 
 tested_kept : (n : ℕ) (test : Test) (so : Bool) (known : FrameFacts) → HasVariables n known → AreVariables n (tested test so known)
 unfolding tested
@@ -209,6 +228,12 @@ condition_is : (stack after : List Kind) → kinds.behind_condition false stack 
 condition_is (Int ∷ rest) after is = ap suc (ap length (same_Some rest after is))
 condition_is _ after is = absurd (none-some after is)
 
+-- A call that is told of takes its condition alone.
+pub one_taken : (call : Option UnitCall) → is_told_call call ≡ true → condition_values call ≡ 1
+one_taken (Some (calls.Assert false)) told = refl
+one_taken (Some (calls.Assume false)) told = refl
+one_taken _ told = absurd (false≢true told)
+
 pub call_is : (unit : MethodUnit) (call : Option UnitCall) (stack after : List Kind) → is_told_call call ≡ true → kinds.behind_call (shape_of unit) call stack ≡ Some after
     → length stack ≡ suc (length after)
 call_is unit (Some (calls.Assert false)) stack after told is = condition_is stack after is
@@ -301,10 +326,10 @@ module _ (unit : MethodUnit) (stack after : List Kind) (known : FrameFacts) (has
   calls_on : (call : Option UnitCall) → is_told_call call ≡ true → length stack ≡ suc (length after) → AreVariables (variable_count unit after) (behind_call call known)
   unfolding behind_call
   calls_on (Some (calls.Assert false)) told less = pops less
-  calls_on (Some (calls.Assume false)) told less = by (top_compares comparisons.NeUn (pos 0) known)
-      (assuming_kept (suc (variable_count unit after)) comparisons.NeUn (from_top 0 known.variables) (constant (pos 0)) true known (had_as (suc (variable_count unit after)) (omega (arith, less))))
+  calls_on (Some (calls.Assume false)) told less = by (condition_met false known)
+      (condition_kept (suc (variable_count unit after)) false known (had_as (suc (variable_count unit after)) (omega (arith, less))))
     where
-      by : (state : State) → AreVariables (suc (variable_count unit after)) state → AreVariables (variable_count unit after) (option_map popped state)
+      by : (state : State) → AreVariables (suc (variable_count unit after)) state → AreVariables (variable_count unit after) (option_map (condition_taken false) state)
       by None kept = tt
       by (Some new) kept = popped_kept (variable_count unit after) new kept
   calls_on _ told less = absurd (false≢true told)

@@ -5,14 +5,13 @@ use Rattle.cil_model.specs.declared.instruction.Op.{Op}
 use Rattle.cil_model.specs.declared.unit.Unit.{Unit as MethodUnit}
 use Rattle.range_states.specs.FrameFacts.{State}
 use Rattle.range_states.specs.Avoiding.{avoid_all}
-use Rattle.range_states.specs.Faults.{faults_of}
 use Rattle.range_rules.specs.Acts.{acted}
 use Rattle.range_rules.specs.Choices.{chosen}
 
--- No fault came, and the operation did what it does. Of a branch nothing is assumed here.
+-- The instruction did not end in a fault, and its operation did what it does. Of a branch nothing is assumed here.
 unfoldable pub post : MethodUnit → Op → State → State
-post unit op state = option_and_then (acted unit op) (avoid_all (faults_of op) state)
+post unit op state = option_and_then (acted unit op) (avoid_all unit op state)
 
 -- So along the way of this number, which is assumed to have been taken.
 unfoldable pub along : MethodUnit → Op → ℕ → State → State
-along unit op way state = option_and_then (acted unit op) (option_and_then (chosen op way) (avoid_all (faults_of op) state))
+along unit op way state = option_and_then (acted unit op) (option_and_then (chosen op way) (avoid_all unit op state))

@@ -10,7 +10,6 @@ use Rattle.cil_model.specs.declared.unit.Unit.{Unit as MethodUnit}
 use Rattle.range_states.specs.FrameFacts.{FrameFacts, State, HasForm}
 use Rattle.range_states.specs.Frames.{HoldsIn}
 use Rattle.range_states.specs.Avoiding.{avoid_all}
-use Rattle.range_states.specs.Faults.{faults_of}
 use Rattle.range_states.proofs.Avoided.{Stands, then_stands, avoid_all_stands}
 use Rattle.range_states.proofs.AvoidingSteps.{formed}
 use Rattle.range_rules.specs.Acts.{acted, is_told}
@@ -30,7 +29,7 @@ post_there : (unit : MethodUnit) (i : Instr) (state : State) (f g : Frame) (heap
     → HasEffect (effects unit i f heap) (GoesOn g after) → HoldsIn (post unit i.op state) g
 unfolding post
 post_there unit i state f g heap after told sizes stands has =
-    then_holds (acted unit i.op) (avoid_all (faults_of i.op) state) f g
+    then_holds (acted unit i.op) (avoid_all unit i.op state) f g
     (avoid_all_stands state unit i f heap (GoesOn g after) has (λ kind is. cc) stands)
     (λ known form holds. acted_holds unit known f form holds sizes i heap g after i.op told has)
 
@@ -38,8 +37,8 @@ along_there : (unit : MethodUnit) (i : Instr) (state : State) (f g : Frame) (hea
     → HasEffect (effects unit i f heap) (GoesOn g after) → HoldsIn (along unit i.op (way_of i.op f.stack) state) g
 unfolding along
 along_there unit i state f g heap after told short sizes stands has =
-    then_holds (acted unit i.op) (option_and_then (chosen i.op (way_of i.op f.stack)) (avoid_all (faults_of i.op) state)) f g
-    (then_stands (chosen i.op (way_of i.op f.stack)) (avoid_all (faults_of i.op) state) f
+    then_holds (acted unit i.op) (option_and_then (chosen i.op (way_of i.op f.stack)) (avoid_all unit i.op state)) f g
+    (then_stands (chosen i.op (way_of i.op f.stack)) (avoid_all unit i.op state) f
     (avoid_all_stands state unit i f heap (GoesOn g after) has (λ kind is. cc) stands)
     (λ known form holds. chosen_stands known f form holds i heap (GoesOn g after) unit i.op short has))
     (λ known form holds. acted_holds unit known f form holds sizes i heap g after i.op told has)

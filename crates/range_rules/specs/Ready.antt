@@ -1,5 +1,5 @@
 -- Where the faults of an operator were assumed away, its operands are such as it may be asked of.
-use Rattle.std.proofs.Common.{◌≡◌, ◌≢◌, ℕ, ℤ, pos, negsuc, ◌+ℤ◌, ◌-ℤ◌, ◌≤ℤ◌, Bool, true, int_le, Option, Some, None, refl, ap, subst, arith}
+use Rattle.std.proofs.Common.{◌≡◌, ◌≢◌, ℕ, ℤ, pos, negsuc, ◌+ℤ◌, ◌-ℤ◌, ◌≤ℤ◌, Bool, true, int_le, List, [], ◌∷◌, Option, Some, None, refl, ap, subst, arith}
 use Rattle.std.specs.Option.{ForSome, option_and_then, option_map}
 use Rattle.std.proofs.lemmas.Bool.{cond_both}
 use Rattle.std.proofs.lemmas.Int.{ints}
@@ -11,7 +11,9 @@ use Rattle.cil_model.specs.declared.instruction.CmpOp.{CmpOp}
 use Rattle.cil_model.specs.declared.instruction.CmpOp.TheVariants as comparisons
 use Rattle.cil_model.specs.declared.instruction.Op.{Op}
 use Rattle.cil_model.specs.declared.instruction.Op.TheVariants as ops
+use Rattle.cil_model.specs.declared.machine.FaultKind.{FaultKind}
 use Rattle.cil_model.specs.declared.machine.FaultKind.TheVariants as faults
+use Rattle.cil_model.specs.declared.unit.Unit.{Unit as MethodUnit}
 use Rattle.range_facts.specs.Assume.{assumed, holding, assumed_at_most, assumed_apart}
 use Rattle.range_facts.specs.Facts.{Facts}
 use Rattle.number_spans.specs.Constants.{constant}
@@ -20,8 +22,8 @@ use Rattle.number_spans.specs.Owed.{NotZero, IsPlaces}
 use Rattle.range_states.specs.Assumptions.{assuming, with_facts}
 use Rattle.range_states.specs.FrameFacts.{FrameFacts, State}
 use Rattle.range_states.specs.Operands.{from_top}
-use Rattle.range_states.specs.Avoiding.{is_just, top_compares, no_division_overflow, amount, avoiding, avoid, avoid_all}
-use Rattle.range_states.specs.Faults.{operator_faults, faults_of}
+use Rattle.range_states.specs.Avoiding.{is_just, top_compares, no_division_overflow, amount, operands_avoiding, avoiding, avoid_each, avoid_all}
+use Rattle.range_states.specs.Faults.{operator_faults}
 use Rattle.range_rules.specs.Acts.{IsReady}
 use Rattle.range_rules.specs.Choices.{chosen}
 
@@ -82,25 +84,27 @@ at_most_31 facts k after is = cond_both (int_le ((pos 31 +ℤ (pos 1 -ℤ pos 0)
 
 -- ---- divisors
 
-zero_avoided : (known : FrameFacts) → SomeTop NotZero (avoiding faults.DivZero known)
-unfolding avoiding
+zero_avoided : (known : FrameFacts) → SomeTop NotZero (operands_avoiding faults.DivZero known)
+unfolding operands_avoiding
 zero_avoided known = assuming_top NotZero comparisons.NeUn (from_top 0 known.variables) (constant (pos 0)) true known
     (λ facts is sym_is. other_than_zero known.facts (from_top 0 known.variables).k facts
     (subst (λ (e : Expr). assumed comparisons.NeUn known.facts e (constant (pos 0)) true ≡ Some facts) (a_constant (from_top 0 known.variables) sym_is) is))
 
-overflow_keeps : (known : FrameFacts) → NotZero (from_top 0 known.variables) → SomeTop NotZero (avoiding faults.DivOverflow known)
-unfolding avoiding no_division_overflow
+overflow_keeps : (known : FrameFacts) → NotZero (from_top 0 known.variables) → SomeTop NotZero (operands_avoiding faults.DivOverflow known)
+unfolding operands_avoiding no_division_overflow
 overflow_keeps known holds = cond_both (is_just (from_top 1 known.variables) LEAST) _ _ (SomeTop NotZero)
     (λ is. assuming_top NotZero comparisons.NeUn (from_top 0 known.variables) (constant (negsuc 0)) true known (λ facts same. holds))
     (λ is. cond_both (is_just (from_top 0 known.variables) (negsuc 0)) _ _ (SomeTop NotZero)
     (λ other. assuming_top NotZero comparisons.NeUn (from_top 1 known.variables) (constant LEAST) true known (λ facts same. holds)) (λ other. holds))
 
-any_zero : (state : State) → SomeTop NotZero (avoid faults.DivZero state)
+any_zero : (state : State) → SomeTop NotZero (option_and_then (operands_avoiding faults.DivZero) state)
 any_zero None = tt
 any_zero (Some known) = zero_avoided known
 
-divided : (state : State) → SomeTop NotZero (avoid faults.DivOverflow (avoid faults.DivZero state))
-divided state = then_top NotZero NotZero (avoiding faults.DivOverflow) (avoid faults.DivZero state) (any_zero state) overflow_keeps
+divided : (state : State)
+    → SomeTop NotZero (option_and_then (operands_avoiding faults.DivOverflow) (option_and_then (operands_avoiding faults.DivZero) state))
+divided state =
+    then_top NotZero NotZero (operands_avoiding faults.DivOverflow) (option_and_then (operands_avoiding faults.DivZero) state) (any_zero state) overflow_keeps
 
 -- ---- amounts
 
@@ -108,8 +112,8 @@ divided state = then_top NotZero NotZero (avoiding faults.DivOverflow) (avoid fa
 abbrev IsAbove : Expr → Type 0
 IsAbove e = e.sym ≡ 0 → pos 0 ≤ℤ e.k
 
-amount_there : (known : FrameFacts) → SomeTop IsPlaces (avoiding faults.Shift known)
-unfolding avoiding amount
+amount_there : (known : FrameFacts) → SomeTop IsPlaces (operands_avoiding faults.Shift known)
+unfolding operands_avoiding amount
 amount_there known = then_top IsAbove IsPlaces (top_compares comparisons.Le (pos 31)) (top_compares comparisons.Ge (pos 0) known)
     (assuming_top IsAbove comparisons.Ge (from_top 0 known.variables) (constant (pos 0)) true known
     (λ facts is sym_is. at_least_zero known.facts (from_top 0 known.variables).k facts
@@ -121,7 +125,7 @@ amount_there known = then_top IsAbove IsPlaces (top_compares comparisons.Le (pos
           (subst (λ (e : Expr). assumed comparisons.Le next.facts e (constant (pos 31)) true ≡ Some facts) (a_constant (from_top 0 next.variables) sym_is) is);
     }))
 
-shifted : (state : State) → SomeTop IsPlaces (avoid faults.Shift state)
+shifted : (state : State) → SomeTop IsPlaces (option_and_then (operands_avoiding faults.Shift) state)
 shifted None = tt
 shifted (Some known) = amount_there known
 
@@ -137,7 +141,12 @@ amount_ready : (op : BinOp) (state : State) → ((known : FrameFacts) → IsPlac
 amount_ready op None ready top = λ known is. cc
 amount_ready op (Some known) ready top = λ other is. let same : known ≡ other = cc in subst (IsReady (ops.Bin op)) same (ready known top)
 
-operator_ready : (op : BinOp) (state : State) → ForSome (avoid_all (operator_faults op) state) (IsReady (ops.Bin op))
+-- The operands of an operator brought none of these faults.
+abbrev none_brought : List FaultKind → State → State
+none_brought [] state = state
+none_brought (kind ∷ kinds) state = none_brought kinds (option_and_then (operands_avoiding kind) state)
+
+operator_ready : (op : BinOp) (state : State) → ForSome (none_brought (operator_faults op) state) (IsReady (ops.Bin op))
 operator_ready operators.Div state = divisor_ready operators.Div _ (λ known holds. (holds, tt)) (divided state)
 operator_ready operators.Rem state = divisor_ready operators.Rem _ (λ known holds. (holds, tt)) (divided state)
 operator_ready operators.DivUn state = divisor_ready operators.DivUn _ (λ known holds. (holds, tt)) (any_zero state)
@@ -147,9 +156,14 @@ operator_ready operators.Shr state = amount_ready operators.Shr _ (λ known hold
 operator_ready operators.ShrUn state = amount_ready operators.ShrUn _ (λ known holds. (tt, holds)) (shifted state)
 operator_ready _ state = λ known is. (tt, tt)
 
-pub avoided_ready : (op : Op) (state : State) → ForSome (avoid_all (faults_of op) state) (IsReady op)
-avoided_ready (ops.Bin op) state = operator_ready op state
-avoided_ready _ state = λ known is. tt
+operands_brought : (unit : MethodUnit) (op : BinOp) (kinds : List FaultKind) (state : State) → avoid_each unit (ops.Bin op) kinds state ≡ none_brought kinds state
+unfolding avoiding
+operands_brought unit op [] state = refl
+operands_brought unit op (kind ∷ kinds) state = operands_brought unit op kinds (option_and_then (operands_avoiding kind) state)
+
+pub avoided_ready : (unit : MethodUnit) (op : Op) (state : State) → ForSome (avoid_all unit op state) (IsReady op)
+avoided_ready unit (ops.Bin op) state = rw (operands_brought unit op (operator_faults op) state) (operator_ready op state)
+avoided_ready unit _ state = λ known is. tt
 
 pub chosen_ready : (op : Op) (way : ℕ) (state : State) → ForSome state (IsReady op) → ForSome (option_and_then (chosen op way) state) (IsReady op)
 unfolding chosen

@@ -3,13 +3,14 @@
 ghost use Rattle.std.specs.Prelude.{◌≡◌, ◌<◌, ◌≤◌, length, OnOk};
 ghost use Rattle.std.specs.Option.{ForSome, option_and_then, option_map};
 ghost use Rattle.number_spans.specs.Owed.{Divides, Shifts};
+ghost use Rattle.range_states.specs.Faults.{condition_values};
 ghost use Rattle.range_states.specs.Moves as moves;
 ghost use Rattle.range_states.specs.Operands.{from_top};
 ghost use Rattle.range_rules.specs.Acts as rule;
 
-use cil_model::{BinOp, FaultKind, Place, Test, UnitCall, comparison_of};
+use cil_model::{BinOp, Place, Test, UnitCall, comparison_of};
 use domain_api::NoMemory;
-use range_states::{AbsState, avoid, constant};
+use range_states::{AbsState, assume_condition, constant};
 use std::alloc::AllocError;
 
 /// Copies a variable to the top.
@@ -122,18 +123,32 @@ pub(crate) fn complement(state: &mut AbsState) -> Result<(), NoMemory>
     state.arith(BinOp::Sub, constant(-1), top)
 }
 
-/// Takes the condition of an Assert or an Assume. Behind an Assume it is not 0.
+/// Takes a condition, and a message on it.
+#[tactic(auto, using(crate::proofs::Moving::moving))]
+fn take_condition(state: &mut AbsState, message: bool) -> Result<(), NoMemory>
+    ensures { OnOk result (state.new ≡ option_map (rule.condition_taken message) state.old) }
+{
+    if message {
+        state.pop()?;
+        state.pop()
+    } else {
+        state.pop()
+    }
+}
+
+/// Takes the condition of an Assert or an Assume, and a message on it. Behind an Assume the condition is not 0.
 #[tactic(auto, using(crate::proofs::Moving::moving))]
 pub(crate) fn pass_call(state: &mut AbsState, call: Option<UnitCall>) -> Result<(), NoMemory>
-    requires { ForSome state.old (λ known. 1 ≤ length known.variables) }
+    requires { ForSome state.old (λ known. condition_values call ≤ length known.variables) }
     ensures { OnOk result (state.new ≡ option_and_then (rule.behind_call call) state.old) }
 {
     match call {
-        Some(UnitCall::Assume(_)) => {
-            avoid(state, FaultKind::Assert)?;
-            state.pop()
+        Some(UnitCall::Assume(message)) => {
+            assume_condition(state, message)?;
+            take_condition(state, message)
         }
-        _ => state.pop(),
+        Some(UnitCall::Assert(message)) => take_condition(state, message),
+        _ => Ok(()),
     }
 }
 

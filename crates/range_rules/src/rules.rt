@@ -30,7 +30,7 @@ pub fn post(state: &mut AbsState, unit: &Unit, op: &Op) -> Result<(), NoMemory>
     if !state.reached() {
         return Ok(());
     }
-    avoid_all(state, op)?;
+    avoid_all(state, unit, op)?;
     act(state, unit, op)?;
     Ok(())
 }
@@ -56,7 +56,7 @@ pub fn along(state: &mut AbsState, unit: &Unit, op: &Op, way: u32) -> Result<(),
     if !state.reached() {
         return Ok(());
     }
-    avoid_all(state, op)?;
+    avoid_all(state, unit, op)?;
     choose(state, op, way)?;
     act(state, unit, op)?;
     Ok(())

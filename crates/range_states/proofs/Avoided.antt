@@ -35,7 +35,7 @@ use Rattle.range_states.specs.Assumptions.{assuming}
 use Rattle.range_states.specs.FrameFacts.{FrameFacts, State, HasForm}
 use Rattle.range_states.specs.Frames.{HoldsIn}
 use Rattle.range_states.specs.Operands.{from_top}
-use Rattle.range_states.specs.Avoiding.{is_just, top_compares, second_compares, no_division_overflow, amount, avoiding, avoid, avoid_all}
+use Rattle.range_states.specs.Avoiding.{is_just, top_compares, second_compares, no_division_overflow, amount, operands_avoiding, condition_met, call_avoiding, avoiding, avoid, avoid_each, avoid_all}
 use Rattle.range_states.specs.Faults.{operator_faults, call_faults, faults_of, IsAmong}
 use Rattle.range_states.proofs.FormsKept.{constant_number, assuming_form}
 use Rattle.range_states.proofs.ResultsHold.{assuming_holds}
@@ -106,7 +106,6 @@ second_stands op n b a rest known f least greatest is so form holds =
 abbrev Avoids : FaultKind → ℤ → ℤ → Type 0
 Avoids faults.DivZero a b = b ≢ pos 0
 Avoids faults.DivOverflow a b = a ≡ LEAST → b ≢ negsuc 0
-Avoids faults.Assert a b = b ≢ pos 0
 Avoids faults.Shift a b = (pos 0 ≤ℤ b) × (b ≤ℤ pos 31)
 Avoids _ a b = Unit {0}
 
@@ -147,15 +146,13 @@ module _ (b a : ℤ) (rest : List Value) (known : FrameFacts) (f : Frame) (is : 
       (top_stands comparisons.Ge (pos 0) b (values.Int a ∷ rest) known f (omega (arith, ints)) (omega (arith, ints)) is (le-true (pos 0) b above) form holds)
       (λ next again so. top_stands comparisons.Le (pos 31) b (values.Int a ∷ rest) next f (omega (arith, ints)) (omega (arith, ints)) is (le-true b (pos 31) below) again so)
 
-  avoiding_stands : (kind : FaultKind) → Avoids kind a b → Stands (avoiding kind known) f
-  unfolding avoiding
-  avoiding_stands faults.DivZero avoids =
+  operands_stand : (kind : FaultKind) → Avoids kind a b → Stands (operands_avoiding kind known) f
+  unfolding operands_avoiding
+  operands_stand faults.DivZero avoids =
       top_stands comparisons.NeUn (pos 0) b (values.Int a ∷ rest) known f (omega (arith, ints)) (omega (arith, ints)) is (apart-true b (pos 0) avoids) form holds
-  avoiding_stands faults.DivOverflow avoids = no_overflow_stands avoids
-  avoiding_stands faults.Shift avoids = amount_stands avoids.0 avoids.1
-  avoiding_stands faults.Assert avoids =
-      top_stands comparisons.NeUn (pos 0) b (values.Int a ∷ rest) known f (omega (arith, ints)) (omega (arith, ints)) is (apart-true b (pos 0) avoids) form holds
-  avoiding_stands _ avoids = stays known f form holds
+  operands_stand faults.DivOverflow avoids = no_overflow_stands avoids
+  operands_stand faults.Shift avoids = amount_stands avoids.0 avoids.1
+  operands_stand _ avoids = stays known f form holds
 
 -- ---- operators
 
@@ -233,12 +230,13 @@ gives_never i f heap rest r kind effect has other is =
 
 module _ (known : FrameFacts) (f : Frame) (form : HasForm known) (holds : HoldsIn (Some known) f) (i : Instr) (heap : Heap) (kind : FaultKind) (effect : Effect) (other : IsNot effect kind) where
   arithmetic_stands : (op : BinOp) (stack : List Value) → f.stack ≡ stack → IsAmong (operator_faults op) kind → HasEffect (arithmetic op i f heap stack) effect
-      → Stands (avoiding kind known) f
+      → Stands (operands_avoiding kind known) f
   arithmetic_stands op (values.Int b ∷ values.Int a ∷ rest) is among has =
-      avoiding_stands b a rest known f is form holds kind (avoided op a b kind among (gives_never i f heap rest (operated op a b) kind effect has other))
+      operands_stand b a rest known f is form holds kind (avoided op a b kind among (gives_never i f heap rest (operated op a b) kind effect has other))
   arithmetic_stands op _ is among has = elim has [ ]
 
-  operator_stands : (op : BinOp) → IsAmong (operator_faults op) kind → HasEffect (binary op (comparison_of op) i f heap f.stack) effect → Stands (avoiding kind known) f
+  operator_stands : (op : BinOp) → IsAmong (operator_faults op) kind → HasEffect (binary op (comparison_of op) i f heap f.stack) effect
+      → Stands (operands_avoiding kind known) f
   operator_stands operators.Div among has = arithmetic_stands operators.Div f.stack refl among has
   operator_stands operators.Rem among has = arithmetic_stands operators.Rem f.stack refl among has
   operator_stands operators.DivUn among has = arithmetic_stands operators.DivUn f.stack refl among has
@@ -252,8 +250,8 @@ module _ (known : FrameFacts) (f : Frame) (form : HasForm known) (holds : HoldsI
   operator_stands op among has = elim among [ ]
 
   condition_stands : (stack : List Value) → f.stack ≡ stack → kind ≡ faults.Assert → HasEffect (tests_condition (Faults faults.Assert) i f heap (Some stack)) effect
-      → Stands (avoiding faults.Assert known) f
-  unfolding avoiding
+      → Stands (condition_met false known) f
+  unfolding condition_met
   condition_stands (values.Int n ∷ rest) is assert has =
       top_stands comparisons.NeUn (pos 0) n rest known f (omega (arith, ints)) (omega (arith, ints)) is
       (apart-true n (pos 0) (λ zero. never zero has)) form holds
@@ -264,38 +262,42 @@ module _ (known : FrameFacts) (f : Frame) (form : HasForm known) (holds : HoldsI
   condition_stands _ is assert has = elim has [ ]
 
   message_stands : (message : Bool) (stack : List Value) → f.stack ≡ stack → kind ≡ faults.Assert
-      → HasEffect (tests_condition (Faults faults.Assert) i f heap (below_message message stack)) effect → Stands (avoiding faults.Assert known) f
+      → HasEffect (tests_condition (Faults faults.Assert) i f heap (below_message message stack)) effect → Stands (condition_met message known) f
   message_stands false stack is assert has = condition_stands stack is assert has
   message_stands true (values.Text ∷ rest) is assert has =
       let top = top_is known f values.Text rest is holds in let same : values.Int top.last ≡ values.Text = top.is in cc
   message_stands true _ is assert has = elim has [ ]
 
-  call_stands : (call : Option UnitCall) → IsAmong (call_faults call) kind → HasEffect (contract_call call i f heap) effect → Stands (avoiding kind known) f
+  call_stands : (call : Option UnitCall) → IsAmong (call_faults call) kind → HasEffect (contract_call call i f heap) effect → Stands (call_avoiding call kind known) f
+  unfolding call_avoiding
   call_stands (Some (calls.Assert message)) among has = ⊎_elim
-      (λ is. subst (λ (k : FaultKind). Stands (avoiding k known) f) (sym is) (message_stands message f.stack refl is has))
+      (λ is. subst (λ (k : FaultKind). Stands (call_avoiding (Some (calls.Assert message)) k known) f) (sym is) (message_stands message f.stack refl is has))
       (λ none. elim none [ ]) among
   call_stands _ among has = elim among [ ]
 
-  op_stands : (op : Op) (unit : MethodUnit) → IsAmong (faults_of op) kind → HasEffect (effects_of op unit i f heap) effect → Stands (avoiding kind known) f
+  op_stands : (op : Op) (unit : MethodUnit) → IsAmong (faults_of unit op) kind → HasEffect (effects_of op unit i f heap) effect → Stands (avoiding unit op kind known) f
+  unfolding avoiding
   op_stands (ops.Bin op) unit among has = operator_stands op among has
   op_stands (ops.Call number) unit among has = call_stands (unit_call number) among has
   op_stands _ unit among has = elim among [ ]
 
--- Where an instruction does not end in a fault of its operation, what is assumed then holds.
+-- Where an instruction does not end in a fault of its own, what is assumed then holds.
 pub avoid_stands : (state : State) (unit : MethodUnit) (i : Instr) (f : Frame) (heap : Heap) (kind : FaultKind) (effect : Effect)
-    → IsAmong (faults_of i.op) kind → HasEffect (effects unit i f heap) effect → (effect ≡ Faults kind → ⊥) → Stands state f → Stands (avoid kind state) f
+    → IsAmong (faults_of unit i.op) kind → HasEffect (effects unit i f heap) effect → (effect ≡ Faults kind → ⊥) → Stands state f
+    → Stands (avoid unit i.op kind state) f
 avoid_stands state unit i f heap kind effect among has other stands =
-    then_stands (avoiding kind) state f stands (λ known form holds. op_stands known f form holds i heap kind effect other i.op unit among has)
+    then_stands (avoiding unit i.op kind) state f stands (λ known form holds. op_stands known f form holds i heap kind effect other i.op unit among has)
 
-all_stand : (kinds : List FaultKind) (state : State) (unit : MethodUnit) (i : Instr) (f : Frame) (heap : Heap) (effect : Effect)
-    → ((kind : FaultKind) → IsAmong kinds kind → IsAmong (faults_of i.op) kind) → HasEffect (effects unit i f heap) effect
-    → ((kind : FaultKind) → effect ≡ Faults kind → ⊥) → Stands state f → Stands (avoid_all kinds state) f
-all_stand [] state unit i f heap effect within has other stands = stands
-all_stand (kind ∷ kinds) state unit i f heap effect within has other stands =
-    all_stand kinds (avoid kind state) unit i f heap effect (λ k among. within k (inr among)) has other
+each_stands : (kinds : List FaultKind) (state : State) (unit : MethodUnit) (i : Instr) (f : Frame) (heap : Heap) (effect : Effect)
+    → ((kind : FaultKind) → IsAmong kinds kind → IsAmong (faults_of unit i.op) kind) → HasEffect (effects unit i f heap) effect
+    → ((kind : FaultKind) → effect ≡ Faults kind → ⊥) → Stands state f → Stands (avoid_each unit i.op kinds state) f
+each_stands [] state unit i f heap effect within has other stands = stands
+each_stands (kind ∷ kinds) state unit i f heap effect within has other stands =
+    each_stands kinds (avoid unit i.op kind state) unit i f heap effect (λ k among. within k (inr among)) has other
     (avoid_stands state unit i f heap kind effect (within kind (inl refl)) has (other kind) stands)
 
 -- So where it ends in none of them.
 pub avoid_all_stands : (state : State) (unit : MethodUnit) (i : Instr) (f : Frame) (heap : Heap) (effect : Effect) → HasEffect (effects unit i f heap) effect
-    → ((kind : FaultKind) → effect ≡ Faults kind → ⊥) → Stands state f → Stands (avoid_all (faults_of i.op) state) f
-avoid_all_stands state unit i f heap effect has other stands = all_stand (faults_of i.op) state unit i f heap effect (λ k among. among) has other stands
+    → ((kind : FaultKind) → effect ≡ Faults kind → ⊥) → Stands state f → Stands (avoid_all unit i.op state) f
+avoid_all_stands state unit i f heap effect has other stands =
+    each_stands (faults_of unit i.op) state unit i f heap effect (λ k among. among) has other stands

@@ -1,5 +1,5 @@
--- The faults in which an operation may end, in the order in which the machine tests for them (ECMA-335 III.3).
-use Rattle.std.specs.Prelude.{◌≡◌, ◌⊎◌, ℕ, List, [], ◌∷◌, Option, Some}
+-- The faults in which an instruction of a unit may end, in the order in which the machine tests for them (ECMA-335 III.3).
+use Rattle.std.specs.Prelude.{◌≡◌, ◌⊎◌, ℕ, ◌+◌, Bool, true, false, List, [], ◌∷◌, Option, Some}
 use Rattle.cil_model.specs.UnitCalls.{unit_call}
 use Rattle.cil_model.specs.declared.instruction.BinOp.{BinOp}
 use Rattle.cil_model.specs.declared.instruction.BinOp.TheVariants as operators
@@ -7,6 +7,7 @@ use Rattle.cil_model.specs.declared.instruction.Op.{Op}
 use Rattle.cil_model.specs.declared.instruction.Op.TheVariants as ops
 use Rattle.cil_model.specs.declared.machine.FaultKind.{FaultKind}
 use Rattle.cil_model.specs.declared.machine.FaultKind.TheVariants as faults
+use Rattle.cil_model.specs.declared.unit.Unit.{Unit as MethodUnit}
 use Rattle.cil_model.specs.declared.unit_numbers.UnitCall.{UnitCall}
 use Rattle.cil_model.specs.declared.unit_numbers.UnitCall.TheVariants as calls
 
@@ -28,24 +29,29 @@ abbrev pub call_faults : Option UnitCall → List FaultKind
 call_faults (Some (calls.Assert message)) = faults.Assert ∷ []
 call_faults _ = []
 
--- Those of an operation on numbers. Arrays and callees are not told of.
-abbrev pub faults_of : Op → List FaultKind
-faults_of (ops.Bin operator) = operator_faults operator
-faults_of (ops.Call number) = call_faults (unit_call number)
-faults_of _ = []
+-- Those of an instruction of the unit with this operation. Arrays and callees are not told of.
+abbrev pub faults_of : MethodUnit → Op → List FaultKind
+faults_of unit (ops.Bin operator) = operator_faults operator
+faults_of unit (ops.Call number) = call_faults (unit_call number)
+faults_of unit _ = []
 
--- How many values on the stack tell whether a fault comes.
-abbrev pub values_asked : FaultKind → ℕ
-values_asked faults.DivZero = 1
-values_asked faults.Shift = 1
-values_asked faults.Assert = 1
-values_asked faults.DivOverflow = 2
-values_asked _ = 0
+-- ---- what tells of them
 
--- How many values on the stack tell whether an operation ends in a fault.
+-- The condition of an Assert or an Assume lies on top of the stack, or below its message: how many values lie on it.
+abbrev pub condition_depth : Bool → ℕ
+condition_depth false = 0
+condition_depth true = 1
+
+-- How many values a call takes that tests a condition.
+abbrev pub condition_values : Option UnitCall → ℕ
+condition_values (Some (calls.Assert message)) = condition_depth message + 1
+condition_values (Some (calls.Assume message)) = condition_depth message + 1
+condition_values _ = 0
+
+-- How many values on the stack tell whether an instruction with this operation ends in a fault.
 abbrev pub operands_of : Op → ℕ
 operands_of (ops.Bin operator) = 2
-operands_of (ops.Call number) = 1
+operands_of (ops.Call number) = condition_values (unit_call number)
 operands_of _ = 0
 
 -- The fault is one of these.

@@ -1,9 +1,9 @@
-//! The faults in which operations may end.
+//! The faults in which instructions may end.
 
 ghost use Rattle.std.specs.Prelude.{◌≡◌};
 ghost use Rattle.range_states.specs.Faults.{operator_faults, call_faults, faults_of};
 
-use cil_model::{BinOp, FaultKind, Op, UnitCall, unit_call};
+use cil_model::{BinOp, FaultKind, Op, Unit, UnitCall, unit_call};
 
 /// The faults of an operator, in the order in which the machine tests for them.
 fn operator_faults(op: BinOp) -> &'static [FaultKind]
@@ -28,11 +28,12 @@ fn call_faults(call: Option<UnitCall>) -> &'static [FaultKind]
     }
 }
 
-/// The faults in which an operation on numbers may end, in the order in which the machine tests for them.
+/// The faults in which an instruction of the unit with this operation may end, in the order in which the machine tests for
+/// them. Arrays and callees are not told of.
 ///
 /// Cost: constant.
-pub fn faults_of(op: &Op) -> &'static [FaultKind]
-    ensures value { result.now ≡ faults_of op.now }
+pub fn faults_of(unit: &Unit, op: &Op) -> &'static [FaultKind]
+    ensures value { result.now ≡ faults_of unit.now op.now }
 {
     match op {
         Op::Bin(operator) => operator_faults(*operator),

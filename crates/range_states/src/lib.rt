@@ -14,7 +14,7 @@ mod operators;
 mod parts;
 mod state;
 
-pub use avoidance::{avoid, avoid_all, constant};
+pub use avoidance::{assume_condition, avoid, avoid_all, constant};
 pub use faults::faults_of;
 pub use invariant::Invariant;
 pub use number::Number;

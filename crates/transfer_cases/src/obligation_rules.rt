@@ -1,13 +1,15 @@
 //! The rules on obligations.
 
+use crate::methods::read_method;
 use crate::premises::count_operands;
 use cil_model::{Obligation, Unit};
-use range_obligations::{entails, obligations};
+use range_obligations::{obligations, rules_out};
 use range_states::AbsState;
 use rule_text::{Failure, asked, check_yes, fault, operation, variables_there};
 use std::alloc::Global;
 
-/// `entails division-by-zero div = yes`: whether a state rules out that an operation ends in a fault.
+/// `entails division-by-zero div = yes`: whether a state rules out that an instruction of a method, of which nothing else is
+/// told, ends in a fault.
 pub fn is_entailed(alloc: Global, state: &AbsState, argument: &str) -> Result<(), Failure> {
     let (question, told) = asked(argument)?;
     let Some((kind, op)) = question.split_once(' ') else {
@@ -16,7 +18,8 @@ pub fn is_entailed(alloc: Global, state: &AbsState, argument: &str) -> Result<()
     let kind = fault(kind).ok_or(Failure::Unread("a fault"))?;
     let op = operation(alloc, op)?;
     variables_there(state, count_operands(&op))?;
-    check_yes(alloc, entails(state, &op, kind), told)
+    let unit = read_method(alloc, "void ()")?;
+    check_yes(alloc, rules_out(state, &unit, &op, kind), told)
 }
 
 /// The IL offset and the fault of a text `5:overflow`. No callee is told.

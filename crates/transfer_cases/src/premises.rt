@@ -4,7 +4,7 @@ ghost use Rattle.std.specs.Prelude.{◌≡◌, ◌+◌, ◌≤◌, true, length,
 ghost use Rattle.cil_model.specs.Limits.{MAX_VARIABLES};
 ghost use Rattle.range_rules.specs.Acts.{is_told, variables_read};
 ghost use Rattle.range_rules.specs.Choices.{IsShortSwitch};
-ghost use Rattle.range_states.specs.Faults.{operands_of};
+ghost use Rattle.range_states.specs.Faults.{condition_values, operands_of};
 
 use cil_model::{Op, Place, Test, Unit, UnitCall, unit_call};
 use rule_text::Failure;
@@ -60,6 +60,18 @@ pub fn few(unit: &Unit) -> Result<(), Failure>
     }
 }
 
+/// How many values a call takes that tests a condition.
+fn count_condition(call: Option<UnitCall>) -> u64
+    ensures { result ≡ condition_values call }
+{
+    match call {
+        Some(UnitCall::Assert(message)) | Some(UnitCall::Assume(message)) => {
+            if message { 2 } else { 1 }
+        }
+        _ => 0,
+    }
+}
+
 /// How many variables the operation reads.
 pub fn count_read(unit: &Unit, op: &Op) -> u64
     requires { length unit.now.args + length unit.now.locals + unit.now.max_stack ≤ MAX_VARIABLES }
@@ -69,7 +81,8 @@ pub fn count_read(unit: &Unit, op: &Op) -> u64
     match op {
         Op::LoadArg(n) | Op::StoreArg(n) => args + u64::from(*n) + 1,
         Op::LoadLocal(n) | Op::StoreLocal(n) => args + args + u64::from(*n) + 1,
-        Op::Dup | Op::Call(_) | Op::Switch(_) | Op::Neg | Op::Not => 1,
+        Op::Call(number) => count_condition(unit_call(*number)),
+        Op::Dup | Op::Switch(_) | Op::Neg | Op::Not => 1,
         Op::Return => { if unit.result == Place::Void { 0 } else { 1 } }
         Op::Branch(Test::Always, _) => 0,
         Op::Branch(Test::Cmp(_), _) | Op::Bin(_) => 2,
@@ -84,7 +97,7 @@ pub fn count_operands(op: &Op) -> u64
 {
     match op {
         Op::Bin(_) => 2,
-        Op::Call(_) => 1,
+        Op::Call(number) => count_condition(unit_call(*number)),
         _ => 0,
     }
 }

@@ -6,7 +6,7 @@ use Rattle.invariant_checker.proofs.judging.push_in_turn.Given as goal
 
 abbrev pub invariant-loop-kind : goal.invariant-loop-kind
 invariant-loop-kind l = record {
-  same : l.found.items ++ verdicts_in_turn l.instr (drop l.kind-index (faults_of l.instr.op)) l.state
-      ≡ l.initial.found.items ++ verdicts_at l.instr l.initial.state;
+  same : l.found.items ++ verdicts_in_turn l.unit l.instr (drop l.kind-index (faults_of l.unit l.instr.op)) l.state
+      ≡ l.initial.found.items ++ verdicts_at l.unit l.instr l.initial.state;
   room : ForSome l.state (λ known. operands_of l.instr.op ≤ length known.variables);
 }

@@ -1,6 +1,5 @@
 use Rattle.std.proofs.Common.{rules}
 use Rattle.range_states.specs.Avoiding.{avoid_all}
-use Rattle.range_states.specs.Faults.{faults_of}
 use Rattle.range_states.proofs.AvoidingSteps.{avoid_all_has}
 use Rattle.range_rules.specs.Acts.{variables_read}
 use Rattle.range_rules.specs.Post.{along}
@@ -15,17 +14,17 @@ avoid_all-requires c = asked_there c.args.unit.now c.args.op.now c.args.state.no
 
 pub choose-requires-clause-operands : goal.choose-requires-clause-operands
 choose-requires-clause-operands c = rw c.in_ok-avoid_all.ensures.value
-    (tested_there c.args.unit.now c.args.op.now (avoid_all (faults_of c.args.op.now) c.args.state.now)
-    (avoid_all_has (variables_read c.args.unit.now c.args.op.now) (faults_of c.args.op.now) c.args.state.now c.requires.read))
+    (tested_there c.args.unit.now c.args.op.now (avoid_all c.args.unit.now c.args.op.now c.args.state.now)
+    (avoid_all_has (variables_read c.args.unit.now c.args.op.now) c.args.unit.now c.args.op.now c.args.state.now c.requires.read))
 
 pub act-requires-clause-read : goal.act-requires-clause-read
 act-requires-clause-read c = rw (c.in_ok-choose.ensures, c.in_ok-avoid_all.ensures.value)
-    (chosen_has (variables_read c.args.unit.now c.args.op.now) c.args.op.now c.args.way (avoid_all (faults_of c.args.op.now) c.args.state.now)
-    (avoid_all_has (variables_read c.args.unit.now c.args.op.now) (faults_of c.args.op.now) c.args.state.now c.requires.read))
+    (chosen_has (variables_read c.args.unit.now c.args.op.now) c.args.op.now c.args.way (avoid_all c.args.unit.now c.args.op.now c.args.state.now)
+    (avoid_all_has (variables_read c.args.unit.now c.args.op.now) c.args.unit.now c.args.op.now c.args.state.now c.requires.read))
 
 pub act-requires-clause-ready : goal.act-requires-clause-ready
 act-requires-clause-ready c = rw (c.in_ok-choose.ensures, c.in_ok-avoid_all.ensures.value)
-    (chosen_ready c.args.op.now c.args.way (avoid_all (faults_of c.args.op.now) c.args.state.now) (avoided_ready c.args.op.now c.args.state.now))
+    (chosen_ready c.args.op.now c.args.way (avoid_all c.args.unit.now c.args.op.now c.args.state.now) (avoided_ready c.args.unit.now c.args.op.now c.args.state.now))
 
 pub returns-clause-value : goal.returns-clause-value
 unfolding along

@@ -1,5 +1,4 @@
 use Rattle.std.proofs.Common.{rules}
-use Rattle.range_states.specs.Faults.{faults_of}
 use Rattle.range_states.proofs.AvoidingSteps.{avoid_all_has}
 use Rattle.range_rules.specs.Acts.{variables_read}
 use Rattle.range_rules.specs.Post.{post}
@@ -13,10 +12,10 @@ avoid_all-requires c = asked_there c.args.unit.now c.args.op.now c.args.state.no
 
 pub act-requires-clause-read : goal.act-requires-clause-read
 act-requires-clause-read c = rw c.in_ok-avoid_all.ensures.value
-    (avoid_all_has (variables_read c.args.unit.now c.args.op.now) (faults_of c.args.op.now) c.args.state.now c.requires.read)
+    (avoid_all_has (variables_read c.args.unit.now c.args.op.now) c.args.unit.now c.args.op.now c.args.state.now c.requires.read)
 
 pub act-requires-clause-ready : goal.act-requires-clause-ready
-act-requires-clause-ready c = rw c.in_ok-avoid_all.ensures.value (avoided_ready c.args.op.now c.args.state.now)
+act-requires-clause-ready c = rw c.in_ok-avoid_all.ensures.value (avoided_ready c.args.unit.now c.args.op.now c.args.state.now)
 
 pub returns-clause-value : goal.returns-clause-value
 unfolding post
