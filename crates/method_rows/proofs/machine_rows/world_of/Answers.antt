@@ -1,6 +1,6 @@
 use Rattle.std.proofs.Common.{rules}
-use Rattle.reader_rows.proofs.OneUnit.{in_world}
-use Rattle.reader_rows.proofs.machine_rows.world_of.Goals as goal
+use Rattle.method_rows.proofs.OneUnit.{in_world}
+use Rattle.method_rows.proofs.machine_rows.world_of.Goals as goal
 
 pub returns : goal.returns
 returns c =

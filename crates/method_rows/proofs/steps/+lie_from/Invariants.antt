@@ -1,5 +1,5 @@
 use Rattle.std.proofs.Common.{length}
-use Rattle.reader_rows.proofs.steps.+lie_from.Given as goal
+use Rattle.method_rows.proofs.steps.+lie_from.Given as goal
 
 abbrev pub decreases-lie_from : goal.decreases-lie_from
 decreases-lie_from l = length l.instrs.now
