@@ -14,6 +14,8 @@ mod demo_assembly;
 #[cfg(test)]
 mod fault_texts;
 #[cfg(test)]
+mod generator_rows;
+#[cfg(test)]
 mod graph_rows;
 #[cfg(test)]
 mod heap_rows;
