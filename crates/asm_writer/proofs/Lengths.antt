@@ -31,40 +31,40 @@ use Rattle.asm_writer.proofs.MetadataLemmas.{length_root}
 use Rattle.asm_writer.proofs.Rounding.{round_up_above}
 
 -- Parts that have so many bytes each.
-sizes : {X : Type 0} (f : X → List ℕ) (size : X → ℕ) → ((x : X) → length (f x) ≡ size x) → (xs : List X) → length (flat_map f xs) ≡ sum_by size xs
+pub sizes : {X : Type 0} (f : X → List ℕ) (size : X → ℕ) → ((x : X) → length (f x) ≡ size x) → (xs : List X) → length (flat_map f xs) ≡ sum_by size xs
 sizes f size each [] = refl
 sizes f size each (x ∷ xs) = rw (length-append, each x, sizes f size each xs, sum_by-cons) refl
 
-length_number : (number : Number) → length (number_bytes number) ≡ number_width number
+pub length_number : (number : Number) → length (number_bytes number) ≡ number_width number
 length_number (Zeros count) = length-replicate {A = ℕ} count 0
 length_number (Two n) = refl
 length_number (Four n) = refl
 length_number (Eight n) = refl
 
-length_numbers : (numbers : List Number) → length (numbers_bytes numbers) ≡ numbers_width numbers
+pub length_numbers : (numbers : List Number) → length (numbers_bytes numbers) ≡ numbers_width numbers
 unfolding numbers_bytes numbers_width
 length_numbers numbers = sizes number_bytes number_width length_number numbers
 
-length_fields : (l : Layout) (fields : List Field) → length (fields_bytes l fields) ≡ row_width l fields
+pub length_fields : (l : Layout) (fields : List Field) → length (fields_bytes l fields) ≡ row_width l fields
 unfolding fields_bytes row_width
 length_fields l fields = sizes (field_bytes l) (field_width l) (λ (field : Field). length_number (field_number l field)) fields
 
-length_rows : (l : Layout) (rows : List (List Field)) → length (rows_bytes l rows) ≡ rows_width l rows
+pub length_rows : (l : Layout) (rows : List (List Field)) → length (rows_bytes l rows) ≡ rows_width l rows
 unfolding rows_bytes rows_width
 length_rows l rows = sizes (fields_bytes l) (row_width l) (length_fields l) rows
 
-length_padded : (unit n : ℕ) (bytes : List ℕ) → 1 ≤ unit → length bytes ≡ n → length (padded unit bytes) ≡ round_up unit n
+pub length_padded : (unit n : ℕ) (bytes : List ℕ) → 1 ≤ unit → length bytes ≡ n → length (padded unit bytes) ≡ round_up unit n
 unfolding padded
 length_padded unit n bytes some is =
     let above = round_up_above unit (length bytes) some in
     let all : length (padded unit bytes) ≡ round_up unit (length bytes) = simp (length-append, length-replicate) (omega arith) in
     all ∙ ap (round_up unit) is
 
-both : (a b : List ℕ) (m n : ℕ) → length a ≡ m → length b ≡ n → length (a ++ b) ≡ m + n
+pub both : (a b : List ℕ) (m n : ℕ) → length a ≡ m → length b ≡ n → length (a ++ b) ≡ m + n
 both a b m n p q = rw length-append (rw (p, q) refl)
 
 -- The stream `#~`.
-length_stream : (l : Layout) (ms : List MethodPlan) → length (tables_stream l ms) ≡ tables_size l ms
+pub length_stream : (l : Layout) (ms : List MethodPlan) → length (tables_stream l ms) ≡ tables_size l ms
 unfolding tables_stream tables_size
 length_stream l ms =
     let numbers = length_numbers (stream_numbers l) in

@@ -5,3 +5,5 @@ pub mod BodyLemmas
 pub mod RowLemmas
 pub mod MetadataLemmas
 pub mod Lengths
+pub mod GeneratorLemmas
+mod GeneratorRows

@@ -15,3 +15,6 @@ pub mod Stream
 pub mod Metadata
 pub mod Assembly
 pub mod Sizes
+pub mod Plans
+pub mod Templates
+pub mod Generator

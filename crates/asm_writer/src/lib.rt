@@ -5,6 +5,7 @@
 mod blob;
 mod bodies;
 mod field;
+mod generator;
 mod headers;
 mod layout;
 mod metadata;
@@ -17,7 +18,9 @@ mod rows;
 mod signature;
 mod table;
 mod tables;
+mod template;
 mod writer;
 
+pub use generator::generate;
 pub use plan::{AsmPlan, MethodPlan, WriteRefusal};
 pub use writer::write_assembly;

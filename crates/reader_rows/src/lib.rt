@@ -10,6 +10,8 @@ mod demo_assembly;
 #[cfg(test)]
 mod fault_texts;
 #[cfg(test)]
+mod generator_rows;
+#[cfg(test)]
 mod heap_rows;
 #[cfg(test)]
 mod inner_rows;

@@ -1,0 +1,71 @@
+-- What is generated, by values that were worked out from the rules of the generator alone.
+use Rattle.std.proofs.Common.{◌≡◌, ℕ, List, [], ◌∷◌, zero, suc, true, refl}
+use Rattle.std.specs.Prelude.{codes}
+use Rattle.std.specs.Fmt.{digits}
+use Rattle.cil_model.specs.declared.place.Place.{Place}
+use Rattle.cil_model.specs.declared.place.Place.TheVariants.{Void, Int, Ints}
+use Rattle.asm_writer.specs.Generator.{next, constant_of, method_at, methods_from}
+use Rattle.asm_writer.specs.Plans.{Method}
+use Rattle.asm_writer.specs.Templates.{constant_code, div_code, array_sum_code, fill_code, sum_code, bad_code}
+
+-- So many constants, where x is the number before theirs.
+abbrev constants : ℕ → ℕ → List ℕ
+constants zero x = []
+constants (suc count) x = constant_of (next x) ∷ constants count (next x)
+
+constants_0 : constants 13 0 ≡ 807 ∷ 424 ∷ 937 ∷ 236 ∷ 125 ∷ 891 ∷ 184 ∷ 975 ∷ 264 ∷ 139 ∷ 503 ∷ 482 ∷ 382 ∷ []
+unfolding next constant_of
+constants_0 = refl
+
+constants_7 : constants 13 7 ≡ 278 ∷ 231 ∷ 753 ∷ 673 ∷ 545 ∷ 219 ∷ 864 ∷ 764 ∷ 739 ∷ 686 ∷ 195 ∷ 75 ∷ 632 ∷ []
+unfolding next constant_of
+constants_7 = refl
+
+constants_greatest : constants 13 4294967295 ≡ 759 ∷ 36 ∷ 824 ∷ 251 ∷ 270 ∷ 959 ∷ 816 ∷ 840 ∷ 143 ∷ 200 ∷ 805 ∷ 202 ∷ 463 ∷ []
+unfolding next constant_of
+constants_greatest = refl
+
+-- A static method of 8 stack slots.
+abbrev method : List ℕ → Place → List Place → List Place → List ℕ → Method
+method name result args locals code = record { name = name; is_static = true; result = result; args = args; locals = locals; max_stack = 8; code = code }
+
+methods_of_7 : methods_from 0 7 7 ≡
+    method (codes "m0") Int (Int ∷ []) []
+    (
+    0x20 ∷ 0x16 ∷ 0x01 ∷ 0x00 ∷ 0x00 ∷ 0x20 ∷ 0x16 ∷ 0x01 ∷ 0x00 ∷ 0x00 ∷ 0xfe ∷ 0x01 ∷ 0x28 ∷ 0x05 ∷ 0x00 ∷ 0x00
+    ∷ 0x0a ∷ 0x02 ∷ 0x2a ∷ []
+    )
+    ∷ method (codes "m1") Int (Int ∷ Int ∷ []) []
+    (
+    0x03 ∷ 0x16 ∷ 0xfe ∷ 0x03 ∷ 0x28 ∷ 0x01 ∷ 0x00 ∷ 0x00 ∷ 0x0a ∷ 0x02 ∷ 0x03 ∷ 0x5b ∷ 0x2a ∷ []
+    )
+    ∷ method (codes "m2") Int (Ints ∷ []) (Int ∷ Int ∷ [])
+    (
+    0x02 ∷ 0x14 ∷ 0xfe ∷ 0x03 ∷ 0x28 ∷ 0x01 ∷ 0x00 ∷ 0x00 ∷ 0x0a ∷ 0x16 ∷ 0x0a ∷ 0x16 ∷ 0x0b ∷ 0x2b ∷ 0x0a ∷ 0x06
+    ∷ 0x02 ∷ 0x07 ∷ 0x94 ∷ 0x58 ∷ 0x0a ∷ 0x07 ∷ 0x17 ∷ 0x58 ∷ 0x0b ∷ 0x07 ∷ 0x02 ∷ 0x8e ∷ 0x69 ∷ 0x32 ∷ 0xf0 ∷ 0x06
+    ∷ 0x2a ∷ []
+    )
+    ∷ method (codes "m3") Void (Ints ∷ Int ∷ []) (Int ∷ [])
+    (
+    0x02 ∷ 0x14 ∷ 0xfe ∷ 0x03 ∷ 0x28 ∷ 0x01 ∷ 0x00 ∷ 0x00 ∷ 0x0a ∷ 0x03 ∷ 0x16 ∷ 0xfe ∷ 0x04 ∷ 0x16 ∷ 0xfe ∷ 0x01
+    ∷ 0x28 ∷ 0x01 ∷ 0x00 ∷ 0x00 ∷ 0x0a ∷ 0x03 ∷ 0x02 ∷ 0x8e ∷ 0x69 ∷ 0xfe ∷ 0x04 ∷ 0x28 ∷ 0x01 ∷ 0x00 ∷ 0x00 ∷ 0x0a
+    ∷ 0x16 ∷ 0x0a ∷ 0x2b ∷ 0x08 ∷ 0x02 ∷ 0x06 ∷ 0x16 ∷ 0x9e ∷ 0x06 ∷ 0x17 ∷ 0x58 ∷ 0x0a ∷ 0x06 ∷ 0x02 ∷ 0x8e ∷ 0x69
+    ∷ 0x32 ∷ 0xf2 ∷ 0x02 ∷ 0x03 ∷ 0x94 ∷ 0x16 ∷ 0xfe ∷ 0x01 ∷ 0x28 ∷ 0x05 ∷ 0x00 ∷ 0x00 ∷ 0x0a ∷ 0x2a ∷ []
+    )
+    ∷ method (codes "m4") Int (Int ∷ []) []
+    (
+    0x02 ∷ 0x16 ∷ 0xfe ∷ 0x04 ∷ 0x16 ∷ 0xfe ∷ 0x01 ∷ 0x28 ∷ 0x01 ∷ 0x00 ∷ 0x00 ∷ 0x0a ∷ 0x02 ∷ 0x2d ∷ 0x02 ∷ 0x16
+    ∷ 0x2a ∷ 0x02 ∷ 0x02 ∷ 0x17 ∷ 0x59 ∷ 0x28 ∷ 0x05 ∷ 0x00 ∷ 0x00 ∷ 0x06 ∷ 0x58 ∷ 0x2a ∷ []
+    )
+    ∷ method (codes "m5") Int [] []
+    (
+    0x7e ∷ 0x01 ∷ 0x00 ∷ 0x00 ∷ 0x04 ∷ 0x2a ∷ []
+    )
+    ∷ method (codes "m6") Int (Int ∷ []) []
+    (
+    0x20 ∷ 0x60 ∷ 0x03 ∷ 0x00 ∷ 0x00 ∷ 0x20 ∷ 0x60 ∷ 0x03 ∷ 0x00 ∷ 0x00 ∷ 0xfe ∷ 0x01 ∷ 0x28 ∷ 0x05 ∷ 0x00 ∷ 0x00
+    ∷ 0x0a ∷ 0x02 ∷ 0x2a ∷ []
+    )
+    ∷ []
+unfolding methods_from method_at next constant_of constant_code div_code array_sum_code fill_code sum_code bad_code digits
+methods_of_7 = refl
