@@ -5,3 +5,5 @@ pub mod KeptLaws
 pub mod MarkLists
 pub mod RowLaws
 pub mod ApartLaws
+pub mod TurnedLaws
+pub mod SortingLaws
