@@ -7,3 +7,4 @@ pub mod RowLaws
 pub mod ApartLaws
 pub mod TurnedLaws
 pub mod SortingLaws
+pub mod NullnessLaws
