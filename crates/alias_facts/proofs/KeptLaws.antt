@@ -1,11 +1,11 @@
 -- What is kept, pair by pair and by marks.
-use Rattle.std.proofs.Common.{◌≡◌, ℕ, zero, suc, ◌-◌, ◌<◌, ◌≤◌, ◌==◌, nat_lt, nat_le, Bool, true, false, ◌&&◌, ◌||◌, List, [], ◌∷◌, ◌++◌, if◌then◌else◌, ◌↔◌, IsTrue, refl, sym, ap, ◌∙◌, true≢false, arith}
+use Rattle.std.proofs.Common.{◌≡◌, ℕ, zero, suc, ◌-◌, ◌<◌, ◌≤◌, ◌==◌, nat_lt, nat_le, Bool, true, false, ◌&&◌, ◌||◌, List, [], ◌∷◌, ◌++◌, if◌then◌else◌, refl, sym, ap, ◌∙◌, true≢false, arith}
 use Rattle.std.specs.List.{list_any, flat_map}
 use Rattle.std.proofs.lemmas.Bool.Decides.{nat_tests}
 use Rattle.std.proofs.lemmas.List.Folds.{list_any-append}
 use Rattle.alias_facts.specs.PairsOf.{Pair, ordered, same_pair, comes_before, is_proper, contains, AreInOrder, AreProper, inserted, all_inserted, pairs_up_to, pairs_before, with_all_before, kept_pairs}
 use Rattle.alias_facts.proofs.Orders.{same_is}
-use Rattle.alias_facts.proofs.PairLists.{contains-inserted, contains-all_inserted, order-inserted, order-all_inserted, same_pairs, inserted_again}
+use Rattle.alias_facts.proofs.PairLists.{contains-inserted, contains-all_inserted, order-inserted, order-all_inserted, same_pairs}
 
 up_to_step : (k higher l h : ℕ) → ((l == suc k && h == higher) || (h == higher && (nat_lt 0 l && nat_le l k))) ≡ (h == higher && (nat_lt 0 l && nat_le l (suc k)))
 up_to_step k higher l h = grind (arith, nat_tests)
@@ -59,7 +59,7 @@ order-kept_pairs pairs marks = order-all_inserted (flat_map pairs_before marks) 
 
 -- ---- asking
 
-proper_there : (p : Pair) (pairs : List Pair) → AreProper pairs → contains pairs p ≡ true → is_proper p ≡ true
+pub proper_there : (p : Pair) (pairs : List Pair) → AreProper pairs → contains pairs p ≡ true → is_proper p ≡ true
 proper_there p [] proper there = absurd (true≢false (sym there))
 proper_there p (x ∷ xs) proper there =
     elim (same_pair p x) as (λ b. same_pair p x ≡ b → (b || contains xs p) ≡ true → is_proper p ≡ true) [
@@ -84,11 +84,12 @@ or_swap true true c = refl
 or_swap true false c = refl
 or_swap false b c = refl
 
-pub kept_one_more : (pairs : List Pair) (marks : List ℕ) (p : Pair) → kept_pairs (inserted p pairs) marks ≡ inserted p (kept_pairs pairs marks)
-kept_one_more pairs marks p =
-    same_pairs (kept_pairs (inserted p pairs) marks) (inserted p (kept_pairs pairs marks)) (order-kept_pairs (inserted p pairs) marks)
+pub kept_one_more : (pairs later : List Pair) (marks : List ℕ) (p : Pair) → ((q : Pair) → contains later q ≡ (same_pair q p || contains pairs q))
+    → kept_pairs later marks ≡ inserted p (kept_pairs pairs marks)
+kept_one_more pairs later marks p more =
+    same_pairs (kept_pairs later marks) (inserted p (kept_pairs pairs marks)) (order-kept_pairs later marks)
     (order-inserted p (kept_pairs pairs marks) (order-kept_pairs pairs marks))
-    (λ q. contains-kept_pairs (inserted p pairs) marks q ∙ ap (λ b. (is_proper q && is_among q.1 marks) || b) (contains-inserted p q pairs)
+    (λ q. contains-kept_pairs later marks q ∙ ap (λ b. (is_proper q && is_among q.1 marks) || b) (more q)
     ∙ or_swap (is_proper q && is_among q.1 marks) (same_pair q p) (contains pairs q)
     ∙ ap (λ b. same_pair q p || b) (sym (contains-kept_pairs pairs marks q)) ∙ sym (contains-inserted p q (kept_pairs pairs marks)))
 
@@ -127,16 +128,9 @@ apart_answer pairs marks p proper among here all proper_is among_is here_is =
     ap (λ b. b && (among || here)) proper_is ∙ ap (λ b. is_proper p && (b || here)) among_is ∙ ap (λ b. is_proper p && (is_among p.1 marks || b)) here_is
     ∙ is_apart_is pairs marks p all
 
-pub kept_alone : (pairs : List Pair) (marks : List ℕ) → AreInOrder pairs → marks ≡ [] → kept_pairs pairs marks ≡ pairs
-kept_alone pairs marks order none = ap (kept_pairs pairs) none ∙ inserted_again pairs order
-
 -- Without marks the pairs are those that are kept.
-pub same_alone : (pairs other : List Pair) (marks other_marks : List ℕ) (answer : Bool) → AreInOrder pairs → AreInOrder other → marks ≡ [] → other_marks ≡ []
-    → IsTrue answer ↔ (pairs ≡ other) → IsTrue answer ↔ (kept_pairs pairs marks ≡ kept_pairs other other_marks)
-same_alone pairs other marks other_marks answer order other_order none other_none told = (
-  λ is. kept_alone pairs marks order none ∙ told.0 is ∙ sym (kept_alone other other_marks other_order other_none),
-  λ same. told.1 (sym (kept_alone pairs marks order none) ∙ same ∙ kept_alone other other_marks other_order other_none),
-)
+pub contains-alone : (pairs : List Pair) (q : Pair) → contains (kept_pairs pairs []) q ≡ contains pairs q
+contains-alone pairs q = contains-kept_pairs pairs [] q ∙ ap (λ b. b || contains pairs q) (sym (and_none (is_proper q)))
 
 -- ---- what is kept is proper
 

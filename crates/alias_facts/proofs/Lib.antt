@@ -5,3 +5,6 @@ pub mod KeptLaws
 pub mod MarkLists
 pub mod RowLaws
 pub mod ApartLaws
+pub mod TurnedLaws
+pub mod SortingLaws
+pub mod NullnessLaws

@@ -19,7 +19,7 @@ absent : (p : Pair) (xs : List Pair) → AllAfter p xs → contains xs p ≡ fal
 absent p [] all = refl
 absent p (y ∷ ys) all = ap (λ b. b || contains ys p) (before_apart p y all.0) ∙ absent p ys all.1
 
-first_there : (x : Pair) (xs : List Pair) → contains (x ∷ xs) x ≡ true
+pub first_there : (x : Pair) (xs : List Pair) → contains (x ∷ xs) x ≡ true
 first_there x xs = ap (λ b. b || contains xs x) (same_itself x)
 
 or_swap : (a b c : Bool) → (a || (b || c)) ≡ (b || (a || c))
@@ -118,14 +118,6 @@ pub inserted_there : (p : Pair) (xs : List Pair) → AreInOrder xs → contains 
 inserted_there p xs order there =
     same_pairs (inserted p xs) xs (order-inserted p xs order) order
     (λ q. contains-inserted p q xs ∙ or_there (same_pair q p) (contains xs q) (λ same. ap (contains xs) (same_is q p same) ∙ there))
-
--- Pairs in order are so again when each is put in its place.
-pub inserted_again : (xs : List Pair) → AreInOrder xs → all_inserted xs [] ≡ xs
-inserted_again xs order = same_pairs (all_inserted xs []) xs (order-all_inserted xs [] tt) order (λ q. contains-all_inserted xs [] q ∙ or_none (contains xs q))
-  where
-    or_none : (b : Bool) → (b || false) ≡ b
-    or_none true = refl
-    or_none false = refl
 
 -- ---- searching
 

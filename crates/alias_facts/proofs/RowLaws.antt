@@ -1,81 +1,13 @@
 -- Rows: references with each one before them.
-use Rattle.std.proofs.Common.{◌≡◌, ℕ, zero, suc, ◌+◌, ◌-◌, ◌<◌, ◌≤◌, ◌==◌, Bool, true, false, ◌&&◌, ◌||◌, List, [], ◌∷◌, ◌++◌, length, get_or, take, refl, sym, ap, ◌∙◌, subst, true≢false, arith, inl, inr}
+use Rattle.std.proofs.Common.{◌≡◌, ℕ, zero, suc, ◌+◌, ◌-◌, ◌<◌, ◌≤◌, ◌==◌, Bool, true, false, ◌&&◌, ◌||◌, List, [], ◌∷◌, refl, sym, ap, ◌∙◌, true≢false, arith, inl, inr}
 use Rattle.std.specs.List.{list_all, flat_map}
 use Rattle.std.proofs.lemmas.Bool.{cases_lt}
 use Rattle.std.proofs.lemmas.Bool.Decides.{Decides-eqb}
-use Rattle.std.proofs.lemmas.List.{take_more, take_all}
-use Rattle.std.proofs.lemmas.List.Folds.{list_any-append, list_all-append}
-use Rattle.alias_facts.specs.PairsOf.{Pair, same_pair, is_proper, contains, AreInOrder, inserted, all_inserted, pairs_up_to, pairs_before, kept_pairs, Covers}
+use Rattle.std.proofs.lemmas.List.Folds.{list_all-append}
+use Rattle.alias_facts.specs.PairsOf.{Pair, same_pair, is_proper, contains, AreInOrder, all_inserted, pairs_up_to, pairs_before, kept_pairs, Covers}
 use Rattle.alias_facts.proofs.Orders.{same_is, same_itself}
-use Rattle.alias_facts.proofs.PairLists.{contains-all_inserted, order-all_inserted, same_pairs, inserted_again}
+use Rattle.alias_facts.proofs.PairLists.{contains-all_inserted, same_pairs}
 use Rattle.alias_facts.proofs.KeptLaws.{contains-pairs_before, contains-kept_pairs, is_among}
-
--- ---- one row
-
-pub row_more : (lower higher : ℕ) (old pairs : List Pair) → 0 < lower → pairs ≡ all_inserted (pairs_up_to (lower - 1) higher) old
-    → inserted (lower, higher) pairs ≡ all_inserted (pairs_up_to ((lower + 1) - 1) higher) old
-row_more zero higher old pairs positive so_far = absurd (omega arith)
-row_more (suc lower) higher old pairs positive so_far =
-    ap (inserted (suc lower, higher)) so_far
-    ∙ ap (λ n. inserted (suc lower, higher) (all_inserted (pairs_up_to n higher) old)) (less lower)
-    ∙ ap (λ n. all_inserted (pairs_up_to n higher) old) (sym (more lower))
-  where
-    less : (n : ℕ) → suc n - 1 ≡ n
-    less n = omega arith
-
-    more : (n : ℕ) → (suc n + 1) - 1 ≡ suc n
-    more n = omega arith
-
--- ---- rows, one behind another
-
--- The pairs have those that there were, and the rows of the references up to an index.
-pub record RowsSoFar (old pairs : List Pair) (references : List ℕ) (i : ℕ) : Type 0 where
-  pub in_order : AreInOrder pairs
-  pub members : (q : Pair) → contains pairs q ≡ (contains (flat_map pairs_before (take i references)) q || contains old q)
-
-pub rows_begin : (old : List Pair) (references : List ℕ) → AreInOrder old → RowsSoFar old old references 0
-rows_begin old references order = record { in_order = order; members = λ q. refl }
-
-or_swap : (a b c : Bool) → (a || (b || c)) ≡ ((b || (a || false)) || c)
-or_swap true true c = refl
-or_swap true false c = refl
-or_swap false true c = refl
-or_swap false false c = refl
-
-flat_push : (xs : List ℕ) (r : ℕ) (q : Pair) → contains (flat_map pairs_before (xs ++ r ∷ [])) q ≡ (contains (flat_map pairs_before xs) q || (contains (pairs_before r) q || false))
-flat_push [] r q = list_any-append (same_pair q) (pairs_before r) []
-flat_push (x ∷ xs) r q =
-    list_any-append (same_pair q) (pairs_before x) (flat_map pairs_before (xs ++ r ∷ []))
-    ∙ ap (λ b. contains (pairs_before x) q || b) (flat_push xs r q)
-    ∙ or_assoc (contains (pairs_before x) q) (contains (flat_map pairs_before xs) q) (contains (pairs_before r) q || false)
-    ∙ ap (λ b. b || (contains (pairs_before r) q || false)) (sym (list_any-append (same_pair q) (pairs_before x) (flat_map pairs_before xs)))
-  where
-    or_assoc : (a b c : Bool) → (a || (b || c)) ≡ ((a || b) || c)
-    or_assoc true b c = refl
-    or_assoc false b c = refl
-
-pub rows_more : (old pairs later : List Pair) (references : List ℕ) (i : ℕ) (d : ℕ) → i < length references
-    → RowsSoFar old pairs references i → later ≡ all_inserted (pairs_before (get_or references i d)) pairs → RowsSoFar old later references (i + 1)
-rows_more old pairs later references i d inside so_far later_is =
-    let r : ℕ = get_or references i d in
-    record {
-      in_order = subst AreInOrder (sym later_is) (order-all_inserted (pairs_before r) pairs so_far.in_order);
-      members = λ q.
-          ap (λ l. contains l q) later_is ∙ contains-all_inserted (pairs_before r) pairs q ∙ ap (λ b. contains (pairs_before r) q || b) (so_far.members q)
-          ∙ or_swap (contains (pairs_before r) q) (contains (flat_map pairs_before (take i references)) q) (contains old q)
-          ∙ ap (λ b. b || contains old q) (sym (flat_push (take i references) r q))
-          ∙ ap (λ l. contains (flat_map pairs_before l) q || contains old q) (sym (take_more references i d inside));
-    }
-
-pub rows_end : (old pairs : List Pair) (references : List ℕ) (i : ℕ) → length references ≤ i → AreInOrder old → RowsSoFar old pairs references i
-    → pairs ≡ all_inserted (flat_map pairs_before references) old
-rows_end old pairs references i all order so_far =
-    same_pairs pairs (all_inserted (flat_map pairs_before references) old) so_far.in_order (order-all_inserted (flat_map pairs_before references) old order)
-    (λ q. so_far.members q ∙ ap (λ l. contains (flat_map pairs_before l) q || contains old q) (take_all i references all)
-    ∙ sym (contains-all_inserted (flat_map pairs_before references) old q))
-
-pub all_pairs_are : (pairs : List Pair) (marks : List ℕ) → AreInOrder pairs → all_inserted (flat_map pairs_before marks) pairs ≡ kept_pairs pairs marks
-all_pairs_are pairs marks order = ap (all_inserted (flat_map pairs_before marks)) (sym (inserted_again pairs order))
 
 -- ---- comparing
 
@@ -91,7 +23,7 @@ has_each xs [] all q there = absurd (true≢false (sym there))
 has_each xs (y ∷ ys) all q there =
     each_step xs ys y q (contains xs y) (same_pair q y) refl refl (λ rest in_rest. has_each xs ys rest q in_rest) all there
 
-or_true : (a b : Bool) → b ≡ true → (a || b) ≡ true
+pub or_true : (a b : Bool) → b ≡ true → (a || b) ≡ true
 or_true true b is = refl
 or_true false b is = is
 
@@ -106,7 +38,7 @@ all_rows xs [] = refl
 all_rows xs (r ∷ marks) =
     ap (λ b. list_all (contains xs) (pairs_before r) && b) (all_rows xs marks) ∙ sym (list_all-append (contains xs) (pairs_before r) (flat_map pairs_before marks))
 
-contains-rows : (pairs : List Pair) (marks : List ℕ) (q : Pair) → contains (kept_pairs pairs marks) q ≡ (contains (flat_map pairs_before marks) q || (contains pairs q || false))
+pub contains-rows : (pairs : List Pair) (marks : List ℕ) (q : Pair) → contains (kept_pairs pairs marks) q ≡ (contains (flat_map pairs_before marks) q || (contains pairs q || false))
 contains-rows pairs marks q =
     contains-all_inserted (flat_map pairs_before marks) (all_inserted pairs []) q
     ∙ ap (λ b. contains (flat_map pairs_before marks) q || b) (contains-all_inserted pairs [] q)

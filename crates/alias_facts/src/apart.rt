@@ -2,14 +2,16 @@
 
 ghost use Rattle.std.specs.Prelude.{◌≡◌, ◌≢◌, ◌↔◌, ℕ, Option, false, [], IfOk, IfSome, IsSome, IsTrue, OnErr, OnOk};
 ghost use Rattle.alias_facts.specs.Arrays.{AllDiffer, Differ, DiffersFromEarlier, is_no_array};
+ghost use Rattle.alias_facts.specs.KeptPairs.{lower_first};
 ghost use Rattle.alias_facts.specs.NullnessOf.{Agrees, are_told_apart, must_differ};
-ghost use Rattle.alias_facts.specs.PairsOf.{AreInOrder, AreProper, contains, ordered, with_all_before, with_pair};
+ghost use Rattle.alias_facts.specs.PairsOf.{AreInOrder, AreProper, contains, kept_pairs, ordered, with_all_before, with_pair};
 
-use crate::kept::{all_pairs, are_same_pairs, is_kept};
+use crate::kept::{are_same_pairs, is_kept};
 use crate::marks::mark;
 use crate::nullness::Nullness;
 use crate::pair_forms::are_kept_pairs;
-use crate::pair_list::{insert, is_proper, ordered};
+use crate::pair_list::{insert, is_proper, ordered, turned};
+use crate::sorting::{all_pairs, rows_of};
 use domain_api::NoMemory;
 use std::alloc::Global;
 use std::marker::Model;
@@ -20,8 +22,9 @@ use std::marker::Model;
 /// A pair takes eight bytes. A reference that is apart from all before it takes four, however many these are.
 #[derive(Drop)]
 pub struct Apart {
-    /// Pairs that are kept one by one, in order.
-    pairs: Vec<(u32, u32)>,
+    /// Pairs that are kept one by one, higher first: by the higher reference and then by the lower one, so that the
+    /// pairs of a new reference go behind all others.
+    rows: Vec<(u32, u32)>,
     /// References that are apart from each one from 1 up to the one before them, in order.
     marks: Vec<u32>,
 }
@@ -32,11 +35,11 @@ impl Model for Apart {
     ghost Value = { List (ℕ × ℕ) };
 
     ghost use Rattle.alias_facts.specs.PairsOf.{kept_pairs};
-    ghost use Rattle.alias_facts.specs.KeptPairs.{AreKept};
+    ghost use Rattle.alias_facts.specs.KeptPairs.{AreKept, lower_first};
 
-    ghost view = { λ apart. kept_pairs apart.pairs.items apart.marks.items };
+    ghost view = { λ apart. kept_pairs (lower_first apart.rows.items) apart.marks.items };
 
-    ghost invariant = { λ apart. AreKept apart.pairs.items apart.marks.items };
+    ghost invariant = { λ apart. AreKept apart.rows.items apart.marks.items };
 }
 
 impl Apart {
@@ -45,24 +48,35 @@ impl Apart {
         ensures { result ≡ [] }
     {
         Apart {
-            pairs: Vec::new(alloc),
+            rows: Vec::new(alloc),
             marks: Vec::new(alloc),
         }
     }
 
     /// These pairs alone. None exactly where they are not in order, each once, or one is not proper: its lower
-    /// reference is 0, or does not come first. Takes no memory, and costs one pass.
-    pub fn of_pairs(alloc: Global, pairs: Vec<(u32, u32)>) -> Option<Apart>
-        ensures some { IsSome result ↔ (AreInOrder pairs.items × AreProper pairs.items) }
-        ensures value { IfSome result (λ apart. apart ≡ pairs.items) }
+    /// reference is 0, or does not come first.
+    ///
+    /// Cost: that of sorting them.
+    pub fn of_pairs(alloc: Global, pairs: &[(u32, u32)]) -> Result<Option<Apart>, NoMemory>
+        ensures some { IfOk result (λ made. IsSome made ↔ (AreInOrder pairs.now × AreProper pairs.now)) }
+        ensures value { IfOk result (λ made. IfSome made (λ apart. apart ≡ pairs.now)) }
     {
-        if are_kept_pairs(pairs.as_slice()) {
-            Some(Apart {
-                pairs,
-                marks: Vec::new(alloc),
-            })
-        } else {
-            None
+        if !are_kept_pairs(pairs) {
+            return Ok(None);
+        }
+        let rows = rows_of(alloc, pairs)?;
+        Ok(Some(Apart::of_rows(alloc, rows)))
+    }
+
+    /// These pairs alone, which are given higher first.
+    fn of_rows(alloc: Global, rows: Vec<(u32, u32)>) -> Apart
+        requires in_order { AreInOrder rows.items }
+        requires proper { AreProper (lower_first rows.items) }
+        ensures { result ≡ kept_pairs (lower_first rows.items) [] }
+    {
+        Apart {
+            rows,
+            marks: Vec::new(alloc),
         }
     }
 
@@ -75,16 +89,14 @@ impl Apart {
         ensures different { IsTrue result → r ≢ q }
         ensures differ { IsTrue result → (array : ℕ → Option ℕ) → AllDiffer array self.now → Differ array r q }
     {
-        is_kept(self.pairs.as_slice(), self.marks.as_slice(), ordered(r, q))
+        is_kept(self.rows.as_slice(), self.marks.as_slice(), ordered(r, q))
     }
 
     /// Keeps two references apart, in whatever order they are given. A reference and itself, and reference 0 and
     /// another, are never kept. Want of memory leaves what was kept.
     ///
-    /// Cost: the pairs behind this one are moved, eight bytes each, and pairs stand in the order of the lower
-    /// reference. So a new reference, kept apart from n earlier ones one by one, moves most of the list n times: with
-    /// 180,000 pairs, as 600 references have, up to 1.4 megabytes for each of its pairs. `set_apart_from_earlier` moves
-    /// none.
+    /// Cost: a pair of the highest reference goes behind the others, where its pairs come by rising references. Any
+    /// other moves those behind it, eight bytes each.
     #[tactic(auto, using(crate::proofs::ApartLaws::with_pair_differ))]
     pub fn set_apart(&mut self, r: u32, q: u32) -> Result<(), NoMemory>
         ensures ok { OnOk result (self.new ≡ with_pair (ordered r q) self.old) }
@@ -96,7 +108,7 @@ impl Apart {
         if !is_proper(pair) {
             return Ok(());
         }
-        insert(&mut self.pairs, pair)?;
+        insert(&mut self.rows, turned(pair))?;
         Ok(())
     }
 
@@ -130,14 +142,13 @@ impl Apart {
 
     /// All pairs, in order.
     ///
-    /// Cost: where no reference is marked as apart from all before it, that of a copy. Else each pair that a mark
-    /// stands for is put in its place, and the pairs behind it are moved: ask it of states that have few references.
+    /// Cost: that of sorting them, with each pair that a mark stands for: ask it of states that have few references.
     pub fn pairs(&self, alloc: Global) -> Result<Vec<(u32, u32)>, NoMemory>
         ensures value { IfOk result (λ pairs. pairs.items ≡ self.now) }
         ensures in_order { IfOk result (λ pairs. AreInOrder pairs.items) }
         ensures proper { IfOk result (λ pairs. AreProper pairs.items) }
     {
-        all_pairs(alloc, self.pairs.as_slice(), self.marks.as_slice())
+        all_pairs(alloc, self.rows.as_slice(), self.marks.as_slice())
     }
 
     /// Returns whether both keep the same pairs.
@@ -148,9 +159,9 @@ impl Apart {
         ensures { IsTrue result ↔ (self.now ≡ other.now) }
     {
         are_same_pairs(
-            self.pairs.as_slice(),
+            self.rows.as_slice(),
             self.marks.as_slice(),
-            other.pairs.as_slice(),
+            other.rows.as_slice(),
             other.marks.as_slice(),
         )
     }
@@ -159,9 +170,9 @@ impl Apart {
     pub fn copy(&self, alloc: Global) -> Result<Apart, NoMemory>
         ensures { IfOk result (λ again. again ≡ self.now) }
     {
-        let pairs = Vec::from_slice(alloc, self.pairs.as_slice())?;
+        let rows = Vec::from_slice(alloc, self.rows.as_slice())?;
         let marks = Vec::from_slice(alloc, self.marks.as_slice())?;
-        Ok(Apart { pairs, marks })
+        Ok(Apart { rows, marks })
     }
 }
 

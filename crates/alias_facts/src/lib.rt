@@ -7,6 +7,7 @@ mod marks;
 mod nullness;
 mod pair_forms;
 mod pair_list;
+mod sorting;
 
 pub use apart::Apart;
 pub use nullness::Nullness;

@@ -2,6 +2,7 @@
 
 ghost use Rattle.std.specs.Prelude.{◌≡◌, ◌≤◌, length, OnErr, OnOk};
 ghost use Rattle.std.specs.List.{prefix_len};
+ghost use Rattle.alias_facts.specs.KeptPairs.{turned};
 ghost use Rattle.alias_facts.specs.PairsOf.{AreInOrder, comes_before, contains, inserted, is_proper, ordered, same_pair};
 
 use domain_api::NoMemory;
@@ -11,6 +12,13 @@ pub(crate) fn ordered(r: u32, q: u32) -> (u32, u32)
     ensures { result ≡ ordered r q }
 {
     if q < r { (q, r) } else { (r, q) }
+}
+
+/// A pair with its references exchanged.
+pub(crate) fn turned(pair: (u32, u32)) -> (u32, u32)
+    ensures { result ≡ turned pair }
+{
+    (pair.1, pair.0)
 }
 
 /// Returns whether the pair is one of different references other than 0, lower first.

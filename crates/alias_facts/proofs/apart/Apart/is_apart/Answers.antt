@@ -1,4 +1,5 @@
 use Rattle.std.proofs.Common.{sym, ap, ◌∙◌, ◌≡◌, true}
+use Rattle.alias_facts.specs.KeptPairs.{lower_first}
 use Rattle.alias_facts.specs.PairsOf.{contains, is_proper, kept_pairs, ordered}
 use Rattle.alias_facts.proofs.KeptLaws.{proper_itself}
 use Rattle.alias_facts.proofs.ApartLaws.{contained_differ}
@@ -13,7 +14,7 @@ pub returns-clause-differ : goal.returns-clause-differ
 returns-clause-differ c = λ is array all.
     let there : contains c.args.self.now (ordered c.args.r c.args.q) ≡ true =
     ap (contains c.args.self.now) (sym c.ordered.ensures) ∙ ap (λ kept. contains kept c.ordered.result) (sym c.self.view_is)
-    ∙ ap (λ pairs. contains (kept_pairs pairs c.self.inside.marks.items) c.ordered.result) (sym c.as_slice.ensures.value)
-    ∙ ap (λ marks. contains (kept_pairs c.as_slice.result.now marks) c.ordered.result) (sym c.as_slice-2.ensures.value)
+    ∙ ap (λ rows. contains (kept_pairs (lower_first rows) c.self.inside.marks.items) c.ordered.result) (sym c.as_slice.ensures.value)
+    ∙ ap (λ marks. contains (kept_pairs (lower_first c.as_slice.result.now) marks) c.ordered.result) (sym c.as_slice-2.ensures.value)
     ∙ sym c.is_kept.ensures.kept ∙ is in
     contained_differ c.args.self.now array c.args.r c.args.q there all

@@ -1,8 +1,15 @@
-use Rattle.std.proofs.Common.{subst}
-use Rattle.alias_facts.specs.PairsOf.{AreInOrder}
-use Rattle.alias_facts.proofs.KeptLaws.{kept_alone}
+use Rattle.std.proofs.Common.{◌∙◌}
+use Rattle.alias_facts.proofs.TurnedLaws.{rows_are, rows_proper}
 use Rattle.alias_facts.proofs.apart.Apart.of_pairs.Goals as goal
 
-pub returns-then-are_kept_pairs-clause-value : goal.returns-then-are_kept_pairs-clause-value
-returns-then-are_kept_pairs-clause-value c =
-    kept_alone c.args.pairs.items _ (subst AreInOrder c.as_slice.ensures.value (c.are_kept_pairs.ensures.0 c.if-are_kept_pairs.true).0) c.new.ensures.items
+pub of_rows-requires-clause-in_order : goal.of_rows-requires-clause-in_order
+of_rows-requires-clause-in_order c = c.in_ok-rows.ensures.in_order
+
+pub of_rows-requires-clause-proper : goal.of_rows-requires-clause-proper
+of_rows-requires-clause-proper c =
+    rows_proper c.args.pairs.now c.in_ok-rows.rows.items (c.are_kept_pairs.ensures.0 c.if-not-are_kept_pairs.false).1 c.in_ok-rows.ensures.members
+
+pub returns-clause-value : goal.returns-clause-value
+returns-clause-value c =
+    c.of_rows.ensures
+    ∙ rows_are c.args.pairs.now c.in_ok-rows.rows.items (c.are_kept_pairs.ensures.0 c.if-not-are_kept_pairs.false).0 c.in_ok-rows.ensures.members
