@@ -1,4 +1,7 @@
 pub mod ClauseLaws
+pub mod CommonLaw
+pub mod EndLaw
+pub mod FormLaw
 pub mod InclusionLaw
 pub mod InclusionSteps
 pub mod Laws
@@ -13,4 +16,7 @@ pub mod Shown
 pub mod Spans
 pub mod StoreLaw
 pub mod StoreSteps
+pub mod UnifyChain
+pub mod UnifyLaw
+pub mod UnifySteps
 pub mod WholeLaw

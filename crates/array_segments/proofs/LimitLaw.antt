@@ -9,7 +9,7 @@ use Rattle.array_segments.specs.Meaning.{AreWorth, Holds, Spans, item, zipped}
 use Rattle.array_segments.specs.SegmentLists.{Has, HasFew, HasForm, Lists, zero_expr}
 use Rattle.array_segments.specs.Storing.{first_two, limited, merged_first, merged_times}
 
-first_two_length : {X : Type 0} (make : X → X → X) (xs : List X) → 2 ≤ length xs → length (first_two make xs) + 1 ≡ length xs
+pub first_two_length : {X : Type 0} (make : X → X → X) (xs : List X) → 2 ≤ length xs → length (first_two make xs) + 1 ≡ length xs
 first_two_length make [] two = absurd (omega arith)
 first_two_length make (x ∷ []) two = absurd (omega arith)
 first_two_length make (x ∷ y ∷ xs) two = omega arith

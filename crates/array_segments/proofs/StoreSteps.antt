@@ -40,7 +40,7 @@ changed_length change (suc from) (suc to) (x ∷ xs) = ap suc (changed_length ch
 
 -- ---- counts
 
-splice_length : {X : Type 0} (xs : List X) (from to : ℕ) (ys : List X) → from ≤ to → to ≤ length xs → length (splice xs from to ys) + to ≡ from + length ys + length xs
+pub splice_length : {X : Type 0} (xs : List X) (from to : ℕ) (ys : List X) → from ≤ to → to ≤ length xs → length (splice xs from to ys) + to ≡ from + length ys + length xs
 splice_length xs from to ys order within =
     let all = length-append (take from xs) (ys ++ drop to xs) in
     let back = length-append ys (drop to xs) in
@@ -48,7 +48,7 @@ splice_length xs from to ys order within =
     let rest = length-drop to xs in
     omega arith
 
-around_length : {X : Type 0} (left right : Bool) (before middle behind : X) (at : Expr) → length (around left right before middle behind) ≡ length (new_bounds left right at) + 1
+pub around_length : {X : Type 0} (left right : Bool) (before middle behind : X) (at : Expr) → length (around left right before middle behind) ≡ length (new_bounds left right at) + 1
 around_length true true before middle behind at = refl
 around_length true false before middle behind at = refl
 around_length false true before middle behind at = refl

@@ -1,5 +1,8 @@
+pub mod Behind
+pub mod CommonBounds
 pub mod Comparing
 pub mod Counted
+pub mod FormTest
 pub mod Growing
 pub mod Inclusion
 pub mod Loading
@@ -8,3 +11,4 @@ pub mod Renaming
 pub mod SegmentLists
 pub mod Segments
 pub mod Storing
+pub mod Unifying

@@ -3,6 +3,8 @@
 #![tactic(auto)]
 
 mod bound;
+mod common_bounds;
+mod form;
 mod growing;
 mod inclusion;
 mod limit;
@@ -10,5 +12,6 @@ mod load;
 mod renaming;
 mod segments;
 mod store;
+mod unifying;
 
 pub use segments::Segs;

@@ -119,6 +119,8 @@ impl<C: Values> Segs<C> {
         ensures value { IfOk result (λ new. lists_of new
             ≡ renamed_lists C.hull (renamed names.now) (lists_of self.now)) }
         ensures form { IfOk result (λ new. HasForm (lists_of new)) }
+        ensures ends { IfOk result (λ new. last_bound (lists_of new)
+            ≡ filter_map (renamed names.now) (last_bound (lists_of self.now))) }
         ensures keeps { IfOk result (λ new. (before number : ℕ → ℤ) (items : List ℤ) → AreNames names.now before number
             → Holds C.contains before items (lists_of self.now) → Holds C.contains number items (lists_of new)) }
     {

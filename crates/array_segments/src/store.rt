@@ -4,7 +4,7 @@ ghost use Rattle.std.specs.Prelude.{◌≡◌, ◌-◌, ◌^◌, ◌≤◌, ◌<
 ghost use Rattle.std.specs.List.{splice};
 ghost use Rattle.array_segments.specs.Loading.{start, stop};
 ghost use Rattle.array_segments.specs.Meaning.{Holds, IsIndex};
-ghost use Rattle.array_segments.specs.SegmentLists.{HasForm};
+ghost use Rattle.array_segments.specs.SegmentLists.{HasForm, last_bound};
 ghost use Rattle.array_segments.specs.Segments.{lists_of};
 ghost use Rattle.array_segments.specs.Storing.{around, changed_between, has_left, has_right, left_mark, new_bounds, next_of, replaced_by, right_mark, strongly_stored, weakly_stored};
 
@@ -122,6 +122,7 @@ impl<C: Values> Segs<C> {
         requires form { HasForm (lists_of self.old) }
         ensures value { lists_of self.new ≡ weakly_stored C.hull (O.gap order.now) (lists_of self.old) at value }
         ensures form { HasForm (lists_of self.new) }
+        ensures ends { last_bound (lists_of self.new) ≡ last_bound (lists_of self.old) }
         ensures keeps { (number : ℕ → ℤ) (items : List ℤ) (index : ℕ) (n : ℤ) → O.allows order.now number
             → Holds C.contains number items (lists_of self.old) → IsIndex number at items index → C.contains value n
             → Holds C.contains number (set items index n) (lists_of self.new) }
@@ -208,6 +209,7 @@ impl<C: Values> Segs<C> {
         ensures value { OnOk result (lists_of self.new
             ≡ strongly_stored C.hull C.full (O.gap order.now) (lists_of self.old) at value) }
         ensures form { HasForm (lists_of self.new) }
+        ensures ends { OnOk result (last_bound (lists_of self.new) ≡ last_bound (lists_of self.old)) }
         ensures keeps { OnOk result ((number : ℕ → ℤ) (items : List ℤ) (index : ℕ) (n : ℤ) → O.allows order.now number
             → Holds C.contains number items (lists_of self.old) → IsIndex number at items index → C.contains value n
             → Holds C.contains number (set items index n) (lists_of self.new)) }

@@ -3,8 +3,9 @@ use Rattle.std.specs.List.{filter_map}
 use Rattle.symbolic_values.specs.Names.{moved, renamed}
 use Rattle.array_segments.specs.Meaning.{Holds, segments_of}
 use Rattle.array_segments.specs.Renaming.{renamed_lists}
-use Rattle.array_segments.specs.SegmentLists.{HasForm}
+use Rattle.array_segments.specs.SegmentLists.{HasForm, last_bound}
 use Rattle.array_segments.specs.Segments.{lists_of}
+use Rattle.array_segments.proofs.EndLaw.{last_renamed}
 use Rattle.array_segments.proofs.NameSteps.{last_bound_is, renamed_done}
 use Rattle.array_segments.proofs.RenamingLaw.{renamed_form}
 use Rattle.array_segments.proofs.Spans.{zipped_length}
@@ -29,6 +30,11 @@ returns-clause-form g c =
     subst HasForm (sym value)
     (renamed_form g.C.Values.hull (renamed names) lists c.requires.form (ap (λ name. moved name (pos 0)) c.requires.zero)
     (subst (λ bound. 0 < length (filter_map (renamed names) bound)) (last_bound_is lists c.requires.form) c.requires.ends))
+
+pub returns-clause-ends : goal.returns-clause-ends
+returns-clause-ends g c =
+    ap last_bound (returns-clause-value g c)
+    ∙ last_renamed g.C.Values.hull (renamed c.args.names.now) (lists_of c.args.self.now) c.requires.form c.requires.ends
 
 pub returns-clause-keeps : goal.returns-clause-keeps
 returns-clause-keeps g c = λ before number items are holds.

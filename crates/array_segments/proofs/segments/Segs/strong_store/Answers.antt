@@ -1,8 +1,9 @@
-use Rattle.std.proofs.Common.{set, subst, sym, ◌∙◌}
+use Rattle.std.proofs.Common.{ap, set, subst, sym, ◌∙◌}
 use Rattle.array_segments.specs.Counted.{IsCounted}
-use Rattle.array_segments.specs.SegmentLists.{HasForm}
+use Rattle.array_segments.specs.SegmentLists.{HasForm, last_bound}
 use Rattle.array_segments.specs.Segments.{lists_of}
 use Rattle.array_segments.specs.Storing.{limited}
+use Rattle.array_segments.proofs.EndLaw.{last_stored}
 use Rattle.array_segments.proofs.LimitLaw.{limited_form}
 use Rattle.array_segments.proofs.StoreSteps.{replaced_counted, replaced_is}
 use Rattle.array_segments.specs.Meaning.{Holds}
@@ -45,6 +46,11 @@ returns-clause-form g c =
     ∙ replaced_is g.C.Values.hull g.C.Values.full gap lists c.args.at c.args.value touched.from touched.to touched.left touched.right touched.left_mark touched.right_mark
     are.from are.to are.left are.right are.left_mark are.right_mark))
     (replaced_counted g.C.Values.hull g.C.Values.full gap lists c.args.at c.args.value c.requires.form)))
+
+pub returns-clause-ends : goal.returns-clause-ends
+returns-clause-ends g c =
+    ap last_bound (returns-clause-value g c)
+    ∙ last_stored g.C.Values.hull g.C.Values.full (g.O.Order.gap c.args.order.now) (lists_of c.args.self.now) c.args.at c.args.value c.requires.form
 
 pub returns-clause-keeps : goal.returns-clause-keeps
 returns-clause-keeps g c = λ number items index n allows holds is has.

@@ -1,10 +1,16 @@
-use Rattle.std.proofs.Common.{set, subst, sym}
+use Rattle.std.proofs.Common.{ap, set, subst, sym, ◌∙◌}
 use Rattle.array_segments.specs.Loading.{start, stop}
 use Rattle.array_segments.specs.Meaning.{Holds}
+use Rattle.array_segments.specs.SegmentLists.{last_bound}
 use Rattle.array_segments.specs.Segments.{lists_of}
 use Rattle.array_segments.proofs.ClauseLaws.{grown_law}
+use Rattle.array_segments.proofs.EndLaw.{last_added}
 use Rattle.array_segments.proofs.Laws.{weak_law_same}
 use Rattle.array_segments.proofs.segments.Segs.weak_store.Goals as goal
+
+pub returns-clause-ends : goal.returns-clause-ends
+returns-clause-ends g c =
+    ap last_bound c.add_at.ensures.value ∙ last_added g.C.Values.hull (g.O.Order.gap c.args.order.now) (lists_of c.args.self.now) c.args.at c.args.value
 
 pub returns-clause-keeps : goal.returns-clause-keeps
 returns-clause-keeps g c = λ number items index n allows holds is has.
