@@ -1,0 +1,4 @@
+pub mod Symbols
+pub mod Sums
+pub mod Cutting
+pub mod Assuming

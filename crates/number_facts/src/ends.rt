@@ -1,0 +1,206 @@
+//! The numbers that ranges and bounds together leave to symbols and expressions.
+
+ghost use Rattle.std.specs.Prelude.{◌≡◌, ◌+ℤ◌, ◌-ℤ◌, pos, if◌then◌else◌};
+ghost use Rattle.std.specs.Int.{int_min, int_max};
+ghost use Rattle.interval_domain.specs.Interval.{inner_hole, is_hole};
+ghost use Rattle.pentagon_domain.specs.Rows.{rows_from};
+ghost use Rattle.number_spans.specs.Sizes.{IsBounded, IsLong, IsLongHole, IsWide};
+ghost use Rattle.number_facts.specs.Facts.{IsNamed, range_at};
+ghost use Rattle.number_facts.specs.Ends as rule;
+ghost use Rattle.number_facts.specs.Sizes.{IsSum};
+
+use crate::numbers::Numbers;
+use domain_api::Expr;
+use number_spans::Span;
+use pentagon_domain::BoundRow;
+
+/// The difference of two numbers of 64 bits.
+fn difference_of(a: i64, b: i64) -> i128
+    ensures value { result ≡ a -ℤ b }
+    ensures bound { IsSum result }
+{
+    i128::from(a) - i128::from(b)
+}
+
+/// Their sum.
+fn sum_of(a: i64, b: i64) -> i128
+    ensures value { result ≡ a +ℤ b }
+    ensures bound { IsSum result }
+{
+    i128::from(a) + i128::from(b)
+}
+
+/// A number of 64 bits.
+fn wide(n: i64) -> i128
+    ensures value { result ≡ n }
+    ensures bound { IsSum result }
+{
+    i128::from(n)
+}
+
+/// The lesser of two ends.
+#[tactic(auto, using(crate::proofs::Sums::sums))]
+fn lesser(a: i128, b: i128) -> i128
+    requires first { IsSum a }
+    requires second { IsSum b }
+    ensures value { result ≡ int_min a b }
+    ensures bound { IsSum result }
+{
+    a.min(b)
+}
+
+/// The greater of two ends.
+#[tactic(auto, using(crate::proofs::Sums::sums))]
+fn greater(a: i128, b: i128) -> i128
+    requires first { IsSum a }
+    requires second { IsSum b }
+    ensures value { result ≡ int_max a b }
+    ensures bound { IsSum result }
+{
+    a.max(b)
+}
+
+/// Returns whether the number is the hole.
+fn is_hole(hole: Option<i64>, n: i128) -> bool
+    ensures { result ≡ is_hole hole n }
+{
+    match hole {
+        None => false,
+        Some(hole) => i128::from(hole) == n,
+    }
+}
+
+/// The lower end, behind a hole that meets it.
+fn behind_hole(lo: i128, hole: Option<i64>) -> i128
+    requires { IsSum lo }
+    ensures value { result ≡ (if is_hole hole lo then lo +ℤ pos 1 else lo) }
+    ensures bound { IsWide result }
+{
+    if is_hole(hole, lo) { lo + 1 } else { lo }
+}
+
+/// The upper end, before a hole that meets it.
+fn before_hole(hi: i128, hole: Option<i64>) -> i128
+    requires { IsSum hi }
+    ensures value { result ≡ (if is_hole hole hi then hi -ℤ pos 1 else hi) }
+    ensures bound { IsWide result }
+{
+    if is_hole(hole, hi) { hi - 1 } else { hi }
+}
+
+/// A hole, where it stands strictly between the ends.
+#[tactic(auto, unfolding(interval_domain::specs::Interval::inner_hole))]
+fn inner_hole(lo: i128, hi: i128, hole: Option<i64>) -> Option<i128>
+    ensures value { result ≡ inner_hole lo hi hole }
+    ensures bound { IsLongHole result }
+{
+    match hole {
+        Some(hole) if lo < i128::from(hole) && i128::from(hole) < hi => Some(i128::from(hole)),
+        _ => None,
+    }
+}
+
+/// The numbers between two ends but for a hole, which moves an end that it meets.
+#[tactic(auto, unfolding(crate::specs::Ends::met))]
+fn met(lo: i128, hi: i128, hole: Option<i64>) -> Span
+    requires low { IsSum lo }
+    requires high { IsSum hi }
+    ensures value { result ≡ rule.met lo hi hole }
+    ensures ends { IsLong result }
+    ensures hole { IsLongHole result.hole }
+{
+    Span {
+        lo: behind_hole(lo, hole),
+        hi: before_hole(hi, hole),
+        hole: inner_hole(lo, hi, hole),
+    }
+}
+
+impl Numbers {
+    /// The upper end of a symbol, cut by a bound that goes from it.
+    fn lowered_by(&self, hi: i128, row: &BoundRow) -> i128
+        requires { IsSum hi }
+        ensures value { result ≡ rule.lowered_by self.now hi row.now }
+        ensures bound { IsSum result }
+    {
+        if self.has(row.t) {
+            lesser(hi, difference_of(self.range_at(row.t).hi(), row.k))
+        } else {
+            hi
+        }
+    }
+
+    /// The lower end of a symbol, raised by a bound, where that goes to it.
+    #[tactic(auto, unfolding(crate::specs::Ends::raised_by))]
+    fn raised_by(&self, t: u32, lo: i128, row: &BoundRow) -> i128
+        requires { IsSum lo }
+        ensures value { result ≡ rule.raised_by self.now t lo row.now }
+        ensures bound { IsSum result }
+    {
+        if row.t == t && self.has(row.s) {
+            greater(lo, sum_of(self.range_at(row.s).lo(), row.k))
+        } else {
+            lo
+        }
+    }
+
+    /// The upper end of a symbol, cut by all bounds that go from it.
+    fn highest(&self, s: u32) -> i128
+        ensures value { result ≡
+            rule.cut_by_all (rule.lowered_by self.now) (rows_from self.now.bounds s) (range_at self.now s).hi }
+        ensures bound { IsSum result }
+    {
+        let mut hi = wide(self.range_at(s).hi());
+        let rows = self.bounds.rows_from(s);
+        for row in rows {
+            hi = self.lowered_by(hi, row);
+        }
+        hi
+    }
+
+    /// The lower end of a symbol, raised by all bounds that go to it.
+    #[tactic(auto, using(crate::proofs::Cutting::cut_more, crate::proofs::Cutting::cut_all))]
+    fn lowest(&self, s: u32) -> i128
+        ensures value { result ≡ rule.cut_by_all (rule.raised_by self.now s) self.now.bounds (range_at self.now s).lo }
+        ensures bound { IsSum result }
+    {
+        let mut lo = wide(self.range_at(s).lo());
+        let rows = self.bounds.rows();
+        for row in rows {
+            lo = self.raised_by(s, lo, row);
+        }
+        lo
+    }
+
+    /// The numbers that a symbol may be.
+    #[tactic(auto, unfolding(crate::specs::Ends::span_at))]
+    pub(crate) fn span_at(&self, s: u32) -> Span
+        ensures value { result ≡ rule.span_at self.now s }
+        ensures ends { IsLong result }
+        ensures hole { IsLongHole result.hole }
+    {
+        met(self.lowest(s), self.highest(s), self.range_at(s).hole())
+    }
+
+    /// The numbers that an expression may have.
+    #[tactic(auto, unfolding(crate::specs::Ends::range_of))]
+    pub(crate) fn range_of(&self, e: Expr) -> Span
+        ensures value { result ≡ rule.range_of self.now e }
+        ensures low { IsBounded result.lo }
+        ensures high { IsBounded result.hi }
+    {
+        self.span_at(e.sym).shifted(e.k)
+    }
+
+    /// The least and the greatest number that an expression may have, and the number between them that it does not
+    /// have. The least is above the greatest where what is known leaves none. Takes no memory.
+    pub fn ends(&self, e: Expr) -> (i128, i128, Option<i128>)
+        requires { IsNamed self.now e }
+        ensures least { result.0 ≡ (rule.range_of self.now e).lo }
+        ensures greatest { result.1 ≡ (rule.range_of self.now e).hi }
+        ensures hole { result.2 ≡ (rule.range_of self.now e).hole }
+    {
+        let Span { lo, hi, hole } = self.range_of(e);
+        (lo, hi, hole)
+    }
+}

@@ -1,0 +1,15 @@
+//! What is known of numbers by ranges, bounds and definitions together, and how each operator and each comparison
+//! changes it.
+#![tactic(auto)]
+
+mod assume;
+mod comparisons;
+mod ends;
+mod fresh;
+mod gap;
+mod numbers;
+mod order;
+mod relation;
+
+pub use numbers::Numbers;
+pub use relation::Relation;

@@ -1,0 +1,54 @@
+//! What is known of symbols.
+
+ghost use Rattle.std.specs.Prelude.{◌≡◌, ◌≤◌, length};
+ghost use Rattle.number_facts.specs.Facts.{has, range_at};
+
+use domain_api::Values;
+use interval_domain::Range;
+use pentagon_domain::Bounds;
+use std::marker::Model;
+use symbolic_values::Def;
+
+/// What is known of the symbols of a state's numbers. The facts are public, and each call says what it does to them.
+///
+/// Symbol 0 is the number 0. The others have their numbers from 1 on, in order.
+#[derive(Drop)]
+pub struct Numbers {
+    /// The range of each symbol, that of symbol s at place s - 1. All are ranges of int32.
+    pub ranges: Vec<Range>,
+    /// What some symbols are, one definition for each at most, rising by the symbol.
+    pub definitions: Vec<(u32, Def)>,
+    /// How symbols lie to each other.
+    pub bounds: Bounds,
+}
+
+impl Model for Numbers {
+    ghost use Rattle.number_facts.specs.Facts.{Facts};
+
+    ghost Value = { Facts };
+
+    ghost view = { λ n. record { ranges = n.ranges.items; definitions = n.definitions.items; bounds = n.bounds } };
+}
+
+impl Numbers {
+    /// Returns whether a symbol is there.
+    pub(crate) fn has(&self, sym: u32) -> bool
+        ensures { result ≡ has self.now sym }
+    {
+        sym as usize <= self.ranges.len()
+    }
+
+    /// The range that is stored of a symbol.
+    #[tactic(auto, using(crate::proofs::Symbols::stored_at), unfolding(crate::specs::Facts::range_at))]
+    pub(crate) fn range_at(&self, sym: u32) -> Range
+        ensures { result ≡ range_at self.now sym }
+    {
+        if sym == 0 {
+            return Range::constant(0);
+        }
+        match self.ranges.get(sym as usize - 1) {
+            Some(range) => *range,
+            None => Range::constant(0),
+        }
+    }
+}
