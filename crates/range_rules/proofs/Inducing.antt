@@ -4,9 +4,9 @@ use Rattle.std.specs.Prelude.{◌↔◌, IsTrue, IfOk}
 use Rattle.std.proofs.lemmas.Bool.{cases_lt}
 use Rattle.std.proofs.lemmas.Result.{IfOk-weaker}
 use Rattle.flow_graph.specs.declared.graph.Edge.{Edge}
-use Rattle.cil_model.specs.declared.machine.Frame.{Frame}
+use Rattle.machine_points.specs.declared.point.Point.{Point}
 use Rattle.range_states.specs.FrameFacts.{State}
-use Rattle.range_states.specs.Frames.{HoldsIn}
+use Rattle.range_states.specs.Frames.{HoldsAt}
 use Rattle.range_states.specs.StatesHold.{leq_holds}
 use Rattle.range_states.specs.Inclusion.{leq}
 use Rattle.range_states.specs.RangeStates.{AreAlike}
@@ -103,23 +103,22 @@ module _ (code : UnitFlow) (lawful : IsLawful code) (states : List State) (induc
   fits_at : (block : ℕ) → block < length code.graph.blocks → Fits code block (state_at states block)
   fits_at block below = inductive.shape.fit block (subst (λ (n : ℕ). block < n) (sym inductive.shape.count) below)
 
-  pub holds_there : (n block : ℕ) (f : Frame) → ComesTo code n block f → HoldsIn (state_at states block) f
-  holds_there zero block f (begins, first) =
-      subst (λ (b : ℕ). HoldsIn (state_at states b) f) (sym first)
-      (leq_holds (entry code.unit) (state_at states 0) f
+  pub holds_there : (n block : ℕ) (p : Point) → ComesTo code n block p → HoldsAt (state_at states block) p
+  holds_there zero block p (begins, first) =
+      subst (λ (b : ℕ). HoldsAt (state_at states b) p) (sym first)
+      (leq_holds (entry code.unit) (state_at states 0) p
       (laws.alike code.unit (kinds_at code 0) (entry code.unit) (state_at states 0) (laws.entry_fits code lawful) (fits_at 0 (laws.has_block code lawful)))
-      inductive.begun (laws.entry_keeps code lawful f begins))
-  holds_there (suc n) block f (k, below, target, (before, comes, goes)) =
+      inductive.begun (laws.entry_keeps code lawful p begins))
+  holds_there (suc n) block p (k, below, target, (before, comes, goes)) =
       let edge = edge_at code k in
       let ends = laws.joins code lawful k below in
       let here = fits_at edge.from ends.from in
       let behind = along_edge (state_at states edge.from) code k in
-      subst (λ (b : ℕ). HoldsIn (state_at states b) f) target
-      (leq_holds behind (state_at states edge.to) f
+      subst (λ (b : ℕ). HoldsAt (state_at states b) p) target
+      (leq_holds behind (state_at states edge.to) p
       (laws.alike code.unit (kinds_at code edge.to) behind (state_at states edge.to) (laws.along_kept code lawful k below (state_at states edge.from) here) (fits_at edge.to ends.to))
       (inductive.edges k below)
-      (laws.along_keeps code lawful k below (state_at states edge.from) before f here goes (holds_there n edge.from before comes)))
+      (laws.along_keeps code lawful k below (state_at states edge.from) before p here goes (holds_there n edge.from before comes)))
 
   pub holds_in_runs : HoldsInRuns code states
-  holds_in_runs block f below here reached =
-      let (n, comes) = runs_go_along code lawful block f below here reached in holds_there n block f comes
+  holds_in_runs block p comes = let (n, along) = runs_go_along code lawful block p comes in holds_there n block p along

@@ -8,13 +8,7 @@ pub record IsNormal (known : FrameFacts) : Type 0 where
   pub form : HasForm known
   pub same : normal known ≡ known
 
--- Both have the form of what is known, and speak of as many variables.
-pub record SpeakOfTheSame (a b : FrameFacts) : Type 0 where
-  pub first : HasForm a
-  pub second : HasForm b
-  pub count : length a.variables ≡ length b.variables
-
--- So where both are reached.
+-- Where both are reached, they speak of as many variables.
 abbrev pub AreAlike : State → State → Type 0
-AreAlike (Some a) (Some b) = SpeakOfTheSame a b
+AreAlike (Some a) (Some b) = length a.variables ≡ length b.variables
 AreAlike _ _ = Unit {0}
