@@ -315,4 +315,4 @@ module _ (code : UnitFlow) (lawful : IsLawful code) where
       ]
 
 pub runs_go_along : (code : UnitFlow) → IsLawful code → RunsGoAlong code
-runs_go_along code lawful = λ block p comes. comes_there code lawful block p comes.block_is comes.here (run_comes code lawful p comes.reached).1
+runs_go_along code lawful = λ block p comes. comes_there code lawful block p comes.below comes.here (run_comes code lawful p comes.reached).1

@@ -1,5 +1,6 @@
 -- Invariants: a state for each block, of which each edge shows that of its target.
-use Rattle.std.specs.Prelude.{◌≡◌, ℕ, zero, suc, ◌<◌, true, List, length, get_or, None}
+use Rattle.std.specs.Prelude.{◌≡◌, ℕ, ◌<◌, true, List, length, get_or, None}
+use Rattle.machine_points.specs.Flows.{ComesAlong, Edges}
 use Rattle.machine_points.specs.Points.{IsReached}
 use Rattle.machine_points.specs.declared.point.Point.{Point}
 use Rattle.range_states.specs.FrameFacts.{State}
@@ -42,12 +43,19 @@ pub record IsInductive (code : UnitFlow) (states : List State) : Type 0 where
 
 -- ---- what it means
 
+-- The edges of the graph, as points go along them.
+abbrev pub edges_in : UnitFlow → Edges
+edges_in code = record {
+  count = length code.graph.edges;
+  source = λ edge. (edge_at code edge).from;
+  target = λ edge. (edge_at code edge).to;
+  begins = Begins code.unit;
+  goes = GoesAlong code;
+}
+
 -- A point comes to the start of a block along so many edges, from where the unit begins.
 abbrev pub ComesTo : UnitFlow → ℕ → ℕ → Point → Type 0
-ComesTo code zero block p = Begins code.unit p × (block ≡ 0)
-ComesTo code (suc n) block p =
-    (edge : ℕ) × (edge < length code.graph.edges) × ((edge_at code edge).to ≡ block)
-    × ((before : Point) × ComesTo code n (edge_at code edge).from before × GoesAlong code edge before p)
+ComesTo code n block p = ComesAlong (edges_in code) n block p
 
 -- The state of each block holds of each point that comes there.
 abbrev pub HoldsWhereItComes : UnitFlow → List State → Type 0
@@ -57,7 +65,7 @@ HoldsWhereItComes code states = (n block : ℕ) (p : Point) → ComesTo code n b
 
 -- A run of the unit comes to the start of a block.
 pub record IsReachedAt (code : UnitFlow) (block : ℕ) (p : Point) : Type 0 where
-  pub block_is : block < length code.graph.blocks
+  pub below : block < length code.graph.blocks
   pub here : p.frame.at ≡ start_of code block
   pub reached : IsReached code.unit p
 
