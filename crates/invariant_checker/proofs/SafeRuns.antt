@@ -1,4 +1,4 @@
--- A unit is safe where no frame to which a run comes steps to a fault.
+-- A unit is safe where no point to which a run comes steps to a fault.
 use Rattle.std.proofs.Common.{ℕ, List}
 use Rattle.cil_model.specs.Runs.{IsNoFault, LocalRuns, LocalSafe}
 use Rattle.cil_model.specs.Values.{Heap}

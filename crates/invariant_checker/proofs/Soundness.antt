@@ -31,7 +31,7 @@ none_listed (p ∷ listed) o none has = cc
 
 no_obligation : (code : UnitFlow) (lawful : IsLawful code) → obligations_of code.unit ≡ [] → (kind : FaultKind) (index at : ℕ) → StepsToFault code lawful kind index at → ⊥
 no_obligation code lawful none kind index at to =
-    none_listed (obligations_of code.unit) _ none (lists_each_fault code.unit numbers to.frame to.heap kind index at to.in_body.inside to.step)
+    none_listed (obligations_of code.unit) _ none (lists_each_fault code.unit numbers to.before.frame to.before.heap kind index at to.in_body.inside to.step)
   where
     numbers : each.IsOfNumbers code.unit
     numbers = record {

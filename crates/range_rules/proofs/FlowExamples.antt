@@ -3,9 +3,9 @@ use Rattle.std.proofs.Common.{false, inl, arith, ◌≡◌, ℕ, ℤ, pos, List,
 use Rattle.std.proofs.lemmas.Int.{ints}
 use Rattle.cil_model.specs.Values.{IsByte}
 use Rattle.cil_model.specs.declared.instruction.Instr.{Instr}
-use Rattle.cil_model.specs.declared.machine.Frame.{Frame}
 use Rattle.cil_model.specs.declared.machine.Value.{Value}
 use Rattle.cil_model.specs.declared.machine.Value.TheVariants as values
+use Rattle.machine_points.specs.declared.point.Point.{Point}
 use Rattle.range_states.specs.Inclusion.{included, leq}
 use Rattle.interval_domain.specs.Joins.{within, excludes_hole}
 use Rattle.range_rules.specs.Entry.{entry}
@@ -95,15 +95,18 @@ not_typed = refl
 
 -- ---- a run along an edge
 
-abbrev at_offset : ℕ → List Value → Frame
+abbrev at_offset : ℕ → List Value → Point
 at_offset at stack = record {
-  unit = 0;
-  at = at;
-  stack = stack;
-  locals = [];
-  args = values.Int (pos 1) ∷ [];
-  entry_args = values.Int (pos 1) ∷ [];
-  entry_heap = [];
+  frame = record {
+    unit = 0;
+    at = at;
+    stack = stack;
+    locals = [];
+    args = values.Int (pos 1) ∷ [];
+    entry_args = values.Int (pos 1) ∷ [];
+    entry_heap = [];
+  };
+  heap = [];
 }
 
 one_byte : IsByte (pos 1)
@@ -111,19 +114,20 @@ one_byte = (omega (arith, ints), omega (arith, ints))
 
 goes_to_target : GoesAlong code 0 (at_offset 0 []) (at_offset 4 [])
 goes_to_target = (
-  [],
-  [],
+  at_offset 1 (values.Int (pos 1) ∷ []),
+  record {
+    here = refl;
+    of = record {
+      heap = tt;
+      frame = record { args = (one_byte, tt); locals = tt; stack = tt; entry_heap_is = tt; entry_args = (one_byte, tt); kept = tt };
+    };
+    goes = inl refl;
+  },
   (
-    at_offset 1 (values.Int (pos 1) ∷ []),
-    [],
     record {
       here = refl;
-      frame = record { args = (one_byte, tt); locals = tt; stack = tt; entry_heap_is = tt; entry_args = (one_byte, tt); kept = tt };
-      goes = inl refl;
-    },
-    (
-      record {
-        here = refl;
+      of = record {
+        heap = tt;
         frame = record {
           args = (one_byte, tt);
           locals = tt;
@@ -132,10 +136,10 @@ goes_to_target = (
           entry_args = (one_byte, tt);
           kept = tt;
         };
-        goes = inl refl;
-      },
-      refl,
-    ),
+      };
+      goes = inl refl;
+    },
+    refl,
   ),
 )
 

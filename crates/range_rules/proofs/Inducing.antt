@@ -4,16 +4,16 @@ use Rattle.std.specs.Prelude.{◌↔◌, IsTrue, IfOk}
 use Rattle.std.proofs.lemmas.Bool.{cases_lt}
 use Rattle.std.proofs.lemmas.Result.{IfOk-weaker}
 use Rattle.flow_graph.specs.declared.graph.Edge.{Edge}
-use Rattle.cil_model.specs.declared.machine.Frame.{Frame}
+use Rattle.machine_points.proofs.Induction.{Flow, States, holds_along}
 use Rattle.range_states.specs.FrameFacts.{State}
-use Rattle.range_states.specs.Frames.{HoldsIn}
+use Rattle.range_states.specs.Frames.{HoldsAt}
 use Rattle.range_states.specs.StatesHold.{leq_holds}
 use Rattle.range_states.specs.Inclusion.{leq}
 use Rattle.range_states.specs.RangeStates.{AreAlike}
 use Rattle.range_rules.specs.Entry.{entry}
 use Rattle.range_rules.specs.Flow.{Fits, IsLawful, along_edge, edge_at, kinds_at, no_edge}
 use Rattle.range_rules.specs.FlowLaws as laws
-use Rattle.range_rules.specs.Inductive.{AllCarried, ComesTo, HasShape, HoldsInRuns, IsBegun, IsInductive, state_at}
+use Rattle.range_rules.specs.Inductive.{AllCarried, HasShape, HoldsInRuns, HoldsWhereItComes, IsBegun, IsInductive, edges_in, state_at}
 use Rattle.range_rules.specs.declared.unit_flow.UnitFlow.{UnitFlow}
 use Rattle.range_rules.proofs.OnTheWay.{runs_go_along}
 
@@ -99,27 +99,35 @@ inductive_where r code states shape begun answer =
 
 -- ---- what an invariant is for
 
+abbrev unit_states : UnitFlow → States
+unit_states code = record {
+  State = State;
+  holds = HoldsAt;
+  fits = Fits code;
+  entry = entry code.unit;
+  along = λ a edge. along_edge a code edge;
+  leq = leq;
+}
+
+flows : (code : UnitFlow) → IsLawful code → Flow (edges_in code) (unit_states code) (length code.graph.blocks)
+flows code lawful = record {
+  first = laws.has_block code lawful;
+  source_below = λ edge below. (laws.joins code lawful edge below).from;
+  target_below = λ edge below. (laws.joins code lawful edge below).to;
+  entry_fits = laws.entry_fits code lawful;
+  entry_holds = laws.entry_keeps code lawful;
+  along_fits = λ edge a below fits. laws.along_kept code lawful edge below a fits;
+  along_holds = λ edge a p q below fits holds goes. laws.along_keeps code lawful edge below a p q fits goes holds;
+  leq_holds = λ block a b p first second less holds. leq_holds a b p (laws.alike code.unit (kinds_at code block) a b first second) less holds;
+}
+
 module _ (code : UnitFlow) (lawful : IsLawful code) (states : List State) (inductive : IsInductive code states) where
   fits_at : (block : ℕ) → block < length code.graph.blocks → Fits code block (state_at states block)
   fits_at block below = inductive.shape.fit block (subst (λ (n : ℕ). block < n) (sym inductive.shape.count) below)
 
-  pub holds_there : (n block : ℕ) (f : Frame) → ComesTo code n block f → HoldsIn (state_at states block) f
-  holds_there zero block f (begins, first) =
-      subst (λ (b : ℕ). HoldsIn (state_at states b) f) (sym first)
-      (leq_holds (entry code.unit) (state_at states 0) f
-      (laws.alike code.unit (kinds_at code 0) (entry code.unit) (state_at states 0) (laws.entry_fits code lawful) (fits_at 0 (laws.has_block code lawful)))
-      inductive.begun (laws.entry_keeps code lawful f begins))
-  holds_there (suc n) block f (k, below, target, (before, comes, goes)) =
-      let edge = edge_at code k in
-      let ends = laws.joins code lawful k below in
-      let here = fits_at edge.from ends.from in
-      let behind = along_edge (state_at states edge.from) code k in
-      subst (λ (b : ℕ). HoldsIn (state_at states b) f) target
-      (leq_holds behind (state_at states edge.to) f
-      (laws.alike code.unit (kinds_at code edge.to) behind (state_at states edge.to) (laws.along_kept code lawful k below (state_at states edge.from) here) (fits_at edge.to ends.to))
-      (inductive.edges k below)
-      (laws.along_keeps code lawful k below (state_at states edge.from) before f here goes (holds_there n edge.from before comes)))
+  pub holds_there : HoldsWhereItComes code states
+  holds_there =
+      holds_along (edges_in code) (unit_states code) (length code.graph.blocks) (flows code lawful) (state_at states) fits_at inductive.begun inductive.edges
 
   pub holds_in_runs : HoldsInRuns code states
-  holds_in_runs block f below here reached =
-      let (n, comes) = runs_go_along code lawful block f below here reached in holds_there n block f comes
+  holds_in_runs block p comes = let (n, along) = runs_go_along code lawful block p comes in holds_there n block p along

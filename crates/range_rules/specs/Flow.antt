@@ -3,7 +3,6 @@ use Rattle.std.specs.Prelude.{◌≡◌, ℕ, ◌+◌, Bool, true, nat_le, nat_l
 use Rattle.std.specs.List.{AllByRecursion}
 use Rattle.cil_model.specs.Blocks.{body_of}
 use Rattle.cil_model.specs.Calls.{entry_frame}
-use Rattle.cil_model.specs.Configs.{IsFrameOf}
 use Rattle.cil_model.specs.Effects.{GoesOn, HasEffect, effects}
 use Rattle.cil_model.specs.FitKinds.{HasBody}
 use Rattle.cil_model.specs.Passes.{KindsOf, stack_at}
@@ -12,7 +11,6 @@ use Rattle.cil_model.specs.Shapes.{shape_of}
 use Rattle.cil_model.specs.Values.{Heap}
 use Rattle.cil_model.specs.WellFormed.{IsWellFormed}
 use Rattle.cil_model.specs.declared.instruction.Instr.{Instr}
-use Rattle.cil_model.specs.declared.machine.Frame.{Frame}
 use Rattle.cil_model.specs.declared.machine.Value.{Value}
 use Rattle.cil_model.specs.declared.place.Kind.{Kind}
 use Rattle.cil_model.specs.declared.place.Place.{Place}
@@ -20,6 +18,8 @@ use Rattle.cil_model.specs.declared.place.Place.TheVariants as places
 use Rattle.cil_model.specs.declared.unit.Unit.{Unit as MethodUnit}
 use Rattle.flow_graph.specs.GraphOf.{graph_of}
 use Rattle.flow_graph.specs.declared.graph.Edge.{Edge}
+use Rattle.machine_points.specs.Points.{IsPointOf, point}
+use Rattle.machine_points.specs.declared.point.Point.{Point}
 use Rattle.range_states.specs.FrameFacts.{FrameFacts, State, HasForm}
 use Rattle.range_states.specs.NormalForm.{norm}
 use Rattle.range_rules.specs.Acts.{is_told}
@@ -116,28 +116,26 @@ Fits code block state = FitsKinds code.unit (kinds_at code block) state
 
 -- ---- runs along an edge
 
--- A frame of the unit at an instruction goes on by it to the new frame.
-pub record Steps (unit : MethodUnit) (i : Instr) (f new : Frame) (heap after : Heap) : Type 0 where
-  pub here : f.at ≡ i.at
-  pub frame : IsFrameOf unit heap f
-  pub goes : HasEffect (effects unit i f heap) (GoesOn new after)
+-- A point of the unit, at an instruction, goes on by it to the other point.
+pub record Steps (unit : MethodUnit) (i : Instr) (p q : Point) : Type 0 where
+  pub here : p.frame.at ≡ i.at
+  pub of : IsPointOf unit p
+  pub goes : HasEffect (effects unit i p.frame p.heap) (GoesOn q.frame q.heap)
 
 -- It goes on by each of these instructions in turn, and by the last on the way of this number.
-abbrev pub GoesThrough : MethodUnit → ℕ → List Instr → Frame → Frame → Heap → Heap → Type 0
-GoesThrough unit number [] f new heap after = ⊥
-GoesThrough unit number (i ∷ []) f new heap after = Steps unit i f new heap after × (way_of i.op f.stack ≡ number)
-GoesThrough unit number (i ∷ j ∷ is) f new heap after =
-    (g : Frame) × (mid : Heap) × Steps unit i f g heap mid × GoesThrough unit number (j ∷ is) g new mid after
+abbrev pub GoesThrough : MethodUnit → ℕ → List Instr → Point → Point → Type 0
+GoesThrough unit number [] p q = ⊥
+GoesThrough unit number (i ∷ []) p q = Steps unit i p q × (way_of i.op p.frame.stack ≡ number)
+GoesThrough unit number (i ∷ j ∷ is) p q = (mid : Point) × Steps unit i p mid × GoesThrough unit number (j ∷ is) mid q
 
--- A frame goes from the start of an edge's source through that block, and along the edge.
-abbrev pub GoesAlong : UnitFlow → ℕ → Frame → Frame → Type 0
-GoesAlong code edge f new =
-    (heap : Heap) × (after : Heap) × GoesThrough code.unit (edge_at code edge).number (block_instrs code (edge_at code edge).from) f new heap after
+-- A point goes from the start of an edge's source through that block, and along the edge.
+abbrev pub GoesAlong : UnitFlow → ℕ → Point → Point → Type 0
+GoesAlong code edge p q = GoesThrough code.unit (edge_at code edge).number (block_instrs code (edge_at code edge).from) p q
 
--- The frame is one with which a call of the unit may begin.
-pub record Begins (unit : MethodUnit) (f : Frame) : Type 0 where
+-- The point is one with which a call of the unit may begin.
+pub record Begins (unit : MethodUnit) (p : Point) : Type 0 where
   pub index : ℕ
   pub args : List Value
   pub heap : Heap
   pub may : MayBegin unit args heap
-  pub is : f ≡ entry_frame unit index args heap
+  pub is : p ≡ point (entry_frame unit index args heap) heap

@@ -3,13 +3,13 @@ use Rattle.std.proofs.Common.{◌≡◌, ℕ, ◌+◌, ◌<◌, ◌≤◌, true,
 use Rattle.std.proofs.lemmas.List.{length-map}
 use Rattle.std.proofs.lemmas.List.Elements.{All-from_recursion}
 use Rattle.std.proofs.lemmas.Option.{none-some}
+use Rattle.cil_model.specs.Calls.{entry_frame}
 use Rattle.cil_model.specs.Code.{begins_at}
 use Rattle.cil_model.specs.FitKinds.{AreDecoded}
 use Rattle.cil_model.specs.Passes.{stack_at}
 use Rattle.cil_model.specs.Runs.{instr_at}
 use Rattle.cil_model.specs.ShortCode.{AreOfShortCode}
 use Rattle.cil_model.specs.declared.instruction.Instr.{Instr}
-use Rattle.cil_model.specs.declared.machine.Frame.{Frame}
 use Rattle.cil_model.specs.declared.place.Kind.{Kind}
 use Rattle.cil_model.specs.declared.unit.Unit.{Unit as MethodUnit}
 use Rattle.cil_model.proofs.KindsSettle.{reached_begins}
@@ -21,8 +21,11 @@ use Rattle.flow_graph.specs.declared.graph.Edge.{Edge}
 use Rattle.flow_graph.specs.declared.graph.Graph.{Graph}
 use Rattle.flow_graph.proofs.EdgeOrder.{place_within}
 use Rattle.flow_graph.proofs.GraphFacts.{edges_join, first_block}
+use Rattle.machine_points.specs.Points.{point}
+use Rattle.machine_points.specs.declared.point.Point.{Point}
+use Rattle.machine_points.proofs.PointsKeep.{entry_point, point_values}
 use Rattle.range_states.specs.FrameFacts.{State}
-use Rattle.range_states.specs.Frames.{HoldsIn}
+use Rattle.range_states.specs.Frames.{HoldsAt}
 use Rattle.range_states.specs.Join.{join, joined}
 use Rattle.range_states.specs.NormalForm.{norm, of_numbers}
 use Rattle.range_states.specs.RangeStates.{AreAlike}
@@ -46,7 +49,7 @@ module _ (unit : MethodUnit) where
   alike stack None b first second = tt
   alike stack (Some a) None first second = tt
   alike None (Some a) (Some b) first second = elim first [ ]
-  alike (Some stack) (Some a) (Some b) first second = record { first = first.form; second = second.form; count = first.count ∙ sym second.count }
+  alike (Some stack) (Some a) (Some b) first second = first.count ∙ sym second.count
 
   pub join_kept : (stack : Option (List Kind)) (a b : State) → FitsKinds unit stack a → FitsKinds unit stack b → FitsKinds unit stack (join a b)
   join_kept stack None b first second = second
@@ -127,11 +130,13 @@ module _ (code : UnitFlow) (lawful : IsLawful code) where
         norm_kept unit (kinds_at code edge.to) (through unit edge.number (block_instrs code edge.from) state)
         (through_fits unit code.kinds decoded lawful.kinds (block_instrs code edge.from) (start_of code edge.from) edge.number (start_of code edge.to) state way fits)
 
-    pub along_keeps : (state : State) (f new : Frame) → Fits code edge.from state → GoesAlong code k f new → HoldsIn state f → HoldsIn (along_edge state code k) new
+    pub along_keeps : (state : State) (p q : Point) → Fits code edge.from state → GoesAlong code k p q → HoldsAt state p → HoldsAt (along_edge state code k) q
     unfolding along_edge
-    along_keeps state f new fits (heap, after, goes) holds =
-        norm_holds (through unit edge.number (block_instrs code edge.from) state) new
-        (through_holds unit code.kinds decoded lawful.kinds (block_instrs code edge.from) (start_of code edge.from) edge.number (start_of code edge.to) state f new heap after way fits goes holds)
+    along_keeps state p q fits goes holds =
+        let behind = through unit edge.number (block_instrs code edge.from) state in
+        let there : HoldsAt behind q =
+        through_holds unit code.kinds decoded lawful.kinds (block_instrs code edge.from) (start_of code edge.from) edge.number (start_of code edge.to) state p q way fits goes holds in
+        record { machine = there.machine; frame = norm_holds behind q.frame there.frame }
 
   -- ---- the entry
 
@@ -153,6 +158,10 @@ module _ (code : UnitFlow) (lawful : IsLawful code) where
       subst (λ (stack : Option (List Kind)). FitsKinds unit stack (Some (of_numbers (numbers_at_entry unit)))) (sym first_kinds)
       (record { form = of_all_form (numbers_at_entry unit) (entry_int32 unit); count = count_of_variables (numbers_at_entry unit) ∙ entry_count })
 
-  pub entry_keeps : (f : Frame) → Begins unit f → HoldsIn (entry unit) f
-  entry_keeps f begins =
-      subst (HoldsIn (entry unit)) (sym begins.is) (entry_holds unit lawful.unit.variables begins.index begins.args begins.heap begins.may)
+  pub entry_keeps : (p : Point) → Begins unit p → HoldsAt (entry unit) p
+  entry_keeps p begins =
+      let start = point (entry_frame unit begins.index begins.args begins.heap) begins.heap in
+      subst (HoldsAt (entry unit)) (sym begins.is) (record {
+        machine = point_values unit start (entry_point unit begins.index begins.args begins.heap lawful.unit.formed.locals begins.may);
+        frame = entry_holds unit lawful.unit.variables begins.index begins.args begins.heap begins.may;
+      })

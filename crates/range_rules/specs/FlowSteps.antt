@@ -9,30 +9,32 @@ use Rattle.cil_model.specs.Passes.{KindsOf, Stacks, stack_at, successors, merged
 use Rattle.cil_model.specs.Runs.{instr_at}
 use Rattle.cil_model.specs.Shapes.{shape_of}
 use Rattle.cil_model.specs.UnitCalls.{unit_call}
-use Rattle.cil_model.specs.Values.{Heap}
 use Rattle.cil_model.specs.declared.instruction.Instr.{Instr}
 use Rattle.cil_model.specs.declared.instruction.Op.{Op}
 use Rattle.cil_model.specs.declared.instruction.Op.TheVariants as ops
 use Rattle.cil_model.specs.declared.instruction.Test.{Test}
 use Rattle.cil_model.specs.declared.instruction.Test.TheVariants as tests
 use Rattle.cil_model.specs.declared.machine.FaultKind.{FaultKind}
-use Rattle.cil_model.specs.declared.machine.Frame.{Frame}
 use Rattle.cil_model.specs.declared.place.Kind.{Kind}
 use Rattle.cil_model.specs.declared.unit.Unit.{Unit as MethodUnit}
 use Rattle.cil_model.proofs.KindsSettle.{Absorbs, Settled, settled}
 use Rattle.cil_model.proofs.Lists.{of_found}
+use Rattle.machine_points.specs.MachineValues.{HasMachineValues}
+use Rattle.machine_points.specs.declared.point.Point.{Point}
+use Rattle.machine_points.proofs.PointsKeep.{effect_point, point_values}
 use Rattle.range_states.specs.FrameFacts.{FrameFacts, State, HasForm}
-use Rattle.range_states.specs.Frames.{HoldsIn}
+use Rattle.range_states.specs.Frames.{HoldsAt}
 use Rattle.range_states.specs.Avoiding.{avoid_all, avoid_each}
 use Rattle.range_states.specs.Faults.{faults_of}
 use Rattle.range_rules.specs.Acts.{acted, is_told, IsReady, variables_read, operands}
 use Rattle.range_rules.specs.BlockWays.{IsPassed, IsLeft, IsWay}
 use Rattle.range_rules.specs.Choices.{chosen}
-use Rattle.range_rules.specs.Flow.{FitsKinds, HasVariables, variable_count, through, GoesThrough}
+use Rattle.range_rules.specs.Flow.{FitsKinds, HasVariables, variable_count, through, GoesThrough, Steps}
 use Rattle.range_rules.specs.FormsBehind.{AreVariables, HasNext, then_kept, one_taken, avoid_all_kept, chosen_kept, acted_kept, loaded_is, stored_is, call_is, test_is, switch_is, operator_is, number_is, doubled_is}
 use Rattle.range_rules.specs.Post.{post, along}
 use Rattle.range_rules.specs.PostLaws.{post_holds, along_holds}
 use Rattle.range_rules.specs.Ready.{avoided_ready, chosen_ready}
+use Rattle.range_rules.specs.Steps.{GoesBy}
 
 -- ---- lists
 
@@ -200,13 +202,28 @@ module _ (unit : MethodUnit) (stacks : Stacks) (decoded : AreDecoded unit.instrs
   through_fits (i ∷ j ∷ is) at number target state way fits =
       through_fits (j ∷ is) (i.at + i.size) number target (post unit i.op state) way.1 (post_fits i at state way.0 fits)
 
-  pub through_holds : (is : List Instr) (at number target : ℕ) (state : State) (f new : Frame) (heap after : Heap) → IsWay unit at number target is → FitsKinds unit (before at) state
-      → GoesThrough unit number is f new heap after → HoldsIn state f → HoldsIn (through unit number is state) new
-  through_holds [] at number target state f new heap after way fits goes holds = elim way [ ]
-  through_holds (i ∷ []) at number target state f new heap after left fits goes holds =
-      along_holds unit i.op number state left.told left.short (form_of unit (before at) state fits) f new
-      (record { instr = i; heap = heap; after = after; does = refl; frame = goes.0.frame; holds = holds; goes = goes.0.goes }) goes.1
-  through_holds (i ∷ j ∷ is) at number target state f new heap after way fits (g, mid, step, rest) holds =
-      through_holds (j ∷ is) (i.at + i.size) number target (post unit i.op state) g new mid after way.1 (post_fits i at state way.0 fits) rest
-      (post_holds unit i.op state way.0.told (form_of unit (before at) state fits) f g
-      (record { instr = i; heap = heap; after = mid; does = refl; frame = step.frame; holds = holds; goes = step.goes }))
+  -- Where an instruction goes on, the point has values of the machine.
+  step_values : (i : Instr) (p q : Point) → instr_at unit.instrs i.at ≡ Some i → Steps unit i p q → HasMachineValues q
+  step_values i p q found step = point_values unit q (effect_point unit i p q (operand i found) step.of step.goes)
+
+  by_step : (i : Instr) (state : State) (p q : Point) → Steps unit i p q → HoldsAt state p → GoesBy unit i.op state p.frame q.frame
+  by_step i state p q step holds =
+      record { instr = i; heap = p.heap; after = q.heap; does = refl; frame = step.of.frame; holds = holds.frame; goes = step.goes }
+
+  pub step_holds : (i : Instr) (at : ℕ) (state : State) (p q : Point) → IsPassed unit at i → FitsKinds unit (before at) state → Steps unit i p q → HoldsAt state p
+      → HoldsAt (post unit i.op state) q
+  step_holds i at state p q passed fits step holds = record {
+    machine = step_values i p q passed.found step;
+    frame = post_holds unit i.op state passed.told (form_of unit (before at) state fits) p.frame q.frame (by_step i state p q step holds);
+  }
+
+  pub through_holds : (is : List Instr) (at number target : ℕ) (state : State) (p q : Point) → IsWay unit at number target is → FitsKinds unit (before at) state
+      → GoesThrough unit number is p q → HoldsAt state p → HoldsAt (through unit number is state) q
+  through_holds [] at number target state p q way fits goes holds = elim way [ ]
+  through_holds (i ∷ []) at number target state p q left fits goes holds = record {
+    machine = step_values i p q left.found goes.0;
+    frame = along_holds unit i.op number state left.told left.short (form_of unit (before at) state fits) p.frame q.frame (by_step i state p q goes.0 holds) goes.1;
+  }
+  through_holds (i ∷ j ∷ is) at number target state p q way fits (mid, step, rest) holds =
+      through_holds (j ∷ is) (i.at + i.size) number target (post unit i.op state) mid q way.1 (post_fits i at state way.0 fits) rest
+      (step_holds i at state p mid way.0 fits step holds)

@@ -1,13 +1,10 @@
 -- Invariants: a state for each block, of which each edge shows that of its target.
-use Rattle.std.specs.Prelude.{◌≡◌, ℕ, zero, suc, ◌<◌, true, List, [], ◌∷◌, length, get_or, None}
-use Rattle.cil_model.specs.Runs.{LocalRuns}
-use Rattle.cil_model.specs.Values.{Heap}
-use Rattle.cil_model.specs.declared.machine.Config.TheVariants.{Live}
-use Rattle.cil_model.specs.declared.machine.Frame.{Frame}
-use Rattle.cil_model.specs.declared.machine.Value.{Value}
-use Rattle.cil_model.specs.declared.unit.Unit.{Unit as MethodUnit}
+use Rattle.std.specs.Prelude.{◌≡◌, ℕ, ◌<◌, true, List, length, get_or, None}
+use Rattle.machine_points.specs.Flows.{ComesAlong, Edges}
+use Rattle.machine_points.specs.Points.{IsReached}
+use Rattle.machine_points.specs.declared.point.Point.{Point}
 use Rattle.range_states.specs.FrameFacts.{State}
-use Rattle.range_states.specs.Frames.{HoldsIn}
+use Rattle.range_states.specs.Frames.{HoldsAt}
 use Rattle.range_states.specs.Inclusion.{leq}
 use Rattle.range_rules.specs.Entry.{entry}
 use Rattle.range_rules.specs.Flow.{Begins, Fits, GoesAlong, along_edge, edge_at, start_of}
@@ -46,34 +43,36 @@ pub record IsInductive (code : UnitFlow) (states : List State) : Type 0 where
 
 -- ---- what it means
 
--- A frame comes to the start of a block along so many edges, from where the unit begins.
-abbrev pub ComesTo : UnitFlow → ℕ → ℕ → Frame → Type 0
-ComesTo code zero block f = Begins code.unit f × (block ≡ 0)
-ComesTo code (suc n) block f =
-    (edge : ℕ) × (edge < length code.graph.edges) × ((edge_at code edge).to ≡ block)
-    × ((before : Frame) × ComesTo code n (edge_at code edge).from before × GoesAlong code edge before f)
+-- The edges of the graph, as points go along them.
+abbrev pub edges_in : UnitFlow → Edges
+edges_in code = record {
+  count = length code.graph.edges;
+  source = λ edge. (edge_at code edge).from;
+  target = λ edge. (edge_at code edge).to;
+  begins = Begins code.unit;
+  goes = GoesAlong code;
+}
 
--- The state of each block holds of each frame that comes there.
+-- A point comes to the start of a block along so many edges, from where the unit begins.
+abbrev pub ComesTo : UnitFlow → ℕ → ℕ → Point → Type 0
+ComesTo code n block p = ComesAlong (edges_in code) n block p
+
+-- The state of each block holds of each point that comes there.
 abbrev pub HoldsWhereItComes : UnitFlow → List State → Type 0
-HoldsWhereItComes code states = (n block : ℕ) (f : Frame) → ComesTo code n block f → HoldsIn (state_at states block) f
+HoldsWhereItComes code states = (n block : ℕ) (p : Point) → ComesTo code n block p → HoldsAt (state_at states block) p
 
 -- ---- runs of the machine
 
--- A run of the unit by itself comes to the frame.
-pub record IsReached (unit : MethodUnit) (f : Frame) : Type 0 where
-  pub index : ℕ
-  pub args : List Value
-  pub heap : Heap
-  pub count : ℕ
-  pub after : Heap
-  pub runs : LocalRuns unit index args heap count (Live (f ∷ []) after)
+-- A run of the unit comes to the start of a block.
+pub record IsReachedAt (code : UnitFlow) (block : ℕ) (p : Point) : Type 0 where
+  pub below : block < length code.graph.blocks
+  pub here : p.frame.at ≡ start_of code block
+  pub reached : IsReached code.unit p
 
--- A run that comes to the start of a block has come there along edges.
+-- It has come there along edges.
 abbrev pub RunsGoAlong : UnitFlow → Type 0
-RunsGoAlong code = (block : ℕ) (f : Frame) → block < length code.graph.blocks → f.at ≡ start_of code block → IsReached code.unit f
-    → (n : ℕ) × ComesTo code n block f
+RunsGoAlong code = (block : ℕ) (p : Point) → IsReachedAt code block p → (n : ℕ) × ComesTo code n block p
 
--- The state of each block holds of each frame that a run brings to its start.
+-- The state of each block holds of each point to which a run comes there.
 abbrev pub HoldsInRuns : UnitFlow → List State → Type 0
-HoldsInRuns code states = (block : ℕ) (f : Frame) → block < length code.graph.blocks → f.at ≡ start_of code block → IsReached code.unit f
-    → HoldsIn (state_at states block) f
+HoldsInRuns code states = (block : ℕ) (p : Point) → IsReachedAt code block p → HoldsAt (state_at states block) p

@@ -115,9 +115,9 @@ fn is_inductive(alloc: Global, code: &UnitFlow, states: &[AbsState]) -> Result<b
 pub fn inductive(alloc: Global, code: &UnitFlow, states: &[AbsState]) -> Result<bool, NoMemory>
     requires lawful { IsLawful code.now }
     ensures exact { IfOk result (λ yes. IsTrue yes ↔ IsInductive code.now states.now) }
-    // The state of each block then holds of each frame that comes there along edges.
+    // The state of each block then holds of each point that comes there along edges.
     ensures sound { IfOk result (λ yes. IsTrue yes → HoldsWhereItComes code.now states.now) }
-    // So it does of each frame that a run of the machine brings there.
+    // So it does of each point to which a run of the machine comes there.
     ensures runs { IfOk result (λ yes. IsTrue yes → HoldsInRuns code.now states.now) }
 {
     let yes = is_inductive(alloc, code, states)?;

@@ -5,6 +5,7 @@ ghost use Rattle.cil_model.specs.FitKinds.{HasBody};
 ghost use Rattle.cil_model.specs.Passes.{KindsOf, Stacks};
 ghost use Rattle.cil_model.specs.Shapes.{shape_of};
 ghost use Rattle.flow_graph.specs.GraphOf.{graph_of};
+ghost use Rattle.machine_points.specs.Points.{RunsHaveValues};
 ghost use Rattle.range_rules.specs.Flow.{IsLawful, IsOfNumbers};
 ghost use Rattle.range_rules.specs.FlowOf.{flow_of, kinds_of};
 ghost use Rattle.range_rules.specs.Inductive.{RunsGoAlong};
@@ -75,6 +76,8 @@ impl UnitFlow {
         requires body { (stacks : Stacks) → KindsOf (shape_of unit) unit.instrs stacks → HasBody unit.instrs stacks unit.body_start }
         ensures lawful { IfOk result IsLawful }
         ensures unit { IfOk result (λ code. code.unit ≡ unit) }
+        // Whatever a run comes to has values of the machine.
+        ensures values { IfOk result (λ code. RunsHaveValues code.unit) }
         // A run that comes to the start of a block has come there along edges.
         ensures runs { IfOk result RunsGoAlong }
         // Nothing but the unit tells what is found.

@@ -1,7 +1,7 @@
 //! States of units that flow along the edges of their graphs.
 
 ghost use Rattle.std.specs.Prelude.{◌≡◌, ◌<◌, length, None};
-ghost use Rattle.range_states.specs.Frames.{HoldsIn};
+ghost use Rattle.range_states.specs.Frames.{HoldsAt};
 ghost use Rattle.range_states.specs.Inclusion as inclusion;
 ghost use Rattle.range_states.specs.Join as join;
 ghost use Rattle.range_states.specs.RangeStates.{AreAlike};
@@ -16,21 +16,21 @@ ghost use Rattle.range_rules.specs.UnknownLaws as unknown_laws;
 use crate::entry::entry_state;
 use crate::unit_flow::UnitFlow;
 use crate::unknown_states::unknown;
-use cil_model::Frame;
 use domain_api::{FlowState, Lattice, Meter, NoMemory, Ticks};
+use machine_points::Point;
 use range_states::AbsState;
 use std::alloc::Global;
 
-/// What is known of a frame at the start of a block of its unit.
+/// What is known of a point at the start of a block of its unit.
 #[derive(Drop)]
 pub struct UnitState {
     pub state: AbsState,
 }
 
 impl Lattice for UnitState {
-    type Point = Frame;
+    type Point = Point;
 
-    ghost holds = { λ a f. HoldsIn a.state f };
+    ghost holds = { λ a p. HoldsAt a.state p };
 
     ghost like = { λ a b. AreAlike a.state b.state };
 
@@ -56,15 +56,15 @@ impl Lattice for UnitState {
         self.state.leq(alloc, &other.state)
     }
 
-    ghost join_left = { λ a b f alike holds. states.join_left a.state b.state f alike holds };
+    ghost join_left = { λ a b p alike holds. states.join_left a.state b.state p alike holds };
 
-    ghost join_right = { λ a b f alike holds. states.join_right a.state b.state f alike holds };
+    ghost join_right = { λ a b p alike holds. states.join_right a.state b.state p alike holds };
 
-    ghost widen_left = { λ a b f alike holds. states.widen_left a.state b.state f alike holds };
+    ghost widen_left = { λ a b p alike holds. states.widen_left a.state b.state p alike holds };
 
-    ghost widen_right = { λ a b f alike holds. states.widen_right a.state b.state f alike holds };
+    ghost widen_right = { λ a b p alike holds. states.widen_right a.state b.state p alike holds };
 
-    ghost leq_holds = { λ a b f alike less holds. states.leq_holds a.state b.state f alike less holds };
+    ghost leq_holds = { λ a b p alike less holds. states.leq_holds a.state b.state p alike less holds };
 }
 
 impl FlowState for UnitState {
@@ -84,7 +84,7 @@ impl FlowState for UnitState {
 
     ghost fits = { λ code block a. Fits code block a.state };
 
-    ghost begins = { λ code f. Begins code.unit f };
+    ghost begins = { λ code p. Begins code.unit p };
 
     ghost goes = { GoesAlong };
 
@@ -151,15 +151,15 @@ impl FlowState for UnitState {
 
     ghost along_fits = { λ code edge a lawful below fits. laws.along_kept code lawful edge below a.state fits };
 
-    ghost along_holds = { λ code edge a f new lawful below fits holds goes. laws.along_keeps code lawful edge below a.state f new fits goes holds };
+    ghost along_holds = { λ code edge a p q lawful below fits holds goes. laws.along_keeps code lawful edge below a.state p q fits goes holds };
 
     ghost entry_fits = { λ code lawful. laws.entry_fits code lawful };
 
-    ghost entry_holds = { λ code f lawful begins. laws.entry_keeps code lawful f begins };
+    ghost entry_holds = { λ code p lawful begins. laws.entry_keeps code lawful p begins };
 
     ghost unknown_fits = { λ code block lawful below. unknown_laws.unknown_fits code block };
 
     ghost nothing_fits = { λ code block lawful below. tt };
 
-    ghost nothing_holds = { λ f holds. holds.holds };
+    ghost nothing_holds = { λ p holds. holds.frame.holds };
 }

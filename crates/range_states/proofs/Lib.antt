@@ -14,5 +14,4 @@ pub mod Examples
 pub mod AvoidingExamples
 pub mod NumbersStay
 pub mod FrameVariables
-pub mod StateLaws
 pub mod PartsOfStates

@@ -1,12 +1,12 @@
 -- What is known holds also of a number that is made, on top or in the place of a variable.
-use Rattle.std.proofs.Common.{◌≡◌, ℕ, zero, suc, ◌<◌, ◌≤◌, ℤ, pos, ◌+ℤ◌, List, [], ◌∷◌, ◌++◌, Some, length, get_or, map, FitsSigned, w32, refl, ap, ◌∙◌, ⊎_elim, arith}
-use Rattle.std.specs.Prelude.{set, slice_get}
+use Rattle.std.proofs.Common.{◌≡◌, ℕ, zero, suc, ◌<◌, ◌≤◌, ℤ, pos, ◌+ℤ◌, List, [], ◌∷◌, ◌++◌, length, get_or, map, FitsSigned, w32, refl, ap, ◌∙◌, ⊎_elim, arith}
+use Rattle.std.specs.Prelude.{set}
 use Rattle.std.proofs.lemmas.Int.{ints}
 use Rattle.std.proofs.lemmas.List.{map-append, map-set, get_or_append_left}
 use Rattle.domain_api.specs.declared.expr.Expr.{Expr}
 use Rattle.interval_domain.specs.Interval.{Interval}
 use Rattle.range_facts.specs.Facts as numbers
-use Rattle.range_facts.specs.Facts.{Facts, AllowAll, HoldsWith, number_of, range_of, value}
+use Rattle.range_facts.specs.Facts.{Facts, AllowAll, HoldsWith, number_of, value}
 use Rattle.range_facts.specs.Fresh.{Made}
 use Rattle.range_facts.proofs.Meaning.{range_has}
 use Rattle.range_states.specs.Arithmetic.{on_top}
@@ -19,20 +19,6 @@ pub worth_fits : (facts : Facts) (ns : List ℤ) (e : Expr) → numbers.Holds fa
 worth_fits facts ns e holds number =
     let has = range_has facts ns e holds in
     omega (arith, ints, has.above, has.below, number.least, number.greatest)
-
-place_worth : (f : Expr → ℤ) (es : List Expr) (ns : List ℤ) (i : ℕ) (e : Expr) (n : ℤ) → map f es ≡ ns → slice_get es i ≡ Some e → slice_get ns i ≡ Some n → f e ≡ n
-place_worth f [] ns i e n all at given = elim (no_item at) [ ]
-  where
-    no_item : slice_get [] i ≡ Some e → ⊥
-    no_item is = cc
-place_worth f (d ∷ es) [] i e n all at given = cc
-place_worth f (d ∷ es) (m ∷ ns) zero e n all at given = cc
-place_worth f (d ∷ es) (m ∷ ns) (suc i) e n all at given = place_worth f es ns i e n (cc) at given
-
--- a variable's expression is worth its value
-pub variable_worth : (known : FrameFacts) (values choice : List ℤ) → HoldsBy known values choice → (i : ℕ) (e : Expr) (n : ℤ)
-    → slice_get known.variables i ≡ Some e → slice_get values i ≡ Some n → value choice e ≡ n
-variable_worth known values choice holds i e n at given = place_worth (value choice) known.variables values i e n holds.worth at given
 
 -- ---- one symbol more
 

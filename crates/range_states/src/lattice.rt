@@ -1,7 +1,7 @@
-//! States as values that hold of frames.
+//! States as values that hold of points of runs.
 
 ghost use Rattle.std.specs.Prelude.{◌≡◌};
-ghost use Rattle.range_states.specs.Frames.{HoldsIn};
+ghost use Rattle.range_states.specs.Frames.{HoldsAt};
 ghost use Rattle.range_states.specs.Inclusion as inclusion;
 ghost use Rattle.range_states.specs.Join as join;
 ghost use Rattle.range_states.specs.RangeStates.{AreAlike};
@@ -9,14 +9,14 @@ ghost use Rattle.range_states.specs.StatesHold as states;
 ghost use Rattle.range_states.specs.Widening as widening;
 
 use crate::state::AbsState;
-use cil_model::Frame;
 use domain_api::{Lattice, NoMemory};
+use machine_points::Point;
 use std::alloc::Global;
 
 impl Lattice for AbsState {
-    type Point = Frame;
+    type Point = Point;
 
-    ghost holds = { HoldsIn };
+    ghost holds = { HoldsAt };
 
     ghost like = { AreAlike };
 

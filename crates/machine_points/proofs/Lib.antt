@@ -1,0 +1,2 @@
+pub mod PointsKeep
+pub mod Induction

@@ -1,0 +1,3 @@
+pub mod MachineValues
+pub mod Points
+pub mod Flows
