@@ -1,16 +1,15 @@
 -- The test of the form tells the form.
-use Rattle.std.proofs.Common.{◌≡◌, ◌==◌, ℕ, zero, suc, ◌+◌, ◌<◌, ◌≤◌, ◌↔◌, Bool, true, false, ◌&&◌, List, [], ◌∷◌, length, get_or, Option, None, Some, inl, inr, arith, refl, ap, ◌∙◌}
+use Rattle.std.proofs.Common.{◌≡◌, ◌==◌, ℕ, zero, suc, ◌+◌, ◌<◌, Bool, true, false, ◌&&◌, List, [], ◌∷◌, length, get_or, Option, None, Some, inl, inr, arith, refl, ap, ◌∙◌}
 use Rattle.std.specs.Prelude.{nat_le}
 use Rattle.std.proofs.lemmas.Bool.{and_parts, false≢true, le-leb, leb-true, or_cases}
-use Rattle.std.proofs.lemmas.Bool.Decides.{Decides-eqb, Decides-int_eq}
+use Rattle.std.proofs.lemmas.Bool.Decides.{Decides-eqb}
 use Rattle.std.specs.List.{AllByRecursion, Contains, list_all, list_any}
 use Rattle.domain_api.specs.declared.expr.Expr.{Expr}
 use Rattle.symbolic_values.specs.Names.{paired_expr}
 use Rattle.symbolic_values.specs.Pairing.{Pairing}
 use Rattle.array_segments.specs.Behind.{StandsForBoth}
-use Rattle.array_segments.specs.CommonBounds.{same_expr}
 use Rattle.array_segments.specs.FormTest.{are_counted, begins_at_zero, has_few, is_formed, is_name, stands_for_both}
-use Rattle.array_segments.specs.SegmentLists.{Has, HasFew, HasForm, Lists, zero_expr}
+use Rattle.array_segments.specs.SegmentLists.{HasFew, HasForm, Lists, zero_expr}
 use Rattle.array_segments.proofs.CommonLaw.{any_has, either, has_any, left_is, same_is, same_itself}
 
 both : (a b : Bool) → a ≡ true → b ≡ true → (a && b) ≡ true

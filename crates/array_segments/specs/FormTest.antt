@@ -1,5 +1,5 @@
 -- The tests of what calls ask for: whether lists have the form of segments, and whether both sides end at a length.
-use Rattle.std.specs.Prelude.{ℕ, ◌+◌, ◌==◌, nat_le, Bool, false, ◌&&◌, List, [], length, get_or, Option, None, Some}
+use Rattle.std.specs.Prelude.{◌+◌, ◌==◌, nat_le, Bool, false, ◌&&◌, List, [], length, get_or, Option, None, Some}
 use Rattle.std.specs.List.{list_all, list_any}
 use Rattle.domain_api.specs.declared.expr.Expr.{Expr}
 use Rattle.symbolic_values.specs.Names.{paired_expr}
