@@ -1,5 +1,5 @@
 -- The laws in the words of the contracts.
-use Rattle.std.proofs.Common.{◌≡◌, ℕ, zero, suc, ◌+◌, ◌<◌, ℤ, pos, negsuc, ◌+ℤ◌, Bool, true, false, ◌||◌, int_lt, List, [], ◌∷◌, length, get_or, drop, Option, None, Some, arith, refl, sym, subst, ap, ◌∙◌, if◌then◌else◌}
+use Rattle.std.proofs.Common.{◌≡◌, ℕ, zero, suc, ◌<◌, ℤ, pos, negsuc, ◌+ℤ◌, Bool, true, false, ◌||◌, int_lt, List, [], ◌∷◌, length, get_or, drop, Option, None, Some, arith, refl, sym, subst, ap, ◌∙◌, if◌then◌else◌}
 use Rattle.std.proofs.lemmas.Int.{ints}
 use Rattle.std.specs.List.{filter_map}
 use Rattle.domain_api.specs.declared.expr.Expr.{Expr}

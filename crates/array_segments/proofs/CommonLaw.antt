@@ -1,6 +1,6 @@
 -- The expressions of a common bound: how many there are, and what they are worth.
-use Rattle.std.proofs.Common.{◌≡◌, ◌==◌, ℕ, zero, suc, ◌+◌, ◌<◌, ◌≤◌, Bool, true, false, List, [], ◌∷◌, ◌++◌, length, get_or, take, drop, Option, None, Some, unwrap_or, arith, refl, sym, ap, ◌∙◌, length-append, if◌then◌else◌, ◌&&◌, ◌||◌, inl, inr}
-use Rattle.std.specs.List.{AllByRecursion, Contains, cons_option, filter_map, flat_map, fold, insert, list_any, position}
+use Rattle.std.proofs.Common.{◌≡◌, ◌==◌, ℕ, zero, suc, ◌<◌, ◌≤◌, Bool, true, false, List, [], ◌∷◌, ◌++◌, length, get_or, take, drop, Option, None, Some, unwrap_or, arith, refl, sym, ap, ◌∙◌, length-append, if◌then◌else◌, ◌&&◌, ◌||◌, inl, inr}
+use Rattle.std.specs.List.{AllByRecursion, cons_option, filter_map, insert, list_any, position}
 use Rattle.std.specs.Ordering.{int_eq}
 use Rattle.std.proofs.lemmas.Bool.{and_parts, false≢true, or_cases}
 use Rattle.std.proofs.lemmas.Bool.Decides.{Decides-int_eq, Decides-eqb}

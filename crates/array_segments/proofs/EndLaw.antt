@@ -1,5 +1,5 @@
 -- What becomes of the last bound, where the array's length stands.
-use Rattle.std.proofs.Common.{◌≡◌, ℕ, zero, suc, ◌+◌, ◌-◌, ◌<◌, ◌≤◌, Bool, false, List, [], ◌∷◌, ◌++◌, length, map, get_or, take, drop, Option, None, Some, ℤ, arith, refl, sym, subst, ap, ◌∙◌, length-append}
+use Rattle.std.proofs.Common.{◌≡◌, ℕ, zero, suc, ◌+◌, ◌-◌, ◌<◌, ◌≤◌, Bool, false, List, [], ◌∷◌, ◌++◌, length, get_or, take, drop, Option, None, Some, ℤ, arith, refl, sym, subst, ap, ◌∙◌}
 use Rattle.std.proofs.lemmas.List.{get_or-append-add, get_or-drop, length-take}
 use Rattle.std.specs.List.{filter_map, splice}
 use Rattle.domain_api.specs.declared.expr.Expr.{Expr}
@@ -12,8 +12,8 @@ use Rattle.array_segments.specs.Loading.{hull_between, start, stop}
 use Rattle.array_segments.specs.Meaning.{Segment, segments_of, zipped}
 use Rattle.array_segments.specs.Renaming.{joined, part_of, placed, renamed_from, renamed_lists}
 use Rattle.array_segments.specs.SegmentLists.{Has, HasForm, Lists, last_bound}
-use Rattle.array_segments.specs.Storing.{added, around, changed_between, first_two, has_left, has_right, limited, merged_first, merged_times, new_bounds, replaced, strongly_stored, weakly_stored}
-use Rattle.array_segments.specs.Unifying.{common_segment, common_segments, unified}
+use Rattle.array_segments.specs.Storing.{around, first_two, has_left, has_right, limited, merged_first, merged_times, new_bounds, replaced, strongly_stored, weakly_stored}
+use Rattle.array_segments.specs.Unifying.{common_segments, unified}
 use Rattle.array_segments.proofs.LimitLaw.{first_two_length, merged_counted}
 use Rattle.array_segments.proofs.NameSteps.{last_bound_is}
 use Rattle.array_segments.proofs.Spans.{last_upper}

@@ -1,17 +1,13 @@
 -- The test of the form tells the form.
-use Rattle.std.proofs.Common.{◌≡◌, ◌==◌, ℕ, zero, suc, ◌+◌, ◌<◌, ◌≤◌, ◌↔◌, Bool, true, false, ◌&&◌, List, [], ◌∷◌, length, get_or, Option, None, Some, inl, inr, arith, refl, ap, ◌∙◌}
+use Rattle.std.proofs.Common.{◌≡◌, ◌==◌, ◌+◌, Bool, true, false, ◌&&◌, List, [], ◌∷◌, length, get_or, refl}
 use Rattle.std.specs.Prelude.{nat_le}
-use Rattle.std.proofs.lemmas.Bool.{and_parts, false≢true, le-leb, leb-true, or_cases}
-use Rattle.std.proofs.lemmas.Bool.Decides.{Decides-eqb, Decides-int_eq}
-use Rattle.std.specs.List.{AllByRecursion, Contains, list_all, list_any}
+use Rattle.std.proofs.lemmas.Bool.{and_parts, false≢true, le-leb, leb-true}
+use Rattle.std.proofs.lemmas.Bool.Decides.{Decides-eqb}
+use Rattle.std.specs.List.{AllByRecursion, list_all}
 use Rattle.domain_api.specs.declared.expr.Expr.{Expr}
-use Rattle.symbolic_values.specs.Names.{paired_expr}
-use Rattle.symbolic_values.specs.Pairing.{Pairing}
-use Rattle.array_segments.specs.Behind.{StandsForBoth}
-use Rattle.array_segments.specs.CommonBounds.{same_expr}
-use Rattle.array_segments.specs.FormTest.{are_counted, begins_at_zero, has_few, is_formed, is_name, stands_for_both}
-use Rattle.array_segments.specs.SegmentLists.{Has, HasFew, HasForm, Lists, zero_expr}
-use Rattle.array_segments.proofs.CommonLaw.{any_has, either, has_any, left_is, same_is, same_itself}
+use Rattle.array_segments.specs.FormTest.{are_counted, begins_at_zero, has_few, is_formed}
+use Rattle.array_segments.specs.SegmentLists.{HasFew, HasForm, Lists, zero_expr}
+use Rattle.array_segments.proofs.CommonLaw.{any_has, has_any}
 
 both : (a b : Bool) → a ≡ true → b ≡ true → (a && b) ≡ true
 both true true x y = refl
@@ -54,33 +50,3 @@ is_formed_where lists form =
     (both (length lists.bounds == length lists.contents + 1) (length lists.marks == length lists.contents)
     ((Decides-eqb (length lists.bounds) (length lists.contents + 1)).1 form.bounded) ((Decides-eqb (length lists.marks) (length lists.contents)).1 form.marked)))
     (both (list_all has_few lists.bounds) (begins_at_zero lists) (few_all lists.bounds form.few) (has_any zero_expr (get_or lists.bounds 0 []) form.from_zero.0 form.from_zero.1 form.from_zero.2))
-
--- ---- the length of both sides
-
-any_member : {X : Type 0} (test : X → Bool) (xs : List X) → list_any test xs ≡ true → (x : X) × Contains xs x × (test x ≡ true)
-any_member test [] there = absurd (false≢true there)
-any_member test (x ∷ xs) there = elim (or_cases (test x) (list_any test xs) there) [
-  | inl here ↦ (x, (0, omega arith, refl), here)
-  | inr later ↦ let rest = any_member test xs later in let under : rest.1.0 < length xs = rest.1.1 in (rest.0, (suc rest.1.0, omega arith, rest.1.2), rest.2)
-]
-
-member_any : {X : Type 0} (test : X → Bool) (xs : List X) (x : X) (k : ℕ) → k < length xs → get_or xs k x ≡ x → test x ≡ true → list_any test xs ≡ true
-member_any test [] x k under at is = absurd (omega arith)
-member_any test (y ∷ xs) x zero under at is = left_is (test y) (list_any test xs) (ap test at ∙ is)
-member_any test (y ∷ xs) x (suc k) under at is = either (test y) (list_any test xs) (member_any test xs x k (omega arith) at is)
-
-name_is : (name : Option Expr) (expr : Expr) → is_name name expr ≡ true → name ≡ Some expr
-name_is None expr is = absurd (false≢true is)
-name_is (Some name) expr is = ap (λ e. Some e) (same_is expr name is)
-
-pub both_stand : (pairs : Pairing) (first second : List Expr) (new : Expr) → stands_for_both pairs first second new ≡ true → StandsForBoth pairs first second new
-both_stand pairs first second new is =
-    let one = any_member (λ e. list_any (λ f. is_name (paired_expr pairs e f) new) second) first is in
-    let other = any_member (λ f. is_name (paired_expr pairs one.0 f) new) second one.2 in
-    record { one = one.0; other = other.0; in_first = one.1; in_second = other.1; named = name_is (paired_expr pairs one.0 other.0) new other.2 }
-
-pub stand_both : (pairs : Pairing) (first second : List Expr) (new : Expr) → StandsForBoth pairs first second new → stands_for_both pairs first second new ≡ true
-stand_both pairs first second new stands =
-    member_any (λ e. list_any (λ f. is_name (paired_expr pairs e f) new) second) first stands.one stands.in_first.0 stands.in_first.1 stands.in_first.2
-    (member_any (λ f. is_name (paired_expr pairs stands.one f) new) second stands.other stands.in_second.0 stands.in_second.1 stands.in_second.2
-    (ap (λ name. is_name name new) stands.named ∙ same_itself new))

@@ -1,15 +1,15 @@
 -- Where segments are shown to say at least as much as others, the others hold of what they hold of.
-use Rattle.std.proofs.Common.{◌≡◌, ◌≢◌, ℕ, zero, suc, ◌+◌, ◌-◌, ◌<◌, ◌≤◌, ℤ, pos, ◌+ℤ◌, ◌≤ℤ◌, ◌<ℤ◌, Bool, true, false, ◌&&◌, ◌||◌, inl, inr, List, [], ◌∷◌, length, map, get_or, take, drop, Option, None, Some, arith, refl, sym, subst, ap, ◌∙◌, length-take}
+use Rattle.std.proofs.Common.{◌≡◌, ℕ, zero, suc, ◌+◌, ◌<◌, ◌≤◌, ℤ, pos, ◌≤ℤ◌, ◌<ℤ◌, Bool, true, ◌&&◌, ◌||◌, inl, inr, List, [], ◌∷◌, length, map, get_or, drop, Option, None, Some, arith, refl, sym, subst, ap, ◌∙◌, length-take}
 use Rattle.std.proofs.lemmas.List.{get_or-take}
 use Rattle.std.proofs.lemmas.Int.{ints, by_lt_z}
 use Rattle.std.proofs.lemmas.Bool.{and_parts, cases_lt, false≢true, or_cases, true≢false}
 use Rattle.std.specs.Option.{is_some}
-use Rattle.std.specs.List.{AllByRecursion, list_all, list_any, slice_range}
+use Rattle.std.specs.List.{AllByRecursion, list_all, list_any}
 use Rattle.domain_api.specs.declared.expr.Expr.{Expr}
-use Rattle.array_segments.specs.Comparing.{at_most, below}
+use Rattle.array_segments.specs.Comparing.{at_most}
 use Rattle.array_segments.specs.Inclusion.{all_equal, all_shown, are_within, as_own, both_at_most, both_below, both_equal, equals_rest, first_behind, includes, is_shown, last_before, leads, leads_strictly, mapped, more_than}
-use Rattle.array_segments.specs.Loading.{first_place, last_place, starts}
-use Rattle.array_segments.specs.Meaning.{AreWorth, Covers, Holds, Lies, Obeys, Segment, Spans, item, segments_of, worth, zipped}
+use Rattle.array_segments.specs.Loading.{starts}
+use Rattle.array_segments.specs.Meaning.{AreWorth, Covers, Holds, Obeys, Segment, Spans, item, worth, zipped}
 use Rattle.array_segments.specs.SegmentLists.{HasFew, HasForm, Lists, zero_expr}
 use Rattle.array_segments.proofs.LoadLaw.{AreSegments, bound_worth, last_bound, place_of}
 use Rattle.array_segments.proofs.Shown.{at_most_worth, below_worth, first_place_is, last_place_is}

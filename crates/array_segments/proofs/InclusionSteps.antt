@@ -1,9 +1,8 @@
 -- Tests of each expression of a bound, and of some.
-use Rattle.std.proofs.Common.{◌≡◌, ℕ, suc, ◌+◌, ◌-◌, ◌<◌, ◌≤◌, ℤ, pos, ◌+ℤ◌, Bool, true, false, ◌&&◌, ◌||◌, List, [], ◌∷◌, length, map, get_or, take, drop, Option, None, Some, arith, refl, sym, ap, ◌∙◌}
+use Rattle.std.proofs.Common.{◌≡◌, ℕ, ◌+◌, ◌-◌, ◌<◌, ◌≤◌, ℤ, pos, ◌+ℤ◌, Bool, true, ◌&&◌, List, ◌∷◌, length, map, get_or, take, drop, Option, Some, arith, sym, ap, ◌∙◌}
 use Rattle.std.proofs.lemmas.Int.{ints}
 use Rattle.std.proofs.lemmas.List.{drop_more}
-use Rattle.std.specs.Option.{is_some}
-use Rattle.std.specs.List.{list_all, list_any, slice_range}
+use Rattle.std.specs.List.{list_all, slice_range}
 use Rattle.domain_api.specs.declared.expr.Expr.{Expr}
 use Rattle.array_segments.specs.Inclusion.{all_equal, all_shown, equals_rest, more_than}
 use Rattle.array_segments.specs.Meaning.{zipped}

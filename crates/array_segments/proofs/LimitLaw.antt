@@ -1,11 +1,11 @@
 -- Segments of which the first two are made one hold of what they held of; and the counts that stay.
-use Rattle.std.proofs.Common.{◌≡◌, ℕ, zero, suc, ◌+◌, ◌-◌, ◌<◌, ◌≤◌, ℤ, pos, ◌≤ℤ◌, ◌<ℤ◌, Bool, true, false, ◌&&◌, inl, inr, List, [], ◌∷◌, length, get_or, drop, arith, refl, sym, subst, ap, ◌∙◌}
+use Rattle.std.proofs.Common.{◌≡◌, ℕ, zero, suc, ◌+◌, ◌-◌, ◌<◌, ◌≤◌, ℤ, pos, Bool, ◌&&◌, inl, inr, List, [], ◌∷◌, length, get_or, arith, refl, sym, subst}
 use Rattle.std.proofs.lemmas.Int.{ints, by_lt_z}
 use Rattle.std.proofs.lemmas.Bool.{and_cases}
-use Rattle.std.specs.List.{AllByRecursion, Contains}
+use Rattle.std.specs.List.{AllByRecursion}
 use Rattle.domain_api.specs.declared.expr.Expr.{Expr}
 use Rattle.array_segments.specs.Counted.{IsCounted}
-use Rattle.array_segments.specs.Meaning.{AreWorth, Holds, Spans, item, zipped}
+use Rattle.array_segments.specs.Meaning.{Holds, Spans, item, zipped}
 use Rattle.array_segments.specs.SegmentLists.{Has, HasFew, HasForm, Lists, zero_expr}
 use Rattle.array_segments.specs.Storing.{first_two, limited, merged_first, merged_times}
 

@@ -1,5 +1,5 @@
 -- The first two items of a vector made one.
-use Rattle.std.proofs.Common.{◌≡◌, ℕ, ◌<◌, ◌≤◌, List, [], ◌∷◌, length, map, get_or, set, arith, refl, ap, ◌∙◌}
+use Rattle.std.proofs.Common.{◌≡◌, ◌≤◌, List, [], ◌∷◌, length, map, get_or, set, arith, refl}
 use Rattle.std.specs.List.{remove}
 use Rattle.array_segments.specs.Storing.{first_two}
 

@@ -1,13 +1,12 @@
 -- The segments that an index may lie in have the item at the index.
-use Rattle.std.proofs.Common.{◌≡◌, ℕ, suc, ◌+◌, ◌-◌, ◌<◌, ◌≤◌, ℤ, pos, ◌+ℤ◌, ◌≤ℤ◌, ◌<ℤ◌, Bool, true, List, [], ◌∷◌, length, map, get_or, take, drop, Option, Some, unwrap_or, arith, refl, sym, subst, ap, ◌∙◌, length-take, length-drop}
+use Rattle.std.proofs.Common.{◌≡◌, ℕ, ◌+◌, ◌<◌, ◌≤◌, ℤ, pos, ◌≤ℤ◌, ◌<ℤ◌, Bool, true, List, [], ◌∷◌, length, map, get_or, take, drop, Option, unwrap_or, arith, sym, subst, ap, ◌∙◌, length-take, length-drop}
 use Rattle.std.proofs.lemmas.Int.{ints}
 use Rattle.std.proofs.lemmas.List.{get_or-drop, get_or-take}
-use Rattle.std.specs.List.{reduce, slice_range}
+use Rattle.std.specs.List.{reduce}
 use Rattle.domain_api.specs.declared.expr.Expr.{Expr}
 use Rattle.array_segments.specs.Comparing.{ends_behind, starts_by}
-use Rattle.array_segments.specs.Loading.{first_place, hull_between, last_place, loaded, start, starts, stop, stop_from}
-use Rattle.array_segments.specs.Meaning.{AreWorth, Covers, Holds, Obeys, Segment, Spans, item, segments_of, worth, zipped}
-use Rattle.array_segments.specs.SegmentLists.{HasForm, Lists}
+use Rattle.array_segments.specs.Loading.{first_place, hull_between, last_place}
+use Rattle.array_segments.specs.Meaning.{AreWorth, Covers, Obeys, Spans, item, worth, zipped}
 use Rattle.array_segments.proofs.PlaceSteps.{first_place_above, first_place_within, last_place_below}
 use Rattle.array_segments.proofs.Shown.{ends_behind_worth, first_place_is, last_place_is, starts_by_worth}
 use Rattle.array_segments.proofs.Spans.{contents_of, cut, cut_all, cut_between, hull_covers, map_slice_by, reached, slice_by, slice_by_cases, upper_at, zipped_length}

@@ -1,15 +1,14 @@
 -- Segments in other names hold of what they held of; and they have the form.
-use Rattle.std.proofs.Common.{◌≡◌, ℕ, zero, suc, ◌+◌, ◌<◌, ◌≤◌, ℤ, pos, ◌≤ℤ◌, ◌<ℤ◌, Bool, true, false, ◌&&◌, inl, inr, List, [], ◌∷◌, ◌++◌, length, map, get_or, take, drop, Option, None, Some, arith, refl, sym, subst, ap, ◌∙◌}
+use Rattle.std.proofs.Common.{◌≡◌, ℕ, zero, suc, ◌<◌, ◌≤◌, ℤ, pos, ◌≤ℤ◌, ◌<ℤ◌, Bool, false, inl, inr, List, [], ◌∷◌, length, map, get_or, drop, Option, None, Some, arith, refl, sym, subst, ap, ◌∙◌}
 use Rattle.std.proofs.lemmas.List.{length-map}
 use Rattle.std.proofs.lemmas.Int.{ints, by_lt_z}
 use Rattle.std.proofs.lemmas.Bool.{and_cases}
 use Rattle.std.specs.List.{AllByRecursion, Contains, cons_option, filter_map}
 use Rattle.domain_api.specs.declared.expr.Expr.{Expr}
 use Rattle.array_segments.specs.declared.renaming.Part.{Part}
-use Rattle.array_segments.specs.Growing.{begun, with_more}
 use Rattle.array_segments.specs.Meaning.{AreWorth, Covers, Holds, Segment, Spans, item, segments_of, worth, zipped}
 use Rattle.array_segments.specs.Renaming.{joined, part_of, placed, renamed_from, renamed_lists}
-use Rattle.array_segments.specs.SegmentLists.{Has, HasFew, HasForm, Lists, zero_expr}
+use Rattle.array_segments.specs.SegmentLists.{HasFew, HasForm, Lists, zero_expr}
 use Rattle.array_segments.proofs.Spans.{last_upper, zipped_length}
 
 -- ---- segments and their lists

@@ -1,15 +1,14 @@
 -- Segments behind a strong store, and behind a weak one, hold of the items behind it.
-use Rattle.std.proofs.Common.{◌≡◌, ◌≢◌, ℕ, zero, suc, ◌+◌, ◌-◌, ◌<◌, ◌≤◌, ℤ, pos, ◌+ℤ◌, ◌≤ℤ◌, ◌<ℤ◌, Bool, true, false, not, ◌&&◌, ◌⊎◌, inl, inr, List, [], ◌∷◌, ◌++◌, length, map, get_or, set, take, drop, arith, refl, sym, subst, ap, ◌∙◌, add-one, drop-cons, get_or-set_other, get_or-set_same, length-set, Option}
-use Rattle.std.proofs.lemmas.Int.{ints}
+use Rattle.std.proofs.Common.{◌≡◌, ◌≢◌, ℕ, zero, suc, ◌+◌, ◌<◌, ◌≤◌, ℤ, pos, ◌≤ℤ◌, ◌<ℤ◌, Bool, false, ◌⊎◌, List, [], ◌∷◌, ◌++◌, length, map, get_or, take, drop, arith, sym, subst, ap, ◌∙◌, add-one, drop-cons, Option}
 use Rattle.std.proofs.lemmas.Bool.{not-false}
 use Rattle.std.specs.List.{splice}
 use Rattle.domain_api.specs.declared.expr.Expr.{Expr}
 use Rattle.array_segments.specs.Comparing.{ends_behind, meets, starts_before}
 use Rattle.array_segments.specs.Loading.{hull_between}
-use Rattle.array_segments.specs.Meaning.{AreWorth, Covers, Holds, Obeys, Segment, Spans, item, worth, zipped}
+use Rattle.array_segments.specs.Meaning.{AreWorth, Holds, Obeys, Segment, Spans, item, worth, zipped}
 use Rattle.array_segments.specs.SegmentLists.{Lists}
-use Rattle.array_segments.specs.Storing.{added, around, changed_between, has_left, has_right, left_mark, new_bounds, next_of, replaced, right_mark}
-use Rattle.array_segments.proofs.LoadLaw.{AreSegments, bound_worth, from, from_below, from_low, outer_covers, place_of, to, to_above, to_high, to_within}
+use Rattle.array_segments.specs.Storing.{added, around, has_left, has_right, left_mark, new_bounds, next_of, replaced, right_mark}
+use Rattle.array_segments.proofs.LoadLaw.{AreSegments, bound_worth, from, from_low, outer_covers, place_of, to, to_above, to_high, to_within}
 use Rattle.array_segments.proofs.Shown.{ends_behind_worth, meets_worth, starts_before_worth}
 use Rattle.array_segments.proofs.Spans.{Spans-append, cut, cut_between, slice_by}
 use Rattle.array_segments.proofs.StoreLaw.{around_spans, changed_parts, left_part, right_part, stays_above, stays_below, weak_spans, with_content, zip_around, zip_back, zip_changed, zip_front}

@@ -1,9 +1,9 @@
 -- Facts that a gap shows are true of the numbers, and the searches for a place find them.
-use Rattle.std.proofs.Common.{◌≡◌, ℕ, zero, suc, ◌+◌, ◌<◌, ◌≤◌, ℤ, pos, ◌+ℤ◌, ◌-ℤ◌, ◌≤ℤ◌, ◌<ℤ◌, int_le, Bool, true, false, ◌&&◌, ◌||◌, inl, inr, List, [], ◌∷◌, length, get_or, Option, None, Some, arith, refl, sym, subst, ap, ◌∙◌}
+use Rattle.std.proofs.Common.{◌≡◌, ℕ, suc, ◌+◌, ◌<◌, ℤ, pos, ◌+ℤ◌, ◌-ℤ◌, ◌≤ℤ◌, ◌<ℤ◌, int_le, Bool, true, inl, inr, List, [], ◌∷◌, length, get_or, Option, None, Some, arith, refl, subst}
 use Rattle.std.specs.Prelude.{if◌then◌else◌}
 use Rattle.std.proofs.lemmas.Int.{ints}
 use Rattle.std.proofs.lemmas.Bool.{and_parts, cond_both, false≢true, or_cases}
-use Rattle.std.specs.List.{AllByRecursion, list_any}
+use Rattle.std.specs.List.{list_any}
 use Rattle.domain_api.specs.declared.expr.Expr.{Expr}
 use Rattle.array_segments.specs.Comparing.{at_most, below, ends_behind, equal, meets, reaches, starts_before, starts_by}
 use Rattle.array_segments.specs.Loading.{first_place, last_place}

@@ -1,9 +1,9 @@
 -- Segments one behind another: put together, cut, and what their hull has.
-use Rattle.std.proofs.Common.{◌≡◌, ℕ, zero, suc, ◌+◌, ◌-◌, ◌<◌, ◌≤◌, ℤ, pos, ◌≤ℤ◌, ◌<ℤ◌, Bool, true, false, ◌⊎◌, inl, inr, List, [], ◌∷◌, ◌++◌, length, map, get_or, set, take, drop, unwrap_or, arith, refl, sym, subst, ap, ◌∙◌, ◌≢◌}
+use Rattle.std.proofs.Common.{◌≡◌, ℕ, zero, suc, ◌-◌, ◌≤◌, ℤ, pos, ◌≤ℤ◌, Bool, List, [], ◌∷◌, ◌++◌, length, map, get_or, take, drop, unwrap_or, arith, refl, sym, subst, ap, ◌∙◌}
 use Rattle.std.proofs.lemmas.Int.{ints, by_lt_z}
-use Rattle.std.specs.List.{AllByRecursion, fold, reduce, slice_range}
+use Rattle.std.specs.List.{fold, reduce, slice_range}
 use Rattle.domain_api.specs.declared.expr.Expr.{Expr}
-use Rattle.array_segments.specs.Meaning.{AreWorth, Covers, Lies, Segment, Spans, item, zipped}
+use Rattle.array_segments.specs.Meaning.{AreWorth, Covers, Segment, Spans, item, zipped}
 
 -- The items of a list from one place to another, by cases.
 abbrev pub slice_by : {X : Type 0} → ℕ → ℕ → List X → List X

@@ -1,11 +1,10 @@
 -- Segments behind a store hold of the items behind it.
-use Rattle.std.proofs.Common.{◌≡◌, ◌≢◌, ℕ, zero, suc, ◌+◌, ◌-◌, ◌<◌, ◌≤◌, ℤ, pos, ◌+ℤ◌, ◌≤ℤ◌, ◌<ℤ◌, Bool, true, false, not, ◌&&◌, ◌⊎◌, inl, inr, List, [], ◌∷◌, ◌++◌, length, map, get_or, set, take, drop, arith, refl, sym, subst, ap, ◌∙◌, add-one, drop-cons, append_assoc}
+use Rattle.std.proofs.Common.{◌≡◌, ◌≢◌, ℕ, zero, suc, ◌≤◌, ℤ, pos, ◌+ℤ◌, ◌≤ℤ◌, ◌<ℤ◌, Bool, true, false, ◌⊎◌, inl, inr, List, [], ◌∷◌, ◌++◌, length, map, get_or, take, drop, arith, refl, sym, subst, ap, ◌∙◌}
 use Rattle.std.specs.Prelude.{if◌then◌else◌}
-use Rattle.std.proofs.lemmas.Int.{ints, by_lt_z}
-use Rattle.std.proofs.lemmas.Bool.{cases_eq, cases_Bool, not-false, not-true}
-use Rattle.std.specs.List.{splice}
+use Rattle.std.proofs.lemmas.Int.{ints}
+use Rattle.std.proofs.lemmas.Bool.{cases_eq}
 use Rattle.domain_api.specs.declared.expr.Expr.{Expr}
-use Rattle.array_segments.specs.Meaning.{AreWorth, Covers, Lies, Segment, Spans, item, worth, zipped}
+use Rattle.array_segments.specs.Meaning.{AreWorth, Covers, Segment, Spans, item, worth, zipped}
 use Rattle.array_segments.specs.Storing.{around, changed_between, new_bounds, next_of}
 use Rattle.array_segments.proofs.Spans.{Spans-append, rises, slice_by}
 

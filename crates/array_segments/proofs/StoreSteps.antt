@@ -1,12 +1,12 @@
 -- Contents that a store changes one by one, and the counts behind a store.
-use Rattle.std.proofs.Common.{◌≡◌, ℕ, zero, suc, ◌+◌, ◌-◌, ◌<◌, ◌≤◌, ℤ, pos, Bool, true, false, List, [], ◌∷◌, ◌++◌, length, map, get_or, set, take, drop, min, arith, refl, sym, subst, ap, ◌∙◌, add-one, length-append, length-drop, length-take, Option}
+use Rattle.std.proofs.Common.{◌≡◌, ℕ, zero, suc, ◌+◌, ◌<◌, ◌≤◌, ℤ, Bool, true, false, List, [], ◌∷◌, ◌++◌, length, map, get_or, set, take, drop, arith, refl, sym, subst, ap, ◌∙◌, add-one, length-append, length-drop, length-take, Option}
 use Rattle.std.specs.List.{AllByRecursion, drop-map, splice, take-map}
 use Rattle.std.proofs.lemmas.List.{map-append}
 use Rattle.domain_api.specs.declared.expr.Expr.{Expr}
-use Rattle.array_segments.specs.Loading.{hull_between, start, starts, stop, stop_from}
+use Rattle.array_segments.specs.Loading.{hull_between, start, starts, stop}
 use Rattle.array_segments.specs.Comparing.{ends_behind, starts_by}
 use Rattle.array_segments.specs.SegmentLists.{Has, HasFew, HasForm, Lists, zero_expr}
-use Rattle.array_segments.specs.Storing.{around, changed_between, has_left, has_right, left_mark, new_bounds, next_of, replaced, replaced_by, right_mark}
+use Rattle.array_segments.specs.Storing.{around, changed_between, has_left, has_right, left_mark, new_bounds, replaced, replaced_by, right_mark}
 use Rattle.array_segments.specs.Counted.{IsCounted}
 use Rattle.array_segments.proofs.PlaceSteps.{first_place_above, first_place_within, last_place_below}
 

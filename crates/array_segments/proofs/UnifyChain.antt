@@ -3,7 +3,7 @@ use Rattle.std.proofs.Common.{◌≡◌, ℕ, zero, suc, ◌+◌, ◌<◌, ◌�
 use Rattle.std.proofs.lemmas.Bool.{ltb-false, ltb-true}
 use Rattle.domain_api.specs.declared.expr.Expr.{Expr}
 use Rattle.symbolic_values.specs.Pairing.{Pairing}
-use Rattle.array_segments.specs.CommonBounds.{Place, common_bound, later_places, origin_place, row, rows}
+use Rattle.array_segments.specs.CommonBounds.{Place, common_bound, origin_place, row, rows}
 use Rattle.array_segments.specs.Meaning.{Segment}
 use Rattle.array_segments.specs.SegmentLists.{Lists}
 use Rattle.array_segments.specs.Unifying.{common_segment, common_segments, placed_at}
@@ -13,9 +13,8 @@ module _ {C : Type 0} (hull make : C → C → C) (full : C) (pairs : Pairing) (
     (P : Place → List (Segment C) → Type 0)
     (done : P (record { first = n; second = m }) [])
     (step : (last : Place) (first second : ℕ) (upper : List Expr) (segments : List (Segment C)) → last.first ≤ first → last.second ≤ second → first ≤ n → second ≤ m → 0 < length upper →
-        upper ≡ common_bound pairs end a b first second → P (record { first = first; second = second }) segments →
-        P last (common_segment hull make full pairs end a b last first second upper ∷ segments)) where
-
+    upper ≡ common_bound pairs end a b first second → P (record { first = first; second = second }) segments →
+    P last (common_segment hull make full pairs end a b last first second upper ∷ segments)) where
   -- A place is passed over, or a segment ends there.
   by_bound : (last : Place) (first second : ℕ) (upper : List Expr) (without behind : List (Segment C)) → last.first ≤ first → last.second ≤ second → first ≤ n → second ≤ m →
       upper ≡ common_bound pairs end a b first second → P last without → P (record { first = first; second = second }) behind →

@@ -1,16 +1,16 @@
 -- Two sides as one: the form, and what one side held of, both as one hold of.
-use Rattle.std.proofs.Common.{◌≡◌, ◌==◌, ℕ, zero, suc, ◌+◌, ◌-◌, ◌<◌, ◌≤◌, ℤ, pos, ◌≤ℤ◌, ◌<ℤ◌, Bool, true, false, not, ◌&&◌, ◌||◌, inl, inr, List, [], ◌∷◌, ◌++◌, length, map, get_or, take, drop, Option, None, Some, arith, refl, sym, subst, ap, ◌∙◌, if◌then◌else◌}
+use Rattle.std.proofs.Common.{◌≡◌, ◌==◌, ℕ, suc, ◌+◌, ◌-◌, ◌<◌, ◌≤◌, ℤ, pos, ◌≤ℤ◌, ◌<ℤ◌, Bool, true, false, not, ◌&&◌, inl, inr, List, [], ◌∷◌, ◌++◌, length, map, get_or, take, drop, Option, None, Some, arith, refl, sym, subst, ap, ◌∙◌, if◌then◌else◌}
 use Rattle.std.proofs.lemmas.List.{length-map}
 use Rattle.std.proofs.lemmas.Int.{ints}
 use Rattle.std.proofs.lemmas.Bool.{and_parts, false≢true, or_cases}
 use Rattle.std.proofs.lemmas.Bool.Decides.{Decides-eqb}
-use Rattle.std.specs.List.{AllByRecursion, Contains, fold, list_any, reduce, slice_range}
+use Rattle.std.specs.List.{AllByRecursion, list_any, reduce, slice_range}
 use Rattle.domain_api.specs.declared.expr.Expr.{Expr}
 use Rattle.symbolic_values.specs.Names.{paired_expr}
 use Rattle.symbolic_values.specs.Pairing.{Pairing}
 use Rattle.symbolic_values.proofs.PairedMeaning.{paired_expr_worth}
 use Rattle.array_segments.specs.Behind.{StandsForBoth, behind}
-use Rattle.array_segments.specs.CommonBounds.{Place, common_bound, first_bound, later_places, lowest, must_at, origin_place, paired_exprs, put_all, row, rows}
+use Rattle.array_segments.specs.CommonBounds.{common_bound, first_bound, later_places, lowest, must_at, origin_place, paired_exprs, put_all, row, rows}
 use Rattle.array_segments.specs.Counted.{IsCounted}
 use Rattle.array_segments.specs.Growing.{begun, with_more}
 use Rattle.array_segments.specs.Meaning.{AreWorth, Covers, Holds, Lies, Segment, Spans, item, segments_of, worth, zipped}
@@ -81,7 +81,7 @@ module _ {C : Type 0} (contains : C → ℤ → Type 0) (number after : ℕ → 
     (mono : (x y u v : ℕ) → x ≤ u → y ≤ v → at x y ≤ at u v) (inside : (x y : ℕ) → x ≤ n → y ≤ m → at x y ≤ length s.contents)
     (worths : (x y : ℕ) (h : ℤ) → AreWorth number h (get_or s.bounds (at x y) []) → AreWorth after h (common_bound pairs end a b x y))
     (has : (x y u v : ℕ) (low high : ℤ) → HasAll contains items (reduce hull (slice_range s.contents (at x y) (at u v))) low high →
-        Covers contains items (of_both make full (reduce hull (slice_range a.contents x u)) (reduce hull (slice_range b.contents y v))) low high)
+    Covers contains items (of_both make full (reduce hull (slice_range a.contents x u)) (reduce hull (slice_range b.contents y v))) low high)
     (filled : (x y u v : ℕ) → not (some_filled a.marks x u && some_filled b.marks y v) ≡ false → some_filled s.marks (at x y) (at u v) ≡ true) where
   -- What the bound at a place of the side is worth.
   abbrev where_is : ℕ → ℤ

@@ -1,15 +1,14 @@
 -- Expressions put in order, and common bounds taken, one by one.
-use Rattle.std.proofs.Common.{◌≡◌, ◌==◌, ℕ, zero, suc, ◌+◌, ◌-◌, ◌<◌, ◌≤◌, Bool, true, false, nat_lt, List, [], ◌∷◌, ◌++◌, length, get_or, drop, Option, None, Some, arith, refl, sym, ap, ◌∙◌, add-one, append_assoc, if◌then◌else◌}
+use Rattle.std.proofs.Common.{◌≡◌, ◌==◌, ℕ, zero, suc, ◌+◌, ◌-◌, ◌<◌, ◌≤◌, Bool, true, false, nat_lt, List, [], ◌∷◌, ◌++◌, length, get_or, drop, Option, None, Some, arith, refl, sym, ap, ◌∙◌, add-one, if◌then◌else◌}
 use Rattle.std.proofs.lemmas.Bool.{false≢true, le-ltb, lt-ltb}
-use Rattle.std.proofs.lemmas.List.{append-nil, drop_more}
+use Rattle.std.proofs.lemmas.List.{drop_more}
 use Rattle.std.proofs.lemmas.List.Sums.{fold-append}
-use Rattle.std.specs.List.{cons_option, filter_map, flat_map, fold}
+use Rattle.std.specs.List.{cons_option, filter_map, flat_map}
 use Rattle.std.specs.Option.{option_to_list}
 use Rattle.domain_api.specs.declared.expr.Expr.{Expr}
 use Rattle.symbolic_values.specs.Pairing.{Pairing}
 use Rattle.array_segments.specs.CommonBounds.{Place, common_bound, put, put_all, row, rows}
 use Rattle.array_segments.specs.Growing.{with_more}
-use Rattle.array_segments.specs.Meaning.{Segment}
 use Rattle.array_segments.specs.SegmentLists.{Lists}
 use Rattle.array_segments.specs.Unifying.{common_segment, common_segments, placed_at}
 use Rattle.array_segments.proofs.NameSteps.{with_more_more}

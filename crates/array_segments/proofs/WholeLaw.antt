@@ -1,5 +1,5 @@
 -- One segment over a whole array has the form, and holds where the value has each item.
-use Rattle.std.proofs.Common.{◌≡◌, ℕ, ◌<◌, ◌≤◌, ℤ, pos, ◌≤ℤ◌, ◌<ℤ◌, Bool, false, List, length, arith, refl}
+use Rattle.std.proofs.Common.{◌≡◌, ℕ, ◌<◌, ℤ, pos, Bool, false, List, length, arith, refl}
 use Rattle.std.proofs.lemmas.Int.{ints}
 use Rattle.domain_api.specs.declared.expr.Expr.{Expr}
 use Rattle.array_segments.specs.Meaning.{Covers, Holds, worth}

@@ -1,5 +1,5 @@
 -- The form of segments but for the limit on their number.
-use Rattle.std.specs.Prelude.{◌≡◌, ◌+◌, ◌≤◌, List, [], length, get_or}
+use Rattle.std.specs.Prelude.{◌≡◌, ◌+◌, ◌≤◌, [], length, get_or}
 use Rattle.std.specs.List.{AllByRecursion}
 use Rattle.array_segments.specs.SegmentLists.{Has, HasFew, Lists, zero_expr}
 

@@ -1,9 +1,7 @@
--- The tests of what calls ask for: whether lists have the form of segments, and whether both sides end at a length.
-use Rattle.std.specs.Prelude.{ℕ, ◌+◌, ◌==◌, nat_le, Bool, false, ◌&&◌, List, [], length, get_or, Option, None, Some}
+-- The test whether lists have the form of segments.
+use Rattle.std.specs.Prelude.{◌+◌, ◌==◌, nat_le, Bool, ◌&&◌, List, [], length, get_or}
 use Rattle.std.specs.List.{list_all, list_any}
 use Rattle.domain_api.specs.declared.expr.Expr.{Expr}
-use Rattle.symbolic_values.specs.Names.{paired_expr}
-use Rattle.symbolic_values.specs.Pairing.{Pairing}
 use Rattle.array_segments.specs.CommonBounds.{same_expr}
 use Rattle.array_segments.specs.SegmentLists.{Lists, zero_expr}
 
@@ -23,12 +21,3 @@ begins_at_zero lists = list_any (same_expr zero_expr) (get_or lists.bounds 0 [])
 
 abbrev pub is_formed : {C : Type 0} → Lists C → Bool
 is_formed lists = are_counted lists && (list_all has_few lists.bounds && begins_at_zero lists)
-
--- Tells whether the name is there, and is this expression.
-abbrev pub is_name : Option Expr → Expr → Bool
-is_name None expr = false
-is_name (Some name) expr = same_expr expr name
-
--- Tells whether the new expression stands for one of each bound.
-abbrev pub stands_for_both : Pairing → List Expr → List Expr → Expr → Bool
-stands_for_both pairs first second new = list_any (λ e. list_any (λ f. is_name (paired_expr pairs e f) new) second) first

@@ -1,5 +1,5 @@
 -- Segments of an array, as plain lists.
-use Rattle.std.specs.Prelude.{◌≡◌, ℕ, ◌+◌, ◌≤◌, ℤ, pos, Bool, List, [], ◌∷◌, length, get_or}
+use Rattle.std.specs.Prelude.{◌≡◌, ◌+◌, ◌≤◌, pos, Bool, List, [], ◌∷◌, length, get_or}
 use Rattle.std.specs.List.{AllByRecursion, Contains}
 use Rattle.domain_api.specs.declared.expr.Expr.{Expr}
 

@@ -21,7 +21,7 @@ fn precedes(a: Expr, b: Expr) -> bool
 }
 
 /// Tells whether both are the same.
-pub(crate) fn is_same(a: Expr, b: Expr) -> bool
+fn is_same(a: Expr, b: Expr) -> bool
     ensures { result ≡ same_expr a b }
 {
     a.sym == b.sym && a.k == b.k
@@ -42,17 +42,6 @@ fn first_behind(ordered: &[Expr], expr: Expr) -> Option<usize>
     ordered.iter().position(|x| precedes(expr, *x))
 }
 
-/// That place, or the one behind all.
-fn place_of(ordered: &[Expr], expr: Expr) -> usize
-    ensures value { result ≡ unwrap_or (position (precedes expr) ordered.now) (length ordered.now) }
-    ensures inside { result ≤ length ordered.now }
-{
-    match first_behind(ordered, expr) {
-        Some(place) => place,
-        None => ordered.len(),
-    }
-}
-
 /// Puts an expression before the first that comes behind it, unless it is there.
 fn put(ordered: &mut Vec<Expr>, expr: Expr) -> Result<(), NoMemory>
     ensures { OnOk result (ordered.new.items ≡ put expr ordered.old.items) }
@@ -60,7 +49,7 @@ fn put(ordered: &mut Vec<Expr>, expr: Expr) -> Result<(), NoMemory>
     if has(ordered, expr) {
         return Ok(());
     }
-    let place = place_of(ordered, expr);
+    let place = first_behind(ordered, expr).unwrap_or(ordered.len());
     ordered.insert(place, expr)?;
     Ok(())
 }
@@ -109,21 +98,6 @@ fn paired_exprs(
     Ok(ordered)
 }
 
-/// Puts in what has to be among the expressions and is not, where there are four in place of the last.
-fn keep_among(exprs: &mut Vec<Expr>, must: Option<Expr>) -> Result<(), NoMemory>
-    ensures { OnOk result (exprs.new.items ≡ with_must must exprs.old.items) }
-{
-    let Some(expr) = must else {
-        return Ok(());
-    };
-    if has(exprs, expr) {
-        return Ok(());
-    }
-    exprs.truncate(EXPR_LIMIT - 1);
-    exprs.push(expr)?;
-    Ok(())
-}
-
 /// The lowest four of what stands for one of each bound, with what has to be among them.
 pub(crate) fn lowest_paired(
     alloc: Global,
@@ -136,6 +110,13 @@ pub(crate) fn lowest_paired(
 {
     let mut exprs = paired_exprs(alloc, pairs, first, second)?;
     exprs.truncate(EXPR_LIMIT);
-    keep_among(&mut exprs, must)?;
+    let Some(expr) = must else {
+        return Ok(exprs);
+    };
+    if has(&exprs, expr) {
+        return Ok(exprs);
+    }
+    exprs.truncate(EXPR_LIMIT - 1);
+    exprs.push(expr)?;
     Ok(exprs)
 }

@@ -1,18 +1,15 @@
-//! The tests of what calls ask for.
+//! The test of the form.
 
 ghost use Rattle.std.specs.Prelude.{◌≡◌, ◌↔◌, map, IsTrue};
-ghost use Rattle.std.specs.List.{list_all, list_any};
-ghost use Rattle.symbolic_values.specs.Names.{paired_expr};
-ghost use Rattle.array_segments.specs.Behind.{StandsForBoth};
-ghost use Rattle.array_segments.specs.FormTest.{are_counted, begins_at_zero, has_few, is_formed, is_name, stands_for_both};
-ghost use Rattle.array_segments.specs.SegmentLists.{HasForm, last_bound};
+ghost use Rattle.std.specs.List.{list_all};
+ghost use Rattle.array_segments.specs.FormTest.{are_counted, begins_at_zero, has_few, is_formed};
+ghost use Rattle.array_segments.specs.SegmentLists.{HasForm};
 ghost use Rattle.array_segments.specs.Segments.{lists_of};
 
-use crate::common_bounds::{EXPR_LIMIT, has, is_same};
+use crate::common_bounds::{EXPR_LIMIT, has};
 use crate::limit::SEGMENT_LIMIT;
 use crate::segments::Segs;
 use domain_api::{Expr, Values};
-use symbolic_values::Pairs;
 
 /// Tells whether the bound has 1 to 4 expressions.
 fn has_few(bound: &[Expr]) -> bool
@@ -32,30 +29,6 @@ fn all_have_few(bounds: &[Vec<Expr>]) -> bool
         }
     }
     true
-}
-
-/// Tells whether the name is there, and is this expression.
-fn is_name(name: Option<Expr>, expr: Expr) -> bool
-    ensures { result ≡ is_name name expr }
-{
-    match name {
-        None => false,
-        Some(name) => is_same(expr, name),
-    }
-}
-
-/// Tells whether the new expression stands for this one and one of the other side's bound.
-fn stands_for_one(pairs: &Pairs, e: Expr, second: &[Expr], new: Expr) -> bool
-    ensures { result ≡ list_any (λ f. is_name (paired_expr pairs.now e f) new) second.now }
-{
-    second.iter().any(|f| is_name(pairs.named(e, *f), new))
-}
-
-/// Tells whether the new expression stands for one of each bound.
-fn stands_for_both(pairs: &Pairs, first: &[Expr], second: &[Expr], new: Expr) -> bool
-    ensures { result ≡ stands_for_both pairs.now first.now second.now new }
-{
-    first.iter().any(|e| stands_for_one(pairs, *e, second, new))
 }
 
 impl<C: Values> Segs<C> {
@@ -91,28 +64,5 @@ impl<C: Values> Segs<C> {
         ensures { IsTrue result ↔ HasForm (lists_of self.now) }
     {
         self.is_formed()
-    }
-
-    /// Tells whether the length stands for an expression of the last bound of each side.
-    fn stands_at_ends(&self, other: &Self, pairs: &Pairs, length: Expr) -> bool
-        requires form { HasForm (lists_of self.now) }
-        requires other { HasForm (lists_of other.now) }
-        ensures { result
-            ≡ stands_for_both pairs.now (last_bound (lists_of self.now)) (last_bound (lists_of other.now)) length }
-    {
-        let first = &self.bounds[self.contents.len()];
-        let second = &other.bounds[other.contents.len()];
-        stands_for_both(pairs, first, second, length)
-    }
-
-    /// Tells whether `length` stands for an expression of the last bound of each side, as `unify` and `widen_under` ask
-    /// for.
-    pub fn ends_pair(&self, other: &Self, pairs: &Pairs, length: Expr) -> bool
-        requires form { HasForm (lists_of self.now) }
-        requires other { HasForm (lists_of other.now) }
-        ensures { IsTrue result
-            ↔ StandsForBoth pairs.now (last_bound (lists_of self.now)) (last_bound (lists_of other.now)) length }
-    {
-        self.stands_at_ends(other, pairs, length)
     }
 }

@@ -115,27 +115,6 @@ fn is_below<O: Order>(order: &O, a: Moved, b: Moved) -> bool
     )
 }
 
-/// Tells whether the first is shown to be at most an expression of the other side.
-fn leads_other<O: Order>(order: &O, names: &[Option<Expr>], a: Moved, b: Expr) -> bool
-    ensures { result ≡ both_at_most (O.gap order.now) (more_than a.name a.k) (mapped names.now b) }
-{
-    is_at_most(order, a, in_names(names, b))
-}
-
-/// Tells whether the first is shown to be below an expression of the other side.
-fn leads_other_strictly<O: Order>(order: &O, names: &[Option<Expr>], a: Moved, b: Expr) -> bool
-    ensures { result ≡ both_below (O.gap order.now) (more_than a.name a.k) (mapped names.now b) }
-{
-    is_below(order, a, in_names(names, b))
-}
-
-/// Tells whether the first is shown to be at most an expression of this side.
-fn leads_mine<O: Order>(order: &O, a: Moved, b: Expr) -> bool
-    ensures { result ≡ both_at_most (O.gap order.now) (more_than a.name a.k) (as_own b) }
-{
-    is_at_most(order, a, own(b))
-}
-
 /// Tells whether the first is shown to be equal to an expression of the other side.
 fn equals_other<O: Order>(order: &O, names: &[Option<Expr>], a: Moved, b: Expr) -> bool
     ensures { result ≡ both_equal (O.gap order.now) (more_than a.name a.k) (mapped names.now b) }
@@ -150,7 +129,7 @@ fn one_leads<O: Order>(order: &O, names: &[Option<Expr>], a: Expr, second: &[Exp
         ≡ list_any (λ b. both_at_most (O.gap order.now) (mapped names.now a) (mapped names.now b)) second.now }
 {
     let first = in_names(names, a);
-    second.iter().any(|b| leads_other(order, names, first, *b))
+    second.iter().any(|b| is_at_most(order, first, in_names(names, *b)))
 }
 
 /// Tells whether an expression of the other side is shown to be below one of a bound of that side.
@@ -161,7 +140,7 @@ fn one_leads_strictly<O: Order>(order: &O, names: &[Option<Expr>], a: Expr, seco
     let first = in_names(names, a);
     second
         .iter()
-        .any(|b| leads_other_strictly(order, names, first, *b))
+        .any(|b| is_below(order, first, in_names(names, *b)))
 }
 
 /// Tells whether an expression of the other side is shown to be at most one of a bound of this side.
@@ -169,7 +148,7 @@ fn one_leads_own<O: Order>(order: &O, names: &[Option<Expr>], a: Expr, second: &
     ensures { result ≡ list_any (λ b. both_at_most (O.gap order.now) (mapped names.now a) (as_own b)) second.now }
 {
     let first = in_names(names, a);
-    second.iter().any(|b| leads_mine(order, first, *b))
+    second.iter().any(|b| is_at_most(order, first, own(*b)))
 }
 
 /// Tells whether an expression of this side is shown to be at most one of a bound of the other side.
@@ -177,7 +156,7 @@ fn one_own_leads<O: Order>(order: &O, names: &[Option<Expr>], a: Expr, second: &
     ensures { result ≡ list_any (λ b. both_at_most (O.gap order.now) (as_own a) (mapped names.now b)) second.now }
 {
     let first = own(a);
-    second.iter().any(|b| leads_other(order, names, first, *b))
+    second.iter().any(|b| is_at_most(order, first, in_names(names, *b)))
 }
 
 /// Tells whether the other side's first bound is shown to be at most its second one.

@@ -42,22 +42,15 @@ struct Unifying<C> {
     second: usize,
 }
 
-/// A content of each side made one.
-fn made_of<C: Values>(merge: Merge, a: &C, b: &C) -> C
-    ensures { result ≡ make_of merge C.hull C.widened a.now b.now }
-{
-    match merge {
-        Merge::Hull => a.hull(b),
-        Merge::Widening => a.widened(b),
-    }
-}
-
 /// What both sides have, where each may have nothing.
 fn of_both<C: Values>(merge: Merge, a: Option<C>, b: Option<C>) -> C
     ensures { result ≡ of_both (make_of merge C.hull C.widened) C.full a b }
 {
     match (a, b) {
-        (Some(x), Some(y)) => made_of(merge, &x, &y),
+        (Some(x), Some(y)) => match merge {
+            Merge::Hull => x.hull(&y),
+            Merge::Widening => x.widened(&y),
+        },
         (Some(x), None) => x,
         (None, Some(y)) => y,
         (None, None) => C::full(),

@@ -1,5 +1,6 @@
 //! The rules, by the keywords of cases.
 
+use crate::segment_rules::SegmentRules;
 use crate::{apart_rules, bound_rules, definition_rules, name_rules};
 use alias_facts::Apart;
 use domain_api::{Expr, Paired};
@@ -26,6 +27,8 @@ pub struct RelationRules {
     symbol_names: Vec<Option<Expr>>,
     /// The new names of references, from reference 0 on.
     new_references: Vec<Option<u32>>,
+    /// The segments of an array.
+    segments: SegmentRules,
 }
 
 /// The pairs before an answer.
@@ -148,6 +151,23 @@ impl RelationRules {
         Ok(Line::Setting)
     }
 
+    /// Takes a line on segments.
+    fn take_segments(&mut self, keyword: &str, argument: &str) -> Result<Line, Failure> {
+        let names = self.symbol_names.as_slice();
+        match keyword {
+            "strong-store" | "weak-store" => self.segments.store(&self.bounds, keyword, argument),
+            "segments-are" => self.segments.are(argument),
+            "load" => self.segments.load(&self.bounds, argument),
+            "includes" => self.segments.includes(&self.bounds, names, argument),
+            "in-other-names" => self.segments.in_other_names(names, argument),
+            "unified" | "widened-segments" => {
+                self.segments
+                    .unified(current(&self.numbers)?, keyword, argument)
+            }
+            _ => self.segments.set(keyword, argument),
+        }
+    }
+
     /// Takes a step.
     fn step(&mut self, keyword: &str, argument: &str) -> Result<Line, Failure> {
         match keyword {
@@ -170,10 +190,14 @@ impl Rules for RelationRules {
             references: None,
             symbol_names: Vec::new(alloc),
             new_references: Vec::new(alloc),
+            segments: SegmentRules::new(alloc),
         }
     }
 
     fn take(&mut self, keyword: &str, argument: &str) -> Result<Line, Failure> {
+        if SegmentRules::has(keyword) {
+            return self.take_segments(keyword, argument);
+        }
         match keyword {
             "bounds" | "pair" => self.begin(keyword, argument),
             "beside" | "pair-references" | "symbol-names" | "new-references" => {

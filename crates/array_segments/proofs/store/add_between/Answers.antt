@@ -1,4 +1,4 @@
-use Rattle.std.proofs.Common.{◌≡◌, ◌+◌, ◌≤◌, ◌<◌, ap, sym, ◌∙◌, arith, length, set}
+use Rattle.std.proofs.Common.{◌+◌, ◌≤◌, ◌<◌, ap, sym, ◌∙◌, arith, length, set}
 use Rattle.array_segments.specs.Storing.{changed_between}
 use Rattle.array_segments.proofs.StoreSteps.{added_more}
 use Rattle.array_segments.proofs.store.add_between.Goals as goal

@@ -3,7 +3,7 @@ use Rattle.std.proofs.lemmas.Iterator.{items_from_drains}
 use Rattle.std.proofs.lemmas.Iterator.Adapters.{YieldsList-from_vec}
 use Rattle.std.proofs.lemmas.List.{map-id}
 use Rattle.std.specs.List.{splice}
-use Rattle.array_segments.specs.Storing.{around, new_bounds}
+use Rattle.array_segments.specs.Storing.{around}
 use Rattle.array_segments.proofs.StoreSteps.{map_splice}
 use Rattle.array_segments.proofs.segments.Segs.replace.Goals as goal
 

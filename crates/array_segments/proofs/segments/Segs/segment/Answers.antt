@@ -1,4 +1,4 @@
-use Rattle.std.proofs.Common.{◌≡◌, ◌<◌, ◌∷◌, [], ◌+◌, arith, drop, length, map, sym, ◌∙◌}
+use Rattle.std.proofs.Common.{◌<◌, ◌∷◌, [], ◌+◌, arith, drop, length, sym, ◌∙◌}
 use Rattle.std.proofs.lemmas.List.{length-map}
 use Rattle.array_segments.specs.Meaning.{segments_of}
 use Rattle.array_segments.specs.Segments.{lists_of}

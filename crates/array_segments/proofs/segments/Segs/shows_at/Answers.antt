@@ -1,4 +1,4 @@
-use Rattle.std.proofs.Common.{◌≡◌, ◌<◌, ◌+◌, ◌&&◌, [], arith, ap, drop, get_or, length, sym, ◌∙◌}
+use Rattle.std.proofs.Common.{◌<◌, ◌+◌, ◌&&◌, [], arith, ap, drop, get_or, length, sym, ◌∙◌}
 use Rattle.std.proofs.lemmas.List.{length-map}
 use Rattle.array_segments.specs.Inclusion.{all_shown, is_shown}
 use Rattle.array_segments.specs.Meaning.{segments_of}

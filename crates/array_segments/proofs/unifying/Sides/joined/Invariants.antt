@@ -1,4 +1,4 @@
-use Rattle.std.proofs.Common.{◌≡◌, ◌≤◌, ◌-◌, ◌++◌, suc, length}
+use Rattle.std.proofs.Common.{◌≡◌, ◌≤◌, ◌-◌, suc, length}
 use Rattle.array_segments.specs.CommonBounds.{first_bound, later_places, origin_place, rows}
 use Rattle.array_segments.specs.Growing.{begun, with_more}
 use Rattle.array_segments.specs.Segments.{lists_of}
