@@ -6,3 +6,4 @@ pub mod Fresh
 pub mod Comparisons
 pub mod Assume
 pub mod Allowing
+pub mod Keeps
