@@ -4,3 +4,5 @@ pub mod Cutting
 pub mod Assuming
 pub mod Knowing
 pub mod Keeping
+pub mod NewSymbols
+pub mod Truths

@@ -7,3 +7,4 @@ pub mod Comparisons
 pub mod Assume
 pub mod Allowing
 pub mod Keeps
+pub mod Holds
