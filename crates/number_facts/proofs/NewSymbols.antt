@@ -1,8 +1,10 @@
 -- A new symbol, of which more is known, keeps what is so.
 use Rattle.std.proofs.Common.{◌≡◌, ◌≢◌, ℕ, zero, suc, ◌==◌, ◌+◌, ◌≤◌, ◌<◌, ℤ, pos, neg_ℤ, ◌+ℤ◌, ◌-ℤ◌, ◌≤ℤ◌, Bool, true, false, int_lt, int_eq, Option, Some, None, List, [], ◌∷◌, ◌++◌, length, get_or, cond, inl, inr, refl, sym, ap, ◌∙◌, add-one, arith}
-use Rattle.std.specs.Prelude.{if◌then◌else◌}
+use Rattle.std.specs.Prelude.{if◌then◌else◌, Result, Ok, Err, IfOk, OnOk}
+use Rattle.std.specs.Option.{option_map}
+use Rattle.std.specs.Int.{int_min, int_max}
 use Rattle.std.specs.List.{AllByRecursion}
-use Rattle.std.proofs.lemmas.Int.{ints}
+use Rattle.std.proofs.lemmas.Int.{ints, clamps}
 use Rattle.std.proofs.lemmas.Bool.{cases_Bool, cond_both, eqb-true, eqb-false}
 use Rattle.std.proofs.lemmas.Bool.Decides.{Decides-int_eq, nat_tests}
 use Rattle.std.proofs.lemmas.Grind.{common_steps}
@@ -15,11 +17,13 @@ use Rattle.symbolic_values.specs.Worth.{worth}
 use Rattle.symbolic_values.specs.declared.def.Def.{Def}
 use Rattle.symbolic_values.specs.declared.def.Def.TheVariants.{Eq, Lt, LtUn, NullTest, Sub}
 use Rattle.number_spans.specs.Constants.{constant}
-use Rattle.number_spans.specs.Stored.{Allows}
+use Rattle.cil_model.specs.Arithmetic.{LEAST, GREATEST}
+use Rattle.number_spans.specs.Stored.{Allows, SomeAllows, range_without}
+use Rattle.number_spans.proofs.Lost.{range_without_allows}
 use Rattle.number_facts.specs.Allowing.{AllowsNumbers}
 use Rattle.number_facts.specs.Facts.{Facts, range_at}
-use Rattle.number_facts.specs.Fresh.{Made, bounded, defined, is_long, noted, related, related_so}
-use Rattle.number_facts.specs.Holds.{Holds, HoldsWith, IsDefined, IsRelated, Names, NamesOwn, AreNamed, is_below}
+use Rattle.number_facts.specs.Fresh.{Made, bounded, defined, expr_made, facts_made, fresh, is_long, noted, related, related_so}
+use Rattle.number_facts.specs.Holds.{Holds, HoldsWith, KeepsFresh, YieldsSome, IsDefined, IsRelated, Names, NamesOwn, AreNamed, is_below}
 use Rattle.number_facts.specs.declared.relation.Relation.{Relation}
 use Rattle.number_facts.specs.declared.relation.Relation.TheVariants.{AtLeast, AtMost, Is}
 use Rattle.number_facts.proofs.Knowing.{zero_number}
@@ -45,7 +49,7 @@ new_number number t n = rw (itself t) refl
 same_worth : (number later : ℕ → ℤ) (count : ℕ) (e : Expr) → e.sym ≤ count → ((s : ℕ) → s ≤ count → later s ≡ number s) → worth later e ≡ worth number e
 same_worth number later count e there agrees = ap (λ n. n +ℤ e.k) (agrees e.sym there)
 
-same_told : (number later : ℕ → ℤ) (is_null : ℕ → Bool) (count : ℕ) (def : Def) → Names count def → ((s : ℕ) → s ≤ count → later s ≡ number s)
+pub same_told : (number later : ℕ → ℤ) (is_null : ℕ → Bool) (count : ℕ) (def : Def) → Names count def → ((s : ℕ) → s ≤ count → later s ≡ number s)
     → told is_below later is_null def ≡ told is_below number is_null def
 same_told number later is_null count (Eq x y) named agrees = rw (same_worth number later count x named.0 agrees, same_worth number later count y named.1 agrees) refl
 same_told number later is_null count (Lt x y) named agrees = rw (same_worth number later count x named.0 agrees, same_worth number later count y named.1 agrees) refl
@@ -162,7 +166,7 @@ all_related facts number is_null t (r ∷ rs) holds so =
 new_worth : (later : ℕ → ℤ) (t : ℕ) (n : ℤ) → later t ≡ n → worth later (record { sym = t; k = pos 0 }) ≡ n
 new_worth later t n is = omega (arith, ints, is)
 
-zero_worth : (number : ℕ → ℤ) (k n : ℤ) → number 0 ≡ pos 0 → k ≡ n → worth number (constant k) ≡ n
+pub zero_worth : (number : ℕ → ℤ) (k n : ℤ) → number 0 ≡ pos 0 → k ≡ n → worth number (constant k) ≡ n
 zero_worth number k n none is = omega (arith, ints, none, is)
 
 -- A number of a range, of which these relations are so, is a new symbol of the range with these relations.
@@ -190,6 +194,24 @@ noted_holds facts number is_null r relations n holds named allowed so =
       later = later;
       agrees = agrees;
       holds = all_related (record facts { ranges = facts.ranges ++ r ∷ [] }) later is_null t relations
-        (appended_holds facts number later is_null r holds named agrees (rw own allowed)) so;
+          (appended_holds facts number later is_null r holds named agrees (rw own allowed)) so;
       is = new_worth later t n own;
     })
+
+noted_some : (facts : Facts) (number : ℕ → ℤ) (is_null : ℕ → Bool) (o : Option Interval) (n : ℤ) → Holds facts number is_null → AreNamed facts → SomeAllows o n
+    → YieldsSome facts (facts_made facts (option_map (λ r. noted facts r []) o)) number is_null (expr_made (option_map (λ r. noted facts r []) o)) n
+noted_some facts number is_null None n holds named allowed = elim allowed [ ]
+noted_some facts number is_null (Some r) n holds named allowed = noted_holds facts number is_null r [] n holds named allowed tt
+
+-- an int32 of a range is a new number of it
+fresh_keeps : (facts : Facts) (lo hi : ℤ) (hole : Option ℤ) → KeepsFresh lo hi hole facts (expr_made (fresh facts lo hi hole [])) (facts_made facts (fresh facts lo hi hole []))
+unfolding fresh
+fresh_keeps facts lo hi hole = λ number is_null n named holds fits above below apart.
+    noted_some facts number is_null (range_without (int_max lo LEAST) (int_min hi GREATEST) hole) n holds named
+    (range_without_allows (int_max lo LEAST) (int_min hi GREATEST) n hole (omega (arith, ints, clamps, fits, above)) (omega (arith, ints, clamps, fits, below)) apart)
+
+pub fresh_where_ok : {E : Type 0} (before : Facts) (lo hi : ℤ) (hole : Option ℤ) (result : Result (Option Expr) E) (after : Facts)
+    → IfOk result (λ e. e ≡ expr_made (fresh before lo hi hole [])) → OnOk result (after ≡ facts_made before (fresh before lo hi hole []))
+    → IfOk result (λ e. KeepsFresh lo hi hole before e after)
+fresh_where_ok before lo hi hole (Ok e) after value facts = rw (value, facts) (fresh_keeps before lo hi hole)
+fresh_where_ok before lo hi hole (Err e) after value facts = value

@@ -1,6 +1,7 @@
 -- What is known of comparisons is so, and what they push keeps it.
-use Rattle.std.proofs.Common.{◌≡◌, ◌≢◌, ℕ, ◌+◌, ◌≤◌, ℤ, pos, ◌≤ℤ◌, ◌<ℤ◌, Bool, true, false, ◌&&◌, ◌||◌, int_lt, int_eq, Option, Some, None, List, [], ◌∷◌, length, Result, Ok, refl, sym, ap, ◌∙◌, ⊎_elim, FitsSigned, w32, arith}
-use Rattle.std.specs.Prelude.{nat_lt}
+use Rattle.std.proofs.Common.{◌≡◌, ◌≢◌, ℕ, ◌+◌, ◌≤◌, ℤ, pos, ◌≤ℤ◌, ◌<ℤ◌, Bool, true, false, ◌&&◌, ◌||◌, int_lt, int_eq, Option, Some, None, List, [], ◌∷◌, length, refl, sym, ap, ◌∙◌, ⊎_elim, FitsSigned, w32, arith}
+use Rattle.std.specs.Prelude.{◌==◌, nat_lt, Result, Ok, Err, IfOk, OnOk}
+use Rattle.std.specs.List.{AllByRecursion}
 use Rattle.std.specs.Result.{result_ok}
 use Rattle.std.proofs.lemmas.Bool.{cond_both, and_parts, or_cases, false_from_ne_true}
 use Rattle.std.proofs.lemmas.Bool.Decides.{Decides-int_eq}
@@ -25,9 +26,9 @@ use Rattle.number_facts.specs.Allowing.{AllowsNumbers}
 use Rattle.number_facts.specs.Facts.{Facts, IsNamed}
 use Rattle.number_facts.specs.Fresh.{Made}
 use Rattle.number_facts.specs.Gaps.{at_most, less, equal}
-use Rattle.number_facts.specs.Holds.{Holds, HoldsWith, AreNamed, IsRelated, KeepsTruth, is_below}
+use Rattle.number_facts.specs.Holds.{Holds, HoldsWith, AreNamed, IsRelated, KeepsTruth, Names, is_below}
 use Rattle.number_facts.proofs.Knowing.{range_has, zero_number, constant_worth, not_negative, at_most_holds, equal_holds}
-use Rattle.number_facts.proofs.NewSymbols.{with_number, as_before, new_number, noted_holds}
+use Rattle.number_facts.proofs.NewSymbols.{with_number, as_before, new_number, noted_holds, same_told, zero_worth}
 
 -- What is known is what is so, where anything is known.
 abbrev Tells : Option Bool → Bool → Type 0
@@ -124,6 +125,9 @@ known_tells operators.SubOvf cmp f n a b is g = tt
 below_is : (m n : ℤ) → FitsSigned w32 m → FitsSigned w32 n → is_below m n ≡ nat_lt (unsigned m) (unsigned n)
 below_is m n first second = grind (arith, ints, first, second)
 
+def_same : (x y : Def) → Some x ≡ Some y → x ≡ y
+def_same x y is = cc
+
 no_operator : {A : Type 0} (cmp : CmpOp) → None ≡ Some cmp → A
 no_operator cmp is = absurd cc
 
@@ -132,25 +136,10 @@ truth_told : (op : BinOp) (cmp : CmpOp) (number : ℕ → ℤ) (is_null : ℕ �
     → FitsSigned w32 (worth number a) → FitsSigned w32 (worth number b)
     → (def : Def) → truth_of op a b ≡ Some def → truth (compares cmp (worth number a) (worth number b)) ≡ said.told is_below number is_null def
 truth_told operators.Ceq cmp n z a b is one two def told = rw (← some_same _ _ is, ← def_same _ _ told) refl
-  where
-    def_same : (x y : Def) → Some x ≡ Some y → x ≡ y
-    def_same x y e = cc
 truth_told operators.Cgt cmp n z a b is one two def told = rw (← some_same _ _ is, ← def_same _ _ told) refl
-  where
-    def_same : (x y : Def) → Some x ≡ Some y → x ≡ y
-    def_same x y e = cc
 truth_told operators.CgtUn cmp n z a b is one two def told = rw (← some_same _ _ is, ← def_same _ _ told) (ap truth (sym (below_is (worth n b) (worth n a) two one)))
-  where
-    def_same : (x y : Def) → Some x ≡ Some y → x ≡ y
-    def_same x y e = cc
 truth_told operators.Clt cmp n z a b is one two def told = rw (← some_same _ _ is, ← def_same _ _ told) refl
-  where
-    def_same : (x y : Def) → Some x ≡ Some y → x ≡ y
-    def_same x y e = cc
 truth_told operators.CltUn cmp n z a b is one two def told = rw (← some_same _ _ is, ← def_same _ _ told) (ap truth (sym (below_is (worth n a) (worth n b) one two)))
-  where
-    def_same : (x y : Def) → Some x ≡ Some y → x ≡ y
-    def_same x y e = cc
 truth_told operators.Add cmp n z a b is one two def told = no_operator cmp is
 truth_told operators.Sub cmp n z a b is one two def told = no_operator cmp is
 truth_told operators.Mul cmp n z a b is one two def told = no_operator cmp is
@@ -167,3 +156,106 @@ truth_told operators.ShrUn cmp n z a b is one two def told = no_operator cmp is
 truth_told operators.AddOvf cmp n z a b is one two def told = no_operator cmp is
 truth_told operators.MulOvf cmp n z a b is one two def told = no_operator cmp is
 truth_told operators.SubOvf cmp n z a b is one two def told = no_operator cmp is
+
+-- ---- what is pushed
+
+named_truth : (op : BinOp) (count : ℕ) (a b : Expr) (def : Def) → a.sym ≤ count → b.sym ≤ count → truth_of op a b ≡ Some def → Names count def
+named_truth operators.Ceq count a b def p q is = rw (← def_same _ _ is) (p, q)
+named_truth operators.Cgt count a b def p q is = rw (← def_same _ _ is) (q, p)
+named_truth operators.CgtUn count a b def p q is = rw (← def_same _ _ is) (q, p)
+named_truth operators.Clt count a b def p q is = rw (← def_same _ _ is) (p, q)
+named_truth operators.CltUn count a b def p q is = rw (← def_same _ _ is) (p, q)
+named_truth operators.Add count a b def p q is = absurd cc
+named_truth operators.Sub count a b def p q is = absurd cc
+named_truth operators.Mul count a b def p q is = absurd cc
+named_truth operators.Div count a b def p q is = absurd cc
+named_truth operators.DivUn count a b def p q is = absurd cc
+named_truth operators.Rem count a b def p q is = absurd cc
+named_truth operators.RemUn count a b def p q is = absurd cc
+named_truth operators.And count a b def p q is = absurd cc
+named_truth operators.Or count a b def p q is = absurd cc
+named_truth operators.Xor count a b def p q is = absurd cc
+named_truth operators.Shl count a b def p q is = absurd cc
+named_truth operators.Shr count a b def p q is = absurd cc
+named_truth operators.ShrUn count a b def p q is = absurd cc
+named_truth operators.AddOvf count a b def p q is = absurd cc
+named_truth operators.MulOvf count a b def p q is = absurd cc
+named_truth operators.SubOvf count a b def p q is = absurd cc
+
+related_by : (o : Option Def) (later : ℕ → ℤ) (is_null : ℕ → Bool) (t : ℕ) (n : ℤ) → later t ≡ n
+    → ((def : Def) → o ≡ Some def → n ≡ said.told is_below later is_null def) → AllByRecursion (IsRelated later is_null t) (defined_by o)
+related_by None later is_null t n is so = tt
+related_by (Some def) later is_null t n is so = (is ∙ so def refl, tt)
+
+pushed_keeps : (op : BinOp) (cmp : CmpOp) (o : Option Bool) (facts : Facts) (number : ℕ → ℤ) (is_null : ℕ → Bool) (a b : Expr) → comparison_of op ≡ Some cmp
+    → Holds facts number is_null → AreNamed facts → Given facts number a b → Tells o (compares cmp (worth number a) (worth number b))
+    → HoldsWith facts (pushed op facts a b o).facts number is_null (pushed op facts a b o).expr (truth (compares cmp (worth number a) (worth number b)))
+pushed_keeps op cmp None facts number is_null a b is holds named given tells =
+    let so = compares cmp (worth number a) (worth number b) in
+    let t = length facts.ranges + 1 in
+    let later = with_number number t (truth so) in
+    noted_holds facts number is_null (between (pos 0) (pos 1)) (defined_by (truth_of op a b)) (truth so) holds named (truth_allowed so)
+    (related_by (truth_of op a b) later is_null t (truth so) (new_number number t (truth so))
+    (λ def told.
+    truth_told op cmp number is_null a b is given.one given.two def told
+    ∙ sym (same_told number later is_null (length facts.ranges) def (named_truth op (length facts.ranges) a b def given.first given.second told)
+    (as_before number (length facts.ranges) (truth so)))))
+pushed_keeps op cmp (Some so) facts number is_null a b is holds named given tells = record {
+  later = number;
+  agrees = λ s there. refl;
+  holds = holds;
+  is = zero_worth number (truth so) _ (zero_number facts number holds.allowed) (ap truth tells);
+}
+
+operated_is : (op : BinOp) (cmp : CmpOp) (m n : ℤ) → comparison_of op ≡ Some cmp → operated op m n ≡ Ok (truth (compares cmp m n))
+operated_is operators.Ceq cmp m n is = rw (← some_same _ _ is) refl
+operated_is operators.Cgt cmp m n is = rw (← some_same _ _ is) refl
+operated_is operators.CgtUn cmp m n is = rw (← some_same _ _ is) refl
+operated_is operators.Clt cmp m n is = rw (← some_same _ _ is) refl
+operated_is operators.CltUn cmp m n is = rw (← some_same _ _ is) refl
+operated_is operators.Add cmp m n is = absurd cc
+operated_is operators.Sub cmp m n is = absurd cc
+operated_is operators.Mul cmp m n is = absurd cc
+operated_is operators.Div cmp m n is = absurd cc
+operated_is operators.DivUn cmp m n is = absurd cc
+operated_is operators.Rem cmp m n is = absurd cc
+operated_is operators.RemUn cmp m n is = absurd cc
+operated_is operators.And cmp m n is = absurd cc
+operated_is operators.Or cmp m n is = absurd cc
+operated_is operators.Xor cmp m n is = absurd cc
+operated_is operators.Shl cmp m n is = absurd cc
+operated_is operators.Shr cmp m n is = absurd cc
+operated_is operators.ShrUn cmp m n is = absurd cc
+operated_is operators.AddOvf cmp m n is = absurd cc
+operated_is operators.MulOvf cmp m n is = absurd cc
+operated_is operators.SubOvf cmp m n is = absurd cc
+
+constants_keep : (r : Result ℤ FaultKind) (n : ℤ) (facts : Facts) (made : Made) (number : ℕ → ℤ) (is_null : ℕ → Bool) → r ≡ Ok n → Holds facts number is_null
+    → HoldsWith facts (compared_or (result_ok r) facts made).facts number is_null (compared_or (result_ok r) facts made).expr n
+constants_keep r n facts made number is_null is holds = rw is (record {
+  later = number;
+  agrees = λ s there. refl;
+  holds = holds;
+  is = zero_worth number n n (zero_number facts number holds.allowed) refl;
+})
+
+-- what a comparison pushes is worth its truth
+compared_keeps : (op : BinOp) (facts : Facts) (a b : Expr) → IsNamed facts a → IsNamed facts b → KeepsTruth op a b facts (compared op facts a b).expr (compared op facts a b).facts
+unfolding compared
+compared_keeps op facts a b first second = λ number is_null cmp named is holds one two.
+    let so = truth (compares cmp (worth number a) (worth number b)) in
+    let made = pushed op facts a b (known op facts a b) in
+    let given : Given facts number a b = record { allowed = holds.allowed; first = first; second = second; one = one; two = two } in
+    cond_both (is_constant a && is_constant b) _ _ (λ o. HoldsWith facts (compared_or o facts made).facts number is_null (compared_or o facts made).expr so)
+    (λ e.
+    let parts = and_parts (is_constant a) (is_constant b) e in
+    let m = constant_worth facts number a holds.allowed (and_parts (a.sym == 0) _ parts.0).0 in
+    let n = constant_worth facts number b holds.allowed (and_parts (b.sym == 0) _ parts.1).0 in
+    rw (m, n) (constants_keep (operated op a.k b.k) (truth (compares cmp a.k b.k)) facts made number is_null (operated_is op cmp a.k b.k is) holds))
+    (λ e. pushed_keeps op cmp (known op facts a b) facts number is_null a b is holds named given (known_tells op cmp facts number a b is given))
+
+pub truth_where_ok : {E : Type 0} (op : BinOp) (before : Facts) (a b : Expr) (result : Result Expr E) (after : Facts) → IsNamed before a → IsNamed before b
+    → IfOk result (λ e. e ≡ (compared op before a b).expr) → OnOk result (after ≡ (compared op before a b).facts)
+    → IfOk result (λ e. KeepsTruth op a b before e after)
+truth_where_ok op before a b (Ok e) after first second value facts = rw (value, facts) (compared_keeps op before a b first second)
+truth_where_ok op before a b (Err e) after first second value facts = value

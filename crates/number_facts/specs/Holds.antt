@@ -1,5 +1,5 @@
 -- What is known is so, and what it means that a rule makes a number of which more is known.
-use Rattle.std.specs.Prelude.{◌≡◌, ℕ, ◌+◌, ◌≤◌, ℤ, pos, ◌+ℤ◌, ◌≤ℤ◌, Bool, ◌&&◌, ◌||◌, int_lt, length, List, FitsSigned, Option, Some, if◌then◌else◌}
+use Rattle.std.specs.Prelude.{◌≡◌, ◌≢◌, ℕ, ◌+◌, ◌≤◌, ℤ, pos, ◌+ℤ◌, ◌≤ℤ◌, Bool, ◌&&◌, ◌||◌, int_lt, length, List, FitsSigned, Option, Some, None, if◌then◌else◌}
 use Rattle.std.specs.Int.{w32}
 use Rattle.std.specs.List.{AllByRecursion}
 use Rattle.domain_api.specs.declared.expr.Expr.{Expr}
@@ -65,6 +65,17 @@ pub record HoldsWith (before after : Facts) (number : ℕ → ℤ) (is_null : �
 -- What a comparison pushes is worth its truth, where both expressions are worth int32.
 abbrev pub KeepsTruth : BinOp → Expr → Expr → Facts → Expr → Facts → Type 0
 KeepsTruth op a b before e after =
-    (number : ℕ → ℤ) (is_null : ℕ → Bool) (cmp : CmpOp) → comparison_of op ≡ Some cmp → Holds before number is_null
+    (number : ℕ → ℤ) (is_null : ℕ → Bool) (cmp : CmpOp) → AreNamed before → comparison_of op ≡ Some cmp → Holds before number is_null
     → FitsSigned w32 (worth number a) → FitsSigned w32 (worth number b)
     → HoldsWith before after number is_null e (truth (compares cmp (worth number a) (worth number b)))
+
+-- An expression is made, and it is worth n.
+abbrev pub YieldsSome : Facts → Facts → (ℕ → ℤ) → (ℕ → Bool) → Option Expr → ℤ → Type 0
+YieldsSome before after number is_null None n = ⊥
+YieldsSome before after number is_null (Some e) n = HoldsWith before after number is_null e n
+
+-- A new number from lo to hi but for the hole may be each int32 that is one.
+abbrev pub KeepsFresh : ℤ → ℤ → Option ℤ → Facts → Option Expr → Facts → Type 0
+KeepsFresh lo hi hole before made after =
+    (number : ℕ → ℤ) (is_null : ℕ → Bool) (n : ℤ) → AreNamed before → Holds before number is_null → FitsSigned w32 n → lo ≤ℤ n → n ≤ℤ hi
+    → hole ≢ Some n → YieldsSome before after number is_null made n
