@@ -1,12 +1,13 @@
 //! What is known where a comparison is assumed to hold, or not to hold.
 
-ghost use Rattle.std.specs.Prelude.{◌≡◌, ◌≤◌, ◌≤ℤ◌, ◌+ℤ◌, ◌-ℤ◌, pos, true, length, IfOk, Some};
+ghost use Rattle.std.specs.Prelude.{◌≡◌, ◌≤◌, ◌≤ℤ◌, ◌+ℤ◌, ◌-ℤ◌, pos, true, length, IfOk, Some, if◌then◌else◌};
 ghost use Rattle.std.specs.Option.{is_some};
 ghost use Rattle.number_spans.specs.Sizes.{IsBounded, IsWide};
 ghost use Rattle.number_facts.specs.Sizes.{IsFar};
 ghost use Rattle.number_facts.specs.Ends.{range_of};
 ghost use Rattle.number_facts.specs.Facts.{IsNamed};
 ghost use Rattle.number_facts.specs.Gaps.{at_most};
+ghost use Rattle.number_facts.specs.Keeps.{KeepsCompared};
 ghost use Rattle.number_facts.specs.Assume as rule;
 
 use crate::numbers::Numbers;
@@ -31,6 +32,13 @@ fn contrary(op: CmpOp) -> CmpOp
         CmpOp::LeUn => CmpOp::GtUn,
         CmpOp::LtUn => CmpOp::GeUn,
     }
+}
+
+/// The comparison that is assumed where one holds, or does not hold.
+fn assumed(op: CmpOp, holds: bool) -> CmpOp
+    ensures { result ≡ (if holds then op else rule.contrary op) }
+{
+    if holds { op } else { contrary(op) }
 }
 
 /// Returns what is left of 1.
@@ -305,14 +313,15 @@ impl Numbers {
     /// # Errors
     ///
     /// Want of memory. The symbols are then as many as before.
-    #[tactic(auto, unfolding(crate::specs::Assume::assumed))]
+    #[tactic(auto, using(crate::proofs::Keeping::assumed_keeps), unfolding(crate::specs::Assume::assumed))]
     pub fn assume_cmp(&mut self, op: CmpOp, a: Expr, b: Expr, holds: bool) -> Result<bool, NoMemory>
         requires first { IsNamed self.old a }
         requires second { IsNamed self.old b }
         ensures reached { IfOk result (λ r. r ≡ is_some (rule.assumed op self.old a b holds)) }
         ensures facts { IfOk result (λ r. r ≡ true → rule.assumed op self.old a b holds ≡ Some self.new) }
+        ensures keeps { IfOk result (λ r. KeepsCompared op a b holds self.old r self.new) }
         ensures count { length self.new.ranges ≡ length self.old.ranges }
     {
-        self.assume_holding(if holds { op } else { contrary(op) }, a, b)
+        self.assume_holding(assumed(op, holds), a, b)
     }
 }

@@ -6,6 +6,7 @@ ghost use Rattle.number_facts.specs.Comparisons.{apart, equal_known, less_known,
 ghost use Rattle.number_facts.specs.Comparisons.{compared, defined_by, known, pushed, truth_of};
 ghost use Rattle.number_facts.specs.Fresh.{noted};
 ghost use Rattle.number_facts.specs.Facts.{IsNamed};
+ghost use Rattle.number_facts.specs.Holds.{KeepsTruth};
 
 use crate::numbers::Numbers;
 use cil_model::BinOp;
@@ -126,17 +127,9 @@ impl Numbers {
         }
     }
 
-    /// Returns what a comparison pushes: 1 where it is known to be true and 0 where it is known to be false, else a
-    /// new symbol that is one of the two and has the comparison as its definition. Each operator that is none is taken
-    /// for one of which nothing is known.
-    ///
-    /// # Errors
-    ///
-    /// Want of memory leaves what was known.
+    /// What a comparison pushes, as its rule says.
     #[tactic(auto, unfolding(crate::specs::Comparisons::compared))]
-    pub fn compare(&mut self, op: BinOp, a: Expr, b: Expr) -> Result<Expr, NoMemory>
-        requires first { IsNamed self.old a }
-        requires second { IsNamed self.old b }
+    fn compared(&mut self, op: BinOp, a: Expr, b: Expr) -> Result<Expr, NoMemory>
         ensures value { IfOk result (λ e. e ≡ (compared op self.old a b).expr) }
         ensures facts { OnOk result (self.new ≡ (compared op self.old a b).facts) }
         ensures err { OnErr result (self.new ≡ self.old) }
@@ -145,5 +138,23 @@ impl Numbers {
             Some(only) => Ok(constant(i64::from(only))),
             None => self.pushed(op, a, b),
         }
+    }
+
+    /// Returns what a comparison pushes: 1 where it is known to be true and 0 where it is known to be false, else a
+    /// new symbol that is one of the two and has the comparison as its definition. Each operator that is none is taken
+    /// for one of which nothing is known.
+    ///
+    /// # Errors
+    ///
+    /// Want of memory leaves what was known.
+    pub fn compare(&mut self, op: BinOp, a: Expr, b: Expr) -> Result<Expr, NoMemory>
+        requires first { IsNamed self.old a }
+        requires second { IsNamed self.old b }
+        ensures value { IfOk result (λ e. e ≡ (compared op self.old a b).expr) }
+        ensures facts { OnOk result (self.new ≡ (compared op self.old a b).facts) }
+        ensures keeps { IfOk result (λ e. KeepsTruth op a b self.old e self.new) }
+        ensures err { OnErr result (self.new ≡ self.old) }
+    {
+        self.compared(op, a, b)
     }
 }

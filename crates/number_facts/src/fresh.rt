@@ -3,6 +3,7 @@
 ghost use Rattle.std.specs.Prelude.{◌≡◌, ◌+◌, length, IfOk, OnOk, OnErr, [], ◌∷◌};
 ghost use Rattle.std.specs.Option.{option_map};
 ghost use Rattle.number_facts.specs.Fresh.{bounded, expr_made, facts_made, fresh, noted};
+ghost use Rattle.number_facts.specs.Holds.{KeepsFresh};
 ghost use Rattle.number_facts.specs.declared.relation.Relation.TheVariants.{Is};
 
 use crate::numbers::Numbers;
@@ -77,6 +78,21 @@ impl Numbers {
         }
     }
 
+    /// A number from `lo` to `hi` but for the hole, as its rule says.
+    #[tactic(auto, unfolding(crate::specs::Fresh::fresh))]
+    fn fresh_number(
+        &mut self,
+        lo: i64,
+        hi: i64,
+        hole: Option<i64>,
+    ) -> Result<Option<Expr>, NoMemory>
+        ensures value { IfOk result (λ e. e ≡ expr_made (fresh self.old lo hi hole [])) }
+        ensures facts { OnOk result (self.new ≡ facts_made self.old (fresh self.old lo hi hole [])) }
+        ensures err { OnErr result (self.new ≡ self.old) }
+    {
+        self.noted_some(range_without(lo.max(-2_147_483_648), hi.min(2_147_483_647), hole))
+    }
+
     /// A number from `lo` to `hi` but for the hole, which is an int32: the constant where there is one alone, else a
     /// new symbol. A hole that is an end moves it, and one outside counts for nothing. None exactly where there is no
     /// such number.
@@ -84,12 +100,12 @@ impl Numbers {
     /// # Errors
     ///
     /// Want of memory leaves what was known.
-    #[tactic(auto, unfolding(crate::specs::Fresh::fresh))]
     pub fn fresh(&mut self, lo: i64, hi: i64, hole: Option<i64>) -> Result<Option<Expr>, NoMemory>
         ensures value { IfOk result (λ e. e ≡ expr_made (fresh self.old lo hi hole [])) }
         ensures facts { OnOk result (self.new ≡ facts_made self.old (fresh self.old lo hi hole [])) }
+        ensures keeps { IfOk result (λ e. KeepsFresh lo hi hole self.old e self.new) }
         ensures err { OnErr result (self.new ≡ self.old) }
     {
-        self.noted_some(range_without(lo.max(-2_147_483_648), hi.min(2_147_483_647), hole))
+        self.fresh_number(lo, hi, hole)
     }
 }

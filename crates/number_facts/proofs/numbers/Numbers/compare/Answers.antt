@@ -1,0 +1,7 @@
+use Rattle.number_facts.proofs.Truths.{truth_where_ok}
+use Rattle.number_facts.proofs.numbers.Numbers.compare.Goals as goal
+
+pub returns-clause-keeps : goal.returns-clause-keeps
+returns-clause-keeps c =
+    truth_where_ok c.args.op c.args.self.now c.args.a c.args.b c.compared.result c.compared.new.self c.requires.first c.requires.second c.compared.ensures.value
+    c.compared.ensures.facts

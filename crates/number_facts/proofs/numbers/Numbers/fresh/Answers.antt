@@ -1,0 +1,10 @@
+use Rattle.std.proofs.Common.{w64}
+use Rattle.std.proofs.lemmas.Int.{to_z-of_z}
+use Rattle.number_facts.proofs.NewSymbols.{fresh_where_ok}
+use Rattle.number_facts.proofs.numbers.Numbers.fresh.Goals as goal
+
+pub returns-clause-keeps : goal.returns-clause-keeps
+returns-clause-keeps c =
+    fresh_where_ok c.args.self.now c.args.lo c.args.hi c.args.hole c.fresh_number.result c.fresh_number.new.self
+    (rw (to_z-of_z w64 c.args.lo c.ranges.lo, to_z-of_z w64 c.args.hi c.ranges.hi) at c.fresh_number.ensures.value)
+    (rw (to_z-of_z w64 c.args.lo c.ranges.lo, to_z-of_z w64 c.args.hi c.ranges.hi) at c.fresh_number.ensures.facts)
