@@ -1,0 +1,13 @@
+pub mod PartLemmas
+pub mod SectionLemmas
+pub mod NumberLemmas
+pub mod HeaderLemmas
+pub mod ImageLemmas
+pub mod TextLemmas
+pub mod RootLemmas
+pub mod PlanLemmas
+pub mod CountLemmas
+pub mod WidthLemmas
+pub mod RowLemmas
+pub mod TableLemmas
+pub mod MetadataLemmas

@@ -1,0 +1,58 @@
+-- Numbers that were written one after another, and each of them read.
+use Rattle.std.proofs.Common.{◌≡◌, ℕ, ◌+◌, ◌-◌, ◌^◌, ◌<◌, ◌≤◌, List, [], ◌∷◌, ◌++◌, length, take, drop, refl, sym, ap, ◌∙◌, append_assoc, arith}
+use Rattle.std.specs.List.{flat_map, sum_by}
+use Rattle.std.proofs.lemmas.List.{length-replicate, length-append}
+use Rattle.std.proofs.lemmas.List.Sums.{sum_by-cons}
+use Rattle.std.proofs.lemmas.List.Concat.{flat_map-append}
+use Rattle.asm_writer.specs.declared.number.Number.{Number}
+use Rattle.asm_writer.specs.declared.number.Number.TheVariants.{Zeros, Two, Four, Eight}
+use Rattle.asm_writer.specs.Numbers.{number_bytes, number_width, numbers_bytes, numbers_width}
+use Rattle.asm_writer.specs.declared.field.Field.{Field}
+use Rattle.asm_writer.specs.declared.layout.Layout.{Layout}
+use Rattle.asm_writer.specs.Layout.{field_number, fields_bytes}
+use Rattle.asm_writer.specs.Sizes.{field_width, row_width}
+use Rattle.cc_base.specs.LittleEndian.{u16_at, u32_at, u64_at}
+use Rattle.written_assemblies.specs.Parts.{Stands}
+use Rattle.written_assemblies.proofs.PartLemmas.{stands_within, stands_u16, stands_u32, stands_u64}
+
+length_number : (number : Number) → length (number_bytes number) ≡ number_width number
+length_number (Zeros count) = length-replicate {A = ℕ} count 0
+length_number (Two n) = refl
+length_number (Four n) = refl
+length_number (Eight n) = refl
+
+pub length_numbers : (numbers : List Number) → length (numbers_bytes numbers) ≡ numbers_width numbers
+unfolding numbers_bytes numbers_width
+length_numbers [] = refl
+length_numbers (n ∷ ns) = length-append (number_bytes n) (numbers_bytes ns) ∙ rw (length_number n, length_numbers ns) (sym (sum_by-cons number_width n ns))
+
+pub length_row : (l : Layout) (fields : List Field) → length (fields_bytes l fields) ≡ row_width l fields
+unfolding fields_bytes row_width
+length_row l [] = refl
+length_row l (f ∷ fs) = length-append (number_bytes (field_number l f)) (fields_bytes l fs) ∙ rw (length_number (field_number l f), length_row l fs) (sym (sum_by-cons (field_width l) f fs))
+
+-- One of the numbers stands after those before it.
+number_in : (before : List Number) (n : Number) (after : List Number) → Stands (number_bytes n) (numbers_bytes (before ++ n ∷ after)) (numbers_width before)
+unfolding numbers_bytes
+number_in before n after = record {
+  front = numbers_bytes before;
+  rest = numbers_bytes after;
+  parts = flat_map-append number_bytes before (n ∷ after);
+  begins = length_numbers before;
+}
+
+pub number_stands : (before : List Number) (n : Number) (after : List Number) (bytes : List ℕ) (at : ℕ)
+    → Stands (numbers_bytes (before ++ n ∷ after)) bytes at → Stands (number_bytes n) bytes (at + numbers_width before)
+number_stands before n after bytes at s = stands_within _ _ _ _ _ (number_in before n after) s
+
+pub two_is : (before : List Number) (n : ℕ) (after : List Number) (bytes : List ℕ) (at : ℕ) → n < 2 ^ 16
+    → Stands (numbers_bytes (before ++ Two n ∷ after)) bytes at → u16_at bytes (at + numbers_width before) ≡ n
+two_is before n after bytes at few s = stands_u16 n bytes _ few (number_stands before (Two n) after bytes at s)
+
+pub four_is : (before : List Number) (n : ℕ) (after : List Number) (bytes : List ℕ) (at : ℕ) → n < 2 ^ 32
+    → Stands (numbers_bytes (before ++ Four n ∷ after)) bytes at → u32_at bytes (at + numbers_width before) ≡ n
+four_is before n after bytes at few s = stands_u32 n bytes _ few (number_stands before (Four n) after bytes at s)
+
+pub eight_is : (before : List Number) (n : ℕ) (after : List Number) (bytes : List ℕ) (at : ℕ) → n < 2 ^ 64
+    → Stands (numbers_bytes (before ++ Eight n ∷ after)) bytes at → u64_at bytes (at + numbers_width before) ≡ n
+eight_is before n after bytes at few s = stands_u64 n bytes _ few (number_stands before (Eight n) after bytes at s)

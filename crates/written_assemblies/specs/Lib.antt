@@ -1,0 +1,5 @@
+pub mod Parts
+pub mod Texts
+pub mod Written
+pub mod Counts
+pub mod Columns

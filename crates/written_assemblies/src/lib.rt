@@ -1,0 +1,6 @@
+//! Assemblies that were written, as they are read back.
+#![tactic(auto)]
+
+mod image;
+
+pub use image::written_image;
