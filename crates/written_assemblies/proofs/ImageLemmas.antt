@@ -17,7 +17,8 @@ use Rattle.asm_writer.specs.Numbers.{numbers_bytes, numbers_width}
 use Rattle.asm_writer.specs.Padding.{fill, padded}
 use Rattle.written_assemblies.specs.Parts.{Stands}
 use Rattle.written_assemblies.proofs.PartLemmas.{stands_behind, stands_first, stands_second, stands_at, stands_reach, stands_slice}
-use Rattle.written_assemblies.proofs.NumberLemmas.{length_numbers, four_is}
+use Rattle.asm_writer.proofs.Lengths.{length_numbers}
+use Rattle.written_assemblies.proofs.NumberLemmas.{four_is}
 use Rattle.written_assemblies.proofs.SectionLemmas.{place_there}
 use Rattle.written_assemblies.proofs.HeaderLemmas.{length_headers, headers_pass, cli_rva_is, only_section}
 

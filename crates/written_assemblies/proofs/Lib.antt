@@ -5,9 +5,16 @@ pub mod HeaderLemmas
 pub mod ImageLemmas
 pub mod TextLemmas
 pub mod RootLemmas
-pub mod PlanLemmas
 pub mod CountLemmas
 pub mod WidthLemmas
 pub mod RowLemmas
 pub mod TableLemmas
 pub mod MetadataLemmas
+pub mod HeapLemmas
+pub mod CellLemmas
+pub mod LayoutLemmas
+pub mod BlobLemmas
+pub mod MethodLemmas
+pub mod ReadLemmas
+pub mod PlanLemmas
+pub mod WholeLemmas

@@ -29,7 +29,7 @@ use Rattle.asm_writer.specs.Tables.{all_tables, table_number}
 use Rattle.written_assemblies.specs.Counts.{counts_of}
 use Rattle.written_assemblies.specs.Parts.{Stands}
 use Rattle.written_assemblies.proofs.PartLemmas.{stands_first, stands_second, stands_at, stands_within, stands_reach}
-use Rattle.written_assemblies.proofs.NumberLemmas.{length_numbers}
+use Rattle.asm_writer.proofs.Lengths.{length_numbers}
 use Rattle.written_assemblies.proofs.RootLemmas.{laid, stands_tables, tables_at_is, tables_end_is, streams_pass}
 use Rattle.written_assemblies.proofs.CountLemmas.{valid_by, counts_by, count_bytes_are, heap_sizes_is, valid_is, bits_pass, row_counts_are}
 use Rattle.written_assemblies.proofs.RowLemmas.{are_rows, width_of, rows_have_width}

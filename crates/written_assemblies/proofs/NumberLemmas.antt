@@ -11,25 +11,10 @@ use Rattle.asm_writer.specs.declared.field.Field.{Field}
 use Rattle.asm_writer.specs.declared.layout.Layout.{Layout}
 use Rattle.asm_writer.specs.Layout.{field_number, fields_bytes}
 use Rattle.asm_writer.specs.Sizes.{field_width, row_width}
+use Rattle.asm_writer.proofs.Lengths.{length_numbers}
 use Rattle.cc_base.specs.LittleEndian.{u16_at, u32_at, u64_at}
 use Rattle.written_assemblies.specs.Parts.{Stands}
 use Rattle.written_assemblies.proofs.PartLemmas.{stands_within, stands_u16, stands_u32, stands_u64}
-
-length_number : (number : Number) → length (number_bytes number) ≡ number_width number
-length_number (Zeros count) = length-replicate {A = ℕ} count 0
-length_number (Two n) = refl
-length_number (Four n) = refl
-length_number (Eight n) = refl
-
-pub length_numbers : (numbers : List Number) → length (numbers_bytes numbers) ≡ numbers_width numbers
-unfolding numbers_bytes numbers_width
-length_numbers [] = refl
-length_numbers (n ∷ ns) = length-append (number_bytes n) (numbers_bytes ns) ∙ rw (length_number n, length_numbers ns) (sym (sum_by-cons number_width n ns))
-
-pub length_row : (l : Layout) (fields : List Field) → length (fields_bytes l fields) ≡ row_width l fields
-unfolding fields_bytes row_width
-length_row l [] = refl
-length_row l (f ∷ fs) = length-append (number_bytes (field_number l f)) (fields_bytes l fs) ∙ rw (length_number (field_number l f), length_row l fs) (sym (sum_by-cons (field_width l) f fs))
 
 -- One of the numbers stands after those before it.
 number_in : (before : List Number) (n : Number) (after : List Number) → Stands (number_bytes n) (numbers_bytes (before ++ n ∷ after)) (numbers_width before)

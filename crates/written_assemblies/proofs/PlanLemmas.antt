@@ -28,18 +28,18 @@ and_first true b both = refl
 and_first false b both = both
 
 -- A file that fits is short.
-few_bytes : (plan : AsmPlan) → IsTrue (fits plan) → file_size plan ≤ MAX_FILE_BYTES
+pub few_bytes : (plan : AsmPlan) → IsTrue (fits plan) → file_size plan ≤ MAX_FILE_BYTES
 unfolding fits
 few_bytes plan fit = leb-true (file_size plan) MAX_FILE_BYTES (and_first _ _ fit)
 
-few_in_file : (plan : AsmPlan) → IsTrue (fits plan) → length (assembly_bytes plan) < 2 ^ 31
+pub few_in_file : (plan : AsmPlan) → IsTrue (fits plan) → length (assembly_bytes plan) < 2 ^ 31
 few_in_file plan fit = let size = length_assembly plan in let few = few_bytes plan fit in omega (arith, size, few)
 
 pub is_short : (plan : AsmPlan) (bytes : List ℕ) → IsTrue (fits plan) → bytes ≡ assembly_bytes plan → IsShort bytes
 is_short plan bytes fit is = let few = few_in_file plan fit in rw is (omega (arith, few))
 
 -- The metadata is the root and the streams after it.
-metadata_laid : (plan : AsmPlan) → written_metadata plan ≡ laid (tables_stream (layout_of plan) plan.methods.items) (layout_of plan)
+pub metadata_laid : (plan : AsmPlan) → written_metadata plan ≡ laid (tables_stream (layout_of plan) plan.methods.items) (layout_of plan)
 unfolding written_metadata parts.metadata root_size
 metadata_laid plan = rw (written.length_root 0 (tables_stream (layout_of plan) plan.methods.items) (layout_of plan)) refl
 
@@ -48,7 +48,7 @@ some_metadata plan =
     let size = length_laid (tables_stream (layout_of plan) plan.methods.items) (layout_of plan) in
     rw (metadata_laid plan) (omega (arith, size))
 
-file_is : (plan : AsmPlan) → assembly_bytes plan ≡ file_of plan.wide (layout_of plan).bodies.bytes (written_metadata plan)
+pub file_is : (plan : AsmPlan) → assembly_bytes plan ≡ file_of plan.wide (layout_of plan).bodies.bytes (written_metadata plan)
 unfolding assembly_bytes written_metadata
 file_is plan = refl
 
@@ -64,7 +64,7 @@ plan_metadata plan bytes fit is =
     ap metadata (is ∙ file_is plan)
     ∙ metadata_is plan.wide (layout_of plan).bodies.bytes (written_metadata plan) (subst (λ (b : List ℕ). length b < 2 ^ 31) (file_is plan) few) (some_metadata plan)
 
-few_in_metadata : (plan : AsmPlan) → IsTrue (fits plan) → length (laid (tables_stream (layout_of plan) plan.methods.items) (layout_of plan)) < 2 ^ 32
+pub few_in_metadata : (plan : AsmPlan) → IsTrue (fits plan) → length (laid (tables_stream (layout_of plan) plan.methods.items) (layout_of plan)) < 2 ^ 31
 few_in_metadata plan fit =
     let few = few_in_file plan fit in
     let end = stands_reach _ _ _ (stands_metadata plan.wide (layout_of plan).bodies.bytes (written_metadata plan)) in
@@ -73,12 +73,12 @@ few_in_metadata plan fit =
     omega (arith, few, end, same, laid_out)
 
 pub plan_streams : (plan : AsmPlan) → IsTrue (fits plan) → first_of (streams_tests (written_metadata plan)) ≡ None
-plan_streams plan fit = rw (metadata_laid plan) (streams_pass (tables_stream (layout_of plan) plan.methods.items) (layout_of plan) (few_in_metadata plan fit))
+plan_streams plan fit = let few = few_in_metadata plan fit in rw (metadata_laid plan) (streams_pass (tables_stream (layout_of plan) plan.methods.items) (layout_of plan) (omega (arith, few)))
 
 pub plan_strings : (plan : AsmPlan) → IsTrue (fits plan) → heap (written_metadata plan) (codes "#Strings") ≡ written_strings plan
 unfolding written_strings
-plan_strings plan fit = rw (metadata_laid plan) (strings_heap_is (tables_stream (layout_of plan) plan.methods.items) (layout_of plan) (few_in_metadata plan fit))
+plan_strings plan fit = let few = few_in_metadata plan fit in rw (metadata_laid plan) (strings_heap_is (tables_stream (layout_of plan) plan.methods.items) (layout_of plan) (omega (arith, few)))
 
 pub plan_blobs : (plan : AsmPlan) → IsTrue (fits plan) → heap (written_metadata plan) (codes "#Blob") ≡ written_blobs plan
 unfolding written_blobs
-plan_blobs plan fit = rw (metadata_laid plan) (blob_heap_is (tables_stream (layout_of plan) plan.methods.items) (layout_of plan) (few_in_metadata plan fit))
+plan_blobs plan fit = let few = few_in_metadata plan fit in rw (metadata_laid plan) (blob_heap_is (tables_stream (layout_of plan) plan.methods.items) (layout_of plan) (omega (arith, few)))

@@ -28,7 +28,7 @@ use Rattle.written_assemblies.specs.Columns.{column_of}
 use Rattle.written_assemblies.specs.Counts.{counts_of}
 use Rattle.written_assemblies.specs.Parts.{Stands}
 use Rattle.written_assemblies.proofs.PartLemmas.{stands_first, stands_second, stands_at, stands_within, stands_whole}
-use Rattle.written_assemblies.proofs.NumberLemmas.{length_row}
+use Rattle.asm_writer.proofs.Lengths.{length_fields}
 use Rattle.written_assemblies.proofs.WidthLemmas.{widths_are}
 
 -- ---- rows have the columns of their table
@@ -96,7 +96,7 @@ pub rows_have_width : (l : Layout) (table : Table) (rows : List (List Field)) �
 unfolding rows_bytes
 rows_have_width l table [] are = zero_times (width_of l table)
 rows_have_width l table (row ∷ rows) are =
-    let one : length (fields_bytes l row) ≡ width_of l table = length_row l row ∙ row_has_width l table row are.0 in
+    let one : length (fields_bytes l row) ≡ width_of l table = length_fields l row ∙ row_has_width l table row are.0 in
     let rest = rows_have_width l table rows are.1 in
     length-append (fields_bytes l row) (rows_bytes l rows) ∙ rw (one, rest) (suc_times (length rows) (width_of l table))
 
@@ -110,5 +110,5 @@ row_stands l table (first ∷ rows) zero row d are within is =
 row_stands l table (first ∷ rows) (suc i) row d are within is =
     let rest = row_stands l table rows i row d are.1 (omega arith) is in
     let here = stands_second (fields_bytes l first) (rows_bytes l rows) (rows_bytes l (first ∷ rows)) 0 (stands_whole _) in
-    let one : length (fields_bytes l first) ≡ width_of l table = length_row l first ∙ row_has_width l table first are.0 in
+    let one : length (fields_bytes l first) ≡ width_of l table = length_fields l first ∙ row_has_width l table first are.0 in
     stands_at _ _ _ _ (next (length (fields_bytes l first)) (width_of l table) i one) (stands_within _ _ _ _ _ rest here)

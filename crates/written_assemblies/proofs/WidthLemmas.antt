@@ -88,11 +88,11 @@ blobs_bit false false = refl
 -- ---- columns
 
 -- A field of a column has its width.
-abbrev HasWidth : Layout → Field → Option Column → Type 0
+abbrev pub HasWidth : Layout → Field → Option Column → Type 0
 HasWidth l field None = Unit {0}
 HasWidth l field (Some column) = field_width l field ≡ width (counts_of l.methods l.locals) (written.heap_sizes l) column
 
-has_width : (l : Layout) (field : Field) → HasWidth l field (column_of field)
+pub has_width : (l : Layout) (field : Field) → HasWidth l field (column_of field)
 unfolding width
 has_width l (fields.Plain (Zeros n)) = tt
 has_width l (fields.Plain (Two n)) = refl

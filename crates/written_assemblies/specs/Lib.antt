@@ -3,3 +3,5 @@ pub mod Texts
 pub mod Written
 pub mod Counts
 pub mod Columns
+pub mod Readable
+pub mod Methods
