@@ -1,11 +1,10 @@
 -- Blobs and signatures that were written, as they are read.
-use Rattle.std.proofs.Common.{◌≡◌, ◌⊎◌, ℕ, zero, suc, ◌+◌, ◌*◌, ◌-◌, ◌/◌, ◌%◌, ◌^◌, ◌<◌, ◌≤◌, List, [], ◌∷◌, ◌++◌, length, take, drop, Bool, true, false, not, Option, Some, None, Result, Ok, Err, refl, sym, ap, ap₂, subst, ◌∙◌, append_assoc, arith, inl, inr}
-use Rattle.std.specs.Prelude.{option_map, nat_le, nat_lt, if◌then◌else◌}
+use Rattle.std.proofs.Common.{◌≡◌, ℕ, ◌+◌, ◌*◌, ◌/◌, ◌%◌, ◌^◌, ◌<◌, ◌≤◌, List, [], ◌∷◌, ◌++◌, length, take, drop, Bool, true, false, not, Some, Ok, refl, sym, ap, ap₂, ◌∙◌, append_assoc, arith, inl, inr}
+use Rattle.std.specs.Prelude.{option_map, nat_lt, if◌then◌else◌}
 use Rattle.std.specs.List.{flat_map}
 use Rattle.std.proofs.lemmas.Bool.{cases_lt, lt-ltb, le-ltb, le-leb}
 use Rattle.std.proofs.lemmas.List.{append-nil, length-append, drop_at, take_at}
 use Rattle.byteorder.specs.Endian.{big_bytes}
-use Rattle.cc_base.specs.Compressed as read
 use Rattle.cc_base.specs.Compressed.{SpellsNumber}
 use Rattle.cc_base.specs.declared.compressed.Compressed.{Compressed}
 use Rattle.cc_base.proofs.CompressedLemmas.{compressed_only}
@@ -15,8 +14,6 @@ use Rattle.metadata_tables.specs.Heaps.{whole_length, item_of}
 use Rattle.signature_blobs.specs.Signatures.{method_signature, local_signature}
 use Rattle.signature_blobs.specs.Spelling as spelling
 use Rattle.signature_blobs.specs.Spelling.{Begins, AreValues, SpellsMethod, SpellsTypes, SpellsCount, SpellsLocals, SpellsList, has_this, is_generic}
-use Rattle.signature_blobs.specs.declared.method.MethodSig.{MethodSig}
-use Rattle.signature_blobs.specs.declared.method.Signature.{Signature}
 use Rattle.signature_blobs.specs.declared.method.SigTypes.TheVariants.{Known}
 use Rattle.signature_blobs.specs.declared.local.LocalSig.TheVariants as locals
 use Rattle.signature_blobs.proofs.SignatureLaws.{method_read, local_read}

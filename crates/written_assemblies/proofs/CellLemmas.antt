@@ -1,31 +1,26 @@
 -- The cells that were written, as they are read.
-use Rattle.std.proofs.Common.{◌≡◌, ℕ, zero, suc, ◌+◌, ◌*◌, ◌-◌, ◌^◌, ◌<◌, ◌≤◌, List, [], ◌∷◌, ◌++◌, length, map, take, Bool, true, false, Option, Some, None, refl, sym, ap, ap₂, subst, ◌∙◌, arith, nat_le}
+use Rattle.std.proofs.Common.{◌≡◌, ℕ, ◌+◌, ◌*◌, ◌-◌, ◌^◌, ◌<◌, ◌≤◌, List, ◌∷◌, ◌++◌, length, map, take, Bool, true, false, Option, Some, refl, sym, subst, ◌∙◌, arith, nat_le}
 use Rattle.std.specs.Prelude.{◌==◌, if◌then◌else◌, slice_index_or}
-use Rattle.std.specs.List.{flat_map}
-use Rattle.std.proofs.lemmas.List.{length-append}
 use Rattle.std.proofs.lemmas.List.Concat.{flat_map-append}
 use Rattle.cc_base.specs.LittleEndian.{u16_at, u32_at}
 use Rattle.metadata_tables.specs.declared.schema.Column.{Column}
 use Rattle.metadata_tables.specs.declared.schema.Column.TheVariants as columns
-use Rattle.metadata_tables.specs.Layout.{row_counts, heap_sizes, row_width as read_width, base, column_offset, column_width, cell_at, cell}
+use Rattle.metadata_tables.specs.Layout.{row_width as read_width, base, column_offset, column_width, cell_at, cell}
 use Rattle.metadata_tables.specs.Schema.{columns_of, width, total_width}
 use Rattle.asm_writer.specs.declared.field.Field.{Field}
 use Rattle.asm_writer.specs.declared.layout.Layout.{Layout}
 use Rattle.asm_writer.specs.declared.number.Number.{Number}
 use Rattle.asm_writer.specs.declared.number.Number.TheVariants.{Zeros, Two, Four, Eight}
 use Rattle.asm_writer.specs.declared.plan.MethodPlan.{MethodPlan}
-use Rattle.asm_writer.specs.declared.table.Table.{Table}
-use Rattle.asm_writer.specs.Layout.{index, field_number, field_bytes, fields_bytes, rows_bytes}
+use Rattle.asm_writer.specs.Layout.{index, field_number, field_bytes, fields_bytes}
 use Rattle.asm_writer.specs.Numbers.{number_bytes, number_width}
-use Rattle.asm_writer.specs.Rows.{table_rows}
 use Rattle.asm_writer.specs.Sizes.{row_width}
 use Rattle.asm_writer.specs.Stream as written
 use Rattle.asm_writer.specs.Stream.{table_bytes}
-use Rattle.asm_writer.specs.Tables.{table_number}
 use Rattle.written_assemblies.specs.Columns.{column_of}
 use Rattle.written_assemblies.specs.Counts.{counts_of}
 use Rattle.written_assemblies.specs.Parts.{Stands}
-use Rattle.written_assemblies.proofs.PartLemmas.{stands_at, stands_within, stands_u16, stands_u32}
+use Rattle.written_assemblies.proofs.PartLemmas.{stands_within, stands_u16, stands_u32}
 use Rattle.asm_writer.proofs.Lengths.{length_fields}
 use Rattle.written_assemblies.proofs.WidthLemmas.{HasWidth, has_width, widths_are}
 use Rattle.written_assemblies.proofs.MetadataLemmas.{md_of, IsSound, counts_are, sizes_are}

@@ -1,12 +1,11 @@
 -- The row counts that were written, as they are read.
-use Rattle.std.proofs.Common.{◌≡◌, ℕ, zero, suc, ◌+◌, ◌*◌, ◌-◌, ◌^◌, ◌%◌, ◌<◌, ◌≤◌, List, [], ◌∷◌, ◌++◌, length, drop, map, Bool, true, false, None, refl, sym, ap, ap₂, ◌∙◌, arith, slice_index, get_or-drop}
+use Rattle.std.proofs.Common.{◌≡◌, ℕ, zero, suc, ◌+◌, ◌*◌, ◌^◌, ◌%◌, ◌<◌, List, [], ◌∷◌, ◌++◌, length, map, Bool, true, false, None, refl, sym, ap, ap₂, ◌∙◌, arith, slice_index, get_or-drop}
 use Rattle.std.specs.Prelude.{◌==◌, if◌then◌else◌}
 use Rattle.std.specs.List.{flat_map, sum_by, range_with_len, AllByRecursion}
 use Rattle.std.specs.Int.{bit_at}
 use Rattle.std.proofs.lemmas.List.Concat.{flat_map-append}
-use Rattle.cc_base.specs.LittleEndian.{little_bytes, u32_at, u64_at}
+use Rattle.cc_base.specs.LittleEndian.{little_bytes, u32_at}
 use Rattle.cc_base.specs.Tests.{first_of}
-use Rattle.cc_base.proofs.ByteLemmas.{length-little_bytes}
 use Rattle.metadata_tables.specs.Layout.{tables_at, heap_sizes, valid, counts_at, present_below, stored_count, row_counts}
 use Rattle.metadata_tables.specs.Schema.{columns_of}
 use Rattle.metadata_tables.specs.TableTests.{bit_test, bits_tests}
@@ -15,7 +14,7 @@ use Rattle.asm_writer.specs.declared.number.Number.{Number}
 use Rattle.asm_writer.specs.declared.number.Number.TheVariants.{Zeros, Two, Four, Eight}
 use Rattle.asm_writer.specs.declared.table.Table.{Table}
 use Rattle.asm_writer.specs.declared.table.Table.TheVariants as tables
-use Rattle.asm_writer.specs.Layout.{is_wide_heap, row_count}
+use Rattle.asm_writer.specs.Layout.{is_wide_heap}
 use Rattle.asm_writer.specs.Numbers.{numbers_bytes, numbers_width}
 use Rattle.asm_writer.specs.Rows.{fixed_rows}
 use Rattle.asm_writer.specs.Stream as written
@@ -23,7 +22,7 @@ use Rattle.asm_writer.specs.Stream.{stream_numbers, count_numbers, count_bytes}
 use Rattle.asm_writer.specs.Tables.{all_tables, table_number}
 use Rattle.written_assemblies.specs.Counts.{count_of, counts_of}
 use Rattle.written_assemblies.specs.Parts.{Stands}
-use Rattle.written_assemblies.proofs.PartLemmas.{stands_first, stands_second, stands_at, stands_drop, stands_u32}
+use Rattle.written_assemblies.proofs.PartLemmas.{stands_first, stands_second, stands_drop, stands_u32}
 use Rattle.written_assemblies.proofs.NumberLemmas.{number_stands, eight_is}
 
 -- ---- HeapSizes

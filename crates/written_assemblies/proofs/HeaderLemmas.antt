@@ -1,5 +1,5 @@
 -- The written headers, as they are read.
-use Rattle.std.proofs.Common.{◌≡◌, ℕ, ◌+◌, ◌-◌, ◌^◌, ◌<◌, ◌≤◌, List, [], ◌∷◌, ◌++◌, length, drop, Bool, true, false, None, refl, sym, ap, ◌∙◌, arith, nat_le}
+use Rattle.std.proofs.Common.{◌≡◌, ℕ, ◌+◌, ◌^◌, ◌<◌, ◌≤◌, List, ◌++◌, length, drop, Bool, true, false, None, refl, arith, nat_le}
 use Rattle.std.proofs.lemmas.Bool.{le-leb, leb-true}
 use Rattle.std.proofs.lemmas.List.{length-append}
 use Rattle.cc_base.specs.LittleEndian.{u16_at, u32_at}
@@ -34,18 +34,118 @@ pub headers_pass : (wide : Bool) (size : ℕ) (section : List ℕ) → first_of 
 unfolding header_tests signature_tests file_header_tests optional_tests sections_tests section_tests signature_at file_header_at section_count optional_size optional_at magic directories_offset cli_directory_at cli_rva sections_at section_at u16_at u32_at headers section_header padded round_up numbers_bytes numbers_width
 headers_pass true size section =
     let f = fits true size section in
-    (none_failed (header_tests (headers true size ++ section))).1
-    (f 0 2 refl, (refl, (f 60 4 refl, (f 128 4 refl, (refl,
-    (f 132 2 refl, (f 134 2 refl, (f 136 4 refl, (f 140 4 refl, (f 144 4 refl, (f 148 2 refl, (f 150 2 refl,
-    (f 152 2 refl, (refl, (refl, (f 376 4 refl, (f 380 4 refl, (refl,
-    (f 392 8 refl, (f 400 4 refl, (f 404 4 refl, (f 408 4 refl, (f 412 4 refl, tt)))))))))))))))))))))))
+    (none_failed (header_tests (headers true size ++ section))).1 (
+      f 0 2 refl,
+      (
+        refl,
+        (
+          f 60 4 refl,
+          (
+            f 128 4 refl,
+            (
+              refl,
+              (
+                f 132 2 refl,
+                (
+                  f 134 2 refl,
+                  (
+                    f 136 4 refl,
+                    (
+                      f 140 4 refl,
+                      (
+                        f 144 4 refl,
+                        (
+                          f 148 2 refl,
+                          (
+                            f 150 2 refl,
+                            (
+                              f 152 2 refl,
+                              (
+                                refl,
+                                (
+                                  refl,
+                                  (
+                                    f 376 4 refl,
+                                    (
+                                      f 380 4 refl,
+                                      (
+                                        refl,
+                                        (f 392 8 refl, (f 400 4 refl, (f 404 4 refl, (f 408 4 refl, (f 412 4 refl, tt))))),
+                                      ),
+                                    ),
+                                  ),
+                                ),
+                              ),
+                            ),
+                          ),
+                        ),
+                      ),
+                    ),
+                  ),
+                ),
+              ),
+            ),
+          ),
+        ),
+      ),
+    )
 headers_pass false size section =
     let f = fits false size section in
-    (none_failed (header_tests (headers false size ++ section))).1
-    (f 0 2 refl, (refl, (f 60 4 refl, (f 128 4 refl, (refl,
-    (f 132 2 refl, (f 134 2 refl, (f 136 4 refl, (f 140 4 refl, (f 144 4 refl, (f 148 2 refl, (f 150 2 refl,
-    (f 152 2 refl, (refl, (refl, (f 360 4 refl, (f 364 4 refl, (refl,
-    (f 376 8 refl, (f 384 4 refl, (f 388 4 refl, (f 392 4 refl, (f 396 4 refl, tt)))))))))))))))))))))))
+    (none_failed (header_tests (headers false size ++ section))).1 (
+      f 0 2 refl,
+      (
+        refl,
+        (
+          f 60 4 refl,
+          (
+            f 128 4 refl,
+            (
+              refl,
+              (
+                f 132 2 refl,
+                (
+                  f 134 2 refl,
+                  (
+                    f 136 4 refl,
+                    (
+                      f 140 4 refl,
+                      (
+                        f 144 4 refl,
+                        (
+                          f 148 2 refl,
+                          (
+                            f 150 2 refl,
+                            (
+                              f 152 2 refl,
+                              (
+                                refl,
+                                (
+                                  refl,
+                                  (
+                                    f 360 4 refl,
+                                    (
+                                      f 364 4 refl,
+                                      (
+                                        refl,
+                                        (f 376 8 refl, (f 384 4 refl, (f 388 4 refl, (f 392 4 refl, (f 396 4 refl, tt))))),
+                                      ),
+                                    ),
+                                  ),
+                                ),
+                              ),
+                            ),
+                          ),
+                        ),
+                      ),
+                    ),
+                  ),
+                ),
+              ),
+            ),
+          ),
+        ),
+      ),
+    )
 
 -- Where the CLI header stands in memory.
 pub cli_rva_is : (wide : Bool) (size : ℕ) (section : List ℕ) → cli_rva (headers wide size ++ section) ≡ 0x2000

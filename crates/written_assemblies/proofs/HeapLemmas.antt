@@ -1,5 +1,5 @@
 -- Items that were packed, each at the offset that is kept of it.
-use Rattle.std.proofs.Common.{◌≡◌, ℕ, zero, suc, ◌+◌, ◌-◌, ◌<◌, ◌≤◌, List, [], ◌∷◌, ◌++◌, length, get_or, refl, sym, ap, ap₂, subst, ◌∙◌, append_assoc, arith, slice_index}
+use Rattle.std.proofs.Common.{◌≡◌, ℕ, zero, suc, ◌+◌, ◌<◌, List, [], ◌∷◌, ◌++◌, length, get_or, sym, ap, ◌∙◌, append_assoc, arith, slice_index}
 use Rattle.std.specs.List.{flat_map}
 use Rattle.std.proofs.lemmas.List.{append-nil, length-append, get_or_at}
 use Rattle.asm_writer.specs.Packing.{Packing, pushed, pushed_all, packed, filled}
@@ -32,7 +32,7 @@ pushed_stands p [] i item d within is = absurd (omega (arith, within))
 pushed_stands p (first ∷ items) zero item d within is =
     let offsets = pushed_offsets p (first ∷ items) in
     let here : slice_index (p.offsets ++ length p.bytes ∷ starts (length p.bytes + length first) items) (length p.offsets + 0) ≡ length p.bytes =
-        get_or_at p.offsets (length p.bytes) (starts (length p.bytes + length first) items) 0 (length p.offsets + 0) (omega arith) in
+    get_or_at p.offsets (length p.bytes) (starts (length p.bytes + length first) items) 0 (length p.offsets + 0) (omega arith) in
     let at : slice_index (pushed_all p (first ∷ items)).offsets (length p.offsets + 0) ≡ length p.bytes = ap (λ (xs : List ℕ). slice_index xs (length p.offsets + 0)) offsets ∙ here in
     record {
       front = p.bytes;

@@ -1,15 +1,12 @@
 -- The written file, as its headers are read: no fault, and the metadata where it was written.
-use Rattle.std.proofs.Common.{◌≡◌, ℕ, ◌+◌, ◌-◌, ◌^◌, ◌<◌, ◌≤◌, List, [], ◌∷◌, ◌++◌, length, Bool, Option, Some, None, refl, sym, ap, ap₂, ◌∙◌, arith}
-use Rattle.std.specs.Prelude.{slice_range, unwrap_or, is_some}
+use Rattle.std.proofs.Common.{◌≡◌, ℕ, ◌+◌, ◌^◌, ◌<◌, ◌≤◌, List, [], ◌∷◌, ◌++◌, length, Bool, Option, Some, None, refl, ap, ap₂, ◌∙◌, arith}
+use Rattle.std.specs.Prelude.{slice_range, unwrap_or}
 use Rattle.std.proofs.lemmas.List.{length-append}
 use Rattle.cc_base.specs.LittleEndian.{u32_at}
-use Rattle.cc_base.specs.Tests.{first_of, must}
+use Rattle.cc_base.specs.Tests.{first_of}
 use Rattle.cc_base.proofs.TestLemmas.{first_of-append_none}
-use Rattle.pe_reader.specs.declared.fault.PeFault.{PeFault}
-use Rattle.pe_reader.specs.declared.fault.PeFault.TheVariants.{RvaOutside}
-use Rattle.pe_reader.specs.Places.{cli_rva}
 use Rattle.pe_reader.specs.Addresses.{place_of, cli_place, cli_header_at, metadata_rva, metadata_size, metadata_place, metadata_at, metadata}
-use Rattle.pe_reader.specs.Faults.{header_tests, cli_tests, pe_tests, first_pe_fault}
+use Rattle.pe_reader.specs.Faults.{cli_tests, pe_tests, first_pe_fault}
 use Rattle.asm_writer.specs.declared.number.Number.TheVariants.{Zeros, Four}
 use Rattle.asm_writer.specs.Assembly.{section}
 use Rattle.asm_writer.specs.Headers.{file_alignment, bodies_rva, cli_header, headers}
@@ -56,7 +53,7 @@ stands_bodies wide bodies md =
 pub stands_metadata : (wide : Bool) (bodies md : List ℕ) → Stands md (file_of wide bodies md) (0x200 + (72 + length bodies))
 stands_metadata wide bodies md =
     let front : length (cli_bytes bodies md ++ bodies) ≡ 72 + length bodies =
-        length-append (cli_bytes bodies md) bodies ∙ ap (λ (k : ℕ). k + length bodies) (length_cli bodies md) in
+    length-append (cli_bytes bodies md) bodies ∙ ap (λ (k : ℕ). k + length bodies) (length_cli bodies md) in
     stands_at _ _ _ _ (ap (λ (k : ℕ). 0x200 + k) front)
     (stands_second (cli_bytes bodies md ++ bodies) md _ _ (stands_filled wide bodies md))
 

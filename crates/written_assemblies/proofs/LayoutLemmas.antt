@@ -1,9 +1,8 @@
 -- The names, signatures and rows of a plan, each at its place.
-use Rattle.std.proofs.Common.{◌≡◌, ℕ, zero, suc, ◌+◌, ◌*◌, ◌-◌, ◌^◌, ◌<◌, ◌≤◌, List, [], ◌∷◌, ◌++◌, length, map, drop, get_or, Bool, true, false, Option, Some, None, refl, sym, ap, ap₂, subst, ◌∙◌, append_assoc, arith, slice_index, add-one}
+use Rattle.std.proofs.Common.{◌≡◌, ℕ, zero, suc, ◌+◌, ◌*◌, ◌<◌, List, [], ◌∷◌, length, map, get_or, refl, sym, ap, ap₂, ◌∙◌, arith, slice_index}
 use Rattle.std.specs.List.{flat_map}
 use Rattle.std.proofs.lemmas.List.{length-append, length-map, get_or_append_left, get_or-append-add, get_or-map}
 use Rattle.asm_writer.specs.declared.field.Field.{Field}
-use Rattle.asm_writer.specs.declared.layout.Layout.{Layout}
 use Rattle.asm_writer.specs.declared.plan.AsmPlan.{AsmPlan}
 use Rattle.asm_writer.specs.declared.plan.MethodPlan.{MethodPlan}
 use Rattle.asm_writer.specs.declared.name.Name.{Name}
@@ -11,9 +10,8 @@ use Rattle.asm_writer.specs.declared.table.Table.TheVariants as tables
 use Rattle.asm_writer.specs.Blobs.{cited_blobs, blob_item, blob_items, blob_heap, method_blob_items, signature_index, locals_index}
 use Rattle.asm_writer.specs.Bodies.{body, body_item, bodies, locals_row}
 use Rattle.asm_writer.specs.Each.{each_from}
-use Rattle.asm_writer.specs.Layout.{layout_of, fields_bytes}
-use Rattle.asm_writer.specs.Names.{cited_names, name_index, name_item, name_text, method_name_index, method_name_item, string_items, strings_heap, zero_ended}
-use Rattle.asm_writer.specs.Rows.{method_row, rows_of_method, table_rows}
+use Rattle.asm_writer.specs.Names.{cited_names, name_item, method_name_index, method_name_item, string_items, strings_heap}
+use Rattle.asm_writer.specs.Rows.{method_row, table_rows}
 use Rattle.asm_writer.specs.Signatures.{signature_blob, local_blob}
 use Rattle.written_assemblies.specs.Parts.{Stands}
 use Rattle.written_assemblies.proofs.HeapLemmas.{item_stands, item_in_filled}
@@ -61,8 +59,8 @@ unfolding strings_heap
 name_stands plan name i within is =
     let size = length-append (map (name_item plan) cited_names) (map method_name_item plan.methods.items) in
     let here : get_or (string_items plan) i [] ≡ name_item plan name =
-        get_or_append_left (map (name_item plan) cited_names) (map method_name_item plan.methods.items) [] i within
-        ∙ get_or-map (name_item plan) cited_names i name [] within ∙ ap (name_item plan) is in
+    get_or_append_left (map (name_item plan) cited_names) (map method_name_item plan.methods.items) [] i within
+    ∙ get_or-map (name_item plan) cited_names i name [] within ∙ ap (name_item plan) is in
     item_in_filled (string_items plan) i (name_item plan name) [] (omega (arith, size, within)) here
 
 pub method_name_stands : (plan : AsmPlan) (i : ℕ) (m : MethodPlan) → i < length plan.methods.items → get_or plan.methods.items i m ≡ m
@@ -72,8 +70,8 @@ method_name_stands plan i m within is =
     let size = length-append (map (name_item plan) cited_names) (map method_name_item plan.methods.items) in
     let names = length-map plan.methods.items method_name_item in
     let here : get_or (string_items plan) (19 + i) [] ≡ method_name_item m =
-        get_or-append-add (map (name_item plan) cited_names) (map method_name_item plan.methods.items) i []
-        ∙ get_or-map method_name_item plan.methods.items i m [] within ∙ ap method_name_item is in
+    get_or-append-add (map (name_item plan) cited_names) (map method_name_item plan.methods.items) i []
+    ∙ get_or-map method_name_item plan.methods.items i m [] within ∙ ap method_name_item is in
     item_in_filled (string_items plan) (19 + i) (method_name_item m) [] (omega (arith, size, names, within)) here
 
 -- ---- the blobs of methods
@@ -103,7 +101,7 @@ signature_stands ms i m within is =
     let size = length-append (map blob_item cited_blobs) (flat_map method_blob_items ms) in
     let twice = twice_length ms in
     let here : get_or (blob_items ms) (10 + 2 * i) [] ≡ signature_blob m =
-        get_or-append-add (map blob_item cited_blobs) (flat_map method_blob_items ms) (2 * i) [] ∙ signature_in ms i m within is in
+    get_or-append-add (map blob_item cited_blobs) (flat_map method_blob_items ms) (2 * i) [] ∙ signature_in ms i m within is in
     item_in_filled (blob_items ms) (10 + 2 * i) (signature_blob m) [] (omega (arith, size, twice, within)) here
 
 pub locals_stand : (ms : List MethodPlan) (i : ℕ) (m : MethodPlan) → i < length ms → get_or ms i m ≡ m
@@ -114,5 +112,5 @@ locals_stand ms i m within is =
     let twice = twice_length ms in
     let same : 10 + (2 * i + 1) ≡ 10 + 2 * i + 1 = omega arith in
     let here : get_or (blob_items ms) (10 + (2 * i + 1)) [] ≡ local_blob m.locals.items =
-        get_or-append-add (map blob_item cited_blobs) (flat_map method_blob_items ms) (2 * i + 1) [] ∙ locals_in ms i m within is in
+    get_or-append-add (map blob_item cited_blobs) (flat_map method_blob_items ms) (2 * i + 1) [] ∙ locals_in ms i m within is in
     item_in_filled (blob_items ms) (10 + 2 * i + 1) (local_blob m.locals.items) [] (omega (arith, size, twice, within)) (ap (λ (k : ℕ). get_or (blob_items ms) k []) (sym same) ∙ here)

@@ -1,34 +1,32 @@
 -- The written metadata has no fault, and its tables are found where they were written.
-use Rattle.std.proofs.Common.{◌≡◌, ℕ, zero, suc, ◌+◌, ◌*◌, ◌-◌, ◌^◌, ◌<◌, ◌≤◌, List, [], ◌∷◌, ◌++◌, length, map, replicate, Bool, true, false, None, refl, sym, ap, ap₂, subst, ◌∙◌, arith}
+use Rattle.std.proofs.Common.{◌≡◌, ℕ, zero, suc, ◌+◌, ◌*◌, ◌^◌, ◌<◌, ◌≤◌, List, [], ◌∷◌, ◌++◌, length, map, Bool, true, false, None, refl, sym, ap, ap₂, subst, ◌∙◌, arith}
 use Rattle.std.specs.Prelude.{◌==◌}
-use Rattle.std.specs.List.{flat_map, sum_by}
+use Rattle.std.specs.List.{flat_map}
 use Rattle.std.proofs.lemmas.List.{length-append}
 use Rattle.std.proofs.lemmas.List.Sums.{sum_by-cons}
 use Rattle.cc_base.specs.Tests.{first_of}
 use Rattle.cc_base.proofs.TestLemmas.{first_of-append_none}
 use Rattle.metadata_tables.proofs.CellLemmas.{width-least}
 use Rattle.metadata_tables.proofs.FieldLemmas.{fields-fits, fields-none, run-fits}
-use Rattle.metadata_tables.specs.declared.fault.TableFault.{TableFault}
 use Rattle.metadata_tables.specs.declared.fault.TableFault.TheVariants.{Short}
 use Rattle.metadata_tables.specs.declared.schema.Column.{Column}
 use Rattle.metadata_tables.specs.Layout.{tables_at, tables_end, heap_sizes, valid, counts_at, present_below, row_counts, rows_at, row_width as read_width, bytes_below, base}
 use Rattle.metadata_tables.specs.Schema.{columns_of, width, total_width}
-use Rattle.metadata_tables.specs.TableTests.{bits_tests, all_rows_tests, tables_tests, table_tests, first_table_fault}
+use Rattle.metadata_tables.specs.TableTests.{tables_tests, table_tests, first_table_fault}
 use Rattle.metadata_tables.specs.Tests.{fields}
 use Rattle.asm_writer.specs.declared.layout.Layout.{Layout}
 use Rattle.asm_writer.specs.declared.number.Number.TheVariants.{Four}
 use Rattle.asm_writer.specs.declared.plan.MethodPlan.{MethodPlan}
-use Rattle.asm_writer.specs.declared.table.Table.{Table}
 use Rattle.asm_writer.specs.declared.table.Table.TheVariants as tables
 use Rattle.asm_writer.specs.Numbers.{numbers_bytes, numbers_width}
 use Rattle.asm_writer.specs.Padding.{fill, padded}
 use Rattle.asm_writer.specs.Rows.{table_rows}
 use Rattle.asm_writer.specs.Stream as written
 use Rattle.asm_writer.specs.Stream.{stream_numbers, count_bytes, table_bytes, tables_stream}
-use Rattle.asm_writer.specs.Tables.{all_tables, table_number}
+use Rattle.asm_writer.specs.Tables.{all_tables}
 use Rattle.written_assemblies.specs.Counts.{counts_of}
 use Rattle.written_assemblies.specs.Parts.{Stands}
-use Rattle.written_assemblies.proofs.PartLemmas.{stands_first, stands_second, stands_at, stands_within, stands_reach}
+use Rattle.written_assemblies.proofs.PartLemmas.{stands_first, stands_second, stands_at, stands_reach}
 use Rattle.asm_writer.proofs.Lengths.{length_numbers}
 use Rattle.written_assemblies.proofs.RootLemmas.{laid, stands_tables, tables_at_is, tables_end_is, streams_pass}
 use Rattle.written_assemblies.proofs.CountLemmas.{valid_by, counts_by, count_bytes_are, heap_sizes_is, valid_is, bits_pass, row_counts_are}
@@ -181,12 +179,12 @@ tables_pass l ms s =
     let bits : ℕ = valid_by (l.methods == 0) (l.locals == 0) in
     rw (end_is l ms s, at_is l ms s, bits_are l ms s, counts_at_is l ms s, counts_are l ms s, sizes_are l ms s, rows_at_is l ms s)
     (first_of-append_none _ _ (
-        first_of-append_none _ _ (
-            first_of-append_none _ _ (
-                first_of-append_none _ _ (front_fields end 108 (omega (arith, has)))
-                ∙ bits_pass (l.methods == 0) (l.locals == 0) 116)
-            ∙ one_field end 124 8 (omega (arith, has)))
-        ∙ run-fits (present_below bits 64) end (λ at. Short at) 132 4 (omega (arith, has, counts)))
+    first_of-append_none _ _ (
+    first_of-append_none _ _ (
+    first_of-append_none _ _ (front_fields end 108 (omega (arith, has)))
+    ∙ bits_pass (l.methods == 0) (l.locals == 0) 116)
+    ∙ one_field end 124 8 (omega (arith, has)))
+    ∙ run-fits (present_below bits 64) end (λ at. Short at) 132 4 (omega (arith, has, counts)))
     ∙ all_rows_pass l ms end (132 + length (flat_map (count_bytes l) all_tables)) s.counts (omega (arith, has)))
 
 pub metadata_passes : (l : Layout) (ms : List MethodPlan) → IsSound l ms → first_table_fault (md_of l ms) ≡ None

@@ -1,41 +1,23 @@
 -- The types and methods that were written, as they are read.
-use Rattle.std.proofs.Common.{◌≡◌, ℕ, zero, suc, ◌+◌, ◌*◌, ◌-◌, ◌^◌, ◌<◌, ◌≤◌, List, [], ◌∷◌, ◌++◌, length, map, take, drop, get_or, Bool, true, false, not, Option, Some, None, Result, Ok, Err, refl, sym, ap, ap₂, subst, ◌∙◌, append_assoc, arith, slice_index, nat_le, add-one}
-use Rattle.std.specs.Prelude.{◌==◌, if◌then◌else◌, codes, unwrap_or, is_some}
-use Rattle.std.specs.List.{flat_map, range_with_len, AllByRecursion}
-use Rattle.std.proofs.lemmas.Bool.{le-leb}
-use Rattle.std.proofs.lemmas.List.{append-nil}
-use Rattle.cc_base.specs.Tests.{first_of, must}
-use Rattle.cc_base.proofs.TestLemmas.{none_failed, first_of-nil, first_of-append_none}
+use Rattle.std.proofs.Common.{◌≡◌, ℕ, ◌+◌, ◌*◌, ◌-◌, ◌^◌, ◌<◌, ◌≤◌, List, [], ◌∷◌, length, drop, get_or, Bool, true, false, Some, refl, sym, ap, ap₂, ◌∙◌, append_assoc, arith, slice_index}
+use Rattle.std.specs.List.{flat_map}
 use Rattle.metadata_tables.specs.Heaps.{string_at, blob_at, item_of}
-use Rattle.metadata_tables.specs.Layout.{row_width as read_width, row_counts, row_count, base, bytes_below, cell}
-use Rattle.metadata_tables.specs.Root.{heap, zero_ended}
+use Rattle.metadata_tables.specs.Layout.{row_width as read_width, base, bytes_below, cell}
+use Rattle.metadata_tables.specs.Root.{zero_ended}
 use Rattle.metadata_tables.specs.Schema.{columns_of}
 use Rattle.metadata_tables.specs.declared.schema.Column.TheVariants as columns
-use Rattle.asm_image.specs.Cells.{type_count, method_count, text, type_name, namespace, method_list, method_name, signature_blob, signature_at, read_signature, signature, owner_among, owner}
-use Rattle.asm_image.specs.Faults.{text_test, list_test, least_list, type_tests, types_tests, signature_fault, signature_tests, method_tests, methods_tests}
-use Rattle.asm_image.specs.Names.{qualified, owner_text, types_text, short_name, printed_name}
-use Rattle.asm_image.specs.Rows.{method_row as read_row, rows_of}
-use Rattle.asm_image.specs.declared.method_row.MethodRow.{MethodRow}
-use Rattle.signature_blobs.specs.Signatures.{method_signature}
-use Rattle.signature_blobs.specs.declared.method.MethodSig.{MethodSig}
-use Rattle.signature_blobs.specs.declared.method.SigTypes.TheVariants.{Known}
 use Rattle.asm_writer.specs.declared.field.Field.{Field}
 use Rattle.asm_writer.specs.declared.field.Field.TheVariants as fields
-use Rattle.asm_writer.specs.declared.name.Name.{Name}
-use Rattle.asm_writer.specs.declared.name.Name.TheVariants as names
-use Rattle.asm_writer.specs.declared.number.Number.TheVariants.{Two, Four}
+use Rattle.asm_writer.specs.declared.number.Number.TheVariants.{Two}
 use Rattle.asm_writer.specs.declared.plan.AsmPlan.{AsmPlan}
 use Rattle.asm_writer.specs.declared.plan.MethodPlan.{MethodPlan}
-use Rattle.asm_writer.specs.declared.table.CodedIndex.TheVariants.{TypeDefOrRef}
 use Rattle.asm_writer.specs.declared.table.Table.{Table}
 use Rattle.asm_writer.specs.declared.table.Table.TheVariants as tables
 use Rattle.asm_writer.specs.Blobs.{signature_index}
-use Rattle.asm_writer.specs.Bodies.{bodies}
-use Rattle.asm_writer.specs.Headers.{bodies_rva}
-use Rattle.asm_writer.specs.Layout.{layout_of, is_wide_heap, fields_bytes, rows_bytes}
+use Rattle.asm_writer.specs.Layout.{layout_of, is_wide_heap, fields_bytes}
 use Rattle.asm_writer.specs.Names as written_names
 use Rattle.asm_writer.specs.Names.{cited_names, name_text, method_name_index}
-use Rattle.asm_writer.specs.Rows.{type_def_rows, method_row, method_flags, table_rows, row_named, types}
+use Rattle.asm_writer.specs.Rows.{type_def_rows, method_row, method_flags, table_rows}
 use Rattle.asm_writer.specs.Signatures as signatures
 use Rattle.asm_writer.specs.Stream as written
 use Rattle.asm_writer.specs.Stream.{count_bytes, table_bytes, tables_stream}
@@ -45,13 +27,13 @@ use Rattle.written_assemblies.specs.Parts.{Stands}
 use Rattle.written_assemblies.specs.Texts.{HasNoZero}
 use Rattle.written_assemblies.proofs.PartLemmas.{stands_at, stands_within, stands_drop, stands_reach}
 use Rattle.written_assemblies.proofs.TextLemmas.{text_back}
-use Rattle.written_assemblies.proofs.RootLemmas.{strings_heap_is, blob_heap_is, stands_strings, stands_blobs, length_laid}
+use Rattle.written_assemblies.proofs.RootLemmas.{strings_heap_is, blob_heap_is, length_laid}
 use Rattle.written_assemblies.proofs.RowLemmas.{are_rows, width_of, row_stands}
 use Rattle.written_assemblies.proofs.TableLemmas.{types_stand, methods_stand}
-use Rattle.written_assemblies.proofs.MetadataLemmas.{md_of, IsSound, stands_rows, base_is, counts_are}
+use Rattle.written_assemblies.proofs.MetadataLemmas.{md_of, IsSound, stands_rows, base_is}
 use Rattle.written_assemblies.proofs.CellLemmas.{index_says, cell_is}
-use Rattle.written_assemblies.proofs.LayoutLemmas.{method_row_is, method_rows, name_stands, method_name_stands, signature_stands}
-use Rattle.written_assemblies.proofs.BlobLemmas.{blob_back, signature_back, signature_short}
+use Rattle.written_assemblies.proofs.LayoutLemmas.{method_row_is, method_rows, method_name_stands, signature_stands}
+use Rattle.written_assemblies.proofs.BlobLemmas.{blob_back, signature_short}
 
 -- The metadata of a plan.
 abbrev pub md_for : AsmPlan → List ℕ

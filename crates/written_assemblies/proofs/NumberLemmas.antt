@@ -1,16 +1,9 @@
 -- Numbers that were written one after another, and each of them read.
-use Rattle.std.proofs.Common.{◌≡◌, ℕ, ◌+◌, ◌-◌, ◌^◌, ◌<◌, ◌≤◌, List, [], ◌∷◌, ◌++◌, length, take, drop, refl, sym, ap, ◌∙◌, append_assoc, arith}
-use Rattle.std.specs.List.{flat_map, sum_by}
-use Rattle.std.proofs.lemmas.List.{length-replicate, length-append}
-use Rattle.std.proofs.lemmas.List.Sums.{sum_by-cons}
+use Rattle.std.proofs.Common.{◌≡◌, ℕ, ◌+◌, ◌^◌, ◌<◌, List, ◌∷◌, ◌++◌}
 use Rattle.std.proofs.lemmas.List.Concat.{flat_map-append}
 use Rattle.asm_writer.specs.declared.number.Number.{Number}
-use Rattle.asm_writer.specs.declared.number.Number.TheVariants.{Zeros, Two, Four, Eight}
-use Rattle.asm_writer.specs.Numbers.{number_bytes, number_width, numbers_bytes, numbers_width}
-use Rattle.asm_writer.specs.declared.field.Field.{Field}
-use Rattle.asm_writer.specs.declared.layout.Layout.{Layout}
-use Rattle.asm_writer.specs.Layout.{field_number, fields_bytes}
-use Rattle.asm_writer.specs.Sizes.{field_width, row_width}
+use Rattle.asm_writer.specs.declared.number.Number.TheVariants.{Two, Four, Eight}
+use Rattle.asm_writer.specs.Numbers.{number_bytes, numbers_bytes, numbers_width}
 use Rattle.asm_writer.proofs.Lengths.{length_numbers}
 use Rattle.cc_base.specs.LittleEndian.{u16_at, u32_at, u64_at}
 use Rattle.written_assemblies.specs.Parts.{Stands}

@@ -1,5 +1,5 @@
 -- Parts of a file: those of a part, and what is read at their offsets.
-use Rattle.std.proofs.Common.{◌≡◌, ℕ, ◌+◌, ◌-◌, ◌^◌, ◌<◌, ◌≤◌, List, [], ◌∷◌, ◌++◌, length, take, drop, refl, sym, ap, ◌∙◌, append_assoc, arith}
+use Rattle.std.proofs.Common.{◌≡◌, ℕ, ◌+◌, ◌-◌, ◌^◌, ◌<◌, ◌≤◌, List, [], ◌++◌, length, take, drop, refl, sym, ap, ◌∙◌, append_assoc, arith}
 use Rattle.std.specs.Prelude.{slice_range}
 use Rattle.std.proofs.lemmas.List.{append-nil, length-append, drop_at, take_at}
 use Rattle.cc_base.specs.LittleEndian.{little_number, little_bytes, u16_at, u32_at, u64_at}
@@ -51,7 +51,7 @@ stands_at a b i j same s = record { front = s.front; rest = s.rest; parts = s.pa
 pub stands_reach : (a b : List ℕ) (at : ℕ) → Stands a b at → at + length a ≤ length b
 stands_reach a b at s =
     let all : length b ≡ length s.front + (length a + length s.rest) =
-        ap length s.parts ∙ length-append s.front (a ++ s.rest) ∙ ap (λ (k : ℕ). length s.front + k) (length-append a s.rest) in
+    ap length s.parts ∙ length-append s.front (a ++ s.rest) ∙ ap (λ (k : ℕ). length s.front + k) (length-append a s.rest) in
     let begins = s.begins in
     omega (arith, all, begins)
 

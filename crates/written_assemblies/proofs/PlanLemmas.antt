@@ -1,8 +1,7 @@
 -- The file that is written for a plan, as it is read.
-use Rattle.std.proofs.Common.{◌≡◌, ℕ, ◌+◌, ◌^◌, ◌<◌, ◌≤◌, List, ◌++◌, length, Bool, true, false, None, refl, sym, ap, ◌∙◌, subst, arith, nat_le, ◌&&◌}
+use Rattle.std.proofs.Common.{◌≡◌, ℕ, ◌^◌, ◌<◌, ◌≤◌, List, length, Bool, true, false, None, refl, ap, ◌∙◌, subst, arith, ◌&&◌}
 use Rattle.std.specs.Prelude.{codes, IsTrue}
 use Rattle.std.proofs.lemmas.Bool.{leb-true}
-use Rattle.std.proofs.lemmas.List.{length-append}
 use Rattle.cc_base.specs.Slices.{IsShort}
 use Rattle.cc_base.specs.Tests.{first_of}
 use Rattle.cil_model.specs.Limits.{MAX_FILE_BYTES}

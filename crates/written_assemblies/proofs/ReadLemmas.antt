@@ -1,23 +1,19 @@
 -- The assembly that was written has no fault, and its methods are those of the plan.
-use Rattle.std.proofs.Common.{◌≡◌, ℕ, zero, suc, ◌+◌, ◌*◌, ◌-◌, ◌^◌, ◌<◌, ◌≤◌, List, [], ◌∷◌, ◌++◌, length, map, take, drop, get_or, Bool, true, false, not, ◌&&◌, Option, Some, None, Result, Ok, Err, refl, sym, ap, ap₂, subst, ◌∙◌, append_assoc, arith, slice_index, nat_le, add-one}
-use Rattle.std.specs.Prelude.{◌==◌, if◌then◌else◌, codes, unwrap_or, is_some}
+use Rattle.std.proofs.Common.{◌≡◌, ℕ, zero, suc, ◌+◌, ◌^◌, ◌<◌, ◌≤◌, List, [], ◌∷◌, ◌++◌, length, map, get_or, Bool, true, false, not, ◌&&◌, Option, Some, None, Ok, refl, ap, ap₂, subst, ◌∙◌, arith, slice_index}
+use Rattle.std.specs.Prelude.{codes, unwrap_or}
 use Rattle.std.specs.List.{flat_map, range_with_len, AllByRecursion, list_all}
 use Rattle.std.proofs.lemmas.Bool.{le-leb, leb-true}
-use Rattle.cc_base.specs.Escapes.{escaped}
-use Rattle.cc_base.specs.Tests.{first_of, must}
+use Rattle.cc_base.specs.Tests.{first_of}
 use Rattle.cc_base.proofs.TestLemmas.{none_failed, first_of-nil, first_of-append_none}
-use Rattle.metadata_tables.specs.Heaps.{string_at, blob_at}
-use Rattle.metadata_tables.specs.Layout.{row_counts, row_count, cell}
+use Rattle.metadata_tables.specs.Heaps.{string_at}
+use Rattle.metadata_tables.specs.Layout.{cell}
 use Rattle.metadata_tables.specs.Schema.{columns_of}
 use Rattle.metadata_tables.specs.declared.schema.Column.TheVariants as columns
-use Rattle.asm_image.specs.Cells.{type_count, method_count, text, type_name, namespace, method_list, method_name, signature_blob, signature_at, read_signature, signature, owner_among, owner}
-use Rattle.asm_image.specs.Faults.{text_test, list_test, least_list, type_tests, types_tests, signature_fault, signature_tests, method_tests, methods_tests}
-use Rattle.asm_image.specs.Names.{qualified, owner_text, types_text, short_name, printed_name}
+use Rattle.asm_image.specs.Cells.{type_count, method_count, method_list, signature_blob, signature_at, signature, owner_among, owner}
+use Rattle.asm_image.specs.Faults.{list_test, least_list, type_tests, types_tests, signature_fault, signature_tests, method_tests, methods_tests}
+use Rattle.asm_image.specs.Names.{short_name, printed_name}
 use Rattle.asm_image.specs.Rows.{method_row as read_row, rows_of}
-use Rattle.asm_image.specs.declared.method_row.MethodRow.{MethodRow}
-use Rattle.cil_model.specs.Limits.{MAX_CODE_BYTES, MAX_VARIABLES}
 use Rattle.signature_blobs.specs.Signatures.{method_signature}
-use Rattle.signature_blobs.specs.declared.method.MethodSig.{MethodSig}
 use Rattle.signature_blobs.specs.declared.method.SigTypes.TheVariants.{Known}
 use Rattle.asm_writer.specs.declared.field.Field.{Field}
 use Rattle.asm_writer.specs.declared.field.Field.TheVariants as fields
@@ -30,13 +26,11 @@ use Rattle.asm_writer.specs.declared.table.CodedIndex.TheVariants.{TypeDefOrRef}
 use Rattle.asm_writer.specs.declared.table.Table.TheVariants as tables
 use Rattle.asm_writer.specs.Bodies.{bodies}
 use Rattle.asm_writer.specs.Each.{each_from}
-use Rattle.asm_writer.specs.Headers.{bodies_rva}
 use Rattle.asm_writer.specs.Layout.{layout_of, index, is_wide_heap, is_wide_index}
 use Rattle.asm_writer.specs.Limits.{is_within}
 use Rattle.asm_writer.specs.Names.{name_text}
 use Rattle.asm_writer.specs.Numbers.{numbers_width}
-use Rattle.asm_writer.specs.Rows.{method_row, method_flags, row_named, types}
-use Rattle.asm_writer.specs.Signatures as signatures
+use Rattle.asm_writer.specs.Rows.{method_flags, row_named, types}
 use Rattle.written_assemblies.specs.Counts.{counts_of}
 use Rattle.written_assemblies.specs.Methods.{written_name, body_rva, written_method, written_methods}
 use Rattle.written_assemblies.specs.Readable.{IsReadable, IsReadableMethod}
@@ -65,9 +59,9 @@ global_name plan s =
     let here = name_stands plan names.Global 7 (omega arith) refl in
     let end = stands_reach _ _ _ here in
     let is = cell_is l plan.methods.items 2 1 (fields.Plain (Four 0) ∷ []) (fields.Strings names.Global)
-        (fields.Strings names.Empty ∷ fields.Coded TypeDefOrRef tables.TypeDef 0 ∷ fields.Row tables.Field 1 ∷ fields.Row tables.MethodDef 1 ∷ []) columns.Strings _ s refl refl refl
-        (type_row_stands plan 0 (type_row names.Global names.Empty (fields.Coded TypeDefOrRef tables.TypeDef 0)) s (omega arith) refl)
-        (index_says (is_wide_heap l.strings) _ (length l.strings.bytes) refl (omega (arith, end)) (few_strings plan s)) in
+    (fields.Strings names.Empty ∷ fields.Coded TypeDefOrRef tables.TypeDef 0 ∷ fields.Row tables.Field 1 ∷ fields.Row tables.MethodDef 1 ∷ []) columns.Strings _ s refl refl refl
+    (type_row_stands plan 0 (type_row names.Global names.Empty (fields.Coded TypeDefOrRef tables.TypeDef 0)) s (omega arith) refl)
+    (index_says (is_wide_heap l.strings) _ (length l.strings.bytes) refl (omega (arith, end)) (few_strings plan s)) in
     ap (string_at (md_for plan)) is ∙ text_read plan (codes "<Module>") _ s (refl, (refl, (refl, (refl, (refl, (refl, (refl, (refl, tt)))))))) here
 
 no_namespace : (plan : AsmPlan) → Sound plan → string_at (md_for plan) (cell (md_for plan) 2 1 2) ≡ Some []
@@ -77,9 +71,9 @@ no_namespace plan s =
     let here = name_stands plan names.Empty 0 (omega arith) refl in
     let end = stands_reach _ _ _ here in
     let is = cell_is l plan.methods.items 2 1 (fields.Plain (Four 0) ∷ fields.Strings names.Global ∷ []) (fields.Strings names.Empty)
-        (fields.Coded TypeDefOrRef tables.TypeDef 0 ∷ fields.Row tables.Field 1 ∷ fields.Row tables.MethodDef 1 ∷ []) columns.Strings _ s refl refl refl
-        (type_row_stands plan 0 (type_row names.Global names.Empty (fields.Coded TypeDefOrRef tables.TypeDef 0)) s (omega arith) refl)
-        (index_says (is_wide_heap l.strings) _ (length l.strings.bytes) refl (omega (arith, end)) (few_strings plan s)) in
+    (fields.Coded TypeDefOrRef tables.TypeDef 0 ∷ fields.Row tables.Field 1 ∷ fields.Row tables.MethodDef 1 ∷ []) columns.Strings _ s refl refl refl
+    (type_row_stands plan 0 (type_row names.Global names.Empty (fields.Coded TypeDefOrRef tables.TypeDef 0)) s (omega arith) refl)
+    (index_says (is_wide_heap l.strings) _ (length l.strings.bytes) refl (omega (arith, end)) (few_strings plan s)) in
     ap (string_at (md_for plan)) is ∙ text_read plan [] _ s tt here
 
 class_name : (plan : AsmPlan) → Sound plan → HasNoZero plan.class.items → string_at (md_for plan) (cell (md_for plan) 2 2 1) ≡ Some plan.class.items
@@ -89,9 +83,9 @@ class_name plan s no_zero =
     let here = name_stands plan names.Class 16 (omega arith) refl in
     let end = stands_reach _ _ _ here in
     let is = cell_is l plan.methods.items 2 2 (fields.Plain (Four 0) ∷ []) (fields.Strings names.Class)
-        (fields.Strings names.Namespace ∷ fields.Coded TypeDefOrRef tables.TypeRef (row_named names.Object types) ∷ fields.Row tables.Field 1 ∷ fields.Row tables.MethodDef 1 ∷ []) columns.Strings _ s refl refl refl
-        (type_row_stands plan 1 (type_row names.Class names.Namespace (fields.Coded TypeDefOrRef tables.TypeRef (row_named names.Object types))) s (omega arith) refl)
-        (index_says (is_wide_heap l.strings) _ (length l.strings.bytes) refl (omega (arith, end)) (few_strings plan s)) in
+    (fields.Strings names.Namespace ∷ fields.Coded TypeDefOrRef tables.TypeRef (row_named names.Object types) ∷ fields.Row tables.Field 1 ∷ fields.Row tables.MethodDef 1 ∷ []) columns.Strings _ s refl refl refl
+    (type_row_stands plan 1 (type_row names.Class names.Namespace (fields.Coded TypeDefOrRef tables.TypeRef (row_named names.Object types))) s (omega arith) refl)
+    (index_says (is_wide_heap l.strings) _ (length l.strings.bytes) refl (omega (arith, end)) (few_strings plan s)) in
     ap (string_at (md_for plan)) is ∙ text_read plan plan.class.items _ s no_zero here
 
 namespace_name : (plan : AsmPlan) → Sound plan → HasNoZero plan.namespace.items → string_at (md_for plan) (cell (md_for plan) 2 2 2) ≡ Some plan.namespace.items
@@ -101,9 +95,9 @@ namespace_name plan s no_zero =
     let here = name_stands plan names.Namespace 17 (omega arith) refl in
     let end = stands_reach _ _ _ here in
     let is = cell_is l plan.methods.items 2 2 (fields.Plain (Four 0) ∷ fields.Strings names.Class ∷ []) (fields.Strings names.Namespace)
-        (fields.Coded TypeDefOrRef tables.TypeRef (row_named names.Object types) ∷ fields.Row tables.Field 1 ∷ fields.Row tables.MethodDef 1 ∷ []) columns.Strings _ s refl refl refl
-        (type_row_stands plan 1 (type_row names.Class names.Namespace (fields.Coded TypeDefOrRef tables.TypeRef (row_named names.Object types))) s (omega arith) refl)
-        (index_says (is_wide_heap l.strings) _ (length l.strings.bytes) refl (omega (arith, end)) (few_strings plan s)) in
+    (fields.Coded TypeDefOrRef tables.TypeRef (row_named names.Object types) ∷ fields.Row tables.Field 1 ∷ fields.Row tables.MethodDef 1 ∷ []) columns.Strings _ s refl refl refl
+    (type_row_stands plan 1 (type_row names.Class names.Namespace (fields.Coded TypeDefOrRef tables.TypeRef (row_named names.Object types))) s (omega arith) refl)
+    (index_says (is_wide_heap l.strings) _ (length l.strings.bytes) refl (omega (arith, end)) (few_strings plan s)) in
     ap (string_at (md_for plan)) is ∙ text_read plan plan.namespace.items _ s no_zero here
 
 first_list : (plan : AsmPlan) → Sound plan → cell (md_for plan) 2 1 5 ≡ 1
@@ -141,9 +135,16 @@ unfolding types_tests type_tests
 types_pass plan base s readable =
     let md = md_for plan in
     rw (type_count_is plan s)
-    ((none_failed (flat_map (type_tests md base) (range_with_len 1 2))).1
-    (rw (global_name plan s) refl, (rw (no_namespace plan s) refl, (list_passes md base 1 1 refl (first_list plan s),
-    (rw (class_name plan s readable.class) refl, (rw (namespace_name plan s readable.namespace) refl, (list_passes md base 2 1 (first_list plan s) (second_list plan s), tt)))))))
+    ((none_failed (flat_map (type_tests md base) (range_with_len 1 2))).1 (
+      rw (global_name plan s) refl,
+      (
+        rw (no_namespace plan s) refl,
+        (
+          list_passes md base 1 1 refl (first_list plan s),
+          (rw (class_name plan s readable.class) refl, (rw (namespace_name plan s readable.namespace) refl, (list_passes md base 2 1 (first_list plan s) (second_list plan s), tt))),
+        ),
+      ),
+    ))
 
 -- ---- the methods
 
@@ -204,10 +205,13 @@ blob_is plan i m t within is =
 method_passes : (plan : AsmPlan) (base i : ℕ) (m : MethodPlan) → IsTaken plan → i < length plan.methods.items → get_or plan.methods.items i m ≡ m → first_of (method_tests (md_for plan) base (i + 1)) ≡ None
 unfolding method_tests signature_tests
 method_passes plan base i m t within is =
-    (none_failed (method_tests (md_for plan) base (i + 1))).1
-    (rw (name_read plan i m t.sound within is (readable_at plan i m t within is).name) refl,
-    (rw (signature_read plan i m t.sound within is (few_args plan i m t within is)) refl,
-    (ap (signature_fault (base + signature_at (md_for plan) (i + 1))) (blob_is plan i m t within is), tt)))
+    (none_failed (method_tests (md_for plan) base (i + 1))).1 (
+      rw (name_read plan i m t.sound within is (readable_at plan i m t within is).name) refl,
+      (
+        rw (signature_read plan i m t.sound within is (few_args plan i m t within is)) refl,
+        (ap (signature_fault (base + signature_at (md_for plan) (i + 1))) (blob_is plan i m t within is), tt),
+      ),
+    )
 
 each_passes : {F : Type 0} (tests : ℕ → List (Option F)) (from count : ℕ) → ((i : ℕ) → i < count → first_of (tests (from + i)) ≡ None) → first_of (flat_map tests (range_with_len from count)) ≡ None
 each_passes tests from zero each = first_of-nil
@@ -222,9 +226,9 @@ unfolding methods_tests
 methods_pass plan base t =
     rw (method_count_is plan t.sound)
     (each_passes (method_tests (md_for plan) base) 1 (length plan.methods.items) (λ i within.
-        let here = found plan.methods.items i within in
-        let same : 1 + i ≡ i + 1 = omega arith in
-        rw same (method_passes plan base i here.item t within here.is)))
+    let here = found plan.methods.items i within in
+    let same : 1 + i ≡ i + 1 = omega arith in
+    rw same (method_passes plan base i here.item t within here.is)))
 
 pub rows_pass : (plan : AsmPlan) (base : ℕ) → IsTaken plan → first_of (types_tests (md_for plan) base ++ methods_tests (md_for plan) base) ≡ None
 rows_pass plan base t = first_of-append_none _ _ (types_pass plan base t.sound t.readable) ∙ methods_pass plan base t
@@ -282,5 +286,5 @@ unfolding rows_of written_methods
 methods_are plan t =
     ap (λ (n : ℕ). map (read_row (md_for plan)) (range_with_len 1 n)) (method_count_is plan t.sound)
     ∙ rows_same (read_row (md_for plan)) (written_method plan) 0 plan.methods.items (λ i m within is.
-        let same : 0 + i ≡ i = omega arith in
-        rw same (row_is plan i m t within is))
+    let same : 0 + i ≡ i = omega arith in
+    rw same (row_is plan i m t within is))

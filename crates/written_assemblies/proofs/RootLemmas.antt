@@ -1,20 +1,17 @@
 -- The written root of the metadata, and the streams after it, as they are read.
-use Rattle.std.proofs.Common.{◌≡◌, ℕ, ◌+◌, ◌-◌, ◌^◌, ◌<◌, ◌≤◌, List, [], ◌∷◌, ◌++◌, length, take, drop, Bool, true, false, Option, Some, None, refl, sym, ap, ap₂, ◌∙◌, arith, nat_le}
+use Rattle.std.proofs.Common.{◌≡◌, ℕ, ◌+◌, ◌^◌, ◌<◌, ◌≤◌, List, ◌++◌, length, take, drop, true, Some, None, refl, ap, ap₂, ◌∙◌, arith, nat_le}
 use Rattle.std.specs.Prelude.{codes}
-use Rattle.std.specs.Str.{bytes_eq}
 use Rattle.std.proofs.lemmas.Bool.{le-leb, leb-true}
 use Rattle.std.proofs.lemmas.List.{length-append}
 use Rattle.cc_base.specs.LittleEndian.{little_number, little_bytes, u16_at, u32_at}
 use Rattle.cc_base.specs.Tests.{first_of, must}
 use Rattle.cc_base.proofs.ByteLemmas.{number_back}
 use Rattle.cc_base.proofs.TestLemmas.{none_failed, first_of-nil, first_of-append_none}
-use Rattle.metadata_tables.specs.declared.fault.TableFault.{TableFault}
 use Rattle.metadata_tables.specs.declared.fault.TableFault.TheVariants.{BadRoot}
 use Rattle.metadata_tables.specs.Tests.{fields}
 use Rattle.metadata_tables.specs.Layout.{start_of, end_of, tables_at, tables_end}
-use Rattle.metadata_tables.specs.Root.{zero_ended, version_width, stream_count, headers_at, root_tests, name_of, name_width, stream_of, header_tests, headers_tests, stream_among, stream, presence_of, presence_tests, streams_tests, bytes_of, heap}
+use Rattle.metadata_tables.specs.Root.{version_width, stream_count, headers_at, root_tests, name_of, name_width, stream_of, header_tests, headers_tests, stream_among, stream, presence_of, presence_tests, streams_tests, bytes_of, heap}
 use Rattle.asm_writer.specs.declared.layout.Layout.{Layout}
-use Rattle.asm_writer.specs.Metadata as written
 use Rattle.asm_writer.specs.Metadata.{user_strings, guids, padded_text, root_front, root, joined, streams}
 use Rattle.asm_writer.specs.Names as names
 use Rattle.asm_writer.specs.Numbers.{numbers_bytes}
@@ -240,5 +237,5 @@ streams_pass tables l few =
     let md = laid tables l in
     let is = count_is tables l in
     let headers : first_of (headers_tests md (stream_count md) (headers_at md)) ≡ None =
-        ap₂ (λ (n at : ℕ). first_of (headers_tests md n at)) is.0 is.1 ∙ stream_headers_pass tables l few in
+    ap₂ (λ (n at : ℕ). first_of (headers_tests md n at)) is.0 is.1 ∙ stream_headers_pass tables l few in
     first_of-append_none _ _ (first_of-append_none _ _ (root_pass tables l) ∙ headers) ∙ presence_pass tables l

@@ -1,12 +1,9 @@
 -- Where the rows that were written stand.
-use Rattle.std.proofs.Common.{◌≡◌, ℕ, zero, suc, ◌+◌, ◌*◌, ◌-◌, ◌^◌, ◌<◌, ◌≤◌, List, [], ◌∷◌, ◌++◌, length, map, take, get_or, Bool, true, false, Option, Some, None, refl, sym, ap, ap₂, subst, ◌∙◌, arith, slice_index}
-use Rattle.std.specs.Prelude.{◌==◌, if◌then◌else◌}
-use Rattle.std.specs.List.{flat_map, sum_by, range_with_len, AllByRecursion}
+use Rattle.std.proofs.Common.{◌≡◌, ℕ, zero, suc, ◌+◌, ◌*◌, ◌<◌, List, [], ◌∷◌, ◌++◌, length, map, get_or, Bool, true, false, Some, refl, subst, ◌∙◌, arith}
+use Rattle.std.specs.Prelude.{if◌then◌else◌}
+use Rattle.std.specs.List.{AllByRecursion}
 use Rattle.std.proofs.lemmas.List.{length-append}
-use Rattle.std.proofs.lemmas.List.Concat.{flat_map-append}
-use Rattle.std.proofs.lemmas.List.Sums.{sum_by-cons}
-use Rattle.metadata_tables.specs.declared.schema.Column.{Column}
-use Rattle.metadata_tables.specs.Schema.{columns_of, total_width}
+use Rattle.metadata_tables.specs.Schema.{columns_of}
 use Rattle.metadata_tables.specs.Layout.{row_width as read_width}
 use Rattle.asm_writer.specs.declared.field.Field.{Field}
 use Rattle.asm_writer.specs.declared.layout.Layout.{Layout}
@@ -18,9 +15,9 @@ use Rattle.asm_writer.specs.declared.table.Table.TheVariants as tables
 use Rattle.asm_writer.specs.declared.name.Name.TheVariants as names
 use Rattle.asm_writer.specs.Bodies.{has_locals}
 use Rattle.asm_writer.specs.Each.{each_from}
-use Rattle.asm_writer.specs.Layout.{field_bytes, fields_bytes, rows_bytes, row_count}
+use Rattle.asm_writer.specs.Layout.{fields_bytes, rows_bytes}
 use Rattle.asm_writer.specs.Rows.{types, calls, linked, instantiations, type_ref_row, member_ref_row, assembly_ref_row, method_spec_row, locals_fields, rows_of_method, table_rows}
-use Rattle.asm_writer.specs.Sizes.{row_width, rows_width}
+use Rattle.asm_writer.specs.Sizes.{row_width}
 use Rattle.asm_writer.specs.Stream as written
 use Rattle.asm_writer.specs.Stream.{table_bytes}
 use Rattle.asm_writer.specs.Tables.{table_number}

@@ -1,9 +1,8 @@
 -- What is found in a file of one section.
-use Rattle.std.proofs.Common.{◌≡◌, ℕ, ◌+◌, ◌-◌, ◌<◌, ◌≤◌, List, length, take, drop, Bool, true, Option, Some, refl, sym, ap, ◌∙◌, arith}
+use Rattle.std.proofs.Common.{◌≡◌, ℕ, ◌+◌, ◌-◌, ◌<◌, ◌≤◌, List, length, Some, ap, ◌∙◌, arith}
 use Rattle.std.specs.Option.{option_and_then}
-use Rattle.std.proofs.lemmas.Bool.{le-leb}
 use Rattle.pe_reader.specs.Places.{section_count, virtual_address, raw_size, raw_at}
-use Rattle.pe_reader.specs.Addresses.{section_contains, section_from, section_of, place_in, place_of, rest_in, rest_at}
+use Rattle.pe_reader.specs.Addresses.{section_contains, section_from, section_of, place_in, place_of}
 
 -- The one section: where it stands in memory, its size, and where in the file.
 pub record IsOnlySection (bytes : List ℕ) (address size at : ℕ) : Type 0 where

@@ -1,7 +1,7 @@
 -- Where the tables that were written stand.
-use Rattle.std.proofs.Common.{◌≡◌, ℕ, zero, suc, ◌+◌, ◌*◌, ◌-◌, ◌^◌, ◌<◌, ◌≤◌, List, [], ◌∷◌, ◌++◌, length, map, replicate, Bool, true, false, None, refl, sym, ap, ap₂, subst, ◌∙◌, arith, slice_index, add-one, zero-add}
+use Rattle.std.proofs.Common.{◌≡◌, ℕ, zero, suc, ◌+◌, ◌*◌, ◌-◌, ◌<◌, ◌≤◌, List, [], ◌∷◌, ◌++◌, length, Bool, true, false, None, refl, sym, ap, ap₂, subst, ◌∙◌, arith, slice_index, add-one, zero-add}
 use Rattle.std.specs.Prelude.{◌==◌, if◌then◌else◌}
-use Rattle.std.specs.List.{flat_map, sum_by, range_with_len, AllByRecursion}
+use Rattle.std.specs.List.{flat_map, sum_by, range_with_len}
 use Rattle.std.proofs.lemmas.List.{length-append}
 use Rattle.std.proofs.lemmas.List.Concat.{flat_map-append}
 use Rattle.std.proofs.lemmas.List.FromFn.{get_or-map-range_with_len}
@@ -9,25 +9,22 @@ use Rattle.std.proofs.lemmas.List.Sums.{sum_by-cons}
 use Rattle.cc_base.specs.Tests.{first_of}
 use Rattle.cc_base.proofs.TestLemmas.{first_of-nil, first_of-append_none}
 use Rattle.metadata_tables.proofs.FieldLemmas.{run-fits}
-use Rattle.metadata_tables.specs.declared.fault.TableFault.{TableFault}
 use Rattle.metadata_tables.specs.declared.fault.TableFault.TheVariants.{Short}
 use Rattle.metadata_tables.specs.Layout.{bytes_below, row_width as read_width}
-use Rattle.metadata_tables.specs.Schema.{columns_of}
 use Rattle.metadata_tables.specs.TableTests.{rows_tests, all_rows_tests}
 use Rattle.asm_writer.specs.declared.layout.Layout.{Layout}
 use Rattle.asm_writer.specs.declared.plan.MethodPlan.{MethodPlan}
 use Rattle.asm_writer.specs.declared.table.Table.{Table}
 use Rattle.asm_writer.specs.declared.table.Table.TheVariants as tables
-use Rattle.asm_writer.specs.Layout.{rows_bytes, row_count}
-use Rattle.asm_writer.specs.Rows.{table_rows, rows_of_method}
-use Rattle.asm_writer.specs.Each.{each_from}
+use Rattle.asm_writer.specs.Layout.{row_count}
+use Rattle.asm_writer.specs.Rows.{table_rows}
 use Rattle.asm_writer.specs.Stream as written
 use Rattle.asm_writer.specs.Stream.{table_bytes}
 use Rattle.asm_writer.specs.Tables.{all_tables, table_number}
 use Rattle.metadata_tables.proofs.LayoutLemmas.{sum_below-more}
 use Rattle.written_assemblies.specs.Counts.{count_of, count_among, counts_of}
 use Rattle.written_assemblies.specs.Parts.{Stands}
-use Rattle.written_assemblies.proofs.PartLemmas.{stands_first, stands_second, stands_at, stands_within, stands_whole}
+use Rattle.written_assemblies.proofs.PartLemmas.{stands_at}
 use Rattle.written_assemblies.proofs.WidthLemmas.{count_here}
 use Rattle.written_assemblies.proofs.RowLemmas.{are_rows, width_of, rows_have_width}
 
@@ -114,7 +111,7 @@ size_among l ms number [] c = nothing _
 size_among l ms number (t ∷ ts) c =
     either (table_number t == number) _ _ _ _ _
     (λ same. sym (size_is l ms t c)
-        ∙ ap₂ (λ (n k : ℕ). n * read_width (counts_of l.methods l.locals) (written.heap_sizes l) k) (count_here l t ∙ count_row l t) (same_number (table_number t) number same))
+    ∙ ap₂ (λ (n k : ℕ). n * read_width (counts_of l.methods l.locals) (written.heap_sizes l) k) (count_here l t ∙ count_row l t) (same_number (table_number t) number same))
     (size_among l ms number ts c)
 
 -- Two sums that agree so far, and at the next number.

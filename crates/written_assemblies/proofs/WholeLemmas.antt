@@ -1,22 +1,20 @@
 -- The whole file that is written for a plan, as the assembly that is read of it.
-use Rattle.std.proofs.Common.{◌≡◌, ℕ, ◌+◌, ◌^◌, ◌<◌, ◌≤◌, List, ◌++◌, length, map, Bool, true, false, Option, Some, None, refl, sym, ap, ◌∙◌, subst, append_assoc, arith, nat_le, ◌&&◌}
-use Rattle.std.specs.Prelude.{IsTrue, option_map}
+use Rattle.std.proofs.Common.{◌≡◌, ℕ, ◌^◌, ◌<◌, ◌≤◌, List, ◌++◌, length, Bool, true, false, None, refl, ap, ◌∙◌, append_assoc, arith, ◌&&◌}
+use Rattle.std.specs.Prelude.{IsTrue}
 use Rattle.std.specs.List.{list_all}
 use Rattle.std.proofs.lemmas.Bool.{le-leb}
-use Rattle.cc_base.specs.Tests.{first_of, must}
+use Rattle.cc_base.specs.Tests.{first_of}
 use Rattle.cc_base.proofs.TestLemmas.{first_of-append_none}
 use Rattle.cil_model.specs.Limits.{MAX_FILE_BYTES}
 use Rattle.metadata_tables.specs.TableTests.{first_table_fault}
-use Rattle.pe_reader.specs.Addresses.{metadata, metadata_at}
-use Rattle.pe_reader.specs.Faults.{first_pe_fault}
-use Rattle.asm_image.specs.Faults.{large_test, pe_fault, table_fault, types_tests, methods_tests, file_tests, tables_tests, metadata_tests, assembly_tests, FirstBroken}
+use Rattle.pe_reader.specs.Addresses.{metadata_at}
+use Rattle.asm_image.specs.Faults.{large_test, types_tests, methods_tests, file_tests, tables_tests, metadata_tests, assembly_tests, FirstBroken}
 use Rattle.asm_image.specs.Rows.{rows_of, methods_of}
-use Rattle.asm_image.specs.declared.fault.AsmFault.{AsmFault}
 use Rattle.asm_writer.specs.declared.plan.AsmPlan.{AsmPlan}
 use Rattle.asm_writer.specs.Assembly.{assembly_bytes}
 use Rattle.asm_writer.specs.Layout.{layout_of}
 use Rattle.asm_writer.specs.Limits.{is_within}
-use Rattle.asm_writer.specs.Sizes.{fits, file_size}
+use Rattle.asm_writer.specs.Sizes.{fits}
 use Rattle.asm_writer.proofs.Lengths.{length_assembly}
 use Rattle.written_assemblies.specs.Methods.{written_methods}
 use Rattle.written_assemblies.specs.Readable.{IsReadable}
@@ -24,7 +22,6 @@ use Rattle.written_assemblies.specs.Written.{written_metadata}
 use Rattle.written_assemblies.proofs.PartLemmas.{stands_reach}
 use Rattle.written_assemblies.proofs.ImageLemmas.{stands_bodies}
 use Rattle.written_assemblies.proofs.MetadataLemmas.{metadata_passes}
-use Rattle.written_assemblies.proofs.MethodLemmas.{md_for}
 use Rattle.written_assemblies.proofs.ReadLemmas.{IsTaken, rows_pass, methods_are}
 use Rattle.written_assemblies.proofs.PlanLemmas.{few_bytes, few_in_file, few_in_metadata, metadata_laid, file_is, plan_passes, plan_metadata}
 
@@ -72,7 +69,7 @@ metadata_tests_pass : (plan : AsmPlan) (base : ℕ) → IsTrue (fits plan) → I
 unfolding metadata_tests
 metadata_tests_pass plan base fit readable =
     let rows : first_of (types_tests (written_metadata plan) base ++ methods_tests (written_metadata plan) base) ≡ None =
-        ap (λ (md : List ℕ). first_of (types_tests md base ++ methods_tests md base)) (metadata_laid plan) ∙ rows_pass plan base (is_taken plan fit readable) in
+    ap (λ (md : List ℕ). first_of (types_tests md base ++ methods_tests md base)) (metadata_laid plan) ∙ rows_pass plan base (is_taken plan fit readable) in
     let front = tables_tests_pass plan base fit in
     ap first_of (append_assoc (tables_tests (written_metadata plan) base) (types_tests (written_metadata plan) base) (methods_tests (written_metadata plan) base))
     ∙ first_of-append_none _ _ front ∙ rows

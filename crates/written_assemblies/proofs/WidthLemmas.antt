@@ -1,33 +1,24 @@
 -- The columns that were written have the widths that are read.
-use Rattle.std.proofs.Common.{◌≡◌, ℕ, zero, suc, ◌+◌, ◌*◌, ◌-◌, ◌^◌, ◌<◌, ◌≤◌, List, [], ◌∷◌, ◌++◌, length, map, Bool, true, false, not, ◌&&◌, ◌||◌, Option, Some, None, refl, sym, ap, ap₂, subst, ◌∙◌, arith, slice_index, nat_le}
-use Rattle.std.specs.Prelude.{◌==◌, if◌then◌else◌, nat_lt}
-use Rattle.std.specs.List.{flat_map, sum_by, list_all, list_any}
+use Rattle.std.proofs.Common.{◌≡◌, ℕ, ◌+◌, ◌-◌, ◌^◌, List, [], ◌∷◌, map, Bool, true, false, not, Option, Some, None, refl, sym, ap, ap₂, subst, ◌∙◌, arith, slice_index, nat_le}
+use Rattle.std.specs.Prelude.{if◌then◌else◌, nat_lt}
+use Rattle.std.specs.List.{list_all, list_any}
 use Rattle.std.proofs.lemmas.List.Sums.{sum_by-cons}
-use Rattle.metadata_tables.specs.Numbers as numbers
-use Rattle.metadata_tables.specs.Schema.{columns_of, tables_of, tag_bits_of, row_index_width, heap_index_width, width, total_width}
-use Rattle.metadata_tables.specs.declared.schema.CodedIndex.{CodedIndex as ReadIndex}
-use Rattle.metadata_tables.specs.declared.schema.CodedIndex.TheVariants as read
+use Rattle.metadata_tables.specs.Schema.{row_index_width, heap_index_width, width, total_width}
 use Rattle.metadata_tables.specs.declared.schema.Column.{Column}
-use Rattle.metadata_tables.specs.declared.schema.Column.TheVariants as columns
 use Rattle.asm_writer.specs.declared.field.Field.{Field}
 use Rattle.asm_writer.specs.declared.field.Field.TheVariants as fields
 use Rattle.asm_writer.specs.declared.layout.Layout.{Layout}
-use Rattle.asm_writer.specs.declared.number.Number.{Number}
 use Rattle.asm_writer.specs.declared.number.Number.TheVariants.{Zeros, Two, Four, Eight}
-use Rattle.asm_writer.specs.declared.plan.MethodPlan.{MethodPlan}
-use Rattle.asm_writer.specs.declared.table.CodedIndex.{CodedIndex}
 use Rattle.asm_writer.specs.declared.table.CodedIndex.TheVariants as kinds
 use Rattle.asm_writer.specs.declared.table.Table.{Table}
 use Rattle.asm_writer.specs.declared.table.Table.TheVariants as tables
-use Rattle.asm_writer.specs.Layout.{row_count, index, is_wide_heap, is_wide_index, heap_index, field_number}
+use Rattle.asm_writer.specs.Layout.{row_count, index, is_wide_heap, is_wide_index}
 use Rattle.asm_writer.specs.Numbers.{number_width}
-use Rattle.asm_writer.specs.Packing.{Packing}
-use Rattle.asm_writer.specs.Rows.{fixed_rows, method_row, locals_fields}
 use Rattle.asm_writer.specs.Sizes.{field_width, row_width}
 use Rattle.asm_writer.specs.Stream as written
-use Rattle.asm_writer.specs.Tables.{table_number, coded_tables, coded_value, tag_bits}
-use Rattle.written_assemblies.specs.Counts.{count_of, counts_of}
-use Rattle.written_assemblies.specs.Columns.{index_of, column_of}
+use Rattle.asm_writer.specs.Tables.{table_number, coded_tables, coded_value}
+use Rattle.written_assemblies.specs.Counts.{counts_of}
+use Rattle.written_assemblies.specs.Columns.{column_of}
 
 -- ---- rows of tables
 

@@ -1,5 +1,5 @@
 -- The columns that fields of rows are, as they are read.
-use Rattle.std.specs.Prelude.{ℕ, Option, Some, None}
+use Rattle.std.specs.Prelude.{Option, Some, None}
 use Rattle.metadata_tables.specs.declared.schema.CodedIndex.{CodedIndex as ReadIndex}
 use Rattle.metadata_tables.specs.declared.schema.CodedIndex.TheVariants as read
 use Rattle.metadata_tables.specs.declared.schema.Column.{Column}

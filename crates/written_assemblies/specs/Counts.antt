@@ -1,6 +1,6 @@
 -- The row counts that are written, by the numbers of methods and of rows of locals.
-use Rattle.std.specs.Prelude.{ℕ, List, [], ◌∷◌, length, map, Bool, ◌==◌, if◌then◌else◌}
-use Rattle.std.specs.List.{flat_map, sum_by, range_with_len}
+use Rattle.std.specs.Prelude.{ℕ, List, [], ◌∷◌, length, map, ◌==◌, if◌then◌else◌}
+use Rattle.std.specs.List.{range_with_len}
 use Rattle.asm_writer.specs.declared.table.Table.{Table}
 use Rattle.asm_writer.specs.declared.table.Table.TheVariants as tables
 use Rattle.asm_writer.specs.Rows.{fixed_rows}

@@ -1,5 +1,5 @@
 -- The methods that are read of the file of a plan.
-use Rattle.std.specs.Prelude.{ℕ, ◌+◌, List, [], ◌∷◌, ◌++◌, Bool, false, not, codes, slice_index}
+use Rattle.std.specs.Prelude.{ℕ, ◌+◌, List, [], ◌∷◌, ◌++◌, false, not, codes, slice_index}
 use Rattle.cc_base.specs.Escapes.{escaped}
 use Rattle.cil_model.specs.Places.{parameters_text}
 use Rattle.signature_blobs.specs.declared.method.SigTypes.TheVariants.{Known}
