@@ -16,5 +16,6 @@ pub mod LayoutLemmas
 pub mod BlobLemmas
 pub mod MethodLemmas
 pub mod ReadLemmas
+pub mod LocalsLemmas
 pub mod PlanLemmas
 pub mod WholeLemmas

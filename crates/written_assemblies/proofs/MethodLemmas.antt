@@ -45,7 +45,7 @@ Sound plan = IsSound (layout_of plan) plan.methods.items
 -- ---- rows
 
 -- The row of a list index of a table.
-table_row : (plan : AsmPlan) (table : Table) (i : ℕ) (row : List Field) → Sound plan
+pub table_row : (plan : AsmPlan) (table : Table) (i : ℕ) (row : List Field) → Sound plan
     → Stands (table_bytes (layout_of plan) plan.methods.items table) (flat_map (table_bytes (layout_of plan) plan.methods.items) all_tables) (bytes_below (counts_of (layout_of plan).methods (layout_of plan).locals) (written.heap_sizes (layout_of plan)) (table_number table))
     → i < length (table_rows plan.methods.items table) → get_or (table_rows plan.methods.items table) i [] ≡ row
     → Stands (fields_bytes (layout_of plan) row) (md_for plan) (base (md_for plan) (table_number table) + (i + 1 - 1) * read_width (counts_of (layout_of plan).methods (layout_of plan).locals) (written.heap_sizes (layout_of plan)) (table_number table))

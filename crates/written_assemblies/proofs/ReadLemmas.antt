@@ -187,12 +187,13 @@ pub record IsTaken (plan : AsmPlan) : Type 0 where
   pub within : list_all is_within plan.methods.items ≡ true
   pub few : length (bodies plan.methods.items).bytes < 2 ^ 31
 
-few_args : (plan : AsmPlan) (i : ℕ) (m : MethodPlan) → IsTaken plan → i < length plan.methods.items → get_or plan.methods.items i m ≡ m → length m.args.items ≤ 128
-few_args plan i m t within is =
-    let few = few_variables m (at_index (λ n. is_within n ≡ true) plan.methods.items i m (each_within plan.methods.items t.within) within is) in
-    omega (arith, few)
+pub few_variables_at : (plan : AsmPlan) (i : ℕ) (m : MethodPlan) → IsTaken plan → i < length plan.methods.items → get_or plan.methods.items i m ≡ m → length m.args.items + length m.locals.items + m.max_stack ≤ 128
+few_variables_at plan i m t within is = few_variables m (at_index (λ n. is_within n ≡ true) plan.methods.items i m (each_within plan.methods.items t.within) within is)
 
-readable_at : (plan : AsmPlan) (i : ℕ) (m : MethodPlan) → IsTaken plan → i < length plan.methods.items → get_or plan.methods.items i m ≡ m → IsReadableMethod m
+few_args : (plan : AsmPlan) (i : ℕ) (m : MethodPlan) → IsTaken plan → i < length plan.methods.items → get_or plan.methods.items i m ≡ m → length m.args.items ≤ 128
+few_args plan i m t within is = let few = few_variables_at plan i m t within is in omega (arith, few)
+
+pub readable_at : (plan : AsmPlan) (i : ℕ) (m : MethodPlan) → IsTaken plan → i < length plan.methods.items → get_or plan.methods.items i m ≡ m → IsReadableMethod m
 readable_at plan i m t within is = at_index IsReadableMethod plan.methods.items i m t.readable.methods within is
 
 -- The signature of the method of a list index.

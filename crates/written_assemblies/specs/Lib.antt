@@ -5,3 +5,4 @@ pub mod Counts
 pub mod Columns
 pub mod Readable
 pub mod Methods
+pub mod BodiesRead
