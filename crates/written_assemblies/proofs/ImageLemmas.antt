@@ -58,10 +58,10 @@ stands_metadata wide bodies md =
     (stands_second (cli_bytes bodies md ++ bodies) md _ _ (stands_filled wide bodies md))
 
 -- The section ends with the file, and has room for the CLI header, the bodies and the metadata.
-section_end : (wide : Bool) (bodies md : List ℕ) → 0x200 + length (section bodies md) ≤ length (file_of wide bodies md)
+pub section_end : (wide : Bool) (bodies md : List ℕ) → 0x200 + length (section bodies md) ≤ length (file_of wide bodies md)
 section_end wide bodies md = stands_reach _ _ _ (stands_section wide bodies md)
 
-section_room : (bodies md : List ℕ) → 72 + length bodies + length md ≤ length (section bodies md)
+pub section_room : (bodies md : List ℕ) → 72 + length bodies + length md ≤ length (section bodies md)
 unfolding section padded
 section_room bodies md =
     let front = length-append (cli_bytes bodies md ++ bodies) md in

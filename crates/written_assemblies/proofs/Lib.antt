@@ -19,3 +19,4 @@ pub mod ReadLemmas
 pub mod LocalsLemmas
 pub mod PlanLemmas
 pub mod WholeLemmas
+pub mod BodyLemmas

@@ -138,7 +138,7 @@ sum_few (m ∷ ms) =
     let cons = sum_by-cons locals_rows m ms in
     omega (arith, one, rest, cons)
 
-few_rows : (ms : List MethodPlan) (i : ℕ) → i < length ms → locals_row ms i ≤ i + 1
+pub few_rows : (ms : List MethodPlan) (i : ℕ) → i < length ms → locals_row ms i ≤ i + 1
 few_rows ms i within =
     let size = length-take-le i ms (omega (arith, within)) in
     let sum = sum_few (take i ms) in

@@ -42,7 +42,7 @@ pub metadata_laid : (plan : AsmPlan) → written_metadata plan ≡ laid (tables_
 unfolding written_metadata parts.metadata root_size
 metadata_laid plan = rw (written.length_root 0 (tables_stream (layout_of plan) plan.methods.items) (layout_of plan)) refl
 
-some_metadata : (plan : AsmPlan) → 0 < length (written_metadata plan)
+pub some_metadata : (plan : AsmPlan) → 0 < length (written_metadata plan)
 some_metadata plan =
     let size = length_laid (tables_stream (layout_of plan) plan.methods.items) (layout_of plan) in
     rw (metadata_laid plan) (omega (arith, size))

@@ -1,11 +1,13 @@
 //! The assembly that is read of a file that was written.
 
-ghost use Rattle.std.specs.Prelude.{◌≡◌, None, IsTrue, IfOk};
+ghost use Rattle.std.specs.Prelude.{◌≡◌, ℕ, None, IsTrue, IfOk};
 ghost use Rattle.asm_image.specs.Faults.{FirstBroken};
 ghost use Rattle.asm_image.specs.Reading.{Reads};
 ghost use Rattle.asm_image.specs.Rows.{methods_of};
+ghost use Rattle.asm_writer.specs.declared.plan.MethodPlan.{MethodPlan};
 ghost use Rattle.asm_writer.specs.Assembly.{assembly_bytes};
 ghost use Rattle.asm_writer.specs.Sizes.{fits};
+ghost use Rattle.written_assemblies.specs.BodiesRead.{IsMethodAt, ReadsBody};
 ghost use Rattle.written_assemblies.specs.Methods.{written_methods};
 ghost use Rattle.written_assemblies.specs.Readable.{IsReadable};
 
@@ -32,6 +34,9 @@ pub fn read_written<'a>(
     // What is read is the file, and its methods are those of the plan, in its order.
     ensures value { IfOk result (Reads bytes.now) }
     ensures methods { methods_of bytes.now ≡ written_methods plan.now }
+    // At each one's address stands its body: stack slots, locals and code.
+    ensures bodies { (index : ℕ) (m : MethodPlan) → IsMethodAt plan.now index m →
+        ReadsBody plan.now bytes.now index m }
 {
     match Assembly::read(alloc, bytes) {
         Ok(assembly) => Ok(assembly),
