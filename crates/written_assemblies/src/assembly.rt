@@ -1,0 +1,46 @@
+//! The assembly that is read of a file that was written.
+
+ghost use Rattle.std.specs.Prelude.{◌≡◌, ℕ, None, IsTrue, IfOk};
+ghost use Rattle.asm_image.specs.Faults.{FirstBroken};
+ghost use Rattle.asm_image.specs.Reading.{Reads};
+ghost use Rattle.asm_image.specs.Rows.{methods_of};
+ghost use Rattle.asm_writer.specs.declared.plan.MethodPlan.{MethodPlan};
+ghost use Rattle.asm_writer.specs.Assembly.{assembly_bytes};
+ghost use Rattle.asm_writer.specs.Sizes.{fits};
+ghost use Rattle.written_assemblies.specs.BodiesRead.{IsMethodAt, ReadsBody};
+ghost use Rattle.written_assemblies.specs.Methods.{written_methods};
+ghost use Rattle.written_assemblies.specs.Readable.{IsReadable};
+
+use asm_image::Assembly;
+use asm_writer::AsmPlan;
+use cc_base::{NoMemory, Refusal};
+use std::alloc::{AllocError, Global};
+
+/// Reads the file that was written for a plan. It is not refused, unless memory runs out, and its methods are those
+/// of the plan.
+///
+/// Cost: that of reading the assembly.
+#[tactic(auto, using(crate::proofs::WholeLemmas::whole_passes, crate::proofs::WholeLemmas::whole_methods))]
+pub fn read_written<'a>(
+    alloc: Global,
+    plan: &AsmPlan,
+    bytes: &'a [u8],
+) -> Result<Assembly<'a>, NoMemory>
+    requires written { bytes.now ≡ assembly_bytes plan.now }
+    requires fits { IsTrue (fits plan.now) }
+    requires readable { IsReadable plan.now }
+    // The file has no fault.
+    ensures accepted { FirstBroken bytes.now ≡ None }
+    // What is read is the file, and its methods are those of the plan, in its order.
+    ensures value { IfOk result (Reads bytes.now) }
+    ensures methods { methods_of bytes.now ≡ written_methods plan.now }
+    // At each one's address stands its body: stack slots, locals and code.
+    ensures bodies { (index : ℕ) (m : MethodPlan) → IsMethodAt plan.now index m →
+        ReadsBody plan.now bytes.now index m }
+{
+    match Assembly::read(alloc, bytes) {
+        Ok(assembly) => Ok(assembly),
+        Err(Refusal::NoMemory) => Err(AllocError),
+        Err(Refusal::Bad(_)) => unreachable!(),
+    }
+}
