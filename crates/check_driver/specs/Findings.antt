@@ -19,7 +19,8 @@ abbrev pub verdicts_in : Finding → List Verdict
 verdicts_in (Judged found) = found
 verdicts_in (Unjudged reason) = []
 
--- The verdicts are those of a unit that keeps the limits. An instruction has no more obligations than a method may have clauses.
+-- The verdicts are those of a unit that keeps the limits. An instruction has no more obligations than a method may have
+-- clauses.
 pub record AreWithin (found : List Verdict) : Type 0 where
   pub near : All (λ verdict. verdict.obligation.at < MAX_CODE_BYTES) found
   pub few : length found ≤ MAX_CLAUSES * MAX_INSTRUCTIONS

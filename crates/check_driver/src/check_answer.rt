@@ -214,8 +214,8 @@ fn text_of(alloc: Global, lines: &[Vec<u8>]) -> Result<Vec<u8>, AllocError>
     Ok(text)
 }
 
-/// The report of an assembly whose file has this name, as `check` writes it. The finder is asked for an invariant of each
-/// unit that is judged, of equal units once.
+/// The report of an assembly whose file has this name, as `check` writes it. The finder is asked for an invariant of
+/// each unit that is judged, of equal units once.
 ///
 /// Cost: that of `check`, and the text once more.
 pub fn report<D: Finder>(

@@ -109,7 +109,7 @@ file_indexes (commands.Il file method) = file ∷ []
 file_indexes (commands.Check file) = file ∷ []
 file_indexes (commands.Run run) = run.file ∷ []
 
--- The indexes of those among them that name the assemblies whose reports the command makes, in the order of the reports.
+-- The indexes of those among them that name the assemblies whose reports the command makes, in the order of these.
 abbrev pub checked_indexes : Command → List ℕ
 checked_indexes (commands.Unit file) = []
 checked_indexes (commands.List file) = []
