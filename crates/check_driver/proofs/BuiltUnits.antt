@@ -8,6 +8,7 @@ use Rattle.cil_model.proofs.Rows.{code_is_decoded}
 use Rattle.cil_model.proofs.ShortCodes.{code_is_short}
 use Rattle.cil_model.specs.Blocks.{body_of}
 use Rattle.cil_model.specs.FitKinds.{HasBody}
+use Rattle.cil_model.specs.Limits.{MAX_CLAUSES}
 use Rattle.cil_model.specs.Passes.{KindsOf, Stacks}
 use Rattle.cil_model.specs.Shapes.{shape_of}
 use Rattle.cil_model.specs.UnitCalls.{unit_call}
@@ -119,7 +120,7 @@ verdicts_are (Ok found) code states flow limit judged =
 verdicts_are (Err e) code states flow limit judged = tt
 
 -- They keep the limits, as the unit does.
-pub within_limits : {E : Type 0} (r : Result (Vec Verdict Global) E) (unit : MethodUnit) → IsUnit unit → IfOk r (λ found. length found.items ≤ 2 * length unit.instrs)
+pub within_limits : {E : Type 0} (r : Result (Vec Verdict Global) E) (unit : MethodUnit) → IsUnit unit → IfOk r (λ found. length found.items ≤ MAX_CLAUSES * length unit.instrs)
     → IfOk r (λ found. All (λ verdict. verdict.obligation.at < length unit.code) found.items) → IfOk r (λ found. AreWithin found.items)
 within_limits (Ok found) unit is few inside = record {
   near = λ k v lt. omega (arith, inside k v lt, is.well_formed.limits.code);

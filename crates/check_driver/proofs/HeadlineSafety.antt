@@ -6,7 +6,7 @@ use Rattle.std.specs.Option.{option_and_then}
 use Rattle.std.proofs.lemmas.Bool.{le-leb}
 use Rattle.std.proofs.lemmas.List.{length-map}
 use Rattle.std.proofs.lemmas.List.FromFn.{length-range_with_len}
-use Rattle.std.proofs.lemmas.Option.{same_Some, slice_get-get_or}
+use Rattle.std.proofs.lemmas.Option.{none-some, same_Some, slice_get-get_or}
 use Rattle.asm_image.specs.Bodies.{method_of}
 use Rattle.asm_image.specs.Cells.{method_count}
 use Rattle.asm_image.specs.Faults.{FirstBroken}
@@ -18,7 +18,7 @@ use Rattle.cc_base.specs.Sink.{AppendsFront}
 use Rattle.cc_base.specs.Tokens.{row_of, table_of}
 use Rattle.cil_model.specs.Runs.{Safe}
 use Rattle.cil_model.specs.declared.unit.Unit.{Unit as MethodUnit}
-use Rattle.command_words.specs.Words.{command_files, command_of, file_names, word_at}
+use Rattle.command_words.specs.Words.{checked_files, command_of, file_names, word_at}
 use Rattle.command_words.specs.declared.command.Command.{Command}
 use Rattle.command_words.specs.declared.command.Command.TheVariants as commands
 use Rattle.metadata_tables.specs.Numbers.{method_def}
@@ -33,7 +33,7 @@ use Rattle.unit_builder.proofs.TokenLemmas.{token_at}
 use Rattle.check_driver.specs.CheckText.{method_line}
 use Rattle.check_driver.specs.Checked.{AsksToCheck, HasLine, IfCheck, IsHeldReportable, IsSafeMethod, PrintsMethod}
 use Rattle.check_driver.specs.Expected.{expected}
-use Rattle.check_driver.specs.Headline.{IsAssemblyOf, IsCheck, TellAllProved, WasAppended}
+use Rattle.check_driver.specs.Headline.{IsAssemblyOf, TellAllProved, WasAppended}
 use Rattle.check_driver.specs.Met.{AreUnder}
 use Rattle.check_driver.specs.Sections.{proved_line, section}
 use Rattle.check_driver.proofs.CheckedSafety.{known_of, printed_checked, something_printed}
@@ -84,19 +84,19 @@ safe_in_world bytes method whole has safe =
 
 -- Today a check has one file, so that there is no second assembly.
 asks_to_check : (words : List (List ℕ)) (held : Held) (k : ℕ) (bytes : List ℕ) → IsAssemblyOf words held k bytes → AsksToCheck words held bytes
-asks_to_check words held k bytes is = by_command (command_of words) refl is.asks is.kth
+asks_to_check words held k bytes is = by_command (command_of words) refl is.kth
   where
     only_file : (file k : ℕ) → slice_get (word_at words file ∷ []) k ≡ Some is.name → word_at words file ≡ is.name
     only_file file zero same = same_Some (word_at words file) is.name same
     only_file file (suc k) same = absurd cc
 
-    by_command : (command : Option Command) → command_of words ≡ command → IsCheck command → slice_get (command_files words command) k ≡ Some is.name → AsksToCheck words held bytes
-    by_command (Some (commands.Check file)) same asks kth = record { file = file; command = same; is_held = ap held (only_file file k kth) ∙ is.is_held }
-    by_command (Some (commands.Unit file)) same asks kth = absurd asks
-    by_command (Some (commands.List file)) same asks kth = absurd asks
-    by_command (Some (commands.Il file method)) same asks kth = absurd asks
-    by_command (Some (commands.Run run)) same asks kth = absurd asks
-    by_command None same asks kth = absurd asks
+    by_command : (command : Option Command) → command_of words ≡ command → slice_get (checked_files words command) k ≡ Some is.name → AsksToCheck words held bytes
+    by_command (Some (commands.Check file)) same kth = record { file = file; command = same; is_held = ap held (only_file file k kth) ∙ is.is_held }
+    by_command (Some (commands.Unit file)) same kth = absurd (none-some is.name kth)
+    by_command (Some (commands.List file)) same kth = absurd (none-some is.name kth)
+    by_command (Some (commands.Il file method)) same kth = absurd (none-some is.name kth)
+    by_command (Some (commands.Run run)) same kth = absurd (none-some is.name kth)
+    by_command None same kth = absurd (none-some is.name kth)
 
 -- ---- the lines
 

@@ -3,23 +3,15 @@ use Rattle.std.specs.Prelude.{◌≡◌, ℕ, List, ◌++◌, Option, Some, Cont
 use Rattle.asm_image.specs.Rows.{methods_of}
 use Rattle.asm_image.specs.declared.method_row.MethodRow.{MethodRow}
 use Rattle.cc_base.specs.Files.{Held}
-use Rattle.command_words.specs.Words.{command_of, file_names}
-use Rattle.command_words.specs.declared.command.Command.{Command}
-use Rattle.command_words.specs.declared.command.Command.TheVariants as commands
+use Rattle.command_words.specs.Words.{checked_names}
 use Rattle.unit_builder.specs.Reach.{Reaches}
 use Rattle.unit_builder.specs.Walks.{calls_of}
 use Rattle.check_driver.specs.Sections.{HasProvedLine}
 
--- The command asks for the reports of assemblies.
-abbrev pub IsCheck : Option Command → Type 0
-IsCheck (Some (commands.Check file)) = Unit {0}
-IsCheck _ = ⊥
-
 -- The words ask for the reports of assemblies, and the file of the k-th of them, counted from 0, is held with these bytes.
 pub record IsAssemblyOf (words : List (List ℕ)) (held : Held) (k : ℕ) (bytes : List ℕ) : Type 0 where
-  pub asks : IsCheck (command_of words)
   pub name : List ℕ
-  pub kth : slice_get (file_names words) k ≡ Some name
+  pub kth : slice_get (checked_names words) k ≡ Some name
   pub is_held : held name ≡ Some bytes
 
 -- This text was appended to a sink.

@@ -20,7 +20,7 @@ ghost use Rattle.unit_builder.specs.Outcomes.{IfAnalysed, IsRunnable, entries_of
 use crate::fault_text::assembly_fault_text;
 use crate::finding::Finding;
 use crate::judged_units::JudgedUnits;
-use crate::report::append_verdict_lines;
+use crate::unit_report::append_verdict_lines;
 use answer_lines::{Counts, Interrupt, answer_refused, put_lines, summary_line};
 use asm_image::{AsmRefusal, Assembly, MethodRow};
 use cc_base::{Sink, append_escaped, put_hex};
@@ -176,6 +176,61 @@ fn check_lines(
     Ok(lines)
 }
 
+/// The report of an assembly: its lines, and the status of a call that makes it.
+#[derive(Drop)]
+struct ReportLines {
+    lines: Vec<Vec<u8>>,
+    status: u8,
+}
+
+/// Makes the report of an assembly whose file has this name.
+fn report_lines<D: Finder>(
+    alloc: Global,
+    name: &[u8],
+    assembly: &Assembly<'_>,
+    finder: &mut D,
+) -> Result<ReportLines, AllocError>
+    ensures status { IfOk result (λ report. report.status ≡ (if all_methods_proved assembly.now then 0 else 1)) }
+    ensures text { IfOk result (λ report. joined report.lines.items ≡ check_text name.now assembly.now) }
+    ensures reportable { IfOk result (λ _. IsReportable assembly.now) }
+    ensures asked { Asks (units_asked assembly.now) result (D.asked finder.old) (D.asked finder.new) }
+{
+    let found = find_all(alloc, assembly, finder)?;
+    let lines = check_lines(alloc, name, assembly, &found)?;
+    Ok(ReportLines {
+        lines,
+        status: status_of(&found),
+    })
+}
+
+/// The text of lines, one after another.
+fn text_of(alloc: Global, lines: &[Vec<u8>]) -> Result<Vec<u8>, AllocError>
+    ensures { IfOk result (λ text. text.items ≡ joined lines.now) }
+{
+    let mut text = Vec::new(alloc);
+    for line in lines {
+        text.extend_from_slice(line)?;
+    }
+    Ok(text)
+}
+
+/// The report of an assembly whose file has this name, as `check` writes it. The finder is asked for an invariant of
+/// each unit that is judged, of equal units once.
+///
+/// Cost: that of `check`, and the text once more.
+pub fn report<D: Finder>(
+    alloc: Global,
+    name: &str,
+    assembly: &Assembly<'_>,
+    finder: &mut D,
+) -> Result<Vec<u8>, AllocError>
+    ensures value { IfOk result (λ text. text.items ≡ check_text name.now assembly.now) }
+    ensures asked { Asks (units_asked assembly.now) result (D.asked finder.old) (D.asked finder.new) }
+{
+    let report = report_lines(alloc, name.as_bytes(), assembly, finder)?;
+    text_of(alloc, &report.lines)
+}
+
 /// Answers for an assembly.
 fn answer_assembly<O: Sink, D: Finder>(
     alloc: Global,
@@ -189,10 +244,9 @@ fn answer_assembly<O: Sink, D: Finder>(
     ensures reportable { (O.written out.new ≡ O.written out.old) ⊎ IsReportable assembly.now }
     ensures asked { Asks (units_asked assembly.now) result (D.asked finder.old) (D.asked finder.new) }
 {
-    let found = find_all(alloc, assembly, finder)?;
-    let lines = check_lines(alloc, name, assembly, &found)?;
-    put_lines(alloc, out, &lines)?;
-    Ok(status_of(&found))
+    let report = report_lines(alloc, name, assembly, finder)?;
+    put_lines(alloc, out, &report.lines)?;
+    Ok(report.status)
 }
 
 /// Answers `check FILE` for the bytes of the file.

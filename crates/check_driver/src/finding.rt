@@ -75,7 +75,7 @@ impl Finding {
     pub fn counts(&self) -> Counts
         requires { IsWithin self.now }
         ensures counts { result ≡ counts_of (told self.now) }
-        ensures small { AreBelow 8193 result }
+        ensures small { AreBelow 65537 result }
     {
         let found = self.verdicts();
         let is_skipped = !matches!(self, Finding::Judged(_));

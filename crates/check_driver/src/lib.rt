@@ -11,10 +11,11 @@ mod list_answer;
 mod program;
 mod reading;
 mod reason_text;
-mod report;
 mod run_answer;
 mod unit_answer;
+mod unit_report;
 
 pub use answer_lines::NO_MEMORY;
+pub use check_answer::report;
 pub use command_words::{Command, RunWords, parse_words};
 pub use program::run_words;

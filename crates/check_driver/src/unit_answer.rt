@@ -16,7 +16,7 @@ ghost use Rattle.unit_form.specs.Spelling.{unit_bytes};
 
 use crate::analysis::{judge_flow, unit_flow};
 use crate::fault_text::unit_fault_text;
-use crate::report::report_lines;
+use crate::unit_report::report_lines;
 use answer_lines::{Interrupt, answer_refused, put_lines};
 use cc_base::{READ_LIMIT, Sink};
 use cil_model::{MAX_FILE_BYTES, Unit};

@@ -109,6 +109,14 @@ file_indexes (commands.Il file method) = file ∷ []
 file_indexes (commands.Check file) = file ∷ []
 file_indexes (commands.Run run) = run.file ∷ []
 
+-- The indexes of those among them that name the assemblies whose reports the command makes, in the order of these.
+abbrev pub checked_indexes : Command → List ℕ
+checked_indexes (commands.Unit file) = []
+checked_indexes (commands.List file) = []
+checked_indexes (commands.Il file method) = []
+checked_indexes (commands.Check file) = file ∷ []
+checked_indexes (commands.Run run) = []
+
 -- The indexes of all words that the command uses.
 abbrev pub used_indexes : Command → List ℕ
 used_indexes (commands.Unit file) = file ∷ []
@@ -125,6 +133,14 @@ abbrev pub command_files : List (List ℕ) → Option Command → List (List ℕ
 command_files words None = []
 command_files words (Some command) = words_at words (file_indexes command)
 
--- The names of the files of these words, in order. Words that are no command have none.
+-- The names of the files that are read for these words, in order. Words that are no command have none.
 abbrev pub file_names : List (List ℕ) → List (List ℕ)
 file_names words = command_files words (command_of words)
+
+abbrev pub checked_files : List (List ℕ) → Option Command → List (List ℕ)
+checked_files words None = []
+checked_files words (Some command) = words_at words (checked_indexes command)
+
+-- The names of the assemblies whose reports are made for these words, in order.
+abbrev pub checked_names : List (List ℕ) → List (List ℕ)
+checked_names words = checked_files words (command_of words)

@@ -5,6 +5,7 @@ use Rattle.std.proofs.lemmas.Bool.{cond_both}
 use Rattle.std.proofs.lemmas.List.{length-map}
 use Rattle.std.proofs.lemmas.List.Elements.{All-from_recursion}
 use Rattle.cil_model.specs.Code.{CodeFrom}
+use Rattle.cil_model.specs.Limits.{MAX_CLAUSES}
 use Rattle.cil_model.specs.UnitCalls.{unit_call}
 use Rattle.cil_model.specs.declared.instruction.BinOp.{BinOp}
 use Rattle.cil_model.specs.declared.instruction.BinOp.TheVariants as operators
@@ -29,7 +30,7 @@ use Rattle.invariant_checker.proofs.Covering.{each_told, obligations_told}
 
 -- ---- how many
 
-operator_few : (op : BinOp) → length (operator_faults op) ≤ 2
+operator_few : (op : BinOp) → length (operator_faults op) ≤ MAX_CLAUSES
 operator_few operators.Div = omega arith
 operator_few operators.Rem = omega arith
 operator_few operators.DivUn = omega arith
@@ -42,21 +43,21 @@ operator_few operators.MulOvf = omega arith
 operator_few operators.SubOvf = omega arith
 operator_few _ = omega arith
 
-call_few : (call : Option UnitCall) → length (call_faults call) ≤ 2
+call_few : (call : Option UnitCall) → length (call_faults call) ≤ MAX_CLAUSES
 call_few (Some (calls.Assert message)) = omega arith
 call_few _ = omega arith
 
-faults_few : (unit : MethodUnit) (op : Op) → length (faults_of unit op) ≤ 2
+faults_few : (unit : MethodUnit) (op : Op) → length (faults_of unit op) ≤ MAX_CLAUSES
 faults_few unit (ops.Bin operator) = operator_few operator
 faults_few unit (ops.Call number) = call_few (unit_call number)
 faults_few unit _ = omega arith
 
-at_few : (unit : MethodUnit) (i : Instr) → length (obligations_in unit i) ≤ 2
+at_few : (unit : MethodUnit) (i : Instr) → length (obligations_in unit i) ≤ MAX_CLAUSES
 at_few unit i =
-    cond_both (nat_le unit.body_start i.at) (obligations_at unit i) [] (λ (os : List Obligation). length os ≤ 2)
+    cond_both (nat_le unit.body_start i.at) (obligations_at unit i) [] (λ (os : List Obligation). length os ≤ MAX_CLAUSES)
     (λ e. omega (arith, length-map (faults_of unit i.op) (obligation i), faults_few unit i.op)) (λ e. omega arith)
 
-all_few : (unit : MethodUnit) (is : List Instr) → length (flat_map (obligations_in unit) is) ≤ 2 * length is
+all_few : (unit : MethodUnit) (is : List Instr) → length (flat_map (obligations_in unit) is) ≤ MAX_CLAUSES * length is
 all_few unit [] = omega arith
 all_few unit (i ∷ is) = omega (arith, length-append (obligations_in unit i) (flat_map (obligations_in unit) is), at_few unit i, all_few unit is)
 
@@ -94,8 +95,8 @@ told_below n (v ∷ found) all = (all.0, told_below n found all.1)
 -- ---- verdicts
 
 module _ (code : UnitFlow) (states : List State) (lawful : IsLawful code) where
-  -- There are no more than two for an instruction.
-  pub verdicts_few : length (verdicts code states) ≤ 2 * length code.unit.instrs
+  -- There are no more for an instruction than a method may have clauses.
+  pub verdicts_few : length (verdicts code states) ≤ MAX_CLAUSES * length code.unit.instrs
   verdicts_few =
       omega (
         arith,

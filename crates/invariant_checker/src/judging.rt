@@ -2,7 +2,7 @@
 
 ghost use Rattle.std.specs.Prelude.{◌≡◌, ◌++◌, ◌+◌, ◌*◌, ◌<◌, ◌≤◌, All, IfOk, IsTrue, OnOk, length, map};
 ghost use Rattle.std.specs.Option.{ForSome};
-ghost use Rattle.cil_model.specs.Limits.{MAX_VARIABLES};
+ghost use Rattle.cil_model.specs.Limits.{MAX_CLAUSES, MAX_VARIABLES};
 ghost use Rattle.range_states.specs.Faults.{operands_of};
 ghost use Rattle.range_obligations.specs.Obligations.{obligations_of};
 ghost use Rattle.range_rules.specs.Flow.{Fits, IsLawful};
@@ -169,7 +169,8 @@ pub fn judge(
     ensures inductive { IfOk result (λ found. All (λ verdict. IsTrue verdict.proved → IsInductive code.now invariant.now.states.items) found.items) }
     // A unit whose obligations are all proved is safe.
     ensures sound { IfOk result (λ found. IsTrue (counts.all_proved found.items) → IsSafe code.now.unit) }
-    ensures few { IfOk result (λ found. length found.items ≤ 2 * length code.now.unit.instrs) }
+    // An instruction has no more obligations than a method may have clauses.
+    ensures few { IfOk result (λ found. length found.items ≤ MAX_CLAUSES * length code.now.unit.instrs) }
     ensures inside { IfOk result (λ found. All (λ verdict. verdict.obligation.at < length code.now.unit.code) found.items) }
 {
     let found = find_verdicts(alloc, code, invariant.states.as_slice())?;

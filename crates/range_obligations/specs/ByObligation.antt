@@ -29,7 +29,7 @@ HasOperands unit o state = (i : Instr) → instr_at unit.instrs o.at ≡ Some i 
 abbrev pub RulesItOut : MethodUnit → Obligation → State → Type 0
 RulesItOut unit o state = (i : Instr) → instr_at unit.instrs o.at ≡ Some i → RulesOut unit i.op o.kind state
 
--- The new state holds of each frame of which the old one does, and in which that instruction does something else, where the
--- fault is one of its own.
+-- The new state holds of each frame of which the old one does, and in which that instruction does something else, where
+-- the fault is one of its own.
 abbrev pub AssumesIt : MethodUnit → Obligation → State → State → Type 0
 AssumesIt unit o old new = (i : Instr) → instr_at unit.instrs o.at ≡ Some i → IsAmong (faults_of unit i.op) o.kind → AssumesNo unit i.op o.kind old new

@@ -37,8 +37,8 @@ abbrev pub AreEntailedInTurn : MethodUnit → Op → List FaultKind → State �
 AreEntailedInTurn unit op [] state = Unit {0}
 AreEntailedInTurn unit op (kind ∷ kinds) state = (entailed unit op kind state ≡ true) × AreEntailedInTurn unit op kinds (avoid unit op kind state)
 
--- Where these are entailed in turn, no instruction of the unit with this operation ends in any fault, where it is not one of
--- arrays.
+-- Where these are entailed in turn, no instruction of the unit with this operation ends in any fault, where it is not one
+-- of arrays.
 abbrev pub RulesOutInTurn : MethodUnit → Op → List FaultKind → Type 0
 RulesOutInTurn unit op kinds = is_of_array op ≡ false → (state : State) → ForSome state HasForm → AreEntailedInTurn unit op kinds state
     → (kind : FaultKind) → RulesOut unit op kind state

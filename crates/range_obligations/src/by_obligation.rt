@@ -24,8 +24,8 @@ fn instr_at(instrs: &[Instr], at: u32) -> Option<&Instr>
 }
 
 /// Returns whether a state entails an obligation of the unit: that the instruction where it stands does not end in its
-/// fault. The state is to assume already those before it at the same instruction. Where no instruction stands there, none is
-/// entailed.
+/// fault. The state is to assume already those before it at the same instruction. Where no instruction stands there,
+/// none is entailed.
 ///
 /// Cost: that of finding the instruction. It takes no memory.
 pub fn entails(unit: &Unit, obligation: &Obligation, state: &AbsState) -> Result<bool, NoMemory>

@@ -84,8 +84,8 @@ fn is_ruled_out(state: &AbsState, kind: FaultKind, op: BinOp, a: Expr, b: Expr) 
     }
 }
 
-/// Returns whether the fault is ruled out at a call: what is asserted, which lies on top of the stack or below a message,
-/// is not 0.
+/// Returns whether the fault is ruled out at a call: what is asserted, which lies on top of the stack or below a
+/// message, is not 0.
 #[tactic(auto, unfolding(crate::specs::Entailed::rules_out_at_call))]
 fn is_ruled_out_at_call(state: &AbsState, call: Option<UnitCall>, kind: FaultKind) -> bool
     requires reached { IsSome state.now }

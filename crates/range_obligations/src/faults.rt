@@ -10,8 +10,8 @@ use domain_api::NoMemory;
 use range_states::faults_of;
 use std::alloc::Global;
 
-/// The faults that are to be ruled out at an instruction of the unit with this operation, in the order in which the machine
-/// tests for them.
+/// The faults that are to be ruled out at an instruction of the unit with this operation, in the order in which the
+/// machine tests for them.
 ///
 /// Cost: constant.
 pub fn faults_to_rule_out(unit: &Unit, op: &Op) -> &'static [FaultKind]

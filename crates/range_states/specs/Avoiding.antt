@@ -84,8 +84,8 @@ avoid_all unit op state = avoid_each unit op (faults_of unit op) state
 
 -- ---- what that means
 
--- The new state holds of each frame of which the old one does, and in which an instruction of the unit with this operation
--- does something else than to end in the fault.
+-- The new state holds of each frame of which the old one does, and in which an instruction of the unit with this
+-- operation does something else than to end in the fault.
 abbrev pub AssumesNo : MethodUnit → Op → FaultKind → State → State → Type 0
 AssumesNo unit op kind old new = (i : Instr) (f : Frame) (heap : Heap) (effect : Effect) → i.op ≡ op → HoldsIn old f
     → HasEffect (effects unit i f heap) effect → (effect ≡ Faults kind → ⊥) → HoldsIn new f

@@ -1,4 +1,4 @@
--- The faults in which an instruction of a unit may end, in the order in which the machine tests for them (ECMA-335 III.3).
+-- The faults in which an instruction of a unit may end, in the order in which the machine tests (ECMA-335 III.3).
 use Rattle.std.specs.Prelude.{◌≡◌, ◌⊎◌, ℕ, ◌+◌, Bool, true, false, List, [], ◌∷◌, Option, Some}
 use Rattle.cil_model.specs.UnitCalls.{unit_call}
 use Rattle.cil_model.specs.declared.instruction.BinOp.{BinOp}

@@ -28,8 +28,8 @@ fn call_faults(call: Option<UnitCall>) -> &'static [FaultKind]
     }
 }
 
-/// The faults in which an instruction of the unit with this operation may end, in the order in which the machine tests for
-/// them. Arrays and callees are not told of.
+/// The faults in which an instruction of the unit with this operation may end, in the order in which the machine tests
+/// for them. Arrays and callees are not told of.
 ///
 /// Cost: constant.
 pub fn faults_of(unit: &Unit, op: &Op) -> &'static [FaultKind]

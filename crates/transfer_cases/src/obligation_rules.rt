@@ -8,8 +8,8 @@ use range_states::AbsState;
 use rule_text::{Failure, asked, check_yes, fault, operation, variables_there};
 use std::alloc::Global;
 
-/// `entails division-by-zero div = yes`: whether a state rules out that an instruction of a method, of which nothing else is
-/// told, ends in a fault.
+/// `entails division-by-zero div = yes`: whether a state rules out that an instruction of a method, of which nothing
+/// else is told, ends in a fault.
 pub fn is_entailed(alloc: Global, state: &AbsState, argument: &str) -> Result<(), Failure> {
     let (question, told) = asked(argument)?;
     let Some((kind, op)) = question.split_once(' ') else {

@@ -7,5 +7,5 @@ use Rattle.check_driver.proofs.check_answer.count.Given as goal
 abbrev pub invariant-loop-finding : goal.invariant-loop-finding
 invariant-loop-finding l = record {
   so_far : l.counts ≡ found_counts (map told (take l.finding-index l.found));
-  below : AreBelow (8193 * l.finding-index + 1) l.counts;
+  below : AreBelow (65537 * l.finding-index + 1) l.counts;
 }

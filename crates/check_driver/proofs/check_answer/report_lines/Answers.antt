@@ -3,10 +3,10 @@ use Rattle.std.specs.List.{list_all}
 use Rattle.check_driver.specs.CheckText.{is_proved}
 use Rattle.check_driver.specs.Findings.{told}
 use Rattle.check_driver.proofs.ReportLines.{told_are_proved}
-use Rattle.check_driver.proofs.check_answer.answer_assembly.Goals as goal
+use Rattle.check_driver.proofs.check_answer.report_lines.Goals as goal
 
 pub returns-clause-status : goal.returns-clause-status
 returns-clause-status g c =
     let status : Bool → ℕ = λ proved. if proved then 0 else 1 in
-    c.status_of.ensures ∙ ap (λ found. status (list_all (λ one. is_proved (told one)) found)) c.deref-3.ensures.value
+    c.status_of.ensures ∙ ap (λ found. status (list_all (λ one. is_proved (told one)) found)) c.deref-2.ensures.value
     ∙ ap status (told_are_proved c.args.assembly.now c.in_ok-found.found.items c.in_ok-found.ensures.value)
