@@ -39,7 +39,7 @@ pub record PrintsMethod (old new : Option (List ℕ)) (method : MethodRow) : Typ
   pub is : new ≡ Some (before ++ text)
   pub line : HasLine text (method_line method.token.0 method.name (codes "proved"))
 
--- The method is analysed, and its unit is safe in each world.
+-- The method is analysed, and its unit is safe.
 pub record IsSafeMethod (bytes : List ℕ) (method : MethodRow) : Type 0 where
   pub unit : MethodUnit
   pub analysed : outcome_of bytes method ≡ Analysed unit

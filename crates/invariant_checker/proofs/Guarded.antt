@@ -140,5 +140,5 @@ module _ (code : UnitFlow) (lawful : IsLawful code) (Guarded : Frame → Type 0)
   pub guarded_is_safe : IsSafe unit
   guarded_is_safe = record {
     local = local_safe;
-    worlds = λ w m of. alone_is_safe w m unit of (no_callee_no_call unit lawful.unit.formed lawful.unit.callees) makes local_safe;
+    worlds = λ none w m of. alone_is_safe w m unit of (no_callee_no_call unit lawful.unit.formed none) makes local_safe;
   }
