@@ -7,7 +7,6 @@ use Rattle.range_states.specs.FrameFacts.{State}
 use Rattle.cil_model.proofs.Rows.{code_is_decoded}
 use Rattle.cil_model.proofs.ShortCodes.{code_is_short}
 use Rattle.cil_model.specs.Blocks.{body_of}
-use Rattle.cil_model.specs.FitKinds.{HasBody}
 use Rattle.cil_model.specs.Passes.{KindsOf, Stacks}
 use Rattle.cil_model.specs.Shapes.{shape_of}
 use Rattle.cil_model.specs.UnitCalls.{unit_call}
@@ -19,7 +18,6 @@ use Rattle.cil_model.specs.declared.place.Place.TheVariants as places
 use Rattle.cil_model.specs.declared.unit.Unit.{Unit as MethodUnit}
 use Rattle.cil_model.specs.declared.unit_numbers.UnitCall.{UnitCall}
 use Rattle.cil_model.specs.declared.unit_numbers.UnitCall.TheVariants as calls
-use Rattle.contract_extract.proofs.BlockLemmas.BodyRuns.{body_runs}
 use Rattle.invariant_checker.specs.Counts.{all_proved}
 use Rattle.invariant_checker.specs.Safety.{IsSafe}
 use Rattle.invariant_checker.specs.Verdicts.{verdicts}
@@ -90,19 +88,11 @@ of_numbers unit built =
 
 -- ---- its flow
 
--- Its body begins with an empty stack and can be run, whatever kinds its code has.
-pub body_of_unit : (unit : MethodUnit) → IsUnit unit → (stacks : Stacks) → KindsOf (shape_of unit) unit.instrs stacks → HasBody unit.instrs stacks unit.body_start
-body_of_unit unit is stacks kinds =
-    let well = is.well_formed in
-    let short = code_is_short unit.instrs unit.code well.code (omega (arith, well.limits.code)) in
-    let decoded = code_is_decoded unit.instrs unit.code well.code in
-    subst (HasBody unit.instrs stacks) (sym well.body) (body_runs unit.instrs (shape_of unit) stacks short decoded kinds is.clauses)
-
 pub lawful_flow : (unit : MethodUnit) → IsBuilt unit → IsLawful (flow_of unit)
 lawful_flow unit built =
     let well = built.is_unit.well_formed in
-    let kinds = subst (KindsOf (shape_of unit) unit.instrs) (found_kinds unit well.kinds.0 well.kinds.1) well.kinds.1 in
-    record { unit = of_numbers unit built; graph = refl; kinds = kinds; body = body_of_unit unit built.is_unit (kinds_of unit) kinds }
+    let kinds = subst (KindsOf (shape_of unit) unit.instrs) (found_kinds unit well.runs.stacks well.runs.kinds) well.runs.kinds in
+    record { unit = of_numbers unit built; graph = refl; kinds = kinds }
 
 pub built_is_safe : (unit : MethodUnit) → IsBuilt unit → all_proved (unit_verdicts unit) ≡ true → IsSafe unit
 unfolding unit_verdicts

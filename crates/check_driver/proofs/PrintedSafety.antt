@@ -9,7 +9,8 @@ use Rattle.asm_image.specs.declared.method_row.MethodRow.{MethodRow}
 use Rattle.cc_base.specs.Escapes.{escaped}
 use Rattle.cc_base.specs.Sink.{IsFront}
 use Rattle.pe_reader.specs.Addresses.{metadata}
-use Rattle.unit_builder.specs.Outcomes.{IfAnalysed, IsRunnable, entries_of, entry_of, outcome_of}
+use Rattle.method_unit.specs.Units.{IsUnit}
+use Rattle.unit_builder.specs.Outcomes.{IfAnalysed, entries_of, entry_of, outcome_of}
 use Rattle.unit_builder.specs.declared.entry.MethodEntry.{MethodEntry}
 use Rattle.check_driver.specs.CheckText.{all_counts, check_text, finding, method_line, verdict_text}
 use Rattle.check_driver.specs.Checked.{AreRunnable, HasLine}
@@ -122,6 +123,6 @@ printed_method name bytes text method whole runnable below has line front =
     (report_one_line name bytes below) (proved_one_line (method_row md row).token.0 md row) is_line front in
     let told = row_of_report name bytes (method_row md row).token.0 (method_row md row).name (codes "proved") found in
     let same = same_row bytes row told.0 (codes "proved") (omega (arith, few, range_below 1 (method_count md) row mine.1)) (omega (arith, few, range_below 1 (method_count md) told.0 told.1)) told.2 in
-    let is_runnable = all_at (λ (entry : MethodEntry). IfAnalysed entry.outcome IsRunnable) (entry_of bytes) (methods_of bytes) (method_row md row) runnable (subst (Contains (methods_of bytes)) (sym mine.2) has) in
+    let is_runnable = all_at (λ (entry : MethodEntry). IfAnalysed entry.outcome IsUnit) (entry_of bytes) (methods_of bytes) (method_row md row) runnable (subst (Contains (methods_of bytes)) (sym mine.2) has) in
     subst (IsSafeAlone bytes) mine.2
     (safe_by bytes (method_row md row) (outcome_of bytes (method_row md row)) refl (proved_tells (finding (outcome_of bytes (method_row md row))) same.1) is_runnable)

@@ -77,7 +77,7 @@ module _ (code : UnitFlow) (lawful : IsLawful code) (Guarded : Frame → Type 0)
       let i = step.0 in
       let here = found_at unit.instrs f.at i step.1 in
       let inside = in_body.inside in
-      let targets = of_found (λ j. unit.body_start ≤ j.at → AllByRecursion (λ at. unit.body_start ≤ at) (branch_targets j.op)) unit.instrs f.at i lawful.body.inside step.1
+      let targets = of_found (λ j. unit.body_start ≤ j.at → AllByRecursion (λ at. unit.body_start ≤ at) (branch_targets j.op)) unit.instrs f.at i (laws.lawful_body code lawful).inside step.1
       (omega (arith, here, inside)) in
       let goes = step_goes unit i f g heap after step step.1 in
       record {
@@ -123,7 +123,7 @@ module _ (code : UnitFlow) (lawful : IsLawful code) (Guarded : Frame → Type 0)
         heap_is = begins.heap_is;
         frame = entry_frame_is unit index args heap lawful.unit.formed.locals begins.heap_is begins.fit;
         kinds = [];
-        before = lawful.body.empty;
+        before = (laws.lawful_body code lawful).empty;
         fit = tt;
       };
       inside = omega arith;
@@ -134,7 +134,7 @@ module _ (code : UnitFlow) (lawful : IsLawful code) (Guarded : Frame → Type 0)
   local_safe : LocalSafe unit
   local_safe index args heap n c runs = (
     fine_is_no_fault c (fine_steps (entry_config unit index args heap) n c (fine_entry index args heap runs.begins) runs.steps),
-    typed.runs unit itself lawful.unit.formed.locals lawful.body index args heap n c runs,
+    typed.runs unit itself lawful.unit.formed.locals (laws.lawful_body code lawful) index args heap n c runs,
   )
 
   pub guarded_is_safe : IsSafe unit

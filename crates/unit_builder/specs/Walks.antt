@@ -9,7 +9,8 @@ use Rattle.cil_model.specs.declared.unit.Unit.{Unit as MethodUnit}
 use Rattle.unit_builder.specs.Met.{place_in}
 use Rattle.method_code.specs.Reading.{as_token}
 use Rattle.unit_builder.specs.Bodies.{callee_tokens}
-use Rattle.unit_builder.specs.Outcomes.{IsRunnable, outcome_of}
+use Rattle.method_unit.specs.Units.{IsUnit}
+use Rattle.unit_builder.specs.Outcomes.{outcome_of}
 use Rattle.unit_builder.specs.Reach.{Reaches, reaches_in}
 use Rattle.unit_builder.specs.declared.entry.Outcome.{Outcome}
 use Rattle.unit_builder.specs.declared.entry.Outcome.TheVariants.{Analysed, Skipped}
@@ -55,7 +56,7 @@ tokens_in methods = map (λ method. method.token.0) methods
 -- This was made of the method that a token names.
 pub record IsVisited (asm : List ℕ) (token : ℕ) (visited : Visited) : Type 0 where
   pub unit : unit_at asm token ≡ Some visited.unit
-  pub runnable : IsRunnable visited.unit
+  pub is_unit : IsUnit visited.unit
   pub callees : numbers visited.callees.items ≡ calls_of asm token
 
 abbrev pub Tells : List ℕ → ℕ → Option Visited → Type 0
