@@ -4,10 +4,8 @@ use Rattle.std.specs.Prelude.{All, IfOk}
 use Rattle.std.specs.List.{AllByRecursion}
 use Rattle.std.proofs.lemmas.Bool.{false≢true}
 use Rattle.range_states.specs.FrameFacts.{State}
-use Rattle.cil_model.proofs.Rows.{code_is_decoded}
-use Rattle.cil_model.proofs.ShortCodes.{code_is_short}
 use Rattle.cil_model.specs.Blocks.{body_of}
-use Rattle.cil_model.specs.Passes.{KindsOf, Stacks}
+use Rattle.cil_model.specs.Passes.{KindsOf}
 use Rattle.cil_model.specs.Shapes.{shape_of}
 use Rattle.cil_model.specs.UnitCalls.{unit_call}
 use Rattle.cil_model.specs.declared.instruction.Instr.{Instr}
@@ -33,7 +31,7 @@ use Rattle.method_unit.proofs.UnitAgain.{unit_again}
 use Rattle.range_rules.specs.Acts.{is_told, is_told_call}
 use Rattle.range_rules.specs.Entry.{HoldsNumber}
 use Rattle.range_rules.specs.Flow.{GivesNumber, IsLawful, IsOfNumbers}
-use Rattle.range_rules.specs.FlowOf.{flow_of, kinds_of}
+use Rattle.range_rules.specs.FlowOf.{flow_of}
 use Rattle.range_rules.specs.declared.unit_flow.UnitFlow.{UnitFlow}
 use Rattle.range_rules.proofs.KindsFound.{found_kinds}
 use Rattle.unit_form.specs.Spelling.{unit_bytes}

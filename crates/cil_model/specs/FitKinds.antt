@@ -1,6 +1,6 @@
 -- What the kinds of stacks are for (ECMA-335 III.1.5 and III.1.8): where a frame's stack fits the kinds before its
 -- instruction, the frame has a step, and its stack fits the kinds wherever it goes on.
-use Rattle.std.specs.Prelude.{◌≡◌, ℕ, ◌^◌, ◌<◌, ◌≤◌, Bool, true, false, List, [], ◌∷◌, ◌++◌, Option, Some, slice_get, FitsSigned}
+use Rattle.std.specs.Prelude.{◌≡◌, ℕ, ◌^◌, ◌<◌, true, List, [], ◌∷◌, ◌++◌, Some, slice_get, FitsSigned}
 use Rattle.std.specs.Int.{w32}
 use Rattle.std.specs.List.{AllByRecursion}
 use Rattle.cil_model.specs.Blocks.{branch_targets}

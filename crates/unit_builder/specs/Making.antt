@@ -11,9 +11,8 @@ use Rattle.cil_model.specs.declared.unit.Unit.{Unit as MethodUnit}
 use Rattle.method_code.specs.Numbering.{spelled_code}
 use Rattle.method_code.specs.OfMethods.{args_of, result_of}
 use Rattle.method_code.specs.Reading.{AreContractsOf, AreDecodedAs}
-use Rattle.method_unit.specs.Units.{HasKinds}
 use Rattle.unit_builder.specs.Bodies.{callee_tokens, code_told, header_of, locals_told, unit_instrs, unit_name}
-use Rattle.method_unit.specs.Units.{IsUnit}
+use Rattle.method_unit.specs.Units.{HasKinds, IsUnit}
 use Rattle.unit_builder.specs.Outcomes.{unit_of}
 use Rattle.unit_builder.specs.Reasons.{callee_info, unit_shape}
 use Rattle.unit_builder.specs.declared.header.Variables.{Variables}
