@@ -1,5 +1,5 @@
 -- Which methods of an assembly a method reaches, and a walk that meets them.
-use Rattle.std.specs.Prelude.{◌≡◌, ◌↔◌, ℕ, ◌<◌, ◌≤◌, Bool, true, List, [], length, map, is_some, Option, Some, None, IsSome, Contains, slice_index, slice_index_or}
+use Rattle.std.specs.Prelude.{◌≡◌, ◌↔◌, ℕ, ◌<◌, ◌≤◌, Bool, true, List, [], length, map, is_some, Option, Some, None, IsSome, Contains, nat_eq, slice_index, slice_index_or}
 use Rattle.std.specs.Option.{option_and_then, option_map_or}
 use Rattle.asm_image.specs.Bodies.{method_of}
 use Rattle.asm_image.specs.Rows.{methods_of}
@@ -45,7 +45,7 @@ unit_at asm token = option_and_then (λ method. unit_by (outcome_of asm method))
 
 -- A method reaches another. No way to it has to be longer than there are methods.
 unfoldable pub is_reached : List ℕ → ℕ → ℕ → Bool
-is_reached asm from token = reaches_in (calls_of asm) (length (methods_of asm)) from token
+is_reached asm from token = reaches_in nat_eq (calls_of asm) (length (methods_of asm)) from token
 
 -- The tokens of methods. Those of all methods of an assembly rise.
 abbrev pub tokens_in : List MethodRow → List ℕ
@@ -72,7 +72,7 @@ calls_in (Some visited) = visited.callees.items
 pub record IsWalk (asm : List ℕ) (from : ℕ) (tokens : List ℕ) (visits : List (Option Visited)) : Type 0 where
   pub start : place_in tokens from ≡ Some 0
   pub there : (place : ℕ) → place < length tokens → IsSome (method_of asm (as_token (slice_index tokens place)))
-  pub near : (place : ℕ) → place < length tokens → reaches_in (calls_of asm) place from (slice_index tokens place) ≡ true
+  pub near : (place : ℕ) → place < length tokens → reaches_in nat_eq (calls_of asm) place from (slice_index tokens place) ≡ true
   pub visited : length visits ≤ length tokens
   pub told : (place : ℕ) → place < length visits → Tells asm (slice_index tokens place) (slice_index_or visits place None)
   pub closed : (place : ℕ) (token : ℕ) → place < length visits → Contains (calls_of asm (slice_index tokens place)) token → IsSome (place_in tokens token)
