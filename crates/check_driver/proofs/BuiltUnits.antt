@@ -4,12 +4,9 @@ use Rattle.std.specs.Prelude.{All, IfOk}
 use Rattle.std.specs.List.{AllByRecursion}
 use Rattle.std.proofs.lemmas.Bool.{false≢true}
 use Rattle.range_states.specs.FrameFacts.{State}
-use Rattle.cil_model.proofs.Rows.{code_is_decoded}
-use Rattle.cil_model.proofs.ShortCodes.{code_is_short}
 use Rattle.cil_model.specs.Blocks.{body_of}
-use Rattle.cil_model.specs.FitKinds.{HasBody}
 use Rattle.cil_model.specs.Limits.{MAX_CLAUSES}
-use Rattle.cil_model.specs.Passes.{KindsOf, Stacks}
+use Rattle.cil_model.specs.Passes.{KindsOf}
 use Rattle.cil_model.specs.Shapes.{shape_of}
 use Rattle.cil_model.specs.UnitCalls.{unit_call}
 use Rattle.cil_model.specs.declared.instruction.Instr.{Instr}
@@ -20,7 +17,6 @@ use Rattle.cil_model.specs.declared.place.Place.TheVariants as places
 use Rattle.cil_model.specs.declared.unit.Unit.{Unit as MethodUnit}
 use Rattle.cil_model.specs.declared.unit_numbers.UnitCall.{UnitCall}
 use Rattle.cil_model.specs.declared.unit_numbers.UnitCall.TheVariants as calls
-use Rattle.contract_extract.proofs.BlockLemmas.BodyRuns.{body_runs}
 use Rattle.invariant_checker.specs.Counts.{all_proved}
 use Rattle.invariant_checker.specs.Safety.{IsSafe}
 use Rattle.invariant_checker.specs.Verdicts.{verdicts}
@@ -36,7 +32,7 @@ use Rattle.method_unit.proofs.UnitAgain.{unit_again}
 use Rattle.range_rules.specs.Acts.{is_told, is_told_call}
 use Rattle.range_rules.specs.Entry.{HoldsNumber}
 use Rattle.range_rules.specs.Flow.{GivesNumber, IsLawful, IsOfNumbers}
-use Rattle.range_rules.specs.FlowOf.{flow_of, kinds_of}
+use Rattle.range_rules.specs.FlowOf.{flow_of}
 use Rattle.range_rules.specs.declared.unit_flow.UnitFlow.{UnitFlow}
 use Rattle.range_rules.proofs.KindsFound.{found_kinds}
 use Rattle.unit_form.specs.Spelling.{unit_bytes}
@@ -91,19 +87,11 @@ of_numbers unit built =
 
 -- ---- its flow
 
--- Its body begins with an empty stack and can be run, whatever kinds its code has.
-pub body_of_unit : (unit : MethodUnit) → IsUnit unit → (stacks : Stacks) → KindsOf (shape_of unit) unit.instrs stacks → HasBody unit.instrs stacks unit.body_start
-body_of_unit unit is stacks kinds =
-    let well = is.well_formed in
-    let short = code_is_short unit.instrs unit.code well.code (omega (arith, well.limits.code)) in
-    let decoded = code_is_decoded unit.instrs unit.code well.code in
-    subst (HasBody unit.instrs stacks) (sym well.body) (body_runs unit.instrs (shape_of unit) stacks short decoded kinds is.clauses)
-
 pub lawful_flow : (unit : MethodUnit) → IsBuilt unit → IsLawful (flow_of unit)
 lawful_flow unit built =
     let well = built.is_unit.well_formed in
-    let kinds = subst (KindsOf (shape_of unit) unit.instrs) (found_kinds unit well.kinds.0 well.kinds.1) well.kinds.1 in
-    record { unit = of_numbers unit built; graph = refl; kinds = kinds; body = body_of_unit unit built.is_unit (kinds_of unit) kinds }
+    let kinds = subst (KindsOf (shape_of unit) unit.instrs) (found_kinds unit well.runs.stacks well.runs.kinds) well.runs.kinds in
+    record { unit = of_numbers unit built; graph = refl; kinds = kinds }
 
 pub built_is_safe : (unit : MethodUnit) → IsBuilt unit → all_proved (unit_verdicts unit) ≡ true → IsSafe unit
 unfolding unit_verdicts

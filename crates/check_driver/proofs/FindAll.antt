@@ -4,7 +4,8 @@ use Rattle.std.specs.List.{AllByRecursion}
 use Rattle.std.proofs.lemmas.List.{length-map, map-append}
 use Rattle.asm_image.specs.Rows.{methods_of}
 use Rattle.asm_image.specs.declared.method_row.MethodRow.{MethodRow}
-use Rattle.unit_builder.specs.Outcomes.{IfAnalysed, IsRunnable, entries_of, entry_of, outcome_of}
+use Rattle.method_unit.specs.Units.{IsUnit}
+use Rattle.unit_builder.specs.Outcomes.{IfAnalysed, entries_of, entry_of, outcome_of}
 use Rattle.unit_builder.specs.declared.entry.MethodEntry.{MethodEntry}
 use Rattle.check_driver.specs.CheckText.{finding, findings}
 use Rattle.check_driver.specs.Findings.{told}
@@ -32,14 +33,14 @@ found_next asm methods n method found one next so_far is =
     ∙ rw (so_far, is) (sym (ap (λ (l : List MethodRow). findings (map (entry_of asm) l)) next ∙ ap findings (map-append (entry_of asm) (take n methods) (method ∷ [])) ∙ map-append (λ (e : MethodEntry). finding e.outcome) (map (entry_of asm) (take n methods)) (entry_of asm method ∷ [])))
 
 abbrev pub AreKnown : List ℕ → List MethodRow → Type 0
-AreKnown asm methods = AllByRecursion (λ entry. IfAnalysed entry.outcome IsRunnable) (map (entry_of asm) methods)
+AreKnown asm methods = AllByRecursion (λ entry. IfAnalysed entry.outcome IsUnit) (map (entry_of asm) methods)
 
-known_push : (asm : List ℕ) (methods : List MethodRow) (method : MethodRow) → AreKnown asm methods → IfAnalysed (outcome_of asm method) IsRunnable → AreKnown asm (methods ++ method ∷ [])
+known_push : (asm : List ℕ) (methods : List MethodRow) (method : MethodRow) → AreKnown asm methods → IfAnalysed (outcome_of asm method) IsUnit → AreKnown asm (methods ++ method ∷ [])
 known_push asm [] method known is = (is, tt)
 known_push asm (first ∷ methods) method known is = (known.0, known_push asm methods method known.1 is)
 
 pub known_next : (asm : List ℕ) (methods : List MethodRow) (n : ℕ) (method : MethodRow) → take (n + 1) methods ≡ take n methods ++ method ∷ [] → AreKnown asm (take n methods)
-    → IfAnalysed (outcome_of asm method) IsRunnable → AreKnown asm (take (n + 1) methods)
+    → IfAnalysed (outcome_of asm method) IsUnit → AreKnown asm (take (n + 1) methods)
 known_next asm methods n method next known is = rw next (known_push asm (take n methods) method known is)
 
 pub all_taken : {X : Type 0} (xs : List X) (n : ℕ) → length xs ≤ n → take n xs ≡ xs

@@ -31,14 +31,15 @@ use Rattle.unit_builder.specs.WorldOf.{world_of, world_tokens}
 use Rattle.unit_builder.specs.declared.entry.Outcome.TheVariants.{Analysed}
 use Rattle.unit_builder.proofs.TokenLemmas.{token_at}
 use Rattle.check_driver.specs.CheckText.{method_line}
-use Rattle.check_driver.specs.Checked.{AsksToCheck, HasLine, IfCheck, IsHeldReportable, IsSafeMethod, PrintsMethod}
+use Rattle.check_driver.specs.Checked.{AsksToCheck, HasLine, IfCheck, IsHeldReportable, PrintsMethod}
 use Rattle.check_driver.specs.Expected.{expected}
 use Rattle.check_driver.specs.Headline.{IsAssemblyOf, TellAllProved, WasAppended}
 use Rattle.check_driver.specs.Met.{AreUnder}
-use Rattle.check_driver.specs.Sections.{proved_line, section}
+use Rattle.check_driver.specs.Sections.{HasProvedLine, proved_line, section}
 use Rattle.check_driver.proofs.CheckedSafety.{known_of, printed_checked, something_printed}
 use Rattle.check_driver.proofs.FewMethods.{methods_are_few}
 use Rattle.check_driver.proofs.LinesOf.{section_line}
+use Rattle.check_driver.proofs.PrintedMethods.{IsSafeAlone}
 use Rattle.check_driver.proofs.WholeLines.{as_line}
 
 -- ---- the world of a method begins with its own unit
@@ -74,11 +75,12 @@ first_unit : (bytes : List ℕ) (from : ℕ) (unit : MethodUnit) → unit_at byt
 unfolding world_of world_tokens
 first_unit bytes from unit own = rw own refl
 
--- A method whose unit is safe wherever it stands is safe in its own world.
-pub safe_in_world : (bytes : List ℕ) (method : MethodRow) → FirstBroken bytes ≡ None → Contains (methods_of bytes) method → IsSafeMethod bytes method → Safe (world_of bytes method.token.0) 0
-safe_in_world bytes method whole has safe =
+-- A method whose unit is safe, and calls no method, is safe in its own world.
+pub safe_in_world : (bytes : List ℕ) (method : MethodRow) → FirstBroken bytes ≡ None → Contains (methods_of bytes) method → IsSafeAlone bytes method → Safe (world_of bytes method.token.0) 0
+safe_in_world bytes method whole has found =
+    let safe = found.safe in
     let own = own_unit bytes method safe.unit (named_itself bytes method whole has) safe.analysed in
-    safe.safe.worlds (world_of bytes method.token.0) 0 (first_unit bytes method.token.0 safe.unit own)
+    safe.safe.worlds found.alone (world_of bytes method.token.0) 0 (first_unit bytes method.token.0 safe.unit own)
 
 -- ---- the words
 
@@ -114,13 +116,32 @@ accepted_of : (told : Option Held) (words : List (List ℕ)) (held : Held) (byte
 accepted_of told words held bytes method old new told_is asks (inl same) prints = absurd (something_printed old new method same prints)
 accepted_of told words held bytes method old new told_is asks (inr known) prints = (known_of told words held bytes told_is asks known).accepted
 
-pub headline_safe : (told : Option Held) (words : List (List ℕ)) (held : Held) (k : ℕ) (bytes text : List ℕ) (method : MethodRow) (met : List (Option (List ℕ))) (old new : Option (List ℕ))
-    → told ≡ Some held → IsAssemblyOf words held k bytes → AreUnder told (file_names words) met → AppendsFront old new (expected words met).out
-    → (new ≡ old) ⊎ IfSome (command_of words) (λ command. IfCheck command (λ file. IsHeldReportable told (word_at words file)))
-    → WasAppended old new text → Contains (methods_of bytes) method → TellAllProved (section k text) bytes method → Safe (world_of bytes method.token.0) 0
-headline_safe told words held k bytes text method met old new told_is assembly under appends known appended has all =
-    let asks = asks_to_check words held k bytes assembly in
-    let line = has_method_line text method (section_line text k (proved_line method) (all method has itself)) in
-    let prints : PrintsMethod old new method = record { before = appended.before; text = text; was = appended.was; is = appended.is; line = line } in
-    safe_in_world bytes method (accepted_of told words held bytes method old new told_is asks known prints) has
-    (printed_checked told words held bytes method met old new told_is asks under appends known has prints)
+-- What is known of a call's assembly and of what was appended.
+pub record IsKnownOf (told : Option Held) (words : List (List ℕ)) (held : Held) (k : ℕ) (bytes text : List ℕ) (met : List (Option (List ℕ))) (old new : Option (List ℕ)) : Type 0 where
+  pub told_is : told ≡ Some held
+  pub assembly : IsAssemblyOf words held k bytes
+  pub under : AreUnder told (file_names words) met
+  pub appends : AppendsFront old new (expected words met).out
+  pub known : (new ≡ old) ⊎ IfSome (command_of words) (λ command. IfCheck command (λ file. IsHeldReportable told (word_at words file)))
+  pub appended : WasAppended old new text
+
+module _ (told : Option Held) (words : List (List ℕ)) (held : Held) (k : ℕ) (bytes text : List ℕ) (method : MethodRow) (met : List (Option (List ℕ))) (old new : Option (List ℕ))
+    (is : IsKnownOf told words held k bytes text met old new) (has : Contains (methods_of bytes) method) where
+  prints : HasProvedLine (section k text) method → PrintsMethod old new method
+  prints line = record {
+    before = is.appended.before;
+    text = text;
+    was = is.appended.was;
+    is = is.appended.is;
+    line = has_method_line text method (section_line text k (proved_line method) line);
+  }
+
+  -- A method is safe whose line stands in the section of its assembly.
+  pub section_safe : HasProvedLine (section k text) method → IsSafeAlone bytes method
+  section_safe line =
+      printed_checked told words held bytes method met old new is.told_is (asks_to_check words held k bytes is.assembly) is.under is.appends is.known has (prints line)
+
+  pub headline_safe : TellAllProved (section k text) bytes method → Safe (world_of bytes method.token.0) 0
+  headline_safe all =
+      let own = all method has itself in
+      safe_in_world bytes method (accepted_of told words held bytes method old new is.told_is (asks_to_check words held k bytes is.assembly) is.known (prints own)) has (section_safe own)

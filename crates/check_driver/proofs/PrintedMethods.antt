@@ -8,11 +8,13 @@ use Rattle.cc_base.specs.Digits.{hex, hex_digit}
 use Rattle.asm_image.specs.Rows.{method_row}
 use Rattle.asm_image.specs.declared.method_row.MethodRow.{MethodRow}
 use Rattle.method_unit.specs.NotBuilt.{not_built}
+use Rattle.method_unit.proofs.BuiltAlone.{built_alone}
 use Rattle.pe_reader.specs.Addresses.{metadata}
 use Rattle.invariant_checker.specs.Counts.{all_proved}
 use Rattle.invariant_checker.specs.declared.verdict.Verdict.{Verdict}
 use Rattle.check_driver.proofs.BuiltUnits.{built_is_safe}
-use Rattle.unit_builder.specs.Outcomes.{IfAnalysed, IsRunnable, entry_of, outcome_of}
+use Rattle.method_unit.specs.Units.{IsUnit}
+use Rattle.unit_builder.specs.Outcomes.{IfAnalysed, entry_of, outcome_of}
 use Rattle.unit_builder.specs.declared.entry.Outcome.{Outcome}
 use Rattle.unit_builder.specs.declared.entry.Outcome.TheVariants.{Analysed, Skipped}
 use Rattle.check_driver.specs.CheckText.{Finding, Judged, Unjudged, finding, is_proved, judged_or, verdict_text}
@@ -161,11 +163,19 @@ proved_tells (Judged found) e = by_verdict (all_proved found) e
     by_verdict false e = absurd (let letters : 117 ≡ 112 = ap (λ (l : List ℕ). get_or l 0 0) e in omega (arith, letters))
 proved_tells (Unjudged reason) e = absurd (let letters : 110 ≡ 112 = ap (λ (l : List ℕ). get_or l 0 0) e in omega (arith, letters))
 
+-- The method is safe, and its unit has no callees, as none has that is judged today.
+pub record IsSafeAlone (asm : List ℕ) (method : MethodRow) : Type 0 where
+  pub safe : IsSafeMethod asm method
+  pub alone : safe.unit.callees ≡ []
+
 -- A method that is proved is analysed, built, and its unit has no obligation that is not proved.
-pub safe_by : (asm : List ℕ) (method : MethodRow) (outcome : Outcome) → outcome_of asm method ≡ outcome → is_proved (finding outcome) ≡ true → IfAnalysed outcome IsRunnable → IsSafeMethod asm method
+pub safe_by : (asm : List ℕ) (method : MethodRow) (outcome : Outcome) → outcome_of asm method ≡ outcome → is_proved (finding outcome) ≡ true → IfAnalysed outcome IsUnit → IsSafeAlone asm method
 safe_by asm method (Analysed unit) same proved runnable = by_place (not_built unit) refl proved
   where
-    by_place : (place : Option ℕ) → not_built unit ≡ place → is_proved (judged_or place unit) ≡ true → IsSafeMethod asm method
-    by_place None built proved = record { unit = unit; analysed = same; safe = built_is_safe unit (record { is_unit = runnable.is_unit; built = built }) proved }
+    by_place : (place : Option ℕ) → not_built unit ≡ place → is_proved (judged_or place unit) ≡ true → IsSafeAlone asm method
+    by_place None built proved = record {
+      safe = record { unit = unit; analysed = same; safe = built_is_safe unit (record { is_unit = runnable; built = built }) proved };
+      alone = built_alone unit runnable built;
+    }
     by_place (Some at) built proved = absurd cc
 safe_by asm method (Skipped reason) same proved runnable = absurd cc

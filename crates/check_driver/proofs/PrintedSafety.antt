@@ -9,13 +9,14 @@ use Rattle.asm_image.specs.declared.method_row.MethodRow.{MethodRow}
 use Rattle.cc_base.specs.Escapes.{escaped}
 use Rattle.cc_base.specs.Sink.{IsFront}
 use Rattle.pe_reader.specs.Addresses.{metadata}
-use Rattle.unit_builder.specs.Outcomes.{IfAnalysed, IsRunnable, entries_of, entry_of, outcome_of}
+use Rattle.method_unit.specs.Units.{IsUnit}
+use Rattle.unit_builder.specs.Outcomes.{IfAnalysed, entries_of, entry_of, outcome_of}
 use Rattle.unit_builder.specs.declared.entry.MethodEntry.{MethodEntry}
 use Rattle.check_driver.specs.CheckText.{all_counts, check_text, finding, method_line, verdict_text}
-use Rattle.check_driver.specs.Checked.{AreRunnable, HasLine, IsSafeMethod}
+use Rattle.check_driver.specs.Checked.{AreRunnable, HasLine}
 use Rattle.answer_lines.specs.Counting.{AreBelow}
 use Rattle.check_driver.proofs.FewMethods.{methods_are_few}
-use Rattle.check_driver.proofs.PrintedMethods.{among_rows, contains_behind, contains_first, behind_digits, none_contained, proved_tells, row_said, safe_by, same_said, same_text}
+use Rattle.check_driver.proofs.PrintedMethods.{IsSafeAlone, among_rows, contains_behind, contains_first, behind_digits, none_contained, proved_tells, row_said, safe_by, same_said, same_text}
 use Rattle.check_driver.proofs.Reported.{entry_said, method_said, report_is_lines, report_said, summary_front, summary_said}
 use Rattle.check_driver.proofs.ReportTexts.{all_behind, assembly_one_line, proved_one_line, rows_one_line, summary_one_line}
 use Rattle.check_driver.proofs.WholeLines.{IsOneLine, as_line, as_lines, line_among}
@@ -108,7 +109,7 @@ same_row bytes row other text small few e =
     )
 
 pub printed_method : (name bytes text : List ℕ) (method : MethodRow) → FirstBroken bytes ≡ None → AreRunnable bytes → AreBelow (2 ^ 63) (all_counts (entries_of bytes))
-    → Contains (methods_of bytes) method → HasLine text (method_line method.token.0 method.name (codes "proved")) → IsFront text (check_text name bytes) → IsSafeMethod bytes method
+    → Contains (methods_of bytes) method → HasLine text (method_line method.token.0 method.name (codes "proved")) → IsFront text (check_text name bytes) → IsSafeAlone bytes method
 unfolding entries_of rows_of row_said method_said method_row
 printed_method name bytes text method whole runnable below has line front =
     let md = metadata bytes in
@@ -122,6 +123,6 @@ printed_method name bytes text method whole runnable below has line front =
     (report_one_line name bytes below) (proved_one_line (method_row md row).token.0 md row) is_line front in
     let told = row_of_report name bytes (method_row md row).token.0 (method_row md row).name (codes "proved") found in
     let same = same_row bytes row told.0 (codes "proved") (omega (arith, few, range_below 1 (method_count md) row mine.1)) (omega (arith, few, range_below 1 (method_count md) told.0 told.1)) told.2 in
-    let is_runnable = all_at (λ (entry : MethodEntry). IfAnalysed entry.outcome IsRunnable) (entry_of bytes) (methods_of bytes) (method_row md row) runnable (subst (Contains (methods_of bytes)) (sym mine.2) has) in
-    subst (IsSafeMethod bytes) mine.2
+    let is_runnable = all_at (λ (entry : MethodEntry). IfAnalysed entry.outcome IsUnit) (entry_of bytes) (methods_of bytes) (method_row md row) runnable (subst (Contains (methods_of bytes)) (sym mine.2) has) in
+    subst (IsSafeAlone bytes) mine.2
     (safe_by bytes (method_row md row) (outcome_of bytes (method_row md row)) refl (proved_tells (finding (outcome_of bytes (method_row md row))) same.1) is_runnable)

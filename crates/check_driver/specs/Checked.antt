@@ -11,7 +11,8 @@ use Rattle.command_words.specs.declared.command.Command.{Command}
 use Rattle.command_words.specs.declared.command.Command.TheVariants as commands
 use Rattle.cil_model.specs.declared.unit.Unit.{Unit as MethodUnit}
 use Rattle.invariant_checker.specs.Safety.{IsSafe}
-use Rattle.unit_builder.specs.Outcomes.{IfAnalysed, IsRunnable, entries_of, outcome_of}
+use Rattle.method_unit.specs.Units.{IsUnit}
+use Rattle.unit_builder.specs.Outcomes.{IfAnalysed, entries_of, outcome_of}
 use Rattle.unit_builder.specs.declared.entry.Outcome.TheVariants.{Analysed}
 
 -- The words ask for the report of a file, and these are the bytes held.
@@ -39,7 +40,7 @@ pub record PrintsMethod (old new : Option (List ℕ)) (method : MethodRow) : Typ
   pub is : new ≡ Some (before ++ text)
   pub line : HasLine text (method_line method.token.0 method.name (codes "proved"))
 
--- The method is analysed, and its unit is safe in each world.
+-- The method is analysed, and its unit is safe.
 pub record IsSafeMethod (bytes : List ℕ) (method : MethodRow) : Type 0 where
   pub unit : MethodUnit
   pub analysed : outcome_of bytes method ≡ Analysed unit
@@ -47,7 +48,7 @@ pub record IsSafeMethod (bytes : List ℕ) (method : MethodRow) : Type 0 where
 
 -- The rest of the project may know all of each method's unit that it knows of units that are read.
 abbrev pub AreRunnable : List ℕ → Type 0
-AreRunnable bytes = AllByRecursion (λ entry. IfAnalysed entry.outcome IsRunnable) (entries_of bytes)
+AreRunnable bytes = AllByRecursion (λ entry. IfAnalysed entry.outcome IsUnit) (entries_of bytes)
 
 -- The file is an assembly, and the report of it tells what it means: each unit can be run, and no count is cut.
 pub record IsReportable (bytes : List ℕ) : Type 0 where

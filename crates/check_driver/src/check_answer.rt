@@ -15,7 +15,8 @@ ghost use Rattle.check_driver.specs.Expected.{check_answer};
 ghost use Rattle.check_driver.specs.Findings.{IsWithin, told, told_lines};
 ghost use Rattle.answer_lines.specs.Outcome.{Gives};
 ghost use Rattle.answer_lines.specs.Writing.{Writes, change_of, joined};
-ghost use Rattle.unit_builder.specs.Outcomes.{IfAnalysed, IsRunnable, entries_of, outcome_of};
+ghost use Rattle.method_unit.specs.Units.{IsUnit};
+ghost use Rattle.unit_builder.specs.Outcomes.{IfAnalysed, entries_of, outcome_of};
 
 use crate::fault_text::assembly_fault_text;
 use crate::finding::Finding;
@@ -85,7 +86,7 @@ fn find<D: Finder>(
     ensures same { units.new ≡ units.old }
     ensures value { (method : MethodRow) → slice_get (methods_of units.old) index ≡ Some method → IfOk result (λ found. told found ≡ finding (outcome_of units.old method)) }
     ensures within { IfOk result IsWithin }
-    ensures runnable { (method : MethodRow) → slice_get (methods_of units.old) index ≡ Some method → IfOk result (λ _. IfAnalysed (outcome_of units.old method) IsRunnable) }
+    ensures runnable { (method : MethodRow) → slice_get (methods_of units.old) index ≡ Some method → IfOk result (λ _. IfAnalysed (outcome_of units.old method) IsUnit) }
     ensures judged { (method : MethodRow) → slice_get (methods_of units.old) index ≡ Some method
         → OnOk result (judged.new ≡ judged.old ++ unseen judged.old (outcome_key (outcome_of units.old method))) }
     ensures asked { (method : MethodRow) → slice_get (methods_of units.old) index ≡ Some method

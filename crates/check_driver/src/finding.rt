@@ -4,7 +4,8 @@ ghost use Rattle.std.specs.Prelude.{◌≡◌, ◌++◌, ◌<◌, ◌≤◌, All
 ghost use Rattle.check_driver.specs.Asked.{Asks, outcome_key, unseen};
 ghost use Rattle.check_driver.specs.CheckText.{counts_of, finding, is_proved, verdict_text};
 ghost use Rattle.answer_lines.specs.Counting.{AreBelow};
-ghost use Rattle.unit_builder.specs.Outcomes.{IfAnalysed, IsRunnable};
+ghost use Rattle.method_unit.specs.Units.{IsUnit};
+ghost use Rattle.unit_builder.specs.Outcomes.{IfAnalysed};
 ghost use Rattle.check_driver.specs.Findings.{IsWithin, told, verdicts_in};
 
 use crate::judged_units::JudgedUnits;
@@ -36,7 +37,7 @@ impl Finding {
         judged: &mut JudgedUnits,
         finder: &mut D,
     ) -> Result<Finding, AllocError>
-        requires { IfAnalysed outcome IsRunnable }
+        requires { IfAnalysed outcome IsUnit }
         ensures value { IfOk result (λ found. told found ≡ finding outcome) }
         ensures within { IfOk result IsWithin }
         ensures judged { OnOk result (judged.new ≡ judged.old ++ unseen judged.old (outcome_key outcome)) }

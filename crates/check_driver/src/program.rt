@@ -11,13 +11,13 @@ ghost use Rattle.cc_base.specs.Files.{Held};
 ghost use Rattle.cc_base.specs.Sink.{AppendsFront};
 ghost use Rattle.check_driver.specs.Asked.{AnswerAsks, Asks, LeavesAsked, asked_by, bytes_asked, files_asked};
 ghost use Rattle.cil_model.specs.Runs.{Safe};
-ghost use Rattle.check_driver.specs.Checked.{AsksToCheck, IfCheck, IsHeldReportable, IsReportable, IsSafeMethod, PrintsMethod};
+ghost use Rattle.check_driver.specs.Checked.{IfCheck, IsHeldReportable, IsReportable, IsSafeMethod};
 ghost use Rattle.check_driver.specs.Expected.{bytes_answer, expected, file_at, files_answer, run_file_answer};
 ghost use Rattle.check_driver.specs.Met.{AreUnder, bytes_read};
 ghost use Rattle.answer_lines.specs.Outcome.{Gives, GivesOrUnread, Leaves, last_line, status_of};
 ghost use Rattle.check_driver.specs.Headline.{IsAssemblyOf, TellAllProved, WasAppended};
 ghost use Rattle.check_driver.specs.ProvedUnit.{AreSpelled, AsksForUnit, IfUnit, IsHeldSpelled, PrintsProvedUnit, SpellSafeUnit};
-ghost use Rattle.check_driver.specs.Sections.{section};
+ghost use Rattle.check_driver.specs.Sections.{HasProvedLine, section};
 ghost use Rattle.command_words.specs.Words.{HasArguments, IfRun, args_told, command_of, file_indexes, file_names, used_indexes, word_at, words_at, words_bytes};
 ghost use Rattle.answer_lines.specs.Writing.{change_of};
 ghost use Rattle.unit_builder.specs.WorldOf.{world_of};
@@ -247,10 +247,10 @@ pub fn run_words<F: Files, O: Sink, E: Sink, D: Finder>(
     ensures single_unit { (held : Held) (bytes signature : List ℕ) → F.held files.old ≡ Some held
         → AsksForUnit (words_bytes words.now) held bytes
         → PrintsProvedUnit (O.written out.old) (O.written out.new) signature → SpellSafeUnit bytes signature }
-    // The unit of a method of an assembly whose line was printed as proved is safe.
-    ensures checked { (held : Held) (bytes : List ℕ) (method : MethodRow) → F.held files.old ≡ Some held
-        → AsksToCheck (words_bytes words.now) held bytes → Contains (methods_of bytes) method
-        → PrintsMethod (O.written out.old) (O.written out.new) method → IsSafeMethod bytes method }
+    // The unit of a method of an assembly that the assembly's report has told to be proved is safe.
+    ensures checked { (held : Held) (k : ℕ) (bytes text : List ℕ) (method : MethodRow) → F.held files.old ≡ Some held
+        → IsAssemblyOf (words_bytes words.now) held k bytes → WasAppended (O.written out.old) (O.written out.new) text
+        → Contains (methods_of bytes) method → HasProvedLine (section k text) method → IsSafeMethod bytes method }
 
     // Each status that a device can bring comes only where its count rose in this call.
     ensures missing_cause { result ≡ 3 → Rose (F.missed files.old) (F.missed files.new) }

@@ -1,6 +1,7 @@
 -- The frames of a run that begins.
 use Rattle.std.proofs.Common.{◌≡◌, ℕ, ◌≤◌, true, List, [], ◌∷◌, length, reverse, refl, ap, arith}
 use Rattle.std.proofs.lemmas.List.{length-reverse}
+use Rattle.cil_model.specs.Limits.{MAX_OLD_VALUES, MAX_VARIABLES}
 use Rattle.cil_model.specs.Values.{Heap}
 use Rattle.cil_model.specs.declared.machine.Value.{Value}
 use Rattle.cil_model.specs.declared.unit.Unit.{Unit as MethodUnit}
@@ -19,7 +20,7 @@ pub values_many : (given : List Arg) → length (values_back given) ≡ length g
 values_many [] = refl
 values_many (arg ∷ given) = omega (arith, values_many given)
 
-pub few_values : (unit : MethodUnit) (given : List Arg) (values : List Value) → IsRunnable unit → args_fit unit.args given ≡ true → values ≡ values_of given → length values ≤ 128
+pub few_values : (unit : MethodUnit) (given : List Arg) (values : List Value) → IsRunnable unit → args_fit unit.args given ≡ true → values ≡ values_of given → length values ≤ MAX_VARIABLES
 few_values unit given values runs fit is =
     let many = ap length is in
     omega (arith, many, length-reverse (values_back (reverse given)), values_many (reverse given), length-reverse given, fit_long unit.args given fit, runs.args)
@@ -45,10 +46,10 @@ pub begun_for : (depth : ℕ) (unit : MethodUnit) (index : ℕ) (args : List Val
     → HoldDepth depth (begun unit index args heap frames)
 begun_for depth unit index args heap frames h = record {
   stack = h.stack;
-  args = for_top 128 depth frames.args _ h.args;
-  locals = for_top 128 depth frames.locals _ h.locals;
-  entry_args = for_top 128 depth frames.entry_args _ h.entry_args;
-  olds = for_top 64 depth frames.olds _ h.olds;
+  args = for_top MAX_VARIABLES depth frames.args _ h.args;
+  locals = for_top MAX_VARIABLES depth frames.locals _ h.locals;
+  entry_args = for_top MAX_VARIABLES depth frames.entry_args _ h.entry_args;
+  olds = for_top MAX_OLD_VALUES depth frames.olds _ h.olds;
   positions = for_top 1 depth frames.positions _ h.positions;
   line = h.line;
 }

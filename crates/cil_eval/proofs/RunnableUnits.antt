@@ -23,7 +23,7 @@ use Rattle.cil_model.specs.WellFormed.{IsWellFormed}
 use Rattle.cil_model.proofs.ShortCodes.{code_lies}
 use Rattle.cil_eval.specs.Flows.{AreRunnable, IsRunnable}
 use Rattle.cil_eval.specs.LaidOut.{LieFrom}
-use Rattle.cil_eval.specs.RunWorlds.{CanBeRun, HasBodyToRun}
+use Rattle.cil_eval.specs.RunWorlds.{CanBeRun}
 use Rattle.clause_eval.specs.Told.{LacksResult, OldsLackResult, olds_in, olds_in_clauses}
 
 -- ---- code
@@ -141,9 +141,9 @@ can_run unit formed =
       olds = all_lack unit.args unit.result unit.clauses formed.numbers;
     }
 
-all_can : (units : List MethodUnit) → AllByRecursion HasBodyToRun units → AllByRecursion IsRunnable units
+all_can : (units : List MethodUnit) → AllByRecursion IsWellFormed units → AllByRecursion IsRunnable units
 all_can [] all = tt
-all_can (unit ∷ units) all = (can_run unit all.0.formed, all_can units all.1)
+all_can (unit ∷ units) all = (can_run unit all.0, all_can units all.1)
 
 pub world_can : (w : World) → CanBeRun w → AreRunnable w
 world_can w can = all_can w.units can.units

@@ -7,6 +7,7 @@ use Rattle.cil_model.specs.Configs.{IsFrame, IsFrameOf}
 use Rattle.cil_model.specs.Kinds.{kind_of, pushed_kind}
 use Rattle.cil_model.specs.Runs.{MayBegin}
 use Rattle.cil_model.specs.Values.{Heap, IsValue}
+use Rattle.cil_model.specs.WellFormed.{IsWellFormed}
 use Rattle.cil_model.specs.declared.machine.Frame.{Frame}
 use Rattle.cil_model.specs.declared.machine.Value.{Value}
 use Rattle.cil_model.specs.declared.machine.Value.TheVariants as values
@@ -19,7 +20,7 @@ use Rattle.cil_model.proofs.StepsKeep.{entry_frame_is}
 use Rattle.cil_eval.specs.Held.{olds_of, olds_of_unit}
 use Rattle.cil_eval.specs.Machines.{Fits, GoesOn, IsSmall, Leads}
 use Rattle.cil_eval.specs.Outcome.{State, Turn, To, Ends, Stuck, entry_state, turn}
-use Rattle.cil_eval.specs.RunWorlds.{CanBeRun, HasBodyToRun}
+use Rattle.cil_eval.specs.RunWorlds.{CanBeRun}
 use Rattle.cil_eval.specs.StackRows.{IsLength}
 use Rattle.cil_eval.specs.declared.limits.Limits.{Limits}
 use Rattle.cil_eval.specs.declared.stop.Stop.TheVariants as stops
@@ -62,8 +63,8 @@ module _ (w : World) (limits : Limits) (can : CanBeRun w) where
   small heap f stands is few =
       let unit = stands.unit in
       let frame : IsFrameOf unit heap f = subst (λ (u : MethodUnit). IsFrameOf u heap f) (same_Some is.unit unit (sym is.of ∙ stands.of)) is.is in
-      let runs = can_run unit stands.runs.formed in
-      let variables = stands.runs.formed.limits.variables in
+      let runs = can_run unit stands.formed in
+      let variables = stands.formed.limits.variables in
       record {
         stack = omega (arith, few, variables);
         args = omega (arith, as_many heap unit.args f.args frame.args, runs.args);
@@ -107,12 +108,12 @@ module _ (w : World) (limits : Limits) (can : CanBeRun w) where
   begins : (unit : MethodUnit) (index : ℕ) (args : List Value) (heap : Heap) → slice_get w.units index ≡ Some unit → MayBegin unit args heap → 1 ≤ limits.depth
       → IsSound w limits can (entry_state unit index args heap)
   begins unit index args heap of may deep =
-      let runs = unit_can HasBodyToRun w index unit of can.units in
+      let formed = unit_can IsWellFormed w index unit of can.units in
       record {
-        config = (may.heap_is, (record { unit = unit; of = of; is = entry_frame_is unit index args heap runs.formed.locals may.heap_is may.fit }, tt));
+        config = (may.heap_is, (record { unit = unit; of = of; is = entry_frame_is unit index args heap formed.locals may.heap_is may.fit }, tt));
         typed_is = record {
           running = record {
-            stands = record { unit = unit; of = of; runs = runs; inside = omega arith; kinds = []; before = runs.body.empty };
+            stands = record { unit = unit; of = of; formed = formed; inside = omega arith; kinds = []; before = formed.runs.body.empty };
             forms = tt;
             few = omega arith;
           };

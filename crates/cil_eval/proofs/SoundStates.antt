@@ -8,13 +8,15 @@ use Rattle.cil_model.specs.Calls.{FreeCall, ReturnRow, behind_call as frame_behi
 use Rattle.cil_model.specs.Clauses.{false_requires}
 use Rattle.cil_model.specs.Configs.{IsConfig, IsFrame, IsFrameOf}
 use Rattle.cil_model.specs.Effects.{Effect, GoesOn as OneGoesOn, Faults, Assumes, FindsNoRoom, HasEffect, effects}
-use Rattle.cil_model.specs.FitKinds.{AreDecoded, OperandFits, is_executed}
+use Rattle.cil_model.specs.Bodies.{is_executed}
+use Rattle.cil_model.specs.FitKinds.{AreDecoded, OperandFits}
 use Rattle.cil_model.specs.Kinds.{behind, behind_call, behind_callee, kind_of, operand_count, pushed_kind, take_each, typed, within_size}
 use Rattle.cil_model.specs.Passes.{Stacks, follow, merged, stack_at, successors, visited}
 use Rattle.cil_model.specs.Runs.{CallsBy, EffectRow, Row, Step, instr_at}
 use Rattle.cil_model.specs.Shapes.{shape_of}
 use Rattle.cil_model.specs.UnitCalls.{unit_call}
 use Rattle.cil_model.specs.Values.{Heap, IsValue, KeepsForms, put}
+use Rattle.cil_model.specs.WellFormed.{IsWellFormed}
 use Rattle.cil_model.specs.declared.instruction.Instr.{Instr}
 use Rattle.cil_model.specs.declared.instruction.Op.{Op}
 use Rattle.cil_model.specs.declared.instruction.Op.TheVariants as ops
@@ -46,7 +48,7 @@ use Rattle.cil_model.proofs.StepsFit.{comes, defined}
 use Rattle.cil_model.proofs.StepsKeep.{MakesValues, code_makes_values, step_keeps}
 use Rattle.cil_eval.specs.Machines.{Leads}
 use Rattle.cil_eval.specs.Outcome.{State, Turn, To, Ends, Stuck, after_args, after_array, after_call, after_callee, after_effect, after_effects, after_ensures, after_index, after_instr, after_op, after_requires, after_result, after_unit, config_of, resumed, turn}
-use Rattle.cil_eval.specs.RunWorlds.{CanBeRun, HasBodyToRun}
+use Rattle.cil_eval.specs.RunWorlds.{CanBeRun}
 use Rattle.clause_eval.specs.Stores.{cells_of}
 use Rattle.cil_eval.specs.declared.limits.Limits.{Limits}
 use Rattle.cil_eval.specs.declared.stop.Stop.TheVariants as stops
@@ -154,10 +156,10 @@ module _ (w : World) (limits : Limits) (can : CanBeRun w) where
   pub record Stands (f : Frame) : Type 0 where
     pub unit : MethodUnit
     pub of : slice_get w.units f.unit ≡ Some unit
-    pub runs : HasBodyToRun unit
+    pub formed : IsWellFormed unit
     pub inside : unit.body_start ≤ f.at
     pub kinds : List Kind
-    pub before : stack_at unit.instrs runs.stacks f.at ≡ Some kinds
+    pub before : stack_at unit.instrs formed.runs.stacks f.at ≡ Some kinds
 
   -- The frame that runs.
   pub record Stacked (heap : Heap) (f : Frame) : Type 0 where
@@ -187,8 +189,8 @@ module _ (w : World) (limits : Limits) (can : CanBeRun w) where
   all_wait_on old new kept result (f ∷ fs) (h, others) =
       (record { stands = h.stands; rest = h.rest; merge = h.merge; forms = HaveForms-kept old new kept h.rest f.stack h.forms; few = h.few }, all_wait_on old new kept h.stands.unit.result fs others)
 
-  decoded : (unit : MethodUnit) → HasBodyToRun unit → AreDecoded unit.instrs
-  decoded unit runs = code_is_decoded unit.instrs unit.code runs.formed.code
+  decoded : (unit : MethodUnit) → IsWellFormed unit → AreDecoded unit.instrs
+  decoded unit formed = code_is_decoded unit.instrs unit.code formed.code
 
   module _ (s : State) (typed_is : IsTyped s) (config : IsConfig w.units (config_of s)) where
     abbrev f : Frame
@@ -212,33 +214,33 @@ module _ (w : World) (limits : Limits) (can : CanBeRun w) where
       here : i.at ≡ f.at
       here = found_at unit.instrs f.at i found
 
-      settle : Settled (shape_of unit) unit.instrs st.runs.stacks i st.kinds
-      settle = settled (shape_of unit) unit.instrs st.runs.stacks f.at i st.kinds (decoded unit st.runs) st.runs.kinds found st.before
+      settle : Settled (shape_of unit) unit.instrs st.formed.runs.stacks i st.kinds
+      settle = settled (shape_of unit) unit.instrs st.formed.runs.stacks f.at i st.kinds (decoded unit st.formed) st.formed.runs.kinds found st.before
 
       few : length settle.after ≤ unit.max_stack
       few =
-          let visits = of_found (λ j. visited (shape_of unit) unit.instrs st.runs.stacks j (stack_at unit.instrs st.runs.stacks j.at) ≡ Ok st.runs.stacks) unit.instrs f.at i
-          (visit_each (shape_of unit) unit.instrs unit.instrs st.runs.stacks st.runs.kinds.settled) found in
-          let at : stack_at unit.instrs st.runs.stacks i.at ≡ Some st.kinds = ap (stack_at unit.instrs st.runs.stacks) here ∙ st.before in
-          let visit = subst (λ (stack : Option (List Kind)). visited (shape_of unit) unit.instrs st.runs.stacks i stack ≡ Ok st.runs.stacks) at visits in
-          few_left (shape_of unit) unit.instrs st.runs.stacks i st.kinds settle.after (typed (shape_of unit) i st.kinds) refl visit settle.typed
+          let visits = of_found (λ j. visited (shape_of unit) unit.instrs st.formed.runs.stacks j (stack_at unit.instrs st.formed.runs.stacks j.at) ≡ Ok st.formed.runs.stacks) unit.instrs f.at i
+          (visit_each (shape_of unit) unit.instrs unit.instrs st.formed.runs.stacks st.formed.runs.kinds.settled) found in
+          let at : stack_at unit.instrs st.formed.runs.stacks i.at ≡ Some st.kinds = ap (stack_at unit.instrs st.formed.runs.stacks) here ∙ st.before in
+          let visit = subst (λ (stack : Option (List Kind)). visited (shape_of unit) unit.instrs st.formed.runs.stacks i stack ≡ Ok st.formed.runs.stacks) at visits in
+          few_left (shape_of unit) unit.instrs st.formed.runs.stacks i st.kinds settle.after (typed (shape_of unit) i st.kinds) refl visit settle.typed
 
       executed : is_executed i.op ≡ true
-      executed = of_found (λ j. unit.body_start ≤ j.at → is_executed j.op ≡ true) unit.instrs f.at i st.runs.body.executed found (omega (arith, here, st.inside))
+      executed = of_found (λ j. unit.body_start ≤ j.at → is_executed j.op ≡ true) unit.instrs f.at i st.formed.runs.body.executed found (omega (arith, here, st.inside))
 
       stays_inside : AllByRecursion (λ at. unit.body_start ≤ at) (successors i.op next)
       stays_inside =
           successors_inside unit.body_start i.op next (omega (arith, here, st.inside))
-          (of_found (λ j. unit.body_start ≤ j.at → AllByRecursion (λ at. unit.body_start ≤ at) (branch_targets j.op)) unit.instrs f.at i st.runs.body.inside found (omega (arith, here, st.inside)))
+          (of_found (λ j. unit.body_start ≤ j.at → AllByRecursion (λ at. unit.body_start ≤ at) (branch_targets j.op)) unit.instrs f.at i st.formed.runs.body.inside found (omega (arith, here, st.inside)))
 
-      absorbed : (at : ℕ) → IsOneOf (successors i.op next) at → Absorbs (stack_at unit.instrs st.runs.stacks at) settle.after
-      absorbed at place = at_one (λ at. Absorbs (stack_at unit.instrs st.runs.stacks at) settle.after) (successors i.op next) at settle.onward place
+      absorbed : (at : ℕ) → IsOneOf (successors i.op next) at → Absorbs (stack_at unit.instrs st.formed.runs.stacks at) settle.after
+      absorbed at place = at_one (λ at. Absorbs (stack_at unit.instrs st.formed.runs.stacks at) settle.after) (successors i.op next) at settle.onward place
 
       stands_at : (g : Frame) → g.unit ≡ f.unit → IsOneOf (successors i.op next) g.at → Stands g
       stands_at g same place = record {
         unit = unit;
         of = ap (slice_get w.units) same ∙ st.of;
-        runs = st.runs;
+        formed = st.formed;
         inside = at_one (λ at. unit.body_start ≤ at) (successors i.op next) g.at stays_inside place;
         kinds = (absorbed g.at place).kinds;
         before = (absorbed g.at place).reached;
@@ -258,7 +260,7 @@ module _ (w : World) (limits : Limits) (can : CanBeRun w) where
           let went = comes unit i f s.heap st.kinds settle.after settle.typed frame.args frame.locals typed_is.running.forms (configs.Live (g ∷ []) heap)
           (up (configs.Live (g ∷ []) heap) (OneGoesOn g heap, has, refl)) in
           let keeps : Continues unit f s.heap f.stack g heap =
-          effect_keeps unit i f s.heap (OneGoesOn g heap) (of_found (λ j. OperandFits j.op) unit.instrs f.at i (decoded unit st.runs).constants found) has in
+          effect_keeps unit i f s.heap (OneGoesOn g heap) (of_found (λ j. OperandFits j.op) unit.instrs f.at i (decoded unit st.formed).constants found) has in
           let absorbs = absorbed g.at went.0 in
           record {
             running = record {
@@ -291,10 +293,10 @@ module _ (w : World) (limits : Limits) (can : CanBeRun w) where
               stands = record {
                 unit = h.stands.unit;
                 of = ap (slice_get w.units) (pushed_unit caller result) ∙ h.stands.of;
-                runs = h.stands.runs;
+                formed = h.stands.formed;
                 inside = subst (λ n. h.stands.unit.body_start ≤ n) (sym (pushed_at caller result)) h.stands.inside;
                 kinds = h.stands.kinds;
-                before = ap (stack_at h.stands.unit.instrs h.stands.runs.stacks) (pushed_at caller result) ∙ h.stands.before;
+                before = ap (stack_at h.stands.unit.instrs h.stands.formed.runs.stacks) (pushed_at caller result) ∙ h.stands.before;
               };
               forms = HaveForms-merged s.heap h.stands.kinds (pushed_kind (kind_of unit.result) h.rest) h.stands.kinds (pushed caller result).stack h.merge forms;
               few = omega (arith, h.few, many_forms s.heap (pushed_kind (kind_of unit.result) h.rest) (pushed caller result).stack forms);
@@ -338,11 +340,11 @@ module _ (w : World) (limits : Limits) (can : CanBeRun w) where
         unfolding stands_at absorbed
         enters c args deep =
             let caller = frame_behind_call i (length c.named.args) f in
-            let runs = unit_can HasBodyToRun w c.index c.named c.named_is can.units in
+            let formed = unit_can IsWellFormed w c.index c.named c.named_is can.units in
             let absorbs = absorbed next at_next in
             record {
               running = record {
-                stands = record { unit = c.named; of = c.named_is; runs = runs; inside = omega arith; kinds = []; before = runs.body.empty };
+                stands = record { unit = c.named; of = c.named_is; formed = formed; inside = omega arith; kinds = []; before = formed.runs.body.empty };
                 forms = tt;
                 few = omega arith;
               };
@@ -392,7 +394,7 @@ module _ (w : World) (limits : Limits) (can : CanBeRun w) where
 
     step_leads : Leads IsTyped (turn w limits s)
     step_leads =
-        let (i, found) = reached_begins unit.instrs st.runs.stacks f.at st.kinds st.before in
+        let (i, found) = reached_begins unit.instrs st.formed.runs.stacks f.at st.kinds st.before in
         subst (λ (u : Option MethodUnit). Leads IsTyped (after_unit w limits s u)) (sym st.of)
         (subst (λ (i : Option Instr). Leads IsTyped (after_instr w limits s unit i)) (sym found) (by_op i found i.op refl))
 
@@ -404,7 +406,7 @@ module _ (w : World) (limits : Limits) (can : CanBeRun w) where
 
   make_values : (m : ℕ) (unit : MethodUnit) → slice_get w.units m ≡ Some unit → MakesValues unit
   make_values m unit of =
-      let runs = unit_can HasBodyToRun w m unit of can.units in code_makes_values unit runs.formed.code runs.formed.locals
+      let formed = unit_can IsWellFormed w m unit of can.units in code_makes_values unit formed.code formed.locals
 
   both : (s : State) → IsConfig w.units (config_of s) → (t : Turn) → Comes limits (Step w (config_of s)) t → Leads IsTyped t → Leads IsSound t
   both s config (To new) step typed_is = record { config = (step_keeps w (config_of s) (config_of new) make_values config step).0; typed_is = typed_is }

@@ -2,6 +2,7 @@
 use Rattle.std.proofs.Common.{◌≡◌, ℕ, ◌+◌, ◌*◌, ◌≤◌, List, [], ◌∷◌, length, map, sym, ap, subst, ◌∙◌, arith}
 use Rattle.std.specs.List.{AllByRecursion}
 use Rattle.std.proofs.lemmas.List.{length-map}
+use Rattle.cil_model.specs.Limits.{MAX_OLD_VALUES, MAX_VARIABLES}
 use Rattle.cil_model.specs.Values.{Heap}
 use Rattle.cil_model.specs.declared.machine.Frame.{Frame}
 use Rattle.cil_model.specs.declared.machine.World.{World}
@@ -25,10 +26,10 @@ fewer most count p h few = record { items = omega (arith, h.items); lists = h.li
 pub room_to_call : (unit : MethodUnit) (frames : Frames) → HasSpace frames → IsRunnable unit → HasRoomToCall unit frames
 room_to_call unit frames space runs = record {
   stack = space.stack.lists;
-  args = fewer 128 (length unit.args) frames.args space.args runs.args;
-  locals = fewer 128 (length unit.locals) frames.locals space.locals runs.locals;
-  entry_args = fewer 128 (length unit.args) frames.entry_args space.entry_args runs.args;
-  olds = fewer 64 _ frames.olds space.olds runs.few_olds;
+  args = fewer MAX_VARIABLES (length unit.args) frames.args space.args runs.args;
+  locals = fewer MAX_VARIABLES (length unit.locals) frames.locals space.locals runs.locals;
+  entry_args = fewer MAX_VARIABLES (length unit.args) frames.entry_args space.entry_args runs.args;
+  olds = fewer MAX_OLD_VALUES _ frames.olds space.olds runs.few_olds;
   positions = omega (arith, space.positions.items);
   caller = space.caller;
 }
@@ -61,11 +62,11 @@ space w limits frames heap s holds room fits =
     let one : length_of_all frames.positions.below ≡ 0 = ap length_of_all room.line in
     let flat : length frames.positions.below ≡ 0 = ap length room.line in
     record {
-      stack = fewer 128 1 frames.stack (room_for 128 limits.depth (λ f. f.stack) s frames.stack holds.stack room.stack fits.deep (each (IsSmall w) _ (λ f h. h.stack) all fits.frames)) (omega arith);
-      args = room_for 128 limits.depth (λ f. f.args) s frames.args holds.args room.args fits.deep (each (IsSmall w) _ (λ f h. h.args) all fits.frames);
-      locals = room_for 128 limits.depth (λ f. f.locals) s frames.locals holds.locals room.locals fits.deep (each (IsSmall w) _ (λ f h. h.locals) all fits.frames);
-      entry_args = room_for 128 limits.depth (λ f. f.entry_args) s frames.entry_args holds.entry_args room.entry_args fits.deep (each (IsSmall w) _ (λ f h. h.entry_args) all fits.frames);
-      olds = room_for 64 limits.depth (olds_of w) s frames.olds holds.olds room.olds fits.deep (each (IsSmall w) _ (λ f h. h.olds) all fits.frames);
+      stack = fewer MAX_VARIABLES 1 frames.stack (room_for MAX_VARIABLES limits.depth (λ f. f.stack) s frames.stack holds.stack room.stack fits.deep (each (IsSmall w) _ (λ f h. h.stack) all fits.frames)) (omega arith);
+      args = room_for MAX_VARIABLES limits.depth (λ f. f.args) s frames.args holds.args room.args fits.deep (each (IsSmall w) _ (λ f h. h.args) all fits.frames);
+      locals = room_for MAX_VARIABLES limits.depth (λ f. f.locals) s frames.locals holds.locals room.locals fits.deep (each (IsSmall w) _ (λ f h. h.locals) all fits.frames);
+      entry_args = room_for MAX_VARIABLES limits.depth (λ f. f.entry_args) s frames.entry_args holds.entry_args room.entry_args fits.deep (each (IsSmall w) _ (λ f h. h.entry_args) all fits.frames);
+      olds = room_for MAX_OLD_VALUES limits.depth (olds_of w) s frames.olds holds.olds room.olds fits.deep (each (IsSmall w) _ (λ f h. h.olds) all fits.frames);
       positions = record { items = omega (arith, one, places, fits.deep, room.positions.items); lists = omega (arith, flat, fits.deep, room.positions.lists) };
       caller = omega (arith, places);
     }

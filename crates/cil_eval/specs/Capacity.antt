@@ -3,6 +3,7 @@ use Rattle.std.specs.Prelude.{◌≡◌, ℕ, ◌+◌, ◌*◌, ◌≤◌, [], l
 use Rattle.clause_eval.specs.Piles.{HasRoomFor}
 use Rattle.clause_eval.specs.Piles.{Piled}
 use Rattle.cil_eval.specs.declared.frames.Frames.{Frames}
+use Rattle.cil_model.specs.Limits.{MAX_OLD_VALUES, MAX_VARIABLES}
 
 -- ---- what stays
 
@@ -25,10 +26,10 @@ pub record SameRooms (old new : Frames) : Type 0 where
 -- The frames have room for one value more, and for a frame of any method.
 pub record HasSpace (frames : Frames) : Type 0 where
   pub stack : HasRoomFor 1 frames.stack
-  pub args : HasRoomFor 128 frames.args
-  pub locals : HasRoomFor 128 frames.locals
-  pub entry_args : HasRoomFor 128 frames.entry_args
-  pub olds : HasRoomFor 64 frames.olds
+  pub args : HasRoomFor MAX_VARIABLES frames.args
+  pub locals : HasRoomFor MAX_VARIABLES frames.locals
+  pub entry_args : HasRoomFor MAX_VARIABLES frames.entry_args
+  pub olds : HasRoomFor MAX_OLD_VALUES frames.olds
   pub positions : HasRoomFor 1 frames.positions
   pub caller : 1 ≤ length frames.positions.top
 
@@ -41,10 +42,10 @@ pub record IsFor {X : Type 0} (count depth : ℕ) (p : Piled X) : Type 0 where
 
 -- The frames have memory for runs of this depth, and positions lie in one list.
 pub record HoldDepth (depth : ℕ) (frames : Frames) : Type 0 where
-  pub stack : IsFor 128 depth frames.stack
-  pub args : IsFor 128 depth frames.args
-  pub locals : IsFor 128 depth frames.locals
-  pub entry_args : IsFor 128 depth frames.entry_args
-  pub olds : IsFor 64 depth frames.olds
+  pub stack : IsFor MAX_VARIABLES depth frames.stack
+  pub args : IsFor MAX_VARIABLES depth frames.args
+  pub locals : IsFor MAX_VARIABLES depth frames.locals
+  pub entry_args : IsFor MAX_VARIABLES depth frames.entry_args
+  pub olds : IsFor MAX_OLD_VALUES depth frames.olds
   pub positions : IsFor 1 depth frames.positions
   pub line : frames.positions.below ≡ []

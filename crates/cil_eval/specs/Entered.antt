@@ -1,5 +1,6 @@
 -- The frames at the start of a method.
 use Rattle.std.specs.Prelude.{◌≡◌, ℕ, ◌+◌, ◌<◌, ◌≤◌, List, [], ◌∷◌, ◌++◌, length, map, drop}
+use Rattle.cil_model.specs.Limits.{MAX_OLD_VALUES, MAX_VARIABLES}
 use Rattle.cil_model.specs.Values.{Heap, zero_of}
 use Rattle.cil_model.specs.declared.machine.Value.{Value}
 use Rattle.cil_model.specs.declared.unit.Unit.{Unit as MethodUnit}
@@ -65,10 +66,10 @@ left frames = record {
 
 -- The frames have room for a frame of any method.
 pub record HasRoomToBegin (frames : Frames) : Type 0 where
-  pub args : size_of frames.args + 128 ≤ frames.args.room
-  pub locals : size_of frames.locals + 128 ≤ frames.locals.room
-  pub entry_args : size_of frames.entry_args + 128 ≤ frames.entry_args.room
-  pub olds : size_of frames.olds + 64 ≤ frames.olds.room
+  pub args : size_of frames.args + MAX_VARIABLES ≤ frames.args.room
+  pub locals : size_of frames.locals + MAX_VARIABLES ≤ frames.locals.room
+  pub entry_args : size_of frames.entry_args + MAX_VARIABLES ≤ frames.entry_args.room
+  pub olds : size_of frames.olds + MAX_OLD_VALUES ≤ frames.olds.room
   pub positions : size_of frames.positions < frames.positions.room
 
 -- The frames, of which there were none, with one of this unit, which begins with these arguments over this heap.

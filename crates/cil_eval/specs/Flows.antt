@@ -1,6 +1,7 @@
 -- Where operations lead, and the worlds whose units can be run.
 use Rattle.std.specs.Prelude.{◌+◌, ◌^◌, ◌<◌, ◌≤◌, length, Option, Some}
 use Rattle.std.specs.List.{AllByRecursion}
+use Rattle.cil_model.specs.Limits.{MAX_OLD_VALUES, MAX_VARIABLES}
 use Rattle.cil_model.specs.UnitCalls.{unit_call}
 use Rattle.cil_model.specs.declared.clause.Clause.{Clause}
 use Rattle.cil_model.specs.declared.instruction.Instr.{Instr}
@@ -30,10 +31,10 @@ flow_of _ = flows.Stays
 pub record IsRunnable (unit : MethodUnit) : Type 0 where
   pub laid : AreLaidOut unit.instrs
   pub behind : AllByRecursion (λ (i : Instr). i.at + i.size < 2 ^ 32) unit.instrs
-  pub args : length unit.args ≤ 128
-  pub locals : length unit.locals ≤ 128
+  pub args : length unit.args ≤ MAX_VARIABLES
+  pub locals : length unit.locals ≤ MAX_VARIABLES
   pub clauses : length unit.clauses < 256
-  pub few_olds : olds_in_clauses unit.clauses ≤ 64
+  pub few_olds : olds_in_clauses unit.clauses ≤ MAX_OLD_VALUES
   pub olds : AllByRecursion (λ (clause : Clause). OldsLackResult clause.tree) unit.clauses
 
 abbrev pub AreRunnable : World → Type 0

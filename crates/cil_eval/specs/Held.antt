@@ -1,5 +1,6 @@
 -- How the machine holds a state: all of it but the heaps at entry, of which it has the old values.
 use Rattle.std.specs.Prelude.{◌≡◌, ℕ, ◌+◌, List, [], ◌∷◌, map, drop, Option, Some, None, slice_get}
+use Rattle.cil_model.specs.Calls.{clauses_in_force}
 use Rattle.cil_model.specs.Values.{Heap}
 use Rattle.cil_model.specs.declared.instruction.Instr.{Instr}
 use Rattle.cil_model.specs.declared.machine.Frame.{Frame}
@@ -23,7 +24,7 @@ position_of f = record { unit = f.unit; at = f.at }
 
 abbrev pub olds_of_unit : Option MethodUnit → List Value → Heap → List (Option Value)
 olds_of_unit None args entry = []
-olds_of_unit (Some unit) args entry = olds_of_clauses unit.clauses args entry
+olds_of_unit (Some unit) args entry = olds_of_clauses (clauses_in_force unit) args entry
 
 -- The old values of a frame, when its method began.
 abbrev pub olds_of : World → Frame → List (Option Value)

@@ -1,6 +1,7 @@
 -- The machine as contracts see it, and the runs that it does.
 use Rattle.std.specs.Prelude.{◌≡◌, ◌≢◌, ℕ, zero, suc, ◌+◌, ◌≤◌, min, ◌∷◌, length, Option, Some, None}
 use Rattle.std.specs.List.{AllByRecursion}
+use Rattle.cil_model.specs.Limits.{MAX_OLD_VALUES, MAX_VARIABLES}
 use Rattle.cil_model.specs.Runs.{Step, StepsTo}
 use Rattle.cil_model.specs.declared.machine.Frame.{Frame}
 use Rattle.cil_model.specs.declared.machine.Value.{Value}
@@ -31,11 +32,11 @@ pub record Machinery : Type 0 where
 
 -- The lists of a frame are no longer than a method may have them.
 pub record IsSmall (w : World) (f : Frame) : Type 0 where
-  pub stack : length f.stack ≤ 128
-  pub args : length f.args ≤ 128
-  pub locals : length f.locals ≤ 128
-  pub entry_args : length f.entry_args ≤ 128
-  pub olds : length (olds_of w f) ≤ 64
+  pub stack : length f.stack ≤ MAX_VARIABLES
+  pub args : length f.args ≤ MAX_VARIABLES
+  pub locals : length f.locals ≤ MAX_VARIABLES
+  pub entry_args : length f.entry_args ≤ MAX_VARIABLES
+  pub olds : length (olds_of w f) ≤ MAX_OLD_VALUES
 
 pub record Fits (w : World) (limits : Limits) (s : State) : Type 0 where
   pub frames : AllByRecursion (IsSmall w) (s.running ∷ s.below)
@@ -127,7 +128,7 @@ pub record HasMemory (limits : Limits) (w : World) (frames : Frames) (store : St
 pub record IsReady (limits : Limits) (w : World) (frames : Frames) (store : Store) (values : Piled Value) : Type 0 where
   pub memory : HasMemory limits w frames store
   pub deep : 1 ≤ limits.depth
-  pub values_room : values.room ≡ 128
+  pub values_room : values.room ≡ MAX_VARIABLES
 
 -- ---- the calls of a machine
 

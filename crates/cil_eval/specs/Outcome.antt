@@ -1,6 +1,6 @@
 -- The end of the one run of a method under limits, in which an array finds room while the cells last.
 use Rattle.std.specs.Prelude.{ℕ, zero, suc, ◌+◌, nat_le, List, [], ◌∷◌, ◌++◌, length, reverse, Option, Some, None, slice_get, if◌then◌else◌}
-use Rattle.cil_model.specs.Calls.{args_of, behind_call, callee_index, ensures_fault, entry_frame, pushed, result_of}
+use Rattle.cil_model.specs.Calls.{args_of, behind_call, callee_index, clauses_in_force, ensures_fault, entry_frame, pushed, result_of}
 use Rattle.cil_model.specs.Clauses.{false_requires}
 use Rattle.cil_model.specs.Effects.{Effect, GoesOn, Faults, Assumes, FindsNoRoom, effects}
 use Rattle.cil_model.specs.Runs.{instr_at}
@@ -75,7 +75,7 @@ after_requires limits s i index callee args None =
 
 abbrev pub after_args : Limits → State → Instr → ℕ → MethodUnit → Option (List Value) → Turn
 after_args limits s i index callee None = Stuck
-after_args limits s i index callee (Some args) = after_requires limits s i index callee args (false_requires callee.clauses args s.heap)
+after_args limits s i index callee (Some args) = after_requires limits s i index callee args (false_requires (clauses_in_force callee) args s.heap)
 
 abbrev pub after_callee : Limits → State → Instr → ℕ → Option MethodUnit → Turn
 after_callee limits s i index None = Stuck

@@ -1,5 +1,6 @@
 -- How runs start, and why they do not.
 use Rattle.std.specs.Prelude.{◌≡◌, ◌≢◌, ℕ, ◌≤◌, nat_le, true, List, Option, Some, None, slice_get, if◌then◌else◌}
+use Rattle.cil_model.specs.Calls.{clauses_in_force}
 use Rattle.cil_model.specs.Clauses.{false_requires}
 use Rattle.cil_model.specs.declared.machine.Value.{Value}
 use Rattle.cil_model.specs.declared.machine.World.{World}
@@ -29,7 +30,7 @@ requires_refusal limits args None = cells_refusal limits args
 abbrev pub unit_refusal : Limits → List Arg → Option MethodUnit → Option StartRefusal
 unit_refusal limits args None = Some refusals.Unit
 unit_refusal limits args (Some unit) =
-    if args_fit unit.args args then requires_refusal limits args (false_requires unit.clauses (values_of args) (heap_of args)) else Some refusals.Arguments
+    if args_fit unit.args args then requires_refusal limits args (false_requires (clauses_in_force unit) (values_of args) (heap_of args)) else Some refusals.Arguments
 
 -- Why a run of the method of this index does not start with these arguments, if it does not.
 abbrev pub start_refusal : World → Limits → ℕ → List Arg → Option StartRefusal
@@ -56,7 +57,7 @@ pub record IsAdmitted (w : World) (limits : Limits) (index : ℕ) (args : List A
   pub unit_is : slice_get w.units index ≡ Some unit
   pub no_refusal : start_refusal w limits index args ≡ None
   pub fit : args_fit unit.args args ≡ true
-  pub required : false_requires unit.clauses (values_of args) (heap_of args) ≡ None
+  pub required : false_requires (clauses_in_force unit) (values_of args) (heap_of args) ≡ None
   pub few_cells : cells_of (heap_of args) ≤ limits.cells
   pub values_are : values ≡ values_of args
 

@@ -4,6 +4,7 @@ ghost use Rattle.std.specs.Prelude.{◌≡◌, ◌+◌, ◌≤◌, ◌++◌, len
 ghost use Rattle.cil_eval.specs.Entered.{HasRoomToBegin, HasRoomToEnter, begun, entered, left};
 ghost use Rattle.cil_eval.specs.Flows.{IsRunnable};
 ghost use Rattle.clause_eval.specs.Piles.{size_of};
+ghost use Rattle.cil_model.specs.Limits.{MAX_VARIABLES};
 
 use crate::arguments::put_locals;
 use crate::frames::{Frames, Position};
@@ -65,7 +66,7 @@ pub(crate) fn begin(
     memory: &Memory,
 )
     requires runnable { IsRunnable unit.now }
-    requires values { length values.now.top ≤ 128 }
+    requires values { length values.now.top ≤ MAX_VARIABLES }
     requires room { HasRoomToBegin frames.old }
     ensures { frames.new ≡ begun unit.now index values.now.top memory.now.heap frames.old }
 {

@@ -5,6 +5,7 @@ ghost use Rattle.cil_eval.specs.Given as given;
 ghost use Rattle.clause_eval.specs.GivenArrays.{AreShort, heap_of};
 ghost use Rattle.clause_eval.specs.Piles.{size_of};
 ghost use Rattle.clause_eval.specs.Stores.{cells_of};
+ghost use Rattle.cil_model.specs.Limits.{MAX_VARIABLES};
 
 use cil_model::{Place, Value};
 use clause_eval::{Arg, Memory, Pile, is_array, item_count};
@@ -61,7 +62,7 @@ pub(crate) fn args_fit(types: &[Place], args: &[Arg]) -> bool
 /// Returns how many arrays arguments make.
 #[tactic(auto, using(clause_eval::proofs::PileLemmas::turned_last))]
 fn array_count(args: &[Arg]) -> u32
-    requires { length args.now ≤ 128 }
+    requires { length args.now ≤ MAX_VARIABLES }
     ensures count { result ≡ given.array_count (reverse args.now) }
     ensures few { result ≤ length args.now }
 {
@@ -75,7 +76,7 @@ fn array_count(args: &[Arg]) -> u32
 /// The value of the argument of this number.
 #[tactic(auto, using(clause_eval::proofs::PileLemmas::turned_last))]
 fn value_at(args: &[Arg], k: usize) -> Value
-    requires { length args.now ≤ 128 }
+    requires { length args.now ≤ MAX_VARIABLES }
     ensures { result ≡ given.value_back (reverse args.now) k }
 {
     let [earlier @ .., last] = args else {
@@ -96,7 +97,7 @@ fn value_at(args: &[Arg], k: usize) -> Value
 /// Puts the values of arguments on a list, the last one first.
 #[tactic(auto, using(crate::proofs::StartLemmas::values_more))]
 pub(crate) fn put_values_of(args: &[Arg], values: &mut Pile<Value>)
-    requires few { length args.now ≤ 128 }
+    requires few { length args.now ≤ MAX_VARIABLES }
     requires room { size_of values.old + length args.now ≤ values.old.room }
     ensures { values.new ≡ record values.old { top = given.values_of args.now ++ values.old.top } }
 {

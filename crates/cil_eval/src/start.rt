@@ -1,6 +1,7 @@
 //! How runs start.
 
 ghost use Rattle.std.specs.Prelude.{◌≡◌, ◌≤◌, MatchResult, Some, None, slice_get, true};
+ghost use Rattle.cil_model.specs.Limits.{MAX_VARIABLES};
 ghost use Rattle.cil_model.specs.declared.machine.World.{World};
 ghost use Rattle.cil_eval.specs.Capacity.{HoldDepth};
 ghost use Rattle.cil_eval.specs.Flows.{AreRunnable, IsRunnable};
@@ -28,9 +29,9 @@ pub(crate) fn admitted<'w>(
     values: &mut Pile<Value>,
 ) -> Result<&'w Unit, StartRefusal>
     requires runnable { AreRunnable world.now }
-    requires room { values.old.room ≡ 128 }
+    requires room { values.old.room ≡ MAX_VARIABLES }
     ensures admitted { MatchResult result (λ unit. IsAdmitted world.now limits index args.now values.new.top unit.now) (λ refusal. start_refusal world.now limits index args.now ≡ Some refusal) }
-    ensures room { values.new.room ≡ 128 }
+    ensures room { values.new.room ≡ MAX_VARIABLES }
 {
     let Some(unit) = unit_at(world, index) else {
         return Err(StartRefusal::Unit);

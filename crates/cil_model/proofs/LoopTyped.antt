@@ -2,7 +2,8 @@
 -- brings merge to an array, and an item of it is loaded.
 use Rattle.std.proofs.Common.{pos, FitsSigned, [], ◌∷◌, Some, refl, w32, arith}
 use Rattle.std.proofs.lemmas.Int.{ints}
-use Rattle.cil_model.specs.FitKinds.{HasBody, AreDecoded, NeverStuck}
+use Rattle.cil_model.specs.Bodies.{HasBody}
+use Rattle.cil_model.specs.FitKinds.{AreDecoded, NeverStuck}
 use Rattle.cil_model.specs.Passes.{KindsOf, Stacks}
 use Rattle.cil_model.specs.Shapes.{shape_of}
 use Rattle.cil_model.specs.declared.instruction.Op.TheVariants as ops

@@ -6,7 +6,7 @@ use Rattle.std.proofs.lemmas.Option.{cond_some, none-some, same_Some}
 use Rattle.cil_model.specs.Calls.{FreeCall, FreelyCalled, FitsResult, Returned, args_of, behind_call as frame_behind_call, ensures_fault, pushed, result_of}
 use Rattle.cil_model.specs.Clauses.{false_requires}
 use Rattle.cil_model.specs.Effects.{Effect, GoesOn, Faults, Assumes, FindsNoRoom, HasEffect, contract_call, effects, effects_of}
-use Rattle.cil_model.specs.FitKinds.{is_executed, is_executed_call}
+use Rattle.cil_model.specs.Bodies.{is_executed, is_executed_call}
 use Rattle.cil_model.specs.Kinds.{behind, behind_call, behind_callee, behind_return, kind_of, pushed_kind, take_each, takes}
 use Rattle.cil_model.specs.Passes.{successors}
 use Rattle.cil_model.specs.Runs.{CallRow, CallsBy, EffectRow, Row, config_after}

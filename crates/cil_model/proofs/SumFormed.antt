@@ -1,5 +1,8 @@
 -- The method that calls itself is well formed, so that the definition of well formed units holds of one at least.
-use Rattle.std.proofs.Common.{◌≡◌, ◌≢◌, ℕ, ◌<◌, [], ◌∷◌, refl, arith, inl, inr}
+use Rattle.std.proofs.Common.{◌≡◌, ◌≢◌, ℕ, ◌<◌, ◌≤◌, true, [], ◌∷◌, drop, refl, arith, inl, inr}
+use Rattle.std.specs.List.{AllByRecursion}
+use Rattle.cil_model.specs.Blocks.{branch_targets}
+use Rattle.cil_model.specs.Bodies.{HasBody, is_executed}
 use Rattle.cil_model.specs.Code.{CodeFrom, CodeOf}
 use Rattle.cil_model.specs.Opcodes.{short_form, long_form, variable_form, constant_form, branch_form, test_of, operator_of, object_form}
 use Rattle.cil_model.specs.Spells.{Spells, SpellsForm}
@@ -191,6 +194,22 @@ callee_is = record {
   numbers = (refl, tt);
 }
 
+executed_behind : AllByRecursion (λ i. 12 ≤ i.at → is_executed i.op ≡ true) (drop 6 sum.instrs)
+unfolding unit_call
+executed_behind = (λ h. refl, (λ h. refl, (λ h. refl, (λ h. refl, (λ h. refl, (λ h. refl, (λ h. refl, (λ h. refl, (λ h. refl, (λ h. refl, (λ h. refl, tt)))))))))))
+
+inside_behind : AllByRecursion (λ i. 12 ≤ i.at → AllByRecursion (λ at. 12 ≤ at) (branch_targets i.op)) (drop 8 sum.instrs)
+inside_behind = (λ h. tt, (λ h. tt, (λ h. tt, (λ h. tt, (λ h. tt, (λ h. tt, (λ h. tt, (λ h. tt, (λ h. tt, tt)))))))))
+
+-- The call of Requires stands before the body.
+sum_has_body : HasBody sum.instrs stacks 12
+unfolding unit_call
+sum_has_body = record {
+  empty = refl;
+  executed = (λ h. refl, (λ h. refl, (λ h. refl, (λ h. refl, (λ h. refl, (λ h. absurd (omega (arith, h)), executed_behind))))));
+  inside = (λ h. tt, (λ h. tt, (λ h. tt, (λ h. tt, (λ h. tt, (λ h. tt, (λ h. tt, (λ h. (omega arith, tt), inside_behind))))))));
+}
+
 -- The method is well formed.
 pub sum_is_well_formed : IsWellFormed sum
 unfolding unit_call
@@ -205,6 +224,6 @@ sum_is_well_formed = record {
   order = inr (refl, refl);
   callees = (callee_is, tt);
   numbers = (refl, tt);
-  kinds = (stacks, sum_has_kinds);
+  runs = record { stacks = stacks; kinds = sum_has_kinds; body = sum_has_body };
   limits = within;
 }

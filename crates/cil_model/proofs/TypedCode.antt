@@ -6,12 +6,13 @@ use Rattle.std.proofs.lemmas.Option.{same_Some}
 use Rattle.cil_model.specs.Blocks.{branch_targets}
 use Rattle.cil_model.specs.Calls.{FreeCall, ReturnRow, Returned, WorldCall, args_of, behind_call, called, ensures_fault, entry_frame, pushed}
 use Rattle.cil_model.specs.Clauses.{false_requires}
-use Rattle.cil_model.specs.FitKinds.{FrameFits, HasBody, HasCode, AreDecoded, OperandFits, IsExecutedAt, NeverStuck, TypedCodeSteps, is_executed}
+use Rattle.cil_model.specs.Bodies.{HasBody, is_executed}
+use Rattle.cil_model.specs.FitKinds.{FrameFits, HasCode, AreDecoded, OperandFits, IsExecutedAt, NeverStuck, TypedCodeSteps}
 use Rattle.cil_model.specs.Passes.{KindsOf, Stacks, stack_at, successors}
 use Rattle.cil_model.specs.Runs.{CallRow, IsDefined, LocalStep, Row, Step, StepsTo, entry_config, instr_at}
 use Rattle.cil_model.specs.Shapes.{shape_of}
 use Rattle.cil_model.specs.Values.{Heap, FitPlaces}
-use Rattle.cil_model.specs.WellFormed.{HoldValues, called_by}
+use Rattle.cil_model.specs.WellFormed.{HoldValues, IsWellFormed, called_by}
 use Rattle.cil_model.specs.Worlds.{Agree}
 use Rattle.cil_model.specs.declared.instruction.Instr.{Instr}
 use Rattle.cil_model.specs.declared.instruction.Op.{Op}
@@ -36,6 +37,7 @@ use Rattle.cil_model.proofs.StepKinds.{StepKind, above, step_kind}
 use Rattle.cil_model.proofs.StepsFit.{comes, defined}
 use Rattle.cil_model.proofs.StepsKeep.{KeepsFrame, entry_frame_is, local_step_keeps}
 use Rattle.cil_model.proofs.Lists.{all_append, of_found}
+use Rattle.cil_model.proofs.Rows.{code_is_decoded}
 
 -- ---- what is known of a unit
 
@@ -295,3 +297,10 @@ typed_code_steps shape is stacks decoded kinds = record {
 
     body_of : (unit : MethodUnit) → HasCode shape is unit → HasBody is stacks unit.body_start → HasBody unit.instrs stacks unit.body_start
     body_of unit has body = subst (λ (js : List Instr). HasBody js stacks unit.body_start) (sym has.instrs_are) body
+
+-- A well formed unit is never stuck.
+pub formed_never_stuck : (unit : MethodUnit) → IsWellFormed unit → NeverStuck unit
+formed_never_stuck unit formed =
+    let runs = formed.runs in
+    let steps = typed_code_steps (shape_of unit) unit.instrs runs.stacks (code_is_decoded unit.instrs unit.code formed.code) runs.kinds in
+    steps.runs unit (record { shape_is = refl; instrs_are = refl }) formed.locals runs.body

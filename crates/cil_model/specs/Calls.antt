@@ -3,6 +3,7 @@ use Rattle.std.specs.Prelude.{◌≡◌, ◌⊎◌, ℕ, ◌+◌, ◌<◌, ◌�
 use Rattle.std.specs.Option.{option_and_then}
 use Rattle.cil_model.specs.Clauses.{false_requires, false_ensures}
 use Rattle.cil_model.specs.Values.{Heap, IsHeap, KeepsForms, put, put_all, zero_of, FitsPlace}
+use Rattle.cil_model.specs.declared.clause.Clause.{Clause}
 use Rattle.cil_model.specs.declared.instruction.Instr.{Instr}
 use Rattle.cil_model.specs.declared.machine.Config.{Config}
 use Rattle.cil_model.specs.declared.machine.Config.TheVariants as configs
@@ -15,6 +16,12 @@ use Rattle.cil_model.specs.declared.place.Place.{Place}
 use Rattle.cil_model.specs.declared.place.Place.TheVariants as places
 use Rattle.cil_model.specs.declared.unit.CalleeInfo.{CalleeInfo}
 use Rattle.cil_model.specs.declared.unit.Unit.{Unit as MethodUnit}
+
+-- ---- clauses
+
+-- The clauses that calls and returns of a method test, and that its callers know.
+abbrev pub clauses_in_force : MethodUnit → List Clause
+clauses_in_force unit = unit.clauses
 
 -- ---- arguments
 
@@ -65,7 +72,7 @@ pub record WorldCall (w : World) (callers : List Frame) (number : ℕ) (i : Inst
   pub index_is : callee_index w f.unit number ≡ Some index
   pub callee_is : slice_get w.units index ≡ Some callee
   pub args_are : args_of heap callee.args f.stack ≡ Some args
-  pub new_is : new ≡ called callers callee index args i f heap (false_requires callee.clauses args heap)
+  pub new_is : new ≡ called callers callee index args i f heap (false_requires (clauses_in_force callee) args heap)
 
 -- ---- a free call
 
@@ -130,7 +137,7 @@ Returns callers result heap new =
 -- The first Ensures that is not true of what a frame returns.
 abbrev pub ensures_fault : MethodUnit → Frame → Heap → Option Value → Option ℕ
 ensures_fault unit f heap result =
-    false_ensures unit.clauses (record { args = f.entry_args; entry_heap = f.entry_heap; heap = heap; result = result })
+    false_ensures (clauses_in_force unit) (record { args = f.entry_args; entry_heap = f.entry_heap; heap = heap; result = result })
 
 abbrev pub Returned : List Frame → Instr → Frame → Heap → Option Value → Option ℕ → Config → Type 0
 Returned callers i f heap result (Some k) new = new ≡ configs.Fault (faults.Ensures k) f.unit i.at

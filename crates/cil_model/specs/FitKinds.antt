@@ -1,15 +1,15 @@
 -- What the kinds of stacks are for (ECMA-335 III.1.5 and III.1.8): where a frame's stack fits the kinds before its
 -- instruction, the frame has a step, and its stack fits the kinds wherever it goes on.
-use Rattle.std.specs.Prelude.{◌≡◌, ℕ, ◌^◌, ◌<◌, ◌≤◌, Bool, true, false, List, [], ◌∷◌, ◌++◌, Option, Some, slice_get, FitsSigned}
+use Rattle.std.specs.Prelude.{◌≡◌, ℕ, ◌^◌, ◌<◌, true, List, [], ◌∷◌, ◌++◌, Some, slice_get, FitsSigned}
 use Rattle.std.specs.Int.{w32}
 use Rattle.std.specs.List.{AllByRecursion}
 use Rattle.cil_model.specs.Blocks.{branch_targets}
+use Rattle.cil_model.specs.Bodies.{HasBody, is_executed}
 use Rattle.cil_model.specs.Code.{begins_at}
 use Rattle.cil_model.specs.Configs.{IsFrameOf}
 use Rattle.cil_model.specs.Passes.{Stacks, stack_at}
 use Rattle.cil_model.specs.Runs.{IsDefined, LocalRuns, LocalStep, Step, instr_at}
 use Rattle.cil_model.specs.Shapes.{shape_of}
-use Rattle.cil_model.specs.UnitCalls.{unit_call}
 use Rattle.cil_model.specs.Values.{Heap, IsHeap, has_array}
 use Rattle.cil_model.specs.WellFormed.{HoldValues}
 use Rattle.cil_model.specs.Worlds.{Agree}
@@ -27,8 +27,6 @@ use Rattle.cil_model.specs.declared.place.Kind.TheVariants as kinds
 use Rattle.cil_model.specs.declared.place.Place.TheVariants as places
 use Rattle.cil_model.specs.declared.shape.Shape.{Shape}
 use Rattle.cil_model.specs.declared.unit.Unit.{Unit as MethodUnit}
-use Rattle.cil_model.specs.declared.unit_numbers.UnitCall.{UnitCall}
-use Rattle.cil_model.specs.declared.unit_numbers.UnitCall.TheVariants as calls
 
 -- ---- values of kinds
 
@@ -70,49 +68,9 @@ pub record AreDecoded (is : List Instr) : Type 0 where
   pub constants : AllByRecursion (λ i. OperandFits i.op) is
   pub targets : AllByRecursion (λ i. AllByRecursion (λ at. begins_at is at ≡ true) (branch_targets i.op)) is
 
--- The machine executes the call: it is none of those that a contract block alone has.
-abbrev pub is_executed_call : Option UnitCall → Bool
-is_executed_call (Some (calls.Requires message)) = false
-is_executed_call (Some (calls.Ensures message)) = false
-is_executed_call (Some calls.EndContractBlock) = false
-is_executed_call (Some (calls.Result place)) = false
-is_executed_call (Some (calls.OldValue place)) = false
-is_executed_call _ = true
-
-abbrev pub is_executed : Op → Bool
-is_executed (ops.Call number) = is_executed_call (unit_call number)
-is_executed ops.Nop = true
-is_executed (ops.LoadArg n) = true
-is_executed (ops.StoreArg n) = true
-is_executed (ops.LoadLocal n) = true
-is_executed (ops.StoreLocal n) = true
-is_executed ops.Null = true
-is_executed (ops.Const n) = true
-is_executed ops.Dup = true
-is_executed ops.Pop = true
-is_executed ops.Return = true
-is_executed (ops.Branch test target) = true
-is_executed (ops.Switch targets) = true
-is_executed (ops.Bin operator) = true
-is_executed ops.Neg = true
-is_executed ops.Not = true
-is_executed ops.ConvI4 = true
-is_executed (ops.Text token) = true
-is_executed (ops.NewArray number) = true
-is_executed ops.Length = true
-is_executed (ops.LoadElem place) = true
-is_executed (ops.StoreElem place) = true
-
 -- What stands at the IL offset is executed, if an instruction does.
 abbrev pub IsExecutedAt : List Instr → ℕ → Type 0
 IsExecutedAt is at = (i : Instr) → instr_at is at ≡ Some i → is_executed i.op ≡ true
-
--- The body can be run: it begins with an empty stack, and what stands from its start on is executed, and branches
--- no further back.
-pub record HasBody (is : List Instr) (stacks : Stacks) (start : ℕ) : Type 0 where
-  pub empty : stack_at is stacks start ≡ Some []
-  pub executed : AllByRecursion (λ i. start ≤ i.at → is_executed i.op ≡ true) is
-  pub inside : AllByRecursion (λ i. start ≤ i.at → AllByRecursion (λ at. start ≤ at) (branch_targets i.op)) is
 
 -- ---- what typing is for
 

@@ -21,6 +21,7 @@ pub mod ShortCode
 pub mod Kinds
 pub mod Passes
 pub mod Blocks
+pub mod Bodies
 pub mod TreeKinds
 pub mod ClauseTrees
 pub mod WellFormed

@@ -1,6 +1,6 @@
 -- One step of the machine, its runs, and what is said of them.
 use Rattle.std.specs.Prelude.{◌≡◌, ℕ, zero, suc, List, [], ◌∷◌, ◌++◌, Option, Some, None, ◌==◌, if◌then◌else◌, slice_get}
-use Rattle.cil_model.specs.Calls.{WorldCall, FreeCall, ReturnRow, entry_frame}
+use Rattle.cil_model.specs.Calls.{WorldCall, FreeCall, ReturnRow, clauses_in_force, entry_frame}
 use Rattle.cil_model.specs.Clauses.{false_requires}
 use Rattle.cil_model.specs.Effects.{Effect, GoesOn, Faults, Assumes, FindsNoRoom, effects, HasEffect}
 use Rattle.cil_model.specs.UnitCalls.{unit_call}
@@ -96,7 +96,7 @@ IsDefined Steps _ = Unit {0}
 pub record MayBegin (unit : MethodUnit) (args : List Value) (heap : Heap) : Type 0 where
   pub heap_is : IsHeap heap
   pub fit : FitPlaces heap unit.args args
-  pub required : false_requires unit.clauses args heap ≡ None
+  pub required : false_requires (clauses_in_force unit) args heap ≡ None
 
 -- The configuration in which the method of this index begins.
 abbrev pub entry_config : MethodUnit → ℕ → List Value → Heap → Config

@@ -3,11 +3,10 @@ use Rattle.std.specs.Prelude.{FitsSigned, ◌≡◌, ◌≢◌, ◌⊎◌, ℕ, 
 use Rattle.std.specs.Int.{w32}
 use Rattle.std.specs.List.{AllByRecursion}
 use Rattle.cil_model.specs.Blocks.{block_count, start_of_body}
+use Rattle.cil_model.specs.Bodies.{CanRun}
 use Rattle.cil_model.specs.ClauseTrees.{clauses_in}
 use Rattle.cil_model.specs.Code.{CodeOf}
 use Rattle.cil_model.specs.Limits.{MAX_BLOCKS, MAX_CLAUSES, MAX_CODE_BYTES, MAX_CONDITIONS, MAX_INSTRUCTIONS, MAX_NAME_BYTES, MAX_NODES, MAX_OLD_VALUES, MAX_VARIABLES}
-use Rattle.cil_model.specs.Passes.{Stacks, KindsOf}
-use Rattle.cil_model.specs.Shapes.{shape_of}
 use Rattle.cil_model.specs.TermCodes.{Root, ConstRoot, preorder}
 use Rattle.cil_model.specs.Terms.{Term, term_size, condition_depth, old_count}
 use Rattle.cil_model.specs.TreeKinds.{IsNumberClause}
@@ -118,5 +117,5 @@ pub record IsWellFormed (unit : MethodUnit) : Type 0 where
   pub order : InOrderOfUse 0 (length unit.callees) (filter_map (λ i. called_by i.op) unit.instrs)
   pub callees : AllByRecursion IsCallee unit.callees
   pub numbers : AllByRecursion (IsNumberClause unit.args unit.result) unit.clauses
-  pub kinds : (stacks : Stacks) × KindsOf (shape_of unit) unit.instrs stacks
+  pub runs : CanRun unit
   pub limits : IsWithinLimits unit

@@ -1,13 +1,13 @@
 -- Worlds whose units agree on what they say of each other.
 use Rattle.std.specs.Prelude.{◌≡◌, ℕ, List, length, Some, slice_get}
-use Rattle.cil_model.specs.Calls.{callee_index}
+use Rattle.cil_model.specs.Calls.{callee_index, clauses_in_force}
 use Rattle.cil_model.specs.declared.machine.World.{World}
 use Rattle.cil_model.specs.declared.unit.CalleeInfo.{CalleeInfo}
 use Rattle.cil_model.specs.declared.unit.Unit.{Unit as MethodUnit}
 
 -- What a unit's callers know of it.
 abbrev pub info_of : MethodUnit → CalleeInfo
-info_of unit = record { name = unit.name; result = unit.result; args = unit.args; clauses = unit.clauses }
+info_of unit = record { name = unit.name; result = unit.result; args = unit.args; clauses = clauses_in_force unit }
 
 -- The callee of this number in the unit of this index is a unit of the world, and is what the entry says.
 pub record Names (w : World) (unit number : ℕ) (callee : CalleeInfo) : Type 0 where

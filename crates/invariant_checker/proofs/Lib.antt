@@ -8,3 +8,4 @@ pub mod Walking
 pub mod JudgeSteps
 mod Examples
 mod UnsafeUnit
+mod CalleesCount

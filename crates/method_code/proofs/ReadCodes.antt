@@ -6,7 +6,7 @@ use Rattle.std.specs.Option.{option_map_or, option_and_then}
 use Rattle.asm_image.specs.declared.method_row.MethodRow.{MethodRow}
 use Rattle.cc_base.specs.Tests.{Judges}
 use Rattle.cil_model.specs.ClauseTrees.{clauses_in}
-use Rattle.cil_model.specs.FitKinds.{HasBody}
+use Rattle.cil_model.specs.Bodies.{HasBody}
 use Rattle.cil_model.specs.WellFormed.{ClausesWithinLimits, told_by_code}
 use Rattle.cil_model.specs.declared.clause.Clause.{Clause}
 use Rattle.cil_model.specs.declared.instruction.Instr.{Instr}

@@ -5,7 +5,7 @@ use Rattle.asm_image.specs.declared.method_row.MethodRow.{MethodRow}
 use Rattle.cc_base.specs.Tests.{first_of, Judges}
 use Rattle.cc_base.specs.declared.token.Token.{Token}
 use Rattle.cil_model.specs.Code.{CodeOf}
-use Rattle.cil_model.specs.FitKinds.{HasBody}
+use Rattle.cil_model.specs.Bodies.{HasBody}
 use Rattle.cil_model.specs.Passes.{KindsOf, Stacks}
 use Rattle.cil_model.specs.ShortCode.{AreOfShortCode}
 use Rattle.cil_model.specs.TreeKinds.{IsNumberClause}

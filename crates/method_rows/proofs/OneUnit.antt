@@ -6,14 +6,11 @@ use Rattle.cil_model.specs.Worlds.{Agree, Names, info_of}
 use Rattle.cil_model.specs.declared.machine.World.{World}
 use Rattle.cil_model.specs.declared.unit.CalleeInfo.{CalleeInfo}
 use Rattle.cil_model.specs.declared.unit.Unit.{Unit as MethodUnit}
-use Rattle.cil_eval.specs.RunWorlds.{CanBeRun, HasBodyToRun}
-use Rattle.method_unit.specs.Units.{CanRun, IsUnit}
+use Rattle.cil_eval.specs.RunWorlds.{CanBeRun}
+use Rattle.method_unit.specs.Units.{IsUnit}
 
 abbrev pub world_of : MethodUnit → List ℕ → World
 world_of unit callees = record { units = unit ∷ []; callee = callees ∷ [] }
-
-body_to_run : (unit : MethodUnit) → IsUnit unit → CanRun unit → HasBodyToRun unit
-body_to_run unit is_unit runs = record { formed = is_unit.well_formed; stacks = runs.stacks; kinds = runs.kinds; body = runs.body }
 
 same_length : (info : CalleeInfo) (callees : List ℕ) → length (map (λ (n : ℕ). info) callees) ≡ length callees
 same_length info [] = refl
@@ -41,14 +38,14 @@ module _ (unit : MethodUnit) (callees : List ℕ) (zeros : AllByRecursion (λ (n
   entries zero u number callee e f = named number callee (subst (λ (v : MethodUnit). slice_get v.callees number ≡ Some callee) (sym (same_Some unit u e)) f)
   entries (suc m) u number callee e f = absurd (none-some u e)
 
-  pub can_be_run : IsUnit unit → CanRun unit → CanBeRun (world_of unit callees)
-  can_be_run is_unit runs = record {
-    units = (body_to_run unit is_unit runs, tt);
+  pub can_be_run : IsUnit unit → CanBeRun (world_of unit callees)
+  can_be_run is_unit = record {
+    units = (is_unit.well_formed, tt);
     agree = record { lists = refl; counts = counts; entries = entries };
   }
 
 -- The same, of lists that are told apart.
 pub in_world : (unit : MethodUnit) (callees : List ℕ) (units : List MethodUnit) (lists : List (List ℕ)) → units ≡ unit ∷ [] → lists ≡ callees ∷ []
-    → AllByRecursion (λ (n : ℕ). n ≡ 0) callees → unit.callees ≡ map (λ (n : ℕ). info_of unit) callees → IsUnit unit → CanRun unit
+    → AllByRecursion (λ (n : ℕ). n ≡ 0) callees → unit.callees ≡ map (λ (n : ℕ). info_of unit) callees → IsUnit unit
     → CanBeRun (record { units = units; callee = lists })
-in_world unit callees units lists one its zeros are is_unit runs = rw one (rw its (can_be_run unit callees zeros are is_unit runs))
+in_world unit callees units lists one its zeros are is_unit = rw one (rw its (can_be_run unit callees zeros are is_unit))

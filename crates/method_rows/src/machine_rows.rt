@@ -4,7 +4,7 @@ ghost use Rattle.std.specs.Prelude.{◌≡◌, ℕ, map, IfOk, IfSome};
 ghost use Rattle.std.specs.List.{AllByRecursion};
 ghost use Rattle.cil_model.specs.Worlds.{info_of};
 ghost use Rattle.cil_eval.specs.RunWorlds.{CanBeRun};
-ghost use Rattle.method_unit.specs.Units.{CanRun, IsUnit};
+ghost use Rattle.method_unit.specs.Units.{IsUnit};
 
 use cc_base::Refusal;
 use cil_eval::{Arg, Limits, Machine, StartRefusal, Stop};
@@ -28,7 +28,6 @@ fn own_callees(alloc: Global, unit: &Unit) -> Result<Option<Vec<u32>>, AllocErro
 /// The world of the unit alone, where it calls no method.
 fn world_of(alloc: Global, unit: Unit) -> Result<Option<World>, AllocError>
     requires unit { IsUnit unit }
-    requires runs { CanRun unit }
     ensures { IfOk result (λ found. IfSome found CanBeRun) }
 {
     let Some(callees) = own_callees(alloc, &unit)? else {

@@ -5,7 +5,6 @@ pub mod Places
 pub mod Made
 pub mod OrderOfUse
 pub mod UnitAgain
-pub mod UnitRuns
 pub mod SpellingBytes
 pub mod UnitTaken
 pub mod ReadAnswers

@@ -4,7 +4,8 @@ use Rattle.std.specs.List.{AllByRecursion}
 use Rattle.cc_base.specs.Tests.{first_of}
 use Rattle.cc_base.proofs.TestLemmas.{first_of-none}
 use Rattle.cil_model.specs.Code.{CodeOf}
-use Rattle.cil_model.specs.FitKinds.{AreDecoded, HasBody}
+use Rattle.cil_model.specs.Bodies.{HasBody}
+use Rattle.cil_model.specs.FitKinds.{AreDecoded}
 use Rattle.cil_model.specs.Passes.{KindsOf, Stacks}
 use Rattle.cil_model.specs.TreeKinds.{IsNumberClause}
 use Rattle.cil_model.specs.WellFormed.{ClausesWithinLimits}

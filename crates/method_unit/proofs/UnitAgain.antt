@@ -65,7 +65,7 @@ module _ (unit : MethodUnit) (is : IsUnit unit) where
 
   typing_passes : (base : ℕ) → typing_test base unit.instrs (shape_of unit) ≡ None
   unfolding typing_test
-  typing_passes base = ap (option_map (λ fault. form_at base (type_fault_at fault))) (kinds_no_fault (shape_of unit) unit.instrs is.well_formed.kinds.0 is.well_formed.kinds.1)
+  typing_passes base = ap (option_map (λ fault. form_at base (type_fault_at fault))) (kinds_no_fault (shape_of unit) unit.instrs is.well_formed.runs.stacks is.well_formed.runs.kinds)
 
   decoding_passes : (base : ℕ) → decoding_test base unit.code ≡ None
   unfolding decoding_test

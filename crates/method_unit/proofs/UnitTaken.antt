@@ -9,7 +9,9 @@ use Rattle.cil_model.specs.Blocks.{block_count, start_of_body}
 use Rattle.cil_model.specs.ClauseTrees.{clauses_in}
 use Rattle.cil_model.specs.FitKinds.{AreDecoded}
 use Rattle.cil_model.specs.TreeKinds.{IsNumberClause}
+use Rattle.cil_model.specs.Bodies.{HasBody}
 use Rattle.cil_model.specs.WellFormed.{ClausesWithinLimits, IsWellFormed, told_by_code}
+use Rattle.cil_model.proofs.TypedCode.{formed_never_stuck}
 use Rattle.cil_model.specs.declared.clause.Clause.{Clause}
 use Rattle.cil_model.specs.declared.instruction.Instr.{Instr}
 use Rattle.cil_model.specs.declared.shape.Shape.{Shape}
@@ -27,7 +29,6 @@ use Rattle.method_unit.specs.UnitFile.{block_test, clause_test, clause_told, cod
 use Rattle.method_unit.specs.UnitOf.{IsRead, IsUnitIn, IsUnitOf}
 use Rattle.method_unit.specs.Units.{IsUnit}
 use Rattle.method_unit.proofs.OrderOfUse.{numbers_are_named, order_is_use}
-use Rattle.method_unit.proofs.UnitRuns.{unit_can_run}
 
 -- ---- tests that are passed
 
@@ -132,7 +133,7 @@ module _ (bytes : List ℕ) (unit : MethodUnit) (fits : IsBytes bytes) (none : f
         order = order_is_use fields.code_offset (length fields.callees) is fields.callee_offsets (offsets_counted bytes) passed.numbers passed.order;
         callees = taken.fields.callees;
         numbers = subst (AllByRecursion (IsNumberClause fields.args fields.result)) (sym clauses) (of.numbers of.kinds.0 decoded of.kinds.1);
-        kinds = of.kinds;
+        runs = record { stacks = of.kinds.0; kinds = of.kinds.1; body = subst (HasBody is of.kinds.0) of.told.contracts.body (of.body of.kinds.0 decoded of.kinds.1) };
         limits = record {
           code = taken.fields.code;
           instructions = passed.few;
@@ -151,6 +152,6 @@ module _ (bytes : List ℕ) (unit : MethodUnit) (fits : IsBytes bytes) (none : f
       record {
         same = same;
         is_unit = is_unit;
-        runs = unit_can_run unit is_unit;
+        runs = formed_never_stuck unit is_unit.well_formed;
         spelled = subst (λ (u : MethodUnit). unit_bytes u ≡ bytes) (sym same) taken.spelled;
       }

@@ -2,7 +2,8 @@
 use Rattle.std.specs.Prelude.{◌≡◌, ℕ, List}
 use Rattle.std.specs.List.{AllByRecursion}
 use Rattle.cil_model.specs.Code.{CodeOf}
-use Rattle.cil_model.specs.FitKinds.{AreDecoded, HasBody}
+use Rattle.cil_model.specs.Bodies.{HasBody}
+use Rattle.cil_model.specs.FitKinds.{AreDecoded, NeverStuck}
 use Rattle.cil_model.specs.Passes.{KindsOf, Stacks}
 use Rattle.cil_model.specs.TreeKinds.{IsNumberClause}
 use Rattle.cil_model.specs.WellFormed.{ClausesWithinLimits}
@@ -13,7 +14,7 @@ use Rattle.il_decoder.specs.Decoding.{instructions_of}
 use Rattle.unit_form.specs.Spelling.{unit_bytes}
 use Rattle.unit_form.specs.UnitFields.{FieldsOfUnit, unit_fields}
 use Rattle.method_unit.specs.UnitFile.{shape_told, unit_of}
-use Rattle.method_unit.specs.Units.{CanRun, HasKinds, IsUnit}
+use Rattle.method_unit.specs.Units.{HasKinds, IsUnit}
 
 -- The unit has these fields and these instructions, and the clauses that they tell.
 pub record HasTold (fields : FieldsOfUnit) (is : List Instr) (unit : MethodUnit) : Type 0 where
@@ -45,4 +46,4 @@ pub record IsRead (bytes : List ℕ) (unit : MethodUnit) : Type 0 where
   pub same : unit ≡ unit_of bytes
   pub is_unit : IsUnit unit
   pub spelled : unit_bytes unit ≡ bytes
-  pub runs : CanRun unit
+  pub runs : NeverStuck unit

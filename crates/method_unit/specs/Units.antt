@@ -2,7 +2,6 @@
 use Rattle.std.specs.Prelude.{◌≡◌, ℕ, ◌+◌, ◌<◌, ◌≤◌, ◌^◌, List, None}
 use Rattle.std.specs.List.{All, AllByRecursion}
 use Rattle.cil_model.specs.Code.{CodeOf}
-use Rattle.cil_model.specs.FitKinds.{HasBody}
 use Rattle.cil_model.specs.Limits.{MAX_CODE_BYTES}
 use Rattle.cil_model.specs.Passes.{KindsOf, Stacks}
 use Rattle.cil_model.specs.ShortCode.{AreOfShortCode}
@@ -18,13 +17,6 @@ use Rattle.stack_typer.specs.LaidOut.{AreLaidOut}
 pub record IsUnit (unit : MethodUnit) : Type 0 where
   pub well_formed : IsWellFormed unit
   pub clauses : first_clause_fault unit.instrs (shape_of unit) ≡ None
-
--- The unit's code has kinds, and its body can be run from its start.
-pub record CanRun (unit : MethodUnit) : Type 0 where
-  pub code : CodeOf unit.instrs unit.code
-  pub stacks : Stacks
-  pub kinds : KindsOf (shape_of unit) unit.instrs stacks
-  pub body : HasBody unit.instrs stacks unit.body_start
 
 -- The instructions have kinds.
 abbrev pub HasKinds : Shape → List Instr → Type 0

@@ -4,7 +4,8 @@ ghost use Rattle.std.specs.Prelude.{◌≡◌, ℕ, ◌+◌, ◌<◌, ◌≤◌,
 ghost use Rattle.std.specs.List.{AllByRecursion};
 ghost use Rattle.cc_base.specs.LittleEndian.{IsBytes};
 ghost use Rattle.cc_base.specs.Tests.{first_of, GivesOnly, Judges, JudgesOrNoMemory};
-ghost use Rattle.cil_model.specs.FitKinds.{AreDecoded, HasBody};
+ghost use Rattle.cil_model.specs.Bodies.{HasBody};
+ghost use Rattle.cil_model.specs.FitKinds.{AreDecoded, NeverStuck};
 ghost use Rattle.cil_model.specs.Passes.{KindsOf, Stacks};
 ghost use Rattle.cil_model.specs.TreeKinds.{IsNumberClause};
 ghost use Rattle.cil_model.specs.WellFormed.{ClausesWithinLimits};
@@ -18,7 +19,7 @@ ghost use Rattle.method_unit.specs.BuiltUnits.{built_test, code_offset, first_bu
 ghost use Rattle.method_unit.specs.NotBuilt.{not_built};
 ghost use Rattle.method_unit.specs.UnitFile.{code_tests_of, field_test, first_unit_fault, instr_tests, unit_of};
 ghost use Rattle.method_unit.specs.UnitOf.{IsRead, IsUnitIn, IsUnitOf};
-ghost use Rattle.method_unit.specs.Units.{AreDecodedOf, CanRun, HasKinds, IsUnit};
+ghost use Rattle.method_unit.specs.Units.{AreDecodedOf, HasKinds, IsUnit};
 
 use crate::callee_order::check_order;
 use crate::unbuilt::not_built;
@@ -156,8 +157,8 @@ pub fn read_unit(alloc: Global, bytes: &[u8]) -> Result<Unit, UnitRefusal>
     ensures one { (a b : MethodUnit) → IsUnit a → IsUnit b → unit_bytes a ≡ unit_bytes b → a ≡ b }
     // It is read where no test of the list fails; a fault is that of the first test that does.
     ensures judged { JudgesOrNoMemory result (first_unit_fault bytes.now) (λ unit. unit ≡ unit_of bytes.now) }
-    // Its code has kinds, and its body begins with an empty stack.
-    ensures runs { IfOk result CanRun }
+    // No run of it ever comes where nothing is defined.
+    ensures runs { IfOk result NeverStuck }
 {
     read_alone(alloc, bytes)
 }
@@ -184,7 +185,7 @@ pub fn read_built_unit(alloc: Global, bytes: &[u8]) -> Result<Unit, UnitRefusal>
     requires short { length bytes.now ≤ 2147483647 }
     ensures built { IfOk result IsBuilt }
     ensures judged { JudgesOrNoMemory result (first_built_fault bytes.now) (λ unit. unit ≡ unit_of bytes.now) }
-    ensures runs { IfOk result CanRun }
+    ensures runs { IfOk result NeverStuck }
 {
     let (unit, base) = read_known(alloc, bytes)?;
     check_built(&unit, base)?;

@@ -4,7 +4,6 @@ use Rattle.std.specs.List.{AllByRecursion}
 use Rattle.cil_model.specs.Blocks.{body_of}
 use Rattle.cil_model.specs.Calls.{entry_frame}
 use Rattle.cil_model.specs.Effects.{GoesOn, HasEffect, effects}
-use Rattle.cil_model.specs.FitKinds.{HasBody}
 use Rattle.cil_model.specs.Passes.{KindsOf, stack_at}
 use Rattle.cil_model.specs.Runs.{MayBegin}
 use Rattle.cil_model.specs.Shapes.{shape_of}
@@ -44,12 +43,11 @@ pub record IsOfNumbers (unit : MethodUnit) : Type 0 where
   pub callees : unit.callees ≡ []
   pub told : AllByRecursion (λ i. is_told i.op ≡ true) (body_of unit)
 
--- The graph and the kinds are the unit's, whose body begins with an empty stack and can be run.
+-- The graph and the kinds are the unit's.
 pub record IsLawful (code : UnitFlow) : Type 0 where
   pub unit : IsOfNumbers code.unit
   pub graph : code.graph ≡ graph_of code.unit
   pub kinds : KindsOf (shape_of code.unit) code.unit.instrs code.kinds
-  pub body : HasBody code.unit.instrs code.kinds code.unit.body_start
 
 -- ---- blocks and edges
 

@@ -3,11 +3,13 @@ use Rattle.std.proofs.Common.{◌≡◌, ℕ, ◌+◌, ◌<◌, ◌≤◌, true,
 use Rattle.std.proofs.lemmas.List.{length-map}
 use Rattle.std.proofs.lemmas.List.Elements.{All-from_recursion}
 use Rattle.std.proofs.lemmas.Option.{none-some}
+use Rattle.cil_model.specs.Bodies.{HasBody}
 use Rattle.cil_model.specs.Calls.{entry_frame}
 use Rattle.cil_model.specs.Code.{begins_at}
 use Rattle.cil_model.specs.FitKinds.{AreDecoded}
-use Rattle.cil_model.specs.Passes.{stack_at}
+use Rattle.cil_model.specs.Passes.{Stacks, stack_at}
 use Rattle.cil_model.specs.Runs.{instr_at}
+use Rattle.cil_model.specs.Shapes.{shape_of}
 use Rattle.cil_model.specs.ShortCode.{AreOfShortCode}
 use Rattle.cil_model.specs.declared.instruction.Instr.{Instr}
 use Rattle.cil_model.specs.declared.place.Kind.{Kind}
@@ -33,6 +35,7 @@ use Rattle.range_states.specs.Widening.{widen, widened}
 use Rattle.range_states.proofs.FormsKept.{normal_form, joined_form, widened_form, of_all_form}
 use Rattle.range_states.proofs.MovesHold.{norm_holds}
 use Rattle.range_states.proofs.NormalForms.{count_of_normal, count_of_pairs, count_of_variables}
+use Rattle.stack_typer.proofs.Unique.{kinds_once}
 use Rattle.range_rules.specs.BlockWays.{IsWay, Leaves, block_way, edges_leave_blocks, found_begins}
 use Rattle.range_rules.specs.Entry.{entry, numbers_at_entry, number_in, zero_in}
 use Rattle.range_rules.specs.EntryLaws.{entry_int32, entry_holds}
@@ -85,10 +88,16 @@ module _ (code : UnitFlow) (lawful : IsLawful code) where
   pub decoded : AreDecoded unit.instrs
   decoded = code_is_decoded unit.instrs unit.code lawful.unit.formed.code
 
+  -- The body can be run by these kinds, since code has no others.
+  pub lawful_body : HasBody unit.instrs code.kinds unit.body_start
+  lawful_body =
+      let runs = lawful.unit.formed.runs in
+      subst (λ (stacks : Stacks). HasBody unit.instrs stacks unit.body_start) (kinds_once (shape_of unit) unit.instrs runs.stacks code.kinds runs.kinds lawful.kinds) runs.body
+
   pub starts : slice_get code.graph.blocks 0 ≡ Some unit.body_start
   starts =
       subst (λ (g : Graph). slice_get g.blocks 0 ≡ Some unit.body_start) (sym lawful.graph)
-      (first_block unit short (found (reached_begins unit.instrs code.kinds unit.body_start [] lawful.body.empty)))
+      (first_block unit short (found (reached_begins unit.instrs code.kinds unit.body_start [] lawful_body.empty)))
     where
       found : (i : Instr) × (instr_at unit.instrs unit.body_start ≡ Some i) → begins_at unit.instrs unit.body_start ≡ true
       found (i, there) = found_begins unit.instrs unit.body_start i there
@@ -150,7 +159,7 @@ module _ (code : UnitFlow) (lawful : IsLawful code) where
   )
 
   first_kinds : kinds_at code 0 ≡ Some []
-  first_kinds = ap (stack_at unit.instrs code.kinds) (item_there code.graph.blocks 0 unit.body_start 0 starts) ∙ lawful.body.empty
+  first_kinds = ap (stack_at unit.instrs code.kinds) (item_there code.graph.blocks 0 unit.body_start 0 starts) ∙ lawful_body.empty
 
   pub entry_fits : Fits code 0 (entry unit)
   unfolding entry

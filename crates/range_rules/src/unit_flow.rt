@@ -1,8 +1,7 @@
 //! Units with what the flow of states along their edges asks for.
 
 ghost use Rattle.std.specs.Prelude.{◌≡◌, [], IfOk};
-ghost use Rattle.cil_model.specs.FitKinds.{HasBody};
-ghost use Rattle.cil_model.specs.Passes.{KindsOf, Stacks};
+ghost use Rattle.cil_model.specs.Passes.{KindsOf};
 ghost use Rattle.cil_model.specs.Shapes.{shape_of};
 ghost use Rattle.flow_graph.specs.GraphOf.{graph_of};
 ghost use Rattle.machine_points.specs.Points.{RunsHaveValues};
@@ -72,8 +71,6 @@ impl UnitFlow {
     /// `NoMemory` where memory runs out; the unit is then given up. Its time is that of the graph and of the typing.
     pub fn of(alloc: Global, unit: Unit) -> Result<UnitFlow, NoMemory>
         requires numbers { IsOfNumbers unit }
-        // Its body begins with an empty stack and can be run, as that of each unit that was read.
-        requires body { (stacks : Stacks) → KindsOf (shape_of unit) unit.instrs stacks → HasBody unit.instrs stacks unit.body_start }
         ensures lawful { IfOk result IsLawful }
         ensures unit { IfOk result (λ code. code.unit ≡ unit) }
         // Whatever a run comes to has values of the machine.

@@ -1,24 +1,15 @@
 -- Units that were read, whose states flow along their edges.
-use Rattle.std.proofs.Common.{◌≡◌, ℕ, ◌<◌, true, List, [], length, filter, subst}
+use Rattle.std.proofs.Common.{◌≡◌, ℕ, ◌<◌, true, List, [], length, filter}
 use Rattle.std.specs.Prelude.{nat_le}
 use Rattle.std.specs.List.{AllByRecursion}
-use Rattle.cil_model.specs.FitKinds.{HasBody}
-use Rattle.cil_model.specs.Passes.{KindsOf, Stacks}
-use Rattle.cil_model.specs.Shapes.{shape_of}
 use Rattle.cil_model.specs.declared.unit.Unit.{Unit as MethodUnit}
-use Rattle.stack_typer.proofs.Unique.{kinds_once}
-use Rattle.method_unit.specs.Units.{CanRun, IsUnit}
+use Rattle.method_unit.specs.Units.{IsUnit}
 use Rattle.range_states.specs.FrameFacts.{State}
 use Rattle.range_rules.specs.Acts.{is_told}
 use Rattle.range_rules.specs.Entry.{HoldsNumber}
 use Rattle.range_rules.specs.Flow.{Fits, GivesNumber, IsOfNumbers}
 use Rattle.range_rules.specs.Inductive.{HasShape, state_at}
 use Rattle.range_rules.specs.declared.unit_flow.UnitFlow.{UnitFlow}
-
--- The kinds of code are one.
-pub body_of_kinds : (unit : MethodUnit) → CanRun unit → (stacks : Stacks) → KindsOf (shape_of unit) unit.instrs stacks → HasBody unit.instrs stacks unit.body_start
-body_of_kinds unit runs stacks kinds =
-    subst (λ (found : Stacks). HasBody unit.instrs found unit.body_start) (kinds_once (shape_of unit) unit.instrs runs.stacks stacks runs.kinds kinds) runs.body
 
 pub of_numbers : (unit : MethodUnit) → IsUnit unit → AllByRecursion HoldsNumber unit.args → AllByRecursion HoldsNumber unit.locals → GivesNumber unit.result
     → unit.clauses ≡ [] → unit.callees ≡ []
@@ -35,4 +26,4 @@ of_numbers unit is args locals result clauses callees told = record {
 pub fits_its_block : (code : UnitFlow) (states : List State) (block : ℕ) → HasShape code states → block < length states → Fits code block (state_at states block)
 fits_its_block code states block shape below = shape.fit block below
 
-pub ruleset units = (body_of_kinds, of_numbers, fits_its_block)
+pub ruleset units = (of_numbers, fits_its_block)

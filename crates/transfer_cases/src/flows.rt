@@ -2,7 +2,7 @@
 
 ghost use Rattle.std.specs.Prelude.{◌≡◌, filter, nat_le, true, IfOk};
 ghost use Rattle.std.specs.List.{AllByRecursion};
-ghost use Rattle.method_unit.specs.Units.{CanRun, IsUnit};
+ghost use Rattle.method_unit.specs.Units.{IsUnit};
 ghost use Rattle.range_rules.specs.Acts.{is_told};
 ghost use Rattle.range_rules.specs.Entry.{HoldsNumber};
 ghost use Rattle.range_rules.specs.Flow.{GivesNumber, IsLawful, IsOfNumbers};
@@ -73,7 +73,6 @@ fn is_of_numbers(unit: &Unit) -> bool
 /// The unit of a file.
 fn unit_of(alloc: Global, file: &[u8]) -> Result<Unit, Failure>
     ensures unit { IfOk result IsUnit }
-    ensures runs { IfOk result CanRun }
 {
     if file.len() > 2_147_483_647 {
         return Err(Failure::Unread("a shorter file"));

@@ -36,7 +36,8 @@ use Rattle.method_code.specs.declared.code_reader.MethodCode.{MethodCode}
 use Rattle.method_unit.specs.UnitFile.{first_uses}
 use Rattle.pe_reader.specs.Addresses.{metadata}
 use Rattle.unit_builder.specs.Bodies.{callee_tokens, code_told, decoded_instrs, il_fault, unit_instrs}
-use Rattle.unit_builder.specs.Outcomes.{IsRunnable, outcome_by, outcome_of, unit_of}
+use Rattle.method_unit.specs.Units.{IsUnit}
+use Rattle.unit_builder.specs.Outcomes.{outcome_by, outcome_of, unit_of}
 use Rattle.unit_builder.specs.Reasons.{blocks_in, callee_info, has_short_name, token_tests, code_tests, header_tests, kind_tests, own_tests, info_with, no_info, reason_tests, row_tests, unit_shape}
 use Rattle.unit_builder.proofs.CodeFacts.{whole_told}
 use Rattle.unit_builder.proofs.TestParts.{row_body}
@@ -210,13 +211,13 @@ unit-callees asm token unit is =
     ∙ ap (map (λ n. callee_info asm (as_token n)))
     (ap (calls_by (callee_tokens asm at.0)) (sym at.2) ∙ ap (λ found. option_map_or (λ method. calls_by (callee_tokens asm method) (outcome_of asm method)) found []) (sym at.1))
 
-pub info-agrees : (asm : List ℕ) (token : ℕ) (unit : MethodUnit) → unit_at asm token ≡ Some unit → IsRunnable unit → callee_info asm (as_token token) ≡ info_of unit
+pub info-agrees : (asm : List ℕ) (token : ℕ) (unit : MethodUnit) → unit_at asm token ≡ Some unit → IsUnit unit → callee_info asm (as_token token) ≡ info_of unit
 unfolding callee_info unit_of
 info-agrees asm token unit is runs =
     let at = analysed_at asm token unit is in
     let made = analysed_is asm at.0 unit at.2 in
-    let same_unit : IsRunnable (unit_of asm at.0) = subst IsRunnable made.1 runs in
-    let told = clauses_told asm at.0 (read_code asm at.0 made.0) same_unit.is_unit.well_formed.numbers in
+    let same_unit : IsUnit (unit_of asm at.0) = subst IsUnit made.1 runs in
+    let told = clauses_told asm at.0 (read_code asm at.0 made.0) same_unit.well_formed.numbers in
     ap (λ found. option_map_or (λ method. info_with method (clauses_of asm method)) found no_info) at.1
     ∙ ap (info_with at.0) told ∙ ap info_of (sym made.1)
 

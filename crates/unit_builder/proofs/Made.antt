@@ -9,6 +9,7 @@ use Rattle.cc_base.specs.Tests.{first_of, must}
 use Rattle.cc_base.proofs.TestLemmas.{must_hold, none_before, none_behind, none_here}
 use Rattle.cil_model.specs.Limits.{MAX_BLOCKS, MAX_CODE_BYTES, MAX_INSTRUCTIONS, MAX_NAME_BYTES, MAX_VARIABLES}
 use Rattle.cil_model.specs.Shapes.{shape_of}
+use Rattle.cil_model.specs.Bodies.{HasBody}
 use Rattle.cil_model.specs.WellFormed.{ClausesWithinLimits, InOrderOfUse, IsWellFormed, called_by, told_by_code}
 use Rattle.cil_model.specs.TreeKinds.{IsNumberClause}
 use Rattle.cil_model.specs.declared.unit.Unit.{Unit as MethodUnit}
@@ -22,7 +23,6 @@ use Rattle.method_code.specs.Reading.{as_token}
 use Rattle.method_unit.specs.NotBuilt.{has_none}
 use Rattle.method_unit.specs.UnitFile.{clause_told}
 use Rattle.method_unit.specs.Units.{IsUnit}
-use Rattle.method_unit.proofs.UnitRuns.{unit_can_run}
 use Rattle.unit_builder.proofs.CalledNumbers.{callees_in_order}
 use Rattle.unit_builder.proofs.ClauseFacts.{told_again}
 use Rattle.unit_builder.proofs.HeaderFacts.{header_is, header_there, told_short}
@@ -31,7 +31,7 @@ use Rattle.unit_builder.proofs.SignatureFacts.{arguments_few, locals_few}
 use Rattle.unit_builder.proofs.TokenTests.{tokens_named}
 use Rattle.unit_builder.specs.Bodies.{callee_tokens, decoded_instrs, header_of, il_fault, locals_named, locals_told, unit_instrs, unit_name}
 use Rattle.unit_builder.specs.Making.{HasParts, IsMade}
-use Rattle.unit_builder.specs.Outcomes.{IsRunnable, unit_of}
+use Rattle.unit_builder.specs.Outcomes.{unit_of}
 use Rattle.unit_builder.specs.Reasons.{blocks_in, code_tests, has_short_name, header_tests, kind_tests, name_test, own_tests, reason_tests, row_tests, token_tests, unit_shape, variable_count}
 use Rattle.unit_builder.specs.Rows.{IsRowOf}
 use Rattle.unit_builder.specs.declared.reason.Reason.{Reason}
@@ -171,7 +171,12 @@ module _ (asm : List ℕ) (method : MethodRow) (unit : MethodUnit) (row : IsRowO
         order = subst (λ (n : ℕ). InOrderOfUse 0 n (filter_map (λ i. called_by i.op) (unit_instrs asm method))) (sym callees) (in_order asm method);
         callees = subst (AllByRecursion _) parts.callees.infos_are parts.callees.each;
         numbers = subst (AllByRecursion (IsNumberClause (args_of method.sig.types) (result_of method.sig.types))) (sym clauses_are) (parts.contracts.numbers (unit_shape asm method) stacks (record { result = refl; args = refl }) parts.kinds.1);
-        kinds = parts.kinds;
+        runs = record {
+          stacks = stacks;
+          kinds = parts.kinds.1;
+          body = subst (HasBody (unit_instrs asm method) stacks) parts.contracts.told.body
+              (parts.contracts.body (unit_shape asm method) stacks (record { result = refl; args = refl }) parts.kinds.1);
+        };
         limits = record {
           code = let long = parts.decoded.long in let code = tests.told.code in omega (arith, long, short, code);
           instructions = tests.code.few;
@@ -190,5 +195,5 @@ module _ (asm : List ℕ) (method : MethodRow) (unit : MethodUnit) (row : IsRowO
       let is_unit : IsUnit (unit_of asm method) = record { well_formed = well_formed none; clauses = no_clause_fault none } in
       record {
         same = unit_is;
-        runnable = subst IsRunnable (sym unit_is) (record { is_unit = is_unit; can_run = unit_can_run (unit_of asm method) is_unit });
+        is_unit = subst IsUnit (sym unit_is) is_unit;
       }

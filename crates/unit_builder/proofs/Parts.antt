@@ -8,6 +8,7 @@ use Rattle.cc_base.specs.declared.refusal.Refusal.{Refusal}
 use Rattle.cc_base.specs.declared.refusal.Refusal.TheVariants.{Bad, NoMemory}
 use Rattle.cc_base.specs.declared.token.Token.{Token}
 use Rattle.cc_base.proofs.TestLemmas.{first_of-one}
+use Rattle.cil_model.specs.Limits.{MAX_VARIABLES}
 use Rattle.cil_model.specs.WellFormed.{IsCallee}
 use Rattle.cil_model.specs.declared.instruction.Instr.{Instr}
 use Rattle.cil_model.specs.declared.shape.Shape.{Shape}
@@ -30,8 +31,8 @@ pub callees_are : (asm : List ℕ) (method : MethodRow) (tokens : List Token) (i
     → AreCallees asm (callee_tokens asm method) infos
 callees_are asm method tokens infos same are = subst (λ (ts : List Token). AreCallees asm ts infos) same are
 
-pub stack_small : (asm : List ℕ) (method : MethodRow) (shape : Shape) (variables : Variables) → shape ≡ unit_shape asm method → AreVariablesOf asm method variables → variables.max_stack ≤ 128
-    → shape.max_stack ≤ 128
+pub stack_small : (asm : List ℕ) (method : MethodRow) (shape : Shape) (variables : Variables) → shape ≡ unit_shape asm method → AreVariablesOf asm method variables → variables.max_stack ≤ MAX_VARIABLES
+    → shape.max_stack ≤ MAX_VARIABLES
 unfolding unit_shape
 stack_small asm method shape variables same told small =
     let stack : shape.max_stack ≡ variables.max_stack = ap (λ (s : Shape). s.max_stack) same ∙ sym told.max_stack in omega (arith, stack, small)

@@ -1,5 +1,6 @@
 -- Small graphs, and what a number reaches in them.
 use Rattle.std.proofs.Common.{◌≡◌, ℕ, ◌-◌, false, List, [], ◌∷◌, filter, filter_map, get_or, refl}
+use Rattle.std.specs.Prelude.{nat_eq}
 use Rattle.std.specs.List.{range_with_len}
 use Rattle.unit_builder.specs.Met.{all_met, place_in}
 use Rattle.unit_builder.specs.Reach.{reaches_in}
@@ -10,7 +11,7 @@ behind graph n = get_or graph (n - 10) []
 
 -- All that is reached, rising.
 abbrev all_reached : (ℕ → List ℕ) → ℕ → ℕ → List ℕ
-all_reached next count from = filter (reaches_in next count from) (range_with_len 10 count)
+all_reached next count from = filter (reaches_in nat_eq next count from) (range_with_len 10 count)
 
 -- A cycle: 10 to 12, 12 to 11, 11 to 10. Each reaches all.
 abbrev cycle : List (List ℕ)
@@ -42,5 +43,5 @@ pub skipped_reached : all_reached (behind ((11 ∷ []) ∷ [] ∷ [] ∷ [])) 3 
 skipped_reached = refl
 
 -- No more steps are needed than there are numbers, and with fewer a chain is not reached to its end.
-pub chain_short : reaches_in (behind ((11 ∷ []) ∷ (12 ∷ []) ∷ [] ∷ [])) 1 10 12 ≡ false
+pub chain_short : reaches_in nat_eq (behind ((11 ∷ []) ∷ (12 ∷ []) ∷ [] ∷ [])) 1 10 12 ≡ false
 chain_short = refl

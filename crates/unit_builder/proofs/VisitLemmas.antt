@@ -9,7 +9,8 @@ use Rattle.cc_base.specs.Tokens.{row_of}
 use Rattle.cc_base.specs.declared.token.Token.{Token}
 use Rattle.cil_model.specs.declared.unit.Unit.{Unit as MethodUnit}
 use Rattle.unit_builder.specs.Bodies.{callee_tokens}
-use Rattle.unit_builder.specs.Outcomes.{IsRunnable, outcome_of}
+use Rattle.method_unit.specs.Units.{IsUnit}
+use Rattle.unit_builder.specs.Outcomes.{outcome_of}
 use Rattle.unit_builder.specs.Walks.{IsVisited, calls_of, unit_at}
 use Rattle.unit_builder.specs.declared.entry.Outcome.TheVariants.{Analysed, Skipped}
 use Rattle.unit_builder.specs.declared.reason.Reason.{Reason}
@@ -30,15 +31,15 @@ module _ (asm : List ℕ) (token : Token) (there : IsSome (method_of asm token))
   pub visited : (unit : MethodUnit) (callees : Vec Token Global)
       → ((method : MethodRow) → slice_get (methods_of asm) (row_of token.0 - 1) ≡ Some method → Analysed unit ≡ outcome_of asm method)
       → ((method : MethodRow) (unit : MethodUnit) → slice_get (methods_of asm) (row_of token.0 - 1) ≡ Some method → outcome_of asm method ≡ Analysed unit → callees.items ≡ callee_tokens asm method)
-      → IsRunnable unit → IsVisited asm token.0 (record { unit = unit; callees = callees })
+      → IsUnit unit → IsVisited asm token.0 (record { unit = unit; callees = callees })
   unfolding unit_at calls_of
-  visited unit callees outcome callees_are runnable =
+  visited unit callees outcome callees_are is_unit =
       let found = some_is (method_of asm token) there in
       let row = row_there asm token found.0 found.1 in
       let analysed = sym (outcome found.0 row.1) in
       record {
         unit = rw (found.1, analysed) refl;
-        runnable = runnable;
+        is_unit = is_unit;
         callees = rw (found.1, analysed, callees_are found.0 unit row.1 analysed) refl;
       }
 

@@ -1,5 +1,6 @@
 -- A walk, step by step.
 use Rattle.std.proofs.Common.{◌≡◌, ℕ, zero, suc, ◌<◌, ◌≤◌, Bool, true, false, ⊎_elim, List, [], ◌∷◌, ◌++◌, length, get_or, Contains, Option, Some, None, is_some, IsSome, refl, sym, ap, ◌∙◌, subst, arith, append_assoc, length-append}
+use Rattle.std.specs.Prelude.{nat_eq}
 use Rattle.std.proofs.lemmas.Bool.{eq-eqb}
 use Rattle.std.proofs.lemmas.List.{append-nil, get_or_append_left, get_or_push, length_push}
 use Rattle.std.specs.Option.{option_and_then, option_map_or}
@@ -18,7 +19,7 @@ use Rattle.unit_builder.specs.declared.entry.Outcome.TheVariants.{Analysed, Skip
 use Rattle.unit_builder.specs.declared.reach.Visited.{Visited}
 use Rattle.unit_builder.proofs.CallFacts.{callees-there}
 use Rattle.unit_builder.proofs.MetLemmas.{before_or_last, place-last, place-stays, place-tells}
-use Rattle.unit_builder.proofs.ReachLemmas.{Contains-behind, goes_on, reaches, stays_in, within_more}
+use Rattle.unit_builder.proofs.ReachLemmas.{Contains-behind, equal_numbers, goes_on, reaches, stays_in, within_more}
 use Rattle.unit_builder.proofs.VisitLemmas.{some_is}
 
 -- ---- methods that are met one after another
@@ -131,12 +132,12 @@ module _ (asm : List ℕ) (from : ℕ) (tokens : List ℕ) (visits : List (Optio
       (λ token called place after. calls-there asm (get_or tokens (length visits) 0) token (subst (λ calls. Contains calls token) calls_are called))
 
   near_more : (place : ℕ) → place < length (all_met tokens (numbers (calls_in visited)))
-      → reaches_in (calls_of asm) place from (get_or (all_met tokens (numbers (calls_in visited))) place 0) ≡ true
+      → reaches_in nat_eq (calls_of asm) place from (get_or (all_met tokens (numbers (calls_in visited))) place 0) ≡ true
   near_more =
-      all-each (λ place token. reaches_in (calls_of asm) place from token ≡ true) (numbers (calls_in visited)) tokens walk.near
+      all-each (λ place token. reaches_in nat_eq (calls_of asm) place from token ≡ true) (numbers (calls_in visited)) tokens walk.near
       (λ token called place after.
-      within_more (calls_of asm) (suc (length visits)) place from token (omega arith)
-      (goes_on (calls_of asm) (length visits) from (get_or tokens (length visits) 0) token (walk.near (length visits) next)
+      within_more nat_eq equal_numbers (calls_of asm) (suc (length visits)) place from token (omega arith)
+      (goes_on nat_eq equal_numbers (calls_of asm) (length visits) from (get_or tokens (length visits) 0) token (walk.near (length visits) next)
       (subst (λ calls. Contains calls token) calls_are called)))
 
   told_more : (place : ℕ) → place < length (visits ++ visited ∷ [])
@@ -193,12 +194,12 @@ module _ (asm : List ℕ) (from : ℕ) (tokens : List ℕ) (visits : List (Optio
   reached_if_met token there =
       let found = some_is (place_in tokens token) there in
       let at = place-tells tokens token found.0 found.1 in
-      within_more (calls_of asm) found.0 (length (methods_of asm)) from token (omega (arith, at.0))
-      (subst (λ t. reaches_in (calls_of asm) found.0 from t ≡ true) at.1 (walk.near found.0 at.0))
+      within_more nat_eq equal_numbers (calls_of asm) found.0 (length (methods_of asm)) from token (omega (arith, at.0))
+      (subst (λ t. reaches_in nat_eq (calls_of asm) found.0 from t ≡ true) at.1 (walk.near found.0 at.0))
 
   met_if_reaching : (token : ℕ) → Reaches (calls_of asm) from token → IsSome (place_in tokens token)
   met_if_reaching token way =
-      stays_in (calls_of asm) (λ t. IsSome (place_in tokens t))
+      stays_in nat_eq equal_numbers (calls_of asm) (λ t. IsSome (place_in tokens t))
       (λ n to met called.
       let found = some_is (place_in tokens n) met in
       let at = place-tells tokens n found.0 found.1 in
@@ -207,7 +208,7 @@ module _ (asm : List ℕ) (from : ℕ) (tokens : List ℕ) (visits : List (Optio
 
   reaching_if_reached : (token : ℕ) → is_reached asm from token ≡ true → Reaches (calls_of asm) from token
   unfolding is_reached
-  reaching_if_reached token reached = reaches (calls_of asm) (length (methods_of asm)) from token reached
+  reaching_if_reached token reached = reaches nat_eq equal_numbers (calls_of asm) (length (methods_of asm)) from token reached
 
   there_if_reached : (token : ℕ) → is_reached asm from token ≡ true → IsSome (method_of asm (as_token token))
   there_if_reached token reached =
@@ -230,7 +231,7 @@ pub walk-start : (asm : List ℕ) (from : ℕ) → IsSome (method_of asm (as_tok
 walk-start asm from there = record {
   start = start;
   there = λ place lt. alone (λ n token. IsSome (method_of asm (as_token token))) there place lt;
-  near = λ place lt. alone (λ n token. reaches_in (calls_of asm) n from token ≡ true) (eq-eqb from from refl) place lt;
+  near = λ place lt. alone (λ n token. reaches_in nat_eq (calls_of asm) n from token ≡ true) (eq-eqb from from refl) place lt;
   visited = omega arith;
   told = λ place lt. absurd (omega arith);
   closed = λ place token lt called. absurd (omega arith);

@@ -12,7 +12,7 @@ use Rattle.cil_model.specs.Worlds.{Agree}
 use Rattle.cil_model.specs.declared.unit.Unit.{Unit as MethodUnit}
 use Rattle.unit_builder.specs.Met.{first_method, place_in}
 use Rattle.method_code.specs.Reading.{as_token}
-use Rattle.unit_builder.specs.Outcomes.{IsRunnable}
+use Rattle.method_unit.specs.Units.{IsUnit}
 use Rattle.unit_builder.specs.Reasons.{callee_info}
 use Rattle.unit_builder.specs.Reach.{Reaches, itself, onward}
 use Rattle.unit_builder.specs.Walks.{IsWhole, Tells, calls_of, is_reached, numbers, tokens_in, unit_at}
@@ -239,16 +239,16 @@ module _ (asm : List ℕ) (from : ℕ) (tokens : List ℕ) (visits : List (Optio
 
   -- ---- what holds of the units
 
-  run_found : (ns : List ℕ) → AllByRecursion (λ token. is_reached asm from token ≡ true) ns → AllByRecursion IsRunnable (filter_map (unit_made tokens visits) ns)
+  run_found : (ns : List ℕ) → AllByRecursion (λ token. is_reached asm from token ≡ true) ns → AllByRecursion IsUnit (filter_map (unit_made tokens visits) ns)
   run_found [] all = tt
   run_found (n ∷ ns) all = of_slot (made tokens visits n) (tells-made n all.0) (run_found ns all.1) where
-    of_slot : (slot : Option Visited) → Tells asm n slot → AllByRecursion IsRunnable (filter_map (unit_made tokens visits) ns)
-        → AllByRecursion IsRunnable (cons_option (option_map (λ (v : Visited). v.unit) slot) (filter_map (unit_made tokens visits) ns))
+    of_slot : (slot : Option Visited) → Tells asm n slot → AllByRecursion IsUnit (filter_map (unit_made tokens visits) ns)
+        → AllByRecursion IsUnit (cons_option (option_map (λ (v : Visited). v.unit) slot) (filter_map (unit_made tokens visits) ns))
     of_slot None none rest = rest
-    of_slot (Some visited) told rest = (told.runnable, rest)
+    of_slot (Some visited) told rest = (told.is_unit, rest)
 
-  pub are_runnable : (order : List ℕ) (units : List MethodUnit) → order ≡ world_tokens asm from → units ≡ filter_map (unit_made tokens visits) order → AllByRecursion IsRunnable units
-  are_runnable order units order_is units_are = rw (units_are, order_is) (run_found (world_tokens asm from) each_reached)
+  pub all_are_units : (order : List ℕ) (units : List MethodUnit) → order ≡ world_tokens asm from → units ≡ filter_map (unit_made tokens visits) order → AllByRecursion IsUnit units
+  all_are_units order units order_is units_are = rw (units_are, order_is) (run_found (world_tokens asm from) each_reached)
 
   in_order : (token : ℕ) → is_reached asm from token ≡ true → IsSome (place_in (world_tokens asm from) token)
   unfolding world_tokens
@@ -268,11 +268,11 @@ module _ (asm : List ℕ) (from : ℕ) (tokens : List ℕ) (visits : List (Optio
       let at = place-tells (world_tokens asm from) token found.0 found.1 in
       subst (λ t. is_reached asm from t ≡ true) at.1 (each-at (λ t. is_reached asm from t ≡ true) (world_tokens asm from) found.0 _ each_reached (slice_get-get_or (world_tokens asm from) found.0 0 at.0))
 
-  runs-told : (token : ℕ) (slot : Option Visited) → Tells asm token slot → (unit : MethodUnit) → unit_at asm token ≡ Some unit → IsRunnable unit
+  runs-told : (token : ℕ) (slot : Option Visited) → Tells asm token slot → (unit : MethodUnit) → unit_at asm token ≡ Some unit → IsUnit unit
   runs-told token None none unit is = absurd cc
-  runs-told token (Some visited) told unit is = subst IsRunnable (same_Some visited.unit unit (sym told.unit ∙ is)) told.runnable
+  runs-told token (Some visited) told unit is = subst IsUnit (same_Some visited.unit unit (sym told.unit ∙ is)) told.is_unit
 
-  runs : (token : ℕ) (unit : MethodUnit) → is_reached asm from token ≡ true → unit_at asm token ≡ Some unit → IsRunnable unit
+  runs : (token : ℕ) (unit : MethodUnit) → is_reached asm from token ≡ true → unit_at asm token ≡ Some unit → IsUnit unit
   runs token unit reached is = runs-told token (made tokens visits token) (tells-made token reached) unit is
 
   pub agrees : least_skipped asm from ≡ None → Agree (world_of asm from)

@@ -11,9 +11,9 @@ use Rattle.cil_model.specs.declared.unit.Unit.{Unit as MethodUnit}
 use Rattle.method_code.specs.Numbering.{spelled_code}
 use Rattle.method_code.specs.OfMethods.{args_of, result_of}
 use Rattle.method_code.specs.Reading.{AreContractsOf, AreDecodedAs}
-use Rattle.method_unit.specs.Units.{HasKinds}
 use Rattle.unit_builder.specs.Bodies.{callee_tokens, code_told, header_of, locals_told, unit_instrs, unit_name}
-use Rattle.unit_builder.specs.Outcomes.{IsRunnable, unit_of}
+use Rattle.method_unit.specs.Units.{HasKinds, IsUnit}
+use Rattle.unit_builder.specs.Outcomes.{unit_of}
 use Rattle.unit_builder.specs.Reasons.{callee_info, unit_shape}
 use Rattle.unit_builder.specs.declared.header.Variables.{Variables}
 use Rattle.unit_builder.specs.declared.own_code.OwnCode.{OwnCode}
@@ -52,7 +52,7 @@ pub record HasParts (asm : List ℕ) (method : MethodRow) (unit : MethodUnit) : 
 -- The unit is that of the method, and the rest of the project may take it.
 pub record IsMade (asm : List ℕ) (method : MethodRow) (unit : MethodUnit) : Type 0 where
   pub same : unit ≡ unit_of asm method
-  pub runnable : IsRunnable unit
+  pub is_unit : IsUnit unit
 
 -- These clauses of a method may stand in an entry of its callers.
 pub record AreKnownOf (method : MethodRow) (clauses : List Clause) : Type 0 where

@@ -7,7 +7,6 @@ use Rattle.cil_model.specs.Blocks.{start_of_body}
 use Rattle.cil_model.specs.declared.unit.Unit.{Unit as MethodUnit}
 use Rattle.method_code.specs.Numbering.{spelled_code}
 use Rattle.method_code.specs.OfMethods.{args_of, result_of, told_clauses}
-use Rattle.method_unit.specs.Units.{CanRun, IsUnit}
 use Rattle.unit_builder.specs.Bodies.{callee_tokens, header_of, locals_told, unit_instrs, unit_name}
 use Rattle.unit_builder.specs.Reasons.{callee_info, reason_tests}
 use Rattle.unit_builder.specs.declared.entry.MethodEntry.{MethodEntry}
@@ -45,11 +44,6 @@ entry_of asm method = record { token = method.token; name = method.name; outcome
 -- An entry for each method of the assembly, in the order of its rows.
 unfoldable pub entries_of : List ℕ → List MethodEntry
 entries_of asm = map (entry_of asm) (methods_of asm)
-
--- A unit of which the rest of the project may know all that it knows of units that were read.
-pub record IsRunnable (unit : MethodUnit) : Type 0 where
-  pub is_unit : IsUnit unit
-  pub can_run : CanRun unit
 
 -- What is known of the unit, where there is one.
 abbrev pub IfAnalysed : Outcome → (MethodUnit → Type 0) → Type 0

@@ -1,5 +1,5 @@
 -- Which methods of an assembly a method reaches, and a walk that meets them.
-use Rattle.std.specs.Prelude.{◌≡◌, ◌↔◌, ℕ, ◌<◌, ◌≤◌, Bool, true, List, [], length, map, is_some, Option, Some, None, IsSome, Contains, slice_index, slice_index_or}
+use Rattle.std.specs.Prelude.{◌≡◌, ◌↔◌, ℕ, ◌<◌, ◌≤◌, Bool, true, List, [], length, map, is_some, Option, Some, None, IsSome, Contains, nat_eq, slice_index, slice_index_or}
 use Rattle.std.specs.Option.{option_and_then, option_map_or}
 use Rattle.asm_image.specs.Bodies.{method_of}
 use Rattle.asm_image.specs.Rows.{methods_of}
@@ -9,7 +9,8 @@ use Rattle.cil_model.specs.declared.unit.Unit.{Unit as MethodUnit}
 use Rattle.unit_builder.specs.Met.{place_in}
 use Rattle.method_code.specs.Reading.{as_token}
 use Rattle.unit_builder.specs.Bodies.{callee_tokens}
-use Rattle.unit_builder.specs.Outcomes.{IsRunnable, outcome_of}
+use Rattle.method_unit.specs.Units.{IsUnit}
+use Rattle.unit_builder.specs.Outcomes.{outcome_of}
 use Rattle.unit_builder.specs.Reach.{Reaches, reaches_in}
 use Rattle.unit_builder.specs.declared.entry.Outcome.{Outcome}
 use Rattle.unit_builder.specs.declared.entry.Outcome.TheVariants.{Analysed, Skipped}
@@ -44,7 +45,7 @@ unit_at asm token = option_and_then (λ method. unit_by (outcome_of asm method))
 
 -- A method reaches another. No way to it has to be longer than there are methods.
 unfoldable pub is_reached : List ℕ → ℕ → ℕ → Bool
-is_reached asm from token = reaches_in (calls_of asm) (length (methods_of asm)) from token
+is_reached asm from token = reaches_in nat_eq (calls_of asm) (length (methods_of asm)) from token
 
 -- The tokens of methods. Those of all methods of an assembly rise.
 abbrev pub tokens_in : List MethodRow → List ℕ
@@ -55,7 +56,7 @@ tokens_in methods = map (λ method. method.token.0) methods
 -- This was made of the method that a token names.
 pub record IsVisited (asm : List ℕ) (token : ℕ) (visited : Visited) : Type 0 where
   pub unit : unit_at asm token ≡ Some visited.unit
-  pub runnable : IsRunnable visited.unit
+  pub is_unit : IsUnit visited.unit
   pub callees : numbers visited.callees.items ≡ calls_of asm token
 
 abbrev pub Tells : List ℕ → ℕ → Option Visited → Type 0
@@ -71,7 +72,7 @@ calls_in (Some visited) = visited.callees.items
 pub record IsWalk (asm : List ℕ) (from : ℕ) (tokens : List ℕ) (visits : List (Option Visited)) : Type 0 where
   pub start : place_in tokens from ≡ Some 0
   pub there : (place : ℕ) → place < length tokens → IsSome (method_of asm (as_token (slice_index tokens place)))
-  pub near : (place : ℕ) → place < length tokens → reaches_in (calls_of asm) place from (slice_index tokens place) ≡ true
+  pub near : (place : ℕ) → place < length tokens → reaches_in nat_eq (calls_of asm) place from (slice_index tokens place) ≡ true
   pub visited : length visits ≤ length tokens
   pub told : (place : ℕ) → place < length visits → Tells asm (slice_index tokens place) (slice_index_or visits place None)
   pub closed : (place : ℕ) (token : ℕ) → place < length visits → Contains (calls_of asm (slice_index tokens place)) token → IsSome (place_in tokens token)

@@ -8,7 +8,8 @@ ghost use Rattle.cc_base.specs.Tests.{first_of, JudgesOrNoMemory};
 ghost use Rattle.cil_model.specs.declared.unit.Unit.{Unit as MethodUnit};
 ghost use Rattle.unit_builder.specs.Bodies.{callee_tokens};
 ghost use Rattle.unit_builder.specs.Making.{HasParts, IsMade};
-ghost use Rattle.unit_builder.specs.Outcomes.{IfAnalysed, IsRunnable, entries_of, entry_of, outcome_of};
+ghost use Rattle.method_unit.specs.Units.{IsUnit};
+ghost use Rattle.unit_builder.specs.Outcomes.{IfAnalysed, entries_of, entry_of, outcome_of};
 ghost use Rattle.unit_builder.specs.Reasons.{reason_tests};
 ghost use Rattle.unit_builder.specs.Slots.{AreSlots};
 ghost use Rattle.unit_builder.specs.declared.entry.Outcome.TheVariants.{Analysed};
@@ -90,7 +91,7 @@ fn unit_at(
 fn skipped(refusal: UnitRefusal) -> Result<Outcome, NoMemory>
     ensures value { (asm : List ℕ) (method : MethodRow) → JudgesOrNoMemory (Err refusal) (first_of (reason_tests asm method)) (IsMade asm method)
         → IfOk result (λ outcome. outcome ≡ outcome_of asm method) }
-    ensures unit { IfOk result (λ outcome. IfAnalysed outcome IsRunnable) }
+    ensures unit { IfOk result (λ outcome. IfAnalysed outcome IsUnit) }
 {
     match refusal {
         Refusal::Bad(reason) => Ok(Outcome::Skipped(reason)),
@@ -103,7 +104,7 @@ fn outcome_of(unit: Result<Unit, UnitRefusal>) -> Result<Outcome, NoMemory>
     ensures value { (asm : List ℕ) (method : MethodRow) → JudgesOrNoMemory unit (first_of (reason_tests asm method)) (IsMade asm method)
         → IfOk result (λ outcome. outcome ≡ outcome_of asm method) }
     ensures unit { (asm : List ℕ) (method : MethodRow) → JudgesOrNoMemory unit (first_of (reason_tests asm method)) (IsMade asm method)
-        → IfOk result (λ outcome. IfAnalysed outcome IsRunnable) }
+        → IfOk result (λ outcome. IfAnalysed outcome IsUnit) }
 {
     match unit {
         Ok(unit) => Ok(Outcome::Analysed(unit)),
@@ -139,7 +140,7 @@ impl<'a> Units<'a> {
         requires there { index < length (methods_of self.old) }
         ensures same { self.new ≡ self.old }
         ensures value { (method : MethodRow) → slice_get (methods_of self.old) index ≡ Some method → IfOk result (λ outcome. outcome ≡ outcome_of self.old method) }
-        ensures unit { IfOk result (λ outcome. IfAnalysed outcome IsRunnable) }
+        ensures unit { IfOk result (λ outcome. IfAnalysed outcome IsUnit) }
     {
         let method = &self.assembly.methods()[index];
         outcome_of(unit_at(alloc, self.assembly, &mut self.slots, index, method))
@@ -167,7 +168,7 @@ fn entry_at(
     requires there { slice_get (methods_of units.old) index ≡ Some method.now }
     ensures same { units.new ≡ units.old }
     ensures value { IfOk result (λ entry. entry ≡ entry_of units.old method.now) }
-    ensures unit { IfOk result (λ entry. IfAnalysed entry.outcome IsRunnable) }
+    ensures unit { IfOk result (λ entry. IfAnalysed entry.outcome IsUnit) }
 {
     Ok(MethodEntry {
         token: method.token,
@@ -183,7 +184,7 @@ pub fn build_units(alloc: Global, assembly: &Assembly<'_>) -> Result<Vec<MethodE
     // One entry for each row: its printed name, and its unit or the first reason that holds.
     ensures entries { IfOk result (λ entries. entries.items ≡ entries_of assembly.now) }
     // Each unit is well formed, and its body can be run.
-    ensures units { IfOk result (λ entries. AllByRecursion (λ entry. IfAnalysed entry.outcome IsRunnable) entries.items) }
+    ensures units { IfOk result (λ entries. AllByRecursion (λ entry. IfAnalysed entry.outcome IsUnit) entries.items) }
 {
     let mut units = Units::of(alloc, assembly)?;
     let mut entries = Vec::new(alloc);

@@ -6,7 +6,7 @@ ghost use Rattle.asm_image.specs.Bodies.{method_of};
 ghost use Rattle.asm_image.specs.Rows.{methods_of};
 ghost use Rattle.cil_model.specs.Worlds.{Agree};
 ghost use Rattle.unit_builder.specs.Met.{IsAmong, place_in};
-ghost use Rattle.unit_builder.specs.Outcomes.{IsRunnable};
+ghost use Rattle.method_unit.specs.Units.{IsUnit};
 ghost use Rattle.unit_builder.specs.Reach.{Reaches};
 ghost use Rattle.unit_builder.specs.Walks.{IsWhole, calls_of, is_reached, numbers, unit_at};
 ghost use Rattle.unit_builder.specs.WorldOf.{IfNotAnalysed, IsLeastSkipped, JudgesWorld, PutsNext, UnlessNoMemory, least_skipped, places_in, places_made, unit_made, world_of, world_tokens};
@@ -129,7 +129,7 @@ pub fn world_of(alloc: Global, units: Units<'_>, method: Token) -> Result<World,
     ensures refused { IfNotAnalysed result (IsLeastSkipped units.entry method.0) }
     ensures analysed { IfOk result (λ _. (token : ℕ) → Reaches (calls_of units.entry) method.0 token → IsSome (unit_at units.entry token)) }
     // Each unit is well formed, and its body can be run; and they agree on what they say of each other.
-    ensures units { IfOk result (λ world. AllByRecursion IsRunnable world.units) }
+    ensures units { IfOk result (λ world. AllByRecursion IsUnit world.units) }
     ensures agree { IfOk result Agree }
 {
     let assembly = units.assembly();

@@ -4,7 +4,8 @@ use Rattle.std.specs.List.{AllByRecursion, list_any}
 use Rattle.std.specs.Option.{option_map_or}
 use Rattle.std.proofs.lemmas.Bool.{ltb-false, or_parts}
 use Rattle.cil_model.specs.Blocks.{branch_targets, closes, is_closing_call, start_of_body}
-use Rattle.cil_model.specs.FitKinds.{AreDecoded, HasBody, is_executed, is_executed_call}
+use Rattle.cil_model.specs.Bodies.{HasBody, is_executed, is_executed_call}
+use Rattle.cil_model.specs.FitKinds.{AreDecoded}
 use Rattle.cil_model.specs.Passes.{KindsOf, Stacks}
 use Rattle.cil_model.specs.ShortCode.{AreOfShortCode}
 use Rattle.cil_model.specs.UnitCalls.{unit_call}

@@ -5,10 +5,9 @@ use Rattle.command_words.specs.Words.{file_names, words_bytes}
 use Rattle.answer_lines.specs.Writing.{change_of}
 use Rattle.check_driver.proofs.Asking.{leaves_asked}
 use Rattle.check_driver.proofs.Causes.{unread_cause, unwritten_cause, usage_only}
-use Rattle.check_driver.proofs.CheckedSafety.{printed_checked}
 use Rattle.check_driver.proofs.Leaving.{front_given, leaves}
 use Rattle.check_driver.proofs.Plain.{plain_expected}
-use Rattle.check_driver.proofs.HeadlineSafety.{headline_safe}
+use Rattle.check_driver.proofs.HeadlineSafety.{headline_safe, section_safe}
 use Rattle.check_driver.proofs.ProvedUnits.{proved_unit_is_safe}
 use Rattle.check_driver.proofs.program.run_words.Goals as goal
 
@@ -28,10 +27,16 @@ returns-clause-headline g c = λ held k bytes text method told assembly appended
     let words = words_bytes c.args.words.now in
     let answer = c.answer_words-answered.ensures.answer in
     let written = g.O.Sink.written in
-    headline_safe (g.F.Files.held c.args.files.now) words held k bytes text method answer.0 (written c.args.out.now) (written c.answer_words-answered.new.out) told assembly answer.1
-    (front_given (expected words answer.0) (file_names words) _ c.answer_words-answered.result
-    (change_of written g.O.Sink.faults c.args.out.now c.answer_words-answered.new.out) _ answer.2)
-    c.answer_words-answered.ensures.reportable appended has all
+    headline_safe (g.F.Files.held c.args.files.now) words held k bytes text method answer.0 (written c.args.out.now) (written c.answer_words-answered.new.out)
+    (record {
+      told_is = told;
+      assembly = assembly;
+      under = answer.1;
+      appends = front_given (expected words answer.0) (file_names words) _ c.answer_words-answered.result
+          (change_of written g.O.Sink.faults c.args.out.now c.answer_words-answered.new.out) _ answer.2;
+      known = c.answer_words-answered.ensures.reportable;
+      appended = appended;
+    }) has all
 
 pub returns-clause-single_unit : goal.returns-clause-single_unit
 returns-clause-single_unit g c = λ held bytes signature told asks prints.
@@ -63,11 +68,17 @@ returns-clause-usage g c = λ is.
     usage_only words answer.0 (file_names words) _ c.answer_words-answered.result _ _ answer.2 (sym c.finish.ensures.status ∙ is)
 
 pub returns-clause-checked : goal.returns-clause-checked
-returns-clause-checked g c = λ held bytes method told asks has prints.
+returns-clause-checked g c = λ held k bytes text method told assembly appended has line.
     let words = words_bytes c.args.words.now in
     let answer = c.answer_words-answered.ensures.answer in
     let written = g.O.Sink.written in
-    printed_checked (g.F.Files.held c.args.files.now) words held bytes method answer.0 (written c.args.out.now) (written c.answer_words-answered.new.out) told asks answer.1
-    (front_given (expected words answer.0) (file_names words) _ c.answer_words-answered.result
-    (change_of written g.O.Sink.faults c.args.out.now c.answer_words-answered.new.out) _ answer.2)
-    c.answer_words-answered.ensures.reportable has prints
+    let found = section_safe (g.F.Files.held c.args.files.now) words held k bytes text method answer.0 (written c.args.out.now) (written c.answer_words-answered.new.out)
+    (record {
+      told_is = told;
+      assembly = assembly;
+      under = answer.1;
+      appends = front_given (expected words answer.0) (file_names words) _ c.answer_words-answered.result
+          (change_of written g.O.Sink.faults c.args.out.now c.answer_words-answered.new.out) _ answer.2;
+      known = c.answer_words-answered.ensures.reportable;
+      appended = appended;
+    }) has line in found.safe

@@ -1,4 +1,5 @@
 use Rattle.std.proofs.Common.{◌≡◌, ◌≤◌, List, true, length, ap, sym, ◌∙◌, arith}
+use Rattle.cil_model.specs.Limits.{MAX_VARIABLES}
 use Rattle.cil_model.specs.declared.place.Place.{Place}
 use Rattle.cil_eval.specs.Given.{args_fit}
 use Rattle.cil_eval.proofs.StartLemmas.{fit_long}
@@ -14,7 +15,7 @@ put_values_of-requires-clause-few c =
 
 pub put_values_of-requires-clause-room : goal.put_values_of-requires-clause-room
 put_values_of-requires-clause-room c =
-    let few : length c.args.args.now ≤ 128 = put_values_of-requires-clause-few c in
+    let few : length c.args.args.now ≤ MAX_VARIABLES = put_values_of-requires-clause-few c in
     rw c.clear.ensures (omega (arith, few, c.requires.room))
 
 pub false_requires-requires-clause-clauses : goal.false_requires-requires-clause-clauses

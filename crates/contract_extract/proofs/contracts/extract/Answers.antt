@@ -1,5 +1,5 @@
 use Rattle.std.proofs.Common.{ℕ, sym, subst, ◌∙◌}
-use Rattle.cil_model.specs.FitKinds.{HasBody}
+use Rattle.cil_model.specs.Bodies.{HasBody}
 use Rattle.contract_extract.proofs.TreeLemmas.AllNumbers.{all_numbers}
 use Rattle.contract_extract.proofs.BlockLemmas.BodyRuns.{body_runs}
 use Rattle.contract_extract.proofs.BlockLemmas.Passed.{contracts_left, fault_left}

@@ -8,7 +8,7 @@ type_code-requires c = rw c.as_slice.ensures (code_lies c.args.unit.now.instrs c
 
 pub unreachable-requires : goal.unreachable-requires
 unreachable-requires c =
-    let stacks = c.requires.formed.kinds.0 in
+    let stacks = c.requires.formed.runs.stacks in
     never_bad c.type_code.result c.in-Err-Bad.field-0-0 _
-    (c.type_code.ensures.only stacks (rw (c.in_ok-shape.ensures, c.as_slice.ensures) c.requires.formed.kinds.1))
+    (c.type_code.ensures.only stacks (rw (c.in_ok-shape.ensures, c.as_slice.ensures) c.requires.formed.runs.kinds))
     (c.in-Err-Bad.is ∙ ap Err c.in-Err-Bad.field-0-is)

@@ -2,6 +2,7 @@ use Rattle.std.proofs.Common.{◌≤◌, ◌∙◌, arith}
 use Rattle.cc_base.proofs.TestLemmas.{refusal-carried}
 use Rattle.unit_builder.proofs.Parts.{callees_are, kinds_faulty, stack_small, unit_judged}
 use Rattle.unit_builder.proofs.making.make_unit.Goals as goal
+use Rattle.cil_model.specs.Limits.{MAX_VARIABLES}
 
 pub overflow_cast-result : goal.overflow_cast-result
 overflow_cast-result c =
@@ -9,7 +10,7 @@ overflow_cast-result c =
     let method = c.args.method.now in
     let callees = callees_are asm method _ _ (c.deref.ensures.value ∙ c.requires.own.callees) c.in_ok-callees.ensures.value in
     let shape = c.in_ok-shape.ensures asm method c.requires.types c.requires.variables callees in
-    let small : c.in_ok-shape.shape.max_stack ≤ 128 = stack_small asm method c.in_ok-shape.shape c.args.variables.now shape c.requires.variables c.requires.small in
+    let small : c.in_ok-shape.shape.max_stack ≤ MAX_VARIABLES = stack_small asm method c.in_ok-shape.shape c.args.variables.now shape c.requires.variables c.requires.small in
     omega (arith, small)
 
 pub returns-clause-judged : goal.returns-clause-judged

@@ -1,7 +1,7 @@
 use Rattle.std.proofs.Common.{sym, subst}
 use Rattle.std.proofs.lemmas.Result.{err_from_is_err_and}
 use Rattle.cil_model.specs.Worlds.{Agree}
-use Rattle.unit_builder.proofs.WorldLemmas.{agrees, are_runnable, each_analysed, refused_least, world_is}
+use Rattle.unit_builder.proofs.WorldLemmas.{agrees, all_are_units, each_analysed, refused_least, world_is}
 use Rattle.unit_builder.proofs.world.world_of.Goals as goal
 
 pub walk-requires : goal.walk-requires
@@ -25,7 +25,7 @@ returns-clause-analysed c = each_analysed c.args.units c.args.method.0 _ _ c.in_
 pub returns-clause-units : goal.returns-clause-units
 returns-clause-units c =
     let judged = rw c.assembly-assembly.ensures at c.in_ok-order.ensures.judged in
-    are_runnable c.args.units c.args.method.0 _ _ c.in_ok-reached.ensures.whole _ _ judged.1 c.in_ok-world_in.ensures.units
+    all_are_units c.args.units c.args.method.0 _ _ c.in_ok-reached.ensures.whole _ _ judged.1 c.in_ok-world_in.ensures.units
 
 pub returns-clause-agree : goal.returns-clause-agree
 returns-clause-agree c = subst Agree (sym (returns-clause-judged c).1) (agrees c.args.units c.args.method.0 _ _ c.in_ok-reached.ensures.whole (returns-clause-judged c).0)
