@@ -9,6 +9,7 @@ use Rattle.cil_model.specs.declared.machine.Value.{Value}
 use Rattle.cil_model.specs.declared.unit.Unit.{Unit as MethodUnit}
 use Rattle.cil_model.proofs.AloneSafe.{alone_is_safe, no_callee_no_call}
 use Rattle.range_rules.specs.Flow.{IsLawful}
+use Rattle.range_rules.specs.FlowLaws as laws
 use Rattle.range_rules.specs.declared.unit_flow.UnitFlow.{UnitFlow}
 use Rattle.range_rules.proofs.OnTheWay.{StepsToFault, itself, makes, run_faults, typed}
 use Rattle.invariant_checker.specs.Safety.{IsSafe}
@@ -24,11 +25,11 @@ module _ (code : UnitFlow) (lawful : IsLawful code) (no_faults : (kind : FaultKi
   local_safe : LocalSafe unit
   local_safe index args heap n c runs = (
     is_no_fault index args heap n c runs,
-    (typed code lawful).runs unit (itself code lawful) lawful.unit.formed.locals lawful.body index args heap n c runs,
+    (typed code lawful).runs unit (itself code lawful) lawful.unit.formed.locals (laws.lawful_body code lawful) index args heap n c runs,
   )
 
   pub runs_are_safe : IsSafe unit
   runs_are_safe = record {
     local = local_safe;
-    worlds = λ w m of. alone_is_safe w m unit of (no_callee_no_call unit lawful.unit.formed lawful.unit.callees) (makes code lawful) local_safe;
+    worlds = λ none w m of. alone_is_safe w m unit of (no_callee_no_call unit lawful.unit.formed none) (makes code lawful) local_safe;
   }

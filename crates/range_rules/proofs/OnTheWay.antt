@@ -228,7 +228,7 @@ module _ (code : UnitFlow) (lawful : IsLawful code) where
       let i = step.0 in
       let here = found_at unit.instrs f.at i step.1 in
       let inside = in_body.inside in
-      let targets = of_found (λ j. unit.body_start ≤ j.at → AllByRecursion (λ at. unit.body_start ≤ at) (branch_targets j.op)) unit.instrs f.at i lawful.body.inside step.1
+      let targets = of_found (λ j. unit.body_start ≤ j.at → AllByRecursion (λ at. unit.body_start ≤ at) (branch_targets j.op)) unit.instrs f.at i (laws.lawful_body code lawful).inside step.1
       (omega (arith, here, inside)) in
       let goes = step_goes unit i f q.frame p.heap q.heap step step.1 in
       record {
@@ -266,7 +266,7 @@ module _ (code : UnitFlow) (lawful : IsLawful code) where
   fine_entry : (index : ℕ) (args : List Value) (heap : Heap) → MayBegin unit args heap → IsFine (entry_config unit index args heap)
   fine_entry index args heap begins =
       let of = entry_point unit index args heap lawful.unit.formed.locals begins in (
-        record { fits = record { heap_is = of.heap; frame = of.frame; kinds = []; before = lawful.body.empty; fit = tt }; inside = omega arith },
+        record { fits = record { heap_is = of.heap; frame = of.frame; kinds = []; before = (laws.lawful_body code lawful).empty; fit = tt }; inside = omega arith },
         enters index args heap begins,
       )
 
