@@ -104,14 +104,6 @@ paired_there a b =
     all_inside (length (paired a b).keys) (paired a b).exprs (subst (λ known. AllByRecursion (λ (e : Expr). e.sym < length known) (paired a b).exprs) (origin_first [] (uses_of a b))
     (all_there (known_in a b) (uses_of a b) (all_known (origin ∷ []) (uses_of a b))))
 
--- Two uses of one key share a symbol.
-pub one_symbol : (known : List Key) (u v : Key) → same_key u v ≡ true → (named known u).sym ≡ (named known v).sym
-one_symbol known u v same =
-    let one : HaveOneKey u v = same_key_is u v same in
-    ap (λ (k : Key). position_or_len (same_key k) known)
-    (λ i. record { s = one.first_symbol i; t = one.second_symbol i; shift = one.shifts i; first = u.first })
-    ∙ refl
-
 -- Symbol 0 stays the number 0.
 pub zero_behind : (is_first : Bool) (number : ℕ → ℤ) (keys : List Key) → behind_uses is_first number (origin ∷ keys) 0 ≡ number 0
 zero_behind true number keys = omega (arith, ints)

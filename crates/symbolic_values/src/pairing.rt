@@ -62,6 +62,14 @@ fn pair_envs(alloc: Global, a: &Env, b: &Env) -> Result<Pairs, NoMemory>
 ///
 /// Cost: as of `pair_up`. `NoMemory` where memory runs out.
 pub fn first_use_order(alloc: Global, env: &Env) -> Result<Vec<u32>, NoMemory>
+    ensures value { IfOk result (λ symbols. symbols.items ≡ symbols_by_first_use env.now) }
+    ensures own { IfOk result (λ symbols. symbols.items ≡ map (λ key. key.s) (paired env.now env.now).keys) }
+{
+    symbols_of(alloc, env)
+}
+
+/// The symbols of a state, without symbol 0, in the order of their first uses.
+fn symbols_of(alloc: Global, env: &Env) -> Result<Vec<u32>, NoMemory>
     ensures { IfOk result (λ symbols. symbols.items ≡ symbols_by_first_use env.now) }
 {
     let keys = symbol_keys(alloc, env.exprs.as_slice())?;
