@@ -1,5 +1,5 @@
 -- A new symbol, of which more is known, keeps what is so.
-use Rattle.std.proofs.Common.{◌≡◌, ◌≢◌, ℕ, zero, suc, ◌==◌, ◌+◌, ◌≤◌, ◌<◌, ℤ, pos, neg_ℤ, ◌+ℤ◌, ◌-ℤ◌, ◌≤ℤ◌, Bool, true, false, int_lt, int_eq, Option, Some, None, List, [], ◌∷◌, ◌++◌, length, get_or, cond, inl, inr, refl, sym, ap, ◌∙◌, add-one, arith}
+use Rattle.std.proofs.Common.{◌≡◌, ◌≢◌, ℕ, zero, suc, ◌==◌, ◌+◌, ◌≤◌, ◌<◌, ℤ, pos, neg_ℤ, ◌+ℤ◌, ◌≤ℤ◌, Bool, true, false, int_eq, Option, Some, None, List, [], ◌∷◌, ◌++◌, length, get_or, inl, inr, refl, sym, ap, ◌∙◌, add-one, arith}
 use Rattle.std.specs.Prelude.{if◌then◌else◌, Result, Ok, Err, IfOk, OnOk}
 use Rattle.std.specs.Option.{option_map}
 use Rattle.std.specs.Int.{int_min, int_max}
@@ -7,12 +7,11 @@ use Rattle.std.specs.List.{AllByRecursion}
 use Rattle.std.proofs.lemmas.Int.{ints, clamps}
 use Rattle.std.proofs.lemmas.Bool.{cases_Bool, cond_both, eqb-true, eqb-false}
 use Rattle.std.proofs.lemmas.Bool.Decides.{Decides-int_eq, nat_tests}
-use Rattle.std.proofs.lemmas.Grind.{common_steps}
 use Rattle.domain_api.specs.declared.expr.Expr.{Expr}
 use Rattle.interval_domain.specs.Interval.{Interval, one}
 use Rattle.pentagon_domain.specs.Rows.{with_bound}
-use Rattle.pentagon_domain.proofs.Allowing.{AreBelow, allows_agreeing, with_bound_allows}
-use Rattle.symbolic_values.specs.Meaning.{told, truth}
+use Rattle.pentagon_domain.proofs.Allowing.{allows_agreeing, with_bound_allows}
+use Rattle.symbolic_values.specs.Meaning.{told}
 use Rattle.symbolic_values.specs.Worth.{worth}
 use Rattle.symbolic_values.specs.declared.def.Def.{Def}
 use Rattle.symbolic_values.specs.declared.def.Def.TheVariants.{Eq, Lt, LtUn, NullTest, Sub}
@@ -20,7 +19,6 @@ use Rattle.number_spans.specs.Constants.{constant}
 use Rattle.cil_model.specs.Arithmetic.{LEAST, GREATEST}
 use Rattle.number_spans.specs.Stored.{Allows, SomeAllows, range_without}
 use Rattle.number_spans.proofs.Lost.{range_without_allows}
-use Rattle.number_facts.specs.Allowing.{AllowsNumbers}
 use Rattle.number_facts.specs.Facts.{Facts, range_at}
 use Rattle.number_facts.specs.Fresh.{Made, bounded, defined, expr_made, facts_made, fresh, is_long, noted, related, related_so}
 use Rattle.number_facts.specs.Holds.{Holds, HoldsWith, KeepsFresh, YieldsSome, IsDefined, IsRelated, Names, NamesOwn, AreNamed, is_below}

@@ -1,5 +1,5 @@
 -- The lesser and the greater of two ends are no larger than both.
-use Rattle.std.proofs.Common.{ℤ, ◌≤ℤ◌, arith}
+use Rattle.std.proofs.Common.{ℤ, arith}
 use Rattle.std.specs.Int.{int_min, int_max}
 use Rattle.std.proofs.lemmas.Int.{ints, clamps}
 use Rattle.number_facts.specs.Sizes.{IsSum}

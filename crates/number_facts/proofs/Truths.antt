@@ -1,5 +1,5 @@
 -- What is known of comparisons is so, and what they push keeps it.
-use Rattle.std.proofs.Common.{◌≡◌, ◌≢◌, ℕ, ◌+◌, ◌≤◌, ℤ, pos, ◌≤ℤ◌, ◌<ℤ◌, Bool, true, false, ◌&&◌, ◌||◌, int_lt, int_eq, Option, Some, None, List, [], ◌∷◌, length, refl, sym, ap, ◌∙◌, ⊎_elim, FitsSigned, w32, arith}
+use Rattle.std.proofs.Common.{◌≡◌, ◌≢◌, ℕ, ◌+◌, ◌≤◌, ℤ, pos, Bool, true, ◌&&◌, ◌||◌, int_lt, int_eq, Option, Some, None, length, refl, sym, ap, ◌∙◌, ⊎_elim, FitsSigned, w32, arith}
 use Rattle.std.specs.Prelude.{◌==◌, nat_lt, Result, Ok, Err, IfOk, OnOk}
 use Rattle.std.specs.List.{AllByRecursion}
 use Rattle.std.specs.Result.{result_ok}
@@ -17,7 +17,7 @@ use Rattle.interval_domain.specs.Interval.{between}
 use Rattle.symbolic_values.specs.Meaning as said
 use Rattle.symbolic_values.specs.Worth.{worth}
 use Rattle.symbolic_values.specs.declared.def.Def.{Def}
-use Rattle.number_spans.specs.Constants.{constant, is_constant, of_constants}
+use Rattle.number_spans.specs.Constants.{is_constant}
 use Rattle.number_spans.specs.Spans.{is_not_negative, one_excluded}
 use Rattle.number_spans.proofs.ComparingLaws.{lt_true, lt_false, one_apart, plain_less, truth_allowed}
 use Rattle.number_facts.specs.Comparisons.{less_known, apart, equal_known, less_unsigned_known, known, truth_of, defined_by, pushed, compared_or, compared}

@@ -1,13 +1,12 @@
 -- Which numbers are allowed, and that gaps say nothing false of them.
-use Rattle.std.proofs.Common.{◌≡◌, ◌≢◌, ℕ, ◌==◌, ◌≤◌, ℤ, pos, ◌+ℤ◌, ◌-ℤ◌, ◌≤ℤ◌, Bool, true, false, ◌&&◌, List, [], ◌∷◌, Option, Some, None, length, refl, sym, ap, inl, inr, arith}
+use Rattle.std.proofs.Common.{◌≡◌, ◌≢◌, ℕ, ◌==◌, ◌≤◌, ℤ, pos, ◌+ℤ◌, ◌-ℤ◌, ◌≤ℤ◌, true, ◌&&◌, List, [], ◌∷◌, Option, Some, None, length, ap, inl, inr, arith}
 use Rattle.std.specs.Prelude.{nat_le, if◌then◌else◌}
 use Rattle.std.specs.Int.{int_min, int_max}
-use Rattle.std.specs.List.{AllByRecursion}
 use Rattle.std.proofs.lemmas.Bool.{cases_Bool, cond_both, and_parts, eqb-true}
 use Rattle.std.proofs.lemmas.Bool.Decides.{Decides-int_eq}
 use Rattle.std.proofs.lemmas.Grind.{common_steps}
 use Rattle.std.proofs.lemmas.Int.{ints, clamps}
-use Rattle.interval_domain.specs.Interval.{Interval, is_hole, inner_hole, is_inside}
+use Rattle.interval_domain.specs.Interval.{is_hole, inner_hole, is_inside}
 use Rattle.pentagon_domain.specs.declared.bound_row.BoundRow.{BoundRow}
 use Rattle.pentagon_domain.specs.Rows.{rows_from}
 use Rattle.pentagon_domain.specs.Gaps as by_bounds

@@ -1,5 +1,5 @@
 -- What is known is so, and what it means that a rule makes a number of which more is known.
-use Rattle.std.specs.Prelude.{◌≡◌, ◌≢◌, ℕ, ◌+◌, ◌≤◌, ℤ, pos, ◌+ℤ◌, ◌≤ℤ◌, Bool, ◌&&◌, ◌||◌, int_lt, length, List, FitsSigned, Option, Some, None, if◌then◌else◌}
+use Rattle.std.specs.Prelude.{◌≡◌, ◌≢◌, ℕ, ◌+◌, ◌≤◌, ℤ, pos, ◌+ℤ◌, ◌≤ℤ◌, Bool, true, ◌&&◌, ◌||◌, int_lt, length, FitsSigned, Option, Some, None, if◌then◌else◌}
 use Rattle.std.specs.Int.{w32}
 use Rattle.std.specs.List.{AllByRecursion}
 use Rattle.domain_api.specs.declared.expr.Expr.{Expr}
@@ -79,3 +79,18 @@ abbrev pub KeepsFresh : ℤ → ℤ → Option ℤ → Facts → Option Expr →
 KeepsFresh lo hi hole before made after =
     (number : ℕ → ℤ) (is_null : ℕ → Bool) (n : ℤ) → AreNamed before → Holds before number is_null → FitsSigned w32 n → lo ≤ℤ n → n ≤ℤ hi
     → hole ≢ Some n → YieldsSome before after number is_null made n
+
+-- ---- what is assumed
+
+-- Both expressions are worth int32, and the comparison of these is true, or is not.
+pub record Compares (op : CmpOp) (a b : Expr) (holds : Bool) (number : ℕ → ℤ) : Type 0 where
+  pub first : FitsSigned w32 (worth number a)
+  pub second : FitsSigned w32 (worth number b)
+  pub so : compares op (worth number a) (worth number b) ≡ holds
+
+-- Where all that is known is so of numbers of which a comparison is so, something is reached when it is assumed, and all
+-- that is known then is so of these numbers too.
+abbrev pub KeepsCompared : CmpOp → Expr → Expr → Bool → Facts → Bool → Facts → Type 0
+KeepsCompared op a b holds before reached after =
+    (number : ℕ → ℤ) (is_null : ℕ → Bool) → Holds before number is_null → Compares op a b holds number
+    → (reached ≡ true) × Holds after number is_null

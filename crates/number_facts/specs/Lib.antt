@@ -6,5 +6,4 @@ pub mod Fresh
 pub mod Comparisons
 pub mod Assume
 pub mod Allowing
-pub mod Keeps
 pub mod Holds

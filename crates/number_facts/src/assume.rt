@@ -7,7 +7,7 @@ ghost use Rattle.number_facts.specs.Sizes.{IsFar};
 ghost use Rattle.number_facts.specs.Ends.{range_of};
 ghost use Rattle.number_facts.specs.Facts.{IsNamed};
 ghost use Rattle.number_facts.specs.Gaps.{at_most};
-ghost use Rattle.number_facts.specs.Keeps.{KeepsCompared};
+ghost use Rattle.number_facts.specs.Holds.{KeepsCompared};
 ghost use Rattle.number_facts.specs.Assume as rule;
 
 use crate::numbers::Numbers;
@@ -313,7 +313,7 @@ impl Numbers {
     /// # Errors
     ///
     /// Want of memory. The symbols are then as many as before.
-    #[tactic(auto, using(crate::proofs::Keeping::assumed_keeps), unfolding(crate::specs::Assume::assumed))]
+    #[tactic(auto, unfolding(crate::specs::Assume::assumed))]
     pub fn assume_cmp(&mut self, op: CmpOp, a: Expr, b: Expr, holds: bool) -> Result<bool, NoMemory>
         requires first { IsNamed self.old a }
         requires second { IsNamed self.old b }

@@ -1,7 +1,3 @@
-use Rattle.std.proofs.Common.{rules, ◌≡◌, Bool, true, IfOk}
-use Rattle.std.specs.Prelude.{Some}
-use Rattle.std.specs.Option.{is_some}
-use Rattle.number_facts.specs.Assume as rule
 use Rattle.number_facts.specs.Assume.{assumed}
 use Rattle.number_facts.proofs.Keeping.{kept_where_ok}
 use Rattle.number_facts.proofs.numbers.Numbers.assume_cmp.Goals as goal
