@@ -1,33 +1,30 @@
 -- The bodies that were written, as they are read.
-use Rattle.std.proofs.Common.{◌≡◌, ℕ, zero, suc, ◌+◌, ◌*◌, ◌-◌, ◌/◌, ◌%◌, ◌^◌, ◌<◌, ◌≤◌, List, [], ◌∷◌, ◌++◌, length, take, drop, get_or, Bool, true, false, ◌&&◌, Option, Some, None, refl, sym, ap, ap₂, subst, ◌∙◌, append_assoc, arith, slice_index, inl, inr}
-use Rattle.std.specs.Prelude.{◌==◌, if◌then◌else◌, IsTrue, option_map, slice_range}
+use Rattle.std.proofs.Common.{◌≡◌, ℕ, ◌+◌, ◌-◌, ◌^◌, ◌<◌, ◌≤◌, List, [], ◌∷◌, ◌++◌, length, take, drop, Bool, true, false, Some, refl, sym, ap, ap₂, subst, ◌∙◌, append_assoc, arith, slice_index, inl, inr}
+use Rattle.std.specs.Prelude.{IsTrue, option_map, slice_range}
 use Rattle.std.specs.Option.{option_and_then}
 use Rattle.std.proofs.lemmas.Bool.{cases_lt}
 use Rattle.std.proofs.lemmas.List.{length-append, take-append-le, drop_at, take_at}
 use Rattle.cc_base.specs.LittleEndian.{little_bytes, u16_at, u32_at}
 use Rattle.cc_base.proofs.ByteLemmas.{number_back}
-use Rattle.cil_model.specs.Limits.{MAX_CODE_BYTES, MAX_VARIABLES}
-use Rattle.pe_reader.specs.Addresses.{place_of, bytes_at, metadata}
+use Rattle.pe_reader.specs.Addresses.{bytes_at}
 use Rattle.il_decoder.specs.declared.body.Header.{Header}
-use Rattle.il_decoder.specs.Body.{tiny_header, fat_header, header_from, header_at, code_at, body_code}
+use Rattle.il_decoder.specs.Body.{fat_header, header_from, header_at, code_at, body_code}
 use Rattle.asm_image.specs.Tokens.{locals_of}
 use Rattle.asm_writer.specs.declared.plan.AsmPlan.{AsmPlan}
 use Rattle.asm_writer.specs.declared.plan.MethodPlan.{MethodPlan}
 use Rattle.asm_writer.specs.Assembly.{section, assembly_bytes}
 use Rattle.asm_writer.specs.Bodies.{has_locals, locals_row, locals_token, body_header, body, bodies}
 use Rattle.asm_writer.specs.Headers.{bodies_rva}
-use Rattle.asm_writer.specs.Layout.{layout_of}
-use Rattle.asm_writer.specs.Limits.{is_within}
 use Rattle.asm_writer.specs.Numbers.{numbers_bytes, numbers_width}
 use Rattle.asm_writer.specs.Padding.{fill}
 use Rattle.asm_writer.specs.Sizes.{fits}
 use Rattle.asm_writer.proofs.Lengths.{length_numbers, too_many}
-use Rattle.written_assemblies.specs.BodiesRead.{IsMethodAt, token_for, ReadsBody}
+use Rattle.written_assemblies.specs.BodiesRead.{IsMethodAt, ReadsBody}
 use Rattle.written_assemblies.specs.Methods.{body_rva}
 use Rattle.written_assemblies.specs.Parts.{Stands}
 use Rattle.written_assemblies.specs.Readable.{IsReadable}
 use Rattle.written_assemblies.specs.Written.{written_metadata}
-use Rattle.written_assemblies.proofs.PartLemmas.{stands_at, stands_within, stands_drop, stands_reach, stands_first}
+use Rattle.written_assemblies.proofs.PartLemmas.{stands_within, stands_drop, stands_reach}
 use Rattle.written_assemblies.proofs.SectionLemmas.{place_there}
 use Rattle.written_assemblies.proofs.HeaderLemmas.{only_section}
 use Rattle.written_assemblies.proofs.ImageLemmas.{file_of, stands_bodies, section_end, section_room}

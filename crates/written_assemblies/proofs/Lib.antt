@@ -20,3 +20,4 @@ pub mod LocalsLemmas
 pub mod PlanLemmas
 pub mod WholeLemmas
 pub mod BodyLemmas
+pub mod GeneratedLemmas

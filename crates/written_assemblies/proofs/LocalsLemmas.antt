@@ -1,15 +1,15 @@
 -- The locals of methods, as they are read.
-use Rattle.std.proofs.Common.{◌≡◌, ℕ, zero, suc, ◌+◌, ◌*◌, ◌-◌, ◌/◌, ◌%◌, ◌^◌, ◌<◌, ◌≤◌, List, [], ◌∷◌, ◌++◌, length, map, take, get_or, Bool, true, false, ◌&&◌, Option, Some, None, Result, Ok, refl, sym, ap, ap₂, subst, ◌∙◌, arith, slice_index, nat_le}
+use Rattle.std.proofs.Common.{◌≡◌, ℕ, zero, suc, ◌+◌, ◌*◌, ◌/◌, ◌%◌, ◌^◌, ◌<◌, ◌≤◌, List, [], ◌∷◌, ◌++◌, length, take, get_or, Bool, true, false, Some, refl, sym, ap, subst, ◌∙◌, arith, slice_index}
 use Rattle.std.specs.Prelude.{◌==◌, if◌then◌else◌}
-use Rattle.std.specs.List.{flat_map, sum_by}
+use Rattle.std.specs.List.{sum_by}
 use Rattle.std.specs.Option.{option_and_then}
 use Rattle.std.proofs.lemmas.Bool.{le-leb}
 use Rattle.std.proofs.lemmas.List.{length-append, get_or-append-add, length-take-le}
 use Rattle.std.proofs.lemmas.List.Sums.{sum_by-cons}
-use Rattle.cc_base.specs.Tokens.{token_of, table_of, row_of}
+use Rattle.cc_base.specs.Tokens.{token_of}
 use Rattle.cil_model.specs.declared.place.Place.{Place}
 use Rattle.metadata_tables.specs.Heaps.{blob_at}
-use Rattle.metadata_tables.specs.Layout.{row_width as read_width, row_count, base, cell}
+use Rattle.metadata_tables.specs.Layout.{row_count, cell}
 use Rattle.metadata_tables.specs.Schema.{columns_of}
 use Rattle.metadata_tables.specs.declared.schema.Column.TheVariants as columns
 use Rattle.signature_blobs.specs.Signatures.{local_signature}
@@ -23,10 +23,9 @@ use Rattle.asm_writer.specs.declared.table.Table.TheVariants as tables
 use Rattle.asm_writer.specs.Blobs.{locals_index}
 use Rattle.asm_writer.specs.Bodies.{has_items, has_locals, locals_rows, locals_row, locals_token}
 use Rattle.asm_writer.specs.Each.{each_from}
-use Rattle.asm_writer.specs.Layout.{layout_of, is_wide_heap, fields_bytes}
+use Rattle.asm_writer.specs.Layout.{layout_of, is_wide_heap}
 use Rattle.asm_writer.specs.Rows.{locals_fields, rows_of_method, table_rows}
 use Rattle.asm_writer.specs.Signatures as signatures
-use Rattle.asm_writer.specs.Stream as written
 use Rattle.written_assemblies.specs.Counts.{counts_of}
 use Rattle.written_assemblies.specs.Parts.{Stands}
 use Rattle.written_assemblies.proofs.PartLemmas.{stands_reach}
