@@ -106,7 +106,8 @@ pub(crate) fn lowest_paired(
     second: &[Expr],
     must: Option<Expr>,
 ) -> Result<Vec<Expr>, NoMemory>
-    ensures { IfOk result (λ bound. bound.items ≡ lowest must (put_all [] (paired_exprs pairs.now first.now second.now))) }
+    ensures { IfOk result (λ bound. bound.items
+        ≡ lowest must (put_all [] (paired_exprs pairs.now first.now second.now))) }
 {
     let mut exprs = paired_exprs(alloc, pairs, first, second)?;
     exprs.truncate(EXPR_LIMIT);

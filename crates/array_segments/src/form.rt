@@ -58,8 +58,8 @@ impl<C: Values> Segs<C> {
         self.are_counted() && (all_have_few(&self.bounds) && self.begins_at_zero())
     }
 
-    /// Tells whether these are segments, as every call but `whole` asks for: 1 to 12, with a content and a mark each and
-    /// one bound more, 1 to 4 expressions at each bound, and 0 among those of the first.
+    /// Tells whether these are segments, as every call but `whole` asks for: 1 to 12, with a content and a mark each
+    /// and one bound more, 1 to 4 expressions at each bound, and 0 among those of the first.
     pub fn has_form(&self) -> bool
         ensures { IsTrue result ↔ HasForm (lists_of self.now) }
     {

@@ -129,7 +129,9 @@ fn one_leads<O: Order>(order: &O, names: &[Option<Expr>], a: Expr, second: &[Exp
         ≡ list_any (λ b. both_at_most (O.gap order.now) (mapped names.now a) (mapped names.now b)) second.now }
 {
     let first = in_names(names, a);
-    second.iter().any(|b| is_at_most(order, first, in_names(names, *b)))
+    second
+        .iter()
+        .any(|b| is_at_most(order, first, in_names(names, *b)))
 }
 
 /// Tells whether an expression of the other side is shown to be below one of a bound of that side.
@@ -156,7 +158,9 @@ fn one_own_leads<O: Order>(order: &O, names: &[Option<Expr>], a: Expr, second: &
     ensures { result ≡ list_any (λ b. both_at_most (O.gap order.now) (as_own a) (mapped names.now b)) second.now }
 {
     let first = own(a);
-    second.iter().any(|b| is_at_most(order, first, in_names(names, *b)))
+    second
+        .iter()
+        .any(|b| is_at_most(order, first, in_names(names, *b)))
 }
 
 /// Tells whether the other side's first bound is shown to be at most its second one.

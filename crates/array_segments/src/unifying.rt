@@ -152,8 +152,9 @@ impl<C: Values> Unifying<C> {
             with_more (lists_of self.new.made) (common_segments C.hull (make_of sides.now.merge C.hull C.widened) C.full
             sides.now.pairs.now sides.now.end (lists_of sides.now.first.now) (lists_of sides.now.second.now)
             (record { first = self.new.first; second = self.new.second }) rest)
-            ≡ with_more (lists_of self.old.made) (common_segments C.hull (make_of sides.now.merge C.hull C.widened) C.full
-            sides.now.pairs.now sides.now.end (lists_of sides.now.first.now) (lists_of sides.now.second.now)
+            ≡ with_more (lists_of self.old.made)
+            (common_segments C.hull (make_of sides.now.merge C.hull C.widened) C.full sides.now.pairs.now sides.now.end
+            (lists_of sides.now.first.now) (lists_of sides.now.second.now)
             (record { first = self.old.first; second = self.old.second })
             (record { first = first; second = second } ∷ rest))) }
         ensures first { OnOk result (self.new.first ≤ first) }
@@ -190,8 +191,9 @@ impl<C: Values> Unifying<C> {
             with_more (lists_of self.new.made) (common_segments C.hull (make_of sides.now.merge C.hull C.widened) C.full
             sides.now.pairs.now sides.now.end (lists_of sides.now.first.now) (lists_of sides.now.second.now)
             (record { first = self.new.first; second = self.new.second }) rest)
-            ≡ with_more (lists_of self.old.made) (common_segments C.hull (make_of sides.now.merge C.hull C.widened) C.full
-            sides.now.pairs.now sides.now.end (lists_of sides.now.first.now) (lists_of sides.now.second.now)
+            ≡ with_more (lists_of self.old.made)
+            (common_segments C.hull (make_of sides.now.merge C.hull C.widened) C.full sides.now.pairs.now sides.now.end
+            (lists_of sides.now.first.now) (lists_of sides.now.second.now)
             (record { first = self.old.first; second = self.old.second })
             (row first from (suc (length sides.now.second.now.contents.items) - from) ++ rest))) }
         ensures first { OnOk result (self.new.first ≤ first) }
@@ -210,7 +212,8 @@ impl<C: Values> Sides<'_, C> {
         requires form { HasForm (lists_of self.now.first.now) }
         requires other { HasForm (lists_of self.now.second.now) }
         ensures { IfOk result (λ segs. lists_of segs
-            ≡ with_more (begun (first_bound self.now.pairs.now (lists_of self.now.first.now) (lists_of self.now.second.now)))
+            ≡ with_more
+            (begun (first_bound self.now.pairs.now (lists_of self.now.first.now) (lists_of self.now.second.now)))
             (common_segments C.hull (make_of self.now.merge C.hull C.widened) C.full
             self.now.pairs.now self.now.end (lists_of self.now.first.now) (lists_of self.now.second.now) origin_place
             (later_places (lists_of self.now.first.now) (lists_of self.now.second.now)))) }
@@ -266,7 +269,8 @@ impl<C: Values> Segs<C> {
     ) -> Result<Self, NoMemory>
         requires form { HasForm (lists_of self.now) }
         requires other { HasForm (lists_of other.now) }
-        requires ends { StandsForBoth pairs.now (last_bound (lists_of self.now)) (last_bound (lists_of other.now)) length }
+        requires ends { StandsForBoth pairs.now (last_bound (lists_of self.now)) (last_bound (lists_of other.now))
+            length }
         ensures value { IfOk result (λ both. lists_of both
             ≡ unified C.hull C.hull C.full pairs.now length (lists_of self.now) (lists_of other.now)) }
         ensures form { IfOk result (λ both. HasForm (lists_of both)) }
@@ -298,7 +302,8 @@ impl<C: Values> Segs<C> {
     ) -> Result<Self, NoMemory>
         requires form { HasForm (lists_of self.now) }
         requires other { HasForm (lists_of other.now) }
-        requires ends { StandsForBoth pairs.now (last_bound (lists_of self.now)) (last_bound (lists_of other.now)) length }
+        requires ends { StandsForBoth pairs.now (last_bound (lists_of self.now)) (last_bound (lists_of other.now))
+            length }
         ensures value { IfOk result (λ both. lists_of both
             ≡ unified C.hull C.widened C.full pairs.now length (lists_of self.now) (lists_of other.now)) }
         ensures form { IfOk result (λ both. HasForm (lists_of both)) }

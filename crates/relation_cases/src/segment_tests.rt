@@ -64,14 +64,27 @@ pub fn zero_stays(names: &[Option<Expr>]) -> Result<(), Failure>
     }
 }
 
+/// Returns how many expressions of a bound keep a name.
+fn names_left(bound: &[Expr], names: &[Option<Expr>]) -> usize
+    ensures { result ≡ length (filter_map (renamed names.now) bound.now) }
+{
+    bound.iter().filter_map(|e| renamed(*e, names)).count()
+}
+
+/// The same of the last bound.
+fn left_at_end(segs: &Segs<Range>, names: &[Option<Expr>]) -> usize
+    requires { HasForm (lists_of segs.now) }
+    ensures { result ≡ length (filter_map (renamed names.now) (last_bound (lists_of segs.now))) }
+{
+    names_left(&segs.bounds[segs.contents.len()], names)
+}
+
 /// The last bound keeps an expression.
 pub fn keeps_end(segs: &Segs<Range>, names: &[Option<Expr>]) -> Result<(), Failure>
     requires { HasForm (lists_of segs.now) }
     ensures { OnOk result (0 < length (filter_map (renamed names.now) (last_bound (lists_of segs.now)))) }
 {
-    let last = &segs.bounds[segs.contents.len()];
-    let left = last.iter().filter_map(|e| renamed(*e, names)).count();
-    if left > 0 {
+    if left_at_end(segs, names) > 0 {
         Ok(())
     } else {
         Err(Failure::Unmet("a name for the last bound"))
@@ -92,6 +105,18 @@ fn stands_for_both(pairs: &Pairs, first: &[Expr], second: &[Expr], new: Expr) ->
     first.iter().any(|e| stands_for_one(pairs, *e, second, new))
 }
 
+/// Tells whether it stands for one of each side's last bound.
+fn stands_at_ends(a: &Segs<Range>, b: &Segs<Range>, pairs: &Pairs, length: Expr) -> bool
+    requires form { HasForm (lists_of a.now) }
+    requires other { HasForm (lists_of b.now) }
+    ensures { result
+        ≡ stands_for_both pairs.now (last_bound (lists_of a.now)) (last_bound (lists_of b.now)) length }
+{
+    let first = &a.bounds[a.contents.len()];
+    let second = &b.bounds[b.contents.len()];
+    stands_for_both(pairs, first, second, length)
+}
+
 /// The length stands for an expression of each side's last bound.
 pub fn ends_pair(
     a: &Segs<Range>,
@@ -101,11 +126,10 @@ pub fn ends_pair(
 ) -> Result<(), Failure>
     requires form { HasForm (lists_of a.now) }
     requires other { HasForm (lists_of b.now) }
-    ensures { OnOk result (StandsForBoth pairs.now (last_bound (lists_of a.now)) (last_bound (lists_of b.now)) length) }
+    ensures { OnOk result
+        (StandsForBoth pairs.now (last_bound (lists_of a.now)) (last_bound (lists_of b.now)) length) }
 {
-    let first = &a.bounds[a.contents.len()];
-    let second = &b.bounds[b.contents.len()];
-    if stands_for_both(pairs, first, second, length) {
+    if stands_at_ends(a, b, pairs, length) {
         Ok(())
     } else {
         Err(Failure::Unmet("the length at both ends"))
