@@ -1,11 +1,4 @@
 pub mod Interval
 pub mod Joins
 pub mod Arithmetic
-pub mod Holes
-pub mod JoinsContain
-pub mod SumContains
-pub mod ProductContains
-pub mod QuotientContains
-pub mod RemainderContains
-pub mod BitsContain
-pub mod Ends
+pub mod Laws

@@ -1,12 +1,12 @@
 //! Ranges as sets of numbers.
 
 ghost use Rattle.std.specs.Prelude.{◌≡◌};
-ghost use Rattle.interval_domain.specs.JoinsContain as of_joins;
-ghost use Rattle.interval_domain.specs.SumContains as of_sums;
-ghost use Rattle.interval_domain.specs.ProductContains as of_products;
-ghost use Rattle.interval_domain.specs.QuotientContains as of_quotients;
-ghost use Rattle.interval_domain.specs.RemainderContains as of_remainders;
-ghost use Rattle.interval_domain.specs.BitsContain as of_bits;
+ghost use Rattle.interval_domain.specs.Laws.JoinsContain as of_joins;
+ghost use Rattle.interval_domain.specs.Laws.SumContains as of_sums;
+ghost use Rattle.interval_domain.specs.Laws.ProductContains as of_products;
+ghost use Rattle.interval_domain.specs.Laws.QuotientContains as of_quotients;
+ghost use Rattle.interval_domain.specs.Laws.RemainderContains as of_remainders;
+ghost use Rattle.interval_domain.specs.Laws.BitsContain as of_bits;
 ghost use Rattle.interval_domain.specs.Interval.{Contains, one};
 ghost use Rattle.interval_domain.specs.Joins as join;
 ghost use Rattle.interval_domain.specs.Arithmetic as arithmetic;

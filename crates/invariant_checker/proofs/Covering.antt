@@ -19,11 +19,11 @@ use Rattle.range_states.specs.Avoiding.{avoid}
 use Rattle.range_states.specs.Faults.{faults_of}
 use Rattle.range_states.specs.FrameFacts.{State}
 use Rattle.range_obligations.specs.Obligations.{obligation, obligations_at, obligations_in, obligations_of}
-use Rattle.range_rules.specs.BlockWays.{all_kept, none_before}
+use Rattle.range_rules.specs.Laws.BlockWays.{all_kept, none_before}
 use Rattle.range_rules.specs.Flow.{IsLawful, block_instrs, instrs_between, is_before}
-use Rattle.range_rules.specs.FlowLaws as laws
+use Rattle.range_rules.specs.Laws.FlowLaws as laws
 use Rattle.range_rules.specs.Inductive.{state_at}
-use Rattle.range_rules.specs.Placing.{item_there}
+use Rattle.range_rules.specs.Laws.Placing.{item_there}
 use Rattle.range_rules.specs.Post.{post}
 use Rattle.range_rules.specs.declared.unit_flow.UnitFlow.{UnitFlow}
 use Rattle.invariant_checker.specs.Inducts.{is_inductive}

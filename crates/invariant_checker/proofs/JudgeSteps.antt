@@ -16,7 +16,7 @@ use Rattle.range_states.specs.FrameFacts.{State}
 use Rattle.range_obligations.specs.Entailed.{entailed}
 use Rattle.range_obligations.specs.Obligations.{obligation, obligations_of}
 use Rattle.range_rules.specs.Flow.{IsLawful}
-use Rattle.range_rules.specs.FlowLaws as laws
+use Rattle.range_rules.specs.Laws.FlowLaws as laws
 use Rattle.range_rules.specs.Inductive.{HasShape, IsInductive, state_at}
 use Rattle.range_rules.specs.declared.unit_flow.UnitFlow.{UnitFlow}
 use Rattle.invariant_checker.specs.Inducts.{is_inductive}

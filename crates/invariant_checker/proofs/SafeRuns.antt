@@ -9,7 +9,7 @@ use Rattle.cil_model.specs.declared.machine.Value.{Value}
 use Rattle.cil_model.specs.declared.unit.Unit.{Unit as MethodUnit}
 use Rattle.cil_model.proofs.AloneSafe.{alone_is_safe, no_callee_no_call}
 use Rattle.range_rules.specs.Flow.{IsLawful}
-use Rattle.range_rules.specs.FlowLaws as laws
+use Rattle.range_rules.specs.Laws.FlowLaws as laws
 use Rattle.range_rules.specs.declared.unit_flow.UnitFlow.{UnitFlow}
 use Rattle.range_rules.proofs.OnTheWay.{StepsToFault, itself, makes, run_faults, typed}
 use Rattle.invariant_checker.specs.Safety.{IsSafe}

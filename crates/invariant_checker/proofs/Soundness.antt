@@ -11,7 +11,7 @@ use Rattle.range_obligations.specs.EachFault as each
 use Rattle.range_obligations.specs.Obligations.{obligations_of}
 use Rattle.range_obligations.proofs.Complete.{lists_each_fault}
 use Rattle.range_rules.specs.Acts.{is_told}
-use Rattle.range_rules.specs.BlockWays.{among}
+use Rattle.range_rules.specs.Laws.BlockWays.{among}
 use Rattle.range_rules.specs.Flow.{IsLawful}
 use Rattle.range_rules.specs.declared.unit_flow.UnitFlow.{UnitFlow}
 use Rattle.range_rules.proofs.OnTheWay.{StepsToFault}

@@ -25,12 +25,12 @@ use Rattle.range_states.specs.Frames.{HoldsAt, HoldsIn}
 use Rattle.range_obligations.specs.EachFault.{AreEntailedInTurn, is_of_array}
 use Rattle.range_obligations.proofs.InTurn.{in_turn}
 use Rattle.range_rules.specs.Acts.{is_told}
-use Rattle.range_rules.specs.BlockWays.{IsPassed}
+use Rattle.range_rules.specs.Laws.BlockWays.{IsPassed}
 use Rattle.range_rules.specs.Chains.{IsChain}
 use Rattle.range_rules.specs.Choices.{way_of}
 use Rattle.range_rules.specs.Flow.{FitsKinds, IsLawful, Steps, block_instrs, kinds_at, start_of}
-use Rattle.range_rules.specs.FlowLaws as laws
-use Rattle.range_rules.specs.FlowSteps.{form_of, post_fits, step_holds}
+use Rattle.range_rules.specs.Laws.FlowLaws as laws
+use Rattle.range_rules.specs.Laws.FlowSteps.{form_of, post_fits, step_holds}
 use Rattle.range_rules.specs.Inductive.{IsInductive, state_at}
 use Rattle.range_rules.specs.Post.{post}
 use Rattle.range_rules.specs.declared.unit_flow.UnitFlow.{UnitFlow}

@@ -10,10 +10,10 @@ use Rattle.cil_model.specs.declared.unit.Unit.{Unit as MethodUnit}
 use Rattle.range_states.specs.Faults.{operands_of}
 use Rattle.range_states.specs.FrameFacts.{State}
 use Rattle.range_rules.specs.Flow.{Fits, IsLawful, block_instrs, start_of}
-use Rattle.range_rules.specs.FlowLaws as laws
-use Rattle.range_rules.specs.FlowSteps.{post_fits, reads}
+use Rattle.range_rules.specs.Laws.FlowLaws as laws
+use Rattle.range_rules.specs.Laws.FlowSteps.{post_fits, reads}
 use Rattle.range_rules.specs.Post.{post}
-use Rattle.range_rules.specs.Walking.{CanPass, front}
+use Rattle.range_rules.specs.Laws.Walking.{CanPass, front}
 use Rattle.range_rules.specs.declared.unit_flow.UnitFlow.{UnitFlow}
 use Rattle.range_rules.proofs.Ways.{asked_there}
 use Rattle.invariant_checker.specs.Chains.{CanJudge}

@@ -20,7 +20,7 @@ use Rattle.number_spans.specs.Constants.{constant}
 use Rattle.number_spans.specs.Spans.{is_one, is_not_negative}
 use Rattle.number_spans.specs.Stored.{Allows, SomeAllows}
 use Rattle.number_spans.proofs.Lost.{range_without_allows, without_allows}
-use Rattle.number_facts.specs.Allowing.{AllowsNumbers}
+use Rattle.number_facts.specs.Laws.Allowing.{AllowsNumbers}
 use Rattle.number_facts.specs.Assume.{changed, lowered, raised, cut_both, assumed_at_most, assumed_less, assumed_equal, lost, ordered, assumed_apart, assumed_less_unsigned, assumed_at_most_unsigned, holding, contrary, assumed}
 use Rattle.number_facts.specs.Ends.{range_of}
 use Rattle.number_facts.specs.Facts.{Facts, range_at}

@@ -7,7 +7,7 @@ use Rattle.domain_api.specs.declared.expr.Expr.{Expr}
 use Rattle.symbolic_values.specs.Worth.{worth}
 use Rattle.number_spans.specs.Spans.{Has, is_not_negative, moved_hole, shifted}
 use Rattle.number_spans.specs.declared.span.Span.{Span}
-use Rattle.number_facts.specs.Allowing.{AllowsNumbers, span_has, gap_allowed}
+use Rattle.number_facts.specs.Laws.Allowing.{AllowsNumbers, span_has, gap_allowed}
 use Rattle.number_facts.specs.Ends.{range_of, span_at}
 use Rattle.number_facts.specs.Facts.{Facts, IsNamed, range_at}
 use Rattle.number_facts.specs.Gaps.{gap, reaches, at_most, equal}

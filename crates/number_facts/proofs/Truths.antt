@@ -22,7 +22,7 @@ use Rattle.number_spans.specs.Spans.{is_not_negative, one_excluded}
 use Rattle.number_spans.proofs.ComparingLaws.{lt_true, lt_false, one_apart, plain_less, truth_allowed}
 use Rattle.number_facts.specs.Comparisons.{less_known, apart, equal_known, less_unsigned_known, known, truth_of, defined_by, pushed, compared_or, compared}
 use Rattle.number_facts.specs.Ends.{range_of}
-use Rattle.number_facts.specs.Allowing.{AllowsNumbers}
+use Rattle.number_facts.specs.Laws.Allowing.{AllowsNumbers}
 use Rattle.number_facts.specs.Facts.{Facts, IsNamed}
 use Rattle.number_facts.specs.Fresh.{Made}
 use Rattle.number_facts.specs.Gaps.{at_most, less, equal}

@@ -12,7 +12,7 @@ use Rattle.symbolic_values.specs.Meaning.{told}
 use Rattle.symbolic_values.specs.Worth.{worth}
 use Rattle.symbolic_values.specs.declared.def.Def.{Def}
 use Rattle.symbolic_values.specs.declared.def.Def.TheVariants.{Eq, Lt, LtUn, NullTest, Sub}
-use Rattle.number_facts.specs.Allowing.{AllowsNumbers}
+use Rattle.number_facts.specs.Laws.Allowing.{AllowsNumbers}
 use Rattle.number_facts.specs.Facts.{Facts}
 use Rattle.number_facts.specs.declared.relation.Relation.{Relation}
 use Rattle.number_facts.specs.declared.relation.Relation.TheVariants.{AtLeast, AtMost, Is}

@@ -5,5 +5,5 @@ pub mod Gaps
 pub mod Fresh
 pub mod Comparisons
 pub mod Assume
-pub mod Allowing
 pub mod Holds
+pub mod Laws

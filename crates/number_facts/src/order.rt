@@ -1,7 +1,7 @@
 //! How symbols are known to lie to each other, as knowledge of their order.
 
 ghost use Rattle.number_facts.specs.Gaps.{gap};
-ghost use Rattle.number_facts.specs.Allowing.{AllowsNumbers, gap_allowed};
+ghost use Rattle.number_facts.specs.Laws.Allowing.{AllowsNumbers, gap_allowed};
 
 use crate::numbers::Numbers;
 use domain_api::Order;

@@ -2,4 +2,4 @@ pub mod Rows
 pub mod Rising
 pub mod Gaps
 pub mod Reach
-pub mod GapsHold
+pub mod Laws

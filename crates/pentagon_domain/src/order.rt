@@ -1,7 +1,7 @@
 //! Bounds as knowledge of how symbols lie to each other.
 
 ghost use Rattle.pentagon_domain.specs.Gaps as rule;
-ghost use Rattle.pentagon_domain.specs.GapsHold.{gap_above};
+ghost use Rattle.pentagon_domain.specs.Laws.GapsHold.{gap_above};
 
 use crate::bounds::Bounds;
 use domain_api::Order;

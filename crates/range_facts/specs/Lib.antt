@@ -10,4 +10,4 @@ pub mod Quotient
 pub mod Remainder
 pub mod Shifts
 pub mod Arith
-pub mod KnownGap
+pub mod Laws

@@ -1,13 +1,13 @@
 //! How symbols are known to lie to each other, as knowledge of their order.
 
 ghost use Rattle.std.specs.Prelude.{◌≡◌, nat_le, length};
-ghost use Rattle.range_facts.specs.KnownGap.{AllowsEach, capped, known_gap, known_gap_allowed};
+ghost use Rattle.range_facts.specs.Laws.KnownGap.{AllowsEach, capped, known_gap, known_gap_allowed};
 
 use crate::numbers::Numbers;
 use domain_api::Order;
 
 /// A distance in 64 bits: one above them is the greatest, and one below them is none.
-#[tactic(auto, unfolding(crate::specs::KnownGap::capped))]
+#[tactic(auto, unfolding(crate::specs::Laws::KnownGap::capped))]
 fn capped(far: i128) -> Option<i64>
     ensures { result ≡ capped far }
 {
@@ -31,7 +31,7 @@ impl Order for Numbers {
 
     ghost gap = { known_gap };
 
-    #[tactic(auto, unfolding(crate::specs::KnownGap::known_gap))]
+    #[tactic(auto, unfolding(crate::specs::Laws::KnownGap::known_gap))]
     fn gap(&self, s: u32, t: u32) -> Option<i64> {
         if s == t {
             return Some(0);

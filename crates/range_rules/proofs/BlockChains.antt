@@ -28,13 +28,13 @@ use Rattle.flow_graph.proofs.AlongEdges.{all_after, or_right, passing_all}
 use Rattle.flow_graph.proofs.EdgeOrder.{Starts, all_weaker, has_place, next_alone, place_within}
 use Rattle.flow_graph.proofs.Lying.{all_passing, blocks_increase}
 use Rattle.range_rules.specs.Acts.{is_told}
-use Rattle.range_rules.specs.BlockWays.{among, both, each_found, found_begins, found_in_rest, found_passes, none_before, rest_lies, start_there}
+use Rattle.range_rules.specs.Laws.BlockWays.{among, both, each_found, found_begins, found_in_rest, found_passes, none_before, rest_lies, start_there}
 use Rattle.range_rules.specs.Chains.{IsChain, IsLast, Leads}
 use Rattle.range_rules.specs.Choices.{IsShortSwitch}
 use Rattle.range_rules.specs.Flow.{IsLawful, block_instrs, instrs_between, is_before, no_edge, start_of}
-use Rattle.range_rules.specs.FlowLaws as laws
-use Rattle.range_rules.specs.Placing.{item_there, place_below}
-use Rattle.range_rules.specs.SwitchSizes.{all_short}
+use Rattle.range_rules.specs.Laws.FlowLaws as laws
+use Rattle.range_rules.specs.Laws.Placing.{item_there, place_below}
+use Rattle.range_rules.specs.Laws.SwitchSizes.{all_short}
 use Rattle.range_rules.specs.declared.unit_flow.UnitFlow.{UnitFlow}
 
 -- ---- numbers that rise

@@ -7,12 +7,12 @@ use Rattle.flow_graph.specs.declared.graph.Edge.{Edge}
 use Rattle.machine_points.proofs.Induction.{Flow, States, holds_along}
 use Rattle.range_states.specs.FrameFacts.{State}
 use Rattle.range_states.specs.Frames.{HoldsAt}
-use Rattle.range_states.specs.StatesHold.{leq_holds}
+use Rattle.range_states.specs.Laws.StatesHold.{leq_holds}
 use Rattle.range_states.specs.Inclusion.{leq}
 use Rattle.range_states.specs.RangeStates.{AreAlike}
 use Rattle.range_rules.specs.Entry.{entry}
 use Rattle.range_rules.specs.Flow.{Fits, IsLawful, along_edge, edge_at, kinds_at, no_edge}
-use Rattle.range_rules.specs.FlowLaws as laws
+use Rattle.range_rules.specs.Laws.FlowLaws as laws
 use Rattle.range_rules.specs.Inductive.{AllCarried, HasShape, HoldsInRuns, HoldsWhereItComes, IsBegun, IsInductive, edges_in, state_at}
 use Rattle.range_rules.specs.declared.unit_flow.UnitFlow.{UnitFlow}
 use Rattle.range_rules.proofs.OnTheWay.{runs_go_along}

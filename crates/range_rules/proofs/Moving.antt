@@ -20,7 +20,7 @@ use Rattle.range_states.specs.Operands.{from_top}
 use Rattle.range_states.specs.Avoiding.{condition_met}
 use Rattle.range_states.proofs.NumbersStay.{popped_keeps}
 use Rattle.range_rules.specs.Acts.{loaded, stored, duplicated, returned, given, operated, negated, complemented, condition_taken, behind_call, behind_test}
-use Rattle.range_rules.specs.Placing.{item_there}
+use Rattle.range_rules.specs.Laws.Placing.{item_there}
 
 pub load_is : (i : ℕ) (e : Expr) (state : State) → slice_get (variables_in state) i ≡ Some e → push e state ≡ option_map (loaded i) state
 unfolding loaded

@@ -28,13 +28,13 @@ use Rattle.machine_points.specs.Points.{IsReached, lives_at, point}
 use Rattle.machine_points.specs.declared.point.Point.{Point}
 use Rattle.machine_points.proofs.PointsKeep.{entry_point}
 use Rattle.range_rules.specs.Acts.{is_told}
-use Rattle.range_rules.specs.BlockWays.{IsPassed}
+use Rattle.range_rules.specs.Laws.BlockWays.{IsPassed}
 use Rattle.range_rules.specs.Chains.{IsChain, Leads}
 use Rattle.range_rules.specs.Choices.{way_of}
 use Rattle.range_rules.specs.Flow.{GoesAlong, GoesThrough, IsLawful, Steps, block_instrs, edge_at, start_of}
-use Rattle.range_rules.specs.FlowLaws as laws
+use Rattle.range_rules.specs.Laws.FlowLaws as laws
 use Rattle.range_rules.specs.Inductive.{ComesTo, RunsGoAlong}
-use Rattle.range_rules.specs.Placing.{item_there}
+use Rattle.range_rules.specs.Laws.Placing.{item_there}
 use Rattle.range_rules.specs.declared.unit_flow.UnitFlow.{UnitFlow}
 use Rattle.range_rules.proofs.BlockChains.{IsStartOf, block_chain, block_starts_there}
 use Rattle.range_rules.proofs.Rows.{step_goes_by}

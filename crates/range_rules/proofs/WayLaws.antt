@@ -19,7 +19,7 @@ use Rattle.range_states.specs.FrameFacts.{State}
 use Rattle.flow_graph.proofs.EffectsGo.{IsOneOf, effect_goes}
 use Rattle.range_rules.specs.Choices.{side, way_of_test, way_of_switch, way_of}
 use Rattle.range_rules.specs.Steps.{TakesWay}
-use Rattle.range_rules.specs.Placing.{place_below}
+use Rattle.range_rules.specs.Laws.Placing.{place_below}
 
 -- ---- places in lists
 

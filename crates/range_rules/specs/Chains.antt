@@ -8,7 +8,7 @@ use Rattle.cil_model.specs.declared.instruction.Instr.{Instr}
 use Rattle.cil_model.specs.declared.unit.Unit.{Unit as MethodUnit}
 use Rattle.flow_graph.specs.declared.graph.Graph.{Graph}
 use Rattle.range_rules.specs.Acts.{is_told}
-use Rattle.range_rules.specs.BlockWays.{IsPassed}
+use Rattle.range_rules.specs.Laws.BlockWays.{IsPassed}
 use Rattle.range_rules.specs.Choices.{IsShortSwitch}
 use Rattle.range_rules.specs.Flow.{no_edge}
 

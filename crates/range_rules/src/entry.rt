@@ -11,7 +11,7 @@ use range_states::{AbsState, Number};
 use std::alloc::Global;
 
 /// Returns what is known of a number in a place of this type.
-#[tactic(auto, using(crate::specs::EntryLaws::hull_of_int32, range_states::proofs::Bytes::hull_of_byte))]
+#[tactic(auto, using(crate::specs::Laws::EntryLaws::hull_of_int32, range_states::proofs::Bytes::hull_of_byte))]
 pub(crate) fn number_in(place: Place) -> Number
     ensures { result ≡ rule.number_in place }
 {

@@ -5,13 +5,13 @@ ghost use Rattle.range_states.specs.Frames.{HoldsAt};
 ghost use Rattle.range_states.specs.Inclusion as inclusion;
 ghost use Rattle.range_states.specs.Join as join;
 ghost use Rattle.range_states.specs.RangeStates.{AreAlike};
-ghost use Rattle.range_states.specs.StatesHold as states;
+ghost use Rattle.range_states.specs.Laws.StatesHold as states;
 ghost use Rattle.range_states.specs.Widening as widening;
 ghost use Rattle.range_rules.specs.Entry.{entry};
 ghost use Rattle.range_rules.specs.Flow.{Begins, Fits, GoesAlong, IsLawful, along_edge, edge_at, kinds_at};
-ghost use Rattle.range_rules.specs.FlowLaws as laws;
+ghost use Rattle.range_rules.specs.Laws.FlowLaws as laws;
 ghost use Rattle.range_rules.specs.Unknown.{unknown};
-ghost use Rattle.range_rules.specs.UnknownLaws as unknown_laws;
+ghost use Rattle.range_rules.specs.Laws.UnknownLaws as unknown_laws;
 
 use crate::entry::entry_state;
 use crate::unit_flow::UnitFlow;

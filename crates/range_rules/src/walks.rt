@@ -7,7 +7,7 @@ ghost use Rattle.cil_model.specs.Limits.{MAX_VARIABLES};
 ghost use Rattle.stack_typer.specs.LaidOut.{AreLaidOut, BeginsAt};
 ghost use Rattle.range_rules.specs.Flow as rule;
 ghost use Rattle.range_rules.specs.Flow.{Fits, IsLawful, edge_at};
-ghost use Rattle.range_rules.specs.Walking.{CanWalk};
+ghost use Rattle.range_rules.specs.Laws.Walking.{CanWalk};
 
 use crate::rules::{along, post};
 use crate::unit_flow::UnitFlow;

@@ -27,7 +27,7 @@ use Rattle.range_facts.proofs.NarrowLaws.{SomeAreNarrow, assumed_narrow}
 use Rattle.range_states.specs.Arithmetic.{on_top, with_truth}
 use Rattle.range_states.specs.Assumptions.{assuming, with_facts}
 use Rattle.range_states.specs.FrameFacts.{FrameFacts, HasForm, IsNumber}
-use Rattle.range_states.specs.Int32Numbers.{number_int32, numbers_int32, joined_int32, widened_int32, pairs_int32}
+use Rattle.range_states.specs.Laws.Int32Numbers.{number_int32, numbers_int32, joined_int32, widened_int32, pairs_int32}
 use Rattle.range_states.specs.Join.{joined}
 use Rattle.range_states.specs.Moves.{appended, pushed, popped, byte, is_byte, placed, with_placed}
 use Rattle.range_states.specs.NormalForm.{number_at, numbers_in, normal, of_numbers, symbol}

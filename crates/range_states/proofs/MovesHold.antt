@@ -29,7 +29,7 @@ use Rattle.range_states.specs.Frames.{HoldsIn}
 use Rattle.range_states.specs.Moves.{appended, pushed, popped, byte, is_byte, placed, with_placed}
 use Rattle.range_states.specs.NormalForm.{norm, number_at, normal, numbers_in, symbol}
 use Rattle.range_states.specs.Number.{copied, fresh_number}
-use Rattle.range_states.specs.OwnNumbers.{holds_each, each_holds}
+use Rattle.range_states.specs.Laws.OwnNumbers.{holds_each, each_holds}
 use Rattle.range_states.specs.declared.number.Number.TheVariants.{Constant, Among}
 use Rattle.range_states.proofs.MadeHold.{on_top_holds, in_place_holds}
 

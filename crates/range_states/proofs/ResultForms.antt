@@ -35,7 +35,7 @@ use Rattle.range_facts.specs.declared.outcome.Outcome.TheVariants.{Is, Within}
 use Rattle.range_facts.proofs.ConstantValues.{no_symbol}
 use Rattle.range_states.specs.Arithmetic.{on_top, with_result}
 use Rattle.range_states.specs.FrameFacts.{FrameFacts, HasForm, IsNumber}
-use Rattle.range_states.specs.OwnRanges.{constant_int32}
+use Rattle.range_states.specs.Laws.OwnRanges.{constant_int32}
 use Rattle.range_states.proofs.FormsKept.{IsMade, is_kept, noted_is_made, on_top_form, constant_number}
 
 -- An expression that is known to be the result is a number.

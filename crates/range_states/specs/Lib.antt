@@ -15,9 +15,4 @@ pub mod Arithmetic
 pub mod Assumptions
 pub mod Faults
 pub mod Avoiding
-pub mod OwnRanges
-pub mod OwnNumbers
-pub mod Int32Numbers
-pub mod NumberedStates
-pub mod PairsHold
-pub mod StatesHold
+pub mod Laws

@@ -67,7 +67,7 @@ impl Known {
     }
 
     /// Returns what is known of an expression by itself.
-    #[tactic(auto, using(crate::specs::OwnRanges::own_range), unfolding(crate::specs::NormalForm::number_at))]
+    #[tactic(auto, using(crate::specs::Laws::OwnRanges::own_range), unfolding(crate::specs::NormalForm::number_at))]
     pub(crate) fn number_at(&self, e: Expr) -> Number
         requires number { IsNumber self.now.facts e }
         requires narrow { AreNarrow self.now.facts }

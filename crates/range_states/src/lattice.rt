@@ -5,7 +5,7 @@ ghost use Rattle.range_states.specs.Frames.{HoldsAt};
 ghost use Rattle.range_states.specs.Inclusion as inclusion;
 ghost use Rattle.range_states.specs.Join as join;
 ghost use Rattle.range_states.specs.RangeStates.{AreAlike};
-ghost use Rattle.range_states.specs.StatesHold as states;
+ghost use Rattle.range_states.specs.Laws.StatesHold as states;
 ghost use Rattle.range_states.specs.Widening as widening;
 
 use crate::state::AbsState;

@@ -6,7 +6,7 @@ ghost use Rattle.cil_model.specs.declared.instruction.BinOp.{BinOp};
 ghost use Rattle.interval_domain.specs.Arithmetic.{near};
 ghost use Rattle.range_facts.specs.Arith.{exact};
 ghost use Rattle.range_facts.specs.Facts.{range_of};
-ghost use Rattle.range_facts.specs.KnownGap.{known_gap};
+ghost use Rattle.range_facts.specs.Laws.KnownGap.{known_gap};
 ghost use Rattle.number_spans.specs.Owed.{Divides, Shifts};
 ghost use Rattle.range_states.specs.Arithmetic as operators;
 ghost use Rattle.range_states.specs.Assumptions as assumptions;

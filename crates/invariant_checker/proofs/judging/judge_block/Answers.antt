@@ -1,5 +1,5 @@
 use Rattle.cil_model.proofs.ShortCodes.{offsets_rise}
-use Rattle.range_rules.specs.FlowLaws.{short}
+use Rattle.range_rules.specs.Laws.FlowLaws.{short}
 use Rattle.invariant_checker.proofs.Walking.{can_judge}
 use Rattle.invariant_checker.proofs.judging.judge_block.Goals as goal
 

@@ -1,6 +1,6 @@
 use Rattle.std.proofs.Common.{rules}
 use Rattle.range_rules.specs.Entry.{entry}
-use Rattle.range_rules.specs.EntryLaws.{entry_int32, entry_holds}
+use Rattle.range_rules.specs.Laws.EntryLaws.{entry_int32, entry_holds}
 use Rattle.range_rules.proofs.entry.entry_state.Goals as goal
 
 pub of_numbers-requires : goal.of_numbers-requires

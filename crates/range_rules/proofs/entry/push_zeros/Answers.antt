@@ -1,5 +1,5 @@
 use Rattle.std.proofs.Common.{rules}
-use Rattle.range_rules.specs.EntryLaws.{zero_more}
+use Rattle.range_rules.specs.Laws.EntryLaws.{zero_more}
 use Rattle.range_rules.proofs.entry.push_zeros.Goals as goal
 
 pub loop-place-preserved : goal.loop-place-preserved

@@ -3,8 +3,8 @@ use Rattle.range_states.specs.Avoiding.{avoid_all}
 use Rattle.range_states.proofs.AvoidingSteps.{avoid_all_has}
 use Rattle.range_rules.specs.Acts.{variables_read}
 use Rattle.range_rules.specs.Post.{along}
-use Rattle.range_rules.specs.PostLaws.{along_holds}
-use Rattle.range_rules.specs.Ready.{avoided_ready, chosen_ready}
+use Rattle.range_rules.specs.Laws.PostLaws.{along_holds}
+use Rattle.range_rules.specs.Laws.Ready.{avoided_ready, chosen_ready}
 use Rattle.range_rules.proofs.WayLaws.{takes_way}
 use Rattle.range_rules.proofs.Ways.{asked_there, chosen_has, tested_there}
 use Rattle.range_rules.proofs.rules.along.Goals as goal

@@ -2,8 +2,8 @@ use Rattle.std.proofs.Common.{rules}
 use Rattle.range_states.proofs.AvoidingSteps.{avoid_all_has}
 use Rattle.range_rules.specs.Acts.{variables_read}
 use Rattle.range_rules.specs.Post.{post}
-use Rattle.range_rules.specs.PostLaws.{post_holds}
-use Rattle.range_rules.specs.Ready.{avoided_ready}
+use Rattle.range_rules.specs.Laws.PostLaws.{post_holds}
+use Rattle.range_rules.specs.Laws.Ready.{avoided_ready}
 use Rattle.range_rules.proofs.Ways.{asked_there}
 use Rattle.range_rules.proofs.rules.post.Goals as goal
 

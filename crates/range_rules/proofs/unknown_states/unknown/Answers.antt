@@ -1,7 +1,7 @@
 use Rattle.std.proofs.Common.{ap, ◌∙◌}
 use Rattle.std.specs.Prelude.{reverse}
 use Rattle.range_rules.specs.Unknown.{unknown, unknown_over}
-use Rattle.range_rules.specs.UnknownLaws.{unknown_fits, unknown_int32}
+use Rattle.range_rules.specs.Laws.UnknownLaws.{unknown_fits, unknown_int32}
 use Rattle.range_rules.proofs.unknown_states.unknown.Goals as goal
 
 pub returns-in_default-clause-value : goal.returns-in_default-clause-value

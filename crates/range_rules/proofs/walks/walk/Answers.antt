@@ -1,5 +1,5 @@
 use Rattle.std.proofs.Common.{◌∙◌}
-use Rattle.range_rules.specs.Walking.{walk_passes, walk_goes_on, walk_leaves}
+use Rattle.range_rules.specs.Laws.Walking.{walk_passes, walk_goes_on, walk_leaves}
 use Rattle.range_rules.proofs.walks.walk.Goals as goal
 
 pub post-requires-clause-told : goal.post-requires-clause-told

@@ -1,6 +1,6 @@
 use Rattle.std.proofs.Common.{◌≡◌, drop}
 use Rattle.range_rules.specs.Flow.{through}
-use Rattle.range_rules.specs.Walking.{CanWalk}
+use Rattle.range_rules.specs.Laws.Walking.{CanWalk}
 use Rattle.range_rules.proofs.walks.walk.Given as goal
 
 abbrev pub invariant-loop-instr : goal.invariant-loop-instr

@@ -1,7 +1,7 @@
 use Rattle.std.proofs.Common.{◌∙◌, sym}
 use Rattle.std.proofs.lemmas.Int.{to_z-of_z}
 use Rattle.std.specs.Int.{w128}
-use Rattle.pentagon_domain.specs.GapsHold.{gap_with_above}
+use Rattle.pentagon_domain.specs.Laws.GapsHold.{gap_with_above}
 use Rattle.pentagon_domain.proofs.Reaches.{gap_with_apart}
 use Rattle.pentagon_domain.proofs.bounds.Bounds.gap_with.Goals as goal
 

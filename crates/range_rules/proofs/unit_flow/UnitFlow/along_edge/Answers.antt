@@ -1,8 +1,8 @@
 use Rattle.std.proofs.Common.{refl}
 use Rattle.cil_model.proofs.ShortCodes.{offsets_rise}
 use Rattle.range_rules.specs.Flow.{along_edge}
-use Rattle.range_rules.specs.FlowLaws.{joins, short}
-use Rattle.range_rules.specs.Walking.{can_walk}
+use Rattle.range_rules.specs.Laws.FlowLaws.{joins, short}
+use Rattle.range_rules.specs.Laws.Walking.{can_walk}
 use Rattle.range_rules.proofs.unit_flow.UnitFlow.along_edge.Goals as goal
 
 pub block-requires-clause-rise : goal.block-requires-clause-rise

@@ -10,7 +10,7 @@ use Rattle.interval_domain.specs.Interval.{is_hole, inner_hole, is_inside}
 use Rattle.pentagon_domain.specs.declared.bound_row.BoundRow.{BoundRow}
 use Rattle.pentagon_domain.specs.Rows.{rows_from}
 use Rattle.pentagon_domain.specs.Gaps as by_bounds
-use Rattle.pentagon_domain.specs.GapsHold.{gap_above, gap_with_above}
+use Rattle.pentagon_domain.specs.Laws.GapsHold.{gap_above, gap_with_above}
 use Rattle.number_spans.specs.Spans.{Has}
 use Rattle.number_spans.specs.Stored.{Allows}
 use Rattle.number_facts.specs.Facts.{Facts, has, range_at}

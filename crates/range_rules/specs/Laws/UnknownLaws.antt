@@ -11,7 +11,7 @@ use Rattle.range_states.specs.Number.{IsInt32}
 use Rattle.range_states.proofs.FormsKept.{of_numbers_form}
 use Rattle.range_states.proofs.NormalForms.{count_of_variables}
 use Rattle.range_rules.specs.Entry.{number_in}
-use Rattle.range_rules.specs.EntryLaws.{place_int32, each_int32, both_int32}
+use Rattle.range_rules.specs.Laws.EntryLaws.{place_int32, each_int32, both_int32}
 use Rattle.range_rules.specs.Flow.{Fits, FitsKinds, kinds_at, variable_count}
 use Rattle.range_rules.specs.Unknown.{number_on_stack, unknown_numbers, unknown_over, unknown}
 use Rattle.range_rules.specs.declared.unit_flow.UnitFlow.{UnitFlow}

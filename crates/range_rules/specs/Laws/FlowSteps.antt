@@ -27,13 +27,13 @@ use Rattle.range_states.specs.Frames.{HoldsAt}
 use Rattle.range_states.specs.Avoiding.{avoid_all, avoid_each}
 use Rattle.range_states.specs.Faults.{faults_of}
 use Rattle.range_rules.specs.Acts.{acted, is_told, IsReady, variables_read, operands}
-use Rattle.range_rules.specs.BlockWays.{IsPassed, IsLeft, IsWay}
+use Rattle.range_rules.specs.Laws.BlockWays.{IsPassed, IsLeft, IsWay}
 use Rattle.range_rules.specs.Choices.{chosen}
 use Rattle.range_rules.specs.Flow.{FitsKinds, HasVariables, variable_count, through, GoesThrough, Steps}
-use Rattle.range_rules.specs.FormsBehind.{AreVariables, HasNext, then_kept, one_taken, avoid_all_kept, chosen_kept, acted_kept, loaded_is, stored_is, call_is, test_is, switch_is, operator_is, number_is, doubled_is}
+use Rattle.range_rules.specs.Laws.FormsBehind.{AreVariables, HasNext, then_kept, one_taken, avoid_all_kept, chosen_kept, acted_kept, loaded_is, stored_is, call_is, test_is, switch_is, operator_is, number_is, doubled_is}
 use Rattle.range_rules.specs.Post.{post, along}
-use Rattle.range_rules.specs.PostLaws.{post_holds, along_holds}
-use Rattle.range_rules.specs.Ready.{avoided_ready, chosen_ready}
+use Rattle.range_rules.specs.Laws.PostLaws.{post_holds, along_holds}
+use Rattle.range_rules.specs.Laws.Ready.{avoided_ready, chosen_ready}
 use Rattle.range_rules.specs.Steps.{GoesBy}
 
 -- ---- lists

@@ -36,13 +36,13 @@ use Rattle.range_states.proofs.FormsKept.{normal_form, joined_form, widened_form
 use Rattle.range_states.proofs.MovesHold.{norm_holds}
 use Rattle.range_states.proofs.NormalForms.{count_of_normal, count_of_pairs, count_of_variables}
 use Rattle.stack_typer.proofs.Unique.{kinds_once}
-use Rattle.range_rules.specs.BlockWays.{IsWay, Leaves, block_way, edges_leave_blocks, found_begins}
+use Rattle.range_rules.specs.Laws.BlockWays.{IsWay, Leaves, block_way, edges_leave_blocks, found_begins}
 use Rattle.range_rules.specs.Entry.{entry, numbers_at_entry, number_in, zero_in}
-use Rattle.range_rules.specs.EntryLaws.{entry_int32, entry_holds}
+use Rattle.range_rules.specs.Laws.EntryLaws.{entry_int32, entry_holds}
 use Rattle.range_rules.specs.Flow.{IsLawful, FitsKinds, variable_count, Fits, kinds_at, start_of, block_instrs, instrs_between, edge_at, no_edge, along_edge, through, GoesAlong, Begins}
-use Rattle.range_rules.specs.FlowSteps.{through_fits, through_holds}
-use Rattle.range_rules.specs.Placing.{item_there}
-use Rattle.range_rules.specs.SwitchSizes.{all_short}
+use Rattle.range_rules.specs.Laws.FlowSteps.{through_fits, through_holds}
+use Rattle.range_rules.specs.Laws.Placing.{item_there}
+use Rattle.range_rules.specs.Laws.SwitchSizes.{all_short}
 use Rattle.range_rules.specs.declared.unit_flow.UnitFlow.{UnitFlow}
 
 -- ---- states of one block

@@ -53,7 +53,7 @@ use Rattle.range_states.proofs.ResultsHold.{result_holds, truth_holds}
 use Rattle.range_states.proofs.Avoided.{top_stands}
 use Rattle.range_states.proofs.Operands.{top_is, two_are, read_number}
 use Rattle.range_rules.specs.Acts.{acted, is_told, is_told_call, loaded, stored, duplicated, given, operated, negated, complemented, condition_taken, behind_call, behind_test, arg_place, local_place, type_of}
-use Rattle.range_rules.specs.Placing.{HasArgs, number_at, value_at, arg_at, local_at, item_there, place_below, with_last, popped_by}
+use Rattle.range_rules.specs.Laws.Placing.{HasArgs, number_at, value_at, arg_at, local_at, item_there, place_below, with_last, popped_by}
 
 -- ---- where the frame goes on
 

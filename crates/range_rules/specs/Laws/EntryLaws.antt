@@ -15,7 +15,7 @@ use Rattle.interval_domain.specs.Joins.{hull, kept_hole}
 use Rattle.interval_domain.specs.Interval.{holed, inner_hole}
 use Rattle.cil_model.specs.Arithmetic.{LEAST, GREATEST}
 use Rattle.range_states.specs.Number.{IsInt32}
-use Rattle.range_states.specs.OwnNumbers.{MayBeEach, each_holds}
+use Rattle.range_states.specs.Laws.OwnNumbers.{MayBeEach, each_holds}
 use Rattle.range_states.specs.declared.number.Number.{Number}
 use Rattle.range_states.specs.declared.number.Number.TheVariants.{Constant}
 use Rattle.range_rules.specs.Entry.{number_in, zero_in, numbers_at_entry, entry, HoldsNumber, HasNumbers, HoldsAtEntry}

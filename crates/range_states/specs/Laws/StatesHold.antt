@@ -13,10 +13,10 @@ use Rattle.range_states.specs.Frames.{HoldsAt}
 use Rattle.range_states.specs.Inclusion.{included, leq, numbered}
 use Rattle.range_states.specs.Join.{joined, join}
 use Rattle.range_states.specs.NormalForm.{number_at, numbers_in, normal}
-use Rattle.range_states.specs.OwnNumbers.{holds_each, each_holds}
+use Rattle.range_states.specs.Laws.OwnNumbers.{holds_each, each_holds}
 use Rattle.range_states.specs.Pairs.{every_pair}
-use Rattle.range_states.specs.NumberedStates.{numbered_normal}
-use Rattle.range_states.specs.PairsHold.{joined_first, joined_second, widened_first, widened_second, each_first, each_second, each_included}
+use Rattle.range_states.specs.Laws.NumberedStates.{numbered_normal}
+use Rattle.range_states.specs.Laws.PairsHold.{joined_first, joined_second, widened_first, widened_second, each_first, each_second, each_included}
 use Rattle.range_states.specs.RangeStates.{AreAlike}
 use Rattle.range_states.specs.Widening.{widened, widen}
 

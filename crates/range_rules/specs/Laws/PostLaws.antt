@@ -16,9 +16,9 @@ use Rattle.range_rules.specs.Acts.{acted, is_told}
 use Rattle.range_rules.specs.Choices.{chosen, way_of, IsShortSwitch}
 use Rattle.range_rules.specs.Post.{post, along}
 use Rattle.range_rules.specs.Steps.{HoldsBehind, HoldsAlong}
-use Rattle.range_rules.specs.Acting.{acted_holds}
-use Rattle.range_rules.specs.Choosing.{chosen_stands}
-use Rattle.range_rules.specs.Placing.{HasArgs, has_args}
+use Rattle.range_rules.specs.Laws.Acting.{acted_holds}
+use Rattle.range_rules.specs.Laws.Choosing.{chosen_stands}
+use Rattle.range_rules.specs.Laws.Placing.{HasArgs, has_args}
 
 then_holds : (next : FrameFacts → State) (state : State) (f g : Frame) → Stands state f
     → ((known : FrameFacts) → HasForm known → HoldsIn (Some known) f → HoldsIn (next known) g) → HoldsIn (option_and_then next state) g

@@ -16,7 +16,7 @@ use Rattle.range_states.specs.FrameFacts.{FrameFacts, HasForm, IsNumber}
 use Rattle.range_states.specs.Join.{joined}
 use Rattle.range_states.specs.NormalForm.{number_at, numbers_in}
 use Rattle.range_states.specs.Number.{IsInt32}
-use Rattle.range_states.specs.OwnRanges.{own_narrow, constant_int32}
+use Rattle.range_states.specs.Laws.OwnRanges.{own_narrow, constant_int32}
 use Rattle.range_states.specs.Pairs.{each_pair}
 use Rattle.range_states.specs.Widening.{widened}
 use Rattle.range_states.specs.declared.number.Number.{Number}

@@ -53,7 +53,7 @@ use Rattle.range_states.proofs.Operands.{read_number}
 use Rattle.range_rules.specs.Acts.{acted, is_told, is_told_call, loaded, stored, duplicated, given, operated, negated, complemented, condition_taken, behind_call, behind_test, arg_place, local_place, type_of, IsReady}
 use Rattle.range_rules.specs.Choices.{tested, switched, chosen}
 use Rattle.range_rules.specs.Flow.{HasVariables, variable_count}
-use Rattle.range_rules.specs.Placing.{place_below}
+use Rattle.range_rules.specs.Laws.Placing.{place_below}
 
 -- Nothing is reached, or what is known has the form and so many variables.
 abbrev pub AreVariables : ℕ → State → Type 0

@@ -7,7 +7,7 @@ use Rattle.std.proofs.lemmas.Bool.Decides.{Decides-int_eq}
 use lib.IntN.{*ℤ_comm}
 use Rattle.interval_domain.specs.Interval.{Interval, Contains}
 use Rattle.interval_domain.specs.Arithmetic.{least, greatest, near_product, corners, is_number_one, product}
-use Rattle.interval_domain.specs.Ends.{near_below, near_above}
+use Rattle.interval_domain.specs.Laws.Ends.{near_below, near_above}
 
 -- products by a number that is not negative rise, and by a negative one they fall
 times_rises : (x y : ℤ) (k : ℕ) → x ≤ℤ y → (x *ℤ pos k) ≤ℤ (y *ℤ pos k)

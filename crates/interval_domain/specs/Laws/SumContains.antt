@@ -6,7 +6,7 @@ use Rattle.std.proofs.lemmas.Bool.Decides.{Decides-int_eq}
 use Rattle.interval_domain.specs.Interval.{Interval, Contains, inner_hole, is_inside, holed}
 use Rattle.interval_domain.specs.Joins.{LEAST_64, GREATEST_64}
 use Rattle.interval_domain.specs.Arithmetic.{near, near_between, is_one, moved_hole, shifted, hole_down, shifted_down, sum, difference}
-use Rattle.interval_domain.specs.Ends.{near_below, near_above}
+use Rattle.interval_domain.specs.Laws.Ends.{near_below, near_above}
 
 -- a number that is brought to 64 bits, and stays below both ends, is itself
 near_same : (x : ℤ) → LEAST_64 <ℤ near x → near x <ℤ GREATEST_64 → near x ≡ x

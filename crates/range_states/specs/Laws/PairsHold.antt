@@ -5,12 +5,12 @@ use Rattle.std.proofs.lemmas.Int.{ints}
 use Rattle.std.proofs.lemmas.Bool.{cond_both, and_parts}
 use Rattle.interval_domain.specs.Interval.{Interval, Contains, one}
 use Rattle.interval_domain.specs.Joins.{within}
-use Rattle.interval_domain.specs.JoinsContain as kept
+use Rattle.interval_domain.specs.Laws.JoinsContain as kept
 use Rattle.number_spans.specs.Stored.{Allows}
 use Rattle.range_states.specs.Inclusion.{included}
 use Rattle.range_states.specs.Join.{joined}
 use Rattle.range_states.specs.Number.{MayBe, range_of_number}
-use Rattle.range_states.specs.OwnNumbers.{MayBeEach}
+use Rattle.range_states.specs.Laws.OwnNumbers.{MayBeEach}
 use Rattle.range_states.specs.Pairs.{each_pair, every_pair}
 use Rattle.range_states.specs.Widening.{widened}
 use Rattle.range_states.specs.declared.number.Number.{Number}

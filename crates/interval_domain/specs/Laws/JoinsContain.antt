@@ -6,7 +6,7 @@ use Rattle.std.specs.Option.{option_or}
 use Rattle.std.specs.Int.{int_min, int_max}
 use Rattle.interval_domain.specs.Interval.{Interval, Contains, one, holed, excludes}
 use Rattle.interval_domain.specs.Joins.{full, kept_hole, hull, floor_of, ceiling_of, lower_end, upper_end, widened, excludes_hole, within}
-use Rattle.interval_domain.specs.Holes.{has_excludes, inner_apart}
+use Rattle.interval_domain.specs.Laws.Holes.{has_excludes, inner_apart}
 
 -- the range of one number, and of all int32
 pub one_contains : (n : ℤ) → FitsSigned w64 n → Contains (one n) n

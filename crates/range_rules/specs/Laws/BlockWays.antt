@@ -25,7 +25,7 @@ use Rattle.flow_graph.proofs.Lying.{all_passing, blocks_increase}
 use Rattle.range_rules.specs.Acts.{is_told}
 use Rattle.range_rules.specs.Choices.{IsShortSwitch}
 use Rattle.range_rules.specs.Flow.{is_before, instrs_between}
-use Rattle.range_rules.specs.Placing.{item_there}
+use Rattle.range_rules.specs.Laws.Placing.{item_there}
 
 -- ---- lists
 

@@ -9,11 +9,11 @@ use Rattle.cil_model.specs.declared.instruction.Instr.{Instr}
 use Rattle.cil_model.specs.declared.unit.Unit.{Unit as MethodUnit}
 use Rattle.range_states.specs.FrameFacts.{State}
 use Rattle.range_rules.specs.Acts.{is_told, variables_read}
-use Rattle.range_rules.specs.BlockWays.{IsWay}
+use Rattle.range_rules.specs.Laws.BlockWays.{IsWay}
 use Rattle.range_rules.specs.Choices.{IsShortSwitch}
 use Rattle.range_rules.specs.Flow.{FitsKinds, IsLawful, Fits, block_instrs, edge_at, start_of, through}
-use Rattle.range_rules.specs.FlowLaws as laws
-use Rattle.range_rules.specs.FlowSteps.{post_fits, reads}
+use Rattle.range_rules.specs.Laws.FlowLaws as laws
+use Rattle.range_rules.specs.Laws.FlowSteps.{post_fits, reads}
 use Rattle.range_rules.specs.Post.{post, along}
 use Rattle.range_rules.specs.declared.unit_flow.UnitFlow.{UnitFlow}
 

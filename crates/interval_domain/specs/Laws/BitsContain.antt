@@ -7,8 +7,8 @@ use Rattle.std.proofs.lemmas.Bool.{cond_both, and_parts, le-ltb}
 use Rattle.interval_domain.specs.Interval.{Interval, Contains, between}
 use Rattle.interval_domain.specs.Joins.{LEAST_32, GREATEST_32, LEAST_64, GREATEST_64, full}
 use Rattle.interval_domain.specs.Arithmetic.{is_one, is_narrow, bits_below, common_bits}
-use Rattle.interval_domain.specs.SumContains.{the_one}
-use Rattle.interval_domain.specs.JoinsContain.{one_contains, full_contains}
+use Rattle.interval_domain.specs.Laws.SumContains.{the_one}
+use Rattle.interval_domain.specs.Laws.JoinsContain.{one_contains, full_contains}
 
 bits_of : (x : ℕ) → x < 2 ^ 64 → FitsSigned w64 (to_z w64 x)
 bits_of x h = omega (arith, ints)

@@ -8,9 +8,9 @@ use Rattle.std.proofs.lemmas.Bool.{cond_both, and_parts}
 use Rattle.std.proofs.lemmas.Bool.Decides.{Decides-int_eq}
 use Rattle.interval_domain.specs.Interval.{Interval, Contains, one}
 use Rattle.interval_domain.specs.Arithmetic.{is_one, size, remainders, remainder}
-use Rattle.interval_domain.specs.SumContains.{the_one}
-use Rattle.interval_domain.specs.JoinsContain.{one_contains}
-use Rattle.interval_domain.specs.QuotientContains.{has_size}
+use Rattle.interval_domain.specs.Laws.SumContains.{the_one}
+use Rattle.interval_domain.specs.Laws.JoinsContain.{one_contains}
+use Rattle.interval_domain.specs.Laws.QuotientContains.{has_size}
 
 size_positive : (n : ℤ) → n ≢ pos 0 → 0 < unsigned_abs n
 size_positive (pos zero) apart = elim (apart refl) [ ]

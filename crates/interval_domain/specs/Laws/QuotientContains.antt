@@ -8,8 +8,8 @@ use Rattle.std.proofs.lemmas.Bool.{cond_both, and_parts}
 use Rattle.std.proofs.lemmas.Bool.Decides.{Decides-int_eq}
 use Rattle.interval_domain.specs.Interval.{Interval, Contains}
 use Rattle.interval_domain.specs.Arithmetic.{near, is_one, size, quotient_by, quotient}
-use Rattle.interval_domain.specs.Ends.{near_below, near_above}
-use Rattle.interval_domain.specs.SumContains.{the_one, near_between_contains}
+use Rattle.interval_domain.specs.Laws.Ends.{near_below, near_above}
+use Rattle.interval_domain.specs.Laws.SumContains.{the_one, near_between_contains}
 
 div_rises : (a b k : ℕ) → a ≤ b → a / suc k ≤ b / suc k
 div_rises a b k h = le-div (a / suc k) b (suc k) (omega arith) (omega (arith, h, div-mul-le_self a (suc k)))

@@ -7,7 +7,7 @@ use Rattle.domain_api.specs.declared.expr.Expr.{Expr}
 use Rattle.cil_model.specs.Arithmetic.{LEAST, GREATEST}
 use Rattle.interval_domain.specs.Interval.{Interval, interval, one, holed, inner_hole}
 use Rattle.interval_domain.specs.Arithmetic.{sum, shifted, near, moved_hole}
-use Rattle.interval_domain.specs.Ends.{near_below, near_above}
+use Rattle.interval_domain.specs.Laws.Ends.{near_below, near_above}
 use Rattle.range_facts.specs.Facts.{Facts, AreNarrow, range_at, range_of}
 use Rattle.number_spans.specs.Stored.{IsNarrow, IsInner}
 use Rattle.number_spans.specs.Spans as spans

@@ -1,0 +1,13 @@
+pub mod Placing
+pub mod Acting
+pub mod Choosing
+pub mod Ready
+pub mod PostLaws
+pub mod EntryLaws
+pub mod SwitchSizes
+pub mod BlockWays
+pub mod FormsBehind
+pub mod FlowSteps
+pub mod FlowLaws
+pub mod Walking
+pub mod UnknownLaws
