@@ -92,11 +92,7 @@ pub fn pair_references(alloc: Global, argument: &str) -> Result<ReferencePairs, 
     if a.len() != b.len() {
         return Err(Failure::Unmet("both states have as many references"));
     }
-    Ok(symbolic_values::pair_references(
-        alloc,
-        a.as_slice(),
-        b.as_slice(),
-    )?)
+    Ok(symbolic_values::pair_references(alloc, a.as_slice(), b.as_slice())?)
 }
 
 /// `keys s1 s2 -3 3, s0 s1 2 0`: the keys in order, each with its symbols, its shift and the constant of its first use.
