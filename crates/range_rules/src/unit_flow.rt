@@ -56,7 +56,6 @@ fn kinds(alloc: Global, unit: &Unit) -> Result<Kinds, NoMemory>
 /// The unit, with its graph and its kinds.
 fn make_flow(alloc: Global, unit: Unit) -> Result<UnitFlow, NoMemory>
     requires numbers { IsOfNumbers unit }
-    requires body { (stacks : Stacks) → KindsOf (shape_of unit) unit.instrs stacks → HasBody unit.instrs stacks unit.body_start }
     ensures lawful { IfOk result IsLawful }
     ensures value { IfOk result (λ code. code ≡ flow_of unit) }
 {
