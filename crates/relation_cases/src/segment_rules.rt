@@ -63,6 +63,50 @@ fn range_text(alloc: Global, found: Range) -> Result<String, AllocError> {
     Ok(text)
 }
 
+/// What is loaded at an index.
+fn loaded(segs: &Segs<Range>, known: &Known, at: Expr) -> Result<Range, Failure> {
+    formed(segs)?;
+    Ok(segs.load(known, at))
+}
+
+/// A store to an array that may be another one.
+fn store_weakly(
+    segs: &mut Segs<Range>,
+    known: &Known,
+    at: Expr,
+    value: Range,
+) -> Result<(), Failure> {
+    formed(segs)?;
+    segs.weak_store(known, at, value);
+    Ok(())
+}
+
+/// A store to the array itself.
+fn store_strongly(
+    alloc: Global,
+    segs: &mut Segs<Range>,
+    known: &Known,
+    at: Expr,
+    value: Range,
+) -> Result<(), Failure> {
+    formed(segs)?;
+    has_next(at)?;
+    segs.strong_store(alloc, known, at, value)?;
+    Ok(())
+}
+
+/// Whether the segments are shown to say at least as much as the other ones.
+fn is_below(
+    segs: &Segs<Range>,
+    other: &Segs<Range>,
+    known: &Known,
+    names: &[Option<Expr>],
+) -> Result<bool, Failure> {
+    formed(segs)?;
+    formed(other)?;
+    Ok(segs.leq_under(other, known, names))
+}
+
 impl SegmentRules {
     /// Before a case.
     pub fn new(alloc: Global) -> SegmentRules {
@@ -128,14 +172,11 @@ impl SegmentRules {
     ) -> Result<Line, Failure> {
         let (at, value) = two_words(argument)?;
         let known = self.known(bounds)?;
-        formed(&self.segs)?;
+        let (at, value) = (expr(at)?, content(value)?);
         if keyword == "weak-store" {
-            self.segs.weak_store(&known, expr(at)?, content(value)?);
+            store_weakly(&mut self.segs, &known, at, value)?;
         } else {
-            let at = expr(at)?;
-            has_next(at)?;
-            self.segs
-                .strong_store(self.alloc, &known, at, content(value)?)?;
+            store_strongly(self.alloc, &mut self.segs, &known, at, value)?;
         }
         Ok(Line::Step)
     }
@@ -152,8 +193,7 @@ impl SegmentRules {
     pub fn load(&self, bounds: &Bounds, argument: &str) -> Result<Line, Failure> {
         let (at, told) = asked(argument)?;
         let known = self.known(bounds)?;
-        formed(&self.segs)?;
-        let found = self.segs.load(&known, expr(at)?);
+        let found = loaded(&self.segs, &known, expr(at)?)?;
         check(range_text(self.alloc, found)?, told)?;
         Ok(Line::Answer)
     }
@@ -167,13 +207,8 @@ impl SegmentRules {
         told: &str,
     ) -> Result<Line, Failure> {
         let known = self.known(bounds)?;
-        formed(&self.segs)?;
-        formed(&self.other)?;
-        check_yes(
-            self.alloc,
-            self.segs.leq_under(&self.other, &known, names),
-            told,
-        )?;
+        let found = is_below(&self.segs, &self.other, &known, names)?;
+        check_yes(self.alloc, found, told)?;
         Ok(Line::Answer)
     }
 
