@@ -1,8 +1,9 @@
-//! The first methods that are generated from a seed. The values were worked out from the rules of the generator by
-//! another program.
+//! The first methods that are generated from a seed, and as they are read of the file that is written. The values were
+//! worked out from the rules of the generator by another program.
 
-use asm_writer::generate;
+use asm_writer::{generate, write_assembly};
 use std::test::Fail;
+use written_assemblies::{generated_plan, read_written, written_image};
 
 /// The code of the first seven methods of the seed 7.
 const CODES: [&[u8]; 7] = [
@@ -43,6 +44,31 @@ fn generated_code_is_that_of_the_templates(rt: HostRuntime) -> Result<(), Fail> 
     assert_eq!(rt; plan.methods.len(), 7);
     for (method, code) in plan.methods.iter().zip(CODES.iter()) {
         assert_eq!(rt; method.code.as_slice(), *code);
+    }
+    Ok(())
+}
+
+/// The printed names of these methods.
+const NAMES: [&[u8]; 7] = [
+    b"Gen.W::m0(int32)",
+    b"Gen.W::m1(int32,int32)",
+    b"Gen.W::m2(int32[])",
+    b"Gen.W::m3(int32[],int32)",
+    b"Gen.W::m4(int32)",
+    b"Gen.W::m5()",
+    b"Gen.W::m6(int32)",
+];
+
+#[test]
+fn a_generated_assembly_reads_back(rt: HostRuntime) -> Result<(), Fail> {
+    let alloc = rt.alloc();
+    let plan = generated_plan(alloc, 7, 7)?;
+    let bytes = write_assembly(alloc, &plan)?;
+    assert!(rt; written_image(&plan, &bytes).metadata().starts_with(b"BSJB"));
+    let assembly = read_written(alloc, &plan, &bytes)?;
+    assert_eq!(rt; assembly.methods().len(), 7);
+    for (method, name) in assembly.methods().iter().zip(NAMES.iter()) {
+        assert_eq!(rt; method.name.as_slice(), *name);
     }
     Ok(())
 }
