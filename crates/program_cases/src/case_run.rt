@@ -5,6 +5,7 @@ use crate::devices::CaseSink;
 use crate::difference::difference;
 use crate::expected::Expected;
 use crate::given::Given;
+use crate::reported::compare_report;
 use crate::wrong::{Stop, Wrong, stop_at};
 use case_reader::{Case, Field};
 use check_driver::run_words;
@@ -166,6 +167,7 @@ impl Script {
             return Err(Stop::Wrong(Wrong { line, text }));
         }
         self.compare_text(line)?;
+        self.compare_report()?;
         self.compare_asked(line)?;
         self.compare_files(line, replaces)?;
         self.words = Vec::new(self.alloc);
@@ -201,6 +203,18 @@ impl Script {
             return Err(Stop::Wrong(Wrong { line, text }));
         }
         Ok(())
+    }
+
+    /// Compares what `report` gives of the file that the second word names, where a line asks for it.
+    fn compare_report(&self) -> Result<(), Stop> {
+        let Some(line) = self.expected.report else {
+            return Ok(());
+        };
+        let Some(name) = self.words.get(1) else {
+            return Err(stop_at(self.alloc, line, "no file is named"));
+        };
+        let file = self.given.files.files.get(name);
+        compare_report(self.alloc, line, name, file, &self.out.sink.bytes)
     }
 
     fn compare_asked(&self, line: u64) -> Result<(), Stop> {

@@ -19,6 +19,8 @@ pub struct Expected {
     pub asked: Option<Vec<Vec<u8>>>,
     /// The number of edges that the finder computes, where the case tells it.
     pub edges: Option<u64>,
+    /// The line that asks whether `report` gives what was printed, where there is one.
+    pub report: Option<u64>,
     /// Files that hold other bytes after the call than before it.
     pub after: Vec<NamedFile>,
 }
@@ -31,6 +33,7 @@ impl Expected {
             err: Vec::new(alloc),
             asked: None,
             edges: None,
+            report: None,
             after: Vec::new(alloc),
         }
     }
@@ -52,6 +55,7 @@ impl Expected {
             "asks_none" => self.asked = Some(Vec::new(alloc)),
             "asks" => self.take_asked(alloc, bytes_of(alloc, line, field.argument)?)?,
             "edges" => self.edges = Some(number_of(alloc, line, field.argument)? as u64),
+            "report" => self.report = Some(line),
             "after" => self.take_after(alloc, field)?,
             _ => return Ok(false),
         }

@@ -10,6 +10,7 @@ mod difference;
 mod expected;
 mod given;
 mod plan;
+mod reported;
 mod wrong;
 
 use case_reader::{CaseFile, read_cases};
