@@ -1,0 +1,17 @@
+//! Runs cases of single rules on numbers of which ranges, bounds and definitions are known together.
+//!
+//! The words are the names of files of cases. docs/RULE_CASES.md says how a case is written.
+#![tactic(auto)]
+
+mod definitions;
+mod facts;
+mod number_rules;
+mod rules;
+
+use rule_text::run_files;
+use rules::NumberRules;
+use std::process::ExitCode;
+
+fn main(rt: HostRuntime) -> ExitCode {
+    run_files::<NumberRules>(&rt)
+}

@@ -1,0 +1,104 @@
+//! The rules on numbers.
+
+ghost use Rattle.std.specs.Prelude.{◌≤◌, length, OnOk};
+
+use crate::facts::{expr, facts_text, symbol};
+use domain_api::{Expr, Order};
+use number_facts::Numbers;
+use rule_text::{
+    Failure, append_number, append_wide_range, asked, check, comparison, operator, three_words,
+    two_words,
+};
+use std::alloc::{AllocError, Global};
+
+/// The symbol of a number is there.
+fn is_there(numbers: &Numbers, e: Expr) -> Result<(), Failure>
+    ensures { OnOk result (e.sym ≤ length numbers.now.ranges) }
+{
+    if e.sym as usize <= numbers.ranges.len() {
+        Ok(())
+    } else {
+        Err(Failure::Unmet("the number's symbol is there"))
+    }
+}
+
+/// The text of a number that was made, or that there is none.
+fn made_text(alloc: Global, made: Option<Expr>) -> Result<String, AllocError> {
+    let Some(e) = made else {
+        return String::from_str(alloc, "none");
+    };
+    let mut text = String::new(alloc);
+    append_number(&mut text, e)?;
+    Ok(text)
+}
+
+/// `ends s1+3 = 3..12!8`: the least and the greatest of a number, and the one that it is not.
+pub fn ends(alloc: Global, numbers: &Numbers, argument: &str) -> Result<(), Failure> {
+    let (e, told) = asked(argument)?;
+    let e = expr(e)?;
+    is_there(numbers, e)?;
+    let mut text = String::new(alloc);
+    append_wide_range(&mut text, numbers.ends(e))?;
+    check(text, told)
+}
+
+/// `gap s1 s2 = 3`: how far the second symbol is known to lie above the first.
+pub fn gap(alloc: Global, numbers: &Numbers, argument: &str) -> Result<(), Failure> {
+    let (question, told) = asked(argument)?;
+    let (s, t) = two_words(question)?;
+    let found = match numbers.gap(symbol(s)?, symbol(t)?) {
+        None => String::from_str(alloc, "none")?,
+        Some(far) => format!(in alloc; "{far}")?,
+    };
+    check(found, told)
+}
+
+/// `fresh 0 10 5 = s1`: a new number between two ends, but for a hole (`-`: for none).
+pub fn fresh(alloc: Global, numbers: &mut Numbers, argument: &str) -> Result<(), Failure> {
+    let (question, told) = asked(argument)?;
+    let (lo, hi, hole) = three_words(question)?;
+    let hole = match hole {
+        "-" => None,
+        _ => Some(end(hole)?),
+    };
+    let made = numbers.fresh(end(lo)?, end(hi)?, hole)?;
+    check(made_text(alloc, made)?, told)
+}
+
+/// A number of 64 bits.
+fn end(word: &str) -> Result<i64, Failure> {
+    word.parse::<i64>()
+        .ok()
+        .ok_or(Failure::Unread("an end or a hole"))
+}
+
+/// `compare clt s1 5 = s2`: the truth of a comparison.
+pub fn compare(alloc: Global, numbers: &mut Numbers, argument: &str) -> Result<(), Failure> {
+    let (question, told) = asked(argument)?;
+    let (op, a, b) = three_words(question)?;
+    let op = operator(op).ok_or(Failure::Unread("an operator"))?;
+    let (a, b) = (expr(a)?, expr(b)?);
+    is_there(numbers, a)?;
+    is_there(numbers, b)?;
+    let made = numbers.compare(op, a, b)?;
+    check(made_text(alloc, Some(made))?, told)
+}
+
+/// `assume lt s1 5`: assumes that a comparison holds, or that it does not. Answers whether something is reached then.
+pub fn assume(numbers: &mut Numbers, argument: &str, holds: bool) -> Result<bool, Failure> {
+    let (op, a, b) = three_words(argument)?;
+    let op = comparison(op).ok_or(Failure::Unread("a comparison"))?;
+    let (a, b) = (expr(a)?, expr(b)?);
+    is_there(numbers, a)?;
+    is_there(numbers, b)?;
+    Ok(numbers.assume_cmp(op, a, b, holds)?)
+}
+
+/// `after s1 in 0..9`, or `after unreachable`: all that is known.
+pub fn after(alloc: Global, numbers: &Option<Numbers>, told: &str) -> Result<(), Failure> {
+    let found = match numbers {
+        None => String::from_str(alloc, "unreachable")?,
+        Some(numbers) => facts_text(alloc, numbers)?,
+    };
+    check(found, told)
+}

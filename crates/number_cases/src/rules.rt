@@ -1,0 +1,69 @@
+//! The rules, by the keywords of cases.
+
+use crate::facts::{facts, nothing};
+use crate::number_rules;
+use number_facts::Numbers;
+use rule_text::{Failure, Line, Rules};
+use std::alloc::Global;
+
+/// What is known in a case that is run.
+#[derive(Drop)]
+pub struct NumberRules {
+    alloc: Global,
+    /// None where nothing is reached any more.
+    numbers: Option<Numbers>,
+}
+
+impl NumberRules {
+    /// Takes a line that asks a rule.
+    fn ask(&mut self, keyword: &str, argument: &str) -> Result<Line, Failure> {
+        let alloc = self.alloc;
+        let Some(numbers) = &mut self.numbers else {
+            return Err(Failure::Unread("`after unreachable`, or another state"));
+        };
+        match keyword {
+            "ends" => number_rules::ends(alloc, numbers, argument)?,
+            "gap" => number_rules::gap(alloc, numbers, argument)?,
+            "fresh" => number_rules::fresh(alloc, numbers, argument)?,
+            "compare" => number_rules::compare(alloc, numbers, argument)?,
+            _ => return Err(Failure::Unread("a keyword")),
+        }
+        Ok(Line::Answer)
+    }
+
+    /// Takes a step.
+    fn assume(&mut self, argument: &str, holds: bool) -> Result<Line, Failure> {
+        let Some(numbers) = &mut self.numbers else {
+            return Err(Failure::Unread("`after unreachable`, or another state"));
+        };
+        if !number_rules::assume(numbers, argument, holds)? {
+            self.numbers = None;
+        }
+        Ok(Line::Step)
+    }
+}
+
+impl Rules for NumberRules {
+    fn new(alloc: Global) -> NumberRules {
+        NumberRules {
+            alloc,
+            numbers: Some(nothing(alloc)),
+        }
+    }
+
+    fn take(&mut self, keyword: &str, argument: &str) -> Result<Line, Failure> {
+        match keyword {
+            "before" => {
+                self.numbers = Some(facts(self.alloc, argument)?);
+                Ok(Line::Begin)
+            }
+            "assume" => self.assume(argument, true),
+            "assume-not" => self.assume(argument, false),
+            "after" => {
+                number_rules::after(self.alloc, &self.numbers, argument)?;
+                Ok(Line::Answer)
+            }
+            _ => self.ask(keyword, argument),
+        }
+    }
+}
