@@ -12,6 +12,7 @@ use Rattle.symbolic_values.specs.Meaning.{told}
 use Rattle.symbolic_values.specs.Worth.{worth}
 use Rattle.symbolic_values.specs.declared.def.Def.{Def}
 use Rattle.symbolic_values.specs.declared.def.Def.TheVariants.{Eq, Lt, LtUn, NullTest, Sub}
+use Rattle.number_spans.specs.Spans.{Has}
 use Rattle.number_facts.specs.Laws.Allowing.{AllowsNumbers}
 use Rattle.number_facts.specs.Facts.{Facts}
 use Rattle.number_facts.specs.declared.relation.Relation.{Relation}
@@ -29,6 +30,12 @@ IsDefined number is_null d = number d.0 ≡ told is_below number is_null d.1
 pub record Holds (facts : Facts) (number : ℕ → ℤ) (is_null : ℕ → Bool) : Type 0 where
   pub allowed : AllowsNumbers facts number
   pub definitions : AllByRecursion (IsDefined number is_null) facts.definitions
+
+-- ---- ends
+
+-- Numbers that ranges and bounds allow make the expression one from lo to hi, and not the hole.
+abbrev pub AreEndsOf : Facts → Expr → ℤ → ℤ → Option ℤ → Type 0
+AreEndsOf facts e lo hi hole = (number : ℕ → ℤ) → AllowsNumbers facts number → Has (record { lo = lo; hi = hi; hole = hole }) (worth number e)
 
 -- ---- the form: what is known speaks of symbols that are there
 

@@ -6,6 +6,7 @@ ghost use Rattle.interval_domain.specs.Interval.{inner_hole, is_hole};
 ghost use Rattle.pentagon_domain.specs.Rows.{rows_from};
 ghost use Rattle.number_spans.specs.Sizes.{IsBounded, IsLong, IsLongHole, IsWide};
 ghost use Rattle.number_facts.specs.Facts.{IsNamed, range_at};
+ghost use Rattle.number_facts.specs.Holds.{AreEndsOf};
 ghost use Rattle.number_facts.specs.Ends as rule;
 ghost use Rattle.number_facts.specs.Sizes.{IsSum};
 
@@ -199,8 +200,9 @@ impl Numbers {
         ensures least { result.0 ≡ (rule.range_of self.now e).lo }
         ensures greatest { result.1 ≡ (rule.range_of self.now e).hi }
         ensures hole { result.2 ≡ (rule.range_of self.now e).hole }
+        ensures sound { AreEndsOf self.now e result.0 result.1 result.2 }
     {
-        let Span { lo, hi, hole } = self.range_of(e);
-        (lo, hi, hole)
+        let r = self.range_of(e);
+        (r.lo, r.hi, r.hole)
     }
 }
