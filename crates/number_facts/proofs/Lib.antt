@@ -6,3 +6,4 @@ pub mod Knowing
 pub mod Keeping
 pub mod NewSymbols
 pub mod Truths
+pub mod Forms

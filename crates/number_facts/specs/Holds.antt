@@ -14,7 +14,7 @@ use Rattle.symbolic_values.specs.declared.def.Def.{Def}
 use Rattle.symbolic_values.specs.declared.def.Def.TheVariants.{Eq, Lt, LtUn, NullTest, Sub}
 use Rattle.number_spans.specs.Spans.{Has}
 use Rattle.number_facts.specs.Laws.Allowing.{AllowsNumbers}
-use Rattle.number_facts.specs.Facts.{Facts}
+use Rattle.number_facts.specs.Facts.{Facts, AreNarrow}
 use Rattle.number_facts.specs.declared.relation.Relation.{Relation}
 use Rattle.number_facts.specs.declared.relation.Relation.TheVariants.{AtLeast, AtMost, Is}
 
@@ -52,6 +52,12 @@ NamesOwn count d = (d.0 ≤ count) × Names count d.1
 pub record AreNamed (facts : Facts) : Type 0 where
   pub bounds : AllByRecursion (AreBelow (length facts.ranges + 1)) facts.bounds
   pub definitions : AllByRecursion (NamesOwn (length facts.ranges)) facts.definitions
+
+-- Behind a rule each symbol is still there, what is known speaks of symbols that are there, and ranges are of int32.
+pub record KeepsForm (before after : Facts) : Type 0 where
+  pub there : length before.ranges ≤ length after.ranges
+  pub named : AreNamed before → AreNamed after
+  pub narrow : AreNarrow before → AreNarrow after
 
 -- ---- new numbers
 

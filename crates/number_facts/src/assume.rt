@@ -7,7 +7,7 @@ ghost use Rattle.number_facts.specs.Sizes.{IsFar};
 ghost use Rattle.number_facts.specs.Ends.{range_of};
 ghost use Rattle.number_facts.specs.Facts.{IsNamed};
 ghost use Rattle.number_facts.specs.Gaps.{at_most};
-ghost use Rattle.number_facts.specs.Holds.{KeepsCompared};
+ghost use Rattle.number_facts.specs.Holds.{KeepsCompared, KeepsForm};
 ghost use Rattle.number_facts.specs.Assume as rule;
 
 use crate::numbers::Numbers;
@@ -320,6 +320,7 @@ impl Numbers {
         ensures reached { IfOk result (λ r. r ≡ is_some (rule.assumed op self.old a b holds)) }
         ensures facts { IfOk result (λ r. r ≡ true → rule.assumed op self.old a b holds ≡ Some self.new) }
         ensures keeps { IfOk result (λ r. KeepsCompared op a b holds self.old r self.new) }
+        ensures form { IfOk result (λ r. r ≡ true → KeepsForm self.old self.new) }
         ensures count { length self.new.ranges ≡ length self.old.ranges }
     {
         self.assume_holding(assumed(op, holds), a, b)
