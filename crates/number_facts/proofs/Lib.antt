@@ -1,6 +1,7 @@
 pub mod Symbols
 pub mod Sums
 pub mod Cutting
+pub mod SameSymbols
 pub mod Assuming
 pub mod Knowing
 pub mod Keeping

@@ -340,7 +340,7 @@ impl Numbers {
     }
 
     /// Assumes that a comparison holds, or that it does not. False exactly where nothing is reached then, and what is
-    /// known is to be given up. Where the two are to be equal, to differ, or to be compared as unsigned, it costs a copy
+    /// known is to be given up. Where the two are to be equal, to differ or to be compared as unsigned, it costs a copy
     /// of what is known.
     ///
     /// # Errors

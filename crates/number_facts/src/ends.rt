@@ -159,14 +159,17 @@ impl Numbers {
         hi
     }
 
-    /// The lower end of a symbol, raised by all bounds that go to it.
-    #[tactic(auto, using(crate::proofs::Cutting::cut_more, crate::proofs::Cutting::cut_all))]
+    /// The lower end of a symbol, raised by all bounds that go to it. None goes to symbol 0.
+    #[tactic(auto, using(crate::proofs::Cutting::cuts))]
     fn lowest(&self, s: u32) -> i128
         ensures value { result ≡ rule.cut_by_all (rule.raised_by self.now s) self.now.bounds (range_at self.now s).lo }
         ensures bound { IsSum result }
     {
         let mut lo = wide(self.range_at(s).lo());
         let rows = self.bounds.rows();
+        if s == 0 {
+            return lo;
+        }
         for row in rows {
             lo = self.raised_by(s, lo, row);
         }
