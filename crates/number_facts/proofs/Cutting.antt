@@ -1,8 +1,10 @@
 -- Ends that are cut by one bound after another.
-use Rattle.std.proofs.Common.{◌≡◌, ℕ, suc, ◌+◌, ◌<◌, ◌≤◌, ℤ, List, [], ◌∷◌, length, get_or, drop, drop-cons, add-one}
+use Rattle.std.proofs.Common.{◌≡◌, ℕ, suc, ◌==◌, ◌+◌, ◌<◌, ◌≤◌, ℤ, Bool, true, false, not, ◌&&◌, List, [], ◌∷◌, length, get_or, drop, drop-cons, add-one, refl, sym, ap, ◌∙◌}
 use Rattle.std.proofs.lemmas.List.{drop_all}
 use Rattle.pentagon_domain.specs.declared.bound_row.BoundRow.{BoundRow}
-use Rattle.number_facts.specs.Ends.{cut_by_all}
+use Rattle.pentagon_domain.specs.Rows.{AreBounds, is_pair}
+use Rattle.number_facts.specs.Ends.{cut_by_all, raised_by}
+use Rattle.number_facts.specs.Facts.{Facts}
 
 -- one more bound
 pub cut_more : (by : ℤ → BoundRow → ℤ) (rows : List BoundRow) (i : ℕ) (n now whole : ℤ) (d : BoundRow) → i < length rows
@@ -14,3 +16,25 @@ cut_more by rows i n now whole d inside becomes so_far =
 -- none is left
 pub cut_all : (by : ℤ → BoundRow → ℤ) (rows : List BoundRow) (i : ℕ) (n whole : ℤ) → length rows ≤ i → cut_by_all by (drop i rows) n ≡ whole → n ≡ whole
 cut_all by rows i n whole past so_far = let none : drop i rows ≡ [] = drop_all i rows past in rw none at so_far
+
+-- ---- no bound goes to symbol 0
+
+second_false : (a b c : Bool) → (not a && not b && not c) ≡ true → b ≡ false
+second_false a false c e = refl
+second_false true true c e = absurd cc
+second_false false true c e = absurd cc
+
+raised_none : (facts : Facts) (lo : ℤ) (row : BoundRow) → is_pair row.s row.t ≡ true → raised_by facts 0 lo row ≡ lo
+unfolding raised_by
+raised_none facts lo row pair = rw (second_false (row.s == 0) (row.t == 0) (row.s == row.t) pair) refl
+
+zero_stays : (facts : Facts) (rows : List BoundRow) (lo : ℤ) → AreBounds rows → cut_by_all (raised_by facts 0) rows lo ≡ lo
+zero_stays facts [] lo form = refl
+zero_stays facts (row ∷ rows) lo form = rw (raised_none facts lo row form.0) (zero_stays facts rows lo form.2)
+
+pub zero_uncut : (facts : Facts) (rows : List BoundRow) (s : ℕ) (lo n : ℤ) → s ≡ 0 → AreBounds rows → lo ≡ n
+    → lo ≡ cut_by_all (raised_by facts s) rows n
+zero_uncut facts rows s lo n zero_is form is =
+    is ∙ sym (zero_stays facts rows n form) ∙ ap (λ t. cut_by_all (raised_by facts t) rows n) (sym zero_is)
+
+pub ruleset cuts = (cut_more, cut_all, zero_uncut)

@@ -11,6 +11,7 @@ use Rattle.number_facts.specs.Laws.Allowing.{AllowsNumbers, span_has, gap_allowe
 use Rattle.number_facts.specs.Ends.{range_of, span_at}
 use Rattle.number_facts.specs.Facts.{Facts, IsNamed, range_at}
 use Rattle.number_facts.specs.Gaps.{gap, reaches, at_most, equal}
+use Rattle.number_facts.specs.Holds.{AreEndsOf}
 
 moved_apart : (hole : Option ℤ) (n k : ℤ) → hole ≢ Some n → moved_hole hole k ≢ Some (n +ℤ k)
 moved_apart None n k apart = λ is. grind arith
@@ -31,6 +32,11 @@ shifted_has r n k has = record {
 pub range_has : (facts : Facts) (number : ℕ → ℤ) (e : Expr) → AllowsNumbers facts number → IsNamed facts e → Has (range_of facts e) (worth number e)
 unfolding range_of
 range_has facts number e allowed there = shifted_has (span_at facts e.sym) (number e.sym) e.k (span_has facts number e.sym there allowed)
+
+pub ends_hold : (facts : Facts) (e : Expr) (r : Span) → IsNamed facts e → r ≡ range_of facts e → AreEndsOf facts e r.lo r.hi r.hole
+ends_hold facts e r there is = λ number allowed.
+    let has = range_has facts number e allowed there in
+    rw is (record { above = has.above; below = has.below; no_hole = has.no_hole })
 
 -- symbol 0 is the number 0
 pub zero_number : (facts : Facts) (number : ℕ → ℤ) → AllowsNumbers facts number → number 0 ≡ pos 0

@@ -1,8 +1,10 @@
 pub mod Symbols
 pub mod Sums
 pub mod Cutting
+pub mod SameSymbols
 pub mod Assuming
 pub mod Knowing
 pub mod Keeping
 pub mod NewSymbols
 pub mod Truths
+pub mod Forms

@@ -159,7 +159,7 @@ truth_told operators.SubOvf cmp n z a b is one two def told = no_operator cmp is
 
 -- ---- what is pushed
 
-named_truth : (op : BinOp) (count : ℕ) (a b : Expr) (def : Def) → a.sym ≤ count → b.sym ≤ count → truth_of op a b ≡ Some def → Names count def
+pub named_truth : (op : BinOp) (count : ℕ) (a b : Expr) (def : Def) → a.sym ≤ count → b.sym ≤ count → truth_of op a b ≡ Some def → Names count def
 named_truth operators.Ceq count a b def p q is = rw (← def_same _ _ is) (p, q)
 named_truth operators.Cgt count a b def p q is = rw (← def_same _ _ is) (q, p)
 named_truth operators.CgtUn count a b def p q is = rw (← def_same _ _ is) (q, p)

@@ -1,5 +1,5 @@
 -- What is known where a comparison is assumed to hold, or not to hold. None: nothing is reached.
-use Rattle.std.specs.Prelude.{ℕ, zero, suc, ◌==◌, ℤ, pos, ◌+ℤ◌, ◌-ℤ◌, Bool, ◌&&◌, set, Option, Some, None, if◌then◌else◌}
+use Rattle.std.specs.Prelude.{ℕ, zero, suc, ◌==◌, ℤ, pos, ◌+ℤ◌, ◌-ℤ◌, Bool, true, false, ◌&&◌, set, Option, Some, None, if◌then◌else◌}
 use Rattle.std.specs.Option.{option_and_then}
 use Rattle.std.specs.Ordering.{int_eq}
 use Rattle.std.specs.Int.{int_min, int_max}
@@ -87,6 +87,14 @@ holding comparisons.GeUn facts a b = assumed_at_most_unsigned facts b a
 holding comparisons.GtUn facts a b = assumed_less_unsigned facts b a
 holding comparisons.LeUn facts a b = assumed_at_most_unsigned facts a b
 holding comparisons.LtUn facts a b = assumed_less_unsigned facts a b
+
+-- These comparisons are assumed in one step, whose bound is stored before anything else changes.
+abbrev pub is_one_step : CmpOp → Bool
+is_one_step comparisons.Ge = true
+is_one_step comparisons.Gt = true
+is_one_step comparisons.Le = true
+is_one_step comparisons.Lt = true
+is_one_step _ = false
 
 -- It does not hold: then its contrary does.
 abbrev pub contrary : CmpOp → CmpOp

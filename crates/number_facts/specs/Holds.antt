@@ -12,8 +12,9 @@ use Rattle.symbolic_values.specs.Meaning.{told}
 use Rattle.symbolic_values.specs.Worth.{worth}
 use Rattle.symbolic_values.specs.declared.def.Def.{Def}
 use Rattle.symbolic_values.specs.declared.def.Def.TheVariants.{Eq, Lt, LtUn, NullTest, Sub}
+use Rattle.number_spans.specs.Spans.{Has}
 use Rattle.number_facts.specs.Laws.Allowing.{AllowsNumbers}
-use Rattle.number_facts.specs.Facts.{Facts}
+use Rattle.number_facts.specs.Facts.{Facts, AreNarrow}
 use Rattle.number_facts.specs.declared.relation.Relation.{Relation}
 use Rattle.number_facts.specs.declared.relation.Relation.TheVariants.{AtLeast, AtMost, Is}
 
@@ -30,6 +31,12 @@ pub record Holds (facts : Facts) (number : ℕ → ℤ) (is_null : ℕ → Bool)
   pub allowed : AllowsNumbers facts number
   pub definitions : AllByRecursion (IsDefined number is_null) facts.definitions
 
+-- ---- ends
+
+-- Numbers that ranges and bounds allow make the expression one from lo to hi, and not the hole.
+abbrev pub AreEndsOf : Facts → Expr → ℤ → ℤ → Option ℤ → Type 0
+AreEndsOf facts e lo hi hole = (number : ℕ → ℤ) → AllowsNumbers facts number → Has (record { lo = lo; hi = hi; hole = hole }) (worth number e)
+
 -- ---- the form: what is known speaks of symbols that are there
 
 abbrev pub Names : ℕ → Def → Type 0
@@ -45,6 +52,12 @@ NamesOwn count d = (d.0 ≤ count) × Names count d.1
 pub record AreNamed (facts : Facts) : Type 0 where
   pub bounds : AllByRecursion (AreBelow (length facts.ranges + 1)) facts.bounds
   pub definitions : AllByRecursion (NamesOwn (length facts.ranges)) facts.definitions
+
+-- Behind a rule each symbol is still there, what is known speaks of symbols that are there, and ranges are of int32.
+pub record KeepsForm (before after : Facts) : Type 0 where
+  pub there : length before.ranges ≤ length after.ranges
+  pub named : AreNamed before → AreNamed after
+  pub narrow : AreNarrow before → AreNarrow after
 
 -- ---- new numbers
 

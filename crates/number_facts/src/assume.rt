@@ -1,13 +1,13 @@
 //! What is known where a comparison is assumed to hold, or not to hold.
 
-ghost use Rattle.std.specs.Prelude.{◌≡◌, ◌≤◌, ◌≤ℤ◌, ◌+ℤ◌, ◌-ℤ◌, pos, true, length, IfOk, Some, if◌then◌else◌};
+ghost use Rattle.std.specs.Prelude.{◌≡◌, ◌≤◌, ◌≤ℤ◌, ◌+ℤ◌, ◌-ℤ◌, pos, true, length, IfOk, OnErr, Some, if◌then◌else◌};
 ghost use Rattle.std.specs.Option.{is_some};
 ghost use Rattle.number_spans.specs.Sizes.{IsBounded, IsWide};
 ghost use Rattle.number_facts.specs.Sizes.{IsFar};
 ghost use Rattle.number_facts.specs.Ends.{range_of};
 ghost use Rattle.number_facts.specs.Facts.{IsNamed};
 ghost use Rattle.number_facts.specs.Gaps.{at_most};
-ghost use Rattle.number_facts.specs.Holds.{KeepsCompared};
+ghost use Rattle.number_facts.specs.Holds.{KeepsCompared, KeepsForm};
 ghost use Rattle.number_facts.specs.Assume as rule;
 
 use crate::numbers::Numbers;
@@ -39,6 +39,13 @@ fn assumed(op: CmpOp, holds: bool) -> CmpOp
     ensures { result ≡ (if holds then op else rule.contrary op) }
 {
     if holds { op } else { contrary(op) }
+}
+
+/// Returns whether a comparison is assumed in one step.
+fn is_one_step(op: CmpOp) -> bool
+    ensures { result ≡ rule.is_one_step op }
+{
+    matches!(op, CmpOp::Ge | CmpOp::Gt | CmpOp::Le | CmpOp::Lt)
 }
 
 /// Returns what is left of 1.
@@ -162,6 +169,7 @@ impl Numbers {
         requires one { (pos 0 ≤ℤ more) × (more ≤ℤ pos 1) }
         ensures reached { IfOk result (λ r. r ≡ is_some (rule.assumed_at_most self.old a more b)) }
         ensures facts { IfOk result (λ r. r ≡ true → rule.assumed_at_most self.old a more b ≡ Some self.new) }
+        ensures err { OnErr result (self.new ≡ self.old) }
         ensures count { length self.new.ranges ≡ length self.old.ranges }
     {
         if self.is_at_most(b, rest(more), a) {
@@ -177,6 +185,7 @@ impl Numbers {
         requires second { b.sym ≤ length self.old.ranges }
         ensures reached { IfOk result (λ r. r ≡ is_some (rule.assumed_less self.old a b)) }
         ensures facts { IfOk result (λ r. r ≡ true → rule.assumed_less self.old a b ≡ Some self.new) }
+        ensures err { OnErr result (self.new ≡ self.old) }
         ensures count { length self.new.ranges ≡ length self.old.ranges }
     {
         self.assume_at_most(a, 1, b)
@@ -284,13 +293,14 @@ impl Numbers {
         self.assume_at_most(a, 0, b)
     }
 
-    /// The comparison holds.
+    /// The comparison holds. Where memory runs out, one that takes several steps may be left among them.
     #[tactic(auto, unfolding(crate::specs::Assume::holding))]
-    fn assume_holding(&mut self, op: CmpOp, a: Expr, b: Expr) -> Result<bool, NoMemory>
+    fn assume_steps(&mut self, op: CmpOp, a: Expr, b: Expr) -> Result<bool, NoMemory>
         requires first { a.sym ≤ length self.old.ranges }
         requires second { b.sym ≤ length self.old.ranges }
         ensures reached { IfOk result (λ r. r ≡ is_some (rule.holding op self.old a b)) }
         ensures facts { IfOk result (λ r. r ≡ true → rule.holding op self.old a b ≡ Some self.new) }
+        ensures err { OnErr result (rule.is_one_step op ≡ true → self.new ≡ self.old) }
         ensures count { length self.new.ranges ≡ length self.old.ranges }
     {
         match op {
@@ -307,12 +317,35 @@ impl Numbers {
         }
     }
 
+    /// The comparison holds. What was known is kept where several steps are taken, and put back where memory runs out.
+    fn assume_holding(&mut self, op: CmpOp, a: Expr, b: Expr) -> Result<bool, NoMemory>
+        requires first { a.sym ≤ length self.old.ranges }
+        requires second { b.sym ≤ length self.old.ranges }
+        ensures reached { IfOk result (λ r. r ≡ is_some (rule.holding op self.old a b)) }
+        ensures facts { IfOk result (λ r. r ≡ true → rule.holding op self.old a b ≡ Some self.new) }
+        ensures err { OnErr result (self.new ≡ self.old) }
+        ensures count { length self.new.ranges ≡ length self.old.ranges }
+    {
+        if is_one_step(op) {
+            return self.assume_steps(op, a, b);
+        }
+        let before = self.copy(*self.ranges.allocator())?;
+        match self.assume_steps(op, a, b) {
+            Ok(reached) => Ok(reached),
+            Err(refused) => {
+                *self = before;
+                Err(refused)
+            }
+        }
+    }
+
     /// Assumes that a comparison holds, or that it does not. False exactly where nothing is reached then, and what is
-    /// known is to be given up.
+    /// known is to be given up. Where the two are to be equal, to differ or to be compared as unsigned, it costs a copy
+    /// of what is known.
     ///
     /// # Errors
     ///
-    /// Want of memory. The symbols are then as many as before.
+    /// Want of memory leaves what was known.
     #[tactic(auto, unfolding(crate::specs::Assume::assumed))]
     pub fn assume_cmp(&mut self, op: CmpOp, a: Expr, b: Expr, holds: bool) -> Result<bool, NoMemory>
         requires first { IsNamed self.old a }
@@ -320,6 +353,8 @@ impl Numbers {
         ensures reached { IfOk result (λ r. r ≡ is_some (rule.assumed op self.old a b holds)) }
         ensures facts { IfOk result (λ r. r ≡ true → rule.assumed op self.old a b holds ≡ Some self.new) }
         ensures keeps { IfOk result (λ r. KeepsCompared op a b holds self.old r self.new) }
+        ensures form { IfOk result (λ r. r ≡ true → KeepsForm self.old self.new) }
+        ensures err { OnErr result (self.new ≡ self.old) }
         ensures count { length self.new.ranges ≡ length self.old.ranges }
     {
         self.assume_holding(assumed(op, holds), a, b)

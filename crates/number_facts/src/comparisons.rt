@@ -6,7 +6,7 @@ ghost use Rattle.number_facts.specs.Comparisons.{apart, equal_known, less_known,
 ghost use Rattle.number_facts.specs.Comparisons.{compared, defined_by, known, pushed, truth_of};
 ghost use Rattle.number_facts.specs.Fresh.{noted};
 ghost use Rattle.number_facts.specs.Facts.{IsNamed};
-ghost use Rattle.number_facts.specs.Holds.{KeepsTruth};
+ghost use Rattle.number_facts.specs.Holds.{KeepsForm, KeepsTruth};
 
 use crate::numbers::Numbers;
 use cil_model::BinOp;
@@ -153,6 +153,7 @@ impl Numbers {
         ensures value { IfOk result (λ e. e ≡ (compared op self.old a b).expr) }
         ensures facts { OnOk result (self.new ≡ (compared op self.old a b).facts) }
         ensures keeps { IfOk result (λ e. KeepsTruth op a b self.old e self.new) }
+        ensures form { KeepsForm self.old self.new }
         ensures err { OnErr result (self.new ≡ self.old) }
     {
         self.compared(op, a, b)

@@ -6,6 +6,7 @@ ghost use Rattle.interval_domain.specs.Interval.{inner_hole, is_hole};
 ghost use Rattle.pentagon_domain.specs.Rows.{rows_from};
 ghost use Rattle.number_spans.specs.Sizes.{IsBounded, IsLong, IsLongHole, IsWide};
 ghost use Rattle.number_facts.specs.Facts.{IsNamed, range_at};
+ghost use Rattle.number_facts.specs.Holds.{AreEndsOf};
 ghost use Rattle.number_facts.specs.Ends as rule;
 ghost use Rattle.number_facts.specs.Sizes.{IsSum};
 
@@ -158,14 +159,17 @@ impl Numbers {
         hi
     }
 
-    /// The lower end of a symbol, raised by all bounds that go to it.
-    #[tactic(auto, using(crate::proofs::Cutting::cut_more, crate::proofs::Cutting::cut_all))]
+    /// The lower end of a symbol, raised by all bounds that go to it. None goes to symbol 0.
+    #[tactic(auto, using(crate::proofs::Cutting::cuts))]
     fn lowest(&self, s: u32) -> i128
         ensures value { result ≡ rule.cut_by_all (rule.raised_by self.now s) self.now.bounds (range_at self.now s).lo }
         ensures bound { IsSum result }
     {
         let mut lo = wide(self.range_at(s).lo());
         let rows = self.bounds.rows();
+        if s == 0 {
+            return lo;
+        }
         for row in rows {
             lo = self.raised_by(s, lo, row);
         }
@@ -199,8 +203,9 @@ impl Numbers {
         ensures least { result.0 ≡ (rule.range_of self.now e).lo }
         ensures greatest { result.1 ≡ (rule.range_of self.now e).hi }
         ensures hole { result.2 ≡ (rule.range_of self.now e).hole }
+        ensures sound { AreEndsOf self.now e result.0 result.1 result.2 }
     {
-        let Span { lo, hi, hole } = self.range_of(e);
-        (lo, hi, hole)
+        let r = self.range_of(e);
+        (r.lo, r.hi, r.hole)
     }
 }

@@ -3,7 +3,7 @@
 ghost use Rattle.std.specs.Prelude.{◌≡◌, ◌+◌, length, IfOk, OnOk, OnErr, [], ◌∷◌};
 ghost use Rattle.std.specs.Option.{option_map};
 ghost use Rattle.number_facts.specs.Fresh.{bounded, expr_made, facts_made, fresh, noted};
-ghost use Rattle.number_facts.specs.Holds.{KeepsFresh};
+ghost use Rattle.number_facts.specs.Holds.{KeepsForm, KeepsFresh};
 ghost use Rattle.number_facts.specs.declared.relation.Relation.TheVariants.{Is};
 
 use crate::numbers::Numbers;
@@ -104,6 +104,7 @@ impl Numbers {
         ensures value { IfOk result (λ e. e ≡ expr_made (fresh self.old lo hi hole [])) }
         ensures facts { OnOk result (self.new ≡ facts_made self.old (fresh self.old lo hi hole [])) }
         ensures keeps { IfOk result (λ e. KeepsFresh lo hi hole self.old e self.new) }
+        ensures form { KeepsForm self.old self.new }
         ensures err { OnErr result (self.new ≡ self.old) }
     {
         self.fresh_number(lo, hi, hole)

@@ -1,11 +1,12 @@
 //! What is known of symbols.
 
-ghost use Rattle.std.specs.Prelude.{◌≡◌, ◌≤◌, length};
+ghost use Rattle.std.specs.Prelude.{◌≡◌, ◌≤◌, length, IfOk};
 ghost use Rattle.number_facts.specs.Facts.{has, range_at};
 
-use domain_api::Values;
+use domain_api::{NoMemory, Values};
 use interval_domain::Range;
 use pentagon_domain::Bounds;
+use std::alloc::Global;
 use std::marker::Model;
 use symbolic_values::Def;
 
@@ -31,6 +32,17 @@ impl Model for Numbers {
 }
 
 impl Numbers {
+    /// The same facts again. Costs one pass.
+    pub fn copy(&self, alloc: Global) -> Result<Numbers, NoMemory>
+        ensures { IfOk result (λ again. again ≡ self.now) }
+    {
+        Ok(Numbers {
+            ranges: Vec::from_slice(alloc, self.ranges.as_slice())?,
+            definitions: Vec::from_slice(alloc, self.definitions.as_slice())?,
+            bounds: self.bounds.copy(alloc)?,
+        })
+    }
+
     /// Returns whether a symbol is there.
     pub(crate) fn has(&self, sym: u32) -> bool
         ensures { result ≡ has self.now sym }

@@ -14,8 +14,11 @@ impl Order for Numbers {
 
     ghost gap = { gap };
 
-    #[tactic(auto, unfolding(crate::specs::Gaps::gap))]
+    #[tactic(auto, using(crate::proofs::SameSymbols::gap_same), unfolding(crate::specs::Gaps::gap))]
     fn gap(&self, s: u32, t: u32) -> Option<i64> {
+        if s == t {
+            return Some(0);
+        }
         if self.has(s) && self.has(t) {
             self.bounds.gap_with(s, t, self.distance(s, t))
         } else {
