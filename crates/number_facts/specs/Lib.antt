@@ -7,3 +7,5 @@ pub mod Comparisons
 pub mod Assume
 pub mod Allowing
 pub mod Keeps
+pub mod Additions
+pub mod Arith
