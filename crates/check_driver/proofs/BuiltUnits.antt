@@ -41,9 +41,9 @@ use Rattle.range_rules.specs.declared.unit_flow.UnitFlow.{UnitFlow}
 use Rattle.range_rules.proofs.KindsFound.{found_kinds}
 use Rattle.unit_form.specs.Spelling.{unit_bytes}
 use Rattle.widening_engine.specs.Limits.{limit_of}
-use Rattle.check_driver.specs.Analysis.{unit_verdicts}
-use Rattle.check_driver.specs.Findings.{AreWithin}
-use Rattle.check_driver.specs.JudgedUnits.{AreVerdictsOn}
+use Rattle.check_driver.specs.Analysis.{found_states, unit_verdicts}
+use Rattle.check_driver.specs.Judgements.{AreWithin, IsJudgementOf}
+use Rattle.check_driver.specs.declared.judgement.Judgement.{Judgement}
 
 -- ---- what is built is told of
 
@@ -106,31 +106,40 @@ lawful_flow unit built =
     record { unit = of_numbers unit built; graph = refl; kinds = kinds; body = body_of_unit unit built.is_unit (kinds_of unit) kinds }
 
 pub built_is_safe : (unit : MethodUnit) → IsBuilt unit → all_proved (unit_verdicts unit) ≡ true → IsSafe unit
-unfolding unit_verdicts
+unfolding unit_verdicts found_states
 built_is_safe unit built proved = proved_is_safe (flow_of unit) (limit_of (flow_of unit)) (lawful_flow unit built) proved
 
 -- ---- its verdicts
 
 -- What is judged under what the finder answers is told by the unit alone.
-pub verdicts_are : {E : Type 0} (r : Result (Vec Verdict Global) E) (code : UnitFlow) (states : List State) → code ≡ flow_of code.unit → states ≡ limit_of code
-    → IfOk r (λ found. found.items ≡ verdicts code states) → IfOk r (λ found. found.items ≡ unit_verdicts code.unit)
-unfolding unit_verdicts
-verdicts_are (Ok found) code states flow limit judged =
-    judged ∙ ap (verdicts code) limit ∙ ap (λ (c : UnitFlow). verdicts c (limit_of c)) flow
-verdicts_are (Err e) code states flow limit judged = tt
+pub verdicts_are : (found : List Verdict) (code : UnitFlow) (states : List State) → code ≡ flow_of code.unit → states ≡ limit_of code → found ≡ verdicts code states
+    → found ≡ unit_verdicts code.unit
+unfolding unit_verdicts found_states
+verdicts_are found code states flow limit judged = judged ∙ ap (verdicts code) limit ∙ ap (λ (c : UnitFlow). verdicts c (limit_of c)) flow
+
+pub states_are : (code : UnitFlow) (states : List State) → code ≡ flow_of code.unit → states ≡ limit_of code → states ≡ found_states code.unit
+unfolding found_states
+states_are code states flow limit = limit ∙ ap limit_of flow
 
 -- They keep the limits, as the unit does.
-pub within_limits : {E : Type 0} (r : Result (Vec Verdict Global) E) (unit : MethodUnit) → IsUnit unit → IfOk r (λ found. length found.items ≤ MAX_CLAUSES * length unit.instrs)
-    → IfOk r (λ found. All (λ verdict. verdict.obligation.at < length unit.code) found.items) → IfOk r (λ found. AreWithin found.items)
-within_limits (Ok found) unit is few inside = record {
+pub within_limits : (found : List Verdict) (unit : MethodUnit) → IsUnit unit → length found ≤ MAX_CLAUSES * length unit.instrs
+    → All (λ verdict. verdict.obligation.at < length unit.code) found → AreWithin found
+within_limits found unit is few inside = record {
   near = λ k v lt. omega (arith, inside k v lt, is.well_formed.limits.code);
   few = omega (arith, few, is.well_formed.limits.instructions);
 }
-within_limits (Err e) unit is few inside = tt
 
 -- The bytes of a unit spell it and no other.
-pub verdicts_again : (unit : MethodUnit) (found : List Verdict) → IsUnit unit → AreVerdictsOn (unit_bytes unit) found → found ≡ unit_verdicts unit
-verdicts_again unit found is are = are.value ∙ ap unit_verdicts (unit_again unit is).1
+pub judged_again : (unit : MethodUnit) (judged : Judgement) → IsUnit unit → IsJudgementOf (unit_of (unit_bytes unit)) judged → IsJudgementOf unit judged
+judged_again unit judged is of = subst (λ (u : MethodUnit). IsJudgementOf u judged) (unit_again unit is).1 of
 
-pub verdicts_noted : (unit : MethodUnit) (found : List Verdict) → IsUnit unit → found ≡ unit_verdicts unit → AreWithin found → AreVerdictsOn (unit_bytes unit) found
-verdicts_noted unit found is value within = record { value = value ∙ sym (ap unit_verdicts (unit_again unit is).1); within = within }
+pub noted_judged : (unit : MethodUnit) (judged : Judgement) → IsUnit unit → IsJudgementOf unit judged → IsJudgementOf (unit_of (unit_bytes unit)) judged
+noted_judged unit judged is of = subst (λ (u : MethodUnit). IsJudgementOf u judged) (sym (unit_again unit is).1) of
+
+-- A copy is one too.
+pub copied_judged : {E : Type 0} (r : Result Judgement E) (unit : MethodUnit) (judged : Judgement) → IsJudgementOf unit judged
+    → IfOk r (λ again. again.invariant.states.items ≡ judged.invariant.states.items) → IfOk r (λ again. again.verdicts.items ≡ judged.verdicts.items)
+    → IfOk r (IsJudgementOf unit)
+copied_judged (Ok again) unit judged of states verdicts =
+    record { states = states ∙ of.states; verdicts = verdicts ∙ of.verdicts; within = subst AreWithin (sym verdicts) of.within }
+copied_judged (Err e) unit judged of states verdicts = tt

@@ -122,7 +122,7 @@ no_verdict (v ∷ found) token name text has =
 
 none_of_finding : (found : Finding) (token : ℕ) (name text : List ℕ) → Contains (verdicts_said found) (method_said token name text) → ⊥
 unfolding verdicts_said
-none_of_finding (Judged found) token name text has = no_verdict found token name text has
+none_of_finding (Judged states found) token name text has = no_verdict found token name text has
 none_of_finding (Unjudged reason) token name text has = none_contained _ has
 
 -- ---- the line among those of some rows
@@ -154,7 +154,7 @@ among_rows asm (row ∷ rows) token name text has =
 -- ---- what a printed `proved` tells
 
 pub proved_tells : (found : Finding) → verdict_text found ≡ codes "proved" → is_proved found ≡ true
-proved_tells (Judged found) e = by_verdict (all_proved found) e
+proved_tells (Judged states found) e = by_verdict (all_proved found) e
   where
     by_verdict : (proved : Bool) → proved_text proved ≡ codes "proved" → proved ≡ true
     by_verdict true e = refl

@@ -125,7 +125,7 @@ verdicts_one_line (v ∷ found) = (one_line (verdict_said v) (verdict_no_feed v)
 
 said_one_line : (found : Finding) → AllByRecursion IsOneLine (verdicts_said found)
 unfolding verdicts_said
-said_one_line (Judged found) = verdicts_one_line found
+said_one_line (Judged states found) = verdicts_one_line found
 said_one_line (Unjudged reason) = tt
 
 method_no_feed : (token : ℕ) (name text : List ℕ) → NoFeed name → NoFeed text → NoFeed (method_said token name text)

@@ -34,7 +34,7 @@ unfolding summary_front
 summary_said n = summary_front n ++ codes " proved"
 
 unfoldable pub verdicts_said : Finding → List (List ℕ)
-verdicts_said (Judged found) = map verdict_said found
+verdicts_said (Judged states found) = map verdict_said found
 verdicts_said (Unjudged reason) = []
 
 unfoldable pub finding_said : ℕ → List ℕ → Finding → List (List ℕ)
@@ -62,7 +62,7 @@ verdicts_are_lines (v ∷ found) = ap (λ (l : List ℕ). as_line (verdict_said 
 
 said_of_finding : (found : Finding) → as_lines (verdicts_said found) ≡ verdict_lines found
 unfolding verdicts_said
-said_of_finding (Judged found) = verdicts_are_lines found
+said_of_finding (Judged states found) = verdicts_are_lines found
 said_of_finding (Unjudged reason) = refl
 
 finding_is_lines : (token : ℕ) (name : List ℕ) (found : Finding) → as_lines (finding_said token name found) ≡ finding_lines token name found

@@ -9,10 +9,11 @@ use Rattle.invariant_checker.specs.Counts.{all_proved, proved_count}
 use Rattle.invariant_checker.specs.declared.verdict.Verdict.{Verdict}
 use Rattle.unit_builder.specs.Outcomes.{entries_of}
 use Rattle.unit_builder.specs.declared.entry.MethodEntry.{MethodEntry}
+use Rattle.range_states.specs.FrameFacts.{State}
 use Rattle.unit_builder.specs.declared.entry.Outcome.{Outcome}
 use Rattle.unit_builder.specs.declared.entry.Outcome.TheVariants.{Analysed, Skipped}
 use Rattle.answer_lines.specs.Counting.{counts_plus, no_counts}
-use Rattle.check_driver.specs.Analysis.{unit_verdicts}
+use Rattle.check_driver.specs.Analysis.{found_states, unit_verdicts}
 use Rattle.check_driver.specs.ReasonText.{reason_text, unbuilt_text}
 use Rattle.answer_lines.specs.Lines.{proved_text, summary_line}
 use Rattle.check_driver.specs.ReportText.{verdict_line}
@@ -20,13 +21,14 @@ use Rattle.answer_lines.specs.declared.lines.Counts.{Counts}
 
 -- ---- what is found of a method
 
--- The verdicts on its obligations, or the words that say why it is not analysed.
+-- The invariant under which its unit was judged, with the verdicts on its obligations, or the words that say why it is not
+-- analysed.
 pub data Finding : Type 0 where
-  Judged : List Verdict → Finding
+  Judged : List State → List Verdict → Finding
   Unjudged : List ℕ → Finding
 
 abbrev pub judged_or : Option ℕ → MethodUnit → Finding
-judged_or None unit = Judged (unit_verdicts unit)
+judged_or None unit = Judged (found_states unit) (unit_verdicts unit)
 judged_or (Some at) unit = Unjudged (unbuilt_text at)
 
 abbrev pub finding : Outcome → Finding
@@ -36,11 +38,11 @@ finding (Skipped reason) = Unjudged (reason_text reason)
 -- ---- its lines
 
 abbrev pub verdict_text : Finding → List ℕ
-verdict_text (Judged found) = proved_text (all_proved found)
+verdict_text (Judged states found) = proved_text (all_proved found)
 verdict_text (Unjudged reason) = codes "not analysed: " ++ reason
 
 abbrev pub verdict_lines : Finding → List ℕ
-verdict_lines (Judged found) = flat_map verdict_line found
+verdict_lines (Judged states found) = flat_map verdict_line found
 verdict_lines (Unjudged reason) = []
 
 -- The line of a method: its token, its name, and what is found of it.
@@ -57,12 +59,12 @@ entry_lines entry = finding_lines entry.token.0 entry.name (finding entry.outcom
 -- ---- the whole
 
 abbrev pub is_proved : Finding → Bool
-is_proved (Judged found) = all_proved found
+is_proved (Judged states found) = all_proved found
 is_proved (Unjudged reason) = false
 
 -- What one method adds to the counts.
 abbrev pub counts_of : Finding → Counts
-counts_of (Judged found) = record {
+counts_of (Judged states found) = record {
   methods = 1;
   proved = if all_proved found then 1 else 0;
   unproved = if all_proved found then 0 else 1;

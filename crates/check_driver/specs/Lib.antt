@@ -9,7 +9,7 @@ pub mod ListText
 pub mod IlText
 pub mod Expected
 pub mod Asked
-pub mod JudgedUnits
+pub mod Judgements
 pub mod Checked
 pub mod Sections
 pub mod Headline

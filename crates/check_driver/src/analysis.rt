@@ -1,15 +1,15 @@
 //! Units, judged under what a finder answers.
 
 ghost use Rattle.std.specs.Prelude.{◌≡◌, [], ◌∷◌, IfOk};
-ghost use Rattle.check_driver.specs.Analysis.{unit_verdicts};
 ghost use Rattle.check_driver.specs.Asked.{Asks};
-ghost use Rattle.check_driver.specs.Findings.{AreWithin};
+ghost use Rattle.check_driver.specs.Judgements.{IsJudgementOf};
 ghost use Rattle.method_unit.specs.BuiltUnits.{IsBuilt};
 ghost use Rattle.range_rules.specs.FlowOf.{flow_of};
 ghost use Rattle.unit_form.specs.Spelling.{unit_bytes};
 
+use crate::judgement::Judgement;
 use cil_model::Unit;
-use invariant_checker::{Verdict, judge};
+use invariant_checker::judge;
 use range_rules::UnitFlow;
 use std::alloc::{AllocError, Global};
 use widening_engine::Finder;
@@ -24,20 +24,23 @@ pub fn unit_flow(alloc: Global, unit: Unit) -> Result<UnitFlow, AllocError>
     UnitFlow::of(alloc, unit)
 }
 
-/// The verdicts on the obligations of a unit, under the invariant that the finder answers.
+/// What is judged of a unit under the invariant that the finder answers.
 pub fn judge_flow<D: Finder>(
     alloc: Global,
     code: &UnitFlow,
     finder: &mut D,
-) -> Result<Vec<Verdict>, AllocError>
+) -> Result<Judgement, AllocError>
     requires built { IsBuilt code.now.unit }
     requires flow { code.now ≡ flow_of code.now.unit }
-    ensures value { IfOk result (λ found. found.items ≡ unit_verdicts code.now.unit) }
-    ensures within { IfOk result (λ found. AreWithin found.items) }
+    ensures value { IfOk result (IsJudgementOf code.now.unit) }
     ensures asked { Asks (unit_bytes code.now.unit ∷ []) result (D.asked finder.old) (D.asked finder.new) }
 {
     let invariant = finder.find(alloc, code)?;
-    judge(alloc, code, &invariant)
+    let verdicts = judge(alloc, code, &invariant)?;
+    Ok(Judgement {
+        invariant,
+        verdicts,
+    })
 }
 
 /// The same, of a unit without its flow.
@@ -45,10 +48,9 @@ pub fn judge_unit<D: Finder>(
     alloc: Global,
     unit: Unit,
     finder: &mut D,
-) -> Result<Vec<Verdict>, AllocError>
+) -> Result<Judgement, AllocError>
     requires { IsBuilt unit }
-    ensures value { IfOk result (λ found. found.items ≡ unit_verdicts unit) }
-    ensures within { IfOk result (λ found. AreWithin found.items) }
+    ensures value { IfOk result (IsJudgementOf unit) }
     ensures asked { Asks (unit_bytes unit ∷ []) result (D.asked finder.old) (D.asked finder.new) }
 {
     let code = unit_flow(alloc, unit)?;

@@ -8,6 +8,7 @@ ghost use Rattle.unit_builder.specs.Outcomes.{IfAnalysed, IsRunnable};
 ghost use Rattle.check_driver.specs.Findings.{IsWithin, told, verdicts_in};
 
 use crate::judged_units::JudgedUnits;
+use crate::judgement::Judgement;
 use crate::reason_text::{append_skipped, append_unbuilt};
 use answer_lines::{Counts, proved_text};
 use invariant_checker::{Verdict, all_proved, proved_count};
@@ -19,8 +20,8 @@ use widening_engine::Finder;
 /// What is found of a method.
 #[derive(Drop)]
 pub enum Finding {
-    /// The verdicts on its obligations.
-    Judged(Vec<Verdict>),
+    /// The invariant of its unit that was judged, and the verdicts under it.
+    Judged(Judgement),
     /// It is not analysed: the analysis of what stands at this IL offset is not built.
     Unbuilt(u32),
     /// It is not analysed for this reason.
@@ -56,7 +57,7 @@ impl Finding {
         ensures { result.now ≡ verdicts_in (told self.now) }
     {
         match self {
-            Finding::Judged(found) => found,
+            Finding::Judged(found) => found.verdicts.as_slice(),
             Finding::Unbuilt(_) | Finding::Skipped(_) => &[],
         }
     }
@@ -66,7 +67,7 @@ impl Finding {
         ensures { result ≡ is_proved (told self.now) }
     {
         match self {
-            Finding::Judged(found) => all_proved(found),
+            Finding::Judged(found) => all_proved(found.verdicts.as_slice()),
             Finding::Unbuilt(_) | Finding::Skipped(_) => false,
         }
     }
@@ -95,7 +96,9 @@ impl Finding {
         ensures { OnOk result (line.new.items ≡ line.old.items ++ verdict_text (told self.now)) }
     {
         match self {
-            Finding::Judged(found) => line.extend_from_slice(proved_text(all_proved(found))),
+            Finding::Judged(found) => {
+                line.extend_from_slice(proved_text(all_proved(found.verdicts.as_slice())))
+            }
             Finding::Unbuilt(at) => append_unbuilt(alloc, line, *at),
             Finding::Skipped(reason) => append_skipped(alloc, line, *reason),
         }

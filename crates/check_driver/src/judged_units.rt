@@ -1,38 +1,37 @@
 //! Units that were judged in a call.
 
 ghost use Rattle.std.specs.Prelude.{◌≡◌, ◌++◌, [], ◌∷◌, false, is_some, IfOk, IfSome, OnOk};
-ghost use Rattle.check_driver.specs.Analysis.{unit_verdicts};
 ghost use Rattle.check_driver.specs.Asked.{Asks, is_among, unseen};
-ghost use Rattle.check_driver.specs.Findings.{AreWithin};
-ghost use Rattle.check_driver.specs.JudgedUnits.{AreVerdictsOn};
+ghost use Rattle.check_driver.specs.Judgements.{IsJudgementOf};
 ghost use Rattle.method_unit.specs.BuiltUnits.{IsBuilt};
+ghost use Rattle.method_unit.specs.UnitFile.{unit_of};
 ghost use Rattle.unit_form.specs.Spelling.{unit_bytes};
 
 use crate::analysis::judge_unit;
+use crate::judgement::Judgement;
 use cil_model::Unit;
 use indexmap::IndexMap;
-use invariant_checker::Verdict;
 use method_unit::unit_bytes;
 use std::alloc::{AllocError, Global};
 use std::marker::Model;
 use widening_engine::Finder;
 
-/// The verdicts on each unit that was judged, by the bytes of its file. Contracts see these bytes, in the order in which the
-/// units came.
+/// What was judged of each unit, by the bytes of its file. Contracts see these bytes, in the order in which the units
+/// came.
 #[derive(Drop)]
 pub struct JudgedUnits {
-    verdicts: IndexMap<Vec<u8>, Vec<Verdict>>,
+    judgements: IndexMap<Vec<u8>, Judgement>,
 }
 
 impl Model for JudgedUnits {
     ghost use Rattle.std.specs.Prelude.{ℕ, List, map};
-    ghost use Rattle.check_driver.specs.JudgedUnits.{AreJudged};
+    ghost use Rattle.check_driver.specs.Judgements.{AreJudged};
 
     ghost Value = { List (List ℕ) };
 
-    ghost view = { λ judged. map (λ entry. entry.0.items) judged.verdicts.entries };
+    ghost view = { λ judged. map (λ entry. entry.0.items) judged.judgements.entries };
 
-    ghost invariant = { λ judged. AreJudged judged.verdicts.entries };
+    ghost invariant = { λ judged. AreJudged judged.judgements.entries };
 }
 
 impl JudgedUnits {
@@ -41,52 +40,48 @@ impl JudgedUnits {
         ensures { result ≡ [] }
     {
         JudgedUnits {
-            verdicts: IndexMap::new(alloc),
+            judgements: IndexMap::new(alloc),
         }
     }
 
-    /// The verdicts on the unit of these bytes, if it was judged.
-    fn get(&self, key: &[u8]) -> Option<&[Verdict]>
+    /// What was judged of the unit of these bytes, if it was.
+    fn get(&self, key: &[u8]) -> Option<&Judgement>
         ensures there { is_some result ≡ is_among self.now key.now }
-        ensures value { IfSome result (λ found. AreVerdictsOn key.now found.now) }
+        ensures value { IfSome result (λ found. IsJudgementOf (unit_of key.now) found.now) }
     {
-        match self.verdicts.get(key) {
-            Some(found) => Some(found.as_slice()),
-            None => None,
-        }
+        self.judgements.get(key)
     }
 
-    /// Notes the verdicts on the unit of these bytes.
-    fn note(&mut self, key: Vec<u8>, found: Vec<Verdict>) -> Result<(), AllocError>
+    /// Notes what is judged of the unit of these bytes.
+    fn note(&mut self, key: Vec<u8>, found: Judgement) -> Result<(), AllocError>
         requires new { is_among self.old key.items ≡ false }
-        requires judged { AreVerdictsOn key.items found.items }
+        requires judged { IsJudgementOf (unit_of key.items) found }
         ensures { OnOk result (self.new ≡ self.old ++ key.items ∷ []) }
     {
-        self.verdicts.insert(key, found)?;
+        self.judgements.insert(key, found)?;
         Ok(())
     }
 
-    /// The verdicts on the obligations of a unit. The finder is asked only where no equal unit was judged before.
+    /// What is judged of a unit. The finder is asked only where no equal unit was judged before.
     ///
-    /// Cost: the unit's bytes are kept, with its verdicts.
+    /// Cost: the unit's bytes are kept, with its invariant and its verdicts.
     pub fn judge<D: Finder>(
         &mut self,
         alloc: Global,
         unit: Unit,
         finder: &mut D,
-    ) -> Result<Vec<Verdict>, AllocError>
+    ) -> Result<Judgement, AllocError>
         requires { IsBuilt unit }
-        ensures value { IfOk result (λ found. found.items ≡ unit_verdicts unit) }
-        ensures within { IfOk result (λ found. AreWithin found.items) }
+        ensures value { IfOk result (IsJudgementOf unit) }
         ensures judged { OnOk result (self.new ≡ self.old ++ unseen self.old (unit_bytes unit ∷ [])) }
         ensures asked { Asks (unseen self.old (unit_bytes unit ∷ [])) result (D.asked finder.old) (D.asked finder.new) }
     {
         let key = unit_bytes(alloc, &unit)?;
         if let Some(found) = self.get(&key) {
-            return Vec::from_slice(alloc, found);
+            return found.copy(alloc);
         }
         let found = judge_unit(alloc, unit, finder)?;
-        let again = Vec::from_slice(alloc, &found)?;
+        let again = found.copy(alloc)?;
         self.note(key, found)?;
         Ok(again)
     }

@@ -7,6 +7,7 @@ mod fault_text;
 mod finding;
 mod il_answer;
 mod judged_units;
+mod judgement;
 mod list_answer;
 mod program;
 mod reading;

@@ -39,9 +39,9 @@ fn put_report<O: Sink, D: Finder>(
 {
     let code = unit_flow(alloc, unit)?;
     let found = judge_flow(alloc, &code, finder)?;
-    let lines = report_lines(alloc, &code.unit, &found)?;
+    let lines = report_lines(alloc, &code.unit, found.verdicts.as_slice())?;
     put_lines(alloc, out, &lines)?;
-    Ok(all_proved(&found))
+    Ok(all_proved(found.verdicts.as_slice()))
 }
 
 /// Answers `unit FILE` for the bytes of a file that is not too large.

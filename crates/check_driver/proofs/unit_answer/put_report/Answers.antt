@@ -7,10 +7,10 @@ use Rattle.check_driver.proofs.Asking.{asks_nothing}
 use Rattle.check_driver.proofs.unit_answer.put_report.Goals as goal
 
 pub report_lines-requires-clause-few : goal.report_lines-requires-clause-few
-report_lines-requires-clause-few g c = rw c.deref.ensures.value (omega (arith, c.in_ok-found.ensures.within.few))
+report_lines-requires-clause-few g c = rw c.as_slice.ensures.value (omega (arith, c.in_ok-found.ensures.value.within.few))
 
 pub report_lines-requires-clause-near : goal.report_lines-requires-clause-near
-report_lines-requires-clause-near g c = rw c.deref.ensures.value c.in_ok-found.ensures.within.near
+report_lines-requires-clause-near g c = rw c.as_slice.ensures.value c.in_ok-found.ensures.value.within.near
 
 pub returns-in_err-code-clause-asked : goal.returns-in_err-code-clause-asked
 returns-in_err-code-clause-asked g c =
@@ -19,5 +19,5 @@ returns-in_err-code-clause-asked g c =
 
 pub returns-clause-written : goal.returns-clause-written
 returns-clause-written g c =
-    let same : joined c.deref-2.result.now ≡ unit_report c.args.unit = ap joined c.deref-2.ensures.value ∙ c.in_ok-lines.ensures ∙ ap unit_report c.in_ok-code.ensures.unit in
+    let same : joined c.deref.result.now ≡ unit_report c.args.unit = ap joined c.deref.ensures.value ∙ c.in_ok-lines.ensures ∙ ap unit_report c.in_ok-code.ensures.unit in
     written_whole c.in_ok-put_lines.field-0 c.all_proved.result _ _ _ same c.in_ok-put_lines.ensures

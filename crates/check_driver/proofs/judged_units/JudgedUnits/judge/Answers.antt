@@ -3,7 +3,7 @@ use Rattle.std.proofs.lemmas.Result.{err_from_is_err_and}
 use Rattle.unit_form.specs.Spelling.{unit_bytes}
 use Rattle.check_driver.specs.Asked.{is_among}
 use Rattle.check_driver.proofs.Asking.{asks_none, asks_nothing}
-use Rattle.check_driver.proofs.BuiltUnits.{verdicts_again, verdicts_noted}
+use Rattle.check_driver.proofs.BuiltUnits.{copied_judged, judged_again, noted_judged}
 use Rattle.check_driver.proofs.judged_units.JudgedUnits.judge.Goals as goal
 
 pub returns-in_err-key-clause-asked : goal.returns-in_err-key-clause-asked
@@ -14,13 +14,13 @@ returns-in_err-key-clause-asked g c =
 pub returns-in-Some-clause-value : goal.returns-in-Some-clause-value
 returns-in-Some-clause-value g c =
     let are = rw (c.deref.ensures.value, c.in_ok-key.ensures) at c.in-Some.ensures.value in
-    rw (← verdicts_again c.args.unit c.in-Some.found.now c.requires.is_unit are) c.from_slice.ensures.items
+    copied_judged c.copy.result c.args.unit c.in-Some.found.now (judged_again c.args.unit c.in-Some.found.now c.requires.is_unit are) c.copy.ensures.states c.copy.ensures.verdicts
 
 pub returns-in-Some-clause-asked : goal.returns-in-Some-clause-asked
 returns-in-Some-clause-asked g c =
     let known : is_among c.args.self.now (unit_bytes c.args.unit) ≡ true = sym (rw (c.deref.ensures.value, c.in_ok-key.ensures) at c.in-Some.ensures.there) in
-    rw known (asks_none c.from_slice.result _ _ refl)
+    rw known (asks_none c.copy.result _ _ refl)
 
 pub note-requires-clause-judged : goal.note-requires-clause-judged
 note-requires-clause-judged g c =
-    rw c.in_ok-key.ensures (verdicts_noted c.args.unit c.in_ok-found.found.items c.requires.is_unit c.in_ok-found.ensures.value c.in_ok-found.ensures.within)
+    rw c.in_ok-key.ensures (noted_judged c.args.unit c.in_ok-found.found c.requires.is_unit c.in_ok-found.ensures.value)
