@@ -58,9 +58,6 @@ limited_form hull lists counted =
     let l = times_length hull (length lists.contents - 12) lists under in
     record { some = kept.some; most = omega arith; bounded = kept.bounded; marked = kept.marked; few = kept.few; from_zero = kept.from_zero }
 
-pub form_counted : {C : Type 0} (lists : Lists C) → HasForm lists → IsCounted lists
-form_counted lists form = record { some = form.some; bounded = form.bounded; marked = form.marked; few = form.few; from_zero = form.from_zero }
-
 module _ {C : Type 0} (contains : C → ℤ → Type 0) (number : ℕ → ℤ) (items : List ℤ) (hull : C → C → C) (keeps_left : (a b : C) (n : ℤ) → contains a n → contains (hull a b) n) (keeps_right : (a b : C) (n : ℤ) → contains b n → contains (hull a b) n) where
   merged_spans : (uppers : List (List Expr)) (one other : C) (contents : List C) (mark second : Bool) (marks : List Bool) (upper : List Expr) (low high : ℤ) →
       Spans contains number items low (zipped (upper ∷ uppers) (one ∷ other ∷ contents) (mark ∷ second ∷ marks)) high →

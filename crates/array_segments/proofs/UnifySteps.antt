@@ -51,9 +51,6 @@ rows_next first length_of width under =
     let e : length_of - first ≡ suc (length_of - (first + 1)) = omega arith in
     ap (λ more. rows first more width) e ∙ ap (λ next. row first 0 width ++ rows next (length_of - (first + 1)) width) (sym (add-one first))
 
-pub rows_done : (first length_of width : ℕ) → length_of ≤ first → rows first (length_of - first) width ≡ []
-rows_done first length_of width past = let e : length_of - first ≡ 0 = omega arith in ap (λ more. rows first more width) e
-
 module _ {C : Type 0} (hull make : C → C → C) (full : C) (pairs : Pairing) (end : Expr) (a b : Lists C) where
   -- A place that falls below the last one is passed over.
   fallen_one : (last place : Place) (places : List Place) (falls : Bool) → falls ≡ true →

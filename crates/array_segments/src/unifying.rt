@@ -255,9 +255,9 @@ impl<C: Values> Sides<'_, C> {
 }
 
 impl<C: Values> Segs<C> {
-    /// The segments of two states as one, between the bounds that they have in common: places of both sides at which
-    /// expressions of both are paired. A content is the hull of what both sides have there; a segment may not be empty
-    /// where each side has one there that may not. `length` is the array's length in the new names.
+    /// Joins the segments of two states. A place of each side makes a common bound where expressions at the two have a
+    /// common name. Between two common bounds the contents of both become one hull, and the segment is marked unless
+    /// each side has an unmarked one there. `length` is the array's length in the new names.
     ///
     /// Each bound of this side is compared with the other side's from the last common one on.
     pub fn unify(

@@ -94,11 +94,11 @@ pub fn assume(numbers: &mut Numbers, argument: &str, holds: bool) -> Result<bool
     Ok(numbers.assume_cmp(op, a, b, holds)?)
 }
 
-/// `after s1 in 0..9`, or `after unreachable`: all that is known.
+/// `after s1 in 0..9`, or `after unreachable`: all that is known, as a copy tells it.
 pub fn after(alloc: Global, numbers: &Option<Numbers>, told: &str) -> Result<(), Failure> {
     let found = match numbers {
         None => String::from_str(alloc, "unreachable")?,
-        Some(numbers) => facts_text(alloc, numbers)?,
+        Some(numbers) => facts_text(alloc, &numbers.copy(alloc)?)?,
     };
     check(found, told)
 }

@@ -141,8 +141,8 @@ impl Numbers {
     }
 
     /// Returns what a comparison pushes: 1 where it is known to be true and 0 where it is known to be false, else a
-    /// new symbol that is one of the two and has the comparison as its definition. Each operator that is none is taken
-    /// for one of which nothing is known.
+    /// new symbol that is one of the two and has the comparison as its definition. An operator that is no comparison
+    /// gives its result of two constants, and else a new symbol without a definition.
     ///
     /// # Errors
     ///
