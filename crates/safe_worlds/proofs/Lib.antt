@@ -1,0 +1,4 @@
+pub mod EffectsReach
+pub mod StepsReach
+pub mod CutLemmas
+pub mod SafeWorlds
