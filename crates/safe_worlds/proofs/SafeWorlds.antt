@@ -1,5 +1,5 @@
--- In a world whose units are well formed and agree, frames keep within their reach, runs are cut, no run is stuck, and where
--- each unit is safe by itself, each method is safe.
+-- In a world whose units are well formed and agree, frames keep within their reach, runs are cut, no run is stuck, and
+-- where each unit is safe by itself, each method is safe.
 use Rattle.std.proofs.Common.{◌≡◌, ℕ, zero, suc, List, [], ◌∷◌, ◌++◌, length, Option, Some, None, slice_get, refl, sym, ap, subst, ◌∙◌}
 use Rattle.std.specs.List.{AllByRecursion}
 use Rattle.std.proofs.lemmas.Option.{none-some, same_Some}
@@ -35,13 +35,15 @@ use Rattle.safe_worlds.proofs.StepsReach.{IsUnderWay, args_in_reach, keeps_call,
 
 -- ---- what holds of each unit
 
-of_unit : (P : MethodUnit → Type 0) (units : List MethodUnit) (m : ℕ) (unit : MethodUnit) → AllByRecursion P units → slice_get units m ≡ Some unit → P unit
+of_unit : (P : MethodUnit → Type 0) (units : List MethodUnit) (m : ℕ) (unit : MethodUnit) → AllByRecursion P units
+    → slice_get units m ≡ Some unit → P unit
 of_unit P [] m unit all e = absurd (none-some unit e)
 of_unit P (u ∷ units) zero unit all e = subst P (same_Some u unit e) all.0
 of_unit P (u ∷ units) (suc m) unit all e = of_unit P units m unit all.1 e
 
 pub all_make_values : (w : World) → AllByRecursion IsWellFormed w.units → AllMakeValues w
-all_make_values w formed m unit is = let one = of_unit IsWellFormed w.units m unit formed is in code_makes_values unit one.code one.locals
+all_make_values w formed m unit is =
+    let one = of_unit IsWellFormed w.units m unit formed is in code_makes_values unit one.code one.locals
 
 -- ---- frames
 
@@ -55,8 +57,11 @@ module _ (w : World) (make : AllMakeValues w) (after : Heap) where
       let calling = waits.calling in
       let is : IsUnderWay waits.comes.unit (entry_of calling) calling entry.heap =
       comes_under_way w make (entry_of calling) (configs.Live (calling ∷ []) entry.heap) waits.comes in
-      let passed = args_in_reach (entry_of calling) entry.heap waits.callee.args calling.stack entry.args is.reach.stack waits.args_are in
-      let behind : KeepsItsReach (entry_of calling) (behind_call waits.instr (length waits.callee.args) calling) after = record {
+      let passed =
+      args_in_reach (entry_of calling) entry.heap waits.callee.args calling.stack entry.args is.reach.stack
+      waits.args_are in
+      let resumed = behind_call waits.instr (length waits.callee.args) calling in
+      let behind : KeepsItsReach (entry_of calling) resumed after = record {
         args = is.reach.args;
         locals = is.reach.locals;
         stack = all_drop (IsInReach (entry_of calling)) (length waits.callee.args) calling.stack is.reach.stack;
@@ -69,7 +74,8 @@ module _ (w : World) (make : AllMakeValues w) (after : Heap) where
   first_keeps [] f all = all.0.keeps
   first_keeps (g ∷ callers) f all = all.0.keeps
 
-  all_keep : (callers : List Frame) (f : Frame) → AllWait w callers (entry_of f) → Keeps f → AllByRecursion Keeps (callers ++ f ∷ [])
+  all_keep : (callers : List Frame) (f : Frame) → AllWait w callers (entry_of f) → Keeps f
+      → AllByRecursion Keeps (callers ++ f ∷ [])
   all_keep [] f waiting keeps = (keeps, tt)
   all_keep (g ∷ callers) f waiting keeps =
       let others = all_keep callers f waiting.1 keeps in
@@ -81,15 +87,18 @@ module _ (w : World) (make : AllMakeValues w) (after : Heap) where
       subst (AllByRecursion Keeps) (sym cut.are) (all_keep cut.callers cut.last cut.waiting is.reach)
 
   frame_returns : (start : Entry) (callers : List Frame) (f : Frame) (unit : MethodUnit) (result : Option Value)
-      → AreCut w start (callers ++ f ∷ []) after → slice_get w.units f.unit ≡ Some unit → result_of after unit.result f.stack ≡ Some result
+      → AreCut w start (callers ++ f ∷ []) after → slice_get w.units f.unit ≡ Some unit
+      → result_of after unit.result f.stack ≡ Some result
       → ensures_fault unit f after result ≡ None → FreeReturn (info_of unit) f.entry_args f.entry_heap after result
   frame_returns start callers f unit result cut of is ensured =
       let (below, last) = same_last cut.callers callers cut.last f (sym cut.are) in
       let comes : ComesTo w (entry_of f) (configs.Live (f ∷ []) after) =
       subst (λ (g : Frame). ComesTo w (entry_of g) (configs.Live (g ∷ []) after)) last cut.comes in
-      let way : IsUnderWay comes.unit (entry_of f) f after = comes_under_way w make (entry_of f) (configs.Live (f ∷ []) after) comes in
+      let way : IsUnderWay comes.unit (entry_of f) f after =
+      comes_under_way w make (entry_of f) (configs.Live (f ∷ []) after) comes in
       let same : comes.unit ≡ unit = same_Some comes.unit unit (sym comes.unit_is ∙ of) in
-      returns_freely unit f after result (subst (λ (u : MethodUnit). IsUnderWay u (entry_of f) f after) same way) is ensured
+      returns_freely unit f after result
+      (subst (λ (u : MethodUnit). IsUnderWay u (entry_of f) f after) same way) is ensured
 
 -- ---- steps
 
@@ -100,7 +109,8 @@ module _ (w : World) (agree : Agree w) (callers : List Frame) (unit : MethodUnit
       → (new : Config) × CallsBy (WorldCall w callers) call callers unit i f heap new
   call_in_world (Some (calls.Callee number)) next row =
       let named = agree.entries f.unit unit number row.callee of row.callee_is in
-      let are : args_of heap named.named.args f.stack ≡ Some row.args = ap (λ (c : CalleeInfo). args_of heap c.args f.stack) (sym named.same) ∙ row.args_are in
+      let are : args_of heap named.named.args f.stack ≡ Some row.args =
+      ap (λ (c : CalleeInfo). args_of heap c.args f.stack) (sym named.same) ∙ row.args_are in
       world_call_defined w callers number named.index named.named row.args i f heap named.index_is named.named_is are
   call_in_world _ next (effect, has, to) = (config_after callers f i effect, (effect, has, refl))
 
@@ -111,8 +121,10 @@ module _ (w : World) (agree : Agree w) (callers : List Frame) (unit : MethodUnit
   row_in_world _ next (effect, has, to) = (config_after callers f i effect, (effect, has, refl))
 
 -- Frames that are cut have a step where the last one has one by itself.
-live_defined : (w : World) (start : Entry) (frames : List Frame) (heap : Heap) → Agree w → (cut : AreCut w start frames heap)
-    → IsDefined (LocalStep cut.comes.unit) (configs.Live (cut.last ∷ []) heap) → IsDefined (Step w) (configs.Live frames heap)
+live_defined : (w : World) (start : Entry) (frames : List Frame) (heap : Heap) → Agree w
+    → (cut : AreCut w start frames heap)
+    → IsDefined (LocalStep cut.comes.unit) (configs.Live (cut.last ∷ []) heap)
+    → IsDefined (Step w) (configs.Live frames heap)
 live_defined w start frames heap agree cut (next, (i, found, row)) =
     let comes = cut.comes in
     let (new, there) = row_in_world w agree cut.callers comes.unit i cut.last heap comes.unit_is i.op next row in
@@ -126,7 +138,8 @@ module _ (w : World) (agree : Agree w) (make : AllMakeValues w) where
 
   pub keep : FramesKeep w
   keep m args heap n frames after runs =
-      frames_keep w make after (record { unit = m; args = args; heap = heap }) frames (cut m args heap n (configs.Live frames after) runs)
+      frames_keep w make after (record { unit = m; args = args; heap = heap }) frames
+      (cut m args heap n (configs.Live frames after) runs)
 
   pub return_freely : ReturnsAreFree w
   return_freely m args heap n callers f after unit result runs of is ensured =
@@ -141,20 +154,23 @@ module _ (w : World) (agree : Agree w) (make : AllMakeValues w) where
           let f = is.last in
           let comes = is.comes in
           live_defined w (record { unit = m; args = args; heap = heap }) frames after agree is
-          (stuck f.unit comes.unit comes.unit_is f.unit f.entry_args f.entry_heap comes.count (configs.Live (f ∷ []) after) comes.runs)
+          (stuck f.unit comes.unit comes.unit_is f.unit f.entry_args f.entry_heap comes.count
+          (configs.Live (f ∷ []) after) comes.runs)
       config_defined _ is = tt
 
   -- Units that are safe by themselves are safe in the world.
   pub safe : AllByRecursion LocalSafe w.units → AreSafe w
   safe all m args heap n c runs = (
     no_fault c (cut m args heap n c runs),
-    defined (λ k unit is index vs h count d local. (of_unit LocalSafe w.units k unit all is index vs h count d local).1) m args heap n c runs,
+    defined (λ k unit is index vs h count d local. (of_unit LocalSafe w.units k unit all is index vs h count d local).1)
+        m args heap n c runs,
   )
     where
       no_fault : (c : Config) → IsCut w (record { unit = m; args = args; heap = heap }) c → IsNoFault c
       no_fault (configs.Fault kind unit at) is =
           let comes = is.comes in
-          (of_unit LocalSafe w.units unit comes.unit all comes.unit_is unit is.args is.heap comes.count (configs.Fault kind unit at) comes.runs).0
+          (of_unit LocalSafe w.units unit comes.unit all comes.unit_is unit is.args is.heap comes.count
+          (configs.Fault kind unit at) comes.runs).0
       no_fault _ is = tt
 
 -- ---- worlds of well formed units
@@ -178,7 +194,8 @@ module _ (w : World) (agree : Agree w) (formed : AllByRecursion IsWellFormed w.u
 
   pub runs_are_defined : RunsAreDefined w
   runs_are_defined =
-      defined w agree (all_make_values w formed) (λ m unit is. formed_never_stuck unit (of_unit IsWellFormed w.units m unit formed is))
+      defined w agree (all_make_values w formed)
+      (λ m unit is. formed_never_stuck unit (of_unit IsWellFormed w.units m unit formed is))
 
   -- Where each unit is safe by itself, each method is safe, recursion included.
   pub world_is_safe : AllByRecursion LocalSafe w.units → AreSafe w

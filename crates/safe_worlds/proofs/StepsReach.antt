@@ -44,20 +44,25 @@ pub each_contained : (P : Value → Type 0) (vs : List Value) (v : Value) → Al
 each_contained P vs v all contained = All-contains P vs v (All-from_recursion P vs all) contained
 
 -- What is passed on, or made later, is in reach.
-passed_on : (entry : Entry) (heap : Heap) (args : List Value) (v : Value) → length entry.heap ≤ length heap → AllByRecursion (IsInReach entry) args
+passed_on : (entry : Entry) (heap : Heap) (args : List Value) (v : Value) → length entry.heap ≤ length heap
+    → AllByRecursion (IsInReach entry) args
     → IsPassedOrNew heap args (Some v) → IsInReach entry v
-passed_on entry heap args (Array a) more are (inl contained) = each_contained (IsInReach entry) args (Array a) are contained
+passed_on entry heap args (Array a) more are (inl contained) =
+    each_contained (IsInReach entry) args (Array a) are contained
 passed_on entry heap args (Array a) more are (inr new) = inr (omega arith)
 passed_on entry heap args _ more are is = tt
 
 -- An array that was there and was not passed is out of reach.
-out_of_reach : (entry : Entry) (a : ℕ) → a < length entry.heap → (Contains entry.args (Array a) → ⊥) → IsInReach entry (Array a) → ⊥
+out_of_reach : (entry : Entry) (a : ℕ) → a < length entry.heap → (Contains entry.args (Array a) → ⊥)
+    → IsInReach entry (Array a) → ⊥
 out_of_reach entry a below apart (inl contained) = apart contained
 out_of_reach entry a below apart (inr new) = omega arith
 
 -- Arrays that keep to an entry, over a heap in which nothing changes but what is in reach.
-pub keeps_in_reach : (entry : Entry) (heap after : Heap) → KeepsArrays entry.heap heap entry.args → KeepsForms heap after
-    → ((a : ℕ) → a < length heap → (IsInReach entry (Array a) → ⊥) → slice_get after a ≡ slice_get heap a) → KeepsArrays entry.heap after entry.args
+pub keeps_in_reach : (entry : Entry) (heap after : Heap) → KeepsArrays entry.heap heap entry.args
+    → KeepsForms heap after
+    → ((a : ℕ) → a < length heap → (IsInReach entry (Array a) → ⊥) → slice_get after a ≡ slice_get heap a)
+    → KeepsArrays entry.heap after entry.args
 keeps_in_reach entry heap after keeps kept items = record {
   forms = keeps_on entry.heap heap after keeps.forms kept;
   items = λ a below apart.
@@ -66,17 +71,21 @@ keeps_in_reach entry heap after keeps kept items = record {
 }
 
 -- A call whose arguments are in reach changes nothing else.
-pub keeps_call : (entry : Entry) (heap after : Heap) (args : List Value) → KeepsArrays entry.heap heap entry.args → AllByRecursion (IsInReach entry) args
+pub keeps_call : (entry : Entry) (heap after : Heap) (args : List Value) → KeepsArrays entry.heap heap entry.args
+    → AllByRecursion (IsInReach entry) args
     → KeepsArrays heap after args → KeepsArrays entry.heap after entry.args
 keeps_call entry heap after args keeps are call =
     keeps_in_reach entry heap after keeps call.forms
-    (λ a below apart. call.items a below (λ contained. apart (each_contained (IsInReach entry) args (Array a) are contained)))
+    (λ a below apart. call.items a below
+    (λ contained. apart (each_contained (IsInReach entry) args (Array a) are contained)))
 
-pub args_in_reach : (entry : Entry) (heap : Heap) (types : List Place) (stack args : List Value) → AllByRecursion (IsInReach entry) stack
+pub args_in_reach : (entry : Entry) (heap : Heap) (types : List Place) (stack args : List Value)
+    → AllByRecursion (IsInReach entry) stack
     → args_of heap types stack ≡ Some args → AllByRecursion (IsInReach entry) args
 args_in_reach entry heap types stack args are e =
     let P = IsInReach entry in
-    put_all_reach entry heap types (reverse (take (length types) stack)) args (all_reverse P (take (length types) stack) (all_take P (length types) stack are)) e
+    put_all_reach entry heap types (reverse (take (length types) stack)) args
+    (all_reverse P (take (length types) stack) (all_take P (length types) stack are)) e
 
 -- ---- a step of one frame
 
@@ -87,13 +96,15 @@ StepInReach entry f heap (configs.Live _ after) = ⊥
 StepInReach entry f heap _ = Unit {0}
 
 no_caller : (outer : List Frame) (caller : Frame) → [] ≡ outer ++ caller ∷ [] → ⊥
-no_caller outer caller e = let lengths : 0 ≡ length (outer ++ caller ∷ []) = ap length e in omega (arith, length-append outer (caller ∷ []))
+no_caller outer caller e =
+    let lengths : 0 ≡ length (outer ++ caller ∷ []) = ap length e in omega (arith, length-append outer (caller ∷ []))
 
 module _ (entry : Entry) (unit : MethodUnit) (f : Frame) (heap : Heap) (reach : KeepsItsReach entry f heap) where
   more : length entry.heap ≤ length heap
   more = no_shorter entry.heap heap reach.keeps.forms
 
-  effect_steps : (i : Instr) (effect : Effect) → EffectInReach entry f heap effect → StepInReach entry f heap (config_after [] f i effect)
+  effect_steps : (i : Instr) (effect : Effect) → EffectInReach entry f heap effect
+      → StepInReach entry f heap (config_after [] f i effect)
   effect_steps i (GoesOn new after) on = on
   effect_steps i (Faults kind) on = tt
   effect_steps i Assumes on = tt
@@ -101,34 +112,45 @@ module _ (entry : Entry) (unit : MethodUnit) (f : Frame) (heap : Heap) (reach : 
 
   row_of_effects : (i : Instr) (new : Config) → EffectRow [] unit i f heap new → StepInReach entry f heap new
   row_of_effects i new (effect, has, to) =
-      subst (StepInReach entry f heap) (sym to) (effect_steps i effect (effect_in_reach entry unit i f heap more reach.args reach.locals effect reach.stack has))
+      subst (StepInReach entry f heap) (sym to)
+      (effect_steps i effect
+      (effect_in_reach entry unit i f heap more reach.args reach.locals effect reach.stack has))
 
   -- The frame after a call, with its result.
-  resumed : (i : Instr) (count : ℕ) (args : List Value) (after : Heap) (result : Option Value) → AllByRecursion (IsInReach entry) args
-      → KeepsArrays heap after args → IsPassedOrNew heap args result → GoesOnInReach entry f heap (pushed (behind_call i count f) result) after
+  resumed : (i : Instr) (count : ℕ) (args : List Value) (after : Heap) (result : Option Value)
+      → AllByRecursion (IsInReach entry) args
+      → KeepsArrays heap after args → IsPassedOrNew heap args result
+      → GoesOnInReach entry f heap (pushed (behind_call i count f) result) after
   resumed i count args after None are keeps is = record {
     same = refl;
     args = reach.args;
     locals = reach.locals;
     stack = all_drop (IsInReach entry) count f.stack reach.stack;
-    items = λ a below apart. keeps.items a below (λ contained. apart (each_contained (IsInReach entry) args (Array a) are contained));
+    items =
+        λ a below apart. keeps.items a below
+        (λ contained. apart (each_contained (IsInReach entry) args (Array a) are contained));
   }
   resumed i count args after (Some v) are keeps is = record {
     same = refl;
     args = reach.args;
     locals = reach.locals;
     stack = (passed_on entry heap args v more are is, all_drop (IsInReach entry) count f.stack reach.stack);
-    items = λ a below apart. keeps.items a below (λ contained. apart (each_contained (IsInReach entry) args (Array a) are contained));
+    items =
+        λ a below apart. keeps.items a below
+        (λ contained. apart (each_contained (IsInReach entry) args (Array a) are contained));
   }
 
-  freely_called : (callee : CalleeInfo) (args : List Value) (i : Instr) (fault : Option ℕ) (new : Config) → AllByRecursion (IsInReach entry) args
+  freely_called : (callee : CalleeInfo) (args : List Value) (i : Instr) (fault : Option ℕ) (new : Config)
+      → AllByRecursion (IsInReach entry) args
       → FreelyCalled callee args i f heap fault new → StepInReach entry f heap new
   freely_called callee args i (Some k) new are to = subst (StepInReach entry f heap) (sym to) tt
   freely_called callee args i None new are (inl ends) = subst (StepInReach entry f heap) (sym ends) tt
   freely_called callee args i None new are (inr (after, result, free, to)) =
-      subst (StepInReach entry f heap) (sym to) (resumed i (length callee.args) args after result are free.keeps free.passed_or_new)
+      subst (StepInReach entry f heap) (sym to)
+      (resumed i (length callee.args) args after result are free.keeps free.passed_or_new)
 
-  call_steps : (call : Option UnitCall) (i : Instr) (new : Config) → CallsBy (FreeCall unit) call [] unit i f heap new → StepInReach entry f heap new
+  call_steps : (call : Option UnitCall) (i : Instr) (new : Config) → CallsBy (FreeCall unit) call [] unit i f heap new
+      → StepInReach entry f heap new
   call_steps (Some (calls.Callee number)) i new row =
       freely_called row.callee row.args i (false_requires row.callee.clauses row.args heap) new
       (args_in_reach entry heap row.callee.args f.stack row.args reach.stack row.args_are) row.freely
@@ -138,16 +160,20 @@ module _ (entry : Entry) (unit : MethodUnit) (f : Frame) (heap : Heap) (reach : 
   returns_step result new (inl ends) = subst (StepInReach entry f heap) (sym ends.1) tt
   returns_step result new (inr (outer, caller, none, to)) = absurd (no_caller outer caller none)
 
-  returned_steps : (i : Instr) (result : Option Value) (fault : Option ℕ) (new : Config) → Returned [] i f heap result fault new → StepInReach entry f heap new
+  returned_steps : (i : Instr) (result : Option Value) (fault : Option ℕ) (new : Config)
+      → Returned [] i f heap result fault new → StepInReach entry f heap new
   returned_steps i result (Some k) new to = subst (StepInReach entry f heap) (sym to) tt
   returned_steps i result None new to = returns_step result new to
 
-  row_steps : (op : Op) (i : Instr) (new : Config) → Row (FreeCall unit) op [] unit i f heap new → StepInReach entry f heap new
-  row_steps ops.Return i new (result, is_result, returned) = returned_steps i result (ensures_fault unit f heap result) new returned
+  row_steps : (op : Op) (i : Instr) (new : Config) → Row (FreeCall unit) op [] unit i f heap new
+      → StepInReach entry f heap new
+  row_steps ops.Return i new (result, is_result, returned) =
+      returned_steps i result (ensures_fault unit f heap result) new returned
   row_steps (ops.Call number) i new row = call_steps (unit_call number) i new row
   row_steps _ i new row = row_of_effects i new row
 
-  pub local_step_in_reach : (new : Config) → LocalStep unit (configs.Live (f ∷ []) heap) new → StepInReach entry f heap new
+  pub local_step_in_reach : (new : Config) → LocalStep unit (configs.Live (f ∷ []) heap) new
+      → StepInReach entry f heap new
   local_step_in_reach new (i, found, row) = row_steps i.op i new row
 
 -- ---- runs of one unit
@@ -164,30 +190,41 @@ ConfigUnderWay unit entry (configs.Live (f ∷ []) heap) = IsUnderWay unit entry
 ConfigUnderWay unit entry (configs.Live _ heap) = ⊥
 ConfigUnderWay unit entry _ = Unit {0}
 
-went_on : (unit : MethodUnit) (entry : Entry) (f : Frame) (heap : Heap) (new : Config) → IsUnderWay unit entry f heap → KeepsFrame unit f heap new
+went_on : (unit : MethodUnit) (entry : Entry) (f : Frame) (heap : Heap) (new : Config) → IsUnderWay unit entry f heap
+    → KeepsFrame unit f heap new
     → StepInReach entry f heap new → ConfigUnderWay unit entry new
 went_on unit entry f heap (configs.Live (g ∷ []) after) is kept on = record {
   began = on.same ∙ is.began;
   heap_is = kept.0;
   frame = kept.1;
-  reach = record { args = on.args; locals = on.locals; stack = on.stack; keeps = keeps_in_reach entry heap after is.reach.keeps kept.3 on.items };
+  reach =
+      record {
+        args = on.args;
+        locals = on.locals;
+        stack = on.stack;
+        keeps = keeps_in_reach entry heap after is.reach.keeps kept.3 on.items;
+      };
 }
 went_on unit entry f heap (configs.Live [] after) is kept on = absurd kept
 went_on unit entry f heap (configs.Live (g ∷ h ∷ frames) after) is kept on = absurd kept
 went_on unit entry f heap _ is kept on = tt
 
-one_step : (unit : MethodUnit) (entry : Entry) (c new : Config) → MakesValues unit → ConfigUnderWay unit entry c → LocalStep unit c new
+one_step : (unit : MethodUnit) (entry : Entry) (c new : Config) → MakesValues unit → ConfigUnderWay unit entry c
+    → LocalStep unit c new
     → ConfigUnderWay unit entry new
 one_step unit entry (configs.Live (f ∷ []) heap) new makes is step =
-    went_on unit entry f heap new is (local_step_keeps unit f heap is.heap_is is.frame new makes step) (local_step_in_reach entry unit f heap is.reach new step)
+    went_on unit entry f heap new is (local_step_keeps unit f heap is.heap_is is.frame new makes step)
+    (local_step_in_reach entry unit f heap is.reach new step)
 one_step unit entry (configs.Live [] heap) new makes is step = absurd is
 one_step unit entry (configs.Live (f ∷ g ∷ frames) heap) new makes is step = absurd is
 one_step unit entry _ new makes is step = absurd step
 
-steps : (unit : MethodUnit) (entry : Entry) (start : Config) (n : ℕ) (c : Config) → MakesValues unit → ConfigUnderWay unit entry start
+steps : (unit : MethodUnit) (entry : Entry) (start : Config) (n : ℕ) (c : Config) → MakesValues unit
+    → ConfigUnderWay unit entry start
     → StepsTo (LocalStep unit) start n c → ConfigUnderWay unit entry c
 steps unit entry start zero c makes is same = subst (ConfigUnderWay unit entry) (sym same) is
-steps unit entry start (suc n) c makes is (mid, before, step) = one_step unit entry mid c makes (steps unit entry start n mid makes is before) step
+steps unit entry start (suc n) c makes is (mid, before, step) =
+    one_step unit entry mid c makes (steps unit entry start n mid makes is before) step
 
 -- Each argument was passed.
 passed_from : (heap : Heap) (args vs : List Value) → ((v : Value) → Contains vs v → Contains args v)
@@ -229,7 +266,8 @@ begun unit entry makes begins = record {
 pub local_runs_under_way : (unit : MethodUnit) (entry : Entry) (n : ℕ) (c : Config) → MakesValues unit
     → LocalRuns unit entry.unit entry.args entry.heap n c → ConfigUnderWay unit entry c
 local_runs_under_way unit entry n c makes runs =
-    steps unit entry (entry_config unit entry.unit entry.args entry.heap) n c makes (begun unit entry makes runs.begins) runs.steps
+    steps unit entry (entry_config unit entry.unit entry.args entry.heap) n c makes
+    (begun unit entry makes runs.begins) runs.steps
 
 -- ---- returns
 
@@ -241,17 +279,24 @@ place_fits_result heap places.Bools v fits = fits
 place_fits_result heap places.Ints v fits = fits
 
 -- A result fits its place and is in reach.
-put_given : (entry : Entry) (heap : Heap) (place : Place) (v : Value) (result : Option Value) → IsValue heap v → IsInReach entry v
-    → option_map Some (put heap place v) ≡ Some result → FitsResult heap place result × IsPassedOrNew entry.heap entry.args result
+put_given : (entry : Entry) (heap : Heap) (place : Place) (v : Value) (result : Option Value) → IsValue heap v
+    → IsInReach entry v
+    → option_map Some (put heap place v) ≡ Some result
+    → FitsResult heap place result × IsPassedOrNew entry.heap entry.args result
 put_given entry heap place v result is reach e =
     let (new, put_is, same) = map_from Some (put heap place v) result e in
-    subst (λ (r : Option Value). FitsResult heap place r × IsPassedOrNew entry.heap entry.args r) (sym same)
-    (place_fits_result heap place new (put_fits heap place v new is put_is), put_reach entry heap place v new reach put_is)
+    subst (λ (r : Option Value). FitsResult heap place r × IsPassedOrNew entry.heap entry.args r) (sym same) (
+      place_fits_result heap place new (put_fits heap place v new is put_is),
+      put_reach entry heap place v new reach put_is,
+    )
 
-result_given : (entry : Entry) (heap : Heap) (place : Place) (stack : List Value) (result : Option Value) → AllByRecursion (IsValue heap) stack
-    → AllByRecursion (IsInReach entry) stack → result_of heap place stack ≡ Some result → FitsResult heap place result × IsPassedOrNew entry.heap entry.args result
+result_given : (entry : Entry) (heap : Heap) (place : Place) (stack : List Value) (result : Option Value)
+    → AllByRecursion (IsValue heap) stack
+    → AllByRecursion (IsInReach entry) stack → result_of heap place stack ≡ Some result
+    → FitsResult heap place result × IsPassedOrNew entry.heap entry.args result
 result_given entry heap places.Void [] result values reach e =
-    subst (λ (r : Option Value). FitsResult heap places.Void r × IsPassedOrNew entry.heap entry.args r) (same_Some None result e) (tt, tt)
+    subst (λ (r : Option Value). FitsResult heap places.Void r × IsPassedOrNew entry.heap entry.args r)
+    (same_Some None result e) (tt, tt)
 result_given entry heap places.Bool [] result values reach e = absurd (none-some result e)
 result_given entry heap places.Int [] result values reach e = absurd (none-some result e)
 result_given entry heap places.Bools [] result values reach e = absurd (none-some result e)
@@ -260,7 +305,8 @@ result_given entry heap place (v ∷ []) result values reach e = put_given entry
 result_given entry heap place (v ∷ w ∷ stack) result values reach e = absurd (none-some result e)
 
 -- What a frame may return is what a free call of its unit may give.
-pub returns_freely : (unit : MethodUnit) (f : Frame) (heap : Heap) (result : Option Value) → IsUnderWay unit (entry_of f) f heap
+pub returns_freely : (unit : MethodUnit) (f : Frame) (heap : Heap) (result : Option Value)
+    → IsUnderWay unit (entry_of f) f heap
     → result_of heap unit.result f.stack ≡ Some result → ensures_fault unit f heap result ≡ None
     → FreeReturn (info_of unit) f.entry_args f.entry_heap heap result
 returns_freely unit f heap result is is_result ensured =

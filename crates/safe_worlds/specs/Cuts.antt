@@ -1,5 +1,5 @@
--- How a run of a world is cut: the frame that runs has come where it is by a run of its unit by itself, and each of its callers
--- has come so to the call at which it waits.
+-- How a run of a world is cut: the frame that runs has come where it is by a run of its unit by itself, and each of its
+-- callers has come so to the call at which it waits.
 use Rattle.std.specs.Prelude.{◌≡◌, ℕ, List, [], ◌∷◌, ◌++◌, length, Option, Some, None, slice_get}
 use Rattle.cil_model.specs.Calls.{FreeReturn, args_of, behind_call, clauses_in_force}
 use Rattle.cil_model.specs.Clauses.{false_requires}
@@ -25,9 +25,9 @@ pub record ComesTo (w : World) (entry : Entry) (c : Config) : Type 0 where
   pub count : ℕ
   pub runs : LocalRuns unit entry.unit entry.args entry.heap count c
 
--- The frame waits for what was entered there: its unit by itself came to a call over the heap at the entry, whose callee is
--- the unit that was entered and whose arguments are those at the entry; what it requires is true; and the frame is what goes
--- on after the call, without the arguments.
+-- The frame waits for what was entered there: its unit by itself came to a call over the heap at the entry, whose
+-- callee is the unit that was entered and whose arguments are those at the entry; what it requires is true; and the
+-- frame is what goes on after the call, without the arguments.
 pub record Waits (w : World) (f : Frame) (above : Entry) : Type 0 where
   pub calling : Frame
   pub comes : ComesTo w (entry_of calling) (configs.Live (calling ∷ []) above.heap)
@@ -74,7 +74,8 @@ pub record FaultsAlone (w : World) (kind : FaultKind) (unit at : ℕ) : Type 0 w
   pub heap : Heap
   pub comes : ComesTo w (record { unit = unit; args = args; heap = heap }) (configs.Fault kind unit at)
 
--- What a run from the start comes to: frames that are cut, a result that the call may give, or a fault of a unit by itself.
+-- What a run from the start comes to: frames that are cut, a result that the call may give, or a fault of a unit by
+-- itself.
 abbrev pub IsCut : World → Entry → Config → Type 0
 IsCut w start (configs.Live frames heap) = AreCut w start frames heap
 IsCut w start (configs.Returned result) = GivesFreely w start result

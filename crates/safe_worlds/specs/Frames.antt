@@ -15,8 +15,8 @@ entry_of f = record { unit = f.unit; args = f.entry_args; heap = f.entry_heap }
 abbrev pub IsInReach : Entry → Value → Type 0
 IsInReach entry v = IsPassedOrNew entry.heap entry.args (Some v)
 
--- A frame of this entry has only what it can come to, and each earlier array has its type and its length as at the entry, and
--- its items too unless it was passed.
+-- A frame of this entry has only what it can come to, and each earlier array has its type and its length as at the
+-- entry, and its items too unless it was passed.
 pub record KeepsItsReach (entry : Entry) (f : Frame) (heap : Heap) : Type 0 where
   pub args : AllByRecursion (IsInReach entry) f.args
   pub locals : AllByRecursion (IsInReach entry) f.locals
