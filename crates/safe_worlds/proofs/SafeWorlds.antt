@@ -28,7 +28,7 @@ use Rattle.cil_model.proofs.StepsKeep.{AllMakeValues, code_makes_values}
 use Rattle.cil_model.proofs.TypedCode.{formed_never_stuck}
 use Rattle.safe_worlds.specs.Cuts.{AllWait, AreCut, ComesTo, IsCut, Waits, first_entry}
 use Rattle.safe_worlds.specs.Frames.{IsInReach, KeepsItsReach, entry_of}
-use Rattle.safe_worlds.specs.Worlds.{AreSafe, FaultsAreLocal, FramesKeep, ReturnsAreFree, RunsAreCut, RunsAreDefined, RunsGiveFreely}
+use Rattle.safe_worlds.specs.Worlds.{AreSafe, FaultsAreLocal, FramesKeep, LastIsLocal, ReturnsAreFree, RunsAreCut, RunsAreDefined, RunsGiveFreely}
 use Rattle.safe_worlds.specs.declared.entry.Entry.{Entry}
 use Rattle.safe_worlds.proofs.CutLemmas.{comes_under_way, runs_cut, same_last}
 use Rattle.safe_worlds.proofs.StepsReach.{IsUnderWay, args_in_reach, keeps_call, returns_freely}
@@ -86,14 +86,17 @@ module _ (w : World) (make : AllMakeValues w) (after : Heap) where
       let is = comes_under_way w make (entry_of cut.last) (configs.Live (cut.last ∷ []) after) cut.comes in
       subst (AllByRecursion Keeps) (sym cut.are) (all_keep cut.callers cut.last cut.waiting is.reach)
 
-  frame_returns : (start : Entry) (callers : List Frame) (f : Frame) (unit : MethodUnit) (result : Option Value)
-      → AreCut w start (callers ++ f ∷ []) after → slice_get w.units f.unit ≡ Some unit
-      → result_of after unit.result f.stack ≡ Some result
-      → ensures_fault unit f after result ≡ None → FreeReturn (info_of unit) f.entry_args f.entry_heap after result
-  frame_returns start callers f unit result cut of is ensured =
+  last_comes : (start : Entry) (callers : List Frame) (f : Frame) → AreCut w start (callers ++ f ∷ []) after
+      → ComesTo w (entry_of f) (configs.Live (f ∷ []) after)
+  last_comes start callers f cut =
       let (below, last) = same_last cut.callers callers cut.last f (sym cut.are) in
-      let comes : ComesTo w (entry_of f) (configs.Live (f ∷ []) after) =
-      subst (λ (g : Frame). ComesTo w (entry_of g) (configs.Live (g ∷ []) after)) last cut.comes in
+      subst (λ (g : Frame). ComesTo w (entry_of g) (configs.Live (g ∷ []) after)) last cut.comes
+
+  frame_returns : (f : Frame) (unit : MethodUnit) (result : Option Value)
+      → ComesTo w (entry_of f) (configs.Live (f ∷ []) after)
+      → slice_get w.units f.unit ≡ Some unit → result_of after unit.result f.stack ≡ Some result
+      → ensures_fault unit f after result ≡ None → FreeReturn (info_of unit) f.entry_args f.entry_heap after result
+  frame_returns f unit result comes of is ensured =
       let way : IsUnderWay comes.unit (entry_of f) f after =
       comes_under_way w make (entry_of f) (configs.Live (f ∷ []) after) comes in
       let same : comes.unit ≡ unit = same_Some comes.unit unit (sym comes.unit_is ∙ of) in
@@ -133,20 +136,24 @@ live_defined w start frames heap agree cut (next, (i, found, row)) =
 -- ---- runs of a world whose units make values and agree
 
 module _ (w : World) (agree : Agree w) (make : AllMakeValues w) where
-  pub cut : RunsAreCut w
+  cut : RunsAreCut w
   cut m args heap n c runs = runs_cut w make agree m args heap n c runs
 
-  pub keep : FramesKeep w
+  keep : FramesKeep w
   keep m args heap n frames after runs =
       frames_keep w make after (record { unit = m; args = args; heap = heap }) frames
       (cut m args heap n (configs.Live frames after) runs)
 
-  pub return_freely : ReturnsAreFree w
-  return_freely m args heap n callers f after unit result runs of is ensured =
-      frame_returns w make after (record { unit = m; args = args; heap = heap }) callers f unit result
-      (cut m args heap n (configs.Live (callers ++ f ∷ []) after) runs) of is ensured
+  last_is_local : LastIsLocal w
+  last_is_local m args heap n callers f after runs =
+      last_comes w make after (record { unit = m; args = args; heap = heap }) callers f
+      (cut m args heap n (configs.Live (callers ++ f ∷ []) after) runs)
 
-  pub defined : ((m : ℕ) (unit : MethodUnit) → slice_get w.units m ≡ Some unit → NeverStuck unit) → RunsAreDefined w
+  return_freely : ReturnsAreFree w
+  return_freely m args heap n callers f after unit result runs of is ensured =
+      frame_returns w make after f unit result (last_is_local m args heap n callers f after runs) of is ensured
+
+  defined : ((m : ℕ) (unit : MethodUnit) → slice_get w.units m ≡ Some unit → NeverStuck unit) → RunsAreDefined w
   defined stuck m args heap n c runs = config_defined c (cut m args heap n c runs)
     where
       config_defined : (c : Config) → IsCut w (record { unit = m; args = args; heap = heap }) c → IsDefined (Step w) c
@@ -178,6 +185,9 @@ module _ (w : World) (agree : Agree w) (make : AllMakeValues w) where
 module _ (w : World) (agree : Agree w) (formed : AllByRecursion IsWellFormed w.units) where
   pub runs_are_cut : RunsAreCut w
   runs_are_cut = cut w agree (all_make_values w formed)
+
+  pub last_comes_locally : LastIsLocal w
+  last_comes_locally = last_is_local w agree (all_make_values w formed)
 
   -- From a call to its return.
   pub frames_keep_reach : FramesKeep w

@@ -95,7 +95,7 @@ StepInReach entry f heap (configs.Live (g ∷ []) after) = GoesOnInReach entry f
 StepInReach entry f heap (configs.Live _ after) = ⊥
 StepInReach entry f heap _ = Unit {0}
 
-no_caller : (outer : List Frame) (caller : Frame) → [] ≡ outer ++ caller ∷ [] → ⊥
+pub no_caller : (outer : List Frame) (caller : Frame) → [] ≡ outer ++ caller ∷ [] → ⊥
 no_caller outer caller e =
     let lengths : 0 ≡ length (outer ++ caller ∷ []) = ap length e in omega (arith, length-append outer (caller ∷ []))
 

@@ -12,7 +12,7 @@ use Rattle.cil_model.specs.declared.machine.Frame.{Frame}
 use Rattle.cil_model.specs.declared.machine.Value.{Value}
 use Rattle.cil_model.specs.declared.machine.World.{World}
 use Rattle.cil_model.specs.declared.unit.Unit.{Unit as MethodUnit}
-use Rattle.safe_worlds.specs.Cuts.{FaultsAlone, GivesFreely, IsCut}
+use Rattle.safe_worlds.specs.Cuts.{ComesTo, FaultsAlone, GivesFreely, IsCut}
 use Rattle.safe_worlds.specs.Frames.{KeepsItsReach, entry_of}
 
 -- From a call until its frame is gone, each array that there was keeps its type and its length, and its items too
@@ -45,6 +45,13 @@ abbrev pub RunsAreCut : World → Type 0
 RunsAreCut w =
     (m : ℕ) (args : List Value) (heap : Heap) (n : ℕ) (c : Config) → Runs w m args heap n c
     → IsCut w (record { unit = m; args = args; heap = heap }) c
+
+-- The frame that runs has come where it is by a run of its unit by itself: what is true of those is true of it.
+abbrev pub LastIsLocal : World → Type 0
+LastIsLocal w =
+    (m : ℕ) (args : List Value) (heap : Heap) (n : ℕ) (callers : List Frame) (f : Frame) (after : Heap)
+    → Runs w m args heap n (configs.Live (callers ++ f ∷ []) after)
+    → ComesTo w (entry_of f) (configs.Live (f ∷ []) after)
 
 -- Each fault of a run is one of a run of its unit by itself, whatever the other units do.
 abbrev pub FaultsAreLocal : World → Type 0
