@@ -1,0 +1,5 @@
+pub mod FrameLemmas
+pub mod UseLemmas
+pub mod ListSteps
+pub mod SaidLaws
+pub mod BindingLaws

@@ -1,12 +1,11 @@
 -- Which new references of two frames that were named together are apart.
-use Rattle.std.specs.Prelude.{ℕ, suc, ◌+◌, ◌-◌, Bool, ◌&&◌, List, [], ◌∷◌, get_or, length, if◌then◌else◌}
+use Rattle.std.specs.Prelude.{ℕ, ◌-◌, Bool, true, false, ◌&&◌, List, [], length, if◌then◌else◌}
 use Rattle.std.specs.List.{fold, range_with_len}
 use Rattle.alias_facts.specs.NullnessOf.{must_differ}
 use Rattle.alias_facts.specs.PairsOf.{Pair, contains, ordered, with_pair}
-use Rattle.symbolic_values.specs.Pairing.{origin}
 use Rattle.symbolic_values.specs.declared.pairs.Key.{Key}
 use Rattle.frame_names.specs.Frames.{are_one_place, nullness_at, place_at}
-use Rattle.frame_names.specs.PairedFrames.{old_of}
+use Rattle.frame_names.specs.PairedFrames.{old_at}
 use Rattle.frame_names.specs.declared.reference.Reference.{Reference}
 
 -- ---- what a state tells
@@ -19,10 +18,6 @@ cannot_be_same known pairs r q =
 -- Two references of a state are kept apart.
 abbrev pub are_kept : List Pair → ℕ → ℕ → Bool
 are_kept pairs r q = contains pairs (ordered r q)
-
--- What a new reference was on a side. Reference 0 was null.
-abbrev pub old_at : Bool → List Key → ℕ → ℕ
-old_at is_first keys new = old_of is_first (get_or (origin ∷ keys) new origin)
 
 -- ---- the pairs of new references
 

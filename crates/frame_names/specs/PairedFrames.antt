@@ -1,9 +1,9 @@
 -- Two frames, named together.
-use Rattle.std.specs.Prelude.{ℕ, pos, negsuc, int_le, Bool, true, false, ◌&&◌, List, [], ◌∷◌, ◌++◌, length, drop, map, Option, Some, None, if◌then◌else◌}
+use Rattle.std.specs.Prelude.{ℕ, pos, negsuc, int_le, Bool, true, false, ◌&&◌, List, [], ◌∷◌, ◌++◌, length, drop, get_or, map, Option, Some, None, if◌then◌else◌}
 use Rattle.std.specs.List.{list_all}
 use Rattle.domain_api.specs.declared.expr.Expr.{Expr}
 use Rattle.symbolic_values.specs.Names.{paired_references}
-use Rattle.symbolic_values.specs.Pairing.{Pairing, paired}
+use Rattle.symbolic_values.specs.Pairing.{Pairing, origin, paired}
 use Rattle.symbolic_values.specs.declared.pairs.Key.{Key}
 use Rattle.frame_names.specs.Frames.{length_at, numbers_of, references_of}
 use Rattle.frame_names.specs.declared.reference.Reference.{Reference}
@@ -21,8 +21,9 @@ pub record FramePairing : Type 0 where
 abbrev pub old_of : Bool → Key → ℕ
 old_of is_first key = if is_first then key.s else key.t
 
-abbrev pub olds_of : Bool → List Key → List ℕ
-olds_of is_first keys = map (old_of is_first) keys
+-- What a new reference was on a side. Reference 0 was null.
+abbrev pub old_at : Bool → List Key → ℕ → ℕ
+old_at is_first keys new = old_of is_first (get_or (origin ∷ keys) new origin)
 
 -- ---- the new variables, from the new numbers and references that are left
 
@@ -43,25 +44,25 @@ new_vars numbers references (vars.Text ∷ vs) = vars.Text ∷ new_vars numbers 
 
 -- ---- the pairing
 
+abbrev pub pairs_of : List Var → List Var → Pairing
+pairs_of a b = paired_references (references_of a) (references_of b)
+
+abbrev pub named_frame : List Var → Pairing → Pairing → FramePairing
+named_frame vs references numbers = record {
+  references = references;
+  numbers = numbers;
+  vars = new_vars numbers.exprs references.exprs vs;
+  lengths = drop (length (numbers_of vs)) numbers.exprs;
+}
+
 module _ {C : Type 0} where
   -- The numbers of a side's variables, and then the lengths of its references that are paired.
-  abbrev pub exprs_of : List Var → List (Reference C) → List ℕ → List Expr
-  exprs_of vs references olds = numbers_of vs ++ map (length_at references) olds
-
-  abbrev pub pairs_of : List Var → List Var → Pairing
-  pairs_of a b = paired_references (references_of a) (references_of b)
+  abbrev pub exprs_of : List Var → List (Reference C) → Bool → List Key → List Expr
+  exprs_of vs references is_first keys = numbers_of vs ++ map (λ key. length_at references (old_of is_first key)) keys
 
   abbrev pub pairing_by : Pairing → List Var → List (Reference C) → List Var → List (Reference C) → Pairing
   pairing_by references a known b other =
-      paired (exprs_of a known (olds_of true references.keys)) (exprs_of b other (olds_of false references.keys))
-
-  abbrev pub named_frame : List Var → Pairing → Pairing → FramePairing
-  named_frame vs references numbers = record {
-    references = references;
-    numbers = numbers;
-    vars = new_vars numbers.exprs references.exprs vs;
-    lengths = drop (length (numbers_of vs)) numbers.exprs;
-  }
+      paired (exprs_of a known true references.keys) (exprs_of b other false references.keys)
 
 -- The constant is one of -2^32 to 2^32.
 abbrev pub is_near : Expr → Bool

@@ -3,7 +3,7 @@
 ghost use Rattle.std.specs.Prelude.{◌≡◌, ◌&&◌, ◌∷◌, [], get_or, length, IfOk, OnOk};
 ghost use Rattle.symbolic_values.specs.Pairing.{origin};
 ghost use Rattle.alias_facts.specs.PairsOf.{contains, ordered, with_pair};
-ghost use Rattle.frame_names.specs.ApartPairs.{are_apart_in_both, cannot_be_same, joined_apart, kept_apart, old_at, pairs_by, were_kept, with_row, with_test};
+ghost use Rattle.frame_names.specs.ApartPairs.{are_apart_in_both, cannot_be_same, joined_apart, kept_apart, pairs_by, were_kept, with_row, with_test};
 
 use crate::reference::{Reference, are_one_place, nullness_of, place_of};
 use alias_facts::Apart;
@@ -122,8 +122,8 @@ pub fn joined_apart<C>(
     };
     let last = last_of(keys)?;
     let mut apart = Apart::new(alloc);
-    for higher in 1..=last {
-        sides.keep_row(&mut apart, higher)?;
+    for before in 0..last {
+        sides.keep_row(&mut apart, before + 1)?;
     }
     Ok(apart)
 }
@@ -164,8 +164,8 @@ pub fn kept_apart(alloc: Global, keys: &[Key], kept: &Apart) -> Result<Apart, No
 {
     let last = last_of(keys)?;
     let mut apart = Apart::new(alloc);
-    for higher in 1..=last {
-        keep_old_row(&mut apart, keys, kept, higher)?;
+    for before in 0..last {
+        keep_old_row(&mut apart, keys, kept, before + 1)?;
     }
     Ok(apart)
 }

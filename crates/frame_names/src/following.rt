@@ -1,8 +1,6 @@
 //! What follows of a state whose frame is bound to that of another.
 
-ghost use Rattle.std.specs.Prelude.{◌≡◌, drop, get_or, IfOk, length};
-ghost use Rattle.std.specs.List.{list_all};
-ghost use Rattle.frame_names.specs.ApartPairs.{cannot_be_same};
+ghost use Rattle.std.specs.Prelude.{◌≡◌, drop, get_or, IfOk};
 ghost use Rattle.frame_names.specs.Following.{all_apart, all_entailed};
 
 use crate::apart_pairs::cannot_be_same;
@@ -12,20 +10,23 @@ use alias_facts::Apart;
 use domain_api::NoMemory;
 use std::alloc::Global;
 
-/// Returns whether what is known of a reference is known of what it is bound to, if it is bound.
-fn is_entailed<C>(a: &[Reference<C>], known: &Reference<C>, bound: Option<u32>) -> bool {
-    match bound {
-        None => false,
-        Some(r) => nullness_of(a, r).entails(known.nullness),
+/// What stands at an index. Where nothing does, reference 0.
+fn reference_at(bound: &[u32], index: usize) -> u32
+    ensures { result ≡ get_or bound.now index 0 }
+{
+    match bound.get(index) {
+        None => 0,
+        Some(r) => *r,
     }
 }
 
 /// Returns whether what is known of each reference is known of what it is bound to, from reference 1 on.
+#[tactic(auto, using(crate::proofs::ListSteps::head_drop, crate::proofs::ListSteps::next_drop))]
 fn are_entailed<C>(a: &[Reference<C>], b: &[Reference<C>], bound: &[u32]) -> bool
     ensures { result ≡ all_entailed a.now b.now bound.now }
 {
     for index in 0..b.len() {
-        if !is_entailed(a, &b[index], bound.get(index).copied()) {
+        if !nullness_of(a, reference_at(bound, index)).entails(b[index].nullness) {
             return false;
         }
     }
@@ -41,16 +42,6 @@ pub fn nullness_follows<C>(a: &[Reference<C>], b: &[Reference<C>], binding: &Bin
     are_entailed(a, b, bound)
 }
 
-/// What a reference is bound to. One that is not there is null.
-fn bound_to(bound: &[u32], reference: u32) -> u32
-    ensures { result ≡ get_or bound.now reference 0 }
-{
-    match bound.get(reference as usize) {
-        None => 0,
-        Some(r) => *r,
-    }
-}
-
 /// Returns whether what the references of each pair are bound to cannot be the same array.
 fn are_apart<C>(a: &[Reference<C>], apart: &Apart, bound: &[u32], pairs: &[(u32, u32)]) -> bool
     ensures { result ≡ all_apart a.now apart.now bound.now pairs.now }
@@ -58,8 +49,8 @@ fn are_apart<C>(a: &[Reference<C>], apart: &Apart, bound: &[u32], pairs: &[(u32,
     pairs.iter().all(|pair| cannot_be_same(
         a,
         apart,
-        bound_to(bound, pair.0),
-        bound_to(bound, pair.1),
+        reference_at(bound, pair.0 as usize),
+        reference_at(bound, pair.1 as usize),
     ))
 }
 

@@ -63,6 +63,7 @@ fn merged_reference<C>(
 }
 
 /// What is known of each reference of a key, with the length at the same place.
+#[tactic(auto, using(crate::proofs::ListSteps::behind_drop))]
 fn all_merged<C>(
     alloc: Global,
     keys: &[Key],
