@@ -3,3 +3,4 @@ pub mod UseLemmas
 pub mod ListSteps
 pub mod SaidLaws
 pub mod BindingLaws
+pub mod TableLaws

@@ -6,3 +6,4 @@ pub mod Meaning
 pub mod Binding
 pub mod Following
 pub mod BoundMeaning
+pub mod Tables

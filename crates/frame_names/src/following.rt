@@ -1,7 +1,8 @@
 //! What follows of a state whose frame is bound to that of another.
 
-ghost use Rattle.std.specs.Prelude.{◌≡◌, drop, get_or, IfOk};
+ghost use Rattle.std.specs.Prelude.{◌≡◌, ℕ, Option, drop, get_or, IfOk, IsTrue};
 ghost use Rattle.frame_names.specs.Following.{all_apart, all_entailed};
+ghost use Rattle.frame_names.specs.Tables.{AgreeBound, AreNulls, DifferBound};
 
 use crate::apart_pairs::cannot_be_same;
 use crate::binding::Binding;
@@ -33,13 +34,22 @@ fn are_entailed<C>(a: &[Reference<C>], b: &[Reference<C>], bound: &[u32]) -> boo
     true
 }
 
+/// Returns whether what is known of each reference is known of what it is bound to.
+fn all_entailed<C>(a: &[Reference<C>], b: &[Reference<C>], binding: &Binding) -> bool
+    ensures { result ≡ all_entailed a.now b.now (drop 1 binding.now.references) }
+{
+    let bound = binding.references.get(1..).unwrap_or(&[]);
+    are_entailed(a, b, bound)
+}
+
 /// Returns whether the first state knows, of what each reference of the second is bound to, what the second knows of it
 /// being null.
 pub fn nullness_follows<C>(a: &[Reference<C>], b: &[Reference<C>], binding: &Binding) -> bool
     ensures value { result ≡ all_entailed a.now b.now (drop 1 binding.now.references) }
+    ensures agree { IsTrue result → (array : ℕ → Option ℕ) → AreNulls a.now array →
+        AgreeBound array b.now (drop 1 binding.now.references) }
 {
-    let bound = binding.references.get(1..).unwrap_or(&[]);
-    are_entailed(a, b, bound)
+    all_entailed(a, b, binding)
 }
 
 /// Returns whether what the references of each pair are bound to cannot be the same array.
@@ -56,6 +66,26 @@ fn are_apart<C>(a: &[Reference<C>], apart: &Apart, bound: &[u32], pairs: &[(u32,
 
 /// Returns whether what the references of each pair that the second state keeps apart are bound to cannot be the same
 /// array in the first.
+fn all_apart<C>(
+    alloc: Global,
+    a: &[Reference<C>],
+    a_apart: &Apart,
+    b_apart: &Apart,
+    binding: &Binding,
+) -> Result<bool, NoMemory>
+    ensures { IfOk result (λ follows. follows ≡ all_apart a.now a_apart.now binding.now.references b_apart.now) }
+{
+    let pairs = b_apart.pairs(alloc)?;
+    Ok(are_apart(
+        a,
+        a_apart,
+        binding.references.as_slice(),
+        pairs.as_slice(),
+    ))
+}
+
+/// Returns whether what the references of each pair that the second state keeps apart are bound to cannot be the same
+/// array in the first.
 ///
 /// Cost: each pair of the second state is looked at.
 pub fn apart_follows<C>(
@@ -66,7 +96,8 @@ pub fn apart_follows<C>(
     binding: &Binding,
 ) -> Result<bool, NoMemory>
     ensures value { IfOk result (λ follows. follows ≡ all_apart a.now a_apart.now binding.now.references b_apart.now) }
+    ensures differ { IfOk result (λ follows. IsTrue follows →
+        DifferBound a.now a_apart.now binding.now.references b_apart.now) }
 {
-    let pairs = b_apart.pairs(alloc)?;
-    Ok(are_apart(a, a_apart, binding.references.as_slice(), pairs.as_slice()))
+    all_apart(alloc, a, a_apart, b_apart, binding)
 }

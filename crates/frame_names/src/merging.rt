@@ -3,6 +3,7 @@
 ghost use Rattle.std.specs.Prelude.{◌≡◌, drop, get_or, pos, IfOk};
 ghost use Rattle.frame_names.specs.MergedReferences.{merged_reference, merged_references, one_place};
 ghost use Rattle.frame_names.specs.PairedFrames.{first_expr};
+ghost use Rattle.frame_names.specs.Tables.{AreNullsOnBoth};
 
 use crate::pairing::PairedFrames;
 use crate::reference::{Reference, nullness_of, place_of};
@@ -90,6 +91,7 @@ pub fn merged_references<C>(
 ) -> Result<Vec<MergedReference>, NoMemory>
     ensures value { IfOk result (λ merged. merged.items ≡
         merged_references a.now b.now frames.now.references.keys frames.now.lengths) }
+    ensures nulls { IfOk result (λ merged. AreNullsOnBoth a.now b.now merged.items) }
 {
     let keys = frames.references.pairs.keys.as_slice();
     all_merged(alloc, keys, frames.lengths.as_slice(), a, b)

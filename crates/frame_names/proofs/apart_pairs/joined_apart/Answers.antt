@@ -1,8 +1,8 @@
-use Rattle.frame_names.specs.ApartPairs.{are_apart_in_both}
-use Rattle.frame_names.proofs.ListSteps.{pairs_step}
+use Rattle.std.proofs.lemmas.Result.{IfOk-weaker}
+use Rattle.frame_names.proofs.TableLaws.{joined_differ}
 use Rattle.frame_names.proofs.apart_pairs.joined_apart.Goals as goal
 
-pub loop-before-preserved : goal.loop-before-preserved
-loop-before-preserved g c =
-    pairs_step (are_apart_in_both c.args.keys.now c.args.a.now c.args.a_apart.now c.args.b.now c.args.b_apart.now) c.loop-before.apart c.keep_row.new.apart
-    c.loop-before.before c.loop-before.invariant c.in_ok-keep_row.ensures
+pub returns-clause-differ : goal.returns-clause-differ
+returns-clause-differ g c =
+    IfOk-weaker c.pairs.result _ _
+    (λ apart is. joined_differ c.args.keys.now c.args.a.now c.args.a_apart.now c.args.b.now c.args.b_apart.now apart is) c.pairs.ensures

@@ -1,8 +1,7 @@
-use Rattle.frame_names.specs.ApartPairs.{were_kept}
-use Rattle.frame_names.proofs.ListSteps.{pairs_step}
+use Rattle.std.proofs.lemmas.Result.{IfOk-weaker}
+use Rattle.frame_names.proofs.TableLaws.{kept_differ}
 use Rattle.frame_names.proofs.apart_pairs.kept_apart.Goals as goal
 
-pub loop-before-preserved : goal.loop-before-preserved
-loop-before-preserved c =
-    pairs_step (were_kept c.args.keys.now c.args.kept.now) c.loop-before.apart c.keep_old_row.new.apart c.loop-before.before c.loop-before.invariant
-    c.in_ok-keep_old_row.ensures
+pub returns-clause-differ : goal.returns-clause-differ
+returns-clause-differ c =
+    IfOk-weaker c.old_pairs.result _ _ (λ apart is. kept_differ c.args.keys.now c.args.kept.now apart is) c.old_pairs.ensures
