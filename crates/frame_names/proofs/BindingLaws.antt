@@ -1,5 +1,5 @@
 -- A frame that is bound to another says what that one says.
-use Rattle.std.proofs.Common.{◌≡◌, ℕ, zero, suc, ℤ, pos, ◌+ℤ◌, ◌-ℤ◌, ◌≤ℤ◌, Bool, true, false, ◌==◌, ◌&&◌, List, [], ◌∷◌, get_or, map, Option, Some, None, if◌then◌else◌, refl, sym, ap, ◌∙◌, subst, arith, true≢false, length, drop}
+use Rattle.std.proofs.Common.{◌≡◌, ℕ, zero, suc, ℤ, ◌+ℤ◌, ◌-ℤ◌, ◌≤ℤ◌, Bool, true, false, ◌==◌, ◌&&◌, List, [], ◌∷◌, get_or, map, Option, Some, None, if◌then◌else◌, refl, sym, ap, ◌∙◌, subst, arith, true≢false, length, drop}
 use Rattle.std.specs.Prelude.{IfSome, slice_get, set, int_le}
 use Rattle.std.proofs.lemmas.Int.{ints}
 use Rattle.std.proofs.lemmas.Bool.Decides.{Decides-eqb}
@@ -14,7 +14,7 @@ use Rattle.frame_names.specs.declared.var.Var.TheVariants as vars
 use Rattle.frame_names.specs.Binding.{FrameBinding, Gaps, References, SlotLists, Symbols, all_filled, both_filled, bound_by, bound_frames, expr_of, filled, filled_with, fits, free_slots, is_at_most, is_equal, number_in_slot, reaches, reference_in_slot, with_length, with_lengths, with_number, with_reference, with_references, with_symbols, with_var, with_vars}
 use Rattle.frame_names.specs.BoundMeaning.{KeepGaps, NullsAreNull, SaysSame, arrays_bound, bound_worth, numbers_bound, zero_bound}
 use Rattle.frame_names.specs.Frames.{length_at, nullness_at}
-use Rattle.frame_names.specs.Meaning.{a_number, a_text, an_array, said}
+use Rattle.frame_names.specs.Meaning.{a_number, an_array, said}
 
 -- ---- slots
 

@@ -1,5 +1,5 @@
 -- Variables of the same kinds, and constants that are near.
-use Rattle.std.proofs.Common.{◌≡◌, ℕ, zero, suc, ◌-◌, ◌==◌, Bool, if◌then◌else◌, pos, negsuc, ◌≤ℤ◌, true, true≢false, List, [], ◌∷◌, ◌++◌, length, map, Some, None, Option, refl, sym, ap, ◌∙◌, arith, length-append, false}
+use Rattle.std.proofs.Common.{◌≡◌, ℕ, zero, suc, ◌-◌, ◌==◌, Bool, if◌then◌else◌, pos, negsuc, ◌≤ℤ◌, true, true≢false, List, [], ◌∷◌, ◌++◌, length, map, None, refl, sym, ap, arith, length-append, false}
 use Rattle.std.proofs.lemmas.Int.{ints}
 use Rattle.std.proofs.lemmas.List.{length-map}
 use Rattle.std.specs.Prelude.{slice_get}
@@ -96,6 +96,11 @@ module _ {C : Type 0} where
   pub same_exprs : (a b : List Var) (known other : List (Reference C)) (first second : Bool) (keys : List Key) → AreAlike a b
       → length (exprs_of a known first keys) ≡ length (exprs_of b other second keys)
   same_exprs a b known other first second keys alike =
-      omega (arith, same_numbers a b alike, length-append (numbers_of a) (map (λ key. length_at known (old_of first key)) keys),
-      length-append (numbers_of b) (map (λ key. length_at other (old_of second key)) keys),
-      length-map keys (λ key. length_at known (old_of first key)), length-map keys (λ key. length_at other (old_of second key)))
+      omega (
+        arith,
+        same_numbers a b alike,
+        length-append (numbers_of a) (map (λ key. length_at known (old_of first key)) keys),
+        length-append (numbers_of b) (map (λ key. length_at other (old_of second key)) keys),
+        length-map keys (λ key. length_at known (old_of first key)),
+        length-map keys (λ key. length_at other (old_of second key)),
+      )

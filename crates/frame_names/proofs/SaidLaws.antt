@@ -1,5 +1,5 @@
 -- Two frames that were named together say what each of them says.
-use Rattle.std.proofs.Common.{◌≡◌, ℕ, suc, ◌<◌, ℤ, pos, ◌+ℤ◌, Bool, true, false, true≢false, List, [], ◌∷◌, ◌++◌, length, get_or, drop, map, Option, Some, None, if◌then◌else◌, refl, sym, ap, ◌∙◌, subst, arith}
+use Rattle.std.proofs.Common.{◌≡◌, ℕ, ◌<◌, ℤ, Bool, true, false, true≢false, List, [], ◌∷◌, ◌++◌, length, get_or, drop, map, Option, Some, None, if◌then◌else◌, refl, sym, ap, ◌∙◌, subst, arith}
 use Rattle.std.specs.Prelude.{IfSome}
 use Rattle.std.specs.List.{list_all}
 use Rattle.std.proofs.lemmas.List.{drop-map, length-map, map-append}
@@ -8,7 +8,7 @@ use Rattle.std.proofs.Math.Seq.{drop-append_seam}
 use Rattle.domain_api.specs.declared.expr.Expr.{Expr}
 use Rattle.symbolic_values.specs.declared.pairs.Key.{Key}
 use Rattle.symbolic_values.specs.Names.{as_expr}
-use Rattle.symbolic_values.specs.Pairing.{Pairing, behind_first, known_in, named, number_in, origin, paired, same_key, uses_of}
+use Rattle.symbolic_values.specs.Pairing.{Pairing, known_in, named, number_in, origin, paired, same_key, uses_of}
 use Rattle.symbolic_values.specs.Worth.{behind_uses, worth}
 use Rattle.symbolic_values.proofs.Keys.{HaveOneKey, same_key_is}
 use Rattle.symbolic_values.proofs.WorthLaws.{AllKnown, all_known, origin_first, paired_worth}
@@ -17,7 +17,7 @@ use Rattle.frame_names.specs.declared.var.Var.{Var}
 use Rattle.frame_names.specs.declared.var.Var.TheVariants as vars
 use Rattle.frame_names.specs.Frames.{AreAlike, length_at, numbers_of, references_of}
 use Rattle.frame_names.specs.PairedFrames.{FramePairing, exprs_of, if_near, is_near, named_frame, new_vars, old_of, paired_frames, pairing_by, pairs_of}
-use Rattle.frame_names.specs.Meaning.{HasBothLengths, Said, SaysBoth, a_number, a_text, an_array, said}
+use Rattle.frame_names.specs.Meaning.{HasBothLengths, SaysBoth, a_number, a_text, an_array, said}
 use Rattle.frame_names.proofs.FrameLemmas.{alike_itself, same_exprs, same_numbers, same_references}
 
 -- ---- references

@@ -1,17 +1,17 @@
 -- Tables of references and pairs tell no more than what they were made from.
-use Rattle.std.proofs.Common.{◌≡◌, ℕ, ◌-◌, Bool, true, false, ◌&&◌, ◌==◌, true≢false, List, [], ◌∷◌, get_or, drop, length, Option, Some, None, if◌then◌else◌, refl, sym, ap, ◌∙◌, subst}
-use Rattle.std.specs.List.{AllByRecursion, fold, list_all, range_with_len}
+use Rattle.std.proofs.Common.{◌≡◌, ℕ, ◌-◌, Bool, true, false, ◌&&◌, ◌==◌, true≢false, List, [], ◌∷◌, get_or, drop, length, Option, Some, if◌then◌else◌, refl, sym, ap, ◌∙◌, subst}
+use Rattle.std.specs.List.{fold, range_with_len}
 use Rattle.std.proofs.lemmas.Bool.Decides.{Decides-eqb}
 use Rattle.cil_model.specs.declared.place.Place.{Place}
 use Rattle.cil_model.specs.Places.{place_number}
 use Rattle.domain_api.specs.declared.expr.Expr.{Expr}
-use Rattle.alias_facts.specs.Arrays.{AllDiffer, Differ, is_no_array}
-use Rattle.alias_facts.specs.NullnessOf.{Agrees, entailed, must_differ}
+use Rattle.alias_facts.specs.Arrays.{AllDiffer, Differ}
+use Rattle.alias_facts.specs.NullnessOf.{entailed}
 use Rattle.alias_facts.specs.PairsOf.{Pair, contains, ordered, with_pair}
 use Rattle.alias_facts.proofs.ApartLaws.{contained_differ, must_differ_sound, with_pair_differ}
 use Rattle.alias_facts.proofs.NullnessLaws.{entailed_agrees, joined_left, joined_right}
 use Rattle.symbolic_values.specs.declared.pairs.Key.{Key}
-use Rattle.frame_names.specs.ApartPairs.{are_apart_in_both, are_kept, cannot_be_same, joined_apart, kept_apart, pairs_by, were_kept, with_row, with_test}
+use Rattle.frame_names.specs.ApartPairs.{are_apart_in_both, cannot_be_same, joined_apart, kept_apart, pairs_by, were_kept, with_row, with_test}
 use Rattle.frame_names.specs.Following.{all_apart, all_entailed}
 use Rattle.frame_names.specs.Frames.{are_one_place, nullness_at, place_at}
 use Rattle.frame_names.specs.MergedReferences.{merged_references}
@@ -98,7 +98,7 @@ module _ {C : Type 0} where
       → merged ≡ merged_references a b keys lengths → AreNullsOnBoth a b merged
   merged_nulls a b keys lengths merged is = subst (AreNullsOnBoth a b) (sym is) (both_nulls a b keys lengths)
 
--- ---- a bound state
+  -- ---- a bound state
 
   pub entailed_bound : (a b : List (Reference C)) (bound : List ℕ) (array : ℕ → Option ℕ) → all_entailed a b bound ≡ true → AreNulls a array
       → AgreeBound array b bound
@@ -111,6 +111,7 @@ module _ {C : Type 0} where
       → DifferBound a kept bound pairs
   apart_bound a kept bound [] all = λ array place nulls places differ. tt
   apart_bound a kept bound (p ∷ pairs) all = λ array place nulls places differ.
-      let both = both_of (cannot_be_same a kept (get_or bound p.0 0) (get_or bound p.1 0)) (all_apart a kept bound pairs) all in
-      (told_differ a kept array place (get_or bound p.0 0) (get_or bound p.1 0) nulls places differ both.0,
-      apart_bound a kept bound pairs both.1 array place nulls places differ)
+      let both = both_of (cannot_be_same a kept (get_or bound p.0 0) (get_or bound p.1 0)) (all_apart a kept bound pairs) all in (
+        told_differ a kept array place (get_or bound p.0 0) (get_or bound p.1 0) nulls places differ both.0,
+        apart_bound a kept bound pairs both.1 array place nulls places differ,
+      )

@@ -76,12 +76,7 @@ fn all_apart<C>(
     ensures { IfOk result (λ follows. follows ≡ all_apart a.now a_apart.now binding.now.references b_apart.now) }
 {
     let pairs = b_apart.pairs(alloc)?;
-    Ok(are_apart(
-        a,
-        a_apart,
-        binding.references.as_slice(),
-        pairs.as_slice(),
-    ))
+    Ok(are_apart(a, a_apart, binding.references.as_slice(), pairs.as_slice()))
 }
 
 /// Returns whether what the references of each pair that the second state keeps apart are bound to cannot be the same

@@ -55,11 +55,7 @@ fn pairs_of(alloc: Global, a: &[Var], b: &[Var]) -> Result<ReferencePairs, NoMem
 }
 
 /// The numbers of two frames named together, and behind them the lengths of paired references.
-#[tactic(auto, using(
-    crate::proofs::FrameLemmas::same_exprs,
-    crate::proofs::FrameLemmas::near_exprs,
-    crate::proofs::FrameLemmas::alike_itself
-))]
+#[tactic(auto, using(crate::proofs::FrameLemmas::same_exprs, crate::proofs::FrameLemmas::near_exprs, crate::proofs::FrameLemmas::alike_itself))]
 fn numbers_by<C>(
     alloc: Global,
     references: &ReferencePairs,
@@ -131,11 +127,7 @@ fn if_near(
 }
 
 /// The frames of two states named together.
-fn paired<C>(
-    alloc: Global,
-    a: &Frame<C>,
-    b: &Frame<C>,
-) -> Result<Option<PairedFrames>, NoMemory>
+fn paired<C>(alloc: Global, a: &Frame<C>, b: &Frame<C>) -> Result<Option<PairedFrames>, NoMemory>
     requires alike { AreAlike a.now.vars.now b.now.vars.now }
     requires first { IsNearFrame a.now.vars.now a.now.references.now }
     requires second { IsNearFrame b.now.vars.now b.now.references.now }
@@ -180,11 +172,7 @@ fn own_pairs(alloc: Global, vars: &[Var]) -> Result<ReferencePairs, NoMemory>
 }
 
 /// The numbers of a frame named together with themselves, and behind them the lengths of its references.
-#[tactic(auto, using(
-    crate::proofs::FrameLemmas::same_exprs,
-    crate::proofs::FrameLemmas::near_exprs,
-    crate::proofs::FrameLemmas::alike_itself
-))]
+#[tactic(auto, using(crate::proofs::FrameLemmas::same_exprs, crate::proofs::FrameLemmas::near_exprs, crate::proofs::FrameLemmas::alike_itself))]
 fn own_numbers<C>(
     alloc: Global,
     references: &ReferencePairs,
