@@ -12,7 +12,7 @@ use Rattle.frame_names.specs.declared.reference.Reference.{Reference}
 use Rattle.frame_names.specs.declared.var.Var.{Var}
 use Rattle.frame_names.specs.declared.var.Var.TheVariants as vars
 use Rattle.frame_names.specs.Binding.{FrameBinding, Gaps, References, SlotLists, Symbols, all_filled, both_filled, bound_by, bound_frames, expr_of, filled, filled_with, fits, free_slots, is_at_most, is_equal, number_in_slot, reaches, reference_in_slot, with_length, with_lengths, with_number, with_reference, with_references, with_symbols, with_var, with_vars}
-use Rattle.frame_names.specs.BoundMeaning.{KeepGaps, NullsAreNull, SaysSame, arrays_bound, bound_worth, numbers_bound, zero_bound}
+use Rattle.frame_names.specs.BoundMeaning.{AreLengthsBound, HasSameLengths, KeepGaps, NullsAreNull, SaysSame, arrays_bound, bound_worth, numbers_bound, zero_bound}
 use Rattle.frame_names.specs.Frames.{length_at, nullness_at}
 use Rattle.frame_names.specs.Meaning.{a_number, an_array, said}
 
@@ -286,6 +286,27 @@ module _ {C : Type 0} (gap : Gaps) (number : ℕ → ℤ) (array : ℕ → Optio
 -- ---- the whole
 
 module _ {X : Type 0} where
+  filled_behind : (slots : List (Option X)) (xs : List X) → all_filled slots ≡ Some xs → all_filled (drop 1 slots) ≡ Some (drop 1 xs)
+  filled_behind [] xs is = let none : [] ≡ xs = cc in ap (λ l. Some (drop 1 l)) none
+  filled_behind (None ∷ slots) xs is = cc
+  filled_behind (Some y ∷ slots) xs is = by (all_filled slots) is
+    where
+      by : (rest : Option (List X)) → option_map (λ all. y ∷ all) rest ≡ Some xs → rest ≡ Some (drop 1 xs)
+      by None made = cc
+      by (Some rest) made = let made_is : y ∷ rest ≡ xs = cc in ap (λ l. Some (drop 1 l)) made_is
+
+  filled_first : (slots : List (Option X)) (xs : List X) (x d : X) → all_filled slots ≡ Some xs → get_or slots 0 None ≡ Some x → get_or xs 0 d ≡ x
+  filled_first [] xs x d is first = cc
+  filled_first (None ∷ slots) xs x d is first = cc
+  filled_first (Some y ∷ slots) xs x d is first = by (all_filled slots) is
+    where
+      by : (rest : Option (List X)) → option_map (λ all. y ∷ all) rest ≡ Some xs → get_or xs 0 d ≡ x
+      by None made = cc
+      by (Some rest) made =
+          let made_is : y ∷ rest ≡ xs = cc in
+          let item_is : y ≡ x = cc in
+          ap (λ l. get_or l 0 d) (sym made_is) ∙ item_is
+
   filled_at : (slots : List (Option X)) (xs : List X) (s : ℕ) (x d : X) → all_filled slots ≡ Some xs → slice_get slots s ≡ Some (Some x) → get_or xs s d ≡ x
   filled_at [] xs s x d is there = cc
   filled_at (None ∷ slots) xs s x d is there = cc
@@ -378,3 +399,83 @@ module _ {C : Type 0} where
       → found ≡ bound_frames gap a_vars a b_vars b count → IfSome found (SaysSame gap a_vars a b_vars)
   frames_say_same gap a_vars b_vars a b count None is = tt
   frames_say_same gap a_vars b_vars a b count (Some binding) is = bound_says gap a_vars b_vars a b count binding (sym is)
+
+-- ---- lengths
+
+worth_later : (number : ℕ → ℤ) (old new : Symbols) (f : Expr) (n : ℤ) → Stays old new → IsWorth number old f n → IsWorth number new f n
+worth_later number old new f n stays is = record { bound = is.bound; there = stays f.sym is.bound is.there; same = is.same }
+
+worth_filled : (number : ℕ → ℤ) (symbols : Symbols) (binding : FrameBinding) (f : Expr) (n : ℤ) → all_filled symbols ≡ Some binding.symbols
+    → IsWorth number symbols f n → worth (numbers_bound number binding) f ≡ n
+worth_filled number symbols binding f n filled_is is =
+    ap (λ bound. bound_worth number bound +ℤ f.k) (filled_at symbols binding.symbols f.sym is.bound zero_bound filled_is is.there) ∙ is.same
+
+module _ {C : Type 0} (gap : Gaps) (number : ℕ → ℤ) (a : List (Reference C)) (keep : KeepGaps gap number) where
+  record IsLength (known : Reference C) (slot : Option ℕ) (symbols : Symbols) : Type 0 where
+    reference : ℕ
+    slot_is : slot ≡ Some reference
+    worth_is : IsWorth number symbols known.length (worth number (length_at a reference))
+
+  abbrev AreLengths : List (Reference C) → References → Symbols → Type 0
+  AreLengths [] slots symbols = Unit {0}
+  AreLengths (known ∷ rest) slots symbols = IsLength known (get_or slots 0 None) symbols × AreLengths rest (drop 1 slots) symbols
+
+  one_length : (known : Reference C) (slot : Option ℕ) (old new : Symbols) → with_length gap a known slot old ≡ Some new → IsLength known slot new
+  one_length known None old new is = cc
+  one_length known (Some r) old new is =
+      record { reference = r; slot_is = refl; worth_is = (number_bound gap number (length_at a r) known.length old new keep is).worth_is }
+
+  are_lengths : (rest : List (Reference C)) (slots : References) (old new : Symbols) → with_lengths gap a rest slots old ≡ Some new → AreLengths rest slots new
+  are_lengths [] slots old new is = tt
+  are_lengths (known ∷ rest) slots old new is =
+      by (λ next made. are_lengths rest (drop 1 slots) next new made) (with_length gap a known (get_or slots 0 None) old) refl is
+    where
+      by : ((next : Symbols) → with_lengths gap a rest (drop 1 slots) next ≡ Some new → AreLengths rest (drop 1 slots) new)
+          → (next : Option Symbols) → with_length gap a known (get_or slots 0 None) old ≡ next
+          → option_and_then (with_lengths gap a rest (drop 1 slots)) next ≡ Some new → AreLengths (known ∷ rest) slots new
+      by rest_are None at made = cc
+      by rest_are (Some next) at made =
+          let first = one_length known (get_or slots 0 None) old next at in
+          let stays = lengths_stay gap number (λ r. None) a [] keep (λ r null. refl) rest (drop 1 slots) next new made in (
+            record {
+              reference = first.reference;
+              slot_is = first.slot_is;
+              worth_is = worth_later number next new known.length (worth number (length_at a first.reference)) stays first.worth_is;
+            },
+            rest_are next made,
+          )
+
+  are_bound : (rest : List (Reference C)) (slots : References) (bound : List ℕ) (symbols : Symbols) (binding : FrameBinding) → all_filled symbols ≡ Some binding.symbols
+      → all_filled slots ≡ Some bound → AreLengths rest slots symbols → AreLengthsBound number binding a rest bound
+  are_bound [] slots bound symbols binding filled_is bound_is are = tt
+  are_bound (known ∷ rest) slots bound symbols binding filled_is bound_is are = (
+    worth_filled number symbols binding known.length (worth number (length_at a are.0.reference)) filled_is are.0.worth_is
+    ∙ ap (λ r. worth number (length_at a r)) (sym (filled_first slots bound are.0.reference 0 bound_is are.0.slot_is)),
+    are_bound rest (drop 1 slots) (drop 1 bound) symbols binding filled_is (filled_behind slots bound bound_is) are.1,
+  )
+
+module _ {C : Type 0} where
+  bound_lengths : (gap : Gaps) (a_vars b_vars : List Var) (a b : List (Reference C)) (count : ℕ) (binding : FrameBinding)
+      → bound_frames gap a_vars a b_vars b count ≡ Some binding → HasSameLengths gap a b binding
+  bound_lengths gap a_vars b_vars a b count binding is = λ number keep. by number keep (with_vars gap a b a_vars b_vars (free_slots count (length b))) is
+    where
+      at_end : (number : ℕ → ℤ) → KeepGaps gap number → (slots : SlotLists) (symbols : Option Symbols)
+          → with_lengths gap a b (drop 1 slots.references) slots.symbols ≡ symbols → option_and_then (filled_with slots.references) symbols ≡ Some binding
+          → AreLengthsBound number binding a b (drop 1 binding.references)
+      at_end number keep slots None at made = cc
+      at_end number keep slots (Some symbols) at made =
+          let are = both_are symbols slots.references (all_filled symbols) (all_filled slots.references) binding refl refl made in
+          are_bound gap number a keep b (drop 1 slots.references) (drop 1 binding.references) symbols binding are.symbols_are
+          (filled_behind slots.references binding.references are.references_are)
+          (are_lengths gap number a keep b (drop 1 slots.references) slots.symbols symbols at)
+
+      by : (number : ℕ → ℤ) → KeepGaps gap number → (found : Option SlotLists) → option_and_then (filled gap a b) found ≡ Some binding
+          → AreLengthsBound number binding a b (drop 1 binding.references)
+      by number keep None made = cc
+      by number keep (Some slots) made = at_end number keep slots (with_lengths gap a b (drop 1 slots.references) slots.symbols) refl made
+
+  -- By the numbers of the first state, the lengths of the second are worth what those are of what its references are bound to.
+  pub frames_have_same_lengths : (gap : Gaps) (a_vars b_vars : List Var) (a b : List (Reference C)) (count : ℕ) (found : Option FrameBinding)
+      → found ≡ bound_frames gap a_vars a b_vars b count → IfSome found (HasSameLengths gap a b)
+  frames_have_same_lengths gap a_vars b_vars a b count None is = tt
+  frames_have_same_lengths gap a_vars b_vars a b count (Some binding) is = bound_lengths gap a_vars b_vars a b count binding (sym is)

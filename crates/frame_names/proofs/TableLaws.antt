@@ -1,6 +1,7 @@
 -- Tables of references and pairs tell no more than what they were made from.
-use Rattle.std.proofs.Common.{◌≡◌, ℕ, ◌-◌, Bool, true, false, ◌&&◌, ◌==◌, true≢false, List, [], ◌∷◌, get_or, drop, length, Option, Some, if◌then◌else◌, refl, sym, ap, ◌∙◌, subst}
-use Rattle.std.specs.List.{fold, range_with_len}
+use Rattle.std.proofs.Common.{◌≡◌, ℕ, ◌-◌, Bool, true, false, ◌&&◌, ◌==◌, true≢false, List, [], ◌∷◌, get_or, drop, length, Option, Some, if◌then◌else◌, refl, sym, ap, ◌∙◌, subst, map, None}
+use Rattle.std.specs.Prelude.{IfSome}
+use Rattle.std.specs.List.{AllByRecursion, fold, range_with_len, list_all}
 use Rattle.std.proofs.lemmas.Bool.Decides.{Decides-eqb}
 use Rattle.cil_model.specs.declared.place.Place.{Place}
 use Rattle.cil_model.specs.Places.{place_number}
@@ -13,10 +14,15 @@ use Rattle.alias_facts.proofs.NullnessLaws.{entailed_agrees, joined_left, joined
 use Rattle.symbolic_values.specs.declared.pairs.Key.{Key}
 use Rattle.frame_names.specs.ApartPairs.{are_apart_in_both, cannot_be_same, joined_apart, kept_apart, pairs_by, were_kept, with_row, with_test}
 use Rattle.frame_names.specs.Following.{all_apart, all_entailed}
-use Rattle.frame_names.specs.Frames.{are_one_place, nullness_at, place_at}
-use Rattle.frame_names.specs.MergedReferences.{merged_references}
-use Rattle.frame_names.specs.PairedFrames.{behind, old_at}
-use Rattle.frame_names.specs.Tables.{AgreeBound, AreNulls, AreNullsOnBoth, ArePlaces, DifferAsKept, DifferBound, DifferOnBoth, arrays_by}
+use Rattle.frame_names.specs.Frames.{AreAlike, are_one_place, nullness_at, place_at, references_of}
+use Rattle.symbolic_values.specs.Names.{as_expr}
+use Rattle.symbolic_values.specs.Pairing.{known_in, origin, uses_of}
+use Rattle.frame_names.specs.MergedReferences.{merged_references, one_place}
+use Rattle.frame_names.specs.declared.var.Var.{Var}
+use Rattle.frame_names.specs.declared.var.Var.TheVariants as vars
+use Rattle.frame_names.proofs.UseLemmas.{all_behind, all_first}
+use Rattle.frame_names.specs.PairedFrames.{FramePairing, behind, is_near, named_frame, old_at, paired_frames, pairing_by, pairs_of}
+use Rattle.frame_names.specs.Tables.{AgreeBound, AgreeOnPlace, AreNulls, AreNullsOnBoth, AreOfOnePlace, ArePlaces, ArePlacesOnBoth, DifferAsKept, DifferBound, DifferOnBoth, arrays_by}
 use Rattle.frame_names.specs.declared.merging.MergedReference.{MergedReference}
 use Rattle.frame_names.specs.declared.reference.Reference.{Reference}
 
@@ -29,8 +35,8 @@ itself : (n : ℕ) → (n == n) ≡ true
 itself n = (Decides-eqb n n).1 refl
 
 -- Two references that are one array are of one type.
-one_place : (p q : Option Place) (place : Place) → p ≡ Some place → q ≡ Some place → are_one_place p q ≡ false → ⊥
-one_place p q place first second differ =
+of_one_place : (p q : Option Place) (place : Place) → p ≡ Some place → q ≡ Some place → are_one_place p q ≡ false → ⊥
+of_one_place p q place first second differ =
     true≢false (sym (itself (place_number place)) ∙ sym (ap (λ x. are_one_place x q) first ∙ ap (are_one_place (Some place)) second) ∙ differ)
 
 module _ {C : Type 0} where
@@ -40,7 +46,7 @@ module _ {C : Type 0} where
   told_differ known pairs array place r q nulls places differ is =
       must_differ_sound array r q (contains pairs (ordered r q)) (are_one_place (place_at known r) (place_at known q)) (nullness_at known r) (nullness_at known q)
       (λ kept. contained_differ pairs array r q kept differ)
-      (λ other. λ n first second. one_place (place_at known r) (place_at known q) (place n) (places r n first) (places q n second) other)
+      (λ other. λ n first second. of_one_place (place_at known r) (place_at known q) (place n) (places r n first) (places q n second) other)
       (nulls r) (nulls q) is
 
 -- ---- pairs of new references
@@ -98,8 +104,70 @@ module _ {C : Type 0} where
       → merged ≡ merged_references a b keys lengths → AreNullsOnBoth a b merged
   merged_nulls a b keys lengths merged is = subst (AreNullsOnBoth a b) (sym is) (both_nulls a b keys lengths)
 
-  -- ---- a bound state
+module _ {C : Type 0} where
+  one_of_both : (a b : List (Reference C)) (key : Key) (place : Place) (first : Option Place) → AgreeOnPlace a b key → place_at a key.s ≡ first
+      → place_at b key.t ≡ Some place → one_place first (place_at b key.t) ≡ place
+  one_of_both a b key place None agree first second = ap (one_place None) second
+  one_of_both a b key place (Some p) agree first second = agree p place first second
 
+  both_places : (a b : List (Reference C)) (keys : List Key) (lengths : List Expr) → ArePlacesOnBoth a b keys (merged_references a b keys lengths)
+  both_places a b [] lengths is_first array place agree places = tt
+  both_places a b (key ∷ keys) lengths true array place agree places = (
+    λ n is. ap (λ first. one_place first (place_at b key.t)) (places key.s n is),
+    both_places a b keys (behind lengths) true array place agree.1 places,
+  )
+  both_places a b (key ∷ keys) lengths false array place agree places = (
+    λ n is. one_of_both a b key (place n) (place_at a key.s) agree.0 refl (places key.t n is),
+    both_places a b keys (behind lengths) false array place agree.1 places,
+  )
+
+  pub merged_places : (a b : List (Reference C)) (keys : List Key) (lengths : List Expr) (merged : List MergedReference)
+      → merged ≡ merged_references a b keys lengths → ArePlacesOnBoth a b keys merged
+  merged_places a b keys lengths merged is = subst (ArePlacesOnBoth a b keys) (sym is) (both_places a b keys lengths)
+
+-- ---- the keys of paired variables
+
+module _ {C : Type 0} (known other : List (Reference C)) where
+  uses_agree : (a b : List Var) → AreAlike a b → AreOfOnePlace known other a b
+      → AllByRecursion (AgreeOnPlace known other) (uses_of (map as_expr (references_of a)) (map as_expr (references_of b)))
+  uses_agree [] [] alike places = tt
+  uses_agree [] (y ∷ b) alike places = absurd alike
+  uses_agree (x ∷ a) [] alike places = absurd alike
+  uses_agree (vars.Number e ∷ a) (vars.Number f ∷ b) alike places = uses_agree a b alike.1 places
+  uses_agree (vars.Reference r ∷ a) (vars.Reference q ∷ b) alike places = (places.0, uses_agree a b alike.1 places.1)
+  uses_agree (vars.Text ∷ a) (vars.Text ∷ b) alike places = uses_agree a b alike.1 places
+  uses_agree (vars.Number e ∷ a) (vars.Reference q ∷ b) alike places = absurd (true≢false (sym alike.0))
+  uses_agree (vars.Number e ∷ a) (vars.Text ∷ b) alike places = absurd (true≢false (sym alike.0))
+  uses_agree (vars.Reference r ∷ a) (vars.Number f ∷ b) alike places = absurd (true≢false (sym alike.0))
+  uses_agree (vars.Reference r ∷ a) (vars.Text ∷ b) alike places = absurd (true≢false (sym alike.0))
+  uses_agree (vars.Text ∷ a) (vars.Number f ∷ b) alike places = absurd (true≢false (sym alike.0))
+  uses_agree (vars.Text ∷ a) (vars.Reference q ∷ b) alike places = absurd (true≢false (sym alike.0))
+
+  origin_agrees : AgreeOnPlace known other origin
+  origin_agrees = λ p q first second. cc
+
+  keys_agree : (a b : List Var) → AreAlike a b → AreOfOnePlace known other a b → AllByRecursion (AgreeOnPlace known other) (pairs_of a b).keys
+  keys_agree a b alike places =
+      all_behind (AgreeOnPlace known other) (known_in (map as_expr (references_of a)) (map as_expr (references_of b)))
+      (all_first (AgreeOnPlace known other) (origin ∷ []) (uses_of (map as_expr (references_of a)) (map as_expr (references_of b))) (origin_agrees, tt)
+      (uses_agree a b alike places))
+
+  near_keys : (a b : List Var) (new : FramePairing) (found : Option FramePairing) (near : Bool) → found ≡ (if near then Some new else None)
+      → AllByRecursion (AgreeOnPlace known other) new.references.keys
+      → IfSome found (λ frames. AllByRecursion (AgreeOnPlace known other) frames.references.keys)
+  near_keys a b new found true is all = subst (λ f. IfSome f (λ frames. AllByRecursion (AgreeOnPlace known other) frames.references.keys)) (sym is) all
+  near_keys a b new found false is all = subst (λ f. IfSome f (λ frames. AllByRecursion (AgreeOnPlace known other) frames.references.keys)) (sym is) tt
+
+  -- Where the references at each index are of one type, so are those of each key.
+  pub frames_agree : (a b : List Var) (found : Option FramePairing) → AreAlike a b → AreOfOnePlace known other a b → found ≡ paired_frames a known b other
+      → IfSome found (λ frames. AllByRecursion (AgreeOnPlace known other) frames.references.keys)
+  frames_agree a b found alike places is =
+      near_keys a b (named_frame a (pairs_of a b) (pairing_by (pairs_of a b) a known b other)) found
+      (list_all is_near (pairing_by (pairs_of a b) a known b other).exprs) is (keys_agree a b alike places)
+
+-- ---- a bound state
+
+module _ {C : Type 0} where
   pub entailed_bound : (a b : List (Reference C)) (bound : List ℕ) (array : ℕ → Option ℕ) → all_entailed a b bound ≡ true → AreNulls a array
       → AgreeBound array b bound
   entailed_bound a [] bound array all nulls = tt

@@ -1,9 +1,9 @@
 -- What a frame says that is bound to another.
-use Rattle.std.specs.Prelude.{◌≡◌, ℕ, ℤ, pos, ◌+ℤ◌, ◌-ℤ◌, ◌≤ℤ◌, true, List, get_or, map, Option, Some, None}
+use Rattle.std.specs.Prelude.{◌≡◌, ℕ, ℤ, pos, ◌+ℤ◌, ◌-ℤ◌, ◌≤ℤ◌, true, List, [], ◌∷◌, drop, get_or, map, Option, Some, None}
 use Rattle.alias_facts.specs.NullnessOf.{is_null}
 use Rattle.symbolic_values.specs.Worth.{worth}
 use Rattle.frame_names.specs.Binding.{FrameBinding, Gaps}
-use Rattle.frame_names.specs.Frames.{nullness_at}
+use Rattle.frame_names.specs.Frames.{length_at, nullness_at}
 use Rattle.frame_names.specs.Meaning.{said}
 use Rattle.frame_names.specs.declared.reference.Reference.{Reference}
 use Rattle.frame_names.specs.declared.slots.Bound.{Bound}
@@ -36,3 +36,14 @@ abbrev pub SaysSame : {C : Type 0} → Gaps → List Var → List (Reference C) 
 SaysSame gap a_vars a b_vars binding =
     (number : ℕ → ℤ) (array : ℕ → Option ℕ) → KeepGaps gap number → NullsAreNull a array
     → map (said (numbers_bound number binding) (arrays_bound array binding)) b_vars ≡ map (said number array) a_vars
+
+-- The lengths of the second state's references, from 1 on, are worth what those are of what they are bound to.
+abbrev pub AreLengthsBound : {C : Type 0} → (ℕ → ℤ) → FrameBinding → List (Reference C) → List (Reference C) → List ℕ → Type 0
+AreLengthsBound number binding a [] bound = Unit {0}
+AreLengthsBound number binding a (known ∷ b) bound =
+    (worth (numbers_bound number binding) known.length ≡ worth number (length_at a (get_or bound 0 0)))
+    × AreLengthsBound number binding a b (drop 1 bound)
+
+abbrev pub HasSameLengths : {C : Type 0} → Gaps → List (Reference C) → List (Reference C) → FrameBinding → Type 0
+HasSameLengths gap a b binding =
+    (number : ℕ → ℤ) → KeepGaps gap number → AreLengthsBound number binding a b (drop 1 binding.references)

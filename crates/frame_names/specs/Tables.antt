@@ -10,6 +10,8 @@ use Rattle.frame_names.specs.Frames.{nullness_at, place_at}
 use Rattle.frame_names.specs.PairedFrames.{old_at}
 use Rattle.frame_names.specs.declared.merging.MergedReference.{MergedReference}
 use Rattle.frame_names.specs.declared.reference.Reference.{Reference}
+use Rattle.frame_names.specs.declared.var.Var.{Var}
+use Rattle.frame_names.specs.declared.var.Var.TheVariants as vars
 
 -- Each reference is null or is not as the table tells, where it is the array of a number or null.
 abbrev pub AreNulls : {C : Type 0} → List (Reference C) → (ℕ → Option ℕ) → Type 0
@@ -45,6 +47,24 @@ abbrev pub AreNullsOnBoth : {C : Type 0} → List (Reference C) → List (Refere
 AreNullsOnBoth a b merged =
     (is_first : Bool) (array : ℕ → Option ℕ) → AreNulls (if is_first then a else b) array
     → AllByRecursion (λ new. Agrees new.nullness (is_no_array (array (old_reference is_first new)))) merged
+
+-- The two references of a key are of one type, where both have one.
+abbrev pub AgreeOnPlace : {C : Type 0} → List (Reference C) → List (Reference C) → Key → Type 0
+AgreeOnPlace a b key = (p q : Place) → place_at a key.s ≡ Some p → place_at b key.t ≡ Some q → p ≡ q
+
+-- At each index two references are of one type, where both have one.
+abbrev pub AreOfOnePlace : {C : Type 0} → List (Reference C) → List (Reference C) → List Var → List Var → Type 0
+AreOfOnePlace a b (vars.Reference r ∷ xs) (vars.Reference q ∷ ys) =
+    ((p o : Place) → place_at a r ≡ Some p → place_at b q ≡ Some o → p ≡ o) × AreOfOnePlace a b xs ys
+AreOfOnePlace a b (x ∷ xs) (y ∷ ys) = AreOfOnePlace a b xs ys
+AreOfOnePlace a b _ _ = Unit {0}
+
+-- Merged references are of the types of the arrays that they are on each side.
+abbrev pub ArePlacesOnBoth : {C : Type 0} → List (Reference C) → List (Reference C) → List Key → List MergedReference → Type 0
+ArePlacesOnBoth a b keys merged =
+    (is_first : Bool) (array : ℕ → Option ℕ) (place : ℕ → Place) → AllByRecursion (AgreeOnPlace a b) keys
+    → ArePlaces (if is_first then a else b) array place
+    → AllByRecursion (λ new. (n : ℕ) → array (old_reference is_first new) ≡ Some n → new.place ≡ place n) merged
 
 -- ---- a state that is bound to another
 

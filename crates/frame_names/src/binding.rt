@@ -3,7 +3,7 @@
 ghost use Rattle.std.specs.Prelude.{◌≡◌, Some, None, get_or, IfOk, IfSome, if◌then◌else◌};
 ghost use Rattle.std.specs.Option.{option_and_then, option_map};
 ghost use Rattle.frame_names.specs.Frames.{AreAlike};
-ghost use Rattle.frame_names.specs.BoundMeaning.{SaysSame};
+ghost use Rattle.frame_names.specs.BoundMeaning.{HasSameLengths, SaysSame};
 ghost use Rattle.frame_names.specs.Binding.{bound_frames, filled_with, with_length, with_lengths, with_var, with_vars};
 
 use crate::frame::Frame;
@@ -187,6 +187,8 @@ pub fn bind_frames<O: Order, C>(
         a.now.vars.now a.now.references.now b.now.vars.now b.now.references.now symbols) }
     ensures says { IfOk result (λ binding. IfSome binding
         (SaysSame (O.gap order.now) a.now.vars.now a.now.references.now b.now.vars.now)) }
+    ensures lengths { IfOk result (λ binding. IfSome binding
+        (HasSameLengths (O.gap order.now) a.now.references.now b.now.references.now)) }
 {
     bound(alloc, order, a, b, symbols)
 }

@@ -3,6 +3,8 @@
 ghost use Rattle.std.specs.Prelude.{◌≡◌, true, false, drop, length, IfOk, IfSome};
 ghost use Rattle.frame_names.specs.Frames.{AreAlike, IsNearFrame, numbers_of};
 ghost use Rattle.frame_names.specs.Meaning.{HasBothLengths, SaysBoth};
+ghost use Rattle.frame_names.specs.Tables.{AgreeOnPlace, AreOfOnePlace};
+ghost use Rattle.std.specs.List.{AllByRecursion};
 ghost use Rattle.frame_names.specs.PairedFrames.{if_near, named_frame, paired_frames, pairing_by, pairs_of};
 
 use crate::exprs::are_near;
@@ -159,6 +161,9 @@ pub fn pair_frames<C>(
     ensures says { IfOk result (λ frames. IfSome frames (SaysBoth a.now.vars.now b.now.vars.now)) }
     ensures lengths { IfOk result (λ frames.
         IfSome frames (HasBothLengths a.now.references.now b.now.references.now)) }
+    ensures places { AreOfOnePlace a.now.references.now b.now.references.now a.now.vars.now b.now.vars.now
+        → IfOk result (λ frames. IfSome frames (λ new.
+        AllByRecursion (AgreeOnPlace a.now.references.now b.now.references.now) new.references.keys)) }
 {
     paired(alloc, a, b)
 }
