@@ -450,7 +450,7 @@ module _ {C : Type 0} (gap : Gaps) (number : ℕ → ℤ) (a : List (Reference C
   are_bound [] slots bound symbols binding filled_is bound_is are = tt
   are_bound (known ∷ rest) slots bound symbols binding filled_is bound_is are = (
     worth_filled number symbols binding known.length (worth number (length_at a are.0.reference)) filled_is are.0.worth_is
-    ∙ ap (λ r. worth number (length_at a r)) (sym (filled_first slots bound are.0.reference 0 bound_is are.0.slot_is)),
+        ∙ ap (λ r. worth number (length_at a r)) (sym (filled_first slots bound are.0.reference 0 bound_is are.0.slot_is)),
     are_bound rest (drop 1 slots) (drop 1 bound) symbols binding filled_is (filled_behind slots bound bound_is) are.1,
   )
 

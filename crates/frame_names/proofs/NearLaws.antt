@@ -1,5 +1,5 @@
 -- Where all variables and lengths are int32, the constants of new names are near.
-use Rattle.std.proofs.Common.{◌≡◌, ℕ, suc, ◌<◌, ℤ, pos, negsuc, ◌+ℤ◌, ◌-ℤ◌, ◌≤ℤ◌, int_le, Bool, true, false, ◌&&◌, List, [], ◌∷◌, ◌++◌, length, get_or, map, Option, Some, None, if◌then◌else◌, refl, sym, ap, ◌∙◌, subst, arith}
+use Rattle.std.proofs.Common.{◌≡◌, ℕ, ◌<◌, ℤ, pos, negsuc, ◌+ℤ◌, ◌-ℤ◌, ◌≤ℤ◌, int_le, Bool, true, false, ◌&&◌, List, [], ◌∷◌, ◌++◌, length, get_or, map, Option, Some, None, if◌then◌else◌, refl, sym, ap, ◌∙◌, subst, arith}
 use Rattle.std.specs.Option.{IsSome}
 use Rattle.std.specs.List.{AllByRecursion, list_all}
 use Rattle.std.proofs.lemmas.Int.{ints}
@@ -15,7 +15,7 @@ use Rattle.frame_names.specs.declared.reference.Reference.{Reference}
 use Rattle.frame_names.specs.declared.var.Var.{Var}
 use Rattle.frame_names.specs.Fitting.{AreInt32s, IsInt32}
 use Rattle.frame_names.specs.Frames.{AreAlike, length_at, numbers_of}
-use Rattle.frame_names.specs.PairedFrames.{FramePairing, exprs_of, if_near, is_near, named_frame, old_of, paired_frames, pairing_by, pairs_of}
+use Rattle.frame_names.specs.PairedFrames.{FramePairing, exprs_of, is_near, named_frame, old_of, paired_frames, pairing_by, pairs_of}
 use Rattle.frame_names.proofs.FrameLemmas.{same_exprs}
 use Rattle.frame_names.proofs.UseLemmas.{all_first}
 
