@@ -13,7 +13,8 @@ use Rattle.frame_names.specs.declared.reference.Reference.{Reference}
 -- Two references of a state cannot be the same array: they are kept apart, their types differ, or one is null.
 abbrev pub cannot_be_same : {C : Type 0} → List (Reference C) → List Pair → ℕ → ℕ → Bool
 cannot_be_same known pairs r q =
-    must_differ (contains pairs (ordered r q)) (are_one_place (place_at known r) (place_at known q)) (nullness_at known r) (nullness_at known q)
+    must_differ (contains pairs (ordered r q)) (are_one_place (place_at known r) (place_at known q))
+    (nullness_at known r) (nullness_at known q)
 
 -- Two references of a state are kept apart.
 abbrev pub are_kept : List Pair → ℕ → ℕ → Bool
@@ -35,7 +36,8 @@ pairs_by test count = fold (with_row test) [] (range_with_len 1 count)
 
 module _ {C : Type 0} where
   -- Two new references cannot be the same array on either side.
-  abbrev pub are_apart_in_both : List Key → List (Reference C) → List Pair → List (Reference C) → List Pair → ℕ → ℕ → Bool
+  abbrev pub are_apart_in_both : List Key → List (Reference C) → List Pair → List (Reference C) → List Pair
+      → ℕ → ℕ → Bool
   are_apart_in_both keys a a_pairs b b_pairs r q =
       cannot_be_same a a_pairs (old_at true keys r) (old_at true keys q)
       && cannot_be_same b b_pairs (old_at false keys r) (old_at false keys q)

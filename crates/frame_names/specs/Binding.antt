@@ -9,7 +9,8 @@ use Rattle.frame_names.specs.declared.slots.Bound.{Bound}
 use Rattle.frame_names.specs.declared.var.Var.{Var}
 use Rattle.frame_names.specs.declared.var.Var.TheVariants as vars
 
--- ---- expressions of the other state, as far as gaps tell. A gap may be added to the first symbol without passing the second
+-- ---- expressions of the first state, as far as gaps tell. A gap may be added to the first of two symbols without
+-- passing the second
 
 abbrev pub Gaps : Type 0
 Gaps = ℕ → ℕ → Option ℤ
@@ -87,7 +88,8 @@ module _ {C : Type 0} where
   with_var gap a b vars.Text vars.Text slots = Some slots
   with_var gap a b _ _ slots = None
 
-  abbrev pub with_vars : Gaps → List (Reference C) → List (Reference C) → List Var → List Var → SlotLists → Option SlotLists
+  abbrev pub with_vars : Gaps → List (Reference C) → List (Reference C) → List Var → List Var → SlotLists
+      → Option SlotLists
   with_vars gap a b [] [] slots = Some slots
   with_vars gap a b (x ∷ xs) (y ∷ ys) slots = option_and_then (with_vars gap a b xs ys) (with_var gap a b x y slots)
   with_vars gap a b _ _ slots = None
@@ -136,7 +138,9 @@ module _ {C : Type 0} where
   filled gap a b slots =
       option_and_then (filled_with slots.references) (with_lengths gap a b (drop 1 slots.references) slots.symbols)
 
-  -- The variables in order, then the lengths of references, bind the second frame, which has so many symbols, to the first.
-  abbrev pub bound_frames : Gaps → List Var → List (Reference C) → List Var → List (Reference C) → ℕ → Option FrameBinding
+  -- The variables in order, then the lengths of references, bind the second frame, which has so many symbols, to the
+  -- first.
+  abbrev pub bound_frames : Gaps → List Var → List (Reference C) → List Var → List (Reference C) → ℕ
+      → Option FrameBinding
   bound_frames gap a_vars a b_vars b symbols =
       option_and_then (filled gap a b) (with_vars gap a b a_vars b_vars (free_slots symbols (length b)))

@@ -38,7 +38,8 @@ SaysSame gap a_vars a b_vars binding =
     → map (said (numbers_bound number binding) (arrays_bound array binding)) b_vars ≡ map (said number array) a_vars
 
 -- The lengths of the second state's references, from 1 on, are worth what those are of what they are bound to.
-abbrev pub AreLengthsBound : {C : Type 0} → (ℕ → ℤ) → FrameBinding → List (Reference C) → List (Reference C) → List ℕ → Type 0
+abbrev pub AreLengthsBound : {C : Type 0} → (ℕ → ℤ) → FrameBinding → List (Reference C) → List (Reference C) → List ℕ
+    → Type 0
 AreLengthsBound number binding a [] bound = Unit {0}
 AreLengthsBound number binding a (known ∷ b) bound =
     (worth (numbers_bound number binding) known.length ≡ worth number (length_at a (get_or bound 0 0)))

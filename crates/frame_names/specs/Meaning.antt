@@ -20,7 +20,8 @@ said number array (vars.Number e) = a_number (worth number e)
 said number array (vars.Reference r) = an_array (array r)
 said number array vars.Text = a_text
 
--- ---- two frames that were named together. Each new symbol and each new reference is worth what its first use is on that side
+-- ---- two frames that were named together. Each new symbol is worth what its first use is on that side, and each new
+-- reference is the array that its first use is
 
 abbrev pub numbers_behind : Bool → (ℕ → ℤ) → FramePairing → ℕ → ℤ
 numbers_behind is_first number new = behind_uses is_first number (origin ∷ new.numbers.keys)
@@ -32,7 +33,8 @@ arrays_behind is_first array new r = array (old_at is_first new.references.keys 
 abbrev pub SaysBoth : List Var → List Var → FramePairing → Type 0
 SaysBoth a b new =
     (is_first : Bool) (number : ℕ → ℤ) (array : ℕ → Option ℕ)
-    → map (said (numbers_behind is_first number new) (arrays_behind is_first array new)) new.vars ≡ map (said number array) (if is_first then a else b)
+    → map (said (numbers_behind is_first number new) (arrays_behind is_first array new)) new.vars
+    ≡ map (said number array) (if is_first then a else b)
 
 -- The new lengths are worth what the lengths of the paired references are on each side.
 abbrev pub HasBothLengths : {C : Type 0} → List (Reference C) → List (Reference C) → FramePairing → Type 0

@@ -37,7 +37,8 @@ behind (e ∷ es) = es
 
 abbrev pub new_vars : List Expr → List Expr → List Var → List Var
 new_vars numbers references [] = []
-new_vars numbers references (vars.Number e ∷ vs) = vars.Number (first_expr numbers) ∷ new_vars (behind numbers) references vs
+new_vars numbers references (vars.Number e ∷ vs) =
+    vars.Number (first_expr numbers) ∷ new_vars (behind numbers) references vs
 new_vars numbers references (vars.Reference r ∷ vs) =
     vars.Reference (first_expr references).sym ∷ new_vars numbers (behind references) vs
 new_vars numbers references (vars.Text ∷ vs) = vars.Text ∷ new_vars numbers references vs
@@ -73,7 +74,7 @@ abbrev pub if_near : FramePairing → Option FramePairing
 if_near new = if list_all is_near new.numbers.exprs then Some new else None
 
 module _ {C : Type 0} where
-  -- The references of the variables are paired first. Then the numbers are: those of the variables, and behind them the lengths of
-  -- the paired references.
+  -- The references of the variables are paired first. Then the numbers are: those of the variables, and behind them
+  -- the lengths of the paired references.
   abbrev pub paired_frames : List Var → List (Reference C) → List Var → List (Reference C) → Option FramePairing
   paired_frames a known b other = if_near (named_frame a (pairs_of a b) (pairing_by (pairs_of a b) a known b other))

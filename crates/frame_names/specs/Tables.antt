@@ -28,7 +28,8 @@ abbrev pub arrays_by : Bool → (ℕ → Option ℕ) → List Key → ℕ → Op
 arrays_by is_first array keys new = array (old_at is_first keys new)
 
 -- Pairs of new references are not the same array where what each side tells is so.
-abbrev pub DifferOnBoth : {C : Type 0} → List Key → List (Reference C) → List Pair → List (Reference C) → List Pair → List Pair → Type 0
+abbrev pub DifferOnBoth : {C : Type 0} → List Key → List (Reference C) → List Pair → List (Reference C) → List Pair
+    → List Pair → Type 0
 DifferOnBoth keys a a_pairs b b_pairs pairs =
     (is_first : Bool) (array : ℕ → Option ℕ) (place : ℕ → Place) → AreNulls (if is_first then a else b) array
     → ArePlaces (if is_first then a else b) array place → AllDiffer array (if is_first then a_pairs else b_pairs)
@@ -36,7 +37,8 @@ DifferOnBoth keys a a_pairs b b_pairs pairs =
 
 -- Pairs of new references are not the same array where those that were kept on the first side are not.
 abbrev pub DifferAsKept : List Key → List Pair → List Pair → Type 0
-DifferAsKept keys kept pairs = (array : ℕ → Option ℕ) → AllDiffer array kept → AllDiffer (arrays_by true array keys) pairs
+DifferAsKept keys kept pairs =
+    (array : ℕ → Option ℕ) → AllDiffer array kept → AllDiffer (arrays_by true array keys) pairs
 
 -- What a merged reference was on a side.
 abbrev pub old_reference : Bool → MergedReference → ℕ
@@ -60,7 +62,8 @@ AreOfOnePlace a b (x ∷ xs) (y ∷ ys) = AreOfOnePlace a b xs ys
 AreOfOnePlace a b _ _ = Unit {0}
 
 -- Merged references are of the types of the arrays that they are on each side.
-abbrev pub ArePlacesOnBoth : {C : Type 0} → List (Reference C) → List (Reference C) → List Key → List MergedReference → Type 0
+abbrev pub ArePlacesOnBoth : {C : Type 0} → List (Reference C) → List (Reference C) → List Key
+    → List MergedReference → Type 0
 ArePlacesOnBoth a b keys merged =
     (is_first : Bool) (array : ℕ → Option ℕ) (place : ℕ → Place) → AllByRecursion (AgreeOnPlace a b) keys
     → ArePlaces (if is_first then a else b) array place
@@ -71,7 +74,8 @@ ArePlacesOnBoth a b keys merged =
 -- What the second state knows of its references being null, from 1 on, is so of what these are bound to.
 abbrev pub AgreeBound : {C : Type 0} → (ℕ → Option ℕ) → List (Reference C) → List ℕ → Type 0
 AgreeBound array [] bound = Unit {0}
-AgreeBound array (known ∷ b) bound = Agrees known.nullness (is_no_array (array (get_or bound 0 0))) × AgreeBound array b (drop 1 bound)
+AgreeBound array (known ∷ b) bound =
+    Agrees known.nullness (is_no_array (array (get_or bound 0 0))) × AgreeBound array b (drop 1 bound)
 
 -- Pairs of the second state are not the same array where what the first tells is so.
 abbrev pub DifferBound : {C : Type 0} → List (Reference C) → List Pair → List ℕ → List Pair → Type 0

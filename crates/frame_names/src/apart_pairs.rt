@@ -115,8 +115,8 @@ impl<'a, C> Sides<'a, C> {
     }
 }
 
-/// The pairs of new references that cannot be the same array in either state: there each two are kept apart, their types
-/// differ, or one is null. Given are the keys of the paired references.
+/// The pairs of new references that cannot be the same array in either state: there each two are kept apart, their
+/// types differ, or one is null. Given are the keys of the paired references.
 ///
 /// Cost: each two references are looked at.
 pub fn joined_apart<C>(

@@ -167,9 +167,9 @@ fn bound<O: Order, C>(
     )
 }
 
-/// Binds the frame of a state b, which has so many symbols, to that of a state a: first the variables in order, then the
-/// lengths of references. A symbol or a reference is bound where it is met first. Where it is met again, the two must be
-/// shown to be equal, or be the same reference.
+/// Binds the frame of a state b, which has so many symbols, to that of a state a: first the variables in order, then
+/// the lengths of references. A symbol or a reference is bound where it is met first. Where it is met again, the two
+/// must be shown to be equal, or be the same reference.
 ///
 /// None where they are not, where a reference is bound to one of another type that may be an array, where reference 0
 /// meets one that may be an array, or where a symbol or a reference stays unbound.

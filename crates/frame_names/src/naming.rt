@@ -32,7 +32,8 @@ struct Taken {
 impl Taken {
     /// The new name of a variable.
     fn name(&mut self, var: Var, numbers: &[Expr], references: &[Expr]) -> Var
-        ensures { (vs : List Var) → new_vars (drop self.old.numbers numbers.now) (drop self.old.references references.now) (var ∷ vs)
+        ensures { (vs : List Var) →
+            new_vars (drop self.old.numbers numbers.now) (drop self.old.references references.now) (var ∷ vs)
             ≡ result ∷ new_vars (drop self.new.numbers numbers.now) (drop self.new.references references.now) vs }
     {
         match var {

@@ -142,11 +142,11 @@ fn paired<C>(alloc: Global, a: &Frame<C>, b: &Frame<C>) -> Result<Option<PairedF
     if_near(alloc, a.vars, references, numbers)
 }
 
-/// The frames of two states named together, variable by variable: first their references, then their numbers, and behind
-/// these the lengths of the references that are paired.
+/// The frames of two states named together, variable by variable: first their references, then their numbers, and
+/// behind these the lengths of the references that are paired.
 ///
-/// None where the constant of a new number or length leaves -2^32 to 2^32. Then no int32 are values of all variables and
-/// lengths.
+/// None where the constant of a new number or length leaves -2^32 to 2^32. Then no values of symbols make all variables
+/// and lengths of a state int32.
 ///
 /// Cost: that of pairing references and numbers, each once. `NoMemory` as there.
 pub fn pair_frames<C>(
