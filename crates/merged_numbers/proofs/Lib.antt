@@ -5,4 +5,5 @@ pub mod OutcomeLaws
 pub mod RangeLists
 pub mod RowLaws
 pub mod InclusionLaws
+pub mod FormLaws
 pub mod Laws

@@ -1,5 +1,5 @@
 -- What is known is so of numbers.
-use Rattle.std.specs.Prelude.{◌≡◌, ℕ, suc, ◌<◌, ℤ, pos, ◌≤ℤ◌, Bool, true, List, ◌∷◌, get_or, length, slice_get, Option, Some, None, FitsSigned}
+use Rattle.std.specs.Prelude.{◌≡◌, ℕ, suc, ◌+◌, ◌<◌, ℤ, pos, ◌≤ℤ◌, Bool, true, List, ◌∷◌, get_or, length, slice_get, Option, Some, None, FitsSigned}
 use Rattle.std.specs.Int.{w32}
 use Rattle.std.specs.List.{AllByRecursion}
 use Rattle.cil_model.specs.Arithmetic.{LEAST, GREATEST}
@@ -9,6 +9,7 @@ use Rattle.number_spans.specs.Spans.{Has}
 use Rattle.number_spans.specs.Stored as ranges
 use Rattle.number_spans.specs.declared.span.Span.{Span}
 use Rattle.pentagon_domain.specs.Gaps as by_bounds
+use Rattle.pentagon_domain.proofs.Allowing.{AreBelow}
 use Rattle.symbolic_values.specs.declared.pairs.Key.{Key}
 use Rattle.symbolic_values.specs.Pairing.{origin}
 use Rattle.symbolic_values.specs.Worth.{behind_uses, worth_of_use}
@@ -29,6 +30,18 @@ AreMeasured spans = AllByRecursion IsMeasured spans
 pub record IsCut (r : Span) : Type 0 where
   pub least : LEAST ≤ℤ r.lo
   pub greatest : r.hi ≤ℤ GREATEST
+
+-- ---- the form
+
+-- There is a range of int32 for each key, and bounds name no other symbols.
+pub record IsFormed (keys : List Key) (outcome : Outcome) : Type 0 where
+  pub count : length outcome.ranges ≡ length keys
+  pub narrow : AllByRecursion ranges.IsNarrow outcome.ranges
+  pub named : AllByRecursion (AreBelow (length keys + 1)) outcome.bounds
+
+abbrev pub HaveForm : List Key → Option Outcome → Type 0
+HaveForm keys None = Unit {0}
+HaveForm keys (Some outcome) = IsFormed keys outcome
 
 -- ---- choices
 

@@ -3,7 +3,7 @@
 ghost use Rattle.std.specs.Prelude.{◌≡◌, ◌<◌, length, get_or, None, option_map, true, false, IfOk, OnOk};
 ghost use Rattle.symbolic_values.specs.Pairing.{origin};
 ghost use Rattle.merged_numbers.specs.Known.{IsRow, known};
-ghost use Rattle.merged_numbers.specs.Meaning.{AreMeasured, Keeps};
+ghost use Rattle.merged_numbers.specs.Meaning.{AreMeasured, HaveForm, Keeps};
 ghost use Rattle.merged_numbers.specs.Merging as rule;
 ghost use Rattle.merged_numbers.specs.Merging.{merged_gap, merged_span, ranges_of, row_of, rows_of};
 ghost use Rattle.merged_numbers.specs.Spans as spans;
@@ -158,14 +158,22 @@ impl Sides<'_> {
     }
 }
 
-/// What both states know.
-#[tactic(auto, using(crate::proofs::Laws::merges))]
+/// What both states know of the new symbols that stand for keys: the range of each, and how they lie to each other. `None`
+/// exactly where a range is empty, so that nothing is reached; then no choice of numbers suits either state.
+///
+/// A range is the hull of what the first use of its key may be on both sides, as an int32. A bound is the lesser of what
+/// both sides know, where it says more than the new ranges.
+///
+/// Cost: for each key a pass over the symbols of both states and the bounds behind those of the key, and one over the
+/// keys. `NoMemory` where memory runs out, and where a symbol would need more than 32 bits.
+#[tactic(auto, using(crate::proofs::Laws::merges, crate::proofs::FormLaws::merged_formed))]
 pub fn joined(alloc: Global, keys: &[Key], a: &Side, b: &Side) -> Result<Option<Merged>, NoMemory>
     requires first { AreMeasured a.now.spans.now }
     requires second { AreMeasured b.now.spans.now }
     ensures value { IfOk result (λ made. made ≡ rule.joined keys.now (known a.now) (known b.now)) }
     ensures left { IfOk result (Keeps true keys.now (known a.now)) }
     ensures right { IfOk result (Keeps false keys.now (known b.now)) }
+    ensures form { IfOk result (HaveForm keys.now) }
 {
     Sides {
         rule: Rule::Join,
@@ -176,14 +184,18 @@ pub fn joined(alloc: Global, keys: &[Key], a: &Side, b: &Side) -> Result<Option<
     .merged(alloc)
 }
 
-/// What both know, with ends that settle.
-#[tactic(auto, using(crate::proofs::Laws::merges))]
+/// What both states know, as `joined` has it, where an end that the second state passes settles. A bound is that of the
+/// first state, where the second knows no less; a hole is one of the first.
+///
+/// Cost, `None` and `NoMemory`: as of `joined`.
+#[tactic(auto, using(crate::proofs::Laws::merges, crate::proofs::FormLaws::merged_formed))]
 pub fn widened(alloc: Global, keys: &[Key], a: &Side, b: &Side) -> Result<Option<Merged>, NoMemory>
     requires first { AreMeasured a.now.spans.now }
     requires second { AreMeasured b.now.spans.now }
     ensures value { IfOk result (λ made. made ≡ rule.widened keys.now (known a.now) (known b.now)) }
     ensures left { IfOk result (Keeps true keys.now (known a.now)) }
     ensures right { IfOk result (Keeps false keys.now (known b.now)) }
+    ensures form { IfOk result (HaveForm keys.now) }
 {
     Sides {
         rule: Rule::Widening,

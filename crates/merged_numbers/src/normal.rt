@@ -3,7 +3,7 @@
 ghost use Rattle.std.specs.Prelude.{◌≡◌, ◌<◌, length, get_or, None, option_map, true, IfOk, OnOk};
 ghost use Rattle.symbolic_values.specs.Pairing.{origin};
 ghost use Rattle.merged_numbers.specs.Known.{IsRow, known};
-ghost use Rattle.merged_numbers.specs.Meaning.{AreMeasured, Keeps};
+ghost use Rattle.merged_numbers.specs.Meaning.{AreMeasured, HaveForm, Keeps};
 ghost use Rattle.merged_numbers.specs.Spans as spans;
 ghost use Rattle.merged_numbers.specs.Merging as rule;
 ghost use Rattle.merged_numbers.specs.Merging.{own_gap, own_span};
@@ -111,12 +111,18 @@ fn own(alloc: Global, keys: &[Key], a: &Side) -> Result<Option<Merged>, NoMemory
     Ok(Some(Merged { ranges, bounds }))
 }
 
-/// What one state knows, in the names of its own keys.
-#[tactic(auto, using(crate::proofs::Laws::normed_keeps))]
+/// What one state knows of the new symbols that stand for its own keys: of each the int32 that its first use may be, and
+/// each bound that says more than the new ranges. `None` exactly where a range is empty. Of a key only what it says of the
+/// first side counts.
+///
+/// Cost: for each key a pass over the symbols of the state and the bounds behind those of the key, and one over the keys.
+/// `NoMemory` where memory runs out, and where a symbol would need more than 32 bits.
+#[tactic(auto, using(crate::proofs::Laws::normed_keeps, crate::proofs::FormLaws::normed_formed))]
 pub fn normed(alloc: Global, keys: &[Key], a: &Side) -> Result<Option<Merged>, NoMemory>
     requires { AreMeasured a.now.spans.now }
     ensures value { IfOk result (λ made. made ≡ rule.normed keys.now (known a.now)) }
     ensures keeps { IfOk result (Keeps true keys.now (known a.now)) }
+    ensures form { IfOk result (HaveForm keys.now) }
 {
     own(alloc, keys, a)
 }
