@@ -108,8 +108,8 @@ impl Sides<'_> {
         requires second { IsRow second.now self.now.b.bounds.now (get_or self.now.keys.now i origin).t }
         requires ranges { length ranges.now ≡ length self.now.keys.now }
         requires inside { i < length self.now.keys.now }
-        ensures { OnOk result (bounds.new ≡ row_of (merged_gap self.now.rule (known self.now.a) (known self.now.b)) self.now.keys.now
-            ranges.now i (length self.now.keys.now) bounds.old) }
+        ensures { OnOk result (bounds.new ≡ row_of (merged_gap self.now.rule (known self.now.a) (known self.now.b))
+            self.now.keys.now ranges.now i (length self.now.keys.now) bounds.old) }
     {
         for j in 0..self.keys.len() {
             let gap = self.gap(first, second, &self.keys[i], &self.keys[j]);
@@ -120,23 +120,22 @@ impl Sides<'_> {
 
     /// Adds the bounds from each key to each other.
     #[tactic(auto, using(crate::proofs::RowLaws::rows))]
-    fn add_rows(
-        &self,
-        alloc: Global,
-        bounds: &mut Bounds,
-        ranges: &[Range],
-    ) -> Result<(), NoMemory>
+    fn add_rows(&self, alloc: Global, bounds: &mut Bounds, ranges: &[Range]) -> Result<(), NoMemory>
         requires one { AreMeasured self.now.a.spans.now }
         requires other { AreMeasured self.now.b.spans.now }
         requires ranges { length ranges.now ≡ length self.now.keys.now }
-        ensures { OnOk result (bounds.new ≡ rows_of (merged_gap self.now.rule (known self.now.a) (known self.now.b)) self.now.keys.now
-            ranges.now (length self.now.keys.now) bounds.old) }
+        ensures { OnOk result (bounds.new ≡ rows_of (merged_gap self.now.rule (known self.now.a) (known self.now.b))
+            self.now.keys.now ranges.now (length self.now.keys.now) bounds.old) }
     {
         let mut first = vec![in alloc; None; self.a.spans.len()]?;
         let mut second = vec![in alloc; None; self.b.spans.len()]?;
         for i in 0..self.keys.len() {
-            self.a.bounds.gaps_from(self.keys[i].s, first.as_mut_slice());
-            self.b.bounds.gaps_from(self.keys[i].t, second.as_mut_slice());
+            self.a
+                .bounds
+                .gaps_from(self.keys[i].s, first.as_mut_slice());
+            self.b
+                .bounds
+                .gaps_from(self.keys[i].t, second.as_mut_slice());
             self.add_row(bounds, ranges, first.as_slice(), second.as_slice(), i)?;
         }
         Ok(())
@@ -147,7 +146,8 @@ impl Sides<'_> {
     fn merged(&self, alloc: Global) -> Result<Option<Merged>, NoMemory>
         requires first { AreMeasured self.now.a.spans.now }
         requires second { AreMeasured self.now.b.spans.now }
-        ensures { IfOk result (λ made. made ≡ rule.merged self.now.rule self.now.keys.now (known self.now.a) (known self.now.b)) }
+        ensures { IfOk result (λ made. made
+            ≡ rule.merged self.now.rule self.now.keys.now (known self.now.a) (known self.now.b)) }
     {
         let Some(ranges) = self.ranges(alloc)? else {
             return Ok(None);
@@ -158,11 +158,11 @@ impl Sides<'_> {
     }
 }
 
-/// What both states know of the new symbols that stand for keys: the range of each, and how they lie to each other. `None`
-/// exactly where a range is empty, so that nothing is reached; then no choice of numbers suits either state.
+/// What both states know of the new symbols that stand for keys: the range of each, and how they lie to each other.
+/// `None` exactly where a range is empty, so that nothing is reached; then no choice of numbers suits either state.
 ///
-/// A range is the hull of what the first use of its key may be on both sides, as an int32. A bound is the lesser of what
-/// both sides know, where it says more than the new ranges.
+/// A range is the hull of what the first use of its key may be on both sides, as an int32. A bound is the lesser of
+/// what both sides know, where it says more than the new ranges.
 ///
 /// Cost: for each key a pass over the symbols of both states and the bounds behind those of the key, and one over the
 /// keys. `NoMemory` where memory runs out, and where a symbol would need more than 32 bits.
@@ -184,7 +184,7 @@ pub fn joined(alloc: Global, keys: &[Key], a: &Side, b: &Side) -> Result<Option<
     .merged(alloc)
 }
 
-/// What both states know, as `joined` has it, where an end that the second state passes settles. A bound is that of the
+/// What both states know, as `joined` has it, but an end that the second state passes settles. A bound is that of the
 /// first state, where the second knows no less; a hole is one of the first.
 ///
 /// Cost, `None` and `NoMemory`: as of `joined`.

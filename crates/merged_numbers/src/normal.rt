@@ -41,7 +41,8 @@ fn range_of(key: &Key, a: &Side) -> Option<Range>
 #[tactic(auto, using(crate::proofs::RangeLists::all_ranges))]
 fn ranges_of(alloc: Global, keys: &[Key], a: &Side) -> Result<Option<Vec<Range>>, NoMemory>
     requires { AreMeasured a.now.spans.now }
-    ensures { IfOk result (λ ranges. option_map (λ rs. rs.items) ranges ≡ rule.ranges_of (own_span (known a.now)) keys.now) }
+    ensures { IfOk result (λ ranges. option_map (λ rs. rs.items) ranges
+        ≡ rule.ranges_of (own_span (known a.now)) keys.now) }
 {
     let mut ranges = Vec::with_capacity(alloc, keys.len())?;
     for key in keys {
@@ -67,7 +68,8 @@ fn add_row(
     requires row { IsRow row.now a.now.bounds.now (get_or keys.now i origin).s }
     requires ranges { length ranges.now ≡ length keys.now }
     requires inside { i < length keys.now }
-    ensures { OnOk result (bounds.new ≡ rule.row_of (own_gap (known a.now)) keys.now ranges.now i (length keys.now) bounds.old) }
+    ensures { OnOk result (bounds.new
+        ≡ rule.row_of (own_gap (known a.now)) keys.now ranges.now i (length keys.now) bounds.old) }
 {
     for j in 0..keys.len() {
         let gap = a.term_gap(row, Term::first_of(&keys[i]), Term::first_of(&keys[j]));
@@ -87,7 +89,8 @@ fn add_rows(
 ) -> Result<(), NoMemory>
     requires measured { AreMeasured a.now.spans.now }
     requires ranges { length ranges.now ≡ length keys.now }
-    ensures { OnOk result (bounds.new ≡ rule.rows_of (own_gap (known a.now)) keys.now ranges.now (length keys.now) bounds.old) }
+    ensures { OnOk result (bounds.new
+        ≡ rule.rows_of (own_gap (known a.now)) keys.now ranges.now (length keys.now) bounds.old) }
 {
     let mut row = vec![in alloc; None; a.spans.len()]?;
     for i in 0..keys.len() {
@@ -111,12 +114,12 @@ fn own(alloc: Global, keys: &[Key], a: &Side) -> Result<Option<Merged>, NoMemory
     Ok(Some(Merged { ranges, bounds }))
 }
 
-/// What one state knows of the new symbols that stand for its own keys: of each the int32 that its first use may be, and
-/// each bound that says more than the new ranges. `None` exactly where a range is empty. Of a key only what it says of the
-/// first side counts.
+/// What one state knows of the new symbols that stand for its own keys: of each the int32 that its first use may be,
+/// and each bound that says more than the new ranges. `None` exactly where a range is empty. Of a key only what it says
+/// of the first side counts.
 ///
-/// Cost: for each key a pass over the symbols of the state and the bounds behind those of the key, and one over the keys.
-/// `NoMemory` where memory runs out, and where a symbol would need more than 32 bits.
+/// Cost: for each key a pass over the symbols of the state and the bounds behind those of the key, and one over the
+/// keys. `NoMemory` where memory runs out, and where a symbol would need more than 32 bits.
 #[tactic(auto, using(crate::proofs::Laws::normed_keeps, crate::proofs::FormLaws::normed_formed))]
 pub fn normed(alloc: Global, keys: &[Key], a: &Side) -> Result<Option<Merged>, NoMemory>
     requires { AreMeasured a.now.spans.now }
