@@ -1,13 +1,12 @@
 -- The int32 of a term, and what becomes of two such spans, do not leave int32 outwards.
 use Rattle.std.proofs.Common.{◌≡◌, true, false, ℤ, pos, ◌+ℤ◌, ◌-ℤ◌, ◌≤ℤ◌, Option, Some, None, int_lt, slice_get, arith}
-use Rattle.std.specs.Prelude.{if◌then◌else◌}
 use Rattle.std.specs.Int.{int_min, int_max}
 use Rattle.std.proofs.lemmas.Bool.{cond_both}
 use Rattle.std.proofs.lemmas.Int.{ints, clamps}
 use Rattle.cil_model.specs.Arithmetic.{LEAST, GREATEST}
 use Rattle.interval_domain.specs.Interval.{is_hole}
 use Rattle.interval_domain.specs.Joins.{floor_of, ceiling_of, lower_end, upper_end}
-use Rattle.number_spans.specs.Spans.{full, moved_hole}
+use Rattle.number_spans.specs.Spans.{moved_hole}
 use Rattle.number_spans.specs.declared.span.Span.{Span}
 use Rattle.merged_numbers.specs.declared.rule.Rule.{Rule}
 use Rattle.merged_numbers.specs.declared.rule.Rule.TheVariants.{Join, Widening}

@@ -1,6 +1,6 @@
 -- The form of what is known of new symbols.
-use Rattle.std.proofs.Common.{◌≡◌, ℕ, zero, suc, ◌+◌, ◌<◌, ℤ, pos, ◌≤ℤ◌, ◌&&◌, List, [], ◌∷◌, length, get_or, Option, Some, None, refl, sym, ap, ◌∙◌, inl, inr, arith}
-use Rattle.std.specs.Prelude.{int_lt, option_and_then, if◌then◌else◌}
+use Rattle.std.proofs.Common.{◌≡◌, ℕ, zero, suc, ◌+◌, ◌<◌, ℤ, ◌&&◌, List, [], ◌∷◌, length, get_or, Option, Some, None, refl, inl, inr, arith}
+use Rattle.std.specs.Prelude.{int_lt, option_and_then}
 use Rattle.std.specs.List.{AllByRecursion}
 use Rattle.std.proofs.lemmas.Bool.{cases_Bool, cond_both}
 use Rattle.interval_domain.specs.Interval.{Interval}
@@ -15,8 +15,8 @@ use Rattle.symbolic_values.specs.Pairing.{origin}
 use Rattle.merged_numbers.specs.declared.rule.Rule.{Rule}
 use Rattle.merged_numbers.specs.Known.{Known}
 use Rattle.merged_numbers.specs.Spans.{but_for, stored}
-use Rattle.merged_numbers.specs.Merging.{Outcome, put_before, ranges_of, steps, told, is_constant, with_gap, row_of, rows_of, with_bounds, outcome_of, merged_span, merged_gap, merged, own_span, own_gap, normed}
-use Rattle.merged_numbers.specs.Meaning.{IsCut, IsFormed, HaveForm}
+use Rattle.merged_numbers.specs.Merging.{put_before, ranges_of, steps, told, is_constant, with_gap, row_of, rows_of, with_bounds, outcome_of, merged_span, merged_gap, merged, own_span, own_gap, normed}
+use Rattle.merged_numbers.specs.Meaning.{IsCut, HaveForm}
 use Rattle.merged_numbers.proofs.CutLaws.{merged_span_cut, own_span_cut}
 use Rattle.merged_numbers.proofs.RangeLists.{ranges_length}
 

@@ -1,13 +1,13 @@
 -- What is included is so.
 use Rattle.std.proofs.Common.{◌≡◌, ◌≢◌, ℕ, zero, suc, ◌+◌, ◌-◌, ◌<◌, ◌≤◌, ℤ, pos, ◌+ℤ◌, ◌-ℤ◌, ◌≤ℤ◌, Bool, true, false, ◌&&◌, int_le, List, [], ◌∷◌, length, get_or, slice_get, Option, Some, None, FitsSigned, w32, option_map, drop, drop-cons, add-one, refl, sym, ap, ◌∙◌, arith}
-use Rattle.std.specs.List.{AllByRecursion, list_all}
+use Rattle.std.specs.List.{list_all}
 use Rattle.std.proofs.lemmas.Bool.{and_parts}
 use Rattle.std.proofs.lemmas.Int.{ints}
 use Rattle.std.proofs.lemmas.List.{drop_all}
 use Rattle.interval_domain.specs.Interval.{Interval, one}
 use Rattle.pentagon_domain.specs.declared.bound_row.BoundRow.{BoundRow}
 use Rattle.pentagon_domain.specs.Gaps as by_bounds
-use Rattle.number_spans.specs.Spans.{Has, excludes, moved_hole}
+use Rattle.number_spans.specs.Spans.{Has, moved_hole}
 use Rattle.number_spans.specs.Stored as ranges
 use Rattle.number_spans.specs.declared.span.Span.{Span}
 use Rattle.number_spans.proofs.ComparingLaws.{excluded_apart}
@@ -16,8 +16,7 @@ use Rattle.merged_numbers.specs.declared.inclusion.Binding.{Binding}
 use Rattle.merged_numbers.specs.declared.term.Term.{Term}
 use Rattle.merged_numbers.specs.Known.{Known, gap, int32s, term, worth}
 use Rattle.merged_numbers.specs.Included.{AreValues, Includes, is_within, all_within, behind_binding, bound_term, follows, included, lacks, lies_above, lies_within, reaches, term_at, value_of, worth_or_zero}
-use Rattle.merged_numbers.specs.Merging.{Outcome}
-use Rattle.merged_numbers.specs.Meaning.{AllowsKnown, IsSo}
+use Rattle.merged_numbers.specs.Meaning.{AllowsKnown}
 use Rattle.merged_numbers.proofs.TermLaws.{gap_so, int32s_has}
 
 -- ---- ranges

@@ -6,4 +6,5 @@ pub mod RangeLists
 pub mod RowLaws
 pub mod InclusionLaws
 pub mod FormLaws
+pub mod ApartLaws
 pub mod Laws

@@ -1,6 +1,6 @@
 -- What is known of new symbols is so, where the span of each key has what it is worth and the gap of each two is so.
-use Rattle.std.proofs.Common.{◌≡◌, ◌≢◌, ℕ, zero, suc, ◌+◌, ◌<◌, ℤ, pos, ◌+ℤ◌, ◌≤ℤ◌, Bool, true, ◌&&◌, List, [], ◌∷◌, length, get_or, Option, Some, None, refl, sym, ap, subst, add-one, arith}
-use Rattle.std.specs.Prelude.{int_lt, option_map, option_and_then, if◌then◌else◌}
+use Rattle.std.proofs.Common.{◌≡◌, ◌≢◌, ℕ, zero, suc, ◌+◌, ◌<◌, ℤ, pos, ◌+ℤ◌, ◌≤ℤ◌, ◌&&◌, List, [], ◌∷◌, length, get_or, Option, Some, None, refl, sym, ap, add-one, arith}
+use Rattle.std.specs.Prelude.{int_lt, option_and_then}
 use Rattle.std.specs.List.{AllByRecursion}
 use Rattle.std.proofs.lemmas.Bool.{cond_both}
 use Rattle.interval_domain.specs.Interval.{Interval, one}
@@ -16,8 +16,8 @@ use Rattle.number_spans.proofs.Lost.{without_allows, range_without_allows}
 use Rattle.symbolic_values.specs.declared.pairs.Key.{Key}
 use Rattle.symbolic_values.specs.Pairing.{origin}
 use Rattle.merged_numbers.specs.Spans.{but_for, stored}
-use Rattle.merged_numbers.specs.Merging.{Outcome, put_before, ranges_of, steps, told, is_constant, with_gap, row_of, rows_of, with_bounds, outcome_of}
-use Rattle.merged_numbers.specs.Meaning.{IsSo, SomeSo}
+use Rattle.merged_numbers.specs.Merging.{put_before, ranges_of, steps, told, is_constant, with_gap, row_of, rows_of, with_bounds, outcome_of}
+use Rattle.merged_numbers.specs.Meaning.{SomeSo}
 
 -- ---- ranges
 

@@ -1,5 +1,5 @@
 -- Gaps that are read from a row.
-use Rattle.std.proofs.Common.{◌≡◌, ◌≢◌, ℕ, zero, suc, ◌+◌, ◌<◌, ◌≤◌, ℤ, pos, List, [], ◌∷◌, length, get_or, Option, Some, None, slice_get, refl, sym, ap, ◌∙◌, add-one, arith}
+use Rattle.std.proofs.Common.{◌≡◌, ℕ, zero, suc, ◌+◌, ◌<◌, ◌≤◌, ℤ, pos, List, [], ◌∷◌, length, get_or, Option, Some, None, refl, sym, ap, ◌∙◌, add-one, arith}
 use Rattle.interval_domain.specs.Interval.{Interval}
 use Rattle.pentagon_domain.specs.Gaps as by_bounds
 use Rattle.symbolic_values.specs.declared.pairs.Key.{Key}
@@ -66,5 +66,15 @@ key_symbol keys i d inside = ap (λ u. u.s) (get_or-any keys i d origin inside)
 
 pub key_other : (keys : List Key) (i : ℕ) (d : Key) → i < length keys → (get_or keys i d).t ≡ (get_or keys i origin).t
 key_other keys i d inside = ap (λ u. u.t) (get_or-any keys i d origin inside)
+
+-- One more pair of a row, where its bound is that of the definition.
+pub pair_more : (gap : Key → Key → Option ℤ) (keys : List Key) (rs : List Interval) (i j : ℕ) (start before after : List BoundRow)
+    → after ≡ with_gap (told rs i j) i j (gap (get_or keys i origin) (get_or keys j origin)) before → before ≡ row_of gap keys rs i j start
+    → after ≡ row_of gap keys rs i (j + 1) start
+pair_more gap keys rs i j start before after after_is so_far =
+    let step : ℕ → List BoundRow → List BoundRow = (λ k. with_gap (told rs i k) i k (gap (get_or keys i origin) (get_or keys k origin))) in
+    after_is ∙ ap (step j) so_far ∙ sym (steps_more step j start)
+
+pub ruleset own_rows = (pair_more, row_end)
 
 pub ruleset rows = (row_more, rows_more, row_end, rows_end, row_of_same, key_symbol, key_other)

@@ -1,5 +1,5 @@
 -- What is known is so of numbers.
-use Rattle.std.specs.Prelude.{◌≡◌, ℕ, suc, ◌+◌, ◌<◌, ℤ, pos, ◌≤ℤ◌, Bool, true, List, ◌∷◌, get_or, length, slice_get, Option, Some, None, FitsSigned}
+use Rattle.std.specs.Prelude.{◌≡◌, ℕ, suc, ◌+◌, ◌<◌, ℤ, pos, ◌≤ℤ◌, Bool, List, ◌∷◌, get_or, length, slice_get, Option, Some, None, FitsSigned}
 use Rattle.std.specs.Int.{w32}
 use Rattle.std.specs.List.{AllByRecursion}
 use Rattle.cil_model.specs.Arithmetic.{LEAST, GREATEST}

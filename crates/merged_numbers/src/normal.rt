@@ -1,6 +1,6 @@
 //! One state in the names of its own keys.
 
-ghost use Rattle.std.specs.Prelude.{◌≡◌, ◌<◌, length, get_or, None, option_map, true, IfOk, OnOk};
+ghost use Rattle.std.specs.Prelude.{◌≡◌, ◌<◌, length, get_or, slice_index_or, None, Some, option_map, true, IfOk, IsTrue, OnOk};
 ghost use Rattle.symbolic_values.specs.Pairing.{origin};
 ghost use Rattle.merged_numbers.specs.Known.{IsRow, known};
 ghost use Rattle.merged_numbers.specs.Meaning.{AreMeasured, HaveForm, Keeps};
@@ -54,55 +54,92 @@ fn ranges_of(alloc: Global, keys: &[Key], a: &Side) -> Result<Option<Vec<Range>>
     Ok(Some(ranges))
 }
 
-/// Adds the bounds from the key at a place to each key, where the gaps from it were written.
-#[tactic(auto, using(crate::proofs::RowLaws::rows))]
-fn add_row(
-    bounds: &mut Bounds,
-    ranges: &[Range],
-    keys: &[Key],
-    a: &Side,
-    row: &[Option<i64>],
-    i: usize,
-) -> Result<(), NoMemory>
-    requires measured { AreMeasured a.now.spans.now }
-    requires row { IsRow row.now a.now.bounds.now (get_or keys.now i origin).s }
-    requires ranges { length ranges.now ≡ length keys.now }
-    requires inside { i < length keys.now }
-    ensures { OnOk result (bounds.new
-        ≡ rule.row_of (own_gap (known a.now)) keys.now ranges.now i (length keys.now) bounds.old) }
+/// Returns whether a row tells that bounds say nothing of a symbol.
+fn is_unknown(row: &[Option<i64>], t: u32) -> bool
+    ensures { IsTrue result → (t < length row.now) × (slice_index_or row.now t None ≡ None) }
 {
-    for j in 0..keys.len() {
-        let gap = a.term_gap(row, Term::first_of(&keys[i]), Term::first_of(&keys[j]));
-        add_gap(bounds, ranges, i, j, gap)?;
+    match row.get(t as usize) {
+        None => false,
+        Some(gap) => gap.is_none(),
     }
-    Ok(())
 }
 
-/// Adds the bounds from each key to each other.
-#[tactic(auto, using(crate::proofs::RowLaws::rows))]
-fn add_rows(
-    alloc: Global,
-    bounds: &mut Bounds,
-    ranges: &[Range],
-    keys: &[Key],
-    a: &Side,
-) -> Result<(), NoMemory>
-    requires measured { AreMeasured a.now.spans.now }
-    requires ranges { length ranges.now ≡ length keys.now }
-    ensures { OnOk result (bounds.new
-        ≡ rule.rows_of (own_gap (known a.now)) keys.now ranges.now (length keys.now) bounds.old) }
-{
-    let mut row = vec![in alloc; None; a.spans.len()]?;
-    for i in 0..keys.len() {
-        a.bounds.gaps_from(keys[i].s, row.as_mut_slice());
-        add_row(bounds, ranges, keys, a, row.as_slice(), i)?;
+/// A state with keys of its own, and the range of each.
+#[derive(Clone, Copy)]
+struct Own<'a> {
+    keys: &'a [Key],
+    a: Side<'a>,
+    ranges: &'a [Range],
+}
+
+impl Own<'_> {
+    /// Adds the bound of the keys at two places. Where bounds say nothing of both symbols, the new ranges say all.
+    fn add_pair(
+        &self,
+        bounds: &mut Bounds,
+        row: &[Option<i64>],
+        i: usize,
+        j: usize,
+    ) -> Result<(), NoMemory>
+        requires measured { AreMeasured self.now.a.spans.now }
+        requires ranges { Some self.now.ranges.now ≡ rule.ranges_of (own_span (known self.now.a)) self.now.keys.now }
+        requires as_many { length self.now.ranges.now ≡ length self.now.keys.now }
+        requires row { IsRow row.now self.now.a.bounds.now (get_or self.now.keys.now i origin).s }
+        requires first { i < length self.now.keys.now }
+        requires second { j < length self.now.keys.now }
+        ensures { OnOk result (bounds.new ≡ rule.with_gap (rule.told self.now.ranges.now i j) i j
+            (own_gap (known self.now.a) (get_or self.now.keys.now i origin) (get_or self.now.keys.now j origin))
+            bounds.old) }
+    {
+        let from = &self.keys[i];
+        let to = &self.keys[j];
+        if is_unknown(row, to.s) {
+            return Ok(());
+        }
+        let gap = self
+            .a
+            .term_gap(row, Term::first_of(from), Term::first_of(to));
+        add_gap(bounds, self.ranges, i, j, gap)
     }
-    Ok(())
+
+    /// Adds the bounds from the key at a place to each key, where the gaps from it were written.
+    #[tactic(auto, using(crate::proofs::RowLaws::own_rows))]
+    fn add_row(&self, bounds: &mut Bounds, row: &[Option<i64>], i: usize) -> Result<(), NoMemory>
+        requires measured { AreMeasured self.now.a.spans.now }
+        requires ranges { Some self.now.ranges.now ≡ rule.ranges_of (own_span (known self.now.a)) self.now.keys.now }
+        requires as_many { length self.now.ranges.now ≡ length self.now.keys.now }
+        requires row { IsRow row.now self.now.a.bounds.now (get_or self.now.keys.now i origin).s }
+        requires inside { i < length self.now.keys.now }
+        ensures { OnOk result (bounds.new ≡ rule.row_of (own_gap (known self.now.a)) self.now.keys.now
+            self.now.ranges.now i (length self.now.keys.now) bounds.old) }
+    {
+        for j in 0..self.keys.len() {
+            self.add_pair(bounds, row, i, j)?;
+        }
+        Ok(())
+    }
+
+    /// Adds the bounds from each key to each other.
+    #[tactic(auto, using(crate::proofs::RowLaws::rows))]
+    fn add_rows(&self, alloc: Global, bounds: &mut Bounds) -> Result<(), NoMemory>
+        requires measured { AreMeasured self.now.a.spans.now }
+        requires ranges { Some self.now.ranges.now ≡ rule.ranges_of (own_span (known self.now.a)) self.now.keys.now }
+        requires as_many { length self.now.ranges.now ≡ length self.now.keys.now }
+        ensures { OnOk result (bounds.new ≡ rule.rows_of (own_gap (known self.now.a)) self.now.keys.now
+            self.now.ranges.now (length self.now.keys.now) bounds.old) }
+    {
+        let mut row = vec![in alloc; None; self.a.spans.len()]?;
+        for i in 0..self.keys.len() {
+            self.a.bounds.gaps_from(self.keys[i].s, row.as_mut_slice());
+            self.add_row(bounds, row.as_slice(), i)?;
+        }
+        Ok(())
+    }
 }
 
 /// What one state knows, in the names of its own keys.
 #[tactic(auto, using(crate::proofs::RangeLists::ranges_length))]
-fn own(alloc: Global, keys: &[Key], a: &Side) -> Result<Option<Merged>, NoMemory>
+fn in_own_names(alloc: Global, keys: &[Key], a: &Side) -> Result<Option<Merged>, NoMemory>
     requires { AreMeasured a.now.spans.now }
     ensures { IfOk result (λ made. made ≡ rule.normed keys.now (known a.now)) }
 {
@@ -110,7 +147,12 @@ fn own(alloc: Global, keys: &[Key], a: &Side) -> Result<Option<Merged>, NoMemory
         return Ok(None);
     };
     let mut bounds = Bounds::new(alloc);
-    add_rows(alloc, &mut bounds, ranges.as_slice(), keys, a)?;
+    let state = Own {
+        keys,
+        a: *a,
+        ranges: ranges.as_slice(),
+    };
+    state.add_rows(alloc, &mut bounds)?;
     Ok(Some(Merged { ranges, bounds }))
 }
 
@@ -119,7 +161,7 @@ fn own(alloc: Global, keys: &[Key], a: &Side) -> Result<Option<Merged>, NoMemory
 /// of the first side counts.
 ///
 /// Cost: for each key a pass over the symbols of the state and the bounds behind those of the key, and one over the
-/// keys. `NoMemory` where memory runs out, and where a symbol would need more than 32 bits.
+/// keys; only pairs of keys of which bounds say something are looked at. `NoMemory` where memory runs out, and where a symbol would need more than 32 bits.
 #[tactic(auto, using(crate::proofs::Laws::normed_keeps, crate::proofs::FormLaws::normed_formed))]
 pub fn normed(alloc: Global, keys: &[Key], a: &Side) -> Result<Option<Merged>, NoMemory>
     requires { AreMeasured a.now.spans.now }
@@ -127,5 +169,5 @@ pub fn normed(alloc: Global, keys: &[Key], a: &Side) -> Result<Option<Merged>, N
     ensures keeps { IfOk result (Keeps true keys.now (known a.now)) }
     ensures form { IfOk result (HaveForm keys.now) }
 {
-    own(alloc, keys, a)
+    in_own_names(alloc, keys, a)
 }
