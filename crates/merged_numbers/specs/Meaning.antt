@@ -56,7 +56,8 @@ AreInt32 is_first number keys = AllByRecursion (λ u. FitsSigned w32 (worth_of_u
 
 -- What is known of new symbols is so of a number for each.
 pub record IsSo (outcome : Outcome) (number : ℕ → ℤ) : Type 0 where
-  pub ranges : (i : ℕ) → i < length outcome.ranges → ranges.Allows (get_or outcome.ranges i (one (pos 0))) (number (suc i))
+  pub ranges : (i : ℕ) → i < length outcome.ranges
+    → ranges.Allows (get_or outcome.ranges i (one (pos 0))) (number (suc i))
   pub bounds : by_bounds.Allows outcome.bounds number
 
 -- Something is known, and it is so.
@@ -64,8 +65,9 @@ abbrev pub SomeSo : Option Outcome → (ℕ → ℤ) → Type 0
 SomeSo None number = ⊥
 SomeSo (Some outcome) number = IsSo outcome number
 
--- All that a side knows is so of the outcome too, where each new symbol is worth what the first use of its key is on that
--- side. Where there is no outcome, there is no such choice.
+-- All that a side knows is so of the outcome too, where each new symbol is worth what the first use of its key is on
+-- that side. Where there is no outcome, there is no such choice.
 abbrev pub Keeps : Bool → List Key → Known → Option Outcome → Type 0
 Keeps is_first keys side outcome =
-    (number : ℕ → ℤ) → AllowsKnown side number → AreInt32 is_first number keys → SomeSo outcome (behind_uses is_first number (origin ∷ keys))
+    (number : ℕ → ℤ) → AllowsKnown side number → AreInt32 is_first number keys
+    → SomeSo outcome (behind_uses is_first number (origin ∷ keys))

@@ -15,13 +15,17 @@ abbrev pub kept_hole : Option ℤ → Span → Option ℤ
 kept_hole None other = None
 kept_hole (Some hole) other = if excludes other hole then Some hole else None
 
--- All from the lower of the lower ends to the higher of the higher ones. A hole is kept where both exclude it, and that of
--- the first is tried first.
+-- All from the lower of the lower ends to the higher of the higher ones. A hole is kept where both exclude it, and that
+-- of the first is tried first.
 unfoldable pub hull : Span → Span → Span
-hull a b = record { lo = int_min a.lo b.lo; hi = int_max a.hi b.hi; hole = option_or (kept_hole a.hole b) (kept_hole b.hole a) }
+hull a b = record {
+  lo = int_min a.lo b.lo;
+  hi = int_max a.hi b.hi;
+  hole = option_or (kept_hole a.hole b) (kept_hole b.hole a);
+}
 
--- An end that the second one passes goes where it settles, and the only hole is the first one's, where the second excludes
--- it.
+-- An end that the second one passes goes where it settles, and the only hole is the first one's, where the second
+-- excludes it.
 unfoldable pub widened : Span → Span → Span
 widened a b = record { lo = lower_end a.lo b.lo; hi = upper_end a.hi b.hi; hole = kept_hole a.hole b }
 

@@ -1,6 +1,7 @@
 //! One state in the names of its own keys.
 
-ghost use Rattle.std.specs.Prelude.{◌≡◌, ◌<◌, length, get_or, slice_index_or, None, Some, option_map, true, IfOk, IsTrue, OnOk};
+ghost use Rattle.std.specs.Prelude.{◌≡◌, ◌<◌, true, length, get_or, slice_index_or, None, Some, option_map};
+ghost use Rattle.std.specs.Prelude.{IfOk, IsTrue, OnOk};
 ghost use Rattle.symbolic_values.specs.Pairing.{origin};
 ghost use Rattle.merged_numbers.specs.Known.{IsRow, known};
 ghost use Rattle.merged_numbers.specs.Meaning.{AreMeasured, HaveForm, Keeps};
@@ -161,7 +162,8 @@ fn in_own_names(alloc: Global, keys: &[Key], a: &Side) -> Result<Option<Merged>,
 /// of the first side counts.
 ///
 /// Cost: for each key a pass over the symbols of the state and the bounds behind those of the key, and one over the
-/// keys; only pairs of keys of which bounds say something are looked at. `NoMemory` where memory runs out, and where a symbol would need more than 32 bits.
+/// keys; only keys of which bounds say something together are looked at further. `NoMemory` where memory runs out, and
+/// where a symbol would need more than 32 bits.
 #[tactic(auto, using(crate::proofs::Laws::normed_keeps, crate::proofs::FormLaws::normed_formed))]
 pub fn normed(alloc: Global, keys: &[Key], a: &Side) -> Result<Option<Merged>, NoMemory>
     requires { AreMeasured a.now.spans.now }
