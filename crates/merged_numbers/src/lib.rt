@@ -18,6 +18,3 @@ pub use merging::{joined, widened};
 pub use normal::normed;
 pub use outcome::Merged;
 pub use side::Side;
-
-#[cfg(test)]
-mod tests;
