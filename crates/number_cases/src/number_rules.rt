@@ -12,7 +12,7 @@ use rule_text::{
 use std::alloc::{AllocError, Global};
 
 /// The symbol of a number is there.
-fn is_there(numbers: &Numbers, e: Expr) -> Result<(), Failure>
+pub fn is_there(numbers: &Numbers, e: Expr) -> Result<(), Failure>
     ensures { OnOk result (e.sym ≤ length numbers.now.ranges) }
 {
     if e.sym as usize <= numbers.ranges.len() {
@@ -66,7 +66,7 @@ pub fn fresh(alloc: Global, numbers: &mut Numbers, argument: &str) -> Result<(),
 }
 
 /// A number of 64 bits.
-fn end(word: &str) -> Result<i64, Failure> {
+pub fn end(word: &str) -> Result<i64, Failure> {
     word.parse::<i64>()
         .ok()
         .ok_or(Failure::Unread("an end or a hole"))
