@@ -57,7 +57,7 @@ AreInt32 is_first number keys = AllByRecursion (λ u. FitsSigned w32 (worth_of_u
 -- What is known of new symbols is so of a number for each.
 pub record IsSo (outcome : Outcome) (number : ℕ → ℤ) : Type 0 where
   pub ranges : (i : ℕ) → i < length outcome.ranges
-    → ranges.Allows (get_or outcome.ranges i (one (pos 0))) (number (suc i))
+      → ranges.Allows (get_or outcome.ranges i (one (pos 0))) (number (suc i))
   pub bounds : by_bounds.Allows outcome.bounds number
 
 -- Something is known, and it is so.
