@@ -1,5 +1,6 @@
 pub mod Symbols
 pub mod Sums
+pub mod Small
 pub mod Cutting
 pub mod SameSymbols
 pub mod Assuming

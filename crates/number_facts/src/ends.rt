@@ -1,14 +1,14 @@
 //! The numbers that ranges and bounds together leave to symbols and expressions.
 
-ghost use Rattle.std.specs.Prelude.{◌≡◌, ◌+ℤ◌, ◌-ℤ◌, pos, if◌then◌else◌};
-ghost use Rattle.std.specs.Int.{int_min, int_max};
+ghost use Rattle.std.specs.Prelude.{◌≡◌, ◌+ℤ◌, ◌-ℤ◌, pos, FitsSigned, if◌then◌else◌};
+ghost use Rattle.std.specs.Int.{w32, int_min, int_max};
 ghost use Rattle.interval_domain.specs.Interval.{inner_hole, is_hole};
 ghost use Rattle.pentagon_domain.specs.Rows.{rows_from};
-ghost use Rattle.number_spans.specs.Sizes.{IsBounded, IsLong, IsLongHole, IsWide};
-ghost use Rattle.number_facts.specs.Facts.{IsNamed, range_at};
+ghost use Rattle.number_spans.specs.Sizes.{IsBounded, IsLong, IsLongHole, IsSmall, IsWide};
+ghost use Rattle.number_facts.specs.Facts.{AreNarrow, IsNamed, IsThere, range_at};
 ghost use Rattle.number_facts.specs.Holds.{AreEndsOf};
 ghost use Rattle.number_facts.specs.Ends as rule;
-ghost use Rattle.number_facts.specs.Sizes.{IsSum};
+ghost use Rattle.number_facts.specs.Sizes.{AreNear, IsCut, IsNear, IsSum};
 
 use crate::numbers::Numbers;
 use domain_api::Expr;
@@ -19,6 +19,7 @@ use pentagon_domain::BoundRow;
 fn difference_of(a: i64, b: i64) -> i128
     ensures value { result ≡ a -ℤ b }
     ensures bound { IsSum result }
+    ensures small { FitsSigned w32 a → IsCut result }
 {
     i128::from(a) - i128::from(b)
 }
@@ -27,6 +28,7 @@ fn difference_of(a: i64, b: i64) -> i128
 fn sum_of(a: i64, b: i64) -> i128
     ensures value { result ≡ a +ℤ b }
     ensures bound { IsSum result }
+    ensures small { FitsSigned w32 a → IsCut result }
 {
     i128::from(a) + i128::from(b)
 }
@@ -35,28 +37,31 @@ fn sum_of(a: i64, b: i64) -> i128
 fn wide(n: i64) -> i128
     ensures value { result ≡ n }
     ensures bound { IsSum result }
+    ensures small { FitsSigned w32 n → IsCut result }
 {
     i128::from(n)
 }
 
 /// The lesser of two ends.
-#[tactic(auto, using(crate::proofs::Sums::sums))]
+#[tactic(auto, using(crate::proofs::Sums::sums, crate::proofs::Small::cuts))]
 fn lesser(a: i128, b: i128) -> i128
     requires first { IsSum a }
     requires second { IsSum b }
     ensures value { result ≡ int_min a b }
     ensures bound { IsSum result }
+    ensures small { IsCut a → IsCut b → IsCut result }
 {
     a.min(b)
 }
 
 /// The greater of two ends.
-#[tactic(auto, using(crate::proofs::Sums::sums))]
+#[tactic(auto, using(crate::proofs::Sums::sums, crate::proofs::Small::cuts))]
 fn greater(a: i128, b: i128) -> i128
     requires first { IsSum a }
     requires second { IsSum b }
     ensures value { result ≡ int_max a b }
     ensures bound { IsSum result }
+    ensures small { IsCut a → IsCut b → IsCut result }
 {
     a.max(b)
 }
@@ -76,6 +81,7 @@ fn behind_hole(lo: i128, hole: Option<i64>) -> i128
     requires { IsSum lo }
     ensures value { result ≡ (if is_hole hole lo then lo +ℤ pos 1 else lo) }
     ensures bound { IsWide result }
+    ensures small { IsCut lo → IsNear result }
 {
     if is_hole(hole, lo) { lo + 1 } else { lo }
 }
@@ -85,6 +91,7 @@ fn before_hole(hi: i128, hole: Option<i64>) -> i128
     requires { IsSum hi }
     ensures value { result ≡ (if is_hole hole hi then hi -ℤ pos 1 else hi) }
     ensures bound { IsWide result }
+    ensures small { IsCut hi → IsNear result }
 {
     if is_hole(hole, hi) { hi - 1 } else { hi }
 }
@@ -109,6 +116,7 @@ fn met(lo: i128, hi: i128, hole: Option<i64>) -> Span
     ensures value { result ≡ rule.met lo hi hole }
     ensures ends { IsLong result }
     ensures hole { IsLongHole result.hole }
+    ensures small { IsCut lo → IsCut hi → AreNear result }
 {
     Span {
         lo: behind_hole(lo, hole),
@@ -119,10 +127,12 @@ fn met(lo: i128, hi: i128, hole: Option<i64>) -> Span
 
 impl Numbers {
     /// The upper end of a symbol, cut by a bound that goes from it.
+    #[tactic(auto, using(crate::proofs::Small::narrow_ends))]
     fn lowered_by(&self, hi: i128, row: &BoundRow) -> i128
         requires { IsSum hi }
         ensures value { result ≡ rule.lowered_by self.now hi row.now }
         ensures bound { IsSum result }
+        ensures small { AreNarrow self.now → IsCut hi → IsCut result }
     {
         if self.has(row.t) {
             lesser(hi, difference_of(self.range_at(row.t).hi(), row.k))
@@ -132,11 +142,12 @@ impl Numbers {
     }
 
     /// The lower end of a symbol, raised by a bound, where that goes to it.
-    #[tactic(auto, unfolding(crate::specs::Ends::raised_by))]
+    #[tactic(auto, using(crate::proofs::Small::narrow_ends), unfolding(crate::specs::Ends::raised_by))]
     fn raised_by(&self, t: u32, lo: i128, row: &BoundRow) -> i128
         requires { IsSum lo }
         ensures value { result ≡ rule.raised_by self.now t lo row.now }
         ensures bound { IsSum result }
+        ensures small { AreNarrow self.now → IsCut lo → IsCut result }
     {
         if row.t == t && self.has(row.s) {
             greater(lo, sum_of(self.range_at(row.s).lo(), row.k))
@@ -146,10 +157,12 @@ impl Numbers {
     }
 
     /// The upper end of a symbol, cut by all bounds that go from it.
+    #[tactic(auto, using(crate::proofs::Small::narrow_ends))]
     fn highest(&self, s: u32) -> i128
         ensures value { result ≡
             rule.cut_by_all (rule.lowered_by self.now) (rows_from self.now.bounds s) (range_at self.now s).hi }
         ensures bound { IsSum result }
+        ensures small { AreNarrow self.now → IsCut result }
     {
         let mut hi = wide(self.range_at(s).hi());
         let rows = self.bounds.rows_from(s);
@@ -160,10 +173,11 @@ impl Numbers {
     }
 
     /// The lower end of a symbol, raised by all bounds that go to it. None goes to symbol 0.
-    #[tactic(auto, using(crate::proofs::Cutting::cuts))]
+    #[tactic(auto, using(crate::proofs::Cutting::cuts, crate::proofs::Small::narrow_ends))]
     fn lowest(&self, s: u32) -> i128
         ensures value { result ≡ rule.cut_by_all (rule.raised_by self.now s) self.now.bounds (range_at self.now s).lo }
         ensures bound { IsSum result }
+        ensures small { AreNarrow self.now → IsCut result }
     {
         let mut lo = wide(self.range_at(s).lo());
         let rows = self.bounds.rows();
@@ -182,18 +196,30 @@ impl Numbers {
         ensures value { result ≡ rule.span_at self.now s }
         ensures ends { IsLong result }
         ensures hole { IsLongHole result.hole }
+        ensures small { AreNarrow self.now → AreNear result }
     {
         met(self.lowest(s), self.highest(s), self.range_at(s).hole())
     }
 
     /// The numbers that an expression may have.
-    #[tactic(auto, unfolding(crate::specs::Ends::range_of))]
+    #[tactic(auto, using(crate::proofs::Small::shifted_small), unfolding(crate::specs::Ends::range_of))]
     pub(crate) fn range_of(&self, e: Expr) -> Span
         ensures value { result ≡ rule.range_of self.now e }
         ensures low { IsBounded result.lo }
         ensures high { IsBounded result.hi }
+        ensures small { AreNarrow self.now → IsThere self.now e → IsSmall result }
     {
         self.span_at(e.sym).shifted(e.k)
+    }
+
+    /// The numbers that an expression of a variable may have.
+    pub(crate) fn small_range_of(&self, e: Expr) -> Span
+        requires there { IsThere self.now e }
+        requires narrow { AreNarrow self.now }
+        ensures value { result ≡ rule.range_of self.now e }
+        ensures ends { IsSmall result }
+    {
+        self.range_of(e)
     }
 
     /// The least and the greatest number that an expression may have, and the number between them that it does not
