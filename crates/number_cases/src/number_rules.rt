@@ -1,13 +1,14 @@
 //! The rules on numbers.
 
-ghost use Rattle.std.specs.Prelude.{◌≤◌, length, OnOk};
+ghost use Rattle.std.specs.Prelude.{◌≤◌, length, IfOk, OnOk};
+ghost use Rattle.number_facts.specs.Facts.{AreNarrow, IsThere};
 
 use crate::facts::{expr, facts_text, symbol};
 use domain_api::{Expr, Order};
 use number_facts::Numbers;
 use rule_text::{
-    Failure, append_number, append_wide_range, asked, check, comparison, operator, three_words,
-    two_words,
+    Failure, append_number, append_wide_range, are_narrow, asked, check, comparison, may_operate,
+    operator, three_words, two_words,
 };
 use std::alloc::{AllocError, Global};
 
@@ -20,6 +21,33 @@ fn is_there(numbers: &Numbers, e: Expr) -> Result<(), Failure>
     } else {
         Err(Failure::Unmet("the number's symbol is there"))
     }
+}
+
+/// It is, and its constant is one of -2^32 to 2^32.
+fn may_be_operand(numbers: &Numbers, e: Expr) -> Result<(), Failure>
+    ensures { OnOk result (IsThere numbers.now e) }
+{
+    is_there(numbers, e)?;
+    if -4_294_967_296 <= e.k && e.k <= 4_294_967_296 {
+        Ok(())
+    } else {
+        Err(Failure::Unmet("the number's constant has at most 33 bits"))
+    }
+}
+
+/// The two numbers of an operator.
+fn operands(numbers: &Numbers, a: &str, b: &str) -> Result<(Expr, Expr), Failure>
+    ensures first { IfOk result (λ pair. IsThere numbers.now pair.0) }
+    ensures second { IfOk result (λ pair. IsThere numbers.now pair.1) }
+    ensures narrow { OnOk result (AreNarrow numbers.now) }
+{
+    let (a, b) = (expr(a)?, expr(b)?);
+    may_be_operand(numbers, a)?;
+    may_be_operand(numbers, b)?;
+    if !are_narrow(numbers.ranges.as_slice()) {
+        return Err(Failure::Unmet("the numbers of each symbol are int32"));
+    }
+    Ok((a, b))
 }
 
 /// The text of a number that was made, or that there is none.
@@ -70,6 +98,27 @@ fn end(word: &str) -> Result<i64, Failure> {
     word.parse::<i64>()
         .ok()
         .ok_or(Failure::Unread("an end or a hole"))
+}
+
+/// `arith add s1 5 = s1+5`: the result of an operator.
+pub fn arith(alloc: Global, numbers: &mut Numbers, argument: &str) -> Result<(), Failure> {
+    let (question, told) = asked(argument)?;
+    let (op, a, b) = three_words(question)?;
+    let op = operator(op).ok_or(Failure::Unread("an operator"))?;
+    let (a, b) = operands(numbers, a, b)?;
+    may_operate(op, b)?;
+    let made = numbers.arith(op, a, b)?;
+    check(made_text(alloc, made)?, told)
+}
+
+/// `exact add.ovf s1 s2 = 5..17`: the ends that are judged for overflow.
+pub fn exact(alloc: Global, numbers: &Numbers, argument: &str) -> Result<(), Failure> {
+    let (question, told) = asked(argument)?;
+    let (op, a, b) = three_words(question)?;
+    let op = operator(op).ok_or(Failure::Unread("an operator"))?;
+    let (a, b) = operands(numbers, a, b)?;
+    let (lo, hi) = numbers.exact_ends(op, a, b);
+    check(format!(in alloc; "{lo}..{hi}")?, told)
 }
 
 /// `compare clt s1 5 = s2`: the truth of a comparison.

@@ -25,6 +25,8 @@ impl NumberRules {
             "ends" => number_rules::ends(alloc, numbers, argument)?,
             "gap" => number_rules::gap(alloc, numbers, argument)?,
             "fresh" => number_rules::fresh(alloc, numbers, argument)?,
+            "arith" => number_rules::arith(alloc, numbers, argument)?,
+            "exact" => number_rules::exact(alloc, numbers, argument)?,
             "compare" => number_rules::compare(alloc, numbers, argument)?,
             _ => return Err(Failure::Unread("a keyword")),
         }

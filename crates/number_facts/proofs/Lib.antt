@@ -1,8 +1,11 @@
 pub mod Symbols
 pub mod Sums
-pub mod Small
 pub mod Cutting
+pub mod Small
 pub mod SameSymbols
+pub mod Uppers
+pub mod Relating
+pub mod Orders
 pub mod Assuming
 pub mod Knowing
 pub mod Keeping

@@ -1,17 +1,21 @@
 -- How large the ends are that bounds cut, where the stored ranges are of int32.
-use Rattle.std.proofs.Common.{◌≡◌, ℕ, zero, suc, ℤ, pos, negsuc, ◌+ℤ◌, ◌≤ℤ◌, FitsSigned, w32, List, [], ◌∷◌, get_or, arith}
+use Rattle.std.proofs.Common.{◌≡◌, ◌≢◌, ◌==◌, ℕ, true, sym, ◌∙◌, ap, zero, suc, ℤ, pos, negsuc, ◌+ℤ◌, ◌≤ℤ◌, FitsSigned, w32, List, [], ◌∷◌, get_or, refl, arith}
 use Rattle.std.specs.List.{AllByRecursion}
 use Rattle.std.specs.Int.{int_min, int_max}
 use Rattle.std.proofs.lemmas.Int.{ints, clamps}
+use Rattle.std.proofs.lemmas.Bool.{eqb-true}
+use Rattle.pentagon_domain.specs.Rows.{AreBounds}
 use Rattle.domain_api.specs.declared.expr.Expr.{Expr}
 use Rattle.interval_domain.specs.Interval.{Interval, one}
 use Rattle.number_spans.specs.Sizes.{IsEnd, IsSmall}
 use Rattle.number_spans.specs.Spans.{shifted}
+use Rattle.number_spans.specs.Sums.{negated}
 use Rattle.number_spans.specs.Stored.{IsNarrow}
 use Rattle.number_spans.specs.declared.span.Span.{Span}
-use Rattle.number_facts.specs.Ends.{range_of, span_at}
+use Rattle.number_facts.specs.Ends.{met, range_of, span_at}
 use Rattle.number_facts.specs.Facts.{Facts, AreNarrow, IsThere, range_at}
 use Rattle.number_facts.specs.Sizes.{AreNear, IsCut, IsNear}
+use Rattle.number_facts.proofs.Cutting.{zero_stays}
 
 narrow_zero : IsNarrow (one (pos 0))
 narrow_zero = record { least = omega (arith, ints); ordered = omega (arith, ints); greatest = omega (arith, ints); inner = tt }
@@ -56,4 +60,30 @@ unfolding shifted
 shifted_small facts r e near there = record {
   low = near_end r.lo e.k near.low there.least there.greatest;
   high = near_end r.hi e.k near.high there.least there.greatest;
+}
+
+-- ---- constants
+
+zero_low : (facts : Facts) → AreBounds facts.bounds → (span_at facts 0).lo ≡ pos 0
+unfolding span_at met range_at
+zero_low facts form = rw (zero_stays facts facts.bounds (pos 0) form) refl
+
+-- the numbers of a constant begin with it
+pub constant_low : (facts : Facts) (e : Expr) (r : Span) → r ≡ range_of facts e → AreBounds facts.bounds → e.sym ≡ 0 → r.lo ≡ e.k
+unfolding range_of shifted
+constant_low facts e r is form none =
+    let low : (span_at facts e.sym).lo ≡ pos 0 = ap (λ s. (span_at facts s).lo) none ∙ zero_low facts form in
+    rw is (omega (arith, ints, low))
+
+-- and a constant that divides is not 0
+pub divides : (e : Expr) (q : Span) → (e.sym ≡ 0 → q.lo ≡ e.k) → (e.sym ≡ 0 → e.k ≢ pos 0) → (e.sym == 0) ≡ true → q.lo ≢ pos 0
+divides e q low owed constant = λ zero. owed (eqb-true e.sym 0 constant) (sym (low (eqb-true e.sym 0 constant)) ∙ zero)
+
+-- ---- expressions that are there
+
+pub negated_there : (facts : Facts) (e : Expr) → IsThere facts e → IsThere facts (negated e)
+negated_there facts e there = record {
+  there = there.there;
+  least = omega (arith, ints, there.greatest);
+  greatest = omega (arith, ints, there.least);
 }

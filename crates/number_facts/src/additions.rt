@@ -1,73 +1,177 @@
 //! Sums and differences.
 
+ghost use Rattle.std.specs.Prelude.{◌≡◌, ◌+ℤ◌, ◌-ℤ◌, ◌++◌, [], IfOk, OnOk, IfSome};
+ghost use Rattle.std.specs.Option.{option_map};
+ghost use Rattle.cc_base.specs.Wrap.{wrap32};
+ghost use Rattle.number_spans.specs.Constants.{constant};
+ghost use Rattle.number_spans.specs.Sizes.{IsBounded, IsWide};
+ghost use Rattle.number_facts.specs.Additions as rule;
+ghost use Rattle.number_facts.specs.Ends.{range_of};
+ghost use Rattle.number_facts.specs.Facts.{AreNarrow, IsThere};
+
+use crate::assume::and_more;
+use crate::gap::far;
 use crate::numbers::Numbers;
 use crate::outcome::Outcome;
 use crate::relation::Relation;
 use domain_api::{Expr, NoMemory, Order};
-use number_spans::{Span, constant, differences, less_by, minus, negated, plus, sums, takes, with_constant, wrap};
+use number_spans::{
+    Span, constant, differences, less_by, minus, more_by, negated, plus, sum_of, sums, takes,
+    with_constant, wrap,
+};
 use symbolic_values::Def;
 
 /// Returns whether both ends are int32.
-fn is_inside(r: Span) -> bool {
+fn is_inside(r: Span) -> bool
+    ensures { result ≡ rule.is_inside r }
+{
     -2_147_483_648 <= r.lo && r.hi <= 2_147_483_647
 }
 
 /// The numbers of a result, modulo 2^32 where it may leave int32.
-fn settled_span(r: Span) -> Span {
+fn settled_span(r: Span) -> Span
+    requires { IsBounded r.lo }
+    ensures { result ≡ rule.settled_span r }
+{
     if is_inside(r) { r } else { r.wrapped() }
 }
 
-/// The exact constant of what bounds a sum from above.
-fn constant_above(a: Expr, b: Expr, x: Expr, y: Expr, far: i64) -> i128 {
-    i128::from(x.k) + i128::from(a.k) + i128::from(b.k) - i128::from(y.k) - i128::from(far)
+/// The difference of two constants.
+fn constants_apart(a: Expr, b: Expr) -> i128
+    ensures value { result ≡ a.k -ℤ b.k }
+    ensures bound { IsWide result }
+{
+    i128::from(a.k) - i128::from(b.k)
 }
 
 /// The difference of two constants, wrapped.
-fn wrapped_difference(a: Expr, b: Expr) -> Expr {
-    constant(i64::from(wrap(less_by(i128::from(a.k), b.k))))
+fn wrapped_difference(a: Expr, b: Expr) -> Expr
+    ensures { result ≡ constant (wrap32 (a.k -ℤ b.k)) }
+{
+    constant(i64::from(wrap(constants_apart(a, b))))
+}
+
+/// A lower end, raised by what a gap tells.
+#[tactic(auto, using(crate::proofs::Uppers::raises))]
+fn raised_by_gap(gap: Option<i64>, more: i128, n: i128) -> i128
+    requires more { IsWide more }
+    requires end { IsBounded n }
+    ensures value { result ≡ rule.greater_of gap more n }
+    ensures bound { IsBounded result }
+{
+    match gap {
+        None => n,
+        Some(gap) => n.max(more_by(more, gap)),
+    }
+}
+
+/// An upper end, lowered by what a gap tells.
+fn lowered_by_gap(gap: Option<i64>, more: i128, n: i128) -> i128
+    requires { IsWide more }
+    ensures { result ≡ rule.lesser_of gap more n }
+{
+    match gap {
+        None => n,
+        Some(gap) => n.min(less_by(more, gap)),
+    }
+}
+
+/// The exact constant of what bounds a sum of `a` and `b` from above, where a symbol is x - y and `gap` above `b`.
+#[tactic(auto, using(crate::proofs::Uppers::regroups))]
+fn constant_above(a: Expr, b: Expr, x: Expr, y: Expr, gap: i64) -> i128
+    ensures value { result ≡ x.k +ℤ (((a.k +ℤ b.k) -ℤ y.k) -ℤ gap) }
+    ensures bound { IsBounded result }
+{
+    and_more(far(sum_of(y.k, gap), sum_of(a.k, b.k)), x.k)
+}
+
+/// The greatest number of a symbol with an exact constant.
+fn end_of(hi: i128, k: i128) -> i128
+    requires end { IsWide hi }
+    requires constant { IsBounded k }
+    ensures { result ≡ hi +ℤ k }
+{
+    hi + k
 }
 
 impl Numbers {
     /// What a definition of a symbol says that no sum is above: a symbol and an exact constant.
-    fn above_by(&self, a: Expr, b: Expr, d: u32, def: Def) -> Option<(u32, i128)> {
-        let Def::Sub(x, y) = def else {
+    fn above_by(&self, a: Expr, b: Expr, defined: &(u32, Def)) -> Option<(u32, i128)>
+        ensures value { result ≡
+            option_map (λ u. (u.sym, u.k)) (rule.above_by self.now a b defined.now.0 defined.now.1) }
+        ensures bound { IfSome result (λ u. IsBounded u.1) }
+    {
+        let Def::Sub(x, y) = defined.1 else {
             return None;
         };
         if y.sym != a.sym {
             return None;
         }
-        let far = self.gap(b.sym, d)?;
-        Some((x.sym, constant_above(a, b, x, y, far)))
+        let gap = self.gap(b.sym, defined.0)?;
+        Some((x.sym, constant_above(a, b, x, y, gap)))
     }
 
-    /// The greatest number of a symbol with an exact constant.
-    fn end_of(&self, sym: u32, k: i128) -> i128 {
-        self.span_at(sym).hi + k
+    /// An upper end of a sum, cut by what a definition says.
+    #[tactic(auto, unfolding(crate::specs::Ends::range_of, number_spans::specs::Spans::shifted))]
+    fn cut_once(&self, a: Expr, b: Expr, defined: &(u32, Def), hi: i128) -> i128
+        ensures { result ≡
+            rule.cut_by self.now (rule.with_some (rule.above_by self.now a b defined.now.0 defined.now.1) []) hi }
+    {
+        match self.above_by(a, b, defined) {
+            None => hi,
+            Some((sym, k)) => hi.min(end_of(self.span_at(sym).hi, k)),
+        }
     }
 
-    /// An upper end of a sum, cut by what its definitions of one order say.
-    fn cut_by(&self, a: Expr, b: Expr, hi: i128) -> i128 {
-        let mut hi = hi;
-        for (d, def) in self.definitions.iter() {
-            if let Some((sym, k)) = self.above_by(a, b, *d, *def) {
-                hi = hi.min(self.end_of(sym, k));
+    /// An upper end of a sum, cut by what the definitions of one order say.
+    #[tactic(auto, using(crate::proofs::Uppers::cuts))]
+    fn cut_by(&self, a: Expr, b: Expr, hi: i128) -> i128
+        ensures { result ≡ rule.cut_by self.now (rule.all_above self.now a b self.now.definitions) hi }
+    {
+        let mut cut = hi;
+        let definitions = self.definitions.as_slice();
+        for defined in definitions {
+            cut = self.cut_once(a, b, defined, cut);
+        }
+        cut
+    }
+
+    /// Notes what a definition says that a sum is at most.
+    fn note_once(&self, a: Expr, b: Expr, defined: &(u32, Def), known: &mut Vec<Relation>) -> Result<(), NoMemory>
+        ensures { OnOk result (known.new.items ≡ known.old.items
+            ++ rule.at_most (rule.with_some (rule.above_by self.now a b defined.now.0 defined.now.1) [])) }
+    {
+        match self.above_by(a, b, defined) {
+            None => Ok(()),
+            Some((sym, k)) => {
+                known.push(Relation::AtMost(sym, k))?;
+                Ok(())
             }
         }
-        hi
     }
 
     /// Notes what the definitions of one order say that a sum is at most.
-    fn note_above(&self, a: Expr, b: Expr, known: &mut Vec<Relation>) -> Result<(), NoMemory> {
-        for (d, def) in self.definitions.iter() {
-            if let Some((sym, k)) = self.above_by(a, b, *d, *def) {
-                known.push(Relation::AtMost(sym, k))?;
-            }
+    #[tactic(auto, using(crate::proofs::Uppers::notes))]
+    fn note_above(&self, a: Expr, b: Expr, known: &mut Vec<Relation>) -> Result<(), NoMemory>
+        ensures { OnOk result (known.new.items ≡
+            known.old.items ++ rule.at_most (rule.all_above self.now a b self.now.definitions)) }
+    {
+        let definitions = self.definitions.as_slice();
+        for defined in definitions {
+            self.note_once(a, b, defined, known)?;
         }
         Ok(())
     }
 
     /// Where a sum lies before it wraps.
-    fn sum_span(&self, a: Expr, b: Expr) -> Span {
+    #[tactic(auto, using(crate::proofs::Uppers::both), unfolding(crate::specs::Additions::sum_span, crate::specs::Additions::uppers))]
+    fn sum_span(&self, a: Expr, b: Expr) -> Span
+        requires first { IsThere self.now a }
+        requires second { IsThere self.now b }
+        requires narrow { AreNarrow self.now }
+        ensures value { result ≡ rule.sum_span self.now a b }
+        ensures bound { IsBounded result.lo }
+    {
         let r = self.small_range_of(a);
         let q = self.small_range_of(b);
         let hi = self.cut_by(b, a, self.cut_by(a, b, plus(r.hi, q.hi)));
@@ -75,7 +179,13 @@ impl Numbers {
     }
 
     /// The sum.
-    pub(crate) fn sum(&self, a: Expr, b: Expr) -> Outcome {
+    #[tactic(auto, unfolding(crate::specs::Additions::sum))]
+    pub(crate) fn sum(&self, a: Expr, b: Expr) -> Outcome
+        requires first { IsThere self.now a }
+        requires second { IsThere self.now b }
+        requires narrow { AreNarrow self.now }
+        ensures { result ≡ rule.sum self.now a b }
+    {
         if takes(self.small_range_of(a), b) {
             return Outcome::Is(with_constant(a, b));
         }
@@ -85,42 +195,69 @@ impl Numbers {
         Outcome::Within(settled_span(self.sum_span(a, b)))
     }
 
-    /// What else is known of a sum.
-    pub(crate) fn sum_relations(&self, a: Expr, b: Expr) -> Result<Vec<Relation>, NoMemory> {
-        let alloc = *self.ranges.allocator();
-        if !is_inside(self.sum_span(a, b)) {
-            return Ok(Vec::new(alloc));
-        }
+    /// What else is known of a sum that does not wrap.
+    #[tactic(auto, using(crate::proofs::Uppers::all_beside), unfolding(crate::specs::Additions::uppers))]
+    fn inner_sum_relations(&self, a: Expr, b: Expr) -> Result<Vec<Relation>, NoMemory>
+        requires first { IsThere self.now a }
+        requires second { IsThere self.now b }
+        requires narrow { AreNarrow self.now }
+        ensures { IfOk result (λ known. known.items ≡ rule.beside a (range_of self.now b)
+            ++ (rule.beside b (range_of self.now a) ++ rule.at_most (rule.uppers self.now a b))) }
+    {
         let r = self.small_range_of(a);
         let q = self.small_range_of(b);
-        let mut known = Vec::with_capacity(alloc, 4)?;
-        known.push(Relation::AtLeast(a.sym, i128::from(a.k) + q.lo))?;
-        known.push(Relation::AtMost(a.sym, i128::from(a.k) + q.hi))?;
-        known.push(Relation::AtLeast(b.sym, i128::from(b.k) + r.lo))?;
-        known.push(Relation::AtMost(b.sym, i128::from(b.k) + r.hi))?;
+        let beside = [
+            Relation::AtLeast(a.sym, i128::from(a.k) + q.lo),
+            Relation::AtMost(a.sym, i128::from(a.k) + q.hi),
+            Relation::AtLeast(b.sym, i128::from(b.k) + r.lo),
+            Relation::AtMost(b.sym, i128::from(b.k) + r.hi),
+        ];
+        let mut known = Vec::from_slice(*self.ranges.allocator(), &beside)?;
         self.note_above(a, b, &mut known)?;
         self.note_above(b, a, &mut known)?;
         Ok(known)
     }
 
+    /// What else is known of a sum.
+    #[tactic(auto, unfolding(crate::specs::Additions::sum_relations))]
+    pub(crate) fn sum_relations(&self, a: Expr, b: Expr) -> Result<Vec<Relation>, NoMemory>
+        requires first { IsThere self.now a }
+        requires second { IsThere self.now b }
+        requires narrow { AreNarrow self.now }
+        ensures { IfOk result (λ known. known.items ≡ rule.sum_relations self.now a b) }
+    {
+        if is_inside(self.sum_span(a, b)) {
+            self.inner_sum_relations(a, b)
+        } else {
+            Ok(Vec::new(*self.ranges.allocator()))
+        }
+    }
+
     /// Where the difference of two symbols lies before it wraps.
-    fn difference_span(&self, a: Expr, b: Expr) -> Span {
+    #[tactic(auto, unfolding(crate::specs::Additions::difference_span))]
+    fn difference_span(&self, a: Expr, b: Expr) -> Span
+        requires first { IsThere self.now a }
+        requires second { IsThere self.now b }
+        requires narrow { AreNarrow self.now }
+        ensures value { result ≡ rule.difference_span self.now a b }
+        ensures bound { IsBounded result.lo }
+    {
         let r = self.small_range_of(a);
         let q = self.small_range_of(b);
-        let more = i128::from(a.k) - i128::from(b.k);
-        let mut lo = minus(r.lo, q.hi);
-        let mut hi = minus(r.hi, q.lo);
-        if let Some(far) = self.gap(b.sym, a.sym) {
-            lo = lo.max(more + i128::from(far));
-        }
-        if let Some(far) = self.gap(a.sym, b.sym) {
-            hi = hi.min(more - i128::from(far));
-        }
+        let more = constants_apart(a, b);
+        let lo = raised_by_gap(self.gap(b.sym, a.sym), more, minus(r.lo, q.hi));
+        let hi = lowered_by_gap(self.gap(a.sym, b.sym), more, minus(r.hi, q.lo));
         Span::between(lo, hi)
     }
 
     /// The difference.
-    pub(crate) fn difference(&self, a: Expr, b: Expr) -> Outcome {
+    #[tactic(auto, using(crate::proofs::Small::negated_there), unfolding(crate::specs::Additions::difference))]
+    pub(crate) fn difference(&self, a: Expr, b: Expr) -> Outcome
+        requires first { IsThere self.now a }
+        requires second { IsThere self.now b }
+        requires narrow { AreNarrow self.now }
+        ensures { result ≡ rule.difference self.now a b }
+    {
         if b.sym == 0 {
             return self.sum(a, negated(b));
         }
@@ -131,7 +268,13 @@ impl Numbers {
     }
 
     /// What else is known of a difference.
-    pub(crate) fn difference_relations(&self, a: Expr, b: Expr) -> Result<Vec<Relation>, NoMemory> {
+    #[tactic(auto, using(crate::proofs::Small::negated_there), unfolding(crate::specs::Additions::difference_relations))]
+    pub(crate) fn difference_relations(&self, a: Expr, b: Expr) -> Result<Vec<Relation>, NoMemory>
+        requires first { IsThere self.now a }
+        requires second { IsThere self.now b }
+        requires narrow { AreNarrow self.now }
+        ensures { IfOk result (λ known. known.items ≡ rule.difference_relations self.now a b) }
+    {
         if b.sym == 0 {
             return self.sum_relations(a, negated(b));
         }
@@ -140,15 +283,22 @@ impl Numbers {
             return Ok(Vec::new(alloc));
         }
         let q = self.small_range_of(b);
-        let mut known = Vec::with_capacity(alloc, 3)?;
-        known.push(Relation::Is(Def::Sub(a, b)))?;
-        known.push(Relation::AtLeast(a.sym, i128::from(a.k) - q.hi))?;
-        known.push(Relation::AtMost(a.sym, i128::from(a.k) - q.lo))?;
-        Ok(known)
+        let known = [
+            Relation::Is(Def::Sub(a, b)),
+            Relation::AtLeast(a.sym, i128::from(a.k) - q.hi),
+            Relation::AtMost(a.sym, i128::from(a.k) - q.lo),
+        ];
+        Vec::from_slice(alloc, &known)
     }
 
     /// Where a sum lies that is judged for overflow.
-    pub(crate) fn exact_sum(&self, a: Expr, b: Expr) -> Span {
+    #[tactic(auto, unfolding(crate::specs::Additions::exact_sum))]
+    pub(crate) fn exact_sum(&self, a: Expr, b: Expr) -> Span
+        requires first { IsThere self.now a }
+        requires second { IsThere self.now b }
+        requires narrow { AreNarrow self.now }
+        ensures { result ≡ rule.exact_sum self.now a b }
+    {
         if a.sym == 0 || b.sym == 0 {
             sums(self.small_range_of(a), self.small_range_of(b))
         } else {
@@ -157,13 +307,18 @@ impl Numbers {
     }
 
     /// Where a difference lies that is judged for overflow.
-    pub(crate) fn exact_difference(&self, a: Expr, b: Expr) -> Span {
+    #[tactic(auto, unfolding(crate::specs::Additions::exact_difference))]
+    pub(crate) fn exact_difference(&self, a: Expr, b: Expr) -> Span
+        requires first { IsThere self.now a }
+        requires second { IsThere self.now b }
+        requires narrow { AreNarrow self.now }
+        ensures { result ≡ rule.exact_difference self.now a b }
+    {
         if b.sym == 0 {
             return differences(self.small_range_of(a), self.small_range_of(b));
         }
         if a.sym == b.sym {
-            let only = less_by(i128::from(a.k), b.k);
-            return Span::between(only, only);
+            return Span::between(constants_apart(a, b), constants_apart(a, b));
         }
         self.difference_span(a, b)
     }

@@ -75,7 +75,7 @@ fn less_more(n: i128, more: i64) -> i128
 }
 
 /// A number and another one more.
-fn and_more(n: i128, more: i64) -> i128
+pub(crate) fn and_more(n: i128, more: i64) -> i128
     requires { IsFar n }
     ensures value { result ≡ n +ℤ more }
     ensures bound { IsBounded result }

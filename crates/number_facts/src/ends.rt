@@ -3,7 +3,7 @@
 ghost use Rattle.std.specs.Prelude.{◌≡◌, ◌+ℤ◌, ◌-ℤ◌, pos, FitsSigned, if◌then◌else◌};
 ghost use Rattle.std.specs.Int.{w32, int_min, int_max};
 ghost use Rattle.interval_domain.specs.Interval.{inner_hole, is_hole};
-ghost use Rattle.pentagon_domain.specs.Rows.{rows_from};
+ghost use Rattle.pentagon_domain.specs.Rows.{AreBounds, rows_from};
 ghost use Rattle.number_spans.specs.Sizes.{IsBounded, IsLong, IsLongHole, IsSmall, IsWide};
 ghost use Rattle.number_facts.specs.Facts.{AreNarrow, IsNamed, IsThere, range_at};
 ghost use Rattle.number_facts.specs.Holds.{AreEndsOf};
@@ -178,6 +178,7 @@ impl Numbers {
         ensures value { result ≡ rule.cut_by_all (rule.raised_by self.now s) self.now.bounds (range_at self.now s).lo }
         ensures bound { IsSum result }
         ensures small { AreNarrow self.now → IsCut result }
+        ensures form { AreBounds self.now.bounds }
     {
         let mut lo = wide(self.range_at(s).lo());
         let rows = self.bounds.rows();
@@ -197,6 +198,7 @@ impl Numbers {
         ensures ends { IsLong result }
         ensures hole { IsLongHole result.hole }
         ensures small { AreNarrow self.now → AreNear result }
+        ensures form { AreBounds self.now.bounds }
     {
         met(self.lowest(s), self.highest(s), self.range_at(s).hole())
     }
@@ -208,16 +210,19 @@ impl Numbers {
         ensures low { IsBounded result.lo }
         ensures high { IsBounded result.hi }
         ensures small { AreNarrow self.now → IsThere self.now e → IsSmall result }
+        ensures form { AreBounds self.now.bounds }
     {
         self.span_at(e.sym).shifted(e.k)
     }
 
-    /// The numbers that an expression of a variable may have.
+    /// The numbers that an expression of a variable may have. Those of a constant begin with it.
+    #[tactic(auto, using(crate::proofs::Small::constant_low))]
     pub(crate) fn small_range_of(&self, e: Expr) -> Span
         requires there { IsThere self.now e }
         requires narrow { AreNarrow self.now }
         ensures value { result ≡ rule.range_of self.now e }
         ensures ends { IsSmall result }
+        ensures constant { e.sym ≡ 0 → result.lo ≡ e.k }
     {
         self.range_of(e)
     }

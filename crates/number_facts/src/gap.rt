@@ -2,6 +2,7 @@
 
 ghost use Rattle.std.specs.Prelude.{◌≡◌, ◌-ℤ◌, ◌+ℤ◌, ◌≤ℤ◌, pos};
 ghost use Rattle.number_spans.specs.Sizes.{IsWide, IsBounded};
+ghost use Rattle.number_facts.specs.Sizes.{IsFar};
 ghost use Rattle.number_facts.specs.Ends.{range_of, span_at};
 ghost use Rattle.number_facts.specs.Gaps.{at_most, equal, gap, reaches};
 
@@ -10,10 +11,11 @@ use domain_api::{Expr, Order};
 use number_spans::{less_by, sum_of};
 
 /// The difference of two ends.
-fn far(from: i128, to: i128) -> i128
+pub(crate) fn far(from: i128, to: i128) -> i128
     requires first { IsWide from }
     requires second { IsWide to }
-    ensures { result ≡ to -ℤ from }
+    ensures value { result ≡ to -ℤ from }
+    ensures bound { IsFar result }
 {
     to - from
 }
