@@ -199,7 +199,7 @@ narrow_at [] i all = narrow_zero
 narrow_at (r ∷ rs) zero all = all.0
 narrow_at (r ∷ rs) (suc i) all = narrow_at rs i all.1
 
-narrow_range : (facts : Facts) (s : ℕ) → AreNarrow facts → IsNarrow (range_at facts s)
+pub narrow_range : (facts : Facts) (s : ℕ) → AreNarrow facts → IsNarrow (range_at facts s)
 unfolding range_at
 narrow_range facts zero all = narrow_zero
 narrow_range facts (suc s) all = narrow_at facts.ranges s all

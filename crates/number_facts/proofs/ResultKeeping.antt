@@ -1,0 +1,114 @@
+-- A result of which something is known is kept.
+use Rattle.std.proofs.Common.{◌≡◌, ℕ, ◌==◌, ◌+◌, ◌≤◌, ℤ, pos, negsuc, ◌+ℤ◌, ◌-ℤ◌, ◌≤ℤ◌, Bool, true, ◌&&◌, int_le, Option, Some, None, List, [], ◌∷◌, ◌++◌, length, refl, sym, ap, ◌∙◌, FitsSigned, w32, arith}
+use Rattle.std.specs.Option.{option_map}
+use Rattle.std.specs.Int.{int_min, int_max}
+use Rattle.std.specs.List.{AllByRecursion}
+use Rattle.std.proofs.lemmas.Int.{ints, clamps}
+use Rattle.std.proofs.lemmas.Bool.{cond_both}
+use Rattle.domain_api.specs.declared.expr.Expr.{Expr}
+use Rattle.cil_model.specs.Arithmetic.{LEAST, GREATEST}
+use Rattle.interval_domain.specs.Interval.{Interval}
+use Rattle.symbolic_values.specs.Meaning.{told}
+use Rattle.symbolic_values.specs.Worth.{worth}
+use Rattle.number_spans.specs.Spans.{Has}
+use Rattle.number_spans.specs.Stored.{SomeAllows, range_without}
+use Rattle.number_spans.specs.declared.span.Span.{Span}
+use Rattle.number_spans.proofs.Lost.{range_without_allows}
+use Rattle.number_facts.specs.Arith.{is_kept, no_more, settled, where_so}
+use Rattle.number_facts.specs.Facts.{Facts, AreNarrow, IsNamed, range_at}
+use Rattle.number_facts.specs.Fresh.{Made, expr_made, facts_made, fresh, noted}
+use Rattle.number_facts.specs.Holds.{AreNamed, Holds, IsRelated, Names, YieldsSome, is_below}
+use Rattle.number_facts.specs.declared.outcome.Outcome.{Outcome}
+use Rattle.number_facts.specs.declared.outcome.Outcome.TheVariants.{Is, Within}
+use Rattle.number_facts.specs.declared.relation.Relation.{Relation}
+use Rattle.number_facts.specs.declared.relation.Relation.TheVariants as known
+use Rattle.number_facts.proofs.Forms.{narrow_range}
+use Rattle.number_facts.proofs.NewSymbols.{with_number, as_before, new_number, noted_holds, same_told}
+
+-- All that is known is so of these numbers, and has its form.
+pub record Knows (facts : Facts) (number : ℕ → ℤ) (is_null : ℕ → Bool) : Type 0 where
+  pub holds : Holds facts number is_null
+  pub named : AreNamed facts
+  pub narrow : AreNarrow facts
+
+-- ---- relations
+
+-- What else is known of a symbol speaks of symbols that are there, and is so where it is worth n.
+abbrev pub IsTrueOf : ℕ → (ℕ → ℤ) → (ℕ → Bool) → ℤ → Relation → Type 0
+IsTrueOf count number is_null n (known.AtLeast s k) = (s ≤ count) × ((number s +ℤ k) ≤ℤ n)
+IsTrueOf count number is_null n (known.AtMost s k) = (s ≤ count) × (n ≤ℤ (number s +ℤ k))
+IsTrueOf count number is_null n (known.Is def) = Names count def × (n ≡ told is_below number is_null def)
+
+abbrev pub AreTrueOf : Facts → (ℕ → ℤ) → (ℕ → Bool) → ℤ → List Relation → Type 0
+AreTrueOf facts number is_null n relations = AllByRecursion (IsTrueOf (length facts.ranges) number is_null n) relations
+
+-- so they are of a new symbol that is worth n
+is_related : (count : ℕ) (number : ℕ → ℤ) (is_null : ℕ → Bool) (n : ℤ) (r : Relation) → IsTrueOf count number is_null n r
+    → IsRelated (with_number number (count + 1) n) is_null (count + 1) r
+is_related count number is_null n (known.AtLeast s k) so =
+    let old = as_before number count n s so.0 in let new = new_number number (count + 1) n in omega (arith, ints, old, new, so.1)
+is_related count number is_null n (known.AtMost s k) so =
+    let old = as_before number count n s so.0 in let new = new_number number (count + 1) n in omega (arith, ints, old, new, so.1)
+is_related count number is_null n (known.Is def) so =
+    new_number number (count + 1) n ∙ so.1
+    ∙ sym (same_told number (with_number number (count + 1) n) is_null count def so.0 (as_before number count n))
+
+are_related : (count : ℕ) (number : ℕ → ℤ) (is_null : ℕ → Bool) (n : ℤ) (rs : List Relation) → AllByRecursion (IsTrueOf count number is_null n) rs
+    → AllByRecursion (IsRelated (with_number number (count + 1) n) is_null (count + 1)) rs
+are_related count number is_null n [] so = tt
+are_related count number is_null n (r ∷ rs) so = (is_related count number is_null n r so.0, are_related count number is_null n rs so.1)
+
+pub all_both : {X : Type 0} (P : X → Type 0) (xs ys : List X) → AllByRecursion P xs → AllByRecursion P ys → AllByRecursion P (xs ++ ys)
+all_both P [] ys first second = second
+all_both P (x ∷ xs) ys first second = (first.0, all_both P xs ys first.1 second)
+
+pub where_true : (facts : Facts) (number : ℕ → ℤ) (is_null : ℕ → Bool) (n : ℤ) (b : Bool) (rs : List Relation) → (b ≡ true → AreTrueOf facts number is_null n rs)
+    → AreTrueOf facts number is_null n (where_so b rs)
+where_true facts number is_null n b rs so = cond_both b _ _ (AreTrueOf facts number is_null n) so (λ e. tt)
+
+pub no_more_true : (facts : Facts) (number : ℕ → ℤ) (is_null : ℕ → Bool) (n : ℤ) (e : Expr) (less : ℤ) → IsNamed facts e → (n +ℤ less) ≤ℤ worth number e
+    → AreTrueOf facts number is_null n (no_more e less)
+no_more_true facts number is_null n e less there le = ((there, omega (arith, ints, le)), tt)
+
+-- ---- results
+
+-- What is known of a result is true of n.
+abbrev pub Covers : Facts → (ℕ → ℤ) → Outcome → ℤ → Type 0
+Covers facts number (Is e) n = IsNamed facts e × (worth number e ≡ n)
+Covers facts number (Within r) n = Has r n
+
+noted_some : (facts : Facts) (number : ℕ → ℤ) (is_null : ℕ → Bool) (o : Option Interval) (relations : List Relation) (n : ℤ) → Knows facts number is_null → SomeAllows o n
+    → AreTrueOf facts number is_null n relations
+    → YieldsSome facts (facts_made facts (option_map (λ r. noted facts r relations) o)) number is_null (expr_made (option_map (λ r. noted facts r relations) o)) n
+noted_some facts number is_null None relations n knows allowed so = elim allowed [ ]
+noted_some facts number is_null (Some r) relations n knows allowed so =
+    noted_holds facts number is_null r relations n knows.holds knows.named allowed (are_related (length facts.ranges) number is_null n relations so)
+
+fresh_result : (facts : Facts) (number : ℕ → ℤ) (is_null : ℕ → Bool) (lo hi : ℤ) (relations : List Relation) (n : ℤ) → Knows facts number is_null → FitsSigned w32 n
+    → lo ≤ℤ n → n ≤ℤ hi → AreTrueOf facts number is_null n relations
+    → YieldsSome facts (facts_made facts (fresh facts lo hi None relations)) number is_null (expr_made (fresh facts lo hi None relations)) n
+unfolding fresh
+fresh_result facts number is_null lo hi relations n knows fits above below so =
+    noted_some facts number is_null (range_without (int_max lo LEAST) (int_min hi GREATEST) None) relations n knows
+    (range_without_allows (int_max lo LEAST) (int_min hi GREATEST) n None (omega (arith, ints, clamps, fits, above)) (omega (arith, ints, clamps, fits, below)) (λ is. absurd cc)) so
+
+-- the constant of a result is small, since its symbol and the result are int32
+kept : (facts : Facts) (number : ℕ → ℤ) (is_null : ℕ → Bool) (e : Expr) (n : ℤ) → Knows facts number is_null → IsNamed facts e → worth number e ≡ n → FitsSigned w32 n
+    → is_kept e ≡ true
+kept facts number is_null e n knows there is fits =
+    let own = knows.holds.allowed.ranges e.sym there in
+    let narrow = narrow_range facts e.sym knows.narrow in
+    small (number e.sym) e.k n is fits (omega (arith, ints, narrow.least, own.above)) (omega (arith, ints, narrow.greatest, own.below))
+  where
+    small : (m k n : ℤ) → m +ℤ k ≡ n → FitsSigned w32 n → LEAST ≤ℤ m → m ≤ℤ GREATEST → (int_le (negsuc 4294967295) k && int_le k (pos 4294967296)) ≡ true
+    small m k n is fits least greatest = grind (arith, ints, is, fits, least, greatest)
+
+-- A result of which this is known is kept.
+pub settled_keeps : (facts : Facts) (number : ℕ → ℤ) (is_null : ℕ → Bool) (o : Outcome) (relations : List Relation) (n : ℤ) → Knows facts number is_null → FitsSigned w32 n
+    → Covers facts number o n → AreTrueOf facts number is_null n relations
+    → YieldsSome facts (facts_made facts (settled facts o relations)) number is_null (expr_made (settled facts o relations)) n
+unfolding settled
+settled_keeps facts number is_null (Is e) relations n knows fits covers so =
+    rw (kept facts number is_null e n knows covers.0 covers.1 fits) (record { later = number; agrees = λ s there. refl; holds = knows.holds; is = covers.1 })
+settled_keeps facts number is_null (Within r) relations n knows fits covers so =
+    fresh_result facts number is_null r.lo r.hi relations n knows fits covers.above covers.below so
