@@ -27,7 +27,7 @@ use Rattle.number_facts.specs.declared.relation.Relation.{Relation}
 use Rattle.number_facts.specs.declared.relation.Relation.TheVariants as known
 use Rattle.number_facts.proofs.Knowing.{range_has, zero_number, constant_worth}
 use Rattle.number_facts.proofs.NewSymbols.{zero_worth}
-use Rattle.number_facts.proofs.ResultKeeping.{Knows, AreTrueOf, Covers, all_both}
+use Rattle.number_facts.proofs.ResultKeeping.{Knows, AreTrueOf, Covers, all_both, true_of_same}
 
 -- ---- what bounds a sum from above
 
@@ -162,7 +162,7 @@ sum_relations_true facts number is_null a b knows first second =
     let n = worth number a +ℤ worth number b in
     let allowed = knows.holds.allowed in
     cond_both (rule.is_inside (rule.sum_span facts a b)) _ _ (AreTrueOf facts number is_null (wrap32 n))
-    (λ e. rw (unwrapped (rule.sum_span facts a b) n (sum_has facts number is_null a b knows first second) e)
+    (λ e. true_of_same facts number is_null n (wrap32 n) _ (unwrapped (rule.sum_span facts a b) n (sum_has facts number is_null a b knows first second) e)
     (all_both _ (rule.beside a (range_of facts b)) (rule.beside b (range_of facts a) ++ rule.at_most (rule.uppers facts a b))
     (beside_true facts number is_null a (range_of facts b) (worth number b) n first (range_has facts number b allowed second) refl)
     (all_both _ (rule.beside b (range_of facts a)) (rule.at_most (rule.uppers facts a b))
@@ -239,7 +239,8 @@ difference_relations_true facts number is_null a b knows first second =
     cond_both (b.sym == 0) _ _ (AreTrueOf facts number is_null (wrap32 n))
     (λ e. rw (minus_constant facts number a b allowed e) at (sum_relations_true facts number is_null a (negated b) knows first second))
     (λ e. cond_both (rule.is_inside (rule.difference_span facts a b)) _ _ (AreTrueOf facts number is_null (wrap32 n))
-    (λ f. rw (unwrapped (rule.difference_span facts a b) n (difference_has facts number is_null a b knows first second) f) (own_relations facts number is_null a b knows first second))
+    (λ f. true_of_same facts number is_null n (wrap32 n) _ (unwrapped (rule.difference_span facts a b) n (difference_has facts number is_null a b knows first second) f)
+    (own_relations facts number is_null a b knows first second))
     (λ f. tt))
 
 -- ---- what is judged for overflow

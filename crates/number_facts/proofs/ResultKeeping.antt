@@ -62,6 +62,10 @@ pub all_both : {X : Type 0} (P : X → Type 0) (xs ys : List X) → AllByRecursi
 all_both P [] ys first second = second
 all_both P (x ∷ xs) ys first second = (first.0, all_both P xs ys first.1 second)
 
+pub true_of_same : (facts : Facts) (number : ℕ → ℤ) (is_null : ℕ → Bool) (n same : ℤ) (rs : List Relation) → same ≡ n → AreTrueOf facts number is_null n rs
+    → AreTrueOf facts number is_null same rs
+true_of_same facts number is_null n same rs is so = rw is so
+
 pub where_true : (facts : Facts) (number : ℕ → ℤ) (is_null : ℕ → Bool) (n : ℤ) (b : Bool) (rs : List Relation) → (b ≡ true → AreTrueOf facts number is_null n rs)
     → AreTrueOf facts number is_null n (where_so b rs)
 where_true facts number is_null n b rs so = cond_both b _ _ (AreTrueOf facts number is_null n) so (λ e. tt)
