@@ -162,7 +162,8 @@ sum_relations_true facts number is_null a b knows first second =
     let n = worth number a +ℤ worth number b in
     let allowed = knows.holds.allowed in
     cond_both (rule.is_inside (rule.sum_span facts a b)) _ _ (AreTrueOf facts number is_null (wrap32 n))
-    (λ e. true_of_same facts number is_null n (wrap32 n) _ (unwrapped (rule.sum_span facts a b) n (sum_has facts number is_null a b knows first second) e)
+    (λ e. true_of_same facts number is_null n (wrap32 n) (rule.beside a (range_of facts b) ++ (rule.beside b (range_of facts a) ++ rule.at_most (rule.uppers facts a b)))
+    (unwrapped (rule.sum_span facts a b) n (sum_has facts number is_null a b knows first second) e)
     (all_both _ (rule.beside a (range_of facts b)) (rule.beside b (range_of facts a) ++ rule.at_most (rule.uppers facts a b))
     (beside_true facts number is_null a (range_of facts b) (worth number b) n first (range_has facts number b allowed second) refl)
     (all_both _ (rule.beside b (range_of facts a)) (rule.at_most (rule.uppers facts a b))
@@ -223,9 +224,13 @@ difference_covers facts number is_null a b knows first second =
     (λ f. (none_first (length facts.ranges), zero_worth number _ _ (zero_number facts number allowed) (ap wrap32 (one_symbol number a b f))))
     (λ f. settled_has (rule.difference_span facts a b) _ (difference_has facts number is_null a b knows first second)))
 
+-- what is known of a difference that does not wrap
+abbrev difference_tells : Facts → Expr → Expr → List Relation
+difference_tells facts a b =
+    known.Is (Sub a b) ∷ known.AtLeast a.sym (a.k -ℤ (range_of facts b).hi) ∷ known.AtMost a.sym (a.k -ℤ (range_of facts b).lo) ∷ []
+
 own_relations : (facts : Facts) (number : ℕ → ℤ) (is_null : ℕ → Bool) (a b : Expr) → Knows facts number is_null → IsNamed facts a → IsNamed facts b
-    → AreTrueOf facts number is_null (worth number a -ℤ worth number b)
-      (known.Is (Sub a b) ∷ known.AtLeast a.sym (a.k -ℤ (range_of facts b).hi) ∷ known.AtMost a.sym (a.k -ℤ (range_of facts b).lo) ∷ [])
+    → AreTrueOf facts number is_null (worth number a -ℤ worth number b) (difference_tells facts a b)
 own_relations facts number is_null a b knows first second =
     let other = range_has facts number b knows.holds.allowed second in
     (((first, second), refl), ((first, omega (arith, ints, other.below)), ((first, omega (arith, ints, other.above)), tt)))
@@ -239,7 +244,7 @@ difference_relations_true facts number is_null a b knows first second =
     cond_both (b.sym == 0) _ _ (AreTrueOf facts number is_null (wrap32 n))
     (λ e. rw (minus_constant facts number a b allowed e) at (sum_relations_true facts number is_null a (negated b) knows first second))
     (λ e. cond_both (rule.is_inside (rule.difference_span facts a b)) _ _ (AreTrueOf facts number is_null (wrap32 n))
-    (λ f. true_of_same facts number is_null n (wrap32 n) _ (unwrapped (rule.difference_span facts a b) n (difference_has facts number is_null a b knows first second) f)
+    (λ f. true_of_same facts number is_null n (wrap32 n) (difference_tells facts a b) (unwrapped (rule.difference_span facts a b) n (difference_has facts number is_null a b knows first second) f)
     (own_relations facts number is_null a b knows first second))
     (λ f. tt))
 

@@ -25,13 +25,13 @@ use Rattle.number_spans.proofs.QuotientLaws.{quotients_have}
 use Rattle.number_spans.proofs.RemainderLaws.{remainders_have}
 use Rattle.number_spans.proofs.ShiftLaws.{shifted_right_has, plain_shift, no_shift, places_has, unsigned_fits, zero_places, some_places}
 use Rattle.number_spans.proofs.Wrapping.{between_has, full_has, wrapped_has}
-use Rattle.pentagon_domain.specs.declared.bound_row.BoundRow.{BoundRow}
 use Rattle.number_facts.specs.Arith as rule
-use Rattle.number_facts.specs.Ends.{range_of, span_at, cut_by_all, raised_by, met}
-use Rattle.number_facts.specs.Facts.{Facts, IsNamed, has, range_at}
+use Rattle.number_facts.specs.Ends.{range_of, span_at}
+use Rattle.number_facts.specs.Facts.{Facts, IsNamed, range_at}
 use Rattle.number_facts.specs.Laws.Allowing.{AllowsNumbers}
 use Rattle.number_facts.proofs.Knowing.{range_has, zero_number, constant_worth, not_negative}
 use Rattle.number_facts.proofs.ResultKeeping.{Knows, AreTrueOf, Covers, all_both, no_more_true, true_of_same, where_true}
+use Rattle.number_facts.proofs.Smallness.{span_above}
 
 -- ---- products
 
@@ -67,17 +67,9 @@ shifted_left_covers facts number a b allowed first one fits apart =
 
 -- ---- the end of a constant
 
-cut_from : (facts : Facts) (t : ℕ) (rows : List BoundRow) (lo : ℤ) → lo ≤ℤ cut_by_all (raised_by facts t) rows lo
-unfolding raised_by
-cut_from facts t [] lo = omega (arith, ints)
-cut_from facts t (row ∷ rows) lo =
-    let rest = cut_from facts t rows (raised_by facts t lo row) in
-    let more = cond_both (row.t == t && has facts row.s) _ _ (λ n. lo ≤ℤ n) (λ e. omega (arith, ints, clamps)) (λ e. omega (arith, ints)) in
-    omega (arith, ints, rest, more)
-
 zero_low : (facts : Facts) → pos 0 ≤ℤ (span_at facts 0).lo
-unfolding span_at met range_at
-zero_low facts = cut_from facts 0 facts.bounds (pos 0)
+unfolding range_at
+zero_low facts = span_above facts 0
 
 low_end : (facts : Facts) (e : Expr) → e.sym ≡ 0 → e.k ≤ℤ (range_of facts e).lo
 unfolding range_of shifted
