@@ -20,82 +20,82 @@ use Rattle.number_facts.specs.Additions as rule
 use Rattle.number_facts.specs.Ends.{range_of}
 use Rattle.number_facts.specs.Facts.{Facts, IsNamed}
 use Rattle.number_facts.specs.Gaps.{gap}
-use Rattle.number_facts.specs.Holds.{IsDefined, Names, NamesOwn}
+use Rattle.number_facts.specs.Holds.{IsDefined}
 use Rattle.number_facts.specs.Laws.Allowing.{AllowsNumbers, gap_allowed}
 use Rattle.number_facts.specs.declared.outcome.Outcome.{Outcome}
 use Rattle.number_facts.specs.declared.relation.Relation.{Relation}
 use Rattle.number_facts.specs.declared.relation.Relation.TheVariants as known
 use Rattle.number_facts.proofs.Knowing.{range_has, zero_number, constant_worth}
 use Rattle.number_facts.proofs.NewSymbols.{zero_worth}
-use Rattle.number_facts.proofs.ResultKeeping.{Knows, AreTrueOf, Covers, all_both, true_of_same}
+use Rattle.number_facts.proofs.ResultKeeping.{Knows, AreTrueOf, Covers, true_of_same}
+use Rattle.number_facts.proofs.RelationNames.{all_both, uppers_named}
 
 -- ---- what bounds a sum from above
 
--- An expression of a symbol that is there is at least n.
-abbrev IsAbove : Facts → (ℕ → ℤ) → ℤ → Expr → Type 0
-IsAbove facts number n u = IsNamed facts u × (n ≤ℤ worth number u)
+-- An expression is worth at least n.
+abbrev IsAbove : (ℕ → ℤ) → ℤ → Expr → Type 0
+IsAbove number n u = n ≤ℤ worth number u
 
-abbrev SomeAbove : Facts → (ℕ → ℤ) → ℤ → Option Expr → Type 0
-SomeAbove facts number n None = Unit {0}
-SomeAbove facts number n (Some u) = IsAbove facts number n u
+abbrev SomeAbove : (ℕ → ℤ) → ℤ → Option Expr → Type 0
+SomeAbove number n None = Unit {0}
+SomeAbove number n (Some u) = IsAbove number n u
 
-abbrev AllAbove : Facts → (ℕ → ℤ) → ℤ → List Expr → Type 0
-AllAbove facts number n us = AllByRecursion (IsAbove facts number n) us
+abbrev AllAbove : (ℕ → ℤ) → ℤ → List Expr → Type 0
+AllAbove number n us = AllByRecursion (IsAbove number n) us
 
 -- x - y is d, y is of the symbol of a, and b is so far below d
-far_above : (facts : Facts) (number : ℕ → ℤ) (a b x y : Expr) (d : ℕ) (n : ℤ) (far : Option ℤ) → n ≡ worth number a +ℤ worth number b → IsNamed facts x
-    → y.sym ≡ a.sym → number d ≡ worth number x -ℤ worth number y → ((g : ℤ) → far ≡ Some g → (number b.sym +ℤ g) ≤ℤ number d)
-    → SomeAbove facts number n (rule.above a b x y far)
-far_above facts number a b x y d n None sum there same is below = tt
-far_above facts number a b x y d n (Some g) sum there same is below =
-    let le = below g refl in let equal : number y.sym ≡ number a.sym = ap number same in (there, omega (arith, ints, sum, is, le, equal))
+far_above : (number : ℕ → ℤ) (a b x y : Expr) (d : ℕ) (n : ℤ) (far : Option ℤ) → n ≡ worth number a +ℤ worth number b → y.sym ≡ a.sym → number d ≡ worth number x -ℤ worth number y → ((g : ℤ) → far ≡ Some g → (number b.sym +ℤ g) ≤ℤ number d)
+    → SomeAbove number n (rule.above a b x y far)
+far_above number a b x y d n None sum same is below = tt
+far_above number a b x y d n (Some g) sum same is below =
+    let le = below g refl in let equal : number y.sym ≡ number a.sym = ap number same in omega (arith, ints, sum, is, le, equal)
 
 defined_above : (facts : Facts) (number : ℕ → ℤ) (is_null : ℕ → Bool) (a b : Expr) (n : ℤ) (d : ℕ) (def : Def) → AllowsNumbers facts number
-    → n ≡ worth number a +ℤ worth number b → Names (length facts.ranges) def → IsDefined number is_null (d, def) → SomeAbove facts number n (rule.above_by facts a b d def)
-defined_above facts number is_null a b n d (Sub x y) allowed sum named is =
-    cond_both (y.sym == a.sym) _ _ (SomeAbove facts number n)
-    (λ e. far_above facts number a b x y d n (gap facts b.sym d) sum named.0 (eqb-true y.sym a.sym e) is (λ g known. gap_allowed facts number b.sym d g known allowed))
+    → n ≡ worth number a +ℤ worth number b → IsDefined number is_null (d, def) → SomeAbove number n (rule.above_by facts a b d def)
+defined_above facts number is_null a b n d (Sub x y) allowed sum is =
+    cond_both (y.sym == a.sym) _ _ (SomeAbove number n)
+    (λ e. far_above number a b x y d n (gap facts b.sym d) sum (eqb-true y.sym a.sym e) is (λ g known. gap_allowed facts number b.sym d g known allowed))
     (λ e. tt)
-defined_above facts number is_null a b n d (Eq x y) allowed sum named is = tt
-defined_above facts number is_null a b n d (Lt x y) allowed sum named is = tt
-defined_above facts number is_null a b n d (LtUn x y) allowed sum named is = tt
-defined_above facts number is_null a b n d (NullTest r q) allowed sum named is = tt
+defined_above facts number is_null a b n d (Eq x y) allowed sum is = tt
+defined_above facts number is_null a b n d (Lt x y) allowed sum is = tt
+defined_above facts number is_null a b n d (LtUn x y) allowed sum is = tt
+defined_above facts number is_null a b n d (NullTest r q) allowed sum is = tt
 
-with_above : (facts : Facts) (number : ℕ → ℤ) (n : ℤ) (o : Option Expr) (us : List Expr) → SomeAbove facts number n o → AllAbove facts number n us
-    → AllAbove facts number n (rule.with_some o us)
-with_above facts number n None us first all = all
-with_above facts number n (Some u) us first all = (first, all)
+with_above : (number : ℕ → ℤ) (n : ℤ) (o : Option Expr) (us : List Expr) → SomeAbove number n o → AllAbove number n us
+    → AllAbove number n (rule.with_some o us)
+with_above number n None us first all = all
+with_above number n (Some u) us first all = (first, all)
 
 all_defined_above : (facts : Facts) (number : ℕ → ℤ) (is_null : ℕ → Bool) (a b : Expr) (n : ℤ) (ds : List (ℕ × Def)) → AllowsNumbers facts number
-    → n ≡ worth number a +ℤ worth number b → AllByRecursion (NamesOwn (length facts.ranges)) ds → AllByRecursion (IsDefined number is_null) ds
-    → AllAbove facts number n (rule.all_above facts a b ds)
-all_defined_above facts number is_null a b n [] allowed sum named is = tt
-all_defined_above facts number is_null a b n (d ∷ ds) allowed sum named is =
-    with_above facts number n (rule.above_by facts a b d.0 d.1) (rule.all_above facts a b ds)
-    (defined_above facts number is_null a b n d.0 d.1 allowed sum named.0.1 is.0) (all_defined_above facts number is_null a b n ds allowed sum named.1 is.1)
+    → n ≡ worth number a +ℤ worth number b → AllByRecursion (IsDefined number is_null) ds
+    → AllAbove number n (rule.all_above facts a b ds)
+all_defined_above facts number is_null a b n [] allowed sum is = tt
+all_defined_above facts number is_null a b n (d ∷ ds) allowed sum is =
+    with_above number n (rule.above_by facts a b d.0 d.1) (rule.all_above facts a b ds)
+    (defined_above facts number is_null a b n d.0 d.1 allowed sum is.0) (all_defined_above facts number is_null a b n ds allowed sum is.1)
 
 uppers_above : (facts : Facts) (number : ℕ → ℤ) (is_null : ℕ → Bool) (a b : Expr) → Knows facts number is_null
-    → AllAbove facts number (worth number a +ℤ worth number b) (rule.uppers facts a b)
+    → AllAbove number (worth number a +ℤ worth number b) (rule.uppers facts a b)
 unfolding rule.uppers
 uppers_above facts number is_null a b knows =
     let n = worth number a +ℤ worth number b in
     let turned : n ≡ worth number b +ℤ worth number a = omega (arith, ints) in
-    all_both (IsAbove facts number n) (rule.all_above facts a b facts.definitions) (rule.all_above facts b a facts.definitions)
-    (all_defined_above facts number is_null a b n facts.definitions knows.holds.allowed refl knows.named.definitions knows.holds.definitions)
-    (all_defined_above facts number is_null b a n facts.definitions knows.holds.allowed turned knows.named.definitions knows.holds.definitions)
+    all_both (IsAbove number n) (rule.all_above facts a b facts.definitions) (rule.all_above facts b a facts.definitions)
+    (all_defined_above facts number is_null a b n facts.definitions knows.holds.allowed refl knows.holds.definitions)
+    (all_defined_above facts number is_null b a n facts.definitions knows.holds.allowed turned knows.holds.definitions)
 
-below_cut : (facts : Facts) (number : ℕ → ℤ) (n : ℤ) (us : List Expr) (hi : ℤ) → AllowsNumbers facts number → AllAbove facts number n us → n ≤ℤ hi
+below_cut : (facts : Facts) (number : ℕ → ℤ) (n : ℤ) (us : List Expr) (hi : ℤ) → AllowsNumbers facts number → AllByRecursion (IsNamed facts) us → AllAbove number n us → n ≤ℤ hi
     → n ≤ℤ rule.cut_by facts us hi
-below_cut facts number n [] hi allowed all below = below
-below_cut facts number n (u ∷ us) hi allowed all below =
-    let most = (range_has facts number u allowed all.0.0).below in
-    let least = all.0.1 in
-    below_cut facts number n us (int_min hi (range_of facts u).hi) allowed all.1 (omega (arith, ints, clamps, below, most, least))
+below_cut facts number n [] hi allowed there all below = below
+below_cut facts number n (u ∷ us) hi allowed there all below =
+    let most = (range_has facts number u allowed there.0).below in
+    let least = all.0 in
+    below_cut facts number n us (int_min hi (range_of facts u).hi) allowed there.1 all.1 (omega (arith, ints, clamps, below, most, least))
 
-at_most_true : (facts : Facts) (number : ℕ → ℤ) (is_null : ℕ → Bool) (n : ℤ) (us : List Expr) → AllAbove facts number n us
-    → AreTrueOf facts number is_null n (rule.at_most us)
-at_most_true facts number is_null n [] all = tt
-at_most_true facts number is_null n (u ∷ us) all = ((all.0.0, all.0.1), at_most_true facts number is_null n us all.1)
+at_most_true : (number : ℕ → ℤ) (is_null : ℕ → Bool) (n : ℤ) (us : List Expr) → AllAbove number n us
+    → AreTrueOf number is_null n (rule.at_most us)
+at_most_true number is_null n [] all = tt
+at_most_true number is_null n (u ∷ us) all = (all.0, at_most_true number is_null n us all.1)
 
 -- ---- spans of int32
 
@@ -120,7 +120,7 @@ sum_has facts number is_null a b knows first second =
     let one = range_has facts number a knows.holds.allowed first in
     let other = range_has facts number b knows.holds.allowed second in
     between_has _ _ _ (omega (arith, ints, one.above, other.above))
-    (below_cut facts number _ (rule.uppers facts a b) _ knows.holds.allowed (uppers_above facts number is_null a b knows) (omega (arith, ints, one.below, other.below)))
+    (below_cut facts number _ (rule.uppers facts a b) _ knows.holds.allowed (uppers_named facts a b knows.named) (uppers_above facts number is_null a b knows) (omega (arith, ints, one.below, other.below)))
 
 -- it is the sum with the constant, wrapped
 plus_is : (facts : Facts) (number : ℕ → ℤ) (e c : Expr) (n : ℤ) → AllowsNumbers facts number → IsNamed facts e → takes (range_of facts e) c ≡ true
@@ -150,25 +150,24 @@ sum_covers facts number is_null a b knows first second =
     turned is = omega (arith, ints, is)
 
 -- an expression and the numbers of another one
-beside_true : (facts : Facts) (number : ℕ → ℤ) (is_null : ℕ → Bool) (e : Expr) (r : Span) (m n : ℤ) → IsNamed facts e → Has r m → n ≡ worth number e +ℤ m
-    → AreTrueOf facts number is_null n (rule.beside e r)
-beside_true facts number is_null e r m n there has is =
-    ((there, omega (arith, ints, is, has.above)), ((there, omega (arith, ints, is, has.below)), tt))
+beside_true : (number : ℕ → ℤ) (is_null : ℕ → Bool) (e : Expr) (r : Span) (m n : ℤ) → Has r m → n ≡ worth number e +ℤ m
+    → AreTrueOf number is_null n (rule.beside e r)
+beside_true number is_null e r m n has is = (omega (arith, ints, is, has.above), (omega (arith, ints, is, has.below), tt))
 
 pub sum_relations_true : (facts : Facts) (number : ℕ → ℤ) (is_null : ℕ → Bool) (a b : Expr) → Knows facts number is_null → IsNamed facts a → IsNamed facts b
-    → AreTrueOf facts number is_null (wrap32 (worth number a +ℤ worth number b)) (rule.sum_relations facts a b)
+    → AreTrueOf number is_null (wrap32 (worth number a +ℤ worth number b)) (rule.sum_relations facts a b)
 unfolding rule.sum_relations
 sum_relations_true facts number is_null a b knows first second =
     let n = worth number a +ℤ worth number b in
     let allowed = knows.holds.allowed in
-    cond_both (rule.is_inside (rule.sum_span facts a b)) _ _ (AreTrueOf facts number is_null (wrap32 n))
-    (λ e. true_of_same facts number is_null n (wrap32 n) (rule.beside a (range_of facts b) ++ (rule.beside b (range_of facts a) ++ rule.at_most (rule.uppers facts a b)))
+    cond_both (rule.is_inside (rule.sum_span facts a b)) _ _ (AreTrueOf number is_null (wrap32 n))
+    (λ e. true_of_same number is_null n (wrap32 n) (rule.beside a (range_of facts b) ++ (rule.beside b (range_of facts a) ++ rule.at_most (rule.uppers facts a b)))
     (unwrapped (rule.sum_span facts a b) n (sum_has facts number is_null a b knows first second) e)
     (all_both _ (rule.beside a (range_of facts b)) (rule.beside b (range_of facts a) ++ rule.at_most (rule.uppers facts a b))
-    (beside_true facts number is_null a (range_of facts b) (worth number b) n first (range_has facts number b allowed second) refl)
+    (beside_true number is_null a (range_of facts b) (worth number b) n (range_has facts number b allowed second) refl)
     (all_both _ (rule.beside b (range_of facts a)) (rule.at_most (rule.uppers facts a b))
-    (beside_true facts number is_null b (range_of facts a) (worth number a) n second (range_has facts number a allowed first) turned)
-    (at_most_true facts number is_null n (rule.uppers facts a b) (uppers_above facts number is_null a b knows)))))
+    (beside_true number is_null b (range_of facts a) (worth number a) n (range_has facts number a allowed first) turned)
+    (at_most_true number is_null n (rule.uppers facts a b) (uppers_above facts number is_null a b knows)))))
     (λ e. tt)
   where
     turned : worth number a +ℤ worth number b ≡ worth number b +ℤ worth number a
@@ -230,21 +229,21 @@ difference_tells facts a b =
     known.Is (Sub a b) ∷ known.AtLeast a.sym (a.k -ℤ (range_of facts b).hi) ∷ known.AtMost a.sym (a.k -ℤ (range_of facts b).lo) ∷ []
 
 own_relations : (facts : Facts) (number : ℕ → ℤ) (is_null : ℕ → Bool) (a b : Expr) → Knows facts number is_null → IsNamed facts a → IsNamed facts b
-    → AreTrueOf facts number is_null (worth number a -ℤ worth number b) (difference_tells facts a b)
+    → AreTrueOf number is_null (worth number a -ℤ worth number b) (difference_tells facts a b)
 own_relations facts number is_null a b knows first second =
     let other = range_has facts number b knows.holds.allowed second in
-    (((first, second), refl), ((first, omega (arith, ints, other.below)), ((first, omega (arith, ints, other.above)), tt)))
+    (refl, (omega (arith, ints, other.below), (omega (arith, ints, other.above), tt)))
 
 pub difference_relations_true : (facts : Facts) (number : ℕ → ℤ) (is_null : ℕ → Bool) (a b : Expr) → Knows facts number is_null → IsNamed facts a → IsNamed facts b
-    → AreTrueOf facts number is_null (wrap32 (worth number a -ℤ worth number b)) (rule.difference_relations facts a b)
+    → AreTrueOf number is_null (wrap32 (worth number a -ℤ worth number b)) (rule.difference_relations facts a b)
 unfolding rule.difference_relations
 difference_relations_true facts number is_null a b knows first second =
     let n = worth number a -ℤ worth number b in
     let allowed = knows.holds.allowed in
-    cond_both (b.sym == 0) _ _ (AreTrueOf facts number is_null (wrap32 n))
+    cond_both (b.sym == 0) _ _ (AreTrueOf number is_null (wrap32 n))
     (λ e. rw (minus_constant facts number a b allowed e) at (sum_relations_true facts number is_null a (negated b) knows first second))
-    (λ e. cond_both (rule.is_inside (rule.difference_span facts a b)) _ _ (AreTrueOf facts number is_null (wrap32 n))
-    (λ f. true_of_same facts number is_null n (wrap32 n) (difference_tells facts a b) (unwrapped (rule.difference_span facts a b) n (difference_has facts number is_null a b knows first second) f)
+    (λ e. cond_both (rule.is_inside (rule.difference_span facts a b)) _ _ (AreTrueOf number is_null (wrap32 n))
+    (λ f. true_of_same number is_null n (wrap32 n) (difference_tells facts a b) (unwrapped (rule.difference_span facts a b) n (difference_has facts number is_null a b knows first second) f)
     (own_relations facts number is_null a b knows first second))
     (λ f. tt))
 

@@ -30,7 +30,8 @@ use Rattle.number_facts.specs.Ends.{range_of, span_at}
 use Rattle.number_facts.specs.Facts.{Facts, IsNamed, range_at}
 use Rattle.number_facts.specs.Laws.Allowing.{AllowsNumbers}
 use Rattle.number_facts.proofs.Knowing.{range_has, zero_number, constant_worth, not_negative}
-use Rattle.number_facts.proofs.ResultKeeping.{Knows, AreTrueOf, Covers, all_both, no_more_true, true_of_same, where_true}
+use Rattle.number_facts.proofs.ResultKeeping.{AreTrueOf, Covers, no_more_true, true_of_same, where_true}
+use Rattle.number_facts.proofs.RelationNames.{all_both}
 use Rattle.number_facts.proofs.Smallness.{span_above}
 
 -- ---- products
@@ -130,32 +131,32 @@ begins facts number e k allowed there is =
     le_true m n e = omega (arith, ints)
 
 pub quotient_relations_true : (facts : Facts) (number : ℕ → ℤ) (is_null : ℕ → Bool) (a b : Expr) → AllowsNumbers facts number → IsNamed facts a → IsNamed facts b
-    → AreTrueOf facts number is_null (int_div (worth number a) (worth number b)) (rule.quotient_relations facts a b)
+    → AreTrueOf number is_null (int_div (worth number a) (worth number b)) (rule.quotient_relations facts a b)
 unfolding rule.quotient_relations
 quotient_relations_true facts number is_null a b allowed first second =
     let m = worth number a in
     let n = worth number b in
-    where_true facts number is_null (int_div m n) _ _
+    where_true number is_null (int_div m n) _ _
     (λ e. let parts = and_parts (is_not_negative (range_of facts a)) _ e in
     all_both _ (rule.no_more a (pos 0)) _
-    (no_more_true facts number is_null (int_div m n) a (pos 0) first
+    (no_more_true number is_null (int_div m n) a (pos 0)
     (quotient_no_more m n (begins facts number a (pos 0) allowed first parts.0) (begins facts number b (pos 1) allowed second parts.1)))
-    (where_true facts number is_null (int_div m n) _ _
+    (where_true number is_null (int_div m n) _ _
     (λ f. let more = and_parts (rule.is_positive (range_of facts a)) _ f in
-    no_more_true facts number is_null (int_div m n) a (pos 1) first
+    no_more_true number is_null (int_div m n) a (pos 1)
     (quotient_less m n (begins facts number a (pos 1) allowed first more.0) (begins facts number b (pos 2) allowed second more.1)))))
 
 pub remainder_relations_true : (facts : Facts) (number : ℕ → ℤ) (is_null : ℕ → Bool) (a b : Expr) → AllowsNumbers facts number → IsNamed facts a → IsNamed facts b
-    → AreTrueOf facts number is_null (int_rem (worth number a) (worth number b)) (rule.remainder_relations facts a b)
+    → AreTrueOf number is_null (int_rem (worth number a) (worth number b)) (rule.remainder_relations facts a b)
 unfolding rule.remainder_relations
 remainder_relations_true facts number is_null a b allowed first second =
     let m = worth number a in
     let n = worth number b in
     all_both _ (rule.where_so (is_not_negative (range_of facts a)) (rule.no_more a (pos 0))) _
-    (where_true facts number is_null (int_rem m n) _ _
-    (λ e. no_more_true facts number is_null (int_rem m n) a (pos 0) first (remainder_no_more m n (begins facts number a (pos 0) allowed first e))))
-    (where_true facts number is_null (int_rem m n) _ _
-    (λ e. no_more_true facts number is_null (int_rem m n) b (pos 1) second (remainder_less m n (begins facts number b (pos 1) allowed second e))))
+    (where_true number is_null (int_rem m n) _ _
+    (λ e. no_more_true number is_null (int_rem m n) a (pos 0) (remainder_no_more m n (begins facts number a (pos 0) allowed first e))))
+    (where_true number is_null (int_rem m n) _ _
+    (λ e. no_more_true number is_null (int_rem m n) b (pos 1) (remainder_less m n (begins facts number b (pos 1) allowed second e))))
 
 -- ---- unsigned numbers that are not negative
 
@@ -197,18 +198,18 @@ unsigned_remainder_has facts number a b allowed first second one other apart =
 
 pub unsigned_quotient_relations_true : (facts : Facts) (number : ℕ → ℤ) (is_null : ℕ → Bool) (a b : Expr) → AllowsNumbers facts number → IsNamed facts a → IsNamed facts b
     → FitsSigned w32 (worth number a) → FitsSigned w32 (worth number b)
-    → AreTrueOf facts number is_null (signed (unsigned (worth number a) / unsigned (worth number b))) (rule.where_so (rule.are_plain facts a b) (rule.quotient_relations facts a b))
+    → AreTrueOf number is_null (signed (unsigned (worth number a) / unsigned (worth number b))) (rule.where_so (rule.are_plain facts a b) (rule.quotient_relations facts a b))
 unsigned_quotient_relations_true facts number is_null a b allowed first second one other =
-    where_true facts number is_null _ (rule.are_plain facts a b) (rule.quotient_relations facts a b)
-    (λ e. true_of_same facts number is_null _ _ (rule.quotient_relations facts a b) (plain_quotient_is facts number a b allowed first second one other e)
+    where_true number is_null _ (rule.are_plain facts a b) (rule.quotient_relations facts a b)
+    (λ e. true_of_same number is_null _ _ (rule.quotient_relations facts a b) (plain_quotient_is facts number a b allowed first second one other e)
     (quotient_relations_true facts number is_null a b allowed first second))
 
 pub unsigned_remainder_relations_true : (facts : Facts) (number : ℕ → ℤ) (is_null : ℕ → Bool) (a b : Expr) → AllowsNumbers facts number → IsNamed facts a → IsNamed facts b
     → FitsSigned w32 (worth number a) → FitsSigned w32 (worth number b)
-    → AreTrueOf facts number is_null (signed (unsigned (worth number a) % unsigned (worth number b))) (rule.where_so (rule.are_plain facts a b) (rule.remainder_relations facts a b))
+    → AreTrueOf number is_null (signed (unsigned (worth number a) % unsigned (worth number b))) (rule.where_so (rule.are_plain facts a b) (rule.remainder_relations facts a b))
 unsigned_remainder_relations_true facts number is_null a b allowed first second one other =
-    where_true facts number is_null _ (rule.are_plain facts a b) (rule.remainder_relations facts a b)
-    (λ e. true_of_same facts number is_null _ _ (rule.remainder_relations facts a b) (plain_remainder_is facts number a b allowed first second one other e)
+    where_true number is_null _ (rule.are_plain facts a b) (rule.remainder_relations facts a b)
+    (λ e. true_of_same number is_null _ _ (rule.remainder_relations facts a b) (plain_remainder_is facts number a b allowed first second one other e)
     (remainder_relations_true facts number is_null a b allowed first second))
 
 -- ---- common bits
@@ -234,16 +235,16 @@ second_no_more m n one other h =
 
 pub common_relations_true : (facts : Facts) (number : ℕ → ℤ) (is_null : ℕ → Bool) (a b : Expr) → AllowsNumbers facts number → IsNamed facts a → IsNamed facts b
     → FitsSigned w32 (worth number a) → FitsSigned w32 (worth number b)
-    → AreTrueOf facts number is_null (int_bit_and w32 (worth number a) (worth number b)) (rule.common_relations facts a b)
+    → AreTrueOf number is_null (int_bit_and w32 (worth number a) (worth number b)) (rule.common_relations facts a b)
 unfolding rule.common_relations
 common_relations_true facts number is_null a b allowed first second one other =
     let m = worth number a in
     let n = worth number b in
     all_both _ (rule.where_so (is_not_negative (range_of facts a)) (rule.no_more a (pos 0))) _
-    (where_true facts number is_null (int_bit_and w32 m n) _ _
-    (λ e. no_more_true facts number is_null (int_bit_and w32 m n) a (pos 0) first (first_no_more m n one other (not_negative facts number a allowed first e))))
-    (where_true facts number is_null (int_bit_and w32 m n) _ _
-    (λ e. no_more_true facts number is_null (int_bit_and w32 m n) b (pos 0) second (second_no_more m n one other (not_negative facts number b allowed second e))))
+    (where_true number is_null (int_bit_and w32 m n) _ _
+    (λ e. no_more_true number is_null (int_bit_and w32 m n) a (pos 0) (first_no_more m n one other (not_negative facts number a allowed first e))))
+    (where_true number is_null (int_bit_and w32 m n) _ _
+    (λ e. no_more_true number is_null (int_bit_and w32 m n) b (pos 0) (second_no_more m n one other (not_negative facts number b allowed second e))))
 
 -- ---- shifts
 
@@ -270,16 +271,16 @@ shift_no_more m n h =
     omega (arith, ints, clamps, h, shifted.below)
 
 pub shift_relations_true : (facts : Facts) (number : ℕ → ℤ) (is_null : ℕ → Bool) (a : Expr) (n : ℤ) → AllowsNumbers facts number → IsNamed facts a
-    → AreTrueOf facts number is_null (int_shr (worth number a) (unsigned_abs n)) (rule.shift_relations facts a)
+    → AreTrueOf number is_null (int_shr (worth number a) (unsigned_abs n)) (rule.shift_relations facts a)
 shift_relations_true facts number is_null a n allowed first =
-    where_true facts number is_null (int_shr (worth number a) (unsigned_abs n)) _ _
-    (λ e. no_more_true facts number is_null _ a (pos 0) first (shift_no_more (worth number a) n (not_negative facts number a allowed first e)))
+    where_true number is_null (int_shr (worth number a) (unsigned_abs n)) _ _
+    (λ e. no_more_true number is_null _ a (pos 0) (shift_no_more (worth number a) n (not_negative facts number a allowed first e)))
 
 pub unsigned_shift_relations_true : (facts : Facts) (number : ℕ → ℤ) (is_null : ℕ → Bool) (a : Expr) (n : ℤ) → AllowsNumbers facts number → IsNamed facts a
     → FitsSigned w32 (worth number a)
-    → AreTrueOf facts number is_null (signed (unsigned (worth number a) / 2 ^ unsigned_abs n)) (rule.shift_relations facts a)
+    → AreTrueOf number is_null (signed (unsigned (worth number a) / 2 ^ unsigned_abs n)) (rule.shift_relations facts a)
 unsigned_shift_relations_true facts number is_null a n allowed first fits =
-    where_true facts number is_null _ _ _
+    where_true number is_null _ _ _
     (λ e. let from = not_negative facts number a allowed first e in
-    true_of_same facts number is_null _ _ (rule.no_more a (pos 0)) (plain_shift (worth number a) (unsigned_abs n) fits from)
-    (no_more_true facts number is_null _ a (pos 0) first (shift_no_more (worth number a) n from)))
+    true_of_same number is_null _ _ (rule.no_more a (pos 0)) (plain_shift (worth number a) (unsigned_abs n) fits from)
+    (no_more_true number is_null _ a (pos 0) (shift_no_more (worth number a) n from)))

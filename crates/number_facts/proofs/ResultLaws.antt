@@ -1,23 +1,24 @@
 -- What operators give is kept, and no exact result lies beyond its ends.
-use Rattle.std.proofs.Common.{◌≡◌, ◌≢◌, ℕ, ◌==◌, ◌/◌, ◌%◌, ◌^◌, ℤ, pos, negsuc, ◌+ℤ◌, ◌-ℤ◌, ◌*ℤ◌, ◌≤ℤ◌, Bool, true, false, ◌&&◌, int_le, int_div, int_rem, unsigned_abs, Option, Some, None, Ok, Err, refl, ◌∙◌, FitsSigned, w32, arith}
+use Rattle.std.proofs.Common.{◌≡◌, ◌≢◌, ℕ, ◌==◌, ◌/◌, ◌%◌, ◌^◌, ◌≤◌, ℤ, pos, negsuc, ◌+ℤ◌, ◌-ℤ◌, ◌*ℤ◌, ◌≤ℤ◌, Bool, true, false, ◌&&◌, int_le, int_div, int_rem, unsigned_abs, Option, Some, None, Ok, Err, refl, ◌∙◌, FitsSigned, w32, arith}
 use Rattle.std.specs.Prelude.{Result, IfOk, OnOk}
-use Rattle.std.specs.Int.{int_bit_and, int_shr}
+use Rattle.std.specs.Int.{w64, int_bit_and, int_shr}
 use Rattle.std.specs.Result.{result_ok}
 use Rattle.std.proofs.lemmas.Bool.{cond_both, and_parts}
 use Rattle.std.proofs.lemmas.Bool.Decides.{Decides-int_eq}
-use Rattle.std.proofs.lemmas.Int.{ints}
+use Rattle.std.proofs.lemmas.Int.{ints, clamps}
 use Rattle.domain_api.specs.declared.expr.Expr.{Expr}
 use Rattle.cc_base.specs.Wrap.{wrap32}
-use Rattle.cil_model.specs.Arithmetic.{operated, signed, unsigned}
+use Rattle.cil_model.specs.Arithmetic.{LEAST, GREATEST, exact, operated, signed, unsigned}
 use Rattle.cil_model.specs.declared.instruction.BinOp.{BinOp}
 use Rattle.cil_model.specs.declared.instruction.BinOp.TheVariants as operators
 use Rattle.cil_model.specs.declared.machine.FaultKind.{FaultKind}
 use Rattle.cil_model.proofs.ArithmeticFits.{operated_fits}
+use Rattle.interval_domain.specs.Arithmetic.{near, least, greatest}
 use Rattle.symbolic_values.specs.Worth.{worth}
 use Rattle.number_spans.specs.Constants.{constant, is_constant, of_constants}
-use Rattle.number_spans.specs.Product.{is_the_constant}
+use Rattle.number_spans.specs.Product.{corners, is_the_constant}
 use Rattle.number_spans.specs.Sizes.{IsSmall}
-use Rattle.number_spans.specs.Spans.{Has, is_int32}
+use Rattle.number_spans.specs.Spans.{Has, full, is_int32}
 use Rattle.number_spans.specs.declared.span.Span.{Span}
 use Rattle.number_spans.proofs.BitLaws.{common_bits_have, bits_of_either_have, bits_of_one_have}
 use Rattle.number_spans.proofs.OperatorLaws.{ok_same, divided_gives, divided_unsigned_gives, shifted_gives, exact_gives}
@@ -28,6 +29,7 @@ use Rattle.number_facts.specs.Arith as rule
 use Rattle.number_facts.specs.Ends.{range_of}
 use Rattle.number_facts.specs.Facts.{Facts, AreNarrow, IsNamed}
 use Rattle.number_facts.specs.Fresh.{expr_made, facts_made}
+use Rattle.number_facts.specs.Holds.{AreNamed, Holds}
 use Rattle.number_facts.specs.Laws.Allowing.{AllowsNumbers}
 use Rattle.number_facts.specs.Results.{AreInt32, AreExactEnds, IsExact, KeepsResult}
 use Rattle.number_facts.specs.declared.outcome.Outcome.{Outcome}
@@ -38,11 +40,13 @@ use Rattle.number_facts.proofs.OperatorLaws.{product_covers, shifted_left_covers
 use Rattle.number_facts.proofs.OperatorLaws.{quotient_relations_true, remainder_relations_true, unsigned_quotient_relations_true, unsigned_remainder_relations_true}
 use Rattle.number_facts.proofs.OperatorLaws.{common_relations_true, shift_relations_true, unsigned_shift_relations_true}
 use Rattle.number_facts.proofs.ResultKeeping.{Knows, AreTrueOf, Covers, settled_keeps}
+use Rattle.number_facts.proofs.RelationNames.{relations_named}
 use Rattle.number_facts.proofs.Smallness.{range_small}
 
 -- All that is known is so, and the two expressions are worth int32 by it.
 record Given (facts : Facts) (number : ℕ → ℤ) (is_null : ℕ → Bool) (a b : Expr) : Type 0 where
   knows : Knows facts number is_null
+  narrow : AreNarrow facts
   first : IsNamed facts a
   second : IsNamed facts b
   one : FitsSigned w32 (worth number a)
@@ -90,11 +94,11 @@ facts_cover operators.And f v z a b n g apart fits is =
     (common_bits_have _ _ _ _ g.one g.other (range_has f v a g.knows.holds.allowed g.first) (range_has f v b g.knows.holds.allowed g.second))
 facts_cover operators.Or f v z a b n g apart fits is =
     rw (← ok_same _ _ _ refl is)
-    (bits_of_either_have _ _ _ _ (range_small f v z a g.knows g.first g.one) (range_small f v z b g.knows g.second g.other) g.one g.other
+    (bits_of_either_have _ _ _ _ (range_small f v a g.knows.holds.allowed g.narrow g.first g.one) (range_small f v b g.knows.holds.allowed g.narrow g.second g.other) g.one g.other
     (range_has f v a g.knows.holds.allowed g.first) (range_has f v b g.knows.holds.allowed g.second))
 facts_cover operators.Xor f v z a b n g apart fits is =
     rw (← ok_same _ _ _ refl is)
-    (bits_of_one_have _ _ _ _ (range_small f v z a g.knows g.first g.one) (range_small f v z b g.knows g.second g.other) g.one g.other
+    (bits_of_one_have _ _ _ _ (range_small f v a g.knows.holds.allowed g.narrow g.first g.one) (range_small f v b g.knows.holds.allowed g.narrow g.second g.other) g.one g.other
     (range_has f v a g.knows.holds.allowed g.first) (range_has f v b g.knows.holds.allowed g.second))
 facts_cover operators.Shl f v z a b n g apart fits is =
     let gives = shifted_gives (worth v b) n (λ k. wrap32 (worth v a *ℤ pos (2 ^ k))) is in
@@ -120,7 +124,7 @@ facts_cover operators.Clt f v z a b n g apart fits is = full_has n fits
 facts_cover operators.CltUn f v z a b n g apart fits is = full_has n fits
 
 relations_true : (op : BinOp) (facts : Facts) (number : ℕ → ℤ) (is_null : ℕ → Bool) (a b : Expr) (n : ℤ) → Given facts number is_null a b
-    → operated op (worth number a) (worth number b) ≡ Ok n → AreTrueOf facts number is_null n (rule.relations op facts a b)
+    → operated op (worth number a) (worth number b) ≡ Ok n → AreTrueOf number is_null n (rule.relations op facts a b)
 unfolding rule.relations
 relations_true operators.Add f v z a b n g is = rw (← ok_same _ _ _ refl is) (sum_relations_true f v z a b g.knows g.first g.second)
 relations_true operators.Sub f v z a b n g is = rw (← ok_same _ _ _ refl is) (difference_relations_true f v z a b g.knows g.first g.second)
@@ -128,13 +132,13 @@ relations_true operators.Div f v z a b n g is =
     let gives = divided_gives (worth v a) (worth v b) (int_div (worth v a) (worth v b)) n is in
     rw (← gives.1) (quotient_relations_true f v z a b g.knows.holds.allowed g.first g.second)
 relations_true operators.DivUn f v z a b n g is =
-    let gives = divided_unsigned_gives _ _ _ is in
+    let gives = divided_unsigned_gives (worth v b) n _ is in
     rw (← gives.1) (unsigned_quotient_relations_true f v z a b g.knows.holds.allowed g.first g.second g.one g.other)
 relations_true operators.Rem f v z a b n g is =
     let gives = divided_gives (worth v a) (worth v b) (int_rem (worth v a) (worth v b)) n is in
     rw (← gives.1) (remainder_relations_true f v z a b g.knows.holds.allowed g.first g.second)
 relations_true operators.RemUn f v z a b n g is =
-    let gives = divided_unsigned_gives _ _ _ is in
+    let gives = divided_unsigned_gives (worth v b) n _ is in
     rw (← gives.1) (unsigned_remainder_relations_true f v z a b g.knows.holds.allowed g.first g.second g.one g.other)
 relations_true operators.And f v z a b n g is =
     rw (← ok_same _ _ _ refl is) (common_relations_true f v z a b g.knows.holds.allowed g.first g.second g.one g.other)
@@ -189,15 +193,16 @@ pub result_keeps : (op : BinOp) (facts : Facts) (a b : Expr) → IsNamed facts a
       (facts_made facts (rule.settled facts (rule.outcome op facts a b) (rule.relations op facts a b)))
 result_keeps op facts a b first second narrow = λ number is_null n named holds int32 is.
     let given : Given facts number is_null a b = record {
-      knows = record { holds = holds; named = named; narrow = narrow };
+      knows = record { holds = holds; named = named };
+      narrow = narrow;
       first = first;
       second = second;
       one = int32.first;
       other = int32.second;
     } in
     let fits = result_fits (operated op (worth number a) (worth number b)) n is (operated_fits op (worth number a) (worth number b) int32.first int32.second) in
-    settled_keeps facts number is_null (rule.outcome op facts a b) (rule.relations op facts a b) n given.knows fits
-    (outcome_covers op facts number is_null a b n given fits is) (relations_true op facts number is_null a b n given is)
+    settled_keeps facts number is_null (rule.outcome op facts a b) (rule.relations op facts a b) n given.knows narrow fits
+    (outcome_covers op facts number is_null a b n given fits is) (relations_named op facts a b first second named) (relations_true op facts number is_null a b n given is)
 
 pub result_where_ok : {E : Type 0} (op : BinOp) (before : Facts) (a b : Expr) (result : Result (Option Expr) E) (after : Facts) → IsNamed before a → IsNamed before b
     → AreNarrow before → IfOk result (λ e. e ≡ expr_made (rule.settled before (rule.outcome op before a b) (rule.relations op before a b)))
@@ -205,3 +210,114 @@ pub result_where_ok : {E : Type 0} (op : BinOp) (before : Facts) (a b : Expr) (r
     → IfOk result (λ e. KeepsResult op a b before e after)
 result_where_ok op before a b (Ok e) after first second narrow value facts = rw (value, facts) (result_keeps op before a b first second narrow)
 result_where_ok op before a b (Err e) after first second narrow value facts = value
+
+-- ---- exact results
+
+exact_has : (op : BinOp) (facts : Facts) (number : ℕ → ℤ) (is_null : ℕ → Bool) (a b : Expr) (n : ℤ) → Knows facts number is_null → IsNamed facts a → IsNamed facts b
+    → IsExact op (worth number a) (worth number b) n → Has (rule.exact op facts a b) n
+unfolding rule.exact
+exact_has operators.AddOvf f v z a b n knows p q is = rw is (exact_sum_has f v z a b knows p q)
+exact_has operators.SubOvf f v z a b n knows p q is = rw is (exact_difference_has f v z a b knows p q)
+exact_has operators.MulOvf f v z a b n knows p q is = rw is (corners_have _ _ _ _ (range_has f v a knows.holds.allowed p) (range_has f v b knows.holds.allowed q))
+exact_has operators.Add f v z a b n knows p q is = elim is [ ]
+exact_has operators.Sub f v z a b n knows p q is = elim is [ ]
+exact_has operators.Mul f v z a b n knows p q is = elim is [ ]
+exact_has operators.Div f v z a b n knows p q is = elim is [ ]
+exact_has operators.DivUn f v z a b n knows p q is = elim is [ ]
+exact_has operators.Rem f v z a b n knows p q is = elim is [ ]
+exact_has operators.RemUn f v z a b n knows p q is = elim is [ ]
+exact_has operators.And f v z a b n knows p q is = elim is [ ]
+exact_has operators.Or f v z a b n knows p q is = elim is [ ]
+exact_has operators.Xor f v z a b n knows p q is = elim is [ ]
+exact_has operators.Shl f v z a b n knows p q is = elim is [ ]
+exact_has operators.Shr f v z a b n knows p q is = elim is [ ]
+exact_has operators.ShrUn f v z a b n knows p q is = elim is [ ]
+exact_has operators.Ceq f v z a b n knows p q is = elim is [ ]
+exact_has operators.Cgt f v z a b n knows p q is = elim is [ ]
+exact_has operators.CgtUn f v z a b n knows p q is = elim is [ ]
+exact_has operators.Clt f v z a b n knows p q is = elim is [ ]
+exact_has operators.CltUn f v z a b n knows p q is = elim is [ ]
+
+-- the exact result of two int32 has 64 bits
+product_fits : (m n : ℤ) → FitsSigned w32 m → FitsSigned w32 n → FitsSigned w64 (m *ℤ n)
+unfolding corners least greatest
+product_fits m n one other = let has = corners_have full full m n (full_has m one) (full_has n other) in omega (arith, ints, clamps, has.above, has.below)
+
+exact_fits : (op : BinOp) (m n exact : ℤ) → FitsSigned w32 m → FitsSigned w32 n → IsExact op m n exact → FitsSigned w64 exact
+exact_fits operators.AddOvf m n k one other is = omega (arith, ints, one, other, is)
+exact_fits operators.SubOvf m n k one other is = omega (arith, ints, one, other, is)
+exact_fits operators.MulOvf m n k one other is = rw is (product_fits m n one other)
+exact_fits operators.Add m n k one other is = elim is [ ]
+exact_fits operators.Sub m n k one other is = elim is [ ]
+exact_fits operators.Mul m n k one other is = elim is [ ]
+exact_fits operators.Div m n k one other is = elim is [ ]
+exact_fits operators.DivUn m n k one other is = elim is [ ]
+exact_fits operators.Rem m n k one other is = elim is [ ]
+exact_fits operators.RemUn m n k one other is = elim is [ ]
+exact_fits operators.And m n k one other is = elim is [ ]
+exact_fits operators.Or m n k one other is = elim is [ ]
+exact_fits operators.Xor m n k one other is = elim is [ ]
+exact_fits operators.Shl m n k one other is = elim is [ ]
+exact_fits operators.Shr m n k one other is = elim is [ ]
+exact_fits operators.ShrUn m n k one other is = elim is [ ]
+exact_fits operators.Ceq m n k one other is = elim is [ ]
+exact_fits operators.Cgt m n k one other is = elim is [ ]
+exact_fits operators.CgtUn m n k one other is = elim is [ ]
+exact_fits operators.Clt m n k one other is = elim is [ ]
+exact_fits operators.CltUn m n k one other is = elim is [ ]
+
+near_below : (lo n : ℤ) → FitsSigned w64 n → lo ≤ℤ n → near lo ≤ℤ n
+unfolding near
+near_below lo n fits h = omega (arith, ints, clamps, fits, h)
+
+near_above : (hi n : ℤ) → FitsSigned w64 n → n ≤ℤ hi → n ≤ℤ near hi
+unfolding near
+near_above hi n fits h = omega (arith, ints, clamps, fits, h)
+
+-- No exact result lies beyond the ends, each brought to 64 bits.
+pub exact_within : (op : BinOp) (facts : Facts) (a b : Expr) (lo hi : ℤ) → IsNamed facts a → IsNamed facts b → lo ≡ near (rule.exact op facts a b).lo
+    → hi ≡ near (rule.exact op facts a b).hi → AreExactEnds op a b facts lo hi
+exact_within op facts a b lo hi first second low high = λ number is_null exact named holds int32 is.
+    let has = exact_has op facts number is_null a b exact (record { holds = holds; named = named }) first second is in
+    let fits = exact_fits op (worth number a) (worth number b) exact int32.first int32.second is in
+    let above = near_below (rule.exact op facts a b).lo exact fits has.above in
+    let below = near_above (rule.exact op facts a b).hi exact fits has.below in
+    (omega (arith, ints, low, above), omega (arith, ints, high, below))
+
+int32_given : (n : ℤ) → LEAST ≤ℤ n → n ≤ℤ GREATEST → exact n ≡ Ok n
+int32_given n above below = rw (is_within n above below) refl
+  where
+    is_within : (n : ℤ) → LEAST ≤ℤ n → n ≤ℤ GREATEST → (int_le LEAST n && int_le n GREATEST) ≡ true
+    is_within n above below = grind (arith, ints, above, below)
+
+-- an exact result that is an int32 is what the operator gives
+exact_given : (op : BinOp) (m n exact : ℤ) → IsExact op m n exact → LEAST ≤ℤ exact → exact ≤ℤ GREATEST → operated op m n ≡ Ok exact
+exact_given operators.AddOvf m n k is above below = rw (← is) (int32_given k above below)
+exact_given operators.SubOvf m n k is above below = rw (← is) (int32_given k above below)
+exact_given operators.MulOvf m n k is above below = rw (← is) (int32_given k above below)
+exact_given operators.Add m n k is above below = elim is [ ]
+exact_given operators.Sub m n k is above below = elim is [ ]
+exact_given operators.Mul m n k is above below = elim is [ ]
+exact_given operators.Div m n k is above below = elim is [ ]
+exact_given operators.DivUn m n k is above below = elim is [ ]
+exact_given operators.Rem m n k is above below = elim is [ ]
+exact_given operators.RemUn m n k is above below = elim is [ ]
+exact_given operators.And m n k is above below = elim is [ ]
+exact_given operators.Or m n k is above below = elim is [ ]
+exact_given operators.Xor m n k is above below = elim is [ ]
+exact_given operators.Shl m n k is above below = elim is [ ]
+exact_given operators.Shr m n k is above below = elim is [ ]
+exact_given operators.ShrUn m n k is above below = elim is [ ]
+exact_given operators.Ceq m n k is above below = elim is [ ]
+exact_given operators.Cgt m n k is above below = elim is [ ]
+exact_given operators.CgtUn m n k is above below = elim is [ ]
+exact_given operators.Clt m n k is above below = elim is [ ]
+exact_given operators.CltUn m n k is above below = elim is [ ]
+
+-- Where the ends are int32, the operator does not overflow: it gives its exact result.
+pub no_overflow : (op : BinOp) (facts : Facts) (a b : Expr) (lo hi : ℤ) (number : ℕ → ℤ) (is_null : ℕ → Bool) (exact : ℤ) → AreExactEnds op a b facts lo hi
+    → LEAST ≤ℤ lo → hi ≤ℤ GREATEST → AreNamed facts → Holds facts number is_null → AreInt32 number a b → IsExact op (worth number a) (worth number b) exact
+    → operated op (worth number a) (worth number b) ≡ Ok exact
+no_overflow op facts a b lo hi number is_null exact ends least greatest named holds int32 is =
+    let within = ends number is_null exact named holds int32 is in
+    exact_given op (worth number a) (worth number b) exact is (omega (arith, ints, least, within.0)) (omega (arith, ints, greatest, within.1))

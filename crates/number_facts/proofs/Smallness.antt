@@ -13,10 +13,9 @@ use Rattle.symbolic_values.specs.Worth.{worth}
 use Rattle.number_spans.specs.Sizes.{IsEnd, IsSmall}
 use Rattle.number_spans.specs.Spans.{shifted}
 use Rattle.number_facts.specs.Ends.{range_of, span_at, cut_by_all, lowered_by, raised_by, met}
-use Rattle.number_facts.specs.Facts.{Facts, IsNamed, has, range_at}
+use Rattle.number_facts.specs.Facts.{Facts, AreNarrow, IsNamed, has, range_at}
 use Rattle.number_facts.proofs.Forms.{narrow_range}
-use Rattle.number_facts.specs.Laws.Allowing.{span_has}
-use Rattle.number_facts.proofs.ResultKeeping.{Knows}
+use Rattle.number_facts.specs.Laws.Allowing.{AllowsNumbers, span_has}
 
 raised_from : (facts : Facts) (t : ℕ) (row : BoundRow) (lo : ℤ) → lo ≤ℤ raised_by facts t lo row
 unfolding raised_by
@@ -61,13 +60,13 @@ span_below facts s =
     omega (arith, ints, cut, before)
 
 -- The numbers of an expression that is worth an int32 lie near int32.
-pub range_small : (facts : Facts) (number : ℕ → ℤ) (is_null : ℕ → Bool) (e : Expr) → Knows facts number is_null → IsNamed facts e → FitsSigned w32 (worth number e)
+pub range_small : (facts : Facts) (number : ℕ → ℤ) (e : Expr) → AllowsNumbers facts number → AreNarrow facts → IsNamed facts e → FitsSigned w32 (worth number e)
     → IsSmall (range_of facts e)
 unfolding range_of shifted
-range_small facts number is_null e knows there fits =
-    let numbers = span_has facts number e.sym there knows.holds.allowed in
-    let own = knows.holds.allowed.ranges e.sym there in
-    let narrow = narrow_range facts e.sym knows.narrow in
+range_small facts number e allowed all there fits =
+    let numbers = span_has facts number e.sym there allowed in
+    let own = allowed.ranges e.sym there in
+    let narrow = narrow_range facts e.sym all in
     let low = span_above facts e.sym in
     let high = span_below facts e.sym in
     record {
