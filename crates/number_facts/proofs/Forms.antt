@@ -36,7 +36,7 @@ abbrev pub SomeKeepsForm : Facts → Option Facts → Type 0
 SomeKeepsForm before None = Unit {0}
 SomeKeepsForm before (Some after) = KeepsForm before after
 
-same_form : (facts : Facts) → KeepsForm facts facts
+pub same_form : (facts : Facts) → KeepsForm facts facts
 same_form facts = record { there = omega arith; named = λ is. is; narrow = λ is. is }
 
 then_form : (before : Facts) (o : Option Facts) (f : Facts → Option Facts) → SomeKeepsForm before o
@@ -59,7 +59,7 @@ all_set [] i r all is = tt
 all_set (q ∷ rs) zero r all is = (is, all.1)
 all_set (q ∷ rs) (suc i) r all is = (all.0, all_set rs i r all.1 is)
 
-longer : (rs : List Interval) (r : Interval) → length (rs ++ r ∷ []) ≡ length rs + 1
+pub longer : (rs : List Interval) (r : Interval) → length (rs ++ r ∷ []) ≡ length rs + 1
 longer [] r = refl
 longer (q ∷ rs) r = let rest = longer rs r in let more : suc (length (rs ++ r ∷ [])) ≡ suc (length rs) + 1 = omega (arith, rest) in more
 
@@ -83,7 +83,7 @@ with_bound_below : (rows : List BoundRow) (count s t : ℕ) (k : ℤ) → s < co
 with_bound_below rows count s t k from to all =
     cond_both (is_pair s t) _ _ (AllByRecursion (AreBelow count)) (λ e. put_below rows count s t k from to all) (λ e. all)
 
-bounded_form : (before facts : Facts) (s t : ℕ) (k : ℤ) → KeepsForm before facts → s ≤ length before.ranges → t ≤ length before.ranges
+pub bounded_form : (before facts : Facts) (s t : ℕ) (k : ℤ) → KeepsForm before facts → s ≤ length before.ranges → t ≤ length before.ranges
     → KeepsForm before (bounded facts s t k)
 unfolding bounded
 bounded_form before facts s t k kept first second =
@@ -118,7 +118,7 @@ appended_named facts r named =
           (λ d is. (omega (arith, is.0), still_names (length facts.ranges) d.1 is.1)) named.definitions);
     }
 
-appended_form : (facts : Facts) (r : Interval) → IsNarrow r → KeepsForm facts (record facts { ranges = facts.ranges ++ r ∷ [] })
+pub appended_form : (facts : Facts) (r : Interval) → IsNarrow r → KeepsForm facts (record facts { ranges = facts.ranges ++ r ∷ [] })
 appended_form facts r narrow =
     let size = longer facts.ranges r in
     record {
@@ -127,7 +127,7 @@ appended_form facts r narrow =
       narrow = λ all. all_appended IsNarrow facts.ranges r all narrow;
     }
 
-defined_form : (before facts : Facts) (s : ℕ) (def : Def) → KeepsForm before facts → s ≤ length facts.ranges → Names (length facts.ranges) def
+pub defined_form : (before facts : Facts) (s : ℕ) (def : Def) → KeepsForm before facts → s ≤ length facts.ranges → Names (length facts.ranges) def
     → KeepsForm before (defined facts s def)
 unfolding defined
 defined_form before facts s def kept there names = record {

@@ -11,7 +11,7 @@ use Rattle.number_spans.specs.Spans.{is_not_negative}
 use Rattle.number_spans.specs.Sums.{negated}
 use Rattle.number_spans.specs.declared.span.Span.{Span}
 use Rattle.number_facts.specs.Additions.{above, above_by, all_above, at_most, beside, difference_relations, difference_span, is_inside, sum_relations, sum_span, uppers, with_some}
-use Rattle.number_facts.specs.Arith.{are_plain, common_relations, no_more, quotient_relations, relations, remainder_relations, shift_relations, where_so}
+use Rattle.number_facts.specs.Arith.{are_plain, common_relations, is_above_one, is_positive, no_more, quotient_relations, relations, remainder_relations, shift_relations, where_so}
 use Rattle.number_facts.specs.Ends.{range_of}
 use Rattle.number_facts.specs.Facts.{Facts, IsNamed}
 use Rattle.number_facts.specs.Gaps.{gap}
@@ -95,26 +95,33 @@ difference_named facts a b first second named = cond_both (b.sym == 0) _ _ (Name
 no_more_named : (facts : Facts) (e : Expr) (less : ℤ) → IsNamed facts e → NameSymbols facts (no_more e less)
 no_more_named facts e less there = (there, tt)
 
+no_more_where : (facts : Facts) (b : Bool) (e : Expr) (less : ℤ) → IsNamed facts e → NameSymbols facts (where_so b (no_more e less))
+no_more_where facts b e less there = where_named facts b (no_more e less) (no_more_named facts e less there)
+
 quotient_named : (facts : Facts) (a b : Expr) → IsNamed facts a → NameSymbols facts (quotient_relations facts a b)
 unfolding quotient_relations
 quotient_named facts a b first =
-    where_named facts _ _
-    (all_both _ (no_more a (pos 0)) _ (no_more_named facts a (pos 0) first) (where_named facts _ _ (no_more_named facts a (pos 1) first)))
+    let less = is_positive (range_of facts a) && is_above_one (range_of facts b) in
+    where_named facts (is_not_negative (range_of facts a) && is_positive (range_of facts b)) (no_more a (pos 0) ++ where_so less (no_more a (pos 1)))
+    (all_both (NamesSymbols (length facts.ranges)) (no_more a (pos 0)) (where_so less (no_more a (pos 1))) (no_more_named facts a (pos 0) first)
+    (no_more_where facts less a (pos 1) first))
 
 remainder_named : (facts : Facts) (a b : Expr) → IsNamed facts a → IsNamed facts b → NameSymbols facts (remainder_relations facts a b)
 unfolding remainder_relations
 remainder_named facts a b first second =
-    all_both _ (where_so (is_not_negative (range_of facts a)) (no_more a (pos 0))) _ (where_named facts _ _ (no_more_named facts a (pos 0) first))
-    (where_named facts _ _ (no_more_named facts b (pos 1) second))
+    let less = is_positive (range_of facts b) in
+    all_both _ (where_so (is_not_negative (range_of facts a)) (no_more a (pos 0))) (where_so less (no_more b (pos 1)))
+    (no_more_where facts (is_not_negative (range_of facts a)) a (pos 0) first) (no_more_where facts less b (pos 1) second)
 
 common_named : (facts : Facts) (a b : Expr) → IsNamed facts a → IsNamed facts b → NameSymbols facts (common_relations facts a b)
 unfolding common_relations
 common_named facts a b first second =
-    all_both _ (where_so (is_not_negative (range_of facts a)) (no_more a (pos 0))) _ (where_named facts _ _ (no_more_named facts a (pos 0) first))
-    (where_named facts _ _ (no_more_named facts b (pos 0) second))
+    let other = is_not_negative (range_of facts b) in
+    all_both _ (where_so (is_not_negative (range_of facts a)) (no_more a (pos 0))) (where_so other (no_more b (pos 0)))
+    (no_more_where facts (is_not_negative (range_of facts a)) a (pos 0) first) (no_more_where facts other b (pos 0) second)
 
 shift_named : (facts : Facts) (a : Expr) → IsNamed facts a → NameSymbols facts (shift_relations facts a)
-shift_named facts a first = where_named facts _ _ (no_more_named facts a (pos 0) first)
+shift_named facts a first = no_more_where facts (is_not_negative (range_of facts a)) a (pos 0) first
 
 pub relations_named : (op : BinOp) (facts : Facts) (a b : Expr) → IsNamed facts a → IsNamed facts b → AreNamed facts → NameSymbols facts (relations op facts a b)
 unfolding relations

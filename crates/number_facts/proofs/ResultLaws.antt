@@ -14,6 +14,7 @@ use Rattle.cil_model.specs.declared.instruction.BinOp.TheVariants as operators
 use Rattle.cil_model.specs.declared.machine.FaultKind.{FaultKind}
 use Rattle.cil_model.proofs.ArithmeticFits.{operated_fits}
 use Rattle.interval_domain.specs.Arithmetic.{near, least, greatest}
+use Rattle.interval_domain.specs.Laws.Ends.{near_below, near_above}
 use Rattle.symbolic_values.specs.Worth.{worth}
 use Rattle.number_spans.specs.Constants.{constant, is_constant, of_constants}
 use Rattle.number_spans.specs.Product.{corners, is_the_constant}
@@ -266,22 +267,14 @@ exact_fits operators.CgtUn m n k one other is = elim is [ ]
 exact_fits operators.Clt m n k one other is = elim is [ ]
 exact_fits operators.CltUn m n k one other is = elim is [ ]
 
-near_below : (lo n : ℤ) → FitsSigned w64 n → lo ≤ℤ n → near lo ≤ℤ n
-unfolding near
-near_below lo n fits h = omega (arith, ints, clamps, fits, h)
-
-near_above : (hi n : ℤ) → FitsSigned w64 n → n ≤ℤ hi → n ≤ℤ near hi
-unfolding near
-near_above hi n fits h = omega (arith, ints, clamps, fits, h)
-
 -- No exact result lies beyond the ends, each brought to 64 bits.
 pub exact_within : (op : BinOp) (facts : Facts) (a b : Expr) (lo hi : ℤ) → IsNamed facts a → IsNamed facts b → lo ≡ near (rule.exact op facts a b).lo
     → hi ≡ near (rule.exact op facts a b).hi → AreExactEnds op a b facts lo hi
 exact_within op facts a b lo hi first second low high = λ number is_null exact named holds int32 is.
     let has = exact_has op facts number is_null a b exact (record { holds = holds; named = named }) first second is in
     let fits = exact_fits op (worth number a) (worth number b) exact int32.first int32.second is in
-    let above = near_below (rule.exact op facts a b).lo exact fits has.above in
-    let below = near_above (rule.exact op facts a b).hi exact fits has.below in
+    let above = near_below (rule.exact op facts a b).lo exact has.above fits in
+    let below = near_above (rule.exact op facts a b).hi exact has.below fits in
     (omega (arith, ints, low, above), omega (arith, ints, high, below))
 
 int32_given : (n : ℤ) → LEAST ≤ℤ n → n ≤ℤ GREATEST → exact n ≡ Ok n
