@@ -1,18 +1,17 @@
 -- What is known of sums and differences is true of them.
-use Rattle.std.proofs.Common.{◌≡◌, ℕ, ◌==◌, ◌≤◌, ℤ, pos, neg_ℤ, ◌+ℤ◌, ◌-ℤ◌, ◌≤ℤ◌, Bool, true, false, ◌&&◌, ◌||◌, int_le, Option, Some, None, List, [], ◌∷◌, ◌++◌, length, refl, sym, ap, ◌∙◌, FitsSigned, w32, arith}
-use Rattle.std.specs.Int.{int_min, int_max}
+use Rattle.std.proofs.Common.{◌≡◌, ℕ, ◌==◌, ◌≤◌, ℤ, ◌+ℤ◌, ◌-ℤ◌, ◌≤ℤ◌, Bool, true, ◌||◌, int_le, Option, Some, None, List, [], ◌∷◌, ◌++◌, length, refl, sym, ap, ◌∙◌, FitsSigned, w32, arith}
+use Rattle.std.specs.Int.{int_min}
 use Rattle.std.specs.List.{AllByRecursion}
 use Rattle.std.proofs.lemmas.Bool.{cond_both, and_parts, eqb-true}
 use Rattle.std.proofs.lemmas.Int.{ints, clamps, int_wrap_fits}
 use Rattle.domain_api.specs.declared.expr.Expr.{Expr}
 use Rattle.cc_base.specs.Wrap.{wrap32}
-use Rattle.cil_model.specs.Arithmetic.{LEAST, GREATEST}
+use Rattle.cil_model.specs.Arithmetic.{LEAST}
 use Rattle.symbolic_values.specs.Worth.{worth}
 use Rattle.symbolic_values.specs.declared.def.Def.{Def}
 use Rattle.symbolic_values.specs.declared.def.Def.TheVariants.{Eq, Lt, LtUn, NullTest, Sub}
-use Rattle.number_spans.specs.Constants.{constant}
-use Rattle.number_spans.specs.Spans.{Has, between, wrapped}
-use Rattle.number_spans.specs.Sums.{sums, differences, takes, plus, negated}
+use Rattle.number_spans.specs.Spans.{Has}
+use Rattle.number_spans.specs.Sums.{takes, plus, negated}
 use Rattle.number_spans.specs.declared.span.Span.{Span}
 use Rattle.number_spans.proofs.SumLaws.{takes_fits}
 use Rattle.number_spans.proofs.Wrapping.{between_has, wrapped_has}
@@ -22,7 +21,6 @@ use Rattle.number_facts.specs.Facts.{Facts, IsNamed}
 use Rattle.number_facts.specs.Gaps.{gap}
 use Rattle.number_facts.specs.Holds.{IsDefined}
 use Rattle.number_facts.specs.Laws.Allowing.{AllowsNumbers, gap_allowed}
-use Rattle.number_facts.specs.declared.outcome.Outcome.{Outcome}
 use Rattle.number_facts.specs.declared.relation.Relation.{Relation}
 use Rattle.number_facts.specs.declared.relation.Relation.TheVariants as known
 use Rattle.number_facts.proofs.Knowing.{range_has, zero_number, constant_worth}

@@ -1,6 +1,6 @@
 -- What is known of products, quotients, remainders, common bits and shifts is true of them.
-use Rattle.std.proofs.Common.{◌≡◌, ◌≢◌, ℕ, zero, suc, ◌==◌, ◌/◌, ◌%◌, ◌^◌, ◌<◌, ◌≤◌, ℤ, pos, negsuc, ◌+ℤ◌, ◌*ℤ◌, ◌≤ℤ◌, Bool, true, false, ◌&&◌, int_le, int_div, int_rem, unsigned_abs, List, [], ◌∷◌, ◌++◌, length, refl, sym, ap, ◌∙◌, FitsSigned, w32, arith}
-use Rattle.std.specs.Int.{int_bit_and, int_shr, int_min, int_max}
+use Rattle.std.proofs.Common.{◌≡◌, ◌≢◌, ℕ, zero, suc, ◌==◌, ◌/◌, ◌%◌, ◌^◌, ◌<◌, ◌≤◌, ℤ, pos, negsuc, ◌+ℤ◌, ◌*ℤ◌, ◌≤ℤ◌, Bool, true, int_le, int_div, int_rem, unsigned_abs, length, refl, ◌∙◌, FitsSigned, w32, arith}
+use Rattle.std.specs.Int.{int_bit_and, int_shr}
 use Rattle.std.proofs.lemmas.Bool.{cond_both, and_parts, eqb-true}
 use Rattle.std.proofs.lemmas.Bool.Decides.{Decides-int_eq}
 use Rattle.std.proofs.lemmas.Int.{ints, clamps}
@@ -17,7 +17,6 @@ use Rattle.number_spans.specs.Constants.{constant}
 use Rattle.number_spans.specs.Product.{corners, is_the_constant}
 use Rattle.number_spans.specs.Shifts.{shifted_right}
 use Rattle.number_spans.specs.Spans.{Has, between, full, is_not_negative, shifted}
-use Rattle.number_spans.specs.declared.span.Span.{Span}
 use Rattle.number_spans.proofs.BitLaws.{common_bits_have}
 use Rattle.number_spans.proofs.OperatorLaws.{plain_quotient, plain_remainder, quotient_fits, remainder_fits}
 use Rattle.number_spans.proofs.ProductLaws.{corners_have, by_one}
@@ -29,7 +28,7 @@ use Rattle.number_facts.specs.Arith as rule
 use Rattle.number_facts.specs.Ends.{range_of, span_at}
 use Rattle.number_facts.specs.Facts.{Facts, IsNamed, range_at}
 use Rattle.number_facts.specs.Laws.Allowing.{AllowsNumbers}
-use Rattle.number_facts.proofs.Knowing.{range_has, zero_number, constant_worth, not_negative}
+use Rattle.number_facts.proofs.Knowing.{range_has, constant_worth, not_negative}
 use Rattle.number_facts.proofs.ResultKeeping.{AreTrueOf, Covers, no_more_true, true_of_same, where_true}
 use Rattle.number_facts.proofs.RelationNames.{all_both}
 use Rattle.number_facts.proofs.Smallness.{span_above}

@@ -1,5 +1,5 @@
 -- What is known of a result besides its numbers speaks of symbols that are there.
-use Rattle.std.proofs.Common.{◌≡◌, ℕ, ◌==◌, ◌≤◌, ℤ, pos, Bool, true, ◌&&◌, Option, Some, None, List, [], ◌∷◌, ◌++◌, length}
+use Rattle.std.proofs.Common.{ℕ, ◌==◌, ◌≤◌, ℤ, pos, Bool, ◌&&◌, Option, Some, None, List, [], ◌∷◌, ◌++◌, length}
 use Rattle.std.specs.List.{AllByRecursion}
 use Rattle.std.proofs.lemmas.Bool.{cond_both}
 use Rattle.domain_api.specs.declared.expr.Expr.{Expr}

@@ -1,6 +1,5 @@
 -- Results keep the form of what is known.
-use Rattle.std.proofs.Common.{◌≡◌, ℕ, ◌+◌, ◌≤◌, ℤ, pos, neg_ℤ, Bool, int_eq, Option, Some, None, List, [], ◌∷◌, ◌++◌, length, refl, ◌∙◌, arith}
-use Rattle.std.specs.Prelude.{Result, Ok, Err, OnOk, OnErr}
+use Rattle.std.proofs.Common.{◌≡◌, ℕ, ◌+◌, ◌≤◌, ℤ, neg_ℤ, int_eq, Option, Some, None, List, [], ◌∷◌, ◌++◌, length, refl, ◌∙◌, arith}
 use Rattle.std.specs.Option.{option_map}
 use Rattle.std.specs.Int.{int_min, int_max}
 use Rattle.std.specs.List.{AllByRecursion}
@@ -15,7 +14,7 @@ use Rattle.symbolic_values.specs.declared.def.Def.TheVariants.{Eq, Lt, LtUn, Nul
 use Rattle.number_spans.specs.Stored.{IsNarrow, range_without}
 use Rattle.number_spans.proofs.NarrowRanges.{SomeNarrow, range_without_narrow}
 use Rattle.number_facts.specs.Arith.{is_kept, outcome, relations, settled}
-use Rattle.number_facts.specs.Facts.{Facts, AreNarrow, IsNamed}
+use Rattle.number_facts.specs.Facts.{Facts, IsNamed}
 use Rattle.number_facts.specs.Fresh.{Made, bounded, defined, facts_made, fresh, is_long, noted, related, related_so}
 use Rattle.number_facts.specs.Holds.{AreNamed, KeepsForm, Names}
 use Rattle.number_facts.specs.declared.outcome.Outcome.{Outcome}

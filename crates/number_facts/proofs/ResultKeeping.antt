@@ -1,5 +1,5 @@
 -- A result of which something is known is kept.
-use Rattle.std.proofs.Common.{◌≡◌, ℕ, ◌==◌, ◌+◌, ◌≤◌, ℤ, pos, negsuc, ◌+ℤ◌, ◌-ℤ◌, ◌≤ℤ◌, Bool, true, ◌&&◌, int_le, Option, Some, None, List, [], ◌∷◌, ◌++◌, length, refl, sym, ap, ◌∙◌, FitsSigned, w32, arith}
+use Rattle.std.proofs.Common.{◌≡◌, ℕ, ◌+◌, ℤ, pos, negsuc, ◌+ℤ◌, ◌≤ℤ◌, Bool, true, ◌&&◌, int_le, Option, Some, None, List, [], ◌∷◌, length, refl, sym, ◌∙◌, FitsSigned, w32, arith}
 use Rattle.std.specs.Option.{option_map}
 use Rattle.std.specs.Int.{int_min, int_max}
 use Rattle.std.specs.List.{AllByRecursion}
@@ -12,12 +12,11 @@ use Rattle.symbolic_values.specs.Meaning.{told}
 use Rattle.symbolic_values.specs.Worth.{worth}
 use Rattle.number_spans.specs.Spans.{Has}
 use Rattle.number_spans.specs.Stored.{SomeAllows, range_without}
-use Rattle.number_spans.specs.declared.span.Span.{Span}
 use Rattle.number_spans.proofs.Lost.{range_without_allows}
 use Rattle.number_facts.specs.Arith.{is_kept, no_more, settled, where_so}
-use Rattle.number_facts.specs.Facts.{Facts, AreNarrow, IsNamed, range_at}
-use Rattle.number_facts.specs.Fresh.{Made, expr_made, facts_made, fresh, noted}
-use Rattle.number_facts.specs.Holds.{AreNamed, Holds, IsRelated, Names, YieldsSome, is_below}
+use Rattle.number_facts.specs.Facts.{Facts, AreNarrow, IsNamed}
+use Rattle.number_facts.specs.Fresh.{expr_made, facts_made, fresh, noted}
+use Rattle.number_facts.specs.Holds.{AreNamed, Holds, IsRelated, YieldsSome, is_below}
 use Rattle.number_facts.specs.declared.outcome.Outcome.{Outcome}
 use Rattle.number_facts.specs.declared.outcome.Outcome.TheVariants.{Is, Within}
 use Rattle.number_facts.specs.declared.relation.Relation.{Relation}

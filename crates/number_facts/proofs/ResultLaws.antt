@@ -1,7 +1,7 @@
 -- What operators give is kept, and no exact result lies beyond its ends.
-use Rattle.std.proofs.Common.{◌≡◌, ◌≢◌, ℕ, ◌==◌, ◌/◌, ◌%◌, ◌^◌, ◌≤◌, ℤ, pos, negsuc, ◌+ℤ◌, ◌-ℤ◌, ◌*ℤ◌, ◌≤ℤ◌, Bool, true, false, ◌&&◌, int_le, int_div, int_rem, unsigned_abs, Option, Some, None, Ok, Err, refl, ◌∙◌, FitsSigned, w32, arith}
+use Rattle.std.proofs.Common.{◌≡◌, ℕ, ◌==◌, ◌/◌, ◌^◌, ◌≤◌, ℤ, pos, ◌+ℤ◌, ◌-ℤ◌, ◌*ℤ◌, ◌≤ℤ◌, Bool, true, false, ◌&&◌, int_le, int_div, int_rem, Option, Ok, Err, refl, FitsSigned, w32, arith}
 use Rattle.std.specs.Prelude.{Result, IfOk, OnOk}
-use Rattle.std.specs.Int.{w64, int_bit_and, int_shr}
+use Rattle.std.specs.Int.{w64, int_shr}
 use Rattle.std.specs.Result.{result_ok}
 use Rattle.std.proofs.lemmas.Bool.{cond_both, and_parts}
 use Rattle.std.proofs.lemmas.Bool.Decides.{Decides-int_eq}
@@ -16,11 +16,9 @@ use Rattle.cil_model.proofs.ArithmeticFits.{operated_fits}
 use Rattle.interval_domain.specs.Arithmetic.{near, least, greatest}
 use Rattle.interval_domain.specs.Laws.Ends.{near_below, near_above}
 use Rattle.symbolic_values.specs.Worth.{worth}
-use Rattle.number_spans.specs.Constants.{constant, is_constant, of_constants}
+use Rattle.number_spans.specs.Constants.{is_constant}
 use Rattle.number_spans.specs.Product.{corners, is_the_constant}
-use Rattle.number_spans.specs.Sizes.{IsSmall}
 use Rattle.number_spans.specs.Spans.{Has, full, is_int32}
-use Rattle.number_spans.specs.declared.span.Span.{Span}
 use Rattle.number_spans.proofs.BitLaws.{common_bits_have, bits_of_either_have, bits_of_one_have}
 use Rattle.number_spans.proofs.OperatorLaws.{ok_same, divided_gives, divided_unsigned_gives, shifted_gives, exact_gives}
 use Rattle.number_spans.proofs.ProductLaws.{corners_have}
@@ -191,7 +189,7 @@ result_fits r n is fits = rw is at fits
 -- The result of each operator is kept.
 pub result_keeps : (op : BinOp) (facts : Facts) (a b : Expr) → IsNamed facts a → IsNamed facts b → AreNarrow facts
     → KeepsResult op a b facts (expr_made (rule.settled facts (rule.outcome op facts a b) (rule.relations op facts a b)))
-      (facts_made facts (rule.settled facts (rule.outcome op facts a b) (rule.relations op facts a b)))
+    (facts_made facts (rule.settled facts (rule.outcome op facts a b) (rule.relations op facts a b)))
 result_keeps op facts a b first second narrow = λ number is_null n named holds int32 is.
     let given : Given facts number is_null a b = record {
       knows = record { holds = holds; named = named };

@@ -1,7 +1,6 @@
 -- How far the numbers of an expression reach that is worth an int32.
-use Rattle.std.proofs.Common.{◌≡◌, ℕ, ℤ, ◌+ℤ◌, ◌-ℤ◌, ◌≤ℤ◌, Bool, Option, FitsSigned, w32, pos, arith}
+use Rattle.std.proofs.Common.{ℕ, ℤ, ◌+ℤ◌, ◌-ℤ◌, ◌≤ℤ◌, Option, FitsSigned, w32, pos, arith}
 use Rattle.std.specs.Prelude.{if◌then◌else◌}
-use Rattle.std.specs.Int.{int_min, int_max}
 use Rattle.std.proofs.lemmas.Bool.{cond_both}
 use Rattle.std.proofs.lemmas.Int.{ints, clamps}
 use Rattle.std.specs.Prelude.{List, [], ◌∷◌, ◌==◌, ◌&&◌}
@@ -10,7 +9,7 @@ use Rattle.interval_domain.specs.Interval.{is_hole}
 use Rattle.pentagon_domain.specs.declared.bound_row.BoundRow.{BoundRow}
 use Rattle.pentagon_domain.specs.Rows.{rows_from}
 use Rattle.symbolic_values.specs.Worth.{worth}
-use Rattle.number_spans.specs.Sizes.{IsEnd, IsSmall}
+use Rattle.number_spans.specs.Sizes.{IsSmall}
 use Rattle.number_spans.specs.Spans.{shifted}
 use Rattle.number_facts.specs.Ends.{range_of, span_at, cut_by_all, lowered_by, raised_by, met}
 use Rattle.number_facts.specs.Facts.{Facts, AreNarrow, IsNamed, has, range_at}
