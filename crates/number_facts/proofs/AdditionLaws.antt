@@ -26,7 +26,7 @@ use Rattle.number_facts.specs.declared.relation.Relation.TheVariants as known
 use Rattle.number_facts.proofs.Knowing.{range_has, zero_number, constant_worth}
 use Rattle.number_facts.proofs.NewSymbols.{zero_worth}
 use Rattle.number_facts.proofs.ResultKeeping.{Knows, AreTrueOf, Covers, true_of_same}
-use Rattle.number_facts.proofs.RelationNames.{all_both, uppers_named}
+use Rattle.number_facts.proofs.ResultNames.{all_both, uppers_named}
 
 -- ---- what bounds a sum from above
 
@@ -134,14 +134,14 @@ constant_of : (facts : Facts) (number : ℕ → ℤ) (r : Span) (e : Expr) → A
 constant_of facts number r e allowed is = constant_worth facts number e allowed (and_parts (e.sym == 0) _ is).0
 
 pub sum_covers : (facts : Facts) (number : ℕ → ℤ) (is_null : ℕ → Bool) (a b : Expr) → Knows facts number is_null → IsNamed facts a → IsNamed facts b
-    → Covers facts number (rule.sum facts a b) (wrap32 (worth number a +ℤ worth number b))
+    → Covers number (rule.sum facts a b) (wrap32 (worth number a +ℤ worth number b))
 unfolding rule.sum
 sum_covers facts number is_null a b knows first second =
     let allowed = knows.holds.allowed in
-    cond_both (takes (range_of facts a) b) _ _ (λ o. Covers facts number o (wrap32 (worth number a +ℤ worth number b)))
-    (λ e. let is = constant_of facts number (range_of facts a) b allowed e in (first, plus_is facts number a b _ allowed first e (ap (λ k. wrap32 (worth number a +ℤ k)) is)))
-    (λ e. cond_both (takes (range_of facts b) a) _ _ (λ o. Covers facts number o (wrap32 (worth number a +ℤ worth number b)))
-    (λ f. let is = constant_of facts number (range_of facts b) a allowed f in (second, plus_is facts number b a _ allowed second f (ap wrap32 (turned is))))
+    cond_both (takes (range_of facts a) b) _ _ (λ o. Covers number o (wrap32 (worth number a +ℤ worth number b)))
+    (λ e. let is = constant_of facts number (range_of facts a) b allowed e in plus_is facts number a b _ allowed first e (ap (λ k. wrap32 (worth number a +ℤ k)) is))
+    (λ e. cond_both (takes (range_of facts b) a) _ _ (λ o. Covers number o (wrap32 (worth number a +ℤ worth number b)))
+    (λ f. let is = constant_of facts number (range_of facts b) a allowed f in plus_is facts number b a _ allowed second f (ap wrap32 (turned is)))
     (λ f. settled_has (rule.sum_span facts a b) _ (sum_has facts number is_null a b knows first second)))
   where
     turned : worth number a ≡ a.k → worth number a +ℤ worth number b ≡ worth number b +ℤ a.k
@@ -207,18 +207,15 @@ minus_constant facts number a b allowed e =
 one_symbol : (number : ℕ → ℤ) (a b : Expr) → (a.sym == b.sym) ≡ true → a.k -ℤ b.k ≡ worth number a -ℤ worth number b
 one_symbol number a b e = let same : number a.sym ≡ number b.sym = ap number (eqb-true a.sym b.sym e) in omega (arith, ints, same)
 
-none_first : (count : ℕ) → 0 ≤ count
-none_first count = omega arith
-
 pub difference_covers : (facts : Facts) (number : ℕ → ℤ) (is_null : ℕ → Bool) (a b : Expr) → Knows facts number is_null → IsNamed facts a → IsNamed facts b
-    → Covers facts number (rule.difference facts a b) (wrap32 (worth number a -ℤ worth number b))
+    → Covers number (rule.difference facts a b) (wrap32 (worth number a -ℤ worth number b))
 unfolding rule.difference
 difference_covers facts number is_null a b knows first second =
     let allowed = knows.holds.allowed in
-    cond_both (b.sym == 0) _ _ (λ o. Covers facts number o (wrap32 (worth number a -ℤ worth number b)))
+    cond_both (b.sym == 0) _ _ (λ o. Covers number o (wrap32 (worth number a -ℤ worth number b)))
     (λ e. rw (minus_constant facts number a b allowed e) at (sum_covers facts number is_null a (negated b) knows first second))
-    (λ e. cond_both (a.sym == b.sym) _ _ (λ o. Covers facts number o (wrap32 (worth number a -ℤ worth number b)))
-    (λ f. (none_first (length facts.ranges), zero_worth number _ _ (zero_number facts number allowed) (ap wrap32 (one_symbol number a b f))))
+    (λ e. cond_both (a.sym == b.sym) _ _ (λ o. Covers number o (wrap32 (worth number a -ℤ worth number b)))
+    (λ f. zero_worth number _ _ (zero_number facts number allowed) (ap wrap32 (one_symbol number a b f)))
     (λ f. settled_has (rule.difference_span facts a b) _ (difference_has facts number is_null a b knows first second)))
 
 -- what is known of a difference that does not wrap

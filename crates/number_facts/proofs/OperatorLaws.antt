@@ -30,7 +30,7 @@ use Rattle.number_facts.specs.Facts.{Facts, IsNamed, range_at}
 use Rattle.number_facts.specs.Laws.Allowing.{AllowsNumbers}
 use Rattle.number_facts.proofs.Knowing.{range_has, constant_worth, not_negative}
 use Rattle.number_facts.proofs.ResultKeeping.{AreTrueOf, Covers, no_more_true, true_of_same, where_true}
-use Rattle.number_facts.proofs.RelationNames.{all_both}
+use Rattle.number_facts.proofs.ResultNames.{all_both}
 use Rattle.number_facts.proofs.Smallness.{span_above}
 
 -- ---- products
@@ -40,29 +40,29 @@ the_constant facts number e k allowed is =
     let parts = and_parts (e.sym == 0) _ is in constant_worth facts number e allowed parts.0 ∙ (Decides-int_eq e.k k).0 parts.1
 
 pub product_covers : (facts : Facts) (number : ℕ → ℤ) (a b : Expr) → AllowsNumbers facts number → IsNamed facts a → IsNamed facts b → FitsSigned w32 (worth number a)
-    → (is_the_constant a (pos 1) ≡ true → FitsSigned w32 (worth number b)) → Covers facts number (rule.product facts a b) (wrap32 (worth number a *ℤ worth number b))
+    → (is_the_constant a (pos 1) ≡ true → FitsSigned w32 (worth number b)) → Covers number (rule.product facts a b) (wrap32 (worth number a *ℤ worth number b))
 unfolding rule.product
 product_covers facts number a b allowed first second one other =
-    cond_both (is_the_constant b (pos 1)) _ _ (λ o. Covers facts number o (wrap32 (worth number a *ℤ worth number b)))
-    (λ e. (first, by_one (worth number a) (worth number b) one (the_constant facts number b (pos 1) allowed e)))
-    (λ e. cond_both (is_the_constant a (pos 1)) _ _ (λ o. Covers facts number o (wrap32 (worth number a *ℤ worth number b)))
-    (λ f. rw (*ℤ_comm (worth number a) (worth number b)) (second, by_one (worth number b) (worth number a) (other f) (the_constant facts number a (pos 1) allowed f)))
+    cond_both (is_the_constant b (pos 1)) _ _ (λ o. Covers number o (wrap32 (worth number a *ℤ worth number b)))
+    (λ e. by_one (worth number a) (worth number b) one (the_constant facts number b (pos 1) allowed e))
+    (λ e. cond_both (is_the_constant a (pos 1)) _ _ (λ o. Covers number o (wrap32 (worth number a *ℤ worth number b)))
+    (λ f. rw (*ℤ_comm (worth number a) (worth number b)) (by_one (worth number b) (worth number a) (other f) (the_constant facts number a (pos 1) allowed f)))
     (λ f. let product = corners_have (range_of facts a) (range_of facts b) _ _ (range_has facts number a allowed first) (range_has facts number b allowed second) in
     wrapped_has (corners (range_of facts a) (range_of facts b)) _ product.above product.below))
 
-none_first : (count : ℕ) → 0 ≤ count
-none_first count = omega arith
+zero_named : (facts : Facts) → 0 ≤ length facts.ranges
+zero_named facts = omega arith
 
 pub shifted_left_covers : (facts : Facts) (number : ℕ → ℤ) (a b : Expr) → AllowsNumbers facts number → IsNamed facts a → FitsSigned w32 (worth number a)
     → FitsSigned w32 (wrap32 (worth number a *ℤ pos (2 ^ unsigned_abs (worth number b)))) → ((b.sym == 0) ≡ true → is_the_constant a (pos 1) ≡ true → ⊥)
-    → Covers facts number (rule.shifted_left facts a b) (wrap32 (worth number a *ℤ pos (2 ^ unsigned_abs (worth number b))))
+    → Covers number (rule.shifted_left facts a b) (wrap32 (worth number a *ℤ pos (2 ^ unsigned_abs (worth number b))))
 unfolding rule.shifted_left
 shifted_left_covers facts number a b allowed first one fits apart =
-    cond_both (b.sym == 0) _ _ (λ o. Covers facts number o (wrap32 (worth number a *ℤ pos (2 ^ unsigned_abs (worth number b)))))
+    cond_both (b.sym == 0) _ _ (λ o. Covers number o (wrap32 (worth number a *ℤ pos (2 ^ unsigned_abs (worth number b)))))
     (λ e.
     let power = constant (pos (2 ^ unsigned_abs b.k)) in
     rw (constant_worth facts number b allowed e) (rw (constant_worth facts number power allowed refl) at
-    (product_covers facts number a power allowed first (none_first (length facts.ranges)) one (λ f. elim (apart e f) [ ]))))
+    (product_covers facts number a power allowed first (zero_named facts) one (λ f. elim (apart e f) [ ]))))
     (λ e. full_has _ fits)
 
 -- ---- the end of a constant
@@ -179,7 +179,7 @@ plain_remainder_is facts number a b allowed first second one other e =
 
 pub unsigned_quotient_has : (facts : Facts) (number : ℕ → ℤ) (a b : Expr) → AllowsNumbers facts number → IsNamed facts a → IsNamed facts b → FitsSigned w32 (worth number a)
     → FitsSigned w32 (worth number b) → worth number b ≢ pos 0
-    → Covers facts number (rule.by_facts operators.DivUn facts a b) (signed (unsigned (worth number a) / unsigned (worth number b)))
+    → Covers number (rule.by_facts operators.DivUn facts a b) (signed (unsigned (worth number a) / unsigned (worth number b)))
 unfolding rule.by_facts
 unsigned_quotient_has facts number a b allowed first second one other apart =
     cond_both (rule.are_plain facts a b) _ _ (λ r. Has r (signed (unsigned (worth number a) / unsigned (worth number b))))
@@ -188,7 +188,7 @@ unsigned_quotient_has facts number a b allowed first second one other apart =
 
 pub unsigned_remainder_has : (facts : Facts) (number : ℕ → ℤ) (a b : Expr) → AllowsNumbers facts number → IsNamed facts a → IsNamed facts b → FitsSigned w32 (worth number a)
     → FitsSigned w32 (worth number b) → worth number b ≢ pos 0
-    → Covers facts number (rule.by_facts operators.RemUn facts a b) (signed (unsigned (worth number a) % unsigned (worth number b)))
+    → Covers number (rule.by_facts operators.RemUn facts a b) (signed (unsigned (worth number a) % unsigned (worth number b)))
 unfolding rule.by_facts
 unsigned_remainder_has facts number a b allowed first second one other apart =
     cond_both (rule.are_plain facts a b) _ _ (λ r. Has r (signed (unsigned (worth number a) % unsigned (worth number b))))
@@ -248,17 +248,17 @@ common_relations_true facts number is_null a b allowed first second one other =
 -- ---- shifts
 
 pub shifted_right_unsigned_covers : (facts : Facts) (number : ℕ → ℤ) (a b : Expr) → AllowsNumbers facts number → IsNamed facts a → FitsSigned w32 (worth number a)
-    → Covers facts number (rule.shifted_right_unsigned facts a b) (signed (unsigned (worth number a) / 2 ^ unsigned_abs (worth number b)))
+    → Covers number (rule.shifted_right_unsigned facts a b) (signed (unsigned (worth number a) / 2 ^ unsigned_abs (worth number b)))
 unfolding rule.shifted_right_unsigned
 shifted_right_unsigned_covers facts number a b allowed first fits =
     let m = worth number a in
     let k = unsigned_abs (worth number b) in
-    cond_both (is_not_negative (range_of facts a)) _ _ (λ o. Covers facts number o (signed (unsigned m / 2 ^ k)))
+    cond_both (is_not_negative (range_of facts a)) _ _ (λ o. Covers number o (signed (unsigned m / 2 ^ k)))
     (λ e. rw (plain_shift m k fits (not_negative facts number a allowed first e))
     (shifted_right_has (range_of facts a) b m (worth number b) (range_has facts number a allowed first) (constant_worth facts number b allowed)))
-    (λ e. cond_both (b.sym == 0) _ _ (λ o. Covers facts number o (signed (unsigned m / 2 ^ k)))
-    (λ f. rw (constant_worth facts number b allowed f) (cond_both (unsigned_abs b.k == 0) _ _ (λ o. Covers facts number o (signed (unsigned m / 2 ^ unsigned_abs b.k)))
-    (λ g. (first, no_shift m (unsigned_abs b.k) fits (zero_places (unsigned_abs b.k) g)))
+    (λ e. cond_both (b.sym == 0) _ _ (λ o. Covers number o (signed (unsigned m / 2 ^ k)))
+    (λ f. rw (constant_worth facts number b allowed f) (cond_both (unsigned_abs b.k == 0) _ _ (λ o. Covers number o (signed (unsigned m / 2 ^ unsigned_abs b.k)))
+    (λ g. no_shift m (unsigned_abs b.k) fits (zero_places (unsigned_abs b.k) g))
     (λ g. places_has m (unsigned_abs b.k) fits (some_places (unsigned_abs b.k) g))))
     (λ f. full_has (signed (unsigned m / 2 ^ k)) (unsigned_fits m k fits)))
 

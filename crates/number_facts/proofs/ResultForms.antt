@@ -3,7 +3,7 @@ use Rattle.std.proofs.Common.{◌≡◌, ℕ, ◌+◌, ◌≤◌, ℤ, neg_ℤ, 
 use Rattle.std.specs.Option.{option_map}
 use Rattle.std.specs.Int.{int_min, int_max}
 use Rattle.std.specs.List.{AllByRecursion}
-use Rattle.std.proofs.lemmas.Bool.{cond_both}
+use Rattle.std.proofs.lemmas.Bool.{and_parts, cond_both}
 use Rattle.std.proofs.lemmas.Int.{ints, clamps}
 use Rattle.domain_api.specs.declared.expr.Expr.{Expr}
 use Rattle.cil_model.specs.Arithmetic.{LEAST, GREATEST}
@@ -11,18 +11,19 @@ use Rattle.cil_model.specs.declared.instruction.BinOp.{BinOp}
 use Rattle.interval_domain.specs.Interval.{Interval}
 use Rattle.symbolic_values.specs.declared.def.Def.{Def}
 use Rattle.symbolic_values.specs.declared.def.Def.TheVariants.{Eq, Lt, LtUn, NullTest, Sub}
+use Rattle.number_spans.specs.Constants.{constant}
 use Rattle.number_spans.specs.Stored.{IsNarrow, range_without}
 use Rattle.number_spans.proofs.NarrowRanges.{SomeNarrow, range_without_narrow}
 use Rattle.number_facts.specs.Arith.{is_kept, outcome, relations, settled}
 use Rattle.number_facts.specs.Facts.{Facts, IsNamed}
-use Rattle.number_facts.specs.Fresh.{Made, bounded, defined, facts_made, fresh, is_long, noted, related, related_so}
+use Rattle.number_facts.specs.Fresh.{Made, bounded, defined, expr_made, facts_made, fresh, is_long, noted, related, related_so}
 use Rattle.number_facts.specs.Holds.{AreNamed, KeepsForm, Names}
 use Rattle.number_facts.specs.declared.outcome.Outcome.{Outcome}
 use Rattle.number_facts.specs.declared.outcome.Outcome.TheVariants.{Is, Within}
 use Rattle.number_facts.specs.declared.relation.Relation.{Relation}
 use Rattle.number_facts.specs.declared.relation.Relation.TheVariants as known
 use Rattle.number_facts.proofs.Forms.{appended_form, bounded_form, defined_form, longer, same_form}
-use Rattle.number_facts.proofs.RelationNames.{NamesSymbols, NameSymbols, relations_named}
+use Rattle.number_facts.proofs.ResultNames.{NamesIt, NamesSymbols, NameSymbols, outcome_named, relations_named}
 
 -- ---- relations
 
@@ -115,3 +116,54 @@ pub result_form : (op : BinOp) (facts : Facts) (a b : Expr) → IsNamed facts a 
     → KeepsForm facts (facts_made facts (settled facts (outcome op facts a b) (relations op facts a b)))
 result_form op facts a b first second =
     settled_form facts (outcome op facts a b) (relations op facts a b) (λ named. relations_named op facts a b first second named)
+
+-- ---- the expression that is made
+
+constant_there : (facts : Facts) (k : ℤ) → LEAST ≤ℤ k → k ≤ℤ GREATEST → IsThere facts (constant k)
+constant_there facts k above below = record { there = omega arith; least = omega (arith, ints, above); greatest = omega (arith, ints, below) }
+
+new_there : (facts : Facts) (r : Interval) (rs : List Relation)
+    → IsThere (related_so (record facts { ranges = facts.ranges ++ r ∷ [] }) (length facts.ranges + 1) rs) (record { sym = length facts.ranges + 1; k = pos 0 })
+new_there facts r rs =
+    let size = longer facts.ranges r in
+    let same = all_ranges (record facts { ranges = facts.ranges ++ r ∷ [] }) (length facts.ranges + 1) rs in
+    record { there = rw same (omega (arith, size)); least = omega (arith, ints); greatest = omega (arith, ints) }
+
+noted_there : (facts : Facts) (r : Interval) (rs : List Relation) → IsNarrow r → IsThere (noted facts r rs).facts (noted facts r rs).expr
+unfolding noted
+noted_there facts r rs narrow = cond_both (int_eq r.lo r.hi) _ _ (λ (m : Made). IsThere m.facts m.expr)
+    (λ e. constant_there facts r.lo narrow.least (omega (arith, ints, narrow.ordered, narrow.greatest))) (λ e. new_there facts r rs)
+
+some_there : (facts : Facts) (o : Option Interval) (rs : List Relation) → SomeNarrow o
+    → IfSome (expr_made (option_map (λ r. noted facts r rs) o)) (IsThere (facts_made facts (option_map (λ r. noted facts r rs) o)))
+some_there facts None rs narrow = tt
+some_there facts (Some r) rs narrow = noted_there facts r rs narrow
+
+related_fresh_there : (facts : Facts) (lo hi : ℤ) (hole : Option ℤ) (rs : List Relation)
+    → IfSome (expr_made (fresh facts lo hi hole rs)) (IsThere (facts_made facts (fresh facts lo hi hole rs)))
+unfolding fresh
+related_fresh_there facts lo hi hole rs =
+    some_there facts (range_without (int_max lo LEAST) (int_min hi GREATEST) hole) rs
+    (range_without_narrow (int_max lo LEAST) (int_min hi GREATEST) hole (omega (arith, ints, clamps)) (omega (arith, ints, clamps)))
+
+kept_there : (facts : Facts) (e : Expr) → IsNamed facts e → is_kept e ≡ true → IsThere facts e
+kept_there facts e there kept =
+    let parts = and_parts (int_le (negsuc 4294967295) e.k) _ kept in
+    record { there = there; least = le_true _ _ parts.0; greatest = le_true _ _ parts.1 }
+  where
+    le_true : (m n : ℤ) → int_le m n ≡ true → m ≤ℤ n
+    le_true m n e = omega (arith, ints)
+
+settled_there : (facts : Facts) (o : Outcome) (rs : List Relation) → NamesIt facts o
+    → IfSome (expr_made (settled facts o rs)) (IsThere (facts_made facts (settled facts o rs)))
+unfolding settled
+settled_there facts (Is e) rs named =
+    cond_both (is_kept e) _ _ (λ (o : Option Made). IfSome (expr_made o) (IsThere (facts_made facts o))) (λ is. kept_there facts e named is) (λ is. tt)
+settled_there facts (Within r) rs named = related_fresh_there facts r.lo r.hi None rs
+
+-- The expression that is made of a result is there behind the rule.
+pub result_there : (op : BinOp) (facts : Facts) (a b : Expr) → IsNamed facts a → IsNamed facts b
+    → IfSome (expr_made (settled facts (outcome op facts a b) (relations op facts a b)))
+    (IsThere (facts_made facts (settled facts (outcome op facts a b) (relations op facts a b))))
+result_there op facts a b first second =
+    settled_there facts (outcome op facts a b) (relations op facts a b) (outcome_named op facts a b first second)

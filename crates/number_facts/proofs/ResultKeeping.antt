@@ -22,7 +22,7 @@ use Rattle.number_facts.specs.declared.outcome.Outcome.TheVariants.{Is, Within}
 use Rattle.number_facts.specs.declared.relation.Relation.{Relation}
 use Rattle.number_facts.specs.declared.relation.Relation.TheVariants as known
 use Rattle.number_facts.proofs.Forms.{narrow_range}
-use Rattle.number_facts.proofs.RelationNames.{NamesSymbols, NameSymbols}
+use Rattle.number_facts.proofs.ResultNames.{NamesIt, NamesSymbols, NameSymbols}
 use Rattle.number_facts.proofs.NewSymbols.{with_number, as_before, new_number, noted_holds, same_told}
 
 -- All that is known is so of these numbers, and speaks of symbols that are there.
@@ -72,9 +72,9 @@ no_more_true number is_null n e less le = (omega (arith, ints, le), tt)
 -- ---- results
 
 -- What is known of a result is true of n.
-abbrev pub Covers : Facts → (ℕ → ℤ) → Outcome → ℤ → Type 0
-Covers facts number (Is e) n = IsNamed facts e × (worth number e ≡ n)
-Covers facts number (Within r) n = Has r n
+abbrev pub Covers : (ℕ → ℤ) → Outcome → ℤ → Type 0
+Covers number (Is e) n = worth number e ≡ n
+Covers number (Within r) n = Has r n
 
 noted_some : (facts : Facts) (number : ℕ → ℤ) (is_null : ℕ → Bool) (o : Option Interval) (relations : List Relation) (n : ℤ) → Knows facts number is_null → SomeAllows o n
     → NameSymbols facts relations → AreTrueOf number is_null n relations
@@ -104,10 +104,10 @@ kept facts number is_null e n knows all there is fits =
 
 -- A result of which this is known is kept.
 pub settled_keeps : (facts : Facts) (number : ℕ → ℤ) (is_null : ℕ → Bool) (o : Outcome) (relations : List Relation) (n : ℤ) → Knows facts number is_null → AreNarrow facts → FitsSigned w32 n
-    → Covers facts number o n → NameSymbols facts relations → AreTrueOf number is_null n relations
+    → NamesIt facts o → Covers number o n → NameSymbols facts relations → AreTrueOf number is_null n relations
     → YieldsSome facts (facts_made facts (settled facts o relations)) number is_null (expr_made (settled facts o relations)) n
 unfolding settled
-settled_keeps facts number is_null (Is e) relations n knows all fits covers there so =
-    rw (kept facts number is_null e n knows all covers.0 covers.1 fits) (record { later = number; agrees = λ s there. refl; holds = knows.holds; is = covers.1 })
-settled_keeps facts number is_null (Within r) relations n knows all fits covers there so =
+settled_keeps facts number is_null (Is e) relations n knows all fits is_there covers there so =
+    rw (kept facts number is_null e n knows all is_there covers fits) (record { later = number; agrees = λ s there. refl; holds = knows.holds; is = covers })
+settled_keeps facts number is_null (Within r) relations n knows all fits is_there covers there so =
     fresh_result facts number is_null r.lo r.hi relations n knows fits covers.above covers.below there so

@@ -39,7 +39,7 @@ use Rattle.number_facts.proofs.OperatorLaws.{product_covers, shifted_left_covers
 use Rattle.number_facts.proofs.OperatorLaws.{quotient_relations_true, remainder_relations_true, unsigned_quotient_relations_true, unsigned_remainder_relations_true}
 use Rattle.number_facts.proofs.OperatorLaws.{common_relations_true, shift_relations_true, unsigned_shift_relations_true}
 use Rattle.number_facts.proofs.ResultKeeping.{Knows, AreTrueOf, Covers, settled_keeps}
-use Rattle.number_facts.proofs.RelationNames.{relations_named}
+use Rattle.number_facts.proofs.ResultNames.{outcome_named, relations_named}
 use Rattle.number_facts.proofs.Smallness.{range_small}
 
 -- All that is known is so, and the two expressions are worth int32 by it.
@@ -70,7 +70,7 @@ not_both x is other = grind (arith, is, other)
 
 facts_cover : (op : BinOp) (facts : Facts) (number : ℕ → ℤ) (is_null : ℕ → Bool) (a b : Expr) (n : ℤ) → Given facts number is_null a b
     → (is_constant a && is_constant b) ≡ false → FitsSigned w32 n → operated op (worth number a) (worth number b) ≡ Ok n
-    → Covers facts number (rule.by_facts op facts a b) n
+    → Covers number (rule.by_facts op facts a b) n
 unfolding rule.by_facts rule.exact
 facts_cover operators.Add f v z a b n g apart fits is = rw (← ok_same _ _ _ refl is) (sum_covers f v z a b g.knows g.first g.second)
 facts_cover operators.Sub f v z a b n g apart fits is = rw (← ok_same _ _ _ refl is) (difference_covers f v z a b g.knows g.first g.second)
@@ -162,20 +162,17 @@ relations_true operators.CltUn f v z a b n g is = tt
 
 -- ---- the whole
 
-none_first : (count : ℕ) → 0 ≤ count
-none_first count = omega arith
-
 constants_cover : (o : Option ℤ) (r : Result ℤ FaultKind) (otherwise : Outcome) (facts : Facts) (number : ℕ → ℤ) (n : ℤ) → AllowsNumbers facts number → r ≡ Ok n
-    → o ≡ result_ok r → Covers facts number (rule.known_or o otherwise) n
+    → o ≡ result_ok r → Covers number (rule.known_or o otherwise) n
 constants_cover o r otherwise facts number n allowed gives is =
-    rw is (rw gives (none_first _, zero_worth number n n (zero_number facts number allowed) refl))
+    rw is (rw gives (zero_worth number n n (zero_number facts number allowed) refl))
 
 outcome_covers : (op : BinOp) (facts : Facts) (number : ℕ → ℤ) (is_null : ℕ → Bool) (a b : Expr) (n : ℤ) → Given facts number is_null a b → FitsSigned w32 n
-    → operated op (worth number a) (worth number b) ≡ Ok n → Covers facts number (rule.outcome op facts a b) n
+    → operated op (worth number a) (worth number b) ≡ Ok n → Covers number (rule.outcome op facts a b) n
 unfolding rule.outcome
 outcome_covers op facts number is_null a b n given fits is =
     let allowed = given.knows.holds.allowed in
-    cond_both (is_constant a && is_constant b) _ _ (λ o. Covers facts number (rule.known_or o (rule.by_facts op facts a b)) n)
+    cond_both (is_constant a && is_constant b) _ _ (λ o. Covers number (rule.known_or o (rule.by_facts op facts a b)) n)
     (λ e.
     let parts = and_parts (is_constant a) _ e in
     let m = constant_worth facts number a allowed (and_parts (a.sym == 0) _ parts.0).0 in
@@ -201,7 +198,7 @@ result_keeps op facts a b first second narrow = λ number is_null n named holds 
     } in
     let fits = result_fits (operated op (worth number a) (worth number b)) n is (operated_fits op (worth number a) (worth number b) int32.first int32.second) in
     settled_keeps facts number is_null (rule.outcome op facts a b) (rule.relations op facts a b) n given.knows narrow fits
-    (outcome_covers op facts number is_null a b n given fits is) (relations_named op facts a b first second named) (relations_true op facts number is_null a b n given is)
+    (outcome_named op facts a b first second) (outcome_covers op facts number is_null a b n given fits is) (relations_named op facts a b first second named) (relations_true op facts number is_null a b n given is)
 
 pub result_where_ok : {E : Type 0} (op : BinOp) (before : Facts) (a b : Expr) (result : Result (Option Expr) E) (after : Facts) → IsNamed before a → IsNamed before b
     → AreNarrow before → IfOk result (λ e. e ≡ expr_made (rule.settled before (rule.outcome op before a b) (rule.relations op before a b)))
@@ -212,30 +209,39 @@ result_where_ok op before a b (Err e) after first second narrow value facts = va
 
 -- ---- exact results
 
+-- what is to be shown of an exact result, by its operator
+each_exact : (P : BinOp → Type 0) (op : BinOp) (m n exact : ℤ) → IsExact op m n exact → (exact ≡ m +ℤ n → P operators.AddOvf) → (exact ≡ m -ℤ n → P operators.SubOvf)
+    → (exact ≡ m *ℤ n → P operators.MulOvf) → P op
+each_exact P operators.AddOvf m n k is sum difference product = sum is
+each_exact P operators.SubOvf m n k is sum difference product = difference is
+each_exact P operators.MulOvf m n k is sum difference product = product is
+each_exact P operators.Add m n k is sum difference product = elim is [ ]
+each_exact P operators.Sub m n k is sum difference product = elim is [ ]
+each_exact P operators.Mul m n k is sum difference product = elim is [ ]
+each_exact P operators.Div m n k is sum difference product = elim is [ ]
+each_exact P operators.DivUn m n k is sum difference product = elim is [ ]
+each_exact P operators.Rem m n k is sum difference product = elim is [ ]
+each_exact P operators.RemUn m n k is sum difference product = elim is [ ]
+each_exact P operators.And m n k is sum difference product = elim is [ ]
+each_exact P operators.Or m n k is sum difference product = elim is [ ]
+each_exact P operators.Xor m n k is sum difference product = elim is [ ]
+each_exact P operators.Shl m n k is sum difference product = elim is [ ]
+each_exact P operators.Shr m n k is sum difference product = elim is [ ]
+each_exact P operators.ShrUn m n k is sum difference product = elim is [ ]
+each_exact P operators.Ceq m n k is sum difference product = elim is [ ]
+each_exact P operators.Cgt m n k is sum difference product = elim is [ ]
+each_exact P operators.CgtUn m n k is sum difference product = elim is [ ]
+each_exact P operators.Clt m n k is sum difference product = elim is [ ]
+each_exact P operators.CltUn m n k is sum difference product = elim is [ ]
+
 exact_has : (op : BinOp) (facts : Facts) (number : ℕ → ℤ) (is_null : ℕ → Bool) (a b : Expr) (n : ℤ) → Knows facts number is_null → IsNamed facts a → IsNamed facts b
     → IsExact op (worth number a) (worth number b) n → Has (rule.exact op facts a b) n
 unfolding rule.exact
-exact_has operators.AddOvf f v z a b n knows p q is = rw is (exact_sum_has f v z a b knows p q)
-exact_has operators.SubOvf f v z a b n knows p q is = rw is (exact_difference_has f v z a b knows p q)
-exact_has operators.MulOvf f v z a b n knows p q is = rw is (corners_have _ _ _ _ (range_has f v a knows.holds.allowed p) (range_has f v b knows.holds.allowed q))
-exact_has operators.Add f v z a b n knows p q is = elim is [ ]
-exact_has operators.Sub f v z a b n knows p q is = elim is [ ]
-exact_has operators.Mul f v z a b n knows p q is = elim is [ ]
-exact_has operators.Div f v z a b n knows p q is = elim is [ ]
-exact_has operators.DivUn f v z a b n knows p q is = elim is [ ]
-exact_has operators.Rem f v z a b n knows p q is = elim is [ ]
-exact_has operators.RemUn f v z a b n knows p q is = elim is [ ]
-exact_has operators.And f v z a b n knows p q is = elim is [ ]
-exact_has operators.Or f v z a b n knows p q is = elim is [ ]
-exact_has operators.Xor f v z a b n knows p q is = elim is [ ]
-exact_has operators.Shl f v z a b n knows p q is = elim is [ ]
-exact_has operators.Shr f v z a b n knows p q is = elim is [ ]
-exact_has operators.ShrUn f v z a b n knows p q is = elim is [ ]
-exact_has operators.Ceq f v z a b n knows p q is = elim is [ ]
-exact_has operators.Cgt f v z a b n knows p q is = elim is [ ]
-exact_has operators.CgtUn f v z a b n knows p q is = elim is [ ]
-exact_has operators.Clt f v z a b n knows p q is = elim is [ ]
-exact_has operators.CltUn f v z a b n knows p q is = elim is [ ]
+exact_has op f v z a b n knows p q is =
+    each_exact (λ o. Has (rule.exact o f a b) n) op (worth v a) (worth v b) n is
+    (λ sum. rw sum (exact_sum_has f v z a b knows p q))
+    (λ difference. rw difference (exact_difference_has f v z a b knows p q))
+    (λ product. rw product (corners_have _ _ _ _ (range_has f v a knows.holds.allowed p) (range_has f v b knows.holds.allowed q)))
 
 -- the exact result of two int32 has 64 bits
 product_fits : (m n : ℤ) → FitsSigned w32 m → FitsSigned w32 n → FitsSigned w64 (m *ℤ n)
@@ -243,27 +249,11 @@ unfolding corners least greatest
 product_fits m n one other = let has = corners_have full full m n (full_has m one) (full_has n other) in omega (arith, ints, clamps, has.above, has.below)
 
 exact_fits : (op : BinOp) (m n exact : ℤ) → FitsSigned w32 m → FitsSigned w32 n → IsExact op m n exact → FitsSigned w64 exact
-exact_fits operators.AddOvf m n k one other is = omega (arith, ints, one, other, is)
-exact_fits operators.SubOvf m n k one other is = omega (arith, ints, one, other, is)
-exact_fits operators.MulOvf m n k one other is = rw is (product_fits m n one other)
-exact_fits operators.Add m n k one other is = elim is [ ]
-exact_fits operators.Sub m n k one other is = elim is [ ]
-exact_fits operators.Mul m n k one other is = elim is [ ]
-exact_fits operators.Div m n k one other is = elim is [ ]
-exact_fits operators.DivUn m n k one other is = elim is [ ]
-exact_fits operators.Rem m n k one other is = elim is [ ]
-exact_fits operators.RemUn m n k one other is = elim is [ ]
-exact_fits operators.And m n k one other is = elim is [ ]
-exact_fits operators.Or m n k one other is = elim is [ ]
-exact_fits operators.Xor m n k one other is = elim is [ ]
-exact_fits operators.Shl m n k one other is = elim is [ ]
-exact_fits operators.Shr m n k one other is = elim is [ ]
-exact_fits operators.ShrUn m n k one other is = elim is [ ]
-exact_fits operators.Ceq m n k one other is = elim is [ ]
-exact_fits operators.Cgt m n k one other is = elim is [ ]
-exact_fits operators.CgtUn m n k one other is = elim is [ ]
-exact_fits operators.Clt m n k one other is = elim is [ ]
-exact_fits operators.CltUn m n k one other is = elim is [ ]
+exact_fits op m n k one other is =
+    each_exact (λ o. FitsSigned w64 k) op m n k is
+    (λ sum. omega (arith, ints, one, other, sum))
+    (λ difference. omega (arith, ints, one, other, difference))
+    (λ product. rw product (product_fits m n one other))
 
 -- No exact result lies beyond the ends, each brought to 64 bits.
 pub exact_within : (op : BinOp) (facts : Facts) (a b : Expr) (lo hi : ℤ) → IsNamed facts a → IsNamed facts b → lo ≡ near (rule.exact op facts a b).lo
@@ -283,27 +273,11 @@ int32_given n above below = rw (is_within n above below) refl
 
 -- an exact result that is an int32 is what the operator gives
 exact_given : (op : BinOp) (m n exact : ℤ) → IsExact op m n exact → LEAST ≤ℤ exact → exact ≤ℤ GREATEST → operated op m n ≡ Ok exact
-exact_given operators.AddOvf m n k is above below = rw (← is) (int32_given k above below)
-exact_given operators.SubOvf m n k is above below = rw (← is) (int32_given k above below)
-exact_given operators.MulOvf m n k is above below = rw (← is) (int32_given k above below)
-exact_given operators.Add m n k is above below = elim is [ ]
-exact_given operators.Sub m n k is above below = elim is [ ]
-exact_given operators.Mul m n k is above below = elim is [ ]
-exact_given operators.Div m n k is above below = elim is [ ]
-exact_given operators.DivUn m n k is above below = elim is [ ]
-exact_given operators.Rem m n k is above below = elim is [ ]
-exact_given operators.RemUn m n k is above below = elim is [ ]
-exact_given operators.And m n k is above below = elim is [ ]
-exact_given operators.Or m n k is above below = elim is [ ]
-exact_given operators.Xor m n k is above below = elim is [ ]
-exact_given operators.Shl m n k is above below = elim is [ ]
-exact_given operators.Shr m n k is above below = elim is [ ]
-exact_given operators.ShrUn m n k is above below = elim is [ ]
-exact_given operators.Ceq m n k is above below = elim is [ ]
-exact_given operators.Cgt m n k is above below = elim is [ ]
-exact_given operators.CgtUn m n k is above below = elim is [ ]
-exact_given operators.Clt m n k is above below = elim is [ ]
-exact_given operators.CltUn m n k is above below = elim is [ ]
+exact_given op m n k is above below =
+    each_exact (λ o. operated o m n ≡ Ok k) op m n k is
+    (λ sum. rw (← sum) (int32_given k above below))
+    (λ difference. rw (← difference) (int32_given k above below))
+    (λ product. rw (← product) (int32_given k above below))
 
 -- Where the ends are int32, the operator does not overflow: it gives its exact result.
 pub no_overflow : (op : BinOp) (facts : Facts) (a b : Expr) (lo hi : ℤ) (number : ℕ → ℤ) (is_null : ℕ → Bool) (exact : ℤ) → AreExactEnds op a b facts lo hi

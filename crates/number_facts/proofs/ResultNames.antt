@@ -1,4 +1,4 @@
--- What is known of a result besides its numbers speaks of symbols that are there.
+-- What is known of a result speaks of symbols that are there.
 use Rattle.std.proofs.Common.{ℕ, ◌==◌, ◌≤◌, ℤ, pos, Bool, ◌&&◌, Option, Some, None, List, [], ◌∷◌, ◌++◌, length}
 use Rattle.std.specs.List.{AllByRecursion}
 use Rattle.std.proofs.lemmas.Bool.{cond_both}
@@ -7,15 +7,20 @@ use Rattle.cil_model.specs.declared.instruction.BinOp.{BinOp}
 use Rattle.cil_model.specs.declared.instruction.BinOp.TheVariants as operators
 use Rattle.symbolic_values.specs.declared.def.Def.{Def}
 use Rattle.symbolic_values.specs.declared.def.Def.TheVariants.{Eq, Lt, LtUn, NullTest, Sub}
+use Rattle.number_spans.specs.Constants.{constant, of_constants}
+use Rattle.number_spans.specs.Product.{is_the_constant}
 use Rattle.number_spans.specs.Spans.{is_not_negative}
-use Rattle.number_spans.specs.Sums.{negated}
+use Rattle.number_spans.specs.Sums.{negated, plus, takes}
 use Rattle.number_spans.specs.declared.span.Span.{Span}
-use Rattle.number_facts.specs.Additions.{above, above_by, all_above, at_most, beside, difference_relations, difference_span, is_inside, sum_relations, sum_span, uppers, with_some}
-use Rattle.number_facts.specs.Arith.{are_plain, common_relations, is_above_one, is_positive, no_more, quotient_relations, relations, remainder_relations, shift_relations, where_so}
+use Rattle.number_facts.specs.Additions as rule
+use Rattle.number_facts.specs.Arith.{are_plain, by_facts, exact, is_above_one, is_positive, known_or, no_more, outcome, product, relations, where_so}
+use Rattle.number_facts.specs.Arith.{common_relations, quotient_relations, remainder_relations, shift_relations, shifted_left, shifted_right_unsigned}
 use Rattle.number_facts.specs.Ends.{range_of}
 use Rattle.number_facts.specs.Facts.{Facts, IsNamed}
 use Rattle.number_facts.specs.Gaps.{gap}
 use Rattle.number_facts.specs.Holds.{AreNamed, Names, NamesOwn}
+use Rattle.number_facts.specs.declared.outcome.Outcome.{Outcome}
+use Rattle.number_facts.specs.declared.outcome.Outcome.TheVariants.{Is, Within}
 use Rattle.number_facts.specs.declared.relation.Relation.{Relation}
 use Rattle.number_facts.specs.declared.relation.Relation.TheVariants as known
 
@@ -41,11 +46,11 @@ abbrev SomeNamed : Facts → Option Expr → Type 0
 SomeNamed facts None = Unit {0}
 SomeNamed facts (Some u) = IsNamed facts u
 
-above_named : (facts : Facts) (a b x y : Expr) (far : Option ℤ) → IsNamed facts x → SomeNamed facts (above a b x y far)
+above_named : (facts : Facts) (a b x y : Expr) (far : Option ℤ) → IsNamed facts x → SomeNamed facts (rule.above a b x y far)
 above_named facts a b x y None there = tt
 above_named facts a b x y (Some g) there = there
 
-above_by_named : (facts : Facts) (a b : Expr) (d : ℕ) (def : Def) → Names (length facts.ranges) def → SomeNamed facts (above_by facts a b d def)
+above_by_named : (facts : Facts) (a b : Expr) (d : ℕ) (def : Def) → Names (length facts.ranges) def → SomeNamed facts (rule.above_by facts a b d def)
 above_by_named facts a b d (Sub x y) named =
     cond_both (y.sym == a.sym) _ _ (SomeNamed facts) (λ e. above_named facts a b x y (gap facts b.sym d) named.0) (λ e. tt)
 above_by_named facts a b d (Eq x y) named = tt
@@ -53,42 +58,42 @@ above_by_named facts a b d (Lt x y) named = tt
 above_by_named facts a b d (LtUn x y) named = tt
 above_by_named facts a b d (NullTest r q) named = tt
 
-with_named : (facts : Facts) (o : Option Expr) (us : List Expr) → SomeNamed facts o → AllByRecursion (IsNamed facts) us → AllByRecursion (IsNamed facts) (with_some o us)
+with_named : (facts : Facts) (o : Option Expr) (us : List Expr) → SomeNamed facts o → AllByRecursion (IsNamed facts) us → AllByRecursion (IsNamed facts) (rule.with_some o us)
 with_named facts None us first all = all
 with_named facts (Some u) us first all = (first, all)
 
 all_above_named : (facts : Facts) (a b : Expr) (ds : List (ℕ × Def)) → AllByRecursion (NamesOwn (length facts.ranges)) ds
-    → AllByRecursion (IsNamed facts) (all_above facts a b ds)
+    → AllByRecursion (IsNamed facts) (rule.all_above facts a b ds)
 all_above_named facts a b [] named = tt
 all_above_named facts a b (d ∷ ds) named =
-    with_named facts (above_by facts a b d.0 d.1) (all_above facts a b ds) (above_by_named facts a b d.0 d.1 named.0.1) (all_above_named facts a b ds named.1)
+    with_named facts (rule.above_by facts a b d.0 d.1) (rule.all_above facts a b ds) (above_by_named facts a b d.0 d.1 named.0.1) (all_above_named facts a b ds named.1)
 
-pub uppers_named : (facts : Facts) (a b : Expr) → AreNamed facts → AllByRecursion (IsNamed facts) (uppers facts a b)
-unfolding uppers
+pub uppers_named : (facts : Facts) (a b : Expr) → AreNamed facts → AllByRecursion (IsNamed facts) (rule.uppers facts a b)
+unfolding rule.uppers
 uppers_named facts a b named =
-    all_both (IsNamed facts) (all_above facts a b facts.definitions) (all_above facts b a facts.definitions)
+    all_both (IsNamed facts) (rule.all_above facts a b facts.definitions) (rule.all_above facts b a facts.definitions)
     (all_above_named facts a b facts.definitions named.definitions) (all_above_named facts b a facts.definitions named.definitions)
 
-at_most_named : (facts : Facts) (us : List Expr) → AllByRecursion (IsNamed facts) us → NameSymbols facts (at_most us)
+at_most_named : (facts : Facts) (us : List Expr) → AllByRecursion (IsNamed facts) us → NameSymbols facts (rule.at_most us)
 at_most_named facts [] all = tt
 at_most_named facts (u ∷ us) all = (all.0, at_most_named facts us all.1)
 
-beside_named : (facts : Facts) (e : Expr) (r : Span) → IsNamed facts e → NameSymbols facts (beside e r)
+beside_named : (facts : Facts) (e : Expr) (r : Span) → IsNamed facts e → NameSymbols facts (rule.beside e r)
 beside_named facts e r there = (there, (there, tt))
 
-sum_named : (facts : Facts) (a b : Expr) → IsNamed facts a → IsNamed facts b → AreNamed facts → NameSymbols facts (sum_relations facts a b)
-unfolding sum_relations
-sum_named facts a b first second named = cond_both (is_inside (sum_span facts a b)) _ _ (NameSymbols facts)
-    (λ e. all_both _ (beside a (range_of facts b)) (beside b (range_of facts a) ++ at_most (uppers facts a b)) (beside_named facts a (range_of facts b) first)
-    (all_both _ (beside b (range_of facts a)) (at_most (uppers facts a b)) (beside_named facts b (range_of facts a) second)
-    (at_most_named facts (uppers facts a b) (uppers_named facts a b named))))
+sum_named : (facts : Facts) (a b : Expr) → IsNamed facts a → IsNamed facts b → AreNamed facts → NameSymbols facts (rule.sum_relations facts a b)
+unfolding rule.sum_relations
+sum_named facts a b first second named = cond_both (rule.is_inside (rule.sum_span facts a b)) _ _ (NameSymbols facts)
+    (λ e. all_both _ (rule.beside a (range_of facts b)) (rule.beside b (range_of facts a) ++ rule.at_most (rule.uppers facts a b)) (beside_named facts a (range_of facts b) first)
+    (all_both _ (rule.beside b (range_of facts a)) (rule.at_most (rule.uppers facts a b)) (beside_named facts b (range_of facts a) second)
+    (at_most_named facts (rule.uppers facts a b) (uppers_named facts a b named))))
     (λ e. tt)
 
-difference_named : (facts : Facts) (a b : Expr) → IsNamed facts a → IsNamed facts b → AreNamed facts → NameSymbols facts (difference_relations facts a b)
-unfolding difference_relations
+difference_named : (facts : Facts) (a b : Expr) → IsNamed facts a → IsNamed facts b → AreNamed facts → NameSymbols facts (rule.difference_relations facts a b)
+unfolding rule.difference_relations
 difference_named facts a b first second named = cond_both (b.sym == 0) _ _ (NameSymbols facts)
     (λ e. sum_named facts a (negated b) first second named)
-    (λ e. cond_both (is_inside (difference_span facts a b)) _ _ (NameSymbols facts) (λ f. ((first, second), (first, (first, tt)))) (λ f. tt))
+    (λ e. cond_both (rule.is_inside (rule.difference_span facts a b)) _ _ (NameSymbols facts) (λ f. ((first, second), (first, (first, tt)))) (λ f. tt))
 
 -- ---- other operators
 
@@ -146,3 +151,74 @@ relations_named operators.Cgt f a b p q named = tt
 relations_named operators.CgtUn f a b p q named = tt
 relations_named operators.Clt f a b p q named = tt
 relations_named operators.CltUn f a b p q named = tt
+
+-- ---- expressions
+
+-- The symbol of an expression that is the result is there.
+abbrev pub NamesIt : Facts → Outcome → Type 0
+NamesIt facts (Is e) = IsNamed facts e
+NamesIt facts (Within r) = Unit {0}
+
+constant_named : (facts : Facts) (k : ℤ) → IsNamed facts (constant k)
+constant_named facts k = omega arith
+
+sum_it : (facts : Facts) (a b : Expr) → IsNamed facts a → IsNamed facts b → NamesIt facts (rule.sum facts a b)
+unfolding rule.sum
+sum_it facts a b first second = cond_both (takes (range_of facts a) b) _ _ (NamesIt facts)
+    (λ e. first) (λ e. cond_both (takes (range_of facts b) a) _ _ (NamesIt facts) (λ f. second) (λ f. tt))
+
+difference_it : (facts : Facts) (a b : Expr) → IsNamed facts a → IsNamed facts b → NamesIt facts (rule.difference facts a b)
+unfolding rule.difference
+difference_it facts a b first second = cond_both (b.sym == 0) _ _ (NamesIt facts)
+    (λ e. sum_it facts a (negated b) first second)
+    (λ e. cond_both (a.sym == b.sym) _ _ (NamesIt facts) (λ f. constant_named facts _) (λ f. tt))
+
+product_it : (facts : Facts) (a b : Expr) → IsNamed facts a → IsNamed facts b → NamesIt facts (product facts a b)
+unfolding product
+product_it facts a b first second = cond_both (is_the_constant b (pos 1)) _ _ (NamesIt facts)
+    (λ e. first) (λ e. cond_both (is_the_constant a (pos 1)) _ _ (NamesIt facts) (λ f. second) (λ f. tt))
+
+shifted_left_it : (facts : Facts) (a b : Expr) → IsNamed facts a → NamesIt facts (shifted_left facts a b)
+unfolding shifted_left
+shifted_left_it facts a b first = cond_both (b.sym == 0) _ _ (NamesIt facts)
+    (λ e. product_it facts a (constant _) first (constant_named facts _)) (λ e. tt)
+
+shifted_right_it : (facts : Facts) (a b : Expr) → IsNamed facts a → NamesIt facts (shifted_right_unsigned facts a b)
+unfolding shifted_right_unsigned
+shifted_right_it facts a b first = cond_both (is_not_negative (range_of facts a)) _ _ (NamesIt facts)
+    (λ e. tt)
+    (λ e. cond_both (b.sym == 0) _ _ (NamesIt facts)
+    (λ f. cond_both (unsigned_abs b.k == 0) _ _ (NamesIt facts) (λ g. first) (λ g. tt))
+    (λ f. tt))
+
+facts_it : (op : BinOp) (facts : Facts) (a b : Expr) → IsNamed facts a → IsNamed facts b → NamesIt facts (by_facts op facts a b)
+unfolding by_facts
+facts_it operators.Add f a b p q = sum_it f a b p q
+facts_it operators.Sub f a b p q = difference_it f a b p q
+facts_it operators.Mul f a b p q = product_it f a b p q
+facts_it operators.Shl f a b p q = shifted_left_it f a b p
+facts_it operators.ShrUn f a b p q = shifted_right_it f a b p
+facts_it operators.Div f a b p q = tt
+facts_it operators.DivUn f a b p q = tt
+facts_it operators.Rem f a b p q = tt
+facts_it operators.RemUn f a b p q = tt
+facts_it operators.And f a b p q = tt
+facts_it operators.Or f a b p q = tt
+facts_it operators.Xor f a b p q = tt
+facts_it operators.Shr f a b p q = tt
+facts_it operators.AddOvf f a b p q = tt
+facts_it operators.MulOvf f a b p q = tt
+facts_it operators.SubOvf f a b p q = tt
+facts_it operators.Ceq f a b p q = tt
+facts_it operators.Cgt f a b p q = tt
+facts_it operators.CgtUn f a b p q = tt
+facts_it operators.Clt f a b p q = tt
+facts_it operators.CltUn f a b p q = tt
+
+known_or_it : (facts : Facts) (o : Option ℤ) (otherwise : Outcome) → NamesIt facts otherwise → NamesIt facts (known_or o otherwise)
+known_or_it facts None otherwise named = named
+known_or_it facts (Some n) otherwise named = constant_named facts n
+
+pub outcome_named : (op : BinOp) (facts : Facts) (a b : Expr) → IsNamed facts a → IsNamed facts b → NamesIt facts (outcome op facts a b)
+unfolding outcome
+outcome_named op facts a b first second = known_or_it facts (of_constants op a b) (by_facts op facts a b) (facts_it op facts a b first second)
