@@ -1,5 +1,5 @@
 -- What is known of products, quotients, remainders, common bits and shifts is true of them.
-use Rattle.std.proofs.Common.{◌≡◌, ◌≢◌, ℕ, zero, suc, ◌==◌, ◌/◌, ◌%◌, ◌^◌, ◌<◌, ◌≤◌, ℤ, pos, negsuc, ◌+ℤ◌, ◌*ℤ◌, ◌≤ℤ◌, Bool, true, int_le, int_div, int_rem, unsigned_abs, length, refl, ◌∙◌, FitsSigned, w32, arith}
+use Rattle.std.proofs.Common.{◌≡◌, ◌≢◌, ℕ, zero, suc, ◌==◌, ◌/◌, ◌%◌, ◌^◌, ◌<◌, ◌≤◌, ℤ, pos, negsuc, ◌+ℤ◌, ◌*ℤ◌, ◌≤ℤ◌, Bool, true, int_le, int_div, int_rem, unsigned_abs, refl, ◌∙◌, FitsSigned, w32, arith}
 use Rattle.std.specs.Int.{int_bit_and, int_shr}
 use Rattle.std.proofs.lemmas.Bool.{cond_both, and_parts, eqb-true}
 use Rattle.std.proofs.lemmas.Bool.Decides.{Decides-int_eq}
@@ -30,7 +30,7 @@ use Rattle.number_facts.specs.Facts.{Facts, IsNamed, range_at}
 use Rattle.number_facts.specs.Laws.Allowing.{AllowsNumbers}
 use Rattle.number_facts.proofs.Knowing.{range_has, constant_worth, not_negative}
 use Rattle.number_facts.proofs.ResultKeeping.{AreTrueOf, Covers, no_more_true, true_of_same, where_true}
-use Rattle.number_facts.proofs.ResultNames.{all_both}
+use Rattle.number_facts.proofs.ResultNames.{all_both, zero_named}
 use Rattle.number_facts.proofs.Smallness.{span_above}
 
 -- ---- products
@@ -49,9 +49,6 @@ product_covers facts number a b allowed first second one other =
     (λ f. rw (*ℤ_comm (worth number a) (worth number b)) (by_one (worth number b) (worth number a) (other f) (the_constant facts number a (pos 1) allowed f)))
     (λ f. let product = corners_have (range_of facts a) (range_of facts b) _ _ (range_has facts number a allowed first) (range_has facts number b allowed second) in
     wrapped_has (corners (range_of facts a) (range_of facts b)) _ product.above product.below))
-
-zero_named : (facts : Facts) → 0 ≤ length facts.ranges
-zero_named facts = omega arith
 
 pub shifted_left_covers : (facts : Facts) (number : ℕ → ℤ) (a b : Expr) → AllowsNumbers facts number → IsNamed facts a → FitsSigned w32 (worth number a)
     → FitsSigned w32 (wrap32 (worth number a *ℤ pos (2 ^ unsigned_abs (worth number b)))) → ((b.sym == 0) ≡ true → is_the_constant a (pos 1) ≡ true → ⊥)

@@ -1,5 +1,6 @@
 -- Results keep the form of what is known.
-use Rattle.std.proofs.Common.{◌≡◌, ℕ, ◌+◌, ◌≤◌, ℤ, neg_ℤ, int_eq, Option, Some, None, List, [], ◌∷◌, ◌++◌, length, refl, ◌∙◌, arith}
+use Rattle.std.proofs.Common.{◌≡◌, ℕ, ◌+◌, ◌≤◌, ℤ, pos, negsuc, neg_ℤ, ◌≤ℤ◌, true, int_eq, int_le, Option, Some, None, IfSome}
+use Rattle.std.proofs.Common.{List, [], ◌∷◌, ◌++◌, length, refl, ◌∙◌, arith}
 use Rattle.std.specs.Option.{option_map}
 use Rattle.std.specs.Int.{int_min, int_max}
 use Rattle.std.specs.List.{AllByRecursion}
@@ -15,7 +16,7 @@ use Rattle.number_spans.specs.Constants.{constant}
 use Rattle.number_spans.specs.Stored.{IsNarrow, range_without}
 use Rattle.number_spans.proofs.NarrowRanges.{SomeNarrow, range_without_narrow}
 use Rattle.number_facts.specs.Arith.{is_kept, outcome, relations, settled}
-use Rattle.number_facts.specs.Facts.{Facts, IsNamed}
+use Rattle.number_facts.specs.Facts.{Facts, IsNamed, IsThere}
 use Rattle.number_facts.specs.Fresh.{Made, bounded, defined, expr_made, facts_made, fresh, is_long, noted, related, related_so}
 use Rattle.number_facts.specs.Holds.{AreNamed, KeepsForm, Names}
 use Rattle.number_facts.specs.declared.outcome.Outcome.{Outcome}

@@ -1,5 +1,5 @@
 -- What is known of a result speaks of symbols that are there.
-use Rattle.std.proofs.Common.{ℕ, ◌==◌, ◌≤◌, ℤ, pos, Bool, ◌&&◌, Option, Some, None, List, [], ◌∷◌, ◌++◌, length}
+use Rattle.std.proofs.Common.{ℕ, ◌==◌, ◌≤◌, ℤ, pos, Bool, ◌&&◌, Option, Some, None, List, [], ◌∷◌, ◌++◌, length, unsigned_abs, ◌^◌, arith}
 use Rattle.std.specs.List.{AllByRecursion}
 use Rattle.std.proofs.lemmas.Bool.{cond_both}
 use Rattle.domain_api.specs.declared.expr.Expr.{Expr}
@@ -10,10 +10,10 @@ use Rattle.symbolic_values.specs.declared.def.Def.TheVariants.{Eq, Lt, LtUn, Nul
 use Rattle.number_spans.specs.Constants.{constant, of_constants}
 use Rattle.number_spans.specs.Product.{is_the_constant}
 use Rattle.number_spans.specs.Spans.{is_not_negative}
-use Rattle.number_spans.specs.Sums.{negated, plus, takes}
+use Rattle.number_spans.specs.Sums.{negated, takes}
 use Rattle.number_spans.specs.declared.span.Span.{Span}
 use Rattle.number_facts.specs.Additions as rule
-use Rattle.number_facts.specs.Arith.{are_plain, by_facts, exact, is_above_one, is_positive, known_or, no_more, outcome, product, relations, where_so}
+use Rattle.number_facts.specs.Arith.{are_plain, by_facts, is_above_one, is_positive, known_or, no_more, outcome, product, relations, where_so}
 use Rattle.number_facts.specs.Arith.{common_relations, quotient_relations, remainder_relations, shift_relations, shifted_left, shifted_right_unsigned}
 use Rattle.number_facts.specs.Ends.{range_of}
 use Rattle.number_facts.specs.Facts.{Facts, IsNamed}
@@ -159,8 +159,9 @@ abbrev pub NamesIt : Facts → Outcome → Type 0
 NamesIt facts (Is e) = IsNamed facts e
 NamesIt facts (Within r) = Unit {0}
 
-constant_named : (facts : Facts) (k : ℤ) → IsNamed facts (constant k)
-constant_named facts k = omega arith
+-- that of each constant is
+pub zero_named : (facts : Facts) → 0 ≤ length facts.ranges
+zero_named facts = omega arith
 
 sum_it : (facts : Facts) (a b : Expr) → IsNamed facts a → IsNamed facts b → NamesIt facts (rule.sum facts a b)
 unfolding rule.sum
@@ -171,7 +172,7 @@ difference_it : (facts : Facts) (a b : Expr) → IsNamed facts a → IsNamed fac
 unfolding rule.difference
 difference_it facts a b first second = cond_both (b.sym == 0) _ _ (NamesIt facts)
     (λ e. sum_it facts a (negated b) first second)
-    (λ e. cond_both (a.sym == b.sym) _ _ (NamesIt facts) (λ f. constant_named facts _) (λ f. tt))
+    (λ e. cond_both (a.sym == b.sym) _ _ (NamesIt facts) (λ f. zero_named facts) (λ f. tt))
 
 product_it : (facts : Facts) (a b : Expr) → IsNamed facts a → IsNamed facts b → NamesIt facts (product facts a b)
 unfolding product
@@ -181,7 +182,7 @@ product_it facts a b first second = cond_both (is_the_constant b (pos 1)) _ _ (N
 shifted_left_it : (facts : Facts) (a b : Expr) → IsNamed facts a → NamesIt facts (shifted_left facts a b)
 unfolding shifted_left
 shifted_left_it facts a b first = cond_both (b.sym == 0) _ _ (NamesIt facts)
-    (λ e. product_it facts a (constant _) first (constant_named facts _)) (λ e. tt)
+    (λ e. product_it facts a (constant (pos (2 ^ unsigned_abs b.k))) first (zero_named facts)) (λ e. tt)
 
 shifted_right_it : (facts : Facts) (a b : Expr) → IsNamed facts a → NamesIt facts (shifted_right_unsigned facts a b)
 unfolding shifted_right_unsigned
@@ -217,7 +218,7 @@ facts_it operators.CltUn f a b p q = tt
 
 known_or_it : (facts : Facts) (o : Option ℤ) (otherwise : Outcome) → NamesIt facts otherwise → NamesIt facts (known_or o otherwise)
 known_or_it facts None otherwise named = named
-known_or_it facts (Some n) otherwise named = constant_named facts n
+known_or_it facts (Some n) otherwise named = zero_named facts
 
 pub outcome_named : (op : BinOp) (facts : Facts) (a b : Expr) → IsNamed facts a → IsNamed facts b → NamesIt facts (outcome op facts a b)
 unfolding outcome
