@@ -18,7 +18,8 @@ pub record AreInt32 (number : ℕ → ℤ) (a b : Expr) : Type 0 where
 -- result.
 abbrev pub KeepsResult : BinOp → Expr → Expr → Facts → Option Expr → Facts → Type 0
 KeepsResult op a b before made after =
-    (number : ℕ → ℤ) (is_null : ℕ → Bool) (result : ℤ) → AreNamed before → Holds before number is_null → AreInt32 number a b
+    (number : ℕ → ℤ) (is_null : ℕ → Bool) (result : ℤ) → AreNamed before → Holds before number is_null
+    → AreInt32 number a b
     → operated op (worth number a) (worth number b) ≡ Ok result → YieldsSome before after number is_null made result
 
 -- What an operator that may overflow gives where its result may be any whole number.
@@ -31,5 +32,6 @@ IsExact _ m n exact = ⊥
 -- No exact result of what two expressions are worth is below lo or above hi.
 abbrev pub AreExactEnds : BinOp → Expr → Expr → Facts → ℤ → ℤ → Type 0
 AreExactEnds op a b facts lo hi =
-    (number : ℕ → ℤ) (is_null : ℕ → Bool) (exact : ℤ) → AreNamed facts → Holds facts number is_null → AreInt32 number a b
+    (number : ℕ → ℤ) (is_null : ℕ → Bool) (exact : ℤ) → AreNamed facts → Holds facts number is_null
+    → AreInt32 number a b
     → IsExact op (worth number a) (worth number b) exact → (lo ≤ℤ exact) × (exact ≤ℤ hi)
