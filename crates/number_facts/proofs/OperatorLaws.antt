@@ -33,7 +33,7 @@ use Rattle.number_facts.specs.Laws.Allowing.{AllowsNumbers}
 use Rattle.number_facts.proofs.Knowing.{range_has, constant_worth, not_negative}
 use Rattle.number_facts.proofs.ResultKeeping.{AreTrueOf, Covers, no_more_true, true_of_same, where_true}
 use Rattle.number_facts.proofs.ResultNames.{all_both, zero_named}
-use Rattle.number_facts.proofs.Smallness.{span_above}
+use Rattle.number_facts.proofs.NearRanges.{span_above}
 
 -- ---- products
 

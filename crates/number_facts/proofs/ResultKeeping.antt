@@ -22,7 +22,7 @@ use Rattle.number_facts.specs.declared.outcome.Outcome.{Outcome}
 use Rattle.number_facts.specs.declared.outcome.Outcome.TheVariants.{Is, Within}
 use Rattle.number_facts.specs.declared.relation.Relation.{Relation}
 use Rattle.number_facts.specs.declared.relation.Relation.TheVariants as known
-use Rattle.number_facts.proofs.Forms.{narrow_range}
+use Rattle.number_facts.proofs.Small.{narrow_range}
 use Rattle.number_facts.proofs.ResultNames.{NamesIt, NamesSymbols, NameSymbols}
 use Rattle.number_facts.proofs.NewSymbols.{with_number, as_before, new_number, noted_holds, same_told}
 

@@ -45,7 +45,7 @@ use Rattle.number_facts.proofs.OperatorLaws.{unsigned_quotient_relations_true, u
 use Rattle.number_facts.proofs.OperatorLaws.{common_relations_true, shift_relations_true, unsigned_shift_relations_true}
 use Rattle.number_facts.proofs.ResultKeeping.{Knows, AreTrueOf, Covers, settled_keeps}
 use Rattle.number_facts.proofs.ResultNames.{outcome_named, relations_named}
-use Rattle.number_facts.proofs.Smallness.{range_small}
+use Rattle.number_facts.proofs.NearRanges.{range_small}
 
 -- All that is known is so, and the two expressions are worth int32 by it.
 record Given (facts : Facts) (number : ℕ → ℤ) (is_null : ℕ → Bool) (a b : Expr) : Type 0 where

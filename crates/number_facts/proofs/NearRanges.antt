@@ -13,7 +13,7 @@ use Rattle.number_spans.specs.Sizes.{IsSmall}
 use Rattle.number_spans.specs.Spans.{shifted}
 use Rattle.number_facts.specs.Ends.{range_of, span_at, cut_by_all, lowered_by, raised_by, met}
 use Rattle.number_facts.specs.Facts.{Facts, AreNarrow, IsNamed, has, range_at}
-use Rattle.number_facts.proofs.Forms.{narrow_range}
+use Rattle.number_facts.proofs.Small.{narrow_range}
 use Rattle.number_facts.specs.Laws.Allowing.{AllowsNumbers, span_has}
 
 raised_from : (facts : Facts) (t : ℕ) (row : BoundRow) (lo : ℤ) → lo ≤ℤ raised_by facts t lo row
