@@ -12,3 +12,10 @@ pub mod Keeping
 pub mod NewSymbols
 pub mod Truths
 pub mod Forms
+pub mod ResultNames
+pub mod ResultKeeping
+pub mod NearRanges
+pub mod AdditionLaws
+pub mod OperatorLaws
+pub mod ResultLaws
+pub mod ResultForms

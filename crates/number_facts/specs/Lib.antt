@@ -9,3 +9,4 @@ pub mod Holds
 pub mod Laws
 pub mod Additions
 pub mod Arith
+pub mod Results
