@@ -28,7 +28,7 @@ pub one_noted : (b : Bool) (xs ys : List Relation) → where_so b xs ++ where_so
 one_noted b xs ys = append-nil (where_so b xs)
 
 positive_plain : (n : ℤ) → int_le (pos 1) n ≡ true → int_le (pos 0) n ≡ true
-positive_plain n positive = omega (arith, ints, positive)
+positive_plain n positive = grind (arith, ints, positive)
 
 plain_again : (r q : Span) (rs : List Relation)
     → where_so (is_not_negative r && is_positive q) rs ≡ where_so (is_not_negative r && is_not_negative q) (where_so (is_not_negative r && is_positive q) rs)

@@ -55,12 +55,15 @@ pub ruleset cuts = (lesser_cut, greater_cut)
 near_end : (n k : ℤ) → IsNear n → negsuc 4294967295 ≤ℤ k → k ≤ℤ pos 4294967296 → IsEnd (n +ℤ k)
 near_end n k near low high = record { least = omega (arith, ints, near.least, low); greatest = omega (arith, ints, near.greatest, high) }
 
-pub shifted_small : (facts : Facts) (r : Span) (e : Expr) → AreNear r → IsThere facts e → IsSmall (shifted r e.k)
-unfolding shifted
-shifted_small facts r e near there = record {
-  low = near_end r.lo e.k near.low there.least there.greatest;
-  high = near_end r.hi e.k near.high there.least there.greatest;
-}
+pub small : (facts : Facts) (e : Expr) (r q : Span) → r ≡ span_at facts e.sym → AreNear r → IsThere facts e → q ≡ range_of facts e → IsSmall q
+unfolding range_of shifted
+small facts e r q left near there is =
+    let low : IsNear (span_at facts e.sym).lo = rw left at near.low in
+    let high : IsNear (span_at facts e.sym).hi = rw left at near.high in
+    rw is (record {
+      low = near_end (span_at facts e.sym).lo e.k low there.least there.greatest;
+      high = near_end (span_at facts e.sym).hi e.k high there.least there.greatest;
+    })
 
 -- ---- constants
 

@@ -1,12 +1,15 @@
 -- What bounds a sum from above, by one definition after another.
 use Rattle.std.proofs.Common.{◌≡◌, ℕ, suc, ◌+◌, ◌<◌, ◌≤◌, ℤ, ◌+ℤ◌, ◌-ℤ◌, List, [], ◌∷◌, ◌++◌, Option, Some, None, length, get_or, drop, drop-cons, add-one, refl, sym, ap, ◌∙◌, arith}
 use Rattle.std.proofs.lemmas.List.{drop_all, append_assoc, append-nil}
-use Rattle.std.specs.Int.{int_max}
+use Rattle.std.specs.Int.{int_max, int_min}
+use Rattle.std.specs.Option.{option_map}
 use Rattle.std.proofs.lemmas.Int.{ints, clamps}
 use Rattle.domain_api.specs.declared.expr.Expr.{Expr}
 use Rattle.number_spans.specs.Sizes.{IsBounded}
 use Rattle.symbolic_values.specs.declared.def.Def.{Def}
 use Rattle.number_facts.specs.Additions.{above_by, all_above, at_most, cut_by, with_some}
+use Rattle.number_spans.specs.Spans.{shifted}
+use Rattle.number_facts.specs.Ends.{range_of, span_at}
 use Rattle.number_facts.specs.Facts.{Facts}
 use Rattle.number_facts.specs.declared.relation.Relation.{Relation}
 
@@ -84,6 +87,25 @@ at_most_both : (es fs : List Expr) → at_most (es ++ fs) ≡ at_most es ++ at_m
 at_most_both [] fs = refl
 at_most_both (e ∷ es) fs = ap (λ rs. at_most (e ∷ []) ++ rs) (at_most_both es fs)
 
-pub all_beside : (first second third fourth : Relation) (es fs : List Expr)
-    → ((first ∷ second ∷ third ∷ fourth ∷ []) ++ at_most es) ++ at_most fs ≡ (first ∷ second ∷ []) ++ ((third ∷ fourth ∷ []) ++ at_most (es ++ fs))
-all_beside first second third fourth es fs = ap (λ rs. first ∷ second ∷ third ∷ fourth ∷ rs) (sym (at_most_both es fs))
+pub all_noted : (rs qs : List Relation) (es fs : List Expr) → ((rs ++ qs) ++ at_most es) ++ at_most fs ≡ rs ++ (qs ++ at_most (es ++ fs))
+all_noted rs qs es fs =
+    append_assoc (rs ++ qs) (at_most es) (at_most fs) ∙ append_assoc rs qs (at_most es ++ at_most fs)
+    ∙ ap (λ us. rs ++ (qs ++ us)) (sym (at_most_both es fs))
+
+pub ruleset noted = (all_noted)
+
+pub both_pushed : (known : List Relation) (first second : Relation) → (known ++ first ∷ []) ++ second ∷ [] ≡ known ++ (first ∷ second ∷ [])
+both_pushed known first second = append_assoc known (first ∷ []) (second ∷ [])
+
+-- ---- one definition
+
+pub cut_some : (facts : Facts) (o : Option Expr) (s : ℕ) (k hi : ℤ) → option_map {U = ℕ × ℤ} (λ (u : Expr). (u.sym, u.k)) o ≡ Some (s, k)
+    → int_min hi ((span_at facts s).hi +ℤ k) ≡ cut_by facts (with_some o []) hi
+unfolding range_of shifted
+cut_some facts None s k hi is = absurd cc
+cut_some facts (Some e) s k hi is =
+    let same : (e.sym, e.k) ≡ (s, k) = some_is (e.sym, e.k) (s, k) is in
+    rw (← ap (λ (p : ℕ × ℤ). p.0) same, ← ap (λ (p : ℕ × ℤ). p.1) same) refl
+  where
+    some_is : (p q : ℕ × ℤ) → Some p ≡ Some q → p ≡ q
+    some_is p q is = cc

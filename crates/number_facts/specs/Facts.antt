@@ -1,5 +1,5 @@
 -- What is known of the numbers of a state, and what it means.
-use Rattle.std.specs.Prelude.{ℕ, zero, suc, ◌≤◌, ℤ, pos, negsuc, ◌≤ℤ◌, Bool, nat_le, length, List, [], get_or}
+use Rattle.std.specs.Prelude.{ℕ, zero, suc, ◌≤◌, ℤ, pos, negsuc, ◌≤ℤ◌, Bool, nat_le, length, List, get_or}
 use Rattle.std.specs.List.{AllByRecursion}
 use Rattle.domain_api.specs.declared.expr.Expr.{Expr}
 use Rattle.interval_domain.specs.Interval.{Interval, one}
@@ -13,10 +13,6 @@ pub record Facts : Type 0 where
   pub ranges : List Interval
   pub definitions : List (ℕ × Def)
   pub bounds : List BoundRow
-
--- The bounds alone.
-abbrev pub only_bounds : Facts → Facts
-only_bounds facts = record { ranges = []; definitions = []; bounds = facts.bounds }
 
 -- The symbol is there.
 abbrev pub has : Facts → ℕ → Bool

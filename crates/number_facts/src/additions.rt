@@ -1,13 +1,14 @@
 //! Sums and differences.
 
-ghost use Rattle.std.specs.Prelude.{◌≡◌, ◌+ℤ◌, ◌-ℤ◌, ◌++◌, [], IfOk, OnOk, IfSome};
+ghost use Rattle.std.specs.Prelude.{◌≡◌, ◌+ℤ◌, ◌-ℤ◌, ◌++◌, [], ◌∷◌, IfOk, OnOk, IfSome};
 ghost use Rattle.std.specs.Option.{option_map};
 ghost use Rattle.cc_base.specs.Wrap.{wrap32};
 ghost use Rattle.number_spans.specs.Constants.{constant};
-ghost use Rattle.number_spans.specs.Sizes.{IsBounded, IsWide};
+ghost use Rattle.number_spans.specs.Sizes.{IsBounded, IsSmall, IsWide};
 ghost use Rattle.number_facts.specs.Additions as rule;
 ghost use Rattle.number_facts.specs.Ends.{range_of};
 ghost use Rattle.number_facts.specs.Facts.{AreNarrow, IsThere};
+ghost use Rattle.number_facts.specs.declared.relation.Relation.TheVariants as relations;
 
 use crate::assume::and_more;
 use crate::gap::far;
@@ -92,6 +93,28 @@ fn end_of(hi: i128, k: i128) -> i128
     ensures { result ≡ hi +ℤ k }
 {
     hi + k
+}
+
+/// Notes that a sum is at least an expression and the least of the other one, and at most that and its greatest.
+fn note_beside(known: &mut Vec<Relation>, e: Expr, r: Span) -> Result<(), NoMemory>
+    requires { IsSmall r }
+    ensures { OnOk result (known.new.items ≡ known.old.items ++ rule.beside e r) }
+{
+    known.push(Relation::AtLeast(e.sym, i128::from(e.k) + r.lo))?;
+    known.push(Relation::AtMost(e.sym, i128::from(e.k) + r.hi))?;
+    Ok(())
+}
+
+/// Notes that a difference is at least an expression less the greatest of the other one, and at most that less its
+/// least.
+fn note_below(known: &mut Vec<Relation>, e: Expr, r: Span) -> Result<(), NoMemory>
+    requires { IsSmall r }
+    ensures { OnOk result (known.new.items ≡
+        known.old.items ++ relations.AtLeast e.sym (e.k -ℤ r.hi) ∷ relations.AtMost e.sym (e.k -ℤ r.lo) ∷ []) }
+{
+    known.push(Relation::AtLeast(e.sym, minus(i128::from(e.k), r.hi)))?;
+    known.push(Relation::AtMost(e.sym, minus(i128::from(e.k), r.lo)))?;
+    Ok(())
 }
 
 impl Numbers {
@@ -196,7 +219,7 @@ impl Numbers {
     }
 
     /// What else is known of a sum that does not wrap.
-    #[tactic(auto, using(crate::proofs::Uppers::all_beside), unfolding(crate::specs::Additions::uppers))]
+    #[tactic(auto, using(crate::proofs::Uppers::noted), unfolding(crate::specs::Additions::uppers))]
     fn inner_sum_relations(&self, a: Expr, b: Expr) -> Result<Vec<Relation>, NoMemory>
         requires first { IsThere self.now a }
         requires second { IsThere self.now b }
@@ -206,13 +229,9 @@ impl Numbers {
     {
         let r = self.small_range_of(a);
         let q = self.small_range_of(b);
-        let beside = [
-            Relation::AtLeast(a.sym, i128::from(a.k) + q.lo),
-            Relation::AtMost(a.sym, i128::from(a.k) + q.hi),
-            Relation::AtLeast(b.sym, i128::from(b.k) + r.lo),
-            Relation::AtMost(b.sym, i128::from(b.k) + r.hi),
-        ];
-        let mut known = Vec::from_slice(*self.ranges.allocator(), &beside)?;
+        let mut known = Vec::with_capacity(*self.ranges.allocator(), 4)?;
+        note_beside(&mut known, a, q)?;
+        note_beside(&mut known, b, r)?;
         self.note_above(a, b, &mut known)?;
         self.note_above(b, a, &mut known)?;
         Ok(known)
@@ -282,13 +301,10 @@ impl Numbers {
         if !is_inside(self.difference_span(a, b)) {
             return Ok(Vec::new(alloc));
         }
-        let q = self.small_range_of(b);
-        let known = [
-            Relation::Is(Def::Sub(a, b)),
-            Relation::AtLeast(a.sym, i128::from(a.k) - q.hi),
-            Relation::AtMost(a.sym, i128::from(a.k) - q.lo),
-        ];
-        Vec::from_slice(alloc, &known)
+        let mut known = Vec::with_capacity(alloc, 3)?;
+        known.push(Relation::Is(Def::Sub(a, b)))?;
+        note_below(&mut known, a, self.small_range_of(b))?;
+        Ok(known)
     }
 
     /// Where a sum lies that is judged for overflow.

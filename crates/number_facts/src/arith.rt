@@ -1,6 +1,6 @@
 //! What operators give, and what is known of it.
 
-ghost use Rattle.std.specs.Prelude.{◌≡◌, ◌-ℤ◌, ◌++◌, pos, true, false, IfOk, OnOk, OnErr, if◌then◌else◌};
+ghost use Rattle.std.specs.Prelude.{◌≡◌, ◌-ℤ◌, ◌++◌, pos, true, false, IfOk, IfSome, OnOk, OnErr, if◌then◌else◌};
 ghost use Rattle.cil_model.specs.Arithmetic as arithmetic;
 ghost use Rattle.interval_domain.specs.Arithmetic.{near};
 ghost use Rattle.number_spans.specs.Owed.{Divides, IsPlaces, NotZero, Shifts};
@@ -8,6 +8,8 @@ ghost use Rattle.number_spans.specs.Spans.{full};
 ghost use Rattle.number_facts.specs.Arith as rule;
 ghost use Rattle.number_facts.specs.Facts.{AreNarrow, IsThere};
 ghost use Rattle.number_facts.specs.Fresh.{expr_made, facts_made};
+ghost use Rattle.number_facts.specs.Holds.{KeepsForm};
+ghost use Rattle.number_facts.specs.Results.{AreExactEnds, KeepsResult};
 
 use crate::numbers::Numbers;
 use crate::outcome::Outcome;
@@ -170,6 +172,7 @@ impl Numbers {
         requires narrow { AreNarrow self.now }
         ensures least { result.0 ≡ near (rule.exact op self.now a b).lo }
         ensures greatest { result.1 ≡ near (rule.exact op self.now a b).hi }
+        ensures sound { AreExactEnds op a b self.now result.0 result.1 }
     {
         let Span { lo, hi, .. } = self.exact(op, a, b);
         (nearest(lo), nearest(hi))
@@ -328,6 +331,9 @@ impl Numbers {
             expr_made (rule.settled self.old (rule.outcome op self.old a b) (rule.relations op self.old a b))) }
         ensures facts { OnOk result (self.new ≡
             facts_made self.old (rule.settled self.old (rule.outcome op self.old a b) (rule.relations op self.old a b))) }
+        ensures keeps { IfOk result (λ e. KeepsResult op a b self.old e self.new) }
+        ensures there { IfOk result (λ e. IfSome e (IsThere self.new)) }
+        ensures form { KeepsForm self.old self.new }
         ensures err { OnErr result (self.new ≡ self.old) }
     {
         self.settled(op, a, b)

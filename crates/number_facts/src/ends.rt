@@ -157,7 +157,7 @@ impl Numbers {
     }
 
     /// The upper end of a symbol, cut by all bounds that go from it.
-    #[tactic(auto, using(crate::proofs::Small::narrow_ends))]
+    #[tactic(auto, using(crate::proofs::Cutting::cuts, crate::proofs::Small::narrow_ends))]
     fn highest(&self, s: u32) -> i128
         ensures value { result ≡
             rule.cut_by_all (rule.lowered_by self.now) (rows_from self.now.bounds s) (range_at self.now s).hi }
@@ -191,9 +191,9 @@ impl Numbers {
         lo
     }
 
-    /// The numbers that a symbol may be.
+    /// The numbers that are left to a symbol, and how large they are.
     #[tactic(auto, unfolding(crate::specs::Ends::span_at))]
-    pub(crate) fn span_at(&self, s: u32) -> Span
+    fn left_to(&self, s: u32) -> Span
         ensures value { result ≡ rule.span_at self.now s }
         ensures ends { IsLong result }
         ensures hole { IsLongHole result.hole }
@@ -203,20 +203,27 @@ impl Numbers {
         met(self.lowest(s), self.highest(s), self.range_at(s).hole())
     }
 
+    /// The numbers that a symbol may be.
+    pub(crate) fn span_at(&self, s: u32) -> Span
+        ensures value { result ≡ rule.span_at self.now s }
+        ensures ends { IsLong result }
+        ensures hole { IsLongHole result.hole }
+    {
+        self.left_to(s)
+    }
+
     /// The numbers that an expression may have.
-    #[tactic(auto, using(crate::proofs::Small::shifted_small), unfolding(crate::specs::Ends::range_of))]
+    #[tactic(auto, unfolding(crate::specs::Ends::range_of))]
     pub(crate) fn range_of(&self, e: Expr) -> Span
         ensures value { result ≡ rule.range_of self.now e }
         ensures low { IsBounded result.lo }
         ensures high { IsBounded result.hi }
-        ensures small { AreNarrow self.now → IsThere self.now e → IsSmall result }
-        ensures form { AreBounds self.now.bounds }
     {
         self.span_at(e.sym).shifted(e.k)
     }
 
     /// The numbers that an expression of a variable may have. Those of a constant begin with it.
-    #[tactic(auto, using(crate::proofs::Small::constant_low))]
+    #[tactic(auto, using(crate::proofs::Small::constant_low), unfolding(crate::specs::Ends::range_of))]
     pub(crate) fn small_range_of(&self, e: Expr) -> Span
         requires there { IsThere self.now e }
         requires narrow { AreNarrow self.now }
@@ -224,7 +231,7 @@ impl Numbers {
         ensures ends { IsSmall result }
         ensures constant { e.sym ≡ 0 → result.lo ≡ e.k }
     {
-        self.range_of(e)
+        self.left_to(e.sym).shifted(e.k)
     }
 
     /// The least and the greatest number that an expression may have, and the number between them that it does not

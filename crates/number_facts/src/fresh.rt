@@ -3,7 +3,6 @@
 ghost use Rattle.std.specs.Prelude.{◌≡◌, ◌+◌, neg_ℤ, length, IfOk, OnOk, OnErr, [], ◌∷◌};
 ghost use Rattle.std.specs.Option.{option_map};
 ghost use Rattle.number_facts.specs.Fresh.{bounded, expr_made, facts_made, fresh, noted, related, related_so};
-ghost use Rattle.number_facts.specs.Facts.{only_bounds};
 ghost use Rattle.number_facts.specs.Holds.{KeepsForm, KeepsFresh};
 ghost use Rattle.number_facts.specs.declared.relation.Relation.TheVariants.{Is};
 
@@ -105,22 +104,9 @@ impl Numbers {
         Ok(())
     }
 
-    /// The bounds with all that is known of a new symbol, and its definitions alone. Costs a copy of the bounds.
-    fn with_relations(&self, t: u32, known: &[Relation]) -> Result<Numbers, NoMemory>
-        ensures { IfOk result (λ more. more ≡ related_so (only_bounds self.now) t known.now) }
-    {
-        let alloc = *self.ranges.allocator();
-        let mut more = Numbers {
-            ranges: Vec::new(alloc),
-            definitions: Vec::new(alloc),
-            bounds: self.bounds.copy(alloc)?,
-        };
-        more.relate_all(t, known)?;
-        Ok(more)
-    }
-
-    /// A number of a range: the constant where it has one alone, else a new symbol of which this is known.
-    #[tactic(auto, using(crate::proofs::Relating::behind), unfolding(crate::specs::Fresh::noted))]
+    /// A number of a range: the constant where it has one alone, else a new symbol of which this is known. Where that is
+    /// more than the range, it costs a copy of what is known.
+    #[tactic(auto, unfolding(crate::specs::Fresh::noted))]
     fn noted_with(&mut self, range: Range, known: &[Relation]) -> Result<Expr, NoMemory>
         ensures value { IfOk result (λ e. e ≡ (noted self.old range known.now).expr) }
         ensures facts { OnOk result (self.new ≡ (noted self.old range known.now).facts) }
@@ -130,11 +116,10 @@ impl Numbers {
             return self.noted(range);
         }
         let sym = self.next_symbol()?;
-        let Numbers { definitions, bounds, .. } = self.with_relations(sym, known)?;
-        self.ranges.reserve(1)?;
-        self.definitions.extend_from_slice(&definitions)?;
-        self.ranges.push(range)?;
-        self.bounds = bounds;
+        let mut after = self.copy(*self.ranges.allocator())?;
+        after.ranges.push(range)?;
+        after.relate_all(sym, known)?;
+        *self = after;
         Ok(Expr { sym, k: 0 })
     }
 
