@@ -38,18 +38,11 @@ fn settled_span(r: Span) -> Span
 }
 
 /// The difference of two constants.
-fn constants_apart(a: Expr, b: Expr) -> i128
+pub(crate) fn constants_apart(a: Expr, b: Expr) -> i128
     ensures value { result ≡ a.k -ℤ b.k }
     ensures bound { IsWide result }
 {
     i128::from(a.k) - i128::from(b.k)
-}
-
-/// The difference of two constants, wrapped.
-fn wrapped_difference(a: Expr, b: Expr) -> Expr
-    ensures { result ≡ constant (wrap32 (a.k -ℤ b.k)) }
-{
-    constant(i64::from(wrap(constants_apart(a, b))))
 }
 
 /// A lower end, raised by what a gap tells.
@@ -142,7 +135,7 @@ impl Numbers {
     {
         match self.above_by(a, b, defined) {
             None => hi,
-            Some((sym, k)) => hi.min(end_of(self.span_at(sym).hi, k)),
+            Some((sym, k)) => hi.min(end_of(self.left_to(sym).hi, k)),
         }
     }
 
@@ -188,7 +181,7 @@ impl Numbers {
 
     /// Where a sum lies before it wraps.
     #[tactic(auto, using(crate::proofs::Uppers::both), unfolding(crate::specs::Additions::sum_span, crate::specs::Additions::uppers))]
-    fn sum_span(&self, a: Expr, b: Expr) -> Span
+    pub(crate) fn sum_span(&self, a: Expr, b: Expr) -> Span
         requires first { IsThere self.now a }
         requires second { IsThere self.now b }
         requires narrow { AreNarrow self.now }
@@ -218,43 +211,29 @@ impl Numbers {
         Outcome::Within(settled_span(self.sum_span(a, b)))
     }
 
-    /// What else is known of a sum that does not wrap.
-    #[tactic(auto, using(crate::proofs::Uppers::noted), unfolding(crate::specs::Additions::uppers))]
-    fn inner_sum_relations(&self, a: Expr, b: Expr) -> Result<Vec<Relation>, NoMemory>
-        requires first { IsThere self.now a }
-        requires second { IsThere self.now b }
-        requires narrow { AreNarrow self.now }
-        ensures { IfOk result (λ known. known.items ≡ rule.beside a (range_of self.now b)
-            ++ (rule.beside b (range_of self.now a) ++ rule.at_most (rule.uppers self.now a b))) }
-    {
-        let r = self.small_range_of(a);
-        let q = self.small_range_of(b);
-        let mut known = Vec::with_capacity(*self.ranges.allocator(), 4)?;
-        note_beside(&mut known, a, q)?;
-        note_beside(&mut known, b, r)?;
-        self.note_above(a, b, &mut known)?;
-        self.note_above(b, a, &mut known)?;
-        Ok(known)
-    }
-
     /// What else is known of a sum.
-    #[tactic(auto, unfolding(crate::specs::Additions::sum_relations))]
+    #[tactic(auto, using(crate::proofs::Uppers::noted), unfolding(crate::specs::Additions::sum_relations, crate::specs::Additions::uppers))]
     pub(crate) fn sum_relations(&self, a: Expr, b: Expr) -> Result<Vec<Relation>, NoMemory>
         requires first { IsThere self.now a }
         requires second { IsThere self.now b }
         requires narrow { AreNarrow self.now }
         ensures { IfOk result (λ known. known.items ≡ rule.sum_relations self.now a b) }
     {
-        if is_inside(self.sum_span(a, b)) {
-            self.inner_sum_relations(a, b)
-        } else {
-            Ok(Vec::new(*self.ranges.allocator()))
+        let alloc = *self.ranges.allocator();
+        if !is_inside(self.sum_span(a, b)) {
+            return Ok(Vec::new(alloc));
         }
+        let mut known = Vec::with_capacity(alloc, 4)?;
+        note_beside(&mut known, a, self.small_range_of(b))?;
+        note_beside(&mut known, b, self.small_range_of(a))?;
+        self.note_above(a, b, &mut known)?;
+        self.note_above(b, a, &mut known)?;
+        Ok(known)
     }
 
     /// Where the difference of two symbols lies before it wraps.
     #[tactic(auto, unfolding(crate::specs::Additions::difference_span))]
-    fn difference_span(&self, a: Expr, b: Expr) -> Span
+    pub(crate) fn difference_span(&self, a: Expr, b: Expr) -> Span
         requires first { IsThere self.now a }
         requires second { IsThere self.now b }
         requires narrow { AreNarrow self.now }
@@ -281,7 +260,7 @@ impl Numbers {
             return self.sum(a, negated(b));
         }
         if a.sym == b.sym {
-            return Outcome::Is(wrapped_difference(a, b));
+            return Outcome::Is(constant(i64::from(wrap(constants_apart(a, b)))));
         }
         Outcome::Within(settled_span(self.difference_span(a, b)))
     }
@@ -305,37 +284,5 @@ impl Numbers {
         known.push(Relation::Is(Def::Sub(a, b)))?;
         note_below(&mut known, a, self.small_range_of(b))?;
         Ok(known)
-    }
-
-    /// Where a sum lies that is judged for overflow.
-    #[tactic(auto, unfolding(crate::specs::Additions::exact_sum))]
-    pub(crate) fn exact_sum(&self, a: Expr, b: Expr) -> Span
-        requires first { IsThere self.now a }
-        requires second { IsThere self.now b }
-        requires narrow { AreNarrow self.now }
-        ensures { result ≡ rule.exact_sum self.now a b }
-    {
-        if a.sym == 0 || b.sym == 0 {
-            sums(self.small_range_of(a), self.small_range_of(b))
-        } else {
-            self.sum_span(a, b)
-        }
-    }
-
-    /// Where a difference lies that is judged for overflow.
-    #[tactic(auto, unfolding(crate::specs::Additions::exact_difference))]
-    pub(crate) fn exact_difference(&self, a: Expr, b: Expr) -> Span
-        requires first { IsThere self.now a }
-        requires second { IsThere self.now b }
-        requires narrow { AreNarrow self.now }
-        ensures { result ≡ rule.exact_difference self.now a b }
-    {
-        if b.sym == 0 {
-            return differences(self.small_range_of(a), self.small_range_of(b));
-        }
-        if a.sym == b.sym {
-            return Span::between(constants_apart(a, b), constants_apart(a, b));
-        }
-        self.difference_span(a, b)
     }
 }

@@ -11,23 +11,17 @@ ghost use Rattle.number_facts.specs.Fresh.{expr_made, facts_made};
 ghost use Rattle.number_facts.specs.Holds.{KeepsForm};
 ghost use Rattle.number_facts.specs.Results.{AreExactEnds, KeepsResult};
 
+use crate::additions::constants_apart;
 use crate::numbers::Numbers;
 use crate::outcome::Outcome;
 use crate::relation::Relation;
 use cil_model::BinOp;
 use domain_api::{Expr, NoMemory};
 use number_spans::{
-    Span, bits_of_either, common_bits, constant, corners, is_the_constant, nearest, of_constants,
-    power, quotients, range_within, remainders, shifted_right,
+    Span, bits_of_either, common_bits, constant, corners, differences, is_the_constant, nearest,
+    of_constants, power, quotients, range_within, remainders, shifted_right, sums,
 };
 use std::alloc::Global;
-
-/// Returns whether the constant of an expression is one of -2^32 to 2^32.
-fn is_kept(e: Expr) -> bool
-    ensures { result ≡ rule.is_kept e }
-{
-    -4_294_967_296 <= e.k && e.k <= 4_294_967_296
-}
 
 /// Notes that a result is at most an expression less a number, where that is so.
 fn note_upper(known: &mut Vec<Relation>, is_so: bool, e: Expr, less: i64) -> Result<(), NoMemory>
@@ -114,21 +108,6 @@ impl Numbers {
         remainders(r, q)
     }
 
-    /// A number shifted to the left.
-    #[tactic(auto, unfolding(crate::specs::Arith::shifted_left))]
-    fn shifted_left(&self, a: Expr, b: Expr) -> Outcome
-        requires first { IsThere self.now a }
-        requires amount { IsPlaces b }
-        requires narrow { AreNarrow self.now }
-        ensures { result ≡ rule.shifted_left self.now a b }
-    {
-        if b.sym == 0 {
-            self.product(a, constant(power(b.k)))
-        } else {
-            Outcome::Within(Span::full())
-        }
-    }
-
     /// An unsigned number shifted to the right.
     #[tactic(auto, unfolding(crate::specs::Arith::shifted_right_unsigned))]
     fn shifted_right_unsigned(&self, a: Expr, b: Expr) -> Outcome
@@ -149,7 +128,7 @@ impl Numbers {
     }
 
     /// Where the result of an operator that may overflow lies before it is judged.
-    #[tactic(auto, unfolding(crate::specs::Arith::exact))]
+    #[tactic(auto, unfolding(crate::specs::Arith::exact, crate::specs::Additions::exact_sum, crate::specs::Additions::exact_difference))]
     fn exact(&self, op: BinOp, a: Expr, b: Expr) -> Span
         requires first { IsThere self.now a }
         requires second { IsThere self.now b }
@@ -157,8 +136,11 @@ impl Numbers {
         ensures { result ≡ rule.exact op self.now a b }
     {
         match op {
-            BinOp::AddOvf => self.exact_sum(a, b),
-            BinOp::SubOvf => self.exact_difference(a, b),
+            BinOp::AddOvf if a.sym == 0 || b.sym == 0 => sums(self.small_range_of(a), self.small_range_of(b)),
+            BinOp::AddOvf => self.sum_span(a, b),
+            BinOp::SubOvf if b.sym == 0 => differences(self.small_range_of(a), self.small_range_of(b)),
+            BinOp::SubOvf if a.sym == b.sym => Span::between(constants_apart(a, b), constants_apart(a, b)),
+            BinOp::SubOvf => self.difference_span(a, b),
             BinOp::MulOvf => corners(self.small_range_of(a), self.small_range_of(b)),
             _ => Span::full(),
         }
@@ -178,16 +160,19 @@ impl Numbers {
         (nearest(lo), nearest(hi))
     }
 
-    /// The result of an operator by what is known.
-    #[tactic(auto, unfolding(crate::specs::Arith::by_facts))]
-    fn by_facts(&self, op: BinOp, a: Expr, b: Expr) -> Outcome
+    /// The result of an operator: of two constants the constant, else by what is known.
+    #[tactic(auto, unfolding(crate::specs::Arith::outcome, crate::specs::Arith::by_facts, crate::specs::Arith::shifted_left))]
+    fn outcome(&self, op: BinOp, a: Expr, b: Expr) -> Outcome
         requires first { IsThere self.now a }
         requires second { IsThere self.now b }
         requires narrow { AreNarrow self.now }
         requires divisor { Divides op b }
         requires amount { Shifts op b }
-        ensures { result ≡ rule.by_facts op self.now a b }
+        ensures { result ≡ rule.outcome op self.now a b }
     {
+        if let Some(only) = of_constants(op, a, b) {
+            return Outcome::Is(constant(i64::from(only)));
+        }
         match op {
             BinOp::Add => self.sum(a, b),
             BinOp::Sub => self.difference(a, b),
@@ -208,26 +193,11 @@ impl Numbers {
                 self.small_range_of(a),
                 self.small_range_of(b),
             )),
-            BinOp::Shl => self.shifted_left(a, b),
+            BinOp::Shl if b.sym == 0 => self.product(a, constant(power(b.k))),
+            BinOp::Shl => Outcome::Within(Span::full()),
             BinOp::Shr => Outcome::Within(shifted_right(self.small_range_of(a), b)),
             BinOp::ShrUn => self.shifted_right_unsigned(a, b),
             _ => Outcome::Within(self.exact(op, a, b)),
-        }
-    }
-
-    /// The result of an operator: of two constants the constant, else by what is known.
-    #[tactic(auto, unfolding(crate::specs::Arith::outcome))]
-    fn outcome(&self, op: BinOp, a: Expr, b: Expr) -> Outcome
-        requires first { IsThere self.now a }
-        requires second { IsThere self.now b }
-        requires narrow { AreNarrow self.now }
-        requires divisor { Divides op b }
-        requires amount { Shifts op b }
-        ensures { result ≡ rule.outcome op self.now a b }
-    {
-        match of_constants(op, a, b) {
-            Some(only) => Outcome::Is(constant(i64::from(only))),
-            None => self.by_facts(op, a, b),
         }
     }
 
@@ -307,7 +277,7 @@ impl Numbers {
         ensures err { OnErr result (self.new ≡ self.old) }
     {
         let span = match self.outcome(op, a, b) {
-            Outcome::Is(e) if is_kept(e) => return Ok(Some(e)),
+            Outcome::Is(e) if -4_294_967_296 <= e.k && e.k <= 4_294_967_296 => return Ok(Some(e)),
             Outcome::Is(_) => return Ok(None),
             Outcome::Within(span) => span,
         };

@@ -66,16 +66,6 @@ fn greater(a: i128, b: i128) -> i128
     a.max(b)
 }
 
-/// Returns whether the number is the hole.
-fn is_hole(hole: Option<i64>, n: i128) -> bool
-    ensures { result ≡ is_hole hole n }
-{
-    match hole {
-        None => false,
-        Some(hole) => i128::from(hole) == n,
-    }
-}
-
 /// The lower end, behind a hole that meets it.
 fn behind_hole(lo: i128, hole: Option<i64>) -> i128
     requires { IsSum lo }
@@ -83,7 +73,10 @@ fn behind_hole(lo: i128, hole: Option<i64>) -> i128
     ensures bound { IsWide result }
     ensures small { IsCut lo → IsNear result }
 {
-    if is_hole(hole, lo) { lo + 1 } else { lo }
+    match hole {
+        Some(hole) if i128::from(hole) == lo => lo + 1,
+        _ => lo,
+    }
 }
 
 /// The upper end, before a hole that meets it.
@@ -93,7 +86,10 @@ fn before_hole(hi: i128, hole: Option<i64>) -> i128
     ensures bound { IsWide result }
     ensures small { IsCut hi → IsNear result }
 {
-    if is_hole(hole, hi) { hi - 1 } else { hi }
+    match hole {
+        Some(hole) if i128::from(hole) == hi => hi - 1,
+        _ => hi,
+    }
 }
 
 /// A hole, where it stands strictly between the ends.
@@ -191,9 +187,10 @@ impl Numbers {
         lo
     }
 
-    /// The numbers that are left to a symbol, and how large they are.
+    /// The numbers that are left to a symbol. They are no larger than ends of int32 that bounds cut, where ranges are of
+    /// int32.
     #[tactic(auto, unfolding(crate::specs::Ends::span_at))]
-    fn left_to(&self, s: u32) -> Span
+    pub(crate) fn left_to(&self, s: u32) -> Span
         ensures value { result ≡ rule.span_at self.now s }
         ensures ends { IsLong result }
         ensures hole { IsLongHole result.hole }
@@ -203,15 +200,6 @@ impl Numbers {
         met(self.lowest(s), self.highest(s), self.range_at(s).hole())
     }
 
-    /// The numbers that a symbol may be.
-    pub(crate) fn span_at(&self, s: u32) -> Span
-        ensures value { result ≡ rule.span_at self.now s }
-        ensures ends { IsLong result }
-        ensures hole { IsLongHole result.hole }
-    {
-        self.left_to(s)
-    }
-
     /// The numbers that an expression may have.
     #[tactic(auto, unfolding(crate::specs::Ends::range_of))]
     pub(crate) fn range_of(&self, e: Expr) -> Span
@@ -219,7 +207,7 @@ impl Numbers {
         ensures low { IsBounded result.lo }
         ensures high { IsBounded result.hi }
     {
-        self.span_at(e.sym).shifted(e.k)
+        self.left_to(e.sym).shifted(e.k)
     }
 
     /// The numbers that an expression of a variable may have. Those of a constant begin with it.

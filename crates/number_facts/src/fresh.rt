@@ -67,25 +67,15 @@ impl Numbers {
         Ok(Expr { sym, k: 0 })
     }
 
-    /// Stores t <= s + k, where -k has 64 bits.
-    #[tactic(auto, unfolding(crate::specs::Fresh::bounded))]
-    fn bound_above(&mut self, t: u32, s: u32, k: i128) -> Result<(), NoMemory>
-        ensures { OnOk result (self.new ≡ bounded self.old t s (neg_ℤ k)) }
-    {
-        if k == i128::MIN {
-            return Ok(());
-        }
-        self.bound(t, s, -k)
-    }
-
     /// Stores one thing that is known of a symbol.
-    #[tactic(auto, unfolding(crate::specs::Fresh::defined))]
+    #[tactic(auto, unfolding(crate::specs::Fresh::defined, crate::specs::Fresh::bounded))]
     fn relate(&mut self, t: u32, relation: Relation) -> Result<(), NoMemory>
         ensures { OnOk result (self.new ≡ related self.old t relation) }
     {
         match relation {
             Relation::AtLeast(s, k) => self.bound(s, t, k),
-            Relation::AtMost(s, k) => self.bound_above(t, s, k),
+            Relation::AtMost(_, i128::MIN) => Ok(()),
+            Relation::AtMost(s, k) => self.bound(t, s, -k),
             Relation::Is(def) => {
                 self.definitions.push((t, def))?;
                 Ok(())

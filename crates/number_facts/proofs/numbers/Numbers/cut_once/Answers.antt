@@ -14,7 +14,7 @@ returns-in-Some c =
     let end : to_z w128 (of_z w128 c.args.hi) ≡ c.args.hi = to_z-of_z w128 c.args.hi c.ranges.hi in
     let low : to_z w128 (of_z w128 c.min.result) ≡ c.min.result = search rules in
     let cut : to_z w128 (of_z w128 c.end_of.result) ≡ c.end_of.result = search rules in
-    let left : to_z w128 (of_z w128 c.span_at.result.hi) ≡ c.span_at.result.hi = search rules in
+    let left : to_z w128 (of_z w128 c.left_to.result.hi) ≡ c.left_to.result.hi = search rules in
     let more : to_z w128 (of_z w128 c.in-Some.k) ≡ c.in-Some.k = search rules in
-    rw (low, c.min.ensures.value, end, cut, c.end_of.ensures, left, more, c.span_at.ensures.value)
+    rw (low, c.min.ensures.value, end, cut, c.end_of.ensures, left, more, c.left_to.ensures.value)
     (cut_some c.args.self.now some c.in-Some.sym c.in-Some.k c.args.hi is)
