@@ -1,5 +1,5 @@
 -- How large the ends are that bounds cut, where the stored ranges are of int32.
-use Rattle.std.proofs.Common.{◌≡◌, ◌≢◌, ◌==◌, ℕ, true, sym, ◌∙◌, ap, zero, suc, ℤ, pos, negsuc, ◌+ℤ◌, ◌≤ℤ◌, FitsSigned, w32, List, [], ◌∷◌, get_or, refl, arith}
+use Rattle.std.proofs.Common.{◌≡◌, ◌≢◌, ◌==◌, ℕ, true, false, sym, ◌∙◌, ap, zero, suc, ℤ, pos, negsuc, ◌+ℤ◌, ◌-ℤ◌, ◌≤ℤ◌, FitsSigned, w32, List, [], ◌∷◌, get_or, refl, arith}
 use Rattle.std.specs.List.{AllByRecursion}
 use Rattle.std.specs.Int.{int_min, int_max}
 use Rattle.std.proofs.lemmas.Int.{ints, clamps}
@@ -9,7 +9,12 @@ use Rattle.domain_api.specs.declared.expr.Expr.{Expr}
 use Rattle.interval_domain.specs.Interval.{Interval, one}
 use Rattle.number_spans.specs.Sizes.{IsEnd, IsSmall}
 use Rattle.number_spans.specs.Spans.{shifted}
+use Rattle.number_spans.specs.Constants.{constant}
 use Rattle.number_spans.specs.Sums.{negated}
+use Rattle.cc_base.specs.Wrap.{wrap32}
+use Rattle.std.proofs.lemmas.Bool.Decides.{nat_tests}
+use Rattle.number_facts.specs.Additions.{difference}
+use Rattle.number_facts.specs.declared.outcome.Outcome.TheVariants.{Is}
 use Rattle.number_spans.specs.Stored.{IsNarrow}
 use Rattle.number_spans.specs.declared.span.Span.{Span}
 use Rattle.number_facts.specs.Ends.{met, range_of, span_at}
@@ -90,3 +95,15 @@ negated_there facts e there = record {
   least = omega (arith, ints, there.greatest);
   greatest = omega (arith, ints, there.least);
 }
+
+-- ---- the difference of two expressions of one symbol
+
+is_same : (m n : ℕ) → m ≡ n → (m == n) ≡ true
+is_same m n same = grind (arith, nat_tests, same)
+
+is_other : (m n : ℕ) → m ≢ n → (m == n) ≡ false
+is_other m n other = grind (arith, nat_tests, other)
+
+pub difference_known : (facts : Facts) (a b e : Expr) → b.sym ≢ 0 → a.sym ≡ b.sym → e ≡ constant (wrap32 (a.k -ℤ b.k)) → Is e ≡ difference facts a b
+unfolding difference
+difference_known facts a b e symbol same is = rw (is_other b.sym 0 symbol, is_same a.sym b.sym same, is) refl

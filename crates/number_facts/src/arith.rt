@@ -136,7 +136,8 @@ impl Numbers {
         ensures { result ≡ rule.exact op self.now a b }
     {
         match op {
-            BinOp::AddOvf if a.sym == 0 || b.sym == 0 => sums(self.small_range_of(a), self.small_range_of(b)),
+            BinOp::AddOvf if a.sym == 0 => sums(self.small_range_of(a), self.small_range_of(b)),
+            BinOp::AddOvf if b.sym == 0 => sums(self.small_range_of(a), self.small_range_of(b)),
             BinOp::AddOvf => self.sum_span(a, b),
             BinOp::SubOvf if b.sym == 0 => differences(self.small_range_of(a), self.small_range_of(b)),
             BinOp::SubOvf if a.sym == b.sym => Span::between(constants_apart(a, b), constants_apart(a, b)),
