@@ -37,7 +37,7 @@ plain_again r q rs =
       | inl first ↦
           elim (cases_Bool (is_positive q)) [
             | inl second ↦ let plain = positive_plain q.lo second in rw (first, second, plain) refl
-            | inr other ↦ elim (cases_Bool (is_not_negative q)) [ | inl plain ↦ rw (first, other, plain) refl | inr less ↦ rw (first, other, less) refl ]
+            | inr other ↦ elim (cases_Bool (is_not_negative q)) [ inl plain ↦ rw (first, other, plain) refl | inr less ↦ rw (first, other, less) refl ]
           ]
       | inr other ↦ rw other refl
     ]

@@ -109,7 +109,7 @@ unfoldable pub difference_relations : Facts → Expr → Expr → List Relation
 difference_relations facts a b =
     if b.sym == 0 then sum_relations facts a (negated b)
     else if is_inside (difference_span facts a b) then
-      known.Is (Sub a b) ∷ known.AtLeast a.sym (a.k -ℤ (range_of facts b).hi) ∷ known.AtMost a.sym (a.k -ℤ (range_of facts b).lo) ∷ []
+    known.Is (Sub a b) ∷ known.AtLeast a.sym (a.k -ℤ (range_of facts b).hi) ∷ known.AtMost a.sym (a.k -ℤ (range_of facts b).lo) ∷ []
     else []
 
 -- ---- what is judged for overflow

@@ -153,7 +153,13 @@ impl Numbers {
     }
 
     /// Notes what a definition says that a sum is at most.
-    fn note_once(&self, a: Expr, b: Expr, defined: &(u32, Def), known: &mut Vec<Relation>) -> Result<(), NoMemory>
+    fn note_once(
+        &self,
+        a: Expr,
+        b: Expr,
+        defined: &(u32, Def),
+        known: &mut Vec<Relation>,
+    ) -> Result<(), NoMemory>
         ensures { OnOk result (known.new.items ≡ known.old.items
             ++ rule.at_most (rule.with_some (rule.above_by self.now a b defined.now.0 defined.now.1) [])) }
     {

@@ -139,8 +139,14 @@ impl Numbers {
             BinOp::AddOvf if a.sym == 0 => sums(self.small_range_of(a), self.small_range_of(b)),
             BinOp::AddOvf if b.sym == 0 => sums(self.small_range_of(a), self.small_range_of(b)),
             BinOp::AddOvf => self.sum_span(a, b),
-            BinOp::SubOvf if b.sym == 0 => differences(self.small_range_of(a), self.small_range_of(b)),
-            BinOp::SubOvf if a.sym == b.sym => Span::between(constants_apart(a, b), constants_apart(a, b)),
+            BinOp::SubOvf if b.sym == 0 => differences(
+                self.small_range_of(a),
+                self.small_range_of(b),
+            ),
+            BinOp::SubOvf if a.sym == b.sym => Span::between(
+                constants_apart(a, b),
+                constants_apart(a, b),
+            ),
             BinOp::SubOvf => self.difference_span(a, b),
             BinOp::MulOvf => corners(self.small_range_of(a), self.small_range_of(b)),
             _ => Span::full(),
@@ -216,7 +222,12 @@ impl Numbers {
 
     /// What else is known of a remainder, also of numbers that are taken as unsigned.
     #[tactic(auto, using(crate::proofs::Orders::both_within), unfolding(crate::specs::Arith::remainder_relations))]
-    fn remainder_relations(&self, a: Expr, b: Expr, unsigned: bool) -> Result<Vec<Relation>, NoMemory>
+    fn remainder_relations(
+        &self,
+        a: Expr,
+        b: Expr,
+        unsigned: bool,
+    ) -> Result<Vec<Relation>, NoMemory>
         ensures signed { IfOk result (λ known. unsigned ≡ false → known.items ≡ rule.remainder_relations self.now a b) }
         ensures unsigned { IfOk result (λ known. unsigned ≡ true → known.items ≡
             rule.where_so (rule.are_plain self.now a b) (rule.remainder_relations self.now a b)) }
@@ -230,11 +241,7 @@ impl Numbers {
     }
 
     /// What else is known of the result of an operator.
-    #[tactic(auto, using(crate::proofs::Orders::orders), unfolding(
-        crate::specs::Arith::relations,
-        crate::specs::Arith::common_relations,
-        crate::specs::Arith::shift_relations
-    ))]
+    #[tactic(auto, using(crate::proofs::Orders::orders), unfolding(crate::specs::Arith::relations, crate::specs::Arith::common_relations, crate::specs::Arith::shift_relations))]
     fn relations(&self, op: BinOp, a: Expr, b: Expr) -> Result<Vec<Relation>, NoMemory>
         requires first { IsThere self.now a }
         requires second { IsThere self.now b }

@@ -59,7 +59,10 @@ impl Numbers {
     {
         let r = self.range_of(a);
         let q = self.range_of(b);
-        self.is_at_most(a, 1, b) || self.is_at_most(b, 1, a) || is_one_excluded(r, q) || is_one_excluded(q, r)
+        self.is_at_most(a, 1, b)
+            || self.is_at_most(b, 1, a)
+            || is_one_excluded(r, q)
+            || is_one_excluded(q, r)
     }
 
     /// Returns whether they are known to be equal, or known not to be.

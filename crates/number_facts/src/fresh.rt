@@ -142,7 +142,10 @@ impl Numbers {
         ensures facts { OnOk result (self.new ≡ facts_made self.old (fresh self.old lo hi hole [])) }
         ensures err { OnErr result (self.new ≡ self.old) }
     {
-        self.noted_some(range_without(lo.max(-2_147_483_648), hi.min(2_147_483_647), hole), &[])
+        self.noted_some(
+            range_without(lo.max(-2_147_483_648), hi.min(2_147_483_647), hole),
+            &[],
+        )
     }
 
     /// A number from `lo` to `hi` but for the hole, which is an int32: the constant where there is one alone, else a

@@ -11,5 +11,5 @@ returns-then-a-b c =
     let wrapped : to_z w32 (of_z w32 c.wrap.result) ≡ c.wrap.result = search rules in
     let apart : to_z w128 (of_z w128 c.constants_apart.result) ≡ c.constants_apart.result = search rules in
     let only : c.constant.result ≡ constant (wrap32 (c.args.a.k -ℤ c.args.b.k)) =
-        rw (c.constant.ensures, wide, c.from.ensures, wrapped, c.wrap.ensures, apart, c.constants_apart.ensures.value) refl in
+    rw (c.constant.ensures, wide, c.from.ensures, wrapped, c.wrap.ensures, apart, c.constants_apart.ensures.value) refl in
     difference_known c.args.self.now c.args.a c.args.b c.constant.result (search rules) (search rules) only

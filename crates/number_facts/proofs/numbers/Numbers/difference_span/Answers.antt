@@ -15,7 +15,25 @@ returns-clause-value c =
     let high : to_z w128 (of_z w128 c.minus-2.result) ≡ c.minus-2.result = search rules in
     let raised : to_z w128 (of_z w128 c.raised_by_gap-lo.result) ≡ c.raised_by_gap-lo.result = search rules in
     let lowered : to_z w128 (of_z w128 c.lowered_by_gap-hi.result) ≡ c.lowered_by_gap-hi.result = search rules in
-    rw (c.between.ensures, raised, lowered, c.raised_by_gap-lo.ensures.value, c.lowered_by_gap-hi.ensures, more, low, high, c.minus.ensures.value,
-    c.minus-2.ensures.value, r_low, r_high, q_low, q_high, c.gap.ensures, c.gap-2.ensures, c.constants_apart-more.ensures.value,
-    c.small_range_of-r.ensures.value, c.small_range_of-q.ensures.value)
+    rw (
+      c.between.ensures,
+      raised,
+      lowered,
+      c.raised_by_gap-lo.ensures.value,
+      c.lowered_by_gap-hi.ensures,
+      more,
+      low,
+      high,
+      c.minus.ensures.value,
+      c.minus-2.ensures.value,
+      r_low,
+      r_high,
+      q_low,
+      q_high,
+      c.gap.ensures,
+      c.gap-2.ensures,
+      c.constants_apart-more.ensures.value,
+      c.small_range_of-r.ensures.value,
+      c.small_range_of-q.ensures.value,
+    )
     refl

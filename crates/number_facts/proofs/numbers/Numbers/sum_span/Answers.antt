@@ -18,8 +18,23 @@ returns-clause-value c =
     let high : to_z w128 (of_z w128 c.plus.result) ≡ c.plus.result = search rules in
     let once : to_z w128 (of_z w128 c.cut_by.result) ≡ c.cut_by.result = search rules in
     let twice : to_z w128 (of_z w128 c.cut_by-hi.result) ≡ c.cut_by-hi.result = search rules in
-    rw (c.between.ensures, low, c.plus-2.ensures.value, r_low, q_low, twice, c.cut_by-hi.ensures, once, c.cut_by.ensures, high, c.plus.ensures.value, r_high, q_high,
-    c.small_range_of-r.ensures.value, c.small_range_of-q.ensures.value)
+    rw (
+      c.between.ensures,
+      low,
+      c.plus-2.ensures.value,
+      r_low,
+      q_low,
+      twice,
+      c.cut_by-hi.ensures,
+      once,
+      c.cut_by.ensures,
+      high,
+      c.plus.ensures.value,
+      r_high,
+      q_high,
+      c.small_range_of-r.ensures.value,
+      c.small_range_of-q.ensures.value,
+    )
     (ap (between ((range_of facts c.args.a).lo +ℤ (range_of facts c.args.b).lo))
     (cut_by_both facts (all_above facts c.args.a c.args.b facts.definitions) (all_above facts c.args.b c.args.a facts.definitions)
     ((range_of facts c.args.a).hi +ℤ (range_of facts c.args.b).hi)))
