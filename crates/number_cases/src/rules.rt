@@ -27,6 +27,8 @@ impl NumberRules {
             "ends" => number_rules::ends(alloc, numbers, argument)?,
             "gap" => number_rules::gap(alloc, numbers, argument)?,
             "fresh" => number_rules::fresh(alloc, numbers, argument)?,
+            "arith" => number_rules::arith(alloc, numbers, argument)?,
+            "exact" => number_rules::exact(alloc, numbers, argument)?,
             "compare" => number_rules::compare(alloc, numbers, argument)?,
             "joined" | "widened" | "normed" => {
                 merge_rules::merged(alloc, numbers, &self.beside, keyword, argument)?;
