@@ -46,13 +46,15 @@ first_alike m n ms ns e = cc
 rest_alike : (m n : MethodPlan) (ms ns : List MethodPlan) → Alike (m ∷ ms) (n ∷ ns) → Alike ms ns
 rest_alike m n ms ns e = cc
 
-map_alike : {X : Type 0} (f : MethodPlan → X) → ByValue f → (ms ns : List MethodPlan) → Alike ms ns → map f ms ≡ map f ns
+map_alike : {X : Type 0} (f : MethodPlan → X) → ByValue f → (ms ns : List MethodPlan) → Alike ms ns
+    → map f ms ≡ map f ns
 map_alike f by [] [] e = refl
 map_alike f by (m ∷ ms) (n ∷ ns) e = rw (by m n (first_alike m n ms ns e), map_alike f by ms ns (rest_alike m n ms ns e)) refl
 map_alike f by [] (n ∷ ns) e = absurd cc
 map_alike f by (m ∷ ms) [] e = absurd cc
 
-flat_map_alike : {X : Type 0} (f : MethodPlan → List X) → ByValue f → (ms ns : List MethodPlan) → Alike ms ns → flat_map f ms ≡ flat_map f ns
+flat_map_alike : {X : Type 0} (f : MethodPlan → List X) → ByValue f → (ms ns : List MethodPlan) → Alike ms ns
+    → flat_map f ms ≡ flat_map f ns
 flat_map_alike f by [] [] e = refl
 flat_map_alike f by (m ∷ ms) (n ∷ ns) e = rw (by m n (first_alike m n ms ns e), flat_map_alike f by ms ns (rest_alike m n ms ns e)) refl
 flat_map_alike f by [] (n ∷ ns) e = absurd cc
@@ -75,7 +77,8 @@ take_alike (suc k) (m ∷ ms) [] e = absurd cc
 abbrev Agree : {X : Type 0} → (f g : ℕ → MethodPlan → List X) → Type 0
 Agree f g = (index : ℕ) (m n : MethodPlan) → method_value m ≡ method_value n → f index m ≡ g index n
 
-each_alike : {X : Type 0} (f g : ℕ → MethodPlan → List X) → Agree f g → (index : ℕ) (ms ns : List MethodPlan) → Alike ms ns → each_from index f ms ≡ each_from index g ns
+each_alike : {X : Type 0} (f g : ℕ → MethodPlan → List X) → Agree f g → (index : ℕ) (ms ns : List MethodPlan)
+    → Alike ms ns → each_from index f ms ≡ each_from index g ns
 unfolding each_from
 each_alike f g by index [] [] e = refl
 each_alike f g by index (m ∷ ms) (n ∷ ns) e = rw (by index m n (first_alike m n ms ns e), each_alike f g by (index + 1) ms ns (rest_alike m n ms ns e)) refl

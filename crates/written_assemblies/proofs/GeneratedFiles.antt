@@ -38,6 +38,7 @@ plan_held seed count few =
     rw (namespace, class, methods) refl
 
 -- Every plan of that value has the file.
-pub generated_is : (plan : AsmPlan) (seed count : ℕ) → count ≤ 10000 → value plan ≡ generated seed count → assembly_bytes plan ≡ generated_file seed count
+pub generated_is : (plan : AsmPlan) (seed count : ℕ) → count ≤ 10000 → value plan ≡ generated seed count
+    → assembly_bytes plan ≡ generated_file seed count
 unfolding generated_file
 generated_is plan seed count few is = file_alike plan (held_plan (generated seed count)) (is ∙ sym (plan_held seed count few))

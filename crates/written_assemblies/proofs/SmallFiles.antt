@@ -82,7 +82,8 @@ abbrev AreSmall : List MethodPlan → Type 0
 AreSmall ms = AllByRecursion (λ m. IsSmall (method_value m)) ms
 
 -- What small methods have at most 100 of each.
-few_of : (f : MethodPlan → ℕ) → ((m : MethodPlan) → IsSmall (method_value m) → f m ≤ 100) → (ms : List MethodPlan) → AreSmall ms → sum_by f ms ≤ 100 * length ms
+few_of : (f : MethodPlan → ℕ) → ((m : MethodPlan) → IsSmall (method_value m) → f m ≤ 100) → (ms : List MethodPlan)
+    → AreSmall ms → sum_by f ms ≤ 100 * length ms
 few_of f each [] all = omega arith
 few_of f each (m ∷ ms) all =
     let one = each m all.0 in
@@ -90,7 +91,8 @@ few_of f each (m ∷ ms) all =
     let left = sum_by-cons f m ms in
     omega arith
 
-few_items : (f : MethodPlan → List (List ℕ)) → ((m : MethodPlan) → IsSmall (method_value m) → items_size (f m) ≤ 100) → (ms : List MethodPlan) → AreSmall ms
+few_items : (f : MethodPlan → List (List ℕ)) → ((m : MethodPlan) → IsSmall (method_value m) → items_size (f m) ≤ 100)
+    → (ms : List MethodPlan) → AreSmall ms
     → items_size (flat_map f ms) ≤ 100 * length ms
 few_items f each [] all = omega arith
 few_items f each (m ∷ ms) all =
@@ -99,7 +101,8 @@ few_items f each (m ∷ ms) all =
     let left = sum_by-append length (f m) (flat_map f ms) in
     omega arith
 
-few_texts : (f : MethodPlan → List ℕ) → ((m : MethodPlan) → IsSmall (method_value m) → length (f m) ≤ 100) → (ms : List MethodPlan) → AreSmall ms
+few_texts : (f : MethodPlan → List ℕ) → ((m : MethodPlan) → IsSmall (method_value m) → length (f m) ≤ 100)
+    → (ms : List MethodPlan) → AreSmall ms
     → items_size (map f ms) ≤ 100 * length ms
 few_texts f each [] all = omega arith
 few_texts f each (m ∷ ms) all =
@@ -235,7 +238,8 @@ text_few plan short names.File =
     let all = length-append plan.class.items (codes ".dll") in
     omega arith
 
-names_few : (plan : AsmPlan) → HasShortNames plan → (cited : List Name) → items_size (map (name_item plan) cited) ≤ 400 * length cited
+names_few : (plan : AsmPlan) → HasShortNames plan → (cited : List Name)
+    → items_size (map (name_item plan) cited) ≤ 400 * length cited
 names_few plan short [] = omega arith
 names_few plan short (name ∷ cited) =
     let one = zero_few (name_text plan name) (text_few plan short name) in
@@ -281,7 +285,8 @@ no_rows : (l : Layout) → rows_width l [] ≡ 0
 unfolding rows_width
 no_rows l = refl
 
-each_rows_few : (l : Layout) (f : ℕ → MethodPlan → List (List Field)) → ((at : ℕ) (m : MethodPlan) → widest_rows (f at m) ≤ 100) → (at : ℕ) (ms : List MethodPlan)
+each_rows_few : (l : Layout) (f : ℕ → MethodPlan → List (List Field))
+    → ((at : ℕ) (m : MethodPlan) → widest_rows (f at m) ≤ 100) → (at : ℕ) (ms : List MethodPlan)
     → rows_width l (each_from at f ms) ≤ 100 * length ms
 unfolding each_from
 each_rows_few l f each at [] = let none = no_rows l in omega arith
@@ -296,7 +301,8 @@ locals_widest : (has : Bool) (at : ℕ) → widest_rows (if has then (fields.Met
 locals_widest true at = omega arith
 locals_widest false at = omega arith
 
-fixed_few : (l : Layout) (rows : List (List Field)) (n most : ℕ) → widest_rows rows ≤ 400 → rows_width l rows ≤ 400 + 100 * n
+fixed_few : (l : Layout) (rows : List (List Field)) (n most : ℕ) → widest_rows rows ≤ 400
+    → rows_width l rows ≤ 400 + 100 * n
 fixed_few l rows n most few = let below = rows_few l rows in omega arith
 
 table_few : (l : Layout) (ms : List MethodPlan) (table : Table) → table_size l ms table ≤ 400 + 100 * length ms
@@ -315,7 +321,8 @@ table_few l ms tables.AssemblyRef = fixed_few l (fixed_rows tables.AssemblyRef) 
 table_few l ms tables.MethodSpec = fixed_few l (fixed_rows tables.MethodSpec) (length ms) 0 (omega arith)
 
 -- Of the tables, of which each has at most so many bytes.
-all_few : (f : Table → ℕ) (most : ℕ) → ((table : Table) → f table ≤ most) → (among : List Table) (count : ℕ) → length among ≡ count → sum_by f among ≤ count * most
+all_few : (f : Table → ℕ) (most : ℕ) → ((table : Table) → f table ≤ most) → (among : List Table) (count : ℕ)
+    → length among ≡ count → sum_by f among ≤ count * most
 all_few f most each [] zero is = omega arith
 all_few f most each [] (suc count) is = absurd cc
 all_few f most each (table ∷ among) zero is = absurd cc
@@ -348,7 +355,8 @@ tables_few l ms =
 
 -- ---- the whole
 
-metadata_few : (plan : AsmPlan) → HasShortNames plan → AreSmall plan.methods.items → metadata_size plan ≤ 16000 + 1500 * length plan.methods.items
+metadata_few : (plan : AsmPlan) → HasShortNames plan → AreSmall plan.methods.items
+    → metadata_size plan ≤ 16000 + 1500 * length plan.methods.items
 unfolding metadata_size root_size
 metadata_few plan short small =
     let l = layout_of plan in
@@ -369,7 +377,8 @@ headers_few : headers_size false ≡ 512
 unfolding headers_size numbers_width round_up section_header numbers_bytes
 headers_few = refl
 
-file_few : (plan : AsmPlan) → HasShortNames plan → AreSmall plan.methods.items → plan.wide ≡ false → file_size plan ≤ 20000 + 1600 * length plan.methods.items
+file_few : (plan : AsmPlan) → HasShortNames plan → AreSmall plan.methods.items → plan.wide ≡ false
+    → file_size plan ≤ 20000 + 1600 * length plan.methods.items
 unfolding file_size section_size numbers_width
 file_few plan short small narrow =
     let metadata = metadata_few plan short small in
@@ -454,7 +463,8 @@ both_true : (a b : Bool) → a ≡ true → b ≡ true → (a && b) ≡ true
 both_true a b p q = rw (p, q) refl
 
 -- Of at most 10,000 methods it keeps the limits.
-pub generated_fits : (plan : AsmPlan) (seed count : ℕ) → count ≤ 10000 → value plan ≡ generated seed count → IsTrue (fits plan)
+pub generated_fits : (plan : AsmPlan) (seed count : ℕ) → count ≤ 10000 → value plan ≡ generated seed count
+    → IsTrue (fits plan)
 unfolding fits
 generated_fits plan seed count few is =
     let methods = ap (λ (p : Plan). p.methods) is in
