@@ -186,12 +186,7 @@ impl Numbers {
     }
 
     /// Where a sum lies before it wraps.
-    #[tactic(auto, using(
-        crate::proofs::Uppers::both
-    ), unfolding(
-        crate::specs::Additions::sum_span,
-        crate::specs::Additions::uppers
-    ))]
+    #[tactic(auto, using(crate::proofs::Uppers::both), unfolding(crate::specs::Additions::sum_span, crate::specs::Additions::uppers))]
     pub(crate) fn sum_span(&self, a: Expr, b: Expr) -> Span
         requires first { IsThere self.now a }
         requires second { IsThere self.now b }
@@ -223,12 +218,7 @@ impl Numbers {
     }
 
     /// What else is known of a sum.
-    #[tactic(auto, using(
-        crate::proofs::Uppers::noted
-    ), unfolding(
-        crate::specs::Additions::sum_relations,
-        crate::specs::Additions::uppers
-    ))]
+    #[tactic(auto, using(crate::proofs::Uppers::noted), unfolding(crate::specs::Additions::sum_relations, crate::specs::Additions::uppers))]
     pub(crate) fn sum_relations(&self, a: Expr, b: Expr) -> Result<Vec<Relation>, NoMemory>
         requires first { IsThere self.now a }
         requires second { IsThere self.now b }
@@ -282,11 +272,7 @@ impl Numbers {
     }
 
     /// What else is known of a difference.
-    #[tactic(auto, using(
-        crate::proofs::Small::negated_there
-    ), unfolding(
-        crate::specs::Additions::difference_relations
-    ))]
+    #[tactic(auto, using(crate::proofs::Small::negated_there), unfolding(crate::specs::Additions::difference_relations))]
     pub(crate) fn difference_relations(&self, a: Expr, b: Expr) -> Result<Vec<Relation>, NoMemory>
         requires first { IsThere self.now a }
         requires second { IsThere self.now b }

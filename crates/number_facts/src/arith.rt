@@ -128,11 +128,7 @@ impl Numbers {
     }
 
     /// Where the result of an operator that may overflow lies before it is judged.
-    #[tactic(auto, unfolding(
-        crate::specs::Arith::exact,
-        crate::specs::Additions::exact_sum,
-        crate::specs::Additions::exact_difference
-    ))]
+    #[tactic(auto, unfolding(crate::specs::Arith::exact, crate::specs::Additions::exact_sum, crate::specs::Additions::exact_difference))]
     fn exact(&self, op: BinOp, a: Expr, b: Expr) -> Span
         requires first { IsThere self.now a }
         requires second { IsThere self.now b }
@@ -172,11 +168,7 @@ impl Numbers {
     }
 
     /// The result of an operator: of two constants the constant, else by what is known.
-    #[tactic(auto, unfolding(
-        crate::specs::Arith::outcome,
-        crate::specs::Arith::by_facts,
-        crate::specs::Arith::shifted_left
-    ))]
+    #[tactic(auto, unfolding(crate::specs::Arith::outcome, crate::specs::Arith::by_facts, crate::specs::Arith::shifted_left))]
     fn outcome(&self, op: BinOp, a: Expr, b: Expr) -> Outcome
         requires first { IsThere self.now a }
         requires second { IsThere self.now b }
@@ -249,13 +241,7 @@ impl Numbers {
     }
 
     /// What else is known of the result of an operator.
-    #[tactic(auto, using(
-        crate::proofs::Orders::orders
-    ), unfolding(
-        crate::specs::Arith::relations,
-        crate::specs::Arith::common_relations,
-        crate::specs::Arith::shift_relations
-    ))]
+    #[tactic(auto, using(crate::proofs::Orders::orders), unfolding(crate::specs::Arith::relations, crate::specs::Arith::common_relations, crate::specs::Arith::shift_relations))]
     fn relations(&self, op: BinOp, a: Expr, b: Expr) -> Result<Vec<Relation>, NoMemory>
         requires first { IsThere self.now a }
         requires second { IsThere self.now b }
