@@ -1,0 +1,9 @@
+pub mod StateFacts
+pub mod Forms
+pub mod Moves
+pub mod Calls
+pub mod Comparing
+pub mod Assuming
+pub mod States
+pub mod StateParts
+pub mod FormTests

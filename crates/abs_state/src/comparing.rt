@@ -1,0 +1,152 @@
+//! What comparisons push.
+
+ghost use Rattle.std.specs.Prelude.{◌≡◌, ◌≤◌, true, length, IfOk, OnOk, OnErr, Some, is_some};
+ghost use Rattle.cil_model.specs.declared.instruction.BinOp.{BinOp};
+ghost use Rattle.number_facts.specs.Facts.{IsNamed};
+ghost use Rattle.abs_state.specs.Comparing as rule;
+ghost use Rattle.abs_state.specs.Moves.{IsNamedNumber};
+
+use crate::known::Known;
+use crate::var::Var;
+use alias_facts::Nullness;
+use cil_model::BinOp;
+use domain_api::{Expr, NoMemory};
+use symbolic_values::Def;
+
+/// The reference that is compared with null. None where both are other references.
+pub(crate) fn null_tested(r: u32, q: u32) -> Option<u32>
+    ensures { result ≡ rule.null_tested r q }
+{
+    if r == 0 {
+        Some(q)
+    } else if q == 0 {
+        Some(r)
+    } else {
+        None
+    }
+}
+
+/// Returns whether a reference is known to be null, or known not to be.
+fn null_known(nullness: Nullness) -> Option<bool>
+    ensures { result ≡ rule.null_known nullness }
+{
+    match nullness {
+        Nullness::May => None,
+        Nullness::NotNull => Some(false),
+        Nullness::Null => Some(true),
+    }
+}
+
+/// The number of a truth, or of its contrary.
+fn truth(holds: bool, is: bool) -> Expr
+    ensures { result ≡ rule.truth_expr holds is }
+{
+    Expr {
+        sym: 0,
+        k: i64::from(holds == is),
+    }
+}
+
+impl Known {
+    /// Pushes the truth of a comparison of numbers.
+    #[tactic(auto, unfolding(crate::specs::Comparing::with_truth))]
+    fn push_truth(&mut self, op: BinOp, a: Expr, b: Expr) -> Result<(), NoMemory>
+        requires first { IsNamed self.old.facts a }
+        requires second { IsNamed self.old.facts b }
+        ensures ok { OnOk result (self.new ≡ rule.with_truth op a b self.old) }
+        ensures err { OnErr result (self.new ≡ self.old) }
+    {
+        self.variables.reserve(1)?;
+        let e = self.numbers.compare(op, a, b)?;
+        self.variables.push(Var::Number(e))?;
+        Ok(())
+    }
+
+    /// Returns whether a reference is known to be an array.
+    fn is_array(&self, r: u32) -> bool
+        ensures { result ≡ rule.is_array self.now r }
+    {
+        self.nullness(r) == Nullness::NotNull
+    }
+
+    /// Returns whether two references are known to be the same, or known not to be.
+    #[tactic(auto, unfolding(crate::specs::Comparing::same_known))]
+    fn same_known(&self, r: u32, q: u32) -> Option<bool>
+        ensures { result ≡ rule.same_known self.now r q }
+    {
+        if r == q {
+            Some(true)
+        } else if self.is_apart(r, q) && (self.is_array(r) || self.is_array(q)) {
+            Some(false)
+        } else {
+            None
+        }
+    }
+
+    /// Pushes whether a reference is null, or is not.
+    #[tactic(auto, unfolding(crate::specs::Comparing::with_null_test))]
+    fn push_null_test(&mut self, r: u32, is: bool) -> Result<bool, NoMemory>
+        ensures reached { IfOk result (λ reached. reached ≡ is_some (rule.with_null_test r is self.old)) }
+        ensures ok { IfOk result (λ reached. reached ≡ true → rule.with_null_test r is self.old ≡ Some self.new) }
+        ensures err { OnErr result (self.new ≡ self.old) }
+    {
+        if let Some(holds) = null_known(self.nullness(r)) {
+            self.push(Var::Number(truth(holds, is)))?;
+            return Ok(true);
+        }
+        self.push_defined(Def::NullTest(r, is))
+    }
+
+    /// Pushes a truth that is not known, with what it is the truth of.
+    #[tactic(auto, unfolding(crate::specs::Comparing::with_defined))]
+    fn push_defined(&mut self, def: Def) -> Result<bool, NoMemory>
+        ensures reached { IfOk result (λ reached. reached ≡ is_some (rule.with_defined def self.old)) }
+        ensures ok { IfOk result (λ reached. reached ≡ true → rule.with_defined def self.old ≡ Some self.new) }
+        ensures err { OnErr result (self.new ≡ self.old) }
+    {
+        self.variables.reserve(1)?;
+        self.numbers.definitions.reserve(1)?;
+        let Some(e) = self.numbers.fresh(0, 1, None)? else {
+            return Ok(false);
+        };
+        self.numbers.definitions.push((e.sym, def))?;
+        self.variables.push(Var::Number(e))?;
+        Ok(true)
+    }
+
+    /// Pushes whether two references other than 0 are the same, or are not.
+    #[tactic(auto, unfolding(crate::specs::Comparing::with_same))]
+    fn push_same(&mut self, r: u32, q: u32, is: bool) -> Result<bool, NoMemory>
+        ensures reached { IfOk result (λ reached. reached ≡ is_some (rule.with_same r q is self.old)) }
+        ensures ok { IfOk result (λ reached. reached ≡ true → rule.with_same r q is self.old ≡ Some self.new) }
+        ensures err { OnErr result (self.new ≡ self.old) }
+    {
+        if let Some(holds) = self.same_known(r, q) {
+            self.push(Var::Number(truth(holds, is)))?;
+            return Ok(true);
+        }
+        self.push_number(0, 1)
+    }
+
+    /// Pushes the truth of a comparison. False: nothing is reached.
+    #[tactic(auto, unfolding(crate::specs::Comparing::with_comparison))]
+    pub(crate) fn compare(&mut self, op: BinOp, a: Var, b: Var) -> Result<bool, NoMemory>
+        requires first { IsNamedNumber self.old a }
+        requires second { IsNamedNumber self.old b }
+        ensures reached { IfOk result (λ reached. reached ≡ is_some (rule.with_comparison op a b self.old)) }
+        ensures ok { IfOk result (λ reached. reached ≡ true → rule.with_comparison op a b self.old ≡ Some self.new) }
+        ensures err { OnErr result (self.new ≡ self.old) }
+    {
+        match (a, b) {
+            (Var::Number(x), Var::Number(y)) => {
+                self.push_truth(op, x, y)?;
+                Ok(true)
+            }
+            (Var::Reference(r), Var::Reference(q)) => match null_tested(r, q) {
+                Some(tested) => self.push_null_test(tested, op == BinOp::Ceq),
+                None => self.push_same(r, q, op == BinOp::Ceq),
+            },
+            _ => Ok(true),
+        }
+    }
+}
