@@ -56,7 +56,7 @@ abbrev pub is_bound : ℕ → BoundRow → Bool
 is_bound symbols row = nat_le row.s symbols && nat_le row.t symbols
 
 abbrev pub is_pair : ℕ → Pair → Bool
-is_pair references p = nat_le p.1 references
+is_pair references p = nat_le p.0 references && nat_le p.1 references
 
 -- Symbols rise, from a least one on.
 abbrev pub rise_from : ℕ → List (ℕ × Def) → Bool

@@ -33,6 +33,7 @@ impl Known {
     /// array that was passed, or a new one.
     ///
     /// Cost: each reference is compared with each that is passed.
+    #[tactic(auto, using(crate::proofs::Searching::apart_one_more, crate::proofs::Searching::apart_no_more))]
     fn apart_with_result(&self, passed: &[Var]) -> Result<Apart, NoMemory>
         ensures { IfOk result (λ apart. apart ≡
             rule.apart_with (rule.apart_from_all self.now passed.now) (length self.now.references + 1)

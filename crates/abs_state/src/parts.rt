@@ -140,24 +140,26 @@ impl Sizes {
         row.s as usize <= self.symbols && row.t as usize <= self.symbols
     }
 
-    /// Returns whether the higher reference of a pair is there.
+    /// Returns whether both references of a pair are there.
     fn has_pair(self, pair: &(u32, u32)) -> bool
         ensures { result ≡ tests.is_pair self.references pair.now }
     {
-        pair.1 as usize <= self.references
+        pair.0 as usize <= self.references && pair.1 as usize <= self.references
     }
 }
 
 /// Returns whether each symbol is defined once at most, and they rise.
+#[tactic(auto, using(crate::proofs::Searching::rises_on, crate::proofs::Searching::falls_here, crate::proofs::Searching::rises_all))]
 fn are_rising(definitions: &[(u32, Def)]) -> bool
     ensures { result ≡ tests.are_rising definitions.now }
 {
     let mut least = 0;
-    for (symbol, _) in definitions {
-        if u64::from(*symbol) < least {
+    for definition in definitions {
+        let symbol = u64::from(definition.0);
+        if symbol < least {
             return false;
         }
-        least = u64::from(*symbol) + 1;
+        least = symbol + 1;
     }
     true
 }

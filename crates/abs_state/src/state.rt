@@ -2,10 +2,11 @@
 
 ghost use Rattle.std.specs.Prelude.{◌≡◌, ◌+◌, ◌<◌, ◌≤◌, ◌↔◌, None, Some, IfOk, OnOk, OnErr, IsSome, IsTrue, is_some, length, slice_get};
 ghost use Rattle.std.specs.Option.{ForSome};
+ghost use Rattle.cil_model.specs.Comparisons.{comparison_of};
 ghost use Rattle.number_facts.specs.Facts.{IsNamed};
 ghost use Rattle.number_facts.specs.Ends.{range_of};
 ghost use Rattle.number_facts.specs.Gaps as numbers;
-ghost use Rattle.abs_state.specs.Forms.{HasForm, HasNumber, HasReference, HasVar};
+ghost use Rattle.abs_state.specs.Forms.{HasForm, HasNumber, HasReference, HasVar, IsArrayPlace};
 ghost use Rattle.abs_state.specs.StateFacts.{length_at, nullness_at, variables_in};
 ghost use Rattle.abs_state.specs.States as rule;
 
@@ -114,6 +115,7 @@ impl AbsState {
     }
 
     /// The length of a reference. That of reference 0 is 0.
+    #[tactic(auto, using(crate::proofs::AssumptionForms::length_number))]
     pub fn length(&self, r: u32) -> Expr
         requires reached { IsSome self.now }
         requires there { ForSome self.now (λ known. HasReference known r) }
@@ -175,6 +177,7 @@ impl AbsState {
     }
 
     /// Puts a value into variable i, which is of this type.
+    #[tactic(auto, using(crate::proofs::AssumptionForms::named_var))]
     pub fn put(&mut self, i: u32, v: Var, place: Place) -> Result<(), NoMemory>
         requires there { ForSome self.old (λ known. i < length known.variables) }
         requires value { ForSome self.old (λ known. HasVar known v) }
@@ -191,7 +194,9 @@ impl AbsState {
     }
 
     /// Pushes 1 where a comparison is true and 0 where it is false, or a number of both.
+    #[tactic(auto, using(crate::proofs::AssumptionForms::named_var))]
     pub fn compare(&mut self, op: BinOp, a: Var, b: Var) -> Result<(), NoMemory>
+        requires comparison { IsSome (comparison_of op) }
         requires first { ForSome self.old (λ known. HasVar known a) }
         requires second { ForSome self.old (λ known. HasVar known b) }
         ensures ok { OnOk result (self.new ≡ rule.compare op a b self.old) }
@@ -207,6 +212,7 @@ impl AbsState {
     }
 
     /// Assumes that a comparison holds, or that it does not. Where it cannot, nothing is reached.
+    #[tactic(auto, using(crate::proofs::AssumptionForms::named_var))]
     pub fn assume(&mut self, op: CmpOp, a: Var, b: Var, holds: bool) -> Result<(), NoMemory>
         requires first { ForSome self.old (λ known. HasVar known a) }
         requires second { ForSome self.old (λ known. HasVar known b) }
@@ -257,7 +263,8 @@ impl AbsState {
 
     /// Pushes a new array of this type and length.
     pub fn new_array(&mut self, place: Place, length: Expr) -> Result<(), NoMemory>
-        requires { ForSome self.old (λ known. HasNumber known length) }
+        requires place { IsArrayPlace place }
+        requires length { ForSome self.old (λ known. HasNumber known length) }
         ensures ok { OnOk result (self.new ≡ rule.new_array place length self.old) }
         ensures err { OnErr result (self.new ≡ self.old) }
     {

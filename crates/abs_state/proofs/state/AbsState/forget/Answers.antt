@@ -1,0 +1,8 @@
+use Rattle.std.proofs.Common.{rules, sym, ◌∙◌}
+use Rattle.abs_state.proofs.Growing.{same_form, formed_new}
+use Rattle.abs_state.proofs.MoveForms.{call_form}
+use Rattle.abs_state.proofs.state.AbsState.forget.Goals as goal
+
+pub invariant_of-self-else-not-branch : goal.invariant_of-self-else-not-branch
+invariant_of-self-else-not-branch c = λ x is. same_form _ x is (formed_new _ _ (call_form c.args.first c.args.args c.args.place c.in-Some.known (c.self.invariant _ c.in-Some.is))
+    (c.in_ok-forget.ensures.ok (search rules)))

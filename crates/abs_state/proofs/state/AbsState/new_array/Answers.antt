@@ -1,0 +1,8 @@
+use Rattle.std.proofs.Common.{rules, sym, ◌∙◌}
+use Rattle.abs_state.proofs.Growing.{same_form, formed_new}
+use Rattle.abs_state.proofs.MoveForms.{array_form}
+use Rattle.abs_state.proofs.state.AbsState.new_array.Goals as goal
+
+pub invariant_of-self-2 : goal.invariant_of-self-2
+invariant_of-self-2 c = λ x is. same_form _ x is (rw c.in_ok-new_array.ensures.ok
+    (array_form c.args.place c.args.length c.in-Some.known (c.self.invariant _ c.in-Some.is) c.requires.place (c.requires.length _ (sym c.self.view_is ∙ c.in-Some.is))))

@@ -1,0 +1,7 @@
+use Rattle.std.proofs.Common.{rules, sym, ◌∙◌}
+use Rattle.abs_state.proofs.Growing.{same_form, formed_new}
+use Rattle.abs_state.proofs.MoveForms.{pushed_form}
+use Rattle.abs_state.proofs.state.AbsState.push.Goals as goal
+
+pub invariant_of-self-2 : goal.invariant_of-self-2
+invariant_of-self-2 c = λ x is. same_form _ x is (rw c.in_ok-push.ensures.ok (pushed_form c.in-Some.known c.args.v (c.self.invariant _ c.in-Some.is) (c.requires _ (sym c.self.view_is ∙ c.in-Some.is))))
