@@ -5,3 +5,10 @@ pub mod MoveForms
 pub mod ComparisonForms
 pub mod AssumptionForms
 pub mod Agreeing
+pub mod Stepping
+pub mod PartForms
+pub mod MovesHold
+pub mod ArraysHold
+pub mod KeptWhereOk
+pub mod ComparisonsHold
+pub mod AssumptionsHold

@@ -49,7 +49,7 @@ KeepsPop before after =
 abbrev pub KeepsPut : ℕ → Var → Place → State → State → Type 0
 KeepsPut i v place before after =
     (vs : List Value) (heap : Heap) (number : ℕ → ℤ) (array : ℕ → Option ℕ) (value stored : Value) → HoldsIn before vs heap number array
-    → HasValue number array v value → machine.put heap place value ≡ Some stored → IsValue heap stored
+    → HasValue number array v value → machine.put heap place value ≡ Some stored
     → HoldsOn before after (set vs i stored) heap number array
 
 -- ---- comparisons

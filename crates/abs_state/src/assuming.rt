@@ -194,6 +194,7 @@ impl Known {
         ensures reached { IfOk result (λ reached. reached ≡ is_some (rule.with_steps steps test self.old)) }
         ensures ok { IfOk result (λ reached. reached ≡ true → rule.with_steps steps test self.old ≡ Some self.new) }
         ensures err { OnErr result (record self.new { facts = self.old.facts } ≡ self.old) }
+        ensures tested { OnErr result (is_some test ≡ true) }
     {
         let Some(test) = test else {
             return Ok(true);
@@ -210,17 +211,14 @@ impl Known {
 
     /// A comparison of numbers holds, with what follows from it by definitions. False: nothing is reached.
     ///
-    /// Cost: where a definition follows, what is known of numbers is copied, and put back where memory runs out.
-    fn assume_numbers(&mut self, test: Test) -> Result<bool, NoMemory>
+    /// Cost: what is known of numbers is copied, and put back where memory runs out.
+    fn assume_all(&mut self, test: Test) -> Result<bool, NoMemory>
         requires form { HasForm self.old }
         requires named { rule.IsNamedTest self.old test }
         ensures reached { IfOk result (λ reached. reached ≡ is_some (rule.with_steps 9 (Some test) self.old)) }
         ensures ok { IfOk result (λ reached. reached ≡ true → rule.with_steps 9 (Some test) self.old ≡ Some self.new) }
         ensures err { OnErr result (self.new ≡ self.old) }
     {
-        if self.following(&test).is_none() {
-            return self.assume_test(&test);
-        }
         let before = self.numbers.copy(*self.variables.allocator())?;
         match self.assume_steps(STEPS, Some(test)) {
             Ok(reached) => Ok(reached),
@@ -228,6 +226,21 @@ impl Known {
                 self.numbers = before;
                 Err(refused)
             }
+        }
+    }
+
+    /// The same. Nothing is copied where no definition follows.
+    #[tactic(auto, using(crate::proofs::Stepping::steps_alone))]
+    fn assume_numbers(&mut self, test: Test) -> Result<bool, NoMemory>
+        requires form { HasForm self.old }
+        requires named { rule.IsNamedTest self.old test }
+        ensures reached { IfOk result (λ reached. reached ≡ is_some (rule.with_steps 9 (Some test) self.old)) }
+        ensures ok { IfOk result (λ reached. reached ≡ true → rule.with_steps 9 (Some test) self.old ≡ Some self.new) }
+        ensures err { OnErr result (self.new ≡ self.old) }
+    {
+        match self.following(&test) {
+            None => self.assume_test(&test),
+            Some(_) => self.assume_all(test),
         }
     }
 

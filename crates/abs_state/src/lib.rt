@@ -10,6 +10,7 @@ mod moves;
 mod parts;
 mod reference;
 mod state;
+mod steps;
 mod test;
 mod var;
 

@@ -5,7 +5,7 @@ use cil_model::Place;
 use domain_api::Expr;
 
 /// What is known of a reference: it is null, or an array of this place. Null has the length 0 and no items.
-#[derive(Clone, Copy, PartialEq, Eq)]
+#[derive(Clone, Copy)]
 pub struct Reference<C> {
     /// The type of the array.
     pub place: Place,
@@ -18,5 +18,5 @@ pub struct Reference<C> {
 }
 
 /// Of the items nothing is known.
-#[derive(Clone, Copy, PartialEq, Eq)]
+#[derive(Clone, Copy)]
 pub struct Unknown;

@@ -3,7 +3,7 @@
 use domain_api::Expr;
 
 /// What a variable is known to have.
-#[derive(Clone, Copy, PartialEq, Eq)]
+#[derive(Clone, Copy)]
 pub enum Var {
     /// A number.
     Number(Expr),

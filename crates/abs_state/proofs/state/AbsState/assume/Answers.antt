@@ -1,10 +1,11 @@
-use Rattle.std.proofs.Common.{rules, sym, ◌∙◌}
-use Rattle.abs_state.proofs.Growing.{same_form, formed_new}
-use Rattle.abs_state.proofs.AssumptionForms.{assumed_form, named_var}
+use Rattle.abs_state.specs.Keeps.{KeepsAssumed}
+use Rattle.abs_state.specs.StateFacts.{State}
+use Rattle.abs_state.specs.States as calls
+use Rattle.abs_state.proofs.AssumptionsHold.{assume_keeps}
+use Rattle.abs_state.proofs.KeptWhereOk.{kept_where_ok}
 use Rattle.abs_state.proofs.state.AbsState.assume.Goals as goal
 
-pub invariant_of-self-else-not-branch : goal.invariant_of-self-else-not-branch
-invariant_of-self-else-not-branch c = λ x is. same_form _ x is (formed_new _ _
-    (assumed_form c.args.op c.args.a c.args.b c.args.holds c.in-Some.known (c.self.invariant _ c.in-Some.is)
-    (named_var c.in-Some.known c.args.a (c.requires.first _ (sym c.self.view_is ∙ c.in-Some.is))) (named_var c.in-Some.known c.args.b (c.requires.second _ (sym c.self.view_is ∙ c.in-Some.is))))
-    (c.in_ok-assume.ensures.ok (search rules)))
+pub returns-clause-keeps : goal.returns-clause-keeps
+returns-clause-keeps c =
+    kept_where_ok c.assume_comparison.result (λ (s : State). KeepsAssumed c.args.op c.args.a c.args.b c.args.holds c.args.self.now s) (calls.assume c.args.op c.args.a c.args.b c.args.holds c.args.self.now) c.assume_comparison.new.self
+    (assume_keeps c.args.op c.args.a c.args.b c.args.holds c.args.self.now c.assume_comparison.ensures.form c.requires.first c.requires.second) c.assume_comparison.ensures.ok

@@ -1,10 +1,11 @@
-use Rattle.std.proofs.Common.{rules, sym, ◌∙◌}
-use Rattle.abs_state.proofs.Growing.{same_form, formed_new}
-use Rattle.abs_state.proofs.ComparisonForms.{compared_formed}
+use Rattle.abs_state.specs.Keeps.{KeepsComparison}
+use Rattle.abs_state.specs.StateFacts.{State}
+use Rattle.abs_state.specs.States as calls
+use Rattle.abs_state.proofs.ComparisonsHold.{compare_keeps}
+use Rattle.abs_state.proofs.KeptWhereOk.{kept_where_ok}
 use Rattle.abs_state.proofs.state.AbsState.compare.Goals as goal
 
-pub invariant_of-self-else-not-branch : goal.invariant_of-self-else-not-branch
-invariant_of-self-else-not-branch c = λ x is. same_form _ x is (formed_new _ _
-    (compared_formed c.args.op c.args.a c.args.b c.in-Some.known c.requires.comparison (c.self.invariant _ c.in-Some.is)
-    (c.requires.first _ (sym c.self.view_is ∙ c.in-Some.is)) (c.requires.second _ (sym c.self.view_is ∙ c.in-Some.is)))
-    (c.in_ok-compare.ensures.ok (search rules)))
+pub returns-clause-keeps : goal.returns-clause-keeps
+returns-clause-keeps c =
+    kept_where_ok c.push_comparison.result (λ (s : State). KeepsComparison c.args.op c.args.a c.args.b c.args.self.now s) (calls.compare c.args.op c.args.a c.args.b c.args.self.now) c.push_comparison.new.self
+    (compare_keeps c.args.op c.args.a c.args.b c.args.self.now c.push_comparison.ensures.form c.requires.first c.requires.second) c.push_comparison.ensures.ok

@@ -1,8 +1,11 @@
-use Rattle.std.proofs.Common.{rules, sym, ◌∙◌}
-use Rattle.abs_state.proofs.Growing.{same_form, formed_new}
-use Rattle.abs_state.proofs.MoveForms.{call_form}
+use Rattle.abs_state.specs.Keeps.{KeepsCall}
+use Rattle.abs_state.specs.StateFacts.{State}
+use Rattle.abs_state.specs.States as calls
+use Rattle.abs_state.proofs.ArraysHold.{call_keeps}
+use Rattle.abs_state.proofs.KeptWhereOk.{kept_where_ok}
 use Rattle.abs_state.proofs.state.AbsState.forget.Goals as goal
 
-pub invariant_of-self-else-not-branch : goal.invariant_of-self-else-not-branch
-invariant_of-self-else-not-branch c = λ x is. same_form _ x is (formed_new _ _ (call_form c.args.first c.args.args c.args.place c.in-Some.known (c.self.invariant _ c.in-Some.is))
-    (c.in_ok-forget.ensures.ok (search rules)))
+pub returns-clause-keeps : goal.returns-clause-keeps
+returns-clause-keeps c =
+    kept_where_ok c.push_result.result (λ (s : State). KeepsCall c.args.first c.args.args c.args.place c.args.self.now s) (calls.forget c.args.first c.args.args c.args.place c.args.self.now) c.push_result.new.self
+    (call_keeps c.args.first c.args.args c.args.place c.args.self.now c.push_result.ensures.form) c.push_result.ensures.ok

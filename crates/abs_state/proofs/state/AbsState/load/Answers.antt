@@ -1,7 +1,11 @@
-use Rattle.std.proofs.Common.{rules, sym, ◌∙◌}
-use Rattle.abs_state.proofs.Growing.{same_form, formed_new}
-use Rattle.abs_state.proofs.MoveForms.{item_form}
+use Rattle.abs_state.specs.Keeps.{KeepsLoad}
+use Rattle.abs_state.specs.StateFacts.{State}
+use Rattle.abs_state.specs.States as calls
+use Rattle.abs_state.proofs.MovesHold.{load_keeps}
+use Rattle.abs_state.proofs.KeptWhereOk.{kept_where_ok}
 use Rattle.abs_state.proofs.state.AbsState.load.Goals as goal
 
-pub invariant_of-self-else-not-branch : goal.invariant_of-self-else-not-branch
-invariant_of-self-else-not-branch c = λ x is. same_form _ x is (formed_new _ _ (item_form c.args.r c.in-Some.known (c.self.invariant _ c.in-Some.is)) (c.in_ok-load.ensures.ok (search rules)))
+pub returns-clause-keeps : goal.returns-clause-keeps
+returns-clause-keeps c =
+    kept_where_ok c.push_item.result (λ (s : State). KeepsLoad c.args.r c.args.self.now s) (calls.load c.args.r c.args.self.now) c.push_item.new.self
+    (load_keeps c.args.r c.args.self.now c.push_item.ensures.form) c.push_item.ensures.ok

@@ -1,7 +1,11 @@
-use Rattle.std.proofs.Common.{rules, sym, ◌∙◌}
-use Rattle.abs_state.proofs.Growing.{same_form, formed_new}
-use Rattle.abs_state.proofs.MoveForms.{popped_form}
+use Rattle.abs_state.specs.Keeps.{KeepsPop}
+use Rattle.abs_state.specs.StateFacts.{State}
+use Rattle.abs_state.specs.States as calls
+use Rattle.abs_state.proofs.MovesHold.{pop_keeps}
+use Rattle.abs_state.proofs.KeptWhereOk.{kept_where_ok}
 use Rattle.abs_state.proofs.state.AbsState.pop.Goals as goal
 
-pub invariant_of-self-2 : goal.invariant_of-self-2
-invariant_of-self-2 c = λ x is. same_form _ x is (rw c.pop.ensures (popped_form c.in-Some.known (c.self.invariant _ c.in-Some.is)))
+pub returns-clause-keeps : goal.returns-clause-keeps
+returns-clause-keeps c =
+    kept_where_ok c.pop_var.result (λ (s : State). KeepsPop c.args.self.now s) (calls.pop c.args.self.now) c.pop_var.new.self
+    (pop_keeps c.args.self.now) c.pop_var.ensures.ok

@@ -1,7 +1,11 @@
-use Rattle.std.proofs.Common.{rules, sym, ◌∙◌}
-use Rattle.abs_state.proofs.Growing.{same_form, formed_new}
-use Rattle.abs_state.proofs.MoveForms.{pushed_form}
+use Rattle.abs_state.specs.Keeps.{KeepsPush}
+use Rattle.abs_state.specs.StateFacts.{State}
+use Rattle.abs_state.specs.States as calls
+use Rattle.abs_state.proofs.MovesHold.{push_keeps}
+use Rattle.abs_state.proofs.KeptWhereOk.{kept_where_ok}
 use Rattle.abs_state.proofs.state.AbsState.push.Goals as goal
 
-pub invariant_of-self-2 : goal.invariant_of-self-2
-invariant_of-self-2 c = λ x is. same_form _ x is (rw c.in_ok-push.ensures.ok (pushed_form c.in-Some.known c.args.v (c.self.invariant _ c.in-Some.is) (c.requires _ (sym c.self.view_is ∙ c.in-Some.is))))
+pub returns-clause-keeps : goal.returns-clause-keeps
+returns-clause-keeps c =
+    kept_where_ok c.push_var.result (λ (s : State). KeepsPush c.args.v c.args.self.now s) (calls.push c.args.v c.args.self.now) c.push_var.new.self
+    (push_keeps c.args.v c.args.self.now) c.push_var.ensures.ok

@@ -1,9 +1,11 @@
-use Rattle.std.proofs.Common.{rules, sym, ◌∙◌}
-use Rattle.abs_state.proofs.Growing.{same_form, formed_new}
-use Rattle.abs_state.proofs.MoveForms.{put_form}
+use Rattle.abs_state.specs.Keeps.{KeepsPut}
+use Rattle.abs_state.specs.StateFacts.{State}
+use Rattle.abs_state.specs.States as calls
+use Rattle.abs_state.proofs.MovesHold.{put_keeps}
+use Rattle.abs_state.proofs.KeptWhereOk.{kept_where_ok}
 use Rattle.abs_state.proofs.state.AbsState.put.Goals as goal
 
-pub invariant_of-self-else-not-branch : goal.invariant_of-self-else-not-branch
-invariant_of-self-else-not-branch c = λ x is. same_form _ x is (formed_new _ _
-    (put_form c.args.i c.args.v c.args.place c.in-Some.known (c.self.invariant _ c.in-Some.is) (c.requires.value _ (sym c.self.view_is ∙ c.in-Some.is)))
-    (c.in_ok-put.ensures.ok (search rules)))
+pub returns-clause-keeps : goal.returns-clause-keeps
+returns-clause-keeps c =
+    kept_where_ok c.put_var.result (λ (s : State). KeepsPut c.args.i c.args.v c.args.place c.args.self.now s) (calls.put c.args.i c.args.v c.args.place c.args.self.now) c.put_var.new.self
+    (put_keeps c.args.i c.args.v c.args.place c.args.self.now c.put_var.ensures.form c.requires.value) c.put_var.ensures.ok

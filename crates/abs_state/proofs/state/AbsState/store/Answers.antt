@@ -1,9 +1,11 @@
-use Rattle.std.proofs.Common.{rules, sym, ◌∙◌}
-use Rattle.abs_state.proofs.Growing.{same_form, formed_new}
-use Rattle.abs_state.proofs.MoveForms.{stored_form}
+use Rattle.abs_state.specs.Keeps.{KeepsStore}
+use Rattle.abs_state.specs.StateFacts.{State}
+use Rattle.abs_state.specs.States as calls
+use Rattle.abs_state.proofs.MovesHold.{store_keeps}
+use Rattle.abs_state.proofs.KeptWhereOk.{kept_where_ok}
 use Rattle.abs_state.proofs.state.AbsState.store.Goals as goal
 
-pub invariant_of-self-else-not-branch : goal.invariant_of-self-else-not-branch
-invariant_of-self-else-not-branch c = λ x is. same_form _ x is (formed_new _ _
-    (stored_form c.args.r c.args.value c.in-Some.known (c.self.invariant _ c.in-Some.is) (c.requires.value _ (sym c.self.view_is ∙ c.in-Some.is)))
-    (c.in_ok-store.ensures.ok (search rules)))
+pub returns-clause-keeps : goal.returns-clause-keeps
+returns-clause-keeps c =
+    kept_where_ok c.store_item.result (λ (s : State). KeepsStore c.args.self.now s) (calls.store c.args.r c.args.value c.args.self.now) c.store_item.new.self
+    (store_keeps c.args.r c.args.value c.args.self.now c.store_item.ensures.form c.requires.value) c.store_item.ensures.ok
