@@ -1,12 +1,10 @@
 -- What is so by one choice is so by another one that agrees on what is there, also over a heap whose arrays hold other
 -- items and where more have come.
-use Rattle.std.proofs.Common.{◌≡◌, ℕ, zero, suc, ◌+◌, ◌-◌, ◌≤◌, ◌<◌, ℤ, pos, ◌+ℤ◌, Bool, true, false, Option, Some, None, List, [], ◌∷◌, ◌++◌, length, refl, sym, ap, subst, ◌∙◌, arith}
+use Rattle.std.proofs.Common.{◌≡◌, ℕ, zero, suc, ◌≤◌, ◌<◌, ℤ, pos, ◌+ℤ◌, Bool, true, Option, Some, None, List, [], ◌∷◌, ◌++◌, length, refl, sym, ap, subst, ◌∙◌, arith}
 use Rattle.std.specs.Prelude.{set, take, slice_get}
 use Rattle.std.specs.List.{AllByRecursion}
-use Rattle.std.specs.Option.{option_map_or}
 use Rattle.std.proofs.lemmas.Bool.{false≢true}
-use Rattle.domain_api.specs.declared.expr.Expr.{Expr}
-use Rattle.alias_facts.specs.Arrays.{AllDiffer, Differ, is_no_array}
+use Rattle.alias_facts.specs.Arrays.{AllDiffer, is_no_array}
 use Rattle.alias_facts.specs.PairsOf.{Pair}
 use Rattle.cil_model.proofs.HeapsKept.{has_array-kept}
 use Rattle.cil_model.specs.Values.{Heap, KeepsForms, has_array}
@@ -20,10 +18,10 @@ use Rattle.symbolic_values.specs.Worth.{worth}
 use Rattle.symbolic_values.specs.declared.def.Def.{Def}
 use Rattle.symbolic_values.specs.declared.def.Def.TheVariants.{Eq, Lt, LtUn, NullTest, Sub}
 use Rattle.number_facts.specs.Holds.{is_below}
-use Rattle.abs_state.specs.Forms.{EndsBy, IsNumber, IsVar, IsReference, TestsOf, HasForm}
-use Rattle.abs_state.specs.Holds.{HasValue, HaveValues, length_in, length_of_array, FitsArray, IsSo, AreSo, HoldsBy, HoldsIn}
+use Rattle.abs_state.specs.Forms.{EndsBy, IsVar, IsReference, TestsOf, HasForm}
+use Rattle.abs_state.specs.Holds.{HasValue, HaveValues, length_in, IsSo, AreSo, HoldsBy}
 use Rattle.abs_state.specs.Keeps.{HoldsOn}
-use Rattle.abs_state.specs.StateFacts.{StateFacts, State, reference_at}
+use Rattle.abs_state.specs.StateFacts.{StateFacts, reference_at}
 use Rattle.abs_state.specs.declared.reference.Reference.{Reference}
 use Rattle.abs_state.specs.declared.reference.Unknown.{Unknown}
 use Rattle.abs_state.specs.declared.var.Var.{Var}
@@ -50,9 +48,10 @@ pub values_agree : (symbols references : ℕ) (number later : ℕ → ℤ) (arra
 values_agree symbols references number later array later_array [] [] agree are have = tt
 values_agree symbols references number later array later_array [] (x ∷ xs) agree are have = elim have [ ]
 values_agree symbols references number later array later_array (v ∷ vs) [] agree are have = elim have [ ]
-values_agree symbols references number later array later_array (v ∷ vs) (x ∷ xs) agree are have =
-    (value_agrees symbols references number later array later_array v x agree are.0 have.0,
-    values_agree symbols references number later array later_array vs xs agree are.1 have.1)
+values_agree symbols references number later array later_array (v ∷ vs) (x ∷ xs) agree are have = (
+  value_agrees symbols references number later array later_array v x agree are.0 have.0,
+  values_agree symbols references number later array later_array vs xs agree are.1 have.1,
+)
 
 pub have_pushed : (number : ℕ → ℤ) (array : ℕ → Option ℕ) (vs : List Var) (xs : List Value) (v : Var) (x : Value) → HaveValues number array vs xs
     → HasValue number array v x → HaveValues number array (vs ++ v ∷ []) (xs ++ x ∷ [])
@@ -141,9 +140,10 @@ references_agree old new symbols number later array later_array references agree
 pub pairs_agree : (symbols references : ℕ) (number later : ℕ → ℤ) (array later_array : ℕ → Option ℕ) (pairs : List Pair)
     → Agree symbols references number array later later_array → AllByRecursion (EndsBy references) pairs → AllDiffer array pairs → AllDiffer later_array pairs
 pairs_agree symbols references number later array later_array [] agree ends differ = tt
-pairs_agree symbols references number later array later_array (p ∷ pairs) agree ends differ =
-    (λ n first second. differ.0 n (sym (agree.arrays p.0 ends.0.0) ∙ first) (sym (agree.arrays p.1 ends.0.1) ∙ second),
-    pairs_agree symbols references number later array later_array pairs agree ends.1 differ.1)
+pairs_agree symbols references number later array later_array (p ∷ pairs) agree ends differ = (
+  λ n first second. differ.0 n (sym (agree.arrays p.0 ends.0.0) ∙ first) (sym (agree.arrays p.1 ends.0.1) ∙ second),
+  pairs_agree symbols references number later array later_array pairs agree ends.1 differ.1,
+)
 
 -- ---- definitions, where references are null as before
 
@@ -159,9 +159,10 @@ defined_agree : (number : ℕ → ℤ) (references : ℕ) (is_null later_null : 
     → ((r : ℕ) → r ≤ references → later_null r ≡ is_null r) → AllByRecursion (λ d. TestsOf references d.1) definitions
     → AllByRecursion (IsDefined number is_null) definitions → AllByRecursion (IsDefined number later_null) definitions
 defined_agree number references is_null later_null [] agrees tests defined = tt
-defined_agree number references is_null later_null (d ∷ definitions) agrees tests defined =
-    (defined.0 ∙ sym (told_agrees number references is_null later_null d.1 agrees tests.0),
-    defined_agree number references is_null later_null definitions agrees tests.1 defined.1)
+defined_agree number references is_null later_null (d ∷ definitions) agrees tests defined = (
+  defined.0 ∙ sym (told_agrees number references is_null later_null d.1 agrees tests.0),
+  defined_agree number references is_null later_null definitions agrees tests.1 defined.1,
+)
 
 pub facts_agree : (facts : Facts) (number : ℕ → ℤ) (references : ℕ) (is_null later_null : ℕ → Bool) → ((r : ℕ) → r ≤ references → later_null r ≡ is_null r)
     → AllByRecursion (λ d. TestsOf references d.1) facts.definitions → Holds facts number is_null → Holds facts number later_null

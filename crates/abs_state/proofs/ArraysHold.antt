@@ -1,22 +1,22 @@
 -- What new arrays and calls keep.
-use Rattle.std.proofs.Common.{◌≡◌, ◌≢◌, ℕ, zero, suc, ◌==◌, ◌+◌, ◌-◌, ◌≤◌, ◌<◌, ℤ, pos, negsuc, ◌+ℤ◌, ◌≤ℤ◌, Bool, true, false, Option, Some, None, List, [], ◌∷◌, ◌++◌, length, FitsSigned, w32, ◌⊎◌, append-nil, inl, inr, refl, sym, ap, subst, ◌∙◌, arith}
+use Rattle.std.proofs.Common.{◌≡◌, ℕ, zero, suc, ◌==◌, ◌+◌, ◌≤◌, ◌<◌, ℤ, pos, ◌≤ℤ◌, Bool, true, false, Option, Some, None, List, [], ◌∷◌, ◌++◌, length, FitsSigned, w32, ◌⊎◌, append-nil, inl, inr, refl, sym, ap, subst, ◌∙◌, arith}
 use Rattle.std.specs.Prelude.{Contains, drop, take, slice_get, if◌then◌else◌}
-use Rattle.std.specs.List.{AllByRecursion, list_all}
+use Rattle.std.specs.List.{AllByRecursion}
 use Rattle.std.specs.Option.{ForSome, option_map, option_map_or}
-use Rattle.std.proofs.lemmas.Bool.{and_parts, cases_Bool, cond_both, eqb-true, false≢true}
+use Rattle.std.proofs.lemmas.Bool.{and_parts, cases_Bool, eqb-true, false≢true}
 use Rattle.std.proofs.lemmas.Int.{ints}
 use Rattle.std.proofs.lemmas.List.Elements.{All-contains, All-from_recursion}
 use Rattle.alias_facts.proofs.ApartLaws.{contained_differ, must_differ_sound, with_all_before_differ, with_pair_differ}
 use Rattle.alias_facts.specs.Arrays.{AllDiffer, Differ, DiffersFromEarlier, is_no_array}
-use Rattle.alias_facts.specs.NullnessOf.{Agrees, must_differ}
+use Rattle.alias_facts.specs.NullnessOf.{Agrees}
 use Rattle.alias_facts.specs.declared.nullness.Nullness.{Nullness}
 use Rattle.alias_facts.specs.declared.nullness.Nullness.TheVariants.{May}
-use Rattle.alias_facts.specs.PairsOf.{Pair, contains, ordered, with_all_before, with_pair}
+use Rattle.alias_facts.specs.PairsOf.{Pair, contains, ordered, with_all_before}
 use Rattle.cil_model.proofs.HeapsKept.{array_of_heap, keeps_before}
 use Rattle.cil_model.specs.Arithmetic.{LEAST, GREATEST}
 use Rattle.cil_model.specs.Calls.{FitsResult, IsPassedOrNew}
 use Rattle.cil_model.specs.Comparisons.{number_of, reference_of}
-use Rattle.cil_model.specs.Values.{FitsPlace, Heap, IsArray, IsByte, IsHeap, KeepsForms, has_array, same_place}
+use Rattle.cil_model.specs.Values.{FitsPlace, Heap, IsArray, IsByte, IsHeap, KeepsForms, same_place}
 use Rattle.cil_model.specs.declared.machine.ArrayCell.{ArrayCell}
 use Rattle.cil_model.specs.declared.machine.Value.{Value}
 use Rattle.cil_model.specs.declared.machine.Value.TheVariants as values
@@ -28,17 +28,17 @@ use Rattle.number_facts.specs.Fresh.{Made, expr_made, facts_made, fresh}
 use Rattle.number_facts.specs.Holds.{Holds, HoldsWith, YieldsSome}
 use Rattle.symbolic_values.specs.Worth.{worth}
 use Rattle.abs_state.specs.Calls.{apart_from, apart_from_all, apart_with, passed, returned, with_call, with_result_array, with_returned}
-use Rattle.abs_state.specs.Forms.{HasForm, IsArrayPlace, IsNumber, IsReference, IsVar, TestsOf}
-use Rattle.abs_state.specs.Holds.{HasValue, HaveValues, HoldsBy, HoldsIn, IsSo, AreSo, FitsArray, length_in, length_of_array}
+use Rattle.abs_state.specs.Forms.{HasForm, IsArrayPlace, IsVar}
+use Rattle.abs_state.specs.Holds.{HasValue, HaveValues, HoldsBy, IsSo, FitsArray, length_in, length_of_array}
 use Rattle.abs_state.specs.Keeps.{HoldsOn, KeepsCall, KeepsNewArray, listed}
 use Rattle.abs_state.specs.Moves.{with_array}
-use Rattle.abs_state.specs.StateFacts.{StateFacts, State, are_apart, both_of_same_place, nullness_at, nullness_of, of_same_place, reference_at}
+use Rattle.abs_state.specs.StateFacts.{StateFacts, State, are_apart, both_of_same_place, nullness_at, of_same_place, reference_at}
 use Rattle.abs_state.specs.States as calls
 use Rattle.abs_state.specs.declared.reference.Reference.{Reference}
 use Rattle.abs_state.specs.declared.reference.Unknown.{Unknown}
 use Rattle.abs_state.specs.declared.var.Var.{Var}
 use Rattle.abs_state.specs.declared.var.Var.TheVariants as vars
-use Rattle.abs_state.proofs.Agreeing.{Agree, facts_agree, has_there, have_pushed, have_taken, length_kept, pairs_agree, references_agree, values_agree}
+use Rattle.abs_state.proofs.Agreeing.{Agree, facts_agree, has_there, have_pushed, have_taken, pairs_agree, references_agree, values_agree}
 use Rattle.abs_state.proofs.Growing.{Grows, all_taken, same_facts}
 use Rattle.abs_state.proofs.MadeNumbers.{EachMade, IsMade, fresh_made, made_grows}
 use Rattle.abs_state.proofs.MovesHold.{fresh_yields, number_keeps, same_choice}
@@ -71,7 +71,7 @@ got_of [] x y zero is = inr (refl, same x y is)
     same x y is = cc
 got_of [] x y (suc i) is = absurd cc
 got_of (z ∷ xs) x y zero is = inl is
-got_of (z ∷ xs) x y (suc i) is = elim (got_of xs x y i is) [ | inl there ↦ inl there | inr last ↦ inr (ap suc last.0, last.1) ]
+got_of (z ∷ xs) x y (suc i) is = elim (got_of xs x y i is) [ inl there ↦ inl there | inr last ↦ inr (ap suc last.0, last.1) ]
 
 pub found_of : (xs : List (Reference Unknown)) (x y : Reference Unknown) (r : ℕ) → reference_at (xs ++ x ∷ []) r ≡ Some y
     → (reference_at xs r ≡ Some y) ⊎ ((r ≡ length xs + 1) × (x ≡ y))
@@ -289,7 +289,7 @@ result_differs : (known : StateFacts) (vs : List Value) (heap : Heap) (number : 
 result_differs known vs heap number array passed_vars xs j q holds are have passed_or_new there apart is = elim passed_or_new [
   | inl among ↦
       let found = All-contains (λ x. x ≡ values.Array j → IsPassed known array q j) xs (values.Array j)
-          (All-from_recursion (λ x. x ≡ values.Array j → IsPassed known array q j) xs (each_passed known number array passed_vars xs j q have are apart)) among refl in
+      (All-from_recursion (λ x. x ≡ values.Array j → IsPassed known array q j) xs (each_passed known number array passed_vars xs j q have are apart)) among refl in
       are_apart_differ known vs heap number array q found.reference holds there found.there found.apart j is found.is
   | inr past ↦ let below = below_heap known vs heap number array q j holds there is in omega (arith, below, past)
 ]
@@ -310,7 +310,7 @@ call_differs : (known : StateFacts) (vs : List Value) (heap : Heap) (number : �
     → HasForm known → HoldsBy known vs heap number array → AllByRecursion (IsVar (length known.facts.ranges) (length known.references)) passed_vars
     → HaveValues number array passed_vars xs → ((j : ℕ) → a ≡ Some j → (Contains xs (values.Array j)) ⊎ (length heap ≤ j))
     → AllDiffer (with_one array (length known.references + 1) a)
-      (apart_with (apart_from_all known passed_vars) (length known.references + 1) (length known.references) known.apart)
+    (apart_with (apart_from_all known passed_vars) (length known.references + 1) (length known.references) known.apart)
 call_differs known vs heap number array passed_vars xs a form holds are have passed_or_new =
     let count = length known.references in
     let more = with_one array (count + 1) a in
@@ -337,8 +337,8 @@ returned_keeps : (place : Place) (known : StateFacts) (passed_vars : List Var) (
     → ((j : ℕ) → a ≡ Some j → (Contains xs (values.Array j)) ⊎ (length heap ≤ j)) → FitsArray new place a → reference_of value ≡ Some a
     → (pos 0 ≤ℤ length_of_array new a) × (length_of_array new a ≤ℤ pos 2147483647)
     → HoldsOn (Some known)
-      (with_returned (apart_with (apart_from_all known passed_vars) (length known.references + 1) (length known.references) known.apart) place known)
-      (vs ++ value ∷ []) new number array
+    (with_returned (apart_with (apart_from_all known passed_vars) (length known.references + 1) (length known.references) known.apart) place known)
+    (vs ++ value ∷ []) new number array
 unfolding with_returned
 returned_keeps place known passed_vars vs xs value heap new number array a form fits_place holds kept are have passed_or_new fits is ends =
     let apart = apart_with (apart_from_all known passed_vars) (length known.references + 1) (length known.references) known.apart in

@@ -1,6 +1,6 @@
 -- What is assumed keeps the form of what is known.
-use Rattle.std.proofs.Common.{◌≡◌, ℕ, zero, suc, ◌==◌, ◌+◌, ◌-◌, ◌≤◌, ◌<◌, ℤ, pos, ◌+ℤ◌, ◌-ℤ◌, Bool, true, false, ◌&&◌, int_eq, Option, Some, None, List, [], ◌∷◌, ◌++◌, length, refl, sym, subst, ◌∙◌, arith}
-use Rattle.std.specs.Prelude.{set, slice_get, if◌then◌else◌, Ok}
+use Rattle.std.proofs.Common.{◌≡◌, ℕ, zero, suc, ◌==◌, ◌-◌, ◌≤◌, ℤ, pos, ◌+ℤ◌, ◌-ℤ◌, Bool, true, false, ◌&&◌, int_eq, Option, Some, None, List, [], ◌∷◌, length, refl, subst, ◌∙◌, arith}
+use Rattle.std.specs.Prelude.{slice_get, if◌then◌else◌, Ok}
 use Rattle.std.specs.List.{AllByRecursion}
 use Rattle.std.specs.Option.{option_map, option_and_then}
 use Rattle.std.proofs.lemmas.Bool.{cond_both}
@@ -14,18 +14,18 @@ use Rattle.interval_domain.specs.Interval.{Interval}
 use Rattle.number_facts.proofs.Forms.{form_where_ok}
 use Rattle.number_facts.specs.Assume as rule
 use Rattle.number_facts.specs.Ends.{range_of}
-use Rattle.number_facts.specs.Facts.{Facts, IsNamed, range_at}
+use Rattle.number_facts.specs.Facts.{Facts, IsNamed}
 use Rattle.number_facts.specs.Fresh.{bounded, is_long}
 use Rattle.number_facts.specs.Gaps.{at_most, equal}
-use Rattle.number_facts.specs.Holds.{KeepsForm, AreNamed, Names, NamesOwn}
+use Rattle.number_facts.specs.Holds.{KeepsForm, Names, NamesOwn}
 use Rattle.number_spans.specs.Constants.{constant}
 use Rattle.number_spans.specs.Spans.{is_one, is_not_negative}
 use Rattle.symbolic_values.specs.Names.{same_flag}
 use Rattle.symbolic_values.specs.declared.def.Def.{Def}
 use Rattle.symbolic_values.specs.declared.def.Def.TheVariants.{Eq, Lt, LtUn, NullTest, Sub}
-use Rattle.abs_state.specs.Assuming.{IsNamedTest, AreNamedTests, assumed, contradicts, definition_at, following, is_equality, null_if, symbol_told, told_by, told_of, with_facts, with_null, with_null_tested, with_nullness, with_same, with_steps, with_test, with_told}
+use Rattle.abs_state.specs.Assuming.{IsNamedTest, AreNamedTests, assumed, contradicts, definition_at, following, is_equality, null_if, symbol_told, told_by, told_of, with_facts, with_null, with_null_tested, with_nullness, with_steps, with_test, with_told}
 use Rattle.abs_state.specs.Comparing.{null_tested}
-use Rattle.abs_state.specs.Forms.{IsNumber, IsVar, IsReference, AreRising, TestsOf, HasForm}
+use Rattle.abs_state.specs.Forms.{IsNumber, IsVar, IsReference, HasForm}
 use Rattle.abs_state.specs.Moves.{IsNamedNumber}
 use Rattle.abs_state.specs.StateFacts.{StateFacts, length_at, length_of, nullness_at, reference_at}
 use Rattle.abs_state.specs.declared.reference.Reference.{Reference}

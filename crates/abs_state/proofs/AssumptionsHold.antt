@@ -1,9 +1,9 @@
 -- What is assumed of a comparison that is so keeps what is known so, by the same choice.
-use Rattle.std.proofs.Common.{◌≡◌, ◌≢◌, ℕ, zero, suc, ◌==◌, ◌+◌, ◌-◌, ◌≤◌, ◌<◌, ℤ, pos, ◌+ℤ◌, ◌≤ℤ◌, ◌<ℤ◌, Bool, true, false, not, ◌&&◌, ◌||◌, int_eq, int_le, int_lt, Option, Some, None, List, [], ◌∷◌, length, FitsSigned, w32, ◌⊎◌, inl, inr, refl, sym, ap, subst, ◌∙◌, arith}
+use Rattle.std.proofs.Common.{◌≡◌, ◌≢◌, ℕ, zero, suc, ◌==◌, ◌-◌, ◌≤◌, ℤ, pos, ◌≤ℤ◌, ◌<ℤ◌, Bool, true, false, not, ◌&&◌, int_eq, int_le, int_lt, Option, Some, None, List, [], ◌∷◌, length, FitsSigned, w32, ◌⊎◌, inl, inr, refl, sym, ap, subst, ◌∙◌, arith}
 use Rattle.std.specs.Prelude.{nat_lt, set, slice_get, if◌then◌else◌}
 use Rattle.std.specs.List.{AllByRecursion}
 use Rattle.std.specs.Option.{ForSome, option_and_then, option_map}
-use Rattle.std.proofs.lemmas.Bool.{and_parts, cases_Bool, cond_both, eqb-true, false≢true}
+use Rattle.std.proofs.lemmas.Bool.{and_parts, cond_both, eqb-true, false≢true}
 use Rattle.std.proofs.lemmas.Bool.Decides.{Decides-int_eq}
 use Rattle.std.proofs.lemmas.Int.{ints}
 use Rattle.std.proofs.lemmas.List.{length-set}
@@ -12,19 +12,18 @@ use Rattle.alias_facts.specs.NullnessOf.{Agrees}
 use Rattle.alias_facts.specs.declared.nullness.Nullness.{Nullness}
 use Rattle.alias_facts.specs.declared.nullness.Nullness.TheVariants.{May, NotNull, Null}
 use Rattle.cil_model.specs.Arithmetic.{compares, unsigned}
-use Rattle.cil_model.specs.Comparisons.{compares_references, compares_values, number_of, reference_of, same_reference}
+use Rattle.cil_model.specs.Comparisons.{compares_references, compares_values, reference_of, same_reference}
 use Rattle.cil_model.specs.Values.{Heap, IsValue}
 use Rattle.cil_model.specs.declared.instruction.CmpOp.{CmpOp}
 use Rattle.cil_model.specs.declared.instruction.CmpOp.TheVariants as comparisons
 use Rattle.cil_model.specs.declared.machine.Value.{Value}
-use Rattle.cil_model.specs.declared.machine.Value.TheVariants as values
 use Rattle.domain_api.specs.declared.expr.Expr.{Expr}
 use Rattle.number_facts.proofs.Keeping.{Kept, SomeKept, then_kept, le_kept, less_kept, equal_kept, apart_kept}
 use Rattle.number_facts.proofs.Knowing.{constant_worth, not_negative, zero_number}
 use Rattle.number_facts.specs.Assume as rule
 use Rattle.number_facts.specs.Ends.{range_of}
 use Rattle.number_facts.specs.Facts.{Facts, IsNamed}
-use Rattle.number_facts.specs.Holds.{Holds, IsDefined, Names, NamesOwn, is_below}
+use Rattle.number_facts.specs.Holds.{Holds, IsDefined, is_below}
 use Rattle.number_spans.specs.Constants.{constant}
 use Rattle.number_spans.specs.Spans.{is_not_negative}
 use Rattle.symbolic_values.specs.Meaning.{told, truth}
@@ -46,7 +45,7 @@ use Rattle.abs_state.specs.declared.test.Test.TheVariants.{Compares, IsNull}
 use Rattle.abs_state.specs.declared.var.Var.{Var}
 use Rattle.abs_state.specs.declared.var.Var.TheVariants as vars
 use Rattle.abs_state.proofs.ArraysHold.{nullness_agrees}
-use Rattle.abs_state.proofs.AssumptionForms.{IsReady, ready_behind}
+use Rattle.abs_state.proofs.AssumptionForms.{ready_behind}
 use Rattle.abs_state.proofs.ComparisonForms.{tested_there}
 use Rattle.abs_state.proofs.ComparisonsHold.{like_number, like_reference, like_text, number_fits, numbers_compare, reference_value, tested_tells, unlike_values, value_of_reference}
 
@@ -233,7 +232,7 @@ got_set (z ∷ xs) zero zero x y is = inl (refl, same is)
     same is = cc
 got_set (z ∷ xs) zero (suc j) x y is = inr is
 got_set (z ∷ xs) (suc i) zero x y is = inr is
-got_set (z ∷ xs) (suc i) (suc j) x y is = elim (got_set xs i j x y is) [ | inl here ↦ inl (ap suc here.0, here.1) | inr other ↦ inr other ]
+got_set (z ∷ xs) (suc i) (suc j) x y is = elim (got_set xs i j x y is) [ inl here ↦ inl (ap suc here.0, here.1) | inr other ↦ inr other ]
 
 told_so : (heap : Heap) (number : ℕ → ℤ) (array : ℕ → Option ℕ) (references : List (Reference Unknown)) (r : ℕ) (x : Reference Unknown) (told : Nullness)
     → AreSo heap number array references → reference_at references r ≡ Some x → Agrees told (is_no_array (array r))
@@ -519,7 +518,7 @@ references_assumed : (op : CmpOp) (r q : ℕ) (so : Bool) (known : StateFacts) (
     → HoldsIn (with_same r q (same_flag (is_equality op) so) known) vs heap number array
 references_assumed op r q so known vs heap number array first second one two holds has also is =
     let values_are = subst (λ (x : Value). compares_values op (reference_value (array r)) x ≡ Some so) (value_of_reference second (array q) also)
-        (subst (λ (x : Value). compares_values op x second ≡ Some so) (value_of_reference first (array r) has) is) in
+    (subst (λ (x : Value). compares_values op x second ≡ Some so) (value_of_reference first (array r) has) is) in
     let same = same_is_first op (array r) (array q) so (sym (references_compare op (array r) (array q)) ∙ values_are) in
     same_holds (same_flag (is_equality op) so) known vs heap number array (null_tested r q) holds
     (λ n tested. (tested_there r q (length known.references) n one two tested, sym (tested_tells known array r q n holds.null tested) ∙ same))
@@ -531,7 +530,7 @@ assumption_keeps : (op : CmpOp) (a b : Var) (so : Bool) (known : StateFacts) (vs
 unfolding assumed
 assumption_keeps op (vars.Number a) (vars.Number b) so known vs heap number array first second form one two holds has also is_value is_also is =
     let compared : compares op (worth number a) (worth number b) ≡ so =
-        some_bool _ so (sym (numbers_compare op first second (worth number a) (worth number b) has also) ∙ is) in
+    some_bool _ so (sym (numbers_compare op first second (worth number a) (worth number b) has also) ∙ is) in
     steps_hold 9 (Some (Compares op a b so)) known vs heap number array form (one.there, two.there)
     (whole_is op (worth number a) (worth number b) (number_fits heap first (worth number a) is_value has) (number_fits heap second (worth number b) is_also also) ∙ compared) holds
 assumption_keeps op (vars.Reference r) (vars.Reference q) so known vs heap number array first second form one two holds has also is_value is_also is =

@@ -1,8 +1,8 @@
 -- Comparisons keep the form of what is known.
-use Rattle.std.proofs.Common.{◌≡◌, ℕ, zero, suc, ◌==◌, ◌+◌, ◌≤◌, ◌<◌, ℤ, pos, Bool, true, false, int_eq, Option, Some, None, List, [], ◌∷◌, ◌++◌, ◌&&◌, length, refl, sym, subst, arith}
+use Rattle.std.proofs.Common.{◌≡◌, ℕ, ◌==◌, ◌+◌, ◌≤◌, ◌<◌, ℤ, pos, Bool, true, false, Option, Some, None, List, [], ◌∷◌, ◌++◌, ◌&&◌, length, refl, subst, arith}
 use Rattle.std.specs.Prelude.{if◌then◌else◌}
 use Rattle.std.specs.List.{AllByRecursion}
-use Rattle.std.specs.Option.{IsSome, option_map}
+use Rattle.std.specs.Option.{IsSome}
 use Rattle.std.proofs.lemmas.Bool.{cond_both, false≢true}
 use Rattle.std.proofs.lemmas.Int.{ints}
 use Rattle.cil_model.specs.Arithmetic.{truth}
@@ -17,20 +17,19 @@ use Rattle.number_facts.specs.Comparisons.{truth_of, defined_by, known as known_
 use Rattle.number_facts.specs.Facts.{Facts, IsNamed}
 use Rattle.number_facts.specs.Fresh.{Made, defined, fresh, noted}
 use Rattle.number_facts.specs.declared.relation.Relation.TheVariants.{Is}
-use Rattle.number_facts.specs.Holds.{KeepsForm, AreNamed, Names, NamesOwn}
+use Rattle.number_facts.specs.Holds.{KeepsForm, NamesOwn}
 use Rattle.number_spans.specs.Stored.{range_without}
 use Rattle.number_spans.specs.Constants.{constant, is_constant, of_constants}
 use Rattle.symbolic_values.specs.Names.{same_flag}
 use Rattle.symbolic_values.specs.declared.def.Def.{Def}
-use Rattle.symbolic_values.specs.declared.def.Def.TheVariants.{Eq, Lt, LtUn, NullTest, Sub}
+use Rattle.symbolic_values.specs.declared.def.Def.TheVariants.{NullTest}
 use Rattle.abs_state.specs.Comparing.{null_tested, null_known, same_known, truth_expr, with_comparison, with_defined, with_known, with_null_known, with_null_test, with_same, with_same_known, with_tested, with_truth, is_equality}
 use Rattle.abs_state.specs.Forms.{IsNumber, IsVar, AreRising, TestsOf, HasForm}
-use Rattle.abs_state.specs.Moves.{on_top, pushed}
 use Rattle.abs_state.specs.StateFacts.{StateFacts, nullness_at}
 use Rattle.abs_state.specs.declared.var.Var.{Var}
 use Rattle.abs_state.specs.declared.var.Var.TheVariants as vars
-use Rattle.abs_state.proofs.Growing.{Formed, Grows, all_weaker, all_pushed, number_stays, one_longer, same_facts}
-use Rattle.abs_state.proofs.MadeNumbers.{IsMade, EachMade, fresh_made, made_grows, on_top_form, each_formed}
+use Rattle.abs_state.proofs.Growing.{Formed, Grows, all_weaker, all_pushed, one_longer, same_facts}
+use Rattle.abs_state.proofs.MadeNumbers.{on_top_form}
 use Rattle.abs_state.proofs.MoveForms.{pushed_form, number_form}
 
 -- ---- one definition more, of a later symbol

@@ -1,17 +1,16 @@
 -- What comparisons keep: what is pushed is what the machine pushes.
-use Rattle.std.proofs.Common.{◌≡◌, ◌≢◌, ℕ, zero, suc, ◌==◌, ◌+◌, ◌≤◌, ◌<◌, ℤ, pos, ◌+ℤ◌, ◌≤ℤ◌, Bool, true, false, not, ◌&&◌, ◌||◌, Option, Some, None, List, [], ◌∷◌, ◌++◌, length, FitsSigned, w32, ◌⊎◌, inl, inr, refl, sym, ap, subst, ◌∙◌, arith}
-use Rattle.std.specs.Prelude.{Ok, if◌then◌else◌}
-use Rattle.std.specs.List.{AllByRecursion}
-use Rattle.std.specs.Option.{ForSome, option_map}
+use Rattle.std.proofs.Common.{◌≡◌, ℕ, ◌==◌, ◌+◌, ◌≤◌, ℤ, pos, ◌+ℤ◌, Bool, true, false, ◌&&◌, ◌||◌, Option, Some, None, List, [], ◌∷◌, ◌++◌, length, FitsSigned, w32, ◌⊎◌, inl, inr, refl, sym, ap, subst, ◌∙◌, arith}
+use Rattle.std.specs.Prelude.{Ok}
+use Rattle.std.specs.Option.{ForSome}
 use Rattle.std.proofs.lemmas.Bool.{and_parts, cases_Bool, cond_both, eqb-true, false≢true}
 use Rattle.std.proofs.lemmas.Int.{ints}
-use Rattle.alias_facts.specs.Arrays.{Differ, is_no_array}
+use Rattle.alias_facts.specs.Arrays.{is_no_array}
 use Rattle.alias_facts.specs.NullnessOf.{Agrees}
 use Rattle.alias_facts.specs.declared.nullness.Nullness.{Nullness}
 use Rattle.alias_facts.specs.declared.nullness.Nullness.TheVariants.{May, NotNull, Null}
 use Rattle.cil_model.proofs.HeapsKept.{keeps_itself}
 use Rattle.cil_model.specs.Arithmetic.{compares, truth}
-use Rattle.cil_model.specs.Comparisons.{comparison_of, compares_parts, compares_values, number_of, pushed_comparison, reference_of, same_reference}
+use Rattle.cil_model.specs.Comparisons.{comparison_of, compares_values, number_of, pushed_comparison, reference_of, same_reference}
 use Rattle.cil_model.specs.Values.{Heap, IsValue}
 use Rattle.cil_model.specs.declared.instruction.BinOp.{BinOp}
 use Rattle.cil_model.specs.declared.instruction.BinOp.TheVariants as operators
@@ -25,20 +24,16 @@ use Rattle.number_facts.proofs.Knowing.{zero_number}
 use Rattle.number_facts.proofs.NewSymbols.{noted_holds, with_number as with_new_number}
 use Rattle.number_facts.proofs.Truths.{truth_where_ok}
 use Rattle.number_facts.specs.Comparisons.{compared}
-use Rattle.number_facts.specs.Facts.{Facts}
-use Rattle.number_facts.specs.Fresh.{Made, noted}
-use Rattle.number_facts.specs.Holds.{AreNamed, Holds, HoldsWith}
+use Rattle.number_facts.specs.Fresh.{noted}
 use Rattle.number_facts.specs.declared.relation.Relation.TheVariants.{Is}
-use Rattle.number_spans.specs.Constants.{constant}
 use Rattle.number_spans.specs.Stored.{Allows}
 use Rattle.symbolic_values.specs.Names.{same_flag}
 use Rattle.symbolic_values.specs.Worth.{worth}
 use Rattle.symbolic_values.specs.declared.def.Def.TheVariants.{NullTest}
 use Rattle.abs_state.specs.Comparing.{is_array, is_equality, is_not_null, null_known, null_tested, same_known, truth_expr, with_comparison, with_defined, with_known, with_null_known, with_null_test, with_same, with_same_known, with_tested, with_truth}
 use Rattle.abs_state.specs.Forms.{HasForm, IsVar}
-use Rattle.abs_state.specs.Holds.{HasValue, HoldsBy, HoldsIn}
+use Rattle.abs_state.specs.Holds.{HasValue, HoldsBy}
 use Rattle.abs_state.specs.Keeps.{HoldsOn, KeepsComparison}
-use Rattle.abs_state.specs.Moves.{on_top, pushed}
 use Rattle.abs_state.specs.StateFacts.{StateFacts, State, are_apart, nullness_at}
 use Rattle.abs_state.specs.States as calls
 use Rattle.abs_state.specs.declared.var.Var.{Var}
@@ -221,7 +216,7 @@ null_keeps r is so known vs heap number array (Some told) form holds tells so_is
 
 -- two references that are not the same array, one of them an array, are not the same
 not_same : (a b : Option ℕ) (apart : (n : ℕ) → a ≡ Some n → b ≡ Some n → ⊥) → (is_no_array a ≡ false) ⊎ (is_no_array b ≡ false) → same_reference a b ≡ false
-not_same None None apart one = elim one [ | inl is ↦ absurd (false≢true (sym is)) | inr is ↦ absurd (false≢true (sym is)) ]
+not_same None None apart one = elim one [ inl is ↦ absurd (false≢true (sym is)) | inr is ↦ absurd (false≢true (sym is)) ]
 not_same None (Some j) apart one = refl
 not_same (Some i) None apart one = refl
 not_same (Some i) (Some j) apart one = elim (cases_Bool (i == j)) [
@@ -315,8 +310,8 @@ references_keep : (op : BinOp) (r q : ℕ) (known : StateFacts) (vs : List Value
     → HoldsOn (Some known) (with_tested r q (is_equality op) known (null_tested r q)) (vs ++ values.Int (truth so) ∷ []) heap number array
 references_keep op r q known vs heap number array first second cmp so form one two holds has also is pushes =
     let told = truth_of_references op cmp (array r) (array q) so is
-        (subst (λ (x : Value). pushed_comparison cmp (reference_value (array r)) x ≡ Some so) (value_of_reference second (array q) also)
-        (subst (λ (x : Value). pushed_comparison cmp x second ≡ Some so) (value_of_reference first (array r) has) pushes)) in
+    (subst (λ (x : Value). pushed_comparison cmp (reference_value (array r)) x ≡ Some so) (value_of_reference second (array q) also)
+    (subst (λ (x : Value). pushed_comparison cmp x second ≡ Some so) (value_of_reference first (array r) has) pushes)) in
     tested_keeps r q (is_equality op) so known vs heap number array (null_tested r q) form holds one two
     (λ n tested. (tested_there r q (length known.references) n one two tested, tested_tells known array r q n holds.null tested)) told
 

@@ -1,15 +1,11 @@
 -- More symbols and references: what was there stays there.
-use Rattle.std.proofs.Common.{◌≡◌, ℕ, zero, suc, ◌+◌, ◌≤◌, ◌<◌, ℤ, pos, Bool, true, false, int_eq, Option, Some, None, List, [], ◌∷◌, ◌++◌, length, refl, sym, subst, arith}
+use Rattle.std.proofs.Common.{◌≡◌, ℕ, zero, suc, ◌+◌, ◌≤◌, Option, Some, None, List, [], ◌∷◌, ◌++◌, length, refl, subst, arith}
 use Rattle.std.specs.Prelude.{set, take}
 use Rattle.std.specs.List.{AllByRecursion}
-use Rattle.std.specs.Option.{option_map, option_and_then}
-use Rattle.std.proofs.lemmas.Int.{ints}
 use Rattle.domain_api.specs.declared.expr.Expr.{Expr}
 use Rattle.alias_facts.specs.PairsOf.{Pair}
 use Rattle.number_facts.specs.Facts.{Facts}
-use Rattle.number_facts.specs.Fresh.{Made}
 use Rattle.number_facts.specs.Holds.{KeepsForm}
-use Rattle.symbolic_values.specs.Pairing.{IsNear}
 use Rattle.symbolic_values.specs.declared.def.Def.{Def}
 use Rattle.symbolic_values.specs.declared.def.Def.TheVariants.{Eq, Lt, LtUn, NullTest, Sub}
 use Rattle.abs_state.specs.Forms.{EndsBy, IsNumber, IsVar, IsReference, TestsOf, AreRising, HasForm}

@@ -1,25 +1,21 @@
 -- Numbers that are made, and their form.
-use Rattle.std.proofs.Common.{◌≡◌, ℕ, zero, suc, ◌+◌, ◌≤◌, ◌<◌, ℤ, pos, ◌≤ℤ◌, Bool, true, false, int_eq, Option, Some, None, List, [], ◌∷◌, ◌++◌, length, refl, sym, arith}
-use Rattle.std.specs.Prelude.{if◌then◌else◌}
+use Rattle.std.proofs.Common.{◌≡◌, ℕ, ℤ, ◌≤ℤ◌, int_eq, Option, Some, None, [], ◌∷◌, ◌++◌, length, refl, arith}
 use Rattle.std.specs.Int.{int_min, int_max}
-use Rattle.std.specs.List.{AllByRecursion}
 use Rattle.std.specs.Option.{option_map}
 use Rattle.std.proofs.lemmas.Bool.{cond_both}
 use Rattle.std.proofs.lemmas.Int.{ints, clamps}
 use Rattle.cil_model.specs.Arithmetic.{LEAST, GREATEST}
-use Rattle.domain_api.specs.declared.expr.Expr.{Expr}
 use Rattle.interval_domain.specs.Interval.{Interval}
 use Rattle.number_spans.proofs.NarrowRanges.{SomeNarrow, range_without_narrow}
 use Rattle.number_spans.specs.Constants.{constant}
-use Rattle.number_spans.specs.Stored.{IsNarrow, range_without}
+use Rattle.number_spans.specs.Stored.{IsNarrow}
 use Rattle.number_facts.proofs.Forms.{fresh_form}
 use Rattle.number_facts.specs.Facts.{Facts}
 use Rattle.number_facts.specs.Fresh.{Made, fresh, facts_made, noted}
 use Rattle.number_facts.specs.Holds.{KeepsForm}
-use Rattle.abs_state.specs.Forms.{IsNumber, AreRising, TestsOf, HasForm, IsVar}
+use Rattle.abs_state.specs.Forms.{IsNumber, HasForm, IsVar}
 use Rattle.abs_state.specs.Moves.{on_top}
 use Rattle.abs_state.specs.StateFacts.{StateFacts}
-use Rattle.abs_state.specs.declared.var.Var.{Var}
 use Rattle.abs_state.specs.declared.var.Var.TheVariants as vars
 use Rattle.abs_state.proofs.Growing.{Formed, Grows, grown, variables_stay, all_pushed, one_longer}
 

@@ -1,26 +1,21 @@
 -- Moves keep the form of what is known.
-use Rattle.std.proofs.Common.{◌≡◌, ℕ, zero, suc, ◌+◌, ◌-◌, ◌≤◌, ◌<◌, ℤ, pos, Bool, true, false, Option, Some, None, List, [], ◌∷◌, ◌++◌, length, refl, sym, arith}
-use Rattle.std.specs.Prelude.{nat_lt, set, if◌then◌else◌}
+use Rattle.std.proofs.Common.{ℕ, zero, suc, ◌+◌, ◌-◌, ◌≤◌, ℤ, pos, Bool, None, List, [], ◌∷◌, ◌++◌, length, refl, arith}
+use Rattle.std.specs.Prelude.{nat_lt, set}
 use Rattle.std.specs.List.{AllByRecursion}
-use Rattle.std.specs.Option.{option_map}
 use Rattle.std.proofs.lemmas.Bool.{cond_both}
-use Rattle.std.proofs.lemmas.Int.{ints}
-use Rattle.alias_facts.specs.PairsOf.{Pair, all_inserted, comes_before, inserted, is_proper, ordered, pairs_before, pairs_up_to, same_pair, with_all_before, with_pair}
+use Rattle.alias_facts.specs.PairsOf.{Pair, all_inserted, comes_before, inserted, is_proper, ordered, pairs_up_to, same_pair}
 use Rattle.cil_model.specs.declared.place.Place.{Place}
 use Rattle.cil_model.specs.declared.place.Place.TheVariants as places
 use Rattle.domain_api.specs.declared.expr.Expr.{Expr}
 use Rattle.number_facts.specs.Ends.{range_of}
-use Rattle.number_facts.specs.Facts.{Facts}
 use Rattle.number_facts.specs.Fresh.{Made, fresh}
 use Rattle.abs_state.specs.Calls.{apart_from_all, apart_with, returned, with_call, with_result_array, with_returned, passed}
-use Rattle.abs_state.specs.Forms.{IsNumber, IsVar, IsReference, IsArrayPlace, HasForm, EndsBy}
+use Rattle.abs_state.specs.Forms.{IsNumber, IsVar, IsArrayPlace, HasForm, EndsBy}
 use Rattle.abs_state.specs.Moves.{beside, in_variable, is_byte, item_place, on_top, place_at, placed, popped, pushed, with_array, with_item, with_number, with_placed, with_put, with_stored}
 use Rattle.abs_state.specs.StateFacts.{StateFacts}
-use Rattle.abs_state.specs.declared.reference.Reference.{Reference}
-use Rattle.abs_state.specs.declared.reference.Unknown.{Unknown}
 use Rattle.abs_state.specs.declared.var.Var.{Var}
 use Rattle.abs_state.specs.declared.var.Var.TheVariants as vars
-use Rattle.abs_state.proofs.Growing.{Formed, Grows, grown, variables_stay, same_facts, with_reference, all_weaker, all_pushed, all_set, all_taken, number_stays}
+use Rattle.abs_state.proofs.Growing.{Formed, grown, variables_stay, same_facts, with_reference, all_weaker, all_pushed, all_set, all_taken}
 use Rattle.abs_state.proofs.MadeNumbers.{IsMade, EachMade, fresh_made, made_grows, on_top_form, each_formed}
 
 -- ---- pushes and pops

@@ -1,6 +1,6 @@
 -- What pushes, pops, puts, loads and stores keep.
-use Rattle.std.proofs.Common.{◌≡◌, ◌≢◌, ℕ, zero, suc, ◌+◌, ◌-◌, ◌≤◌, ◌<◌, ℤ, pos, negsuc, ◌+ℤ◌, ◌≤ℤ◌, Bool, true, false, int_le, Option, Some, None, List, [], ◌∷◌, ◌++◌, length, FitsSigned, w32, refl, sym, ap, subst, ◌∙◌, arith}
-use Rattle.std.specs.Prelude.{Contains, set, take, slice_get, Ok, if◌then◌else◌}
+use Rattle.std.proofs.Common.{◌≡◌, ◌≢◌, ℕ, ◌-◌, ℤ, pos, negsuc, ◌≤ℤ◌, Bool, true, false, int_le, Option, Some, None, List, [], ◌∷◌, ◌++◌, length, FitsSigned, w32, refl, sym, ap, subst, ◌∙◌, arith}
+use Rattle.std.specs.Prelude.{Contains, set, take, slice_get, Ok}
 use Rattle.std.specs.Int.{int_rem_euclid}
 use Rattle.std.specs.List.{AllByRecursion}
 use Rattle.std.specs.Option.{ForSome, option_map, option_map_or}
@@ -10,7 +10,6 @@ use Rattle.std.proofs.lemmas.List.Elements.{All-contains, All-from_recursion}
 use Rattle.alias_facts.specs.Arrays.{is_no_array}
 use Rattle.cil_model.proofs.ArithmeticFits.{low_bits_are_byte}
 use Rattle.cil_model.proofs.HeapsKept.{keeps_itself, array_of_heap}
-use Rattle.cil_model.specs.Arithmetic.{LEAST, GREATEST}
 use Rattle.cil_model.specs.Comparisons.{number_of, reference_of}
 use Rattle.cil_model.specs.Values as machine
 use Rattle.cil_model.specs.Values.{FitItems, Heap, IsArray, IsByte, IsHeap, KeepsForms, has_array, same_place}
@@ -26,12 +25,11 @@ use Rattle.number_facts.specs.Ends.{range_of}
 use Rattle.number_facts.specs.Facts.{Facts, IsNamed}
 use Rattle.number_facts.specs.Fresh.{Made, expr_made, facts_made, fresh}
 use Rattle.number_facts.specs.Holds.{AreNamed, Holds, HoldsWith, YieldsSome}
-use Rattle.number_spans.specs.Spans.{Has}
 use Rattle.symbolic_values.specs.Worth.{worth}
 use Rattle.abs_state.specs.Forms.{HasForm, IsNumber, IsVar}
-use Rattle.abs_state.specs.Holds.{HasValue, HaveValues, HoldsBy, HoldsIn, IsSo}
+use Rattle.abs_state.specs.Holds.{HasValue, HaveValues, HoldsBy, IsSo}
 use Rattle.abs_state.specs.Keeps.{HoldsOn, KeepsLoad, KeepsPop, KeepsPush, KeepsPut, KeepsStore}
-use Rattle.abs_state.specs.Moves.{beside, greatest_item, in_variable, is_byte, item_place, least_item, on_top, place_at, place_of, placed, popped, pushed, with_item, with_number, with_placed, with_put, with_stored}
+use Rattle.abs_state.specs.Moves.{beside, greatest_item, in_variable, is_byte, item_place, least_item, on_top, place_at, place_of, placed, popped, with_item, with_number, with_placed, with_put, with_stored}
 use Rattle.abs_state.specs.StateFacts.{StateFacts, State, reference_at}
 use Rattle.abs_state.specs.States as calls
 use Rattle.abs_state.specs.declared.reference.Reference.{Reference}
@@ -278,7 +276,7 @@ load_keeps r None form = λ vs heap number array i cell n holds is_heap is here 
 load_keeps r (Some known) form = λ vs heap number array i cell n holds is_heap is here there.
     let one = array_of_heap heap i cell is_heap here in
     let ends = so_item heap number (reference_at known.references r) i cell n one here there
-        (λ x so. subst (λ (a : Option ℕ). IsSo heap number x a) is (holds.references r x so)) in
+    (λ x so. subst (λ (a : Option ℕ). IsSo heap number x a) is (holds.references r x so)) in
     number_keeps (least_item (place_at known r)) (greatest_item (place_at known r)) n known vs heap heap number array (values.Int n) (form known refl) holds
     (keeps_itself heap) refl (item_of cell.place cell.items n one.0 there) ends.0 ends.1
 

@@ -1,7 +1,7 @@
 -- The tests of lists decide whether they are those of a state.
-use Rattle.std.proofs.Common.{◌≡◌, ◌==◌, ◌↔◌, ℕ, suc, ◌+◌, ◌≤◌, ◌<◌, ℤ, pos, negsuc, ◌≤ℤ◌, ◌<ℤ◌, Bool, true, false, ◌&&◌, int_le, int_lt, nat_le, Decides, Option, Some, None, is_some, List, [], ◌∷◌, length, refl, sym, ap, ◌∙◌, arith}
+use Rattle.std.proofs.Common.{◌≡◌, ℕ, ◌+◌, ◌≤◌, ◌<◌, ℤ, pos, negsuc, ◌≤ℤ◌, ◌<ℤ◌, Bool, true, false, ◌&&◌, int_le, int_lt, nat_le, Decides, Option, Some, None, List, [], ◌∷◌, length, refl, sym, ◌∙◌, arith}
 use Rattle.std.specs.List.{AllByRecursion, list_all}
-use Rattle.std.proofs.lemmas.Bool.{and_parts, true≢false, true_from_ne_false}
+use Rattle.std.proofs.lemmas.Bool.{true≢false, true_from_ne_false}
 use Rattle.std.proofs.lemmas.Bool.Decides.{Decides-and, Decides-like}
 use Rattle.std.proofs.lemmas.Int.{ints}
 use Rattle.cil_model.specs.Arithmetic.{LEAST, GREATEST}
@@ -9,17 +9,17 @@ use Rattle.cil_model.specs.declared.place.Place.{Place}
 use Rattle.cil_model.specs.declared.place.Place.TheVariants as places
 use Rattle.domain_api.specs.declared.expr.Expr.{Expr}
 use Rattle.interval_domain.specs.Interval.{Interval}
-use Rattle.number_facts.specs.Holds.{AreNamed, Names, NamesOwn}
+use Rattle.number_facts.specs.Holds.{Names, NamesOwn}
 use Rattle.number_spans.specs.Stored.{IsInner, IsNarrow}
 use Rattle.pentagon_domain.proofs.Allowing.{AreBelow}
 use Rattle.pentagon_domain.specs.declared.bound_row.BoundRow.{BoundRow}
 use Rattle.symbolic_values.specs.declared.def.Def.{Def}
 use Rattle.symbolic_values.specs.declared.def.Def.TheVariants.{Eq, Lt, LtUn, NullTest, Sub}
 use Rattle.alias_facts.specs.PairsOf.{Pair}
-use Rattle.abs_state.specs.FormTests.{is_inner, is_narrow, has, is_number, is_var, is_array_place, is_reference, is_def, is_definition, is_bound, is_pair, rise_from, are_rising, has_numbers, has_variables, has_references, has_form, is_empty, is_none}
+use Rattle.abs_state.specs.FormTests.{is_inner, is_narrow, has, is_number, is_var, is_array_place, is_reference, is_def, is_definition, is_bound, is_pair, rise_from, are_rising, has_numbers, has_references, has_form}
 use Rattle.abs_state.specs.Forms.{AreRising, EndsBy, HasForm, IsArrayPlace, IsNumber, IsReference, IsVar, TestsOf}
-use Rattle.abs_state.specs.StateFacts.{StateFacts, State}
-use Rattle.abs_state.specs.StateParts.{StateParts, AreOrdered, AreParts, IsKnown, known_of, nothing_listed, parts_of}
+use Rattle.abs_state.specs.StateFacts.{StateFacts}
+use Rattle.abs_state.specs.StateParts.{StateParts, AreOrdered, AreParts, known_of}
 use Rattle.abs_state.specs.declared.reference.Reference.{Reference}
 use Rattle.abs_state.specs.declared.reference.Unknown.{Unknown}
 use Rattle.abs_state.specs.declared.var.Var.{Var}
@@ -168,8 +168,10 @@ form_decides parts =
       references = is.1.1.0;
       pairs = is.1.1.1;
     })
-    (λ form. ((form.narrow, (form.rising, (both_all symbols references parts.definitions form.named.definitions form.tests, form.named.bounds))),
-    (form.variables, (form.references, form.pairs))))
+    (λ form. (
+      (form.narrow, (form.rising, (both_all symbols references parts.definitions form.named.definitions form.tests, form.named.bounds))),
+      (form.variables, (form.references, form.pairs)),
+    ))
     (Decides-and (has_numbers parts) _
     (Decides-and (list_all is_narrow parts.ranges) _ (all_decide is_narrow IsNarrow narrow_decides parts.ranges)
     (Decides-and (are_rising parts.definitions) _ (rising_decides parts.definitions)

@@ -1,5 +1,5 @@
 -- The forms of what is known, as tests.
-use Rattle.std.specs.Prelude.{ℕ, ◌+◌, ◌==◌, nat_le, nat_lt, ℤ, pos, negsuc, Bool, true, false, ◌&&◌, int_le, int_lt, List, [], ◌∷◌, Option, Some, None, length, if◌then◌else◌}
+use Rattle.std.specs.Prelude.{ℕ, ◌+◌, ◌==◌, nat_le, ℤ, pos, negsuc, Bool, true, false, ◌&&◌, int_le, int_lt, List, [], ◌∷◌, Option, Some, None, length}
 use Rattle.std.specs.List.{list_all}
 use Rattle.alias_facts.specs.PairsOf.{Pair}
 use Rattle.cil_model.specs.Arithmetic.{LEAST, GREATEST}

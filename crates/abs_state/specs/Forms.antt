@@ -1,16 +1,16 @@
 -- The form of what is known: it speaks of what is there.
-use Rattle.std.specs.Prelude.{◌≡◌, ℕ, ◌<◌, ◌≤◌, List, [], ◌∷◌, All, length, Option, Some, None}
+use Rattle.std.specs.Prelude.{ℕ, ◌<◌, ◌≤◌, List, [], ◌∷◌, length}
 use Rattle.std.specs.List.{AllByRecursion}
 use Rattle.alias_facts.specs.PairsOf.{Pair}
 use Rattle.cil_model.specs.declared.place.Place.{Place}
 use Rattle.cil_model.specs.declared.place.Place.TheVariants as places
 use Rattle.domain_api.specs.declared.expr.Expr.{Expr}
-use Rattle.number_facts.specs.Facts.{Facts, AreNarrow, IsNamed}
+use Rattle.number_facts.specs.Facts.{AreNarrow}
 use Rattle.number_facts.specs.Holds.{AreNamed}
 use Rattle.symbolic_values.specs.Pairing.{IsNear}
 use Rattle.symbolic_values.specs.declared.def.Def.{Def}
 use Rattle.symbolic_values.specs.declared.def.Def.TheVariants.{NullTest}
-use Rattle.abs_state.specs.StateFacts.{StateFacts, State}
+use Rattle.abs_state.specs.StateFacts.{StateFacts}
 use Rattle.abs_state.specs.declared.reference.Reference.{Reference}
 use Rattle.abs_state.specs.declared.reference.Unknown.{Unknown}
 use Rattle.abs_state.specs.declared.var.Var.{Var}

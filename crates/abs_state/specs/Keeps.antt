@@ -14,7 +14,7 @@ use Rattle.cil_model.specs.declared.place.Place.{Place}
 use Rattle.domain_api.specs.declared.expr.Expr.{Expr}
 use Rattle.symbolic_values.specs.Worth.{worth}
 use Rattle.abs_state.specs.Holds.{HasValue, HoldsIn}
-use Rattle.abs_state.specs.StateFacts.{StateFacts, State}
+use Rattle.abs_state.specs.StateFacts.{State}
 use Rattle.abs_state.specs.declared.var.Var.{Var}
 
 abbrev pub symbols_in : State → ℕ

@@ -167,7 +167,14 @@ impl Known {
         if self.contradicts(r, is) {
             return false;
         }
-        self.set_nullness(r, if is { Nullness::Null } else { Nullness::NotNull });
+        self.set_nullness(
+            r,
+            if is {
+                Nullness::Null
+            } else {
+                Nullness::NotNull
+            },
+        );
         true
     }
 
@@ -257,7 +264,13 @@ impl Known {
 
     /// A comparison holds, or does not. False: nothing is reached.
     #[tactic(auto, unfolding(crate::specs::Assuming::assumed))]
-    pub(crate) fn assume(&mut self, op: CmpOp, a: Var, b: Var, holds: bool) -> Result<bool, NoMemory>
+    pub(crate) fn assume(
+        &mut self,
+        op: CmpOp,
+        a: Var,
+        b: Var,
+        holds: bool,
+    ) -> Result<bool, NoMemory>
         requires form { HasForm self.old }
         requires first { IsNamedNumber self.old a }
         requires second { IsNamedNumber self.old b }
@@ -266,8 +279,14 @@ impl Known {
         ensures err { OnErr result (self.new ≡ self.old) }
     {
         match (a, b) {
-            (Var::Number(x), Var::Number(y)) => self.assume_numbers(Test::Compares(op, x, y, holds)),
-            (Var::Reference(r), Var::Reference(q)) => Ok(self.assume_same(r, q, (op == CmpOp::Eq) == holds)),
+            (Var::Number(x), Var::Number(y)) => self.assume_numbers(Test::Compares(
+                op, x, y, holds,
+            )),
+            (Var::Reference(r), Var::Reference(q)) => Ok(self.assume_same(
+                r,
+                q,
+                (op == CmpOp::Eq) == holds,
+            )),
             _ => Ok(true),
         }
     }

@@ -44,13 +44,13 @@ impl Model for Parts {
     ghost Value = { StateParts };
 
     ghost view = { λ p. record {
-        reached = p.reached;
-        variables = p.variables.items;
-        ranges = p.ranges.items;
-        definitions = p.definitions.items;
-        bounds = p.bounds.items;
-        references = p.references.items;
-        apart = p.apart.items
+      reached = p.reached;
+      variables = p.variables.items;
+      ranges = p.ranges.items;
+      definitions = p.definitions.items;
+      bounds = p.bounds.items;
+      references = p.references.items;
+      apart = p.apart.items;
     } };
 }
 

@@ -78,7 +78,13 @@ impl AbsState {
 
     /// Assumes that a comparison holds, or that it does not. Where it cannot, nothing is reached.
     #[tactic(auto, using(crate::proofs::AssumptionForms::named_var))]
-    pub(crate) fn assume_comparison(&mut self, op: CmpOp, a: Var, b: Var, holds: bool) -> Result<(), NoMemory>
+    pub(crate) fn assume_comparison(
+        &mut self,
+        op: CmpOp,
+        a: Var,
+        b: Var,
+        holds: bool,
+    ) -> Result<(), NoMemory>
         requires first { ForSome self.old (λ known. HasVar known a) }
         requires second { ForSome self.old (λ known. HasVar known b) }
         ensures ok { OnOk result (self.new ≡ rule.assume op a b holds self.old) }
@@ -143,7 +149,12 @@ impl AbsState {
     }
 
     /// Pushes what a call gives to which so many variables were passed, from the first one on: a value of this type, or
-    pub(crate) fn push_result(&mut self, first: u32, args: u32, place: Place) -> Result<(), NoMemory>
+    pub(crate) fn push_result(
+        &mut self,
+        first: u32,
+        args: u32,
+        place: Place,
+    ) -> Result<(), NoMemory>
         requires { ForSome self.old (λ known. first + args ≤ length known.variables) }
         ensures ok { OnOk result (self.new ≡ rule.forget first args place self.old) }
         ensures err { OnErr result (self.new ≡ self.old) }

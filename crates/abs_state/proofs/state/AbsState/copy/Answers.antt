@@ -1,5 +1,4 @@
-use Rattle.std.proofs.Common.{rules, sym, ◌∙◌}
-use Rattle.abs_state.proofs.Growing.{same_form, formed_new}
+use Rattle.abs_state.proofs.Growing.{same_form}
 use Rattle.abs_state.proofs.state.AbsState.copy.Goals as goal
 
 pub invariant_of-result-in-Some : goal.invariant_of-result-in-Some

@@ -1,5 +1,5 @@
-use Rattle.std.proofs.Common.{rules, sym, ◌∙◌}
-use Rattle.abs_state.proofs.Growing.{same_form, formed_new}
+use Rattle.std.proofs.Common.{◌∙◌}
+use Rattle.abs_state.proofs.Growing.{same_form}
 use Rattle.abs_state.proofs.MoveForms.{popped_form}
 use Rattle.abs_state.proofs.state.AbsState.pop_var.Goals as goal
 

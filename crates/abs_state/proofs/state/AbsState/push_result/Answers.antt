@@ -1,4 +1,4 @@
-use Rattle.std.proofs.Common.{rules, sym, ◌∙◌}
+use Rattle.std.proofs.Common.{rules, ◌∙◌}
 use Rattle.abs_state.proofs.Growing.{same_form, formed_new}
 use Rattle.abs_state.proofs.MoveForms.{call_form}
 use Rattle.abs_state.proofs.state.AbsState.push_result.Goals as goal
