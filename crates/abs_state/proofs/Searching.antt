@@ -29,6 +29,8 @@ pub defined_nowhere : (definitions : List (ℕ × Def)) (i symbol : ℕ) → len
     → definition_at (drop i definitions) symbol ≡ definition_at definitions symbol → None ≡ definition_at definitions symbol
 defined_nowhere definitions i symbol past so_far = let none : drop i definitions ≡ [] = drop_all i definitions past in rw none at so_far
 
+pub ruleset definitions_found = (defined_here, defined_later, defined_nowhere)
+
 -- ---- symbols that rise
 
 pub rises_on : (definitions : List (ℕ × Def)) (i least : ℕ) (d : ℕ × Def) → i < length definitions → least ≤ (get_or definitions i d).0
@@ -55,6 +57,8 @@ falls_here definitions i least d inside below so_far =
 pub rises_all : (definitions : List (ℕ × Def)) (i least : ℕ) → length definitions ≤ i → rise_from least (drop i definitions) ≡ rise_from 0 definitions
     → true ≡ rise_from 0 definitions
 rises_all definitions i least past so_far = let none : drop i definitions ≡ [] = drop_all i definitions past in rw none at so_far
+
+pub ruleset rising_symbols = (rises_on, falls_here, rises_all)
 
 -- ---- references
 

@@ -104,7 +104,7 @@ fn symbol_told(numbers: &Numbers, op: CmpOp, a: Expr, b: Expr, holds: bool) -> O
 }
 
 /// The definition of a symbol.
-#[tactic(auto, using(crate::proofs::Searching::defined_here, crate::proofs::Searching::defined_later, crate::proofs::Searching::defined_nowhere))]
+#[tactic(auto, using(crate::proofs::Searching::definitions_found))]
 fn definition_at(definitions: &[(u32, Def)], symbol: u32) -> Option<Def>
     ensures { result ≡ rule.definition_at definitions.now symbol }
 {
@@ -192,8 +192,8 @@ impl Known {
         }
     }
 
-    /// A test is so, and what follows from it by definitions, in so many steps. False: nothing is reached. After an error
-    /// numbers alone may have changed.
+    /// A test is so, and what follows from it by definitions, in so many steps. False: nothing is reached. After an
+    /// error numbers alone may have changed.
     #[tactic(auto, using(crate::proofs::AssumptionForms::ready_behind), unfolding(crate::specs::Assuming::with_steps))]
     fn assume_steps(&mut self, steps: u32, test: Option<Test>) -> Result<bool, NoMemory>
         requires form { HasForm self.old }

@@ -83,7 +83,8 @@ impl Known {
     ) -> Result<bool, NoMemory>
         requires { first + args ≤ length self.old.variables }
         ensures reached { IfOk result (λ reached. reached ≡ is_some (rule.with_call first args place self.old)) }
-        ensures ok { IfOk result (λ reached. reached ≡ true → rule.with_call first args place self.old ≡ Some self.new) }
+        ensures ok { IfOk result (λ reached. reached ≡ true →
+            rule.with_call first args place self.old ≡ Some self.new) }
         ensures err { OnErr result (self.new ≡ self.old) }
     {
         match place {

@@ -12,8 +12,8 @@ use number_facts::Numbers;
 use std::alloc::{AllocError, Global};
 use std::marker::Model;
 
-/// What is known of a point, where something is reached. Symbols and references that no variable has any more stay until
-/// the normal form is taken.
+/// What is known of a point, where something is reached. Symbols and references that no variable has any more stay
+/// until the normal form is taken.
 #[derive(Drop)]
 pub(crate) struct Known {
     /// What each variable has: the arguments at the entry, the arguments, the locals, the stack from the bottom.

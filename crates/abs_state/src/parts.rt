@@ -188,7 +188,7 @@ fn are_narrow(ranges: &[Range]) -> bool
 }
 
 /// Returns whether each symbol is defined once at most, and they rise.
-#[tactic(auto, using(crate::proofs::Searching::rises_on, crate::proofs::Searching::falls_here, crate::proofs::Searching::rises_all))]
+#[tactic(auto, using(crate::proofs::Searching::rising_symbols))]
 fn are_rising(definitions: &[(u32, Def)]) -> bool
     ensures { result ≡ tests.are_rising definitions.now }
 {

@@ -1,13 +1,15 @@
 //! The state of the analysis.
 
-ghost use Rattle.std.specs.Prelude.{◌≡◌, ◌+◌, ◌<◌, ◌≤◌, ◌↔◌, None, Some, IfOk, OnOk, OnErr, IsSome, IsTrue, is_some, length, slice_get};
+ghost use Rattle.std.specs.Prelude.{◌≡◌, ◌+◌, ◌<◌, ◌≤◌, ◌↔◌, None, Some, IfOk, OnOk, OnErr, IsSome, IsTrue};
+ghost use Rattle.std.specs.Prelude.{is_some, length, slice_get};
 ghost use Rattle.std.specs.Option.{ForSome};
 ghost use Rattle.cil_model.specs.Comparisons.{comparison_of};
 ghost use Rattle.number_facts.specs.Facts.{IsNamed};
 ghost use Rattle.number_facts.specs.Ends.{range_of};
 ghost use Rattle.number_facts.specs.Gaps as numbers;
 ghost use Rattle.abs_state.specs.Forms.{HasForm, HasNumber, HasReference, HasVar, IsArrayPlace};
-ghost use Rattle.abs_state.specs.Keeps.{KeepsAssumed, KeepsCall, KeepsComparison, KeepsLoad, KeepsNewArray, KeepsPop, KeepsPush, KeepsPut, KeepsStore};
+ghost use Rattle.abs_state.specs.Keeps.{KeepsAssumed, KeepsCall, KeepsComparison, KeepsLoad, KeepsNewArray};
+ghost use Rattle.abs_state.specs.Keeps.{KeepsPop, KeepsPush, KeepsPut, KeepsStore};
 ghost use Rattle.abs_state.specs.StateFacts.{length_at, nullness_at, variables_in};
 ghost use Rattle.abs_state.specs.States as rule;
 
