@@ -1,6 +1,6 @@
 -- What is assumed keeps the form of what is known.
 use Rattle.std.proofs.Common.{◌≡◌, ℕ, zero, suc, ◌==◌, ◌-◌, ◌≤◌, ℤ, pos, ◌+ℤ◌, ◌-ℤ◌, Bool, true, false, ◌&&◌, int_eq, Option, Some, None, List, [], ◌∷◌, length, refl, subst, ◌∙◌, arith}
-use Rattle.std.specs.Prelude.{slice_get, if◌then◌else◌, Ok}
+use Rattle.std.specs.Prelude.{if◌then◌else◌, Ok}
 use Rattle.std.specs.List.{AllByRecursion}
 use Rattle.std.specs.Option.{option_map, option_and_then}
 use Rattle.std.proofs.lemmas.Bool.{cond_both}
@@ -34,6 +34,7 @@ use Rattle.abs_state.specs.declared.test.Test.{Test}
 use Rattle.abs_state.specs.declared.test.Test.TheVariants.{Compares, IsNull}
 use Rattle.abs_state.specs.declared.var.Var.{Var}
 use Rattle.abs_state.specs.declared.var.Var.TheVariants as vars
+use Rattle.abs_state.proofs.Agreeing.{reference_of_form}
 use Rattle.abs_state.proofs.Growing.{Formed, Grows, grown, variables_stay, all_set}
 
 -- ---- an assumption about numbers leaves definitions
@@ -137,21 +138,6 @@ compares_follows op a b holds known form first second =
     numbers_follow known (rule.assumed op known.facts a b holds) form (assumed_same op known.facts a b holds)
     (λ f is. form_where_ok {E = ℕ} op known.facts a b holds (Ok true) f first second (λ reached. is) refl)
 
-told_form : (references : List (Reference Unknown)) (symbols r : ℕ) (x : Reference Unknown) → AllByRecursion (IsReference symbols) references
-    → reference_at references r ≡ Some x → IsReference symbols x
-unfolding reference_at
-told_form references symbols zero x all is = absurd cc
-told_form references symbols (suc r) x all is = found references r all is
-  where
-    found : (xs : List (Reference Unknown)) (i : ℕ) → AllByRecursion (IsReference symbols) xs → slice_get xs i ≡ Some x → IsReference symbols x
-    found [] zero each there = absurd cc
-    found [] (suc i) each there = absurd cc
-    found (y ∷ xs) zero each there = subst (IsReference symbols) (same y there) each.0
-      where
-        same : (y : Reference Unknown) → Some y ≡ Some x → y ≡ x
-        same y is = cc
-    found (y ∷ xs) (suc i) each there = found xs i each.1 there
-
 told_follows : (r : ℕ) (told : Nullness) (known : StateFacts) (o : Option (Reference Unknown)) → HasForm known
     → ((x : Reference Unknown) → o ≡ Some x → IsReference (length known.facts.ranges) x) → Follows known (with_told known r told o)
 told_follows r told known None form is = record { form = form; symbols = omega arith }
@@ -176,7 +162,7 @@ unfolding with_null with_nullness
 null_follows r is known form =
     cond_both (contradicts (nullness_at known r) is) _ _ (EachFollows known) (λ e. tt)
     (λ e. told_follows r (null_if is) known (reference_at known.references r) form
-    (λ x so. told_form known.references (length known.facts.ranges) r x form.references so))
+    (λ x so. reference_of_form known.references (length known.facts.ranges) r x form.references so))
 
 pub test_follows : (test : Test) (known : StateFacts) → HasForm known → IsNamedTest known test → EachFollows known (with_test test known)
 unfolding with_test
@@ -267,7 +253,7 @@ assumed_form op vars.Text b holds known form first second = form
 -- ---- reading
 
 pub length_number : (known : StateFacts) (r : ℕ) → HasForm known → r ≤ length known.references → IsNumber (length known.facts.ranges) (length_at known r)
-length_number known r form there = each (reference_at known.references r) (λ x so. told_form known.references (length known.facts.ranges) r x form.references so)
+length_number known r form there = each (reference_at known.references r) (λ x so. reference_of_form known.references (length known.facts.ranges) r x form.references so)
   where
     each : (o : Option (Reference Unknown)) → ((x : Reference Unknown) → o ≡ Some x → IsReference (length known.facts.ranges) x) → IsNumber (length known.facts.ranges) (length_of o)
     each None is = record { there = omega arith; near = record { least = omega (arith, ints); greatest = omega (arith, ints) } }
