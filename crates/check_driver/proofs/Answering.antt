@@ -110,6 +110,7 @@ bytes_alike (commands.Il file method) words met read h =
     first_alike (il_file_answer (word_at words file) (word_at words method)) met read
     (λ bytes past. il_cut (word_at words file) (word_at words method) bytes READ_LIMIT refl past) h
 bytes_alike (commands.Check file) words met read h = first_alike (check_file_answer (word_at words file)) met read (λ bytes past. check_cut (word_at words file) bytes READ_LIMIT refl past) h
+bytes_alike (commands.Gen seed count) words met read h = refl
 bytes_alike (commands.Run run) words met read h =
     first_alike (run_bytes_answer (word_at words run.file) (word_at words run.method) (args_told run words) run.steps) met read
     (λ bytes past. run_cut (word_at words run.file) (word_at words run.method) (args_told run words) run.steps bytes READ_LIMIT refl past) h
@@ -137,6 +138,7 @@ asked_alike (commands.Check file) met read h = first_alike check_file_asked met 
 asked_alike (commands.List file) met read h = refl
 asked_alike (commands.Il file method) met read h = refl
 asked_alike (commands.Run run) met read h = refl
+asked_alike (commands.Gen seed count) met read h = refl
 
 -- The bytes of the only file.
 pub only_file : (read : List (Vec ℕ Global)) (other : Vec ℕ Global) → length read ≡ 1 → (slice_index_or read 0 other).items ≡ file_at (bytes_read read) 0

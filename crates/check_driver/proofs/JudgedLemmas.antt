@@ -7,7 +7,7 @@ use Rattle.std.proofs.lemmas.List.{map-append}
 use Rattle.std.proofs.lemmas.Slice.Eq.{bytes_eq-Decides}
 use Rattle.indexmap.specs.IndexMap.{insert_entry}
 use Rattle.invariant_checker.specs.declared.verdict.Verdict.{Verdict}
-use Rattle.check_driver.specs.Asked.{is_among, unseen}
+use Rattle.check_driver.specs.Asked.{is_among}
 use Rattle.check_driver.specs.JudgedUnits.{AreJudged, AreVerdictsOn}
 
 abbrev pub Entries : Type 0

@@ -38,6 +38,7 @@ use Rattle.check_driver.specs.Analysis.{unit_verdicts}
 use Rattle.command_words.specs.Words.{args_told, command_of, file_indexes, word_at, words_at}
 use Rattle.command_words.specs.declared.command.Command.{Command}
 use Rattle.command_words.specs.declared.command.Command.TheVariants as commands
+use Rattle.written_assemblies.specs.GeneratedFiles.{generated_file}
 use Rattle.answer_lines.specs.declared.interrupt.Interrupt.{Interrupt}
 use Rattle.method_unit.specs.BuiltUnits.{first_built_fault}
 use Rattle.method_unit.specs.UnitFile.{unit_of}
@@ -168,6 +169,7 @@ of_bytes (commands.Il file method) words files = of_il (word_at words file) (wor
 of_bytes (commands.Check file) words files = of_check (word_at words file) (file_at files 0) (FirstBroken (file_at files 0))
 of_bytes (commands.Run run) words files =
     of_run_file (word_at words run.file) (word_at words run.method) (args_told run words) run.steps (file_at files 0) (FirstBroken (file_at files 0))
+of_bytes (commands.Gen seed count) words files = of_report (all_methods_proved (generated_file seed count))
 
 plain_missing : (missing : Option (List ℕ)) (answer : Answer) → IsPlain answer.status → IsPlain (missing_or missing answer).status
 plain_missing None answer plain = plain

@@ -77,3 +77,4 @@ held_spelled files (commands.Check file) words met read same under contents (inr
 held_spelled files (commands.List file) words met read same under contents (inr known) = inr tt
 held_spelled files (commands.Il file method) words met read same under contents (inr known) = inr tt
 held_spelled files (commands.Run run) words met read same under contents (inr known) = inr tt
+held_spelled files (commands.Gen seed count) words met read same under contents (inr known) = inr tt

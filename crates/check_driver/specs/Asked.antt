@@ -21,6 +21,7 @@ use Rattle.check_driver.specs.Met.{contents, first_missing}
 use Rattle.command_words.specs.Words.{command_of, file_indexes, words_at}
 use Rattle.command_words.specs.declared.command.Command.{Command}
 use Rattle.command_words.specs.declared.command.Command.TheVariants as commands
+use Rattle.written_assemblies.specs.GeneratedFiles.{generated_file}
 
 -- ---- each once
 
@@ -73,6 +74,7 @@ unit_file_asked bytes = if nat_le READ_LIMIT (length bytes) then [] else unit_as
 abbrev pub bytes_asked : Command → List (List ℕ) → List (List ℕ)
 bytes_asked (commands.Unit file) files = unit_file_asked (file_at files 0)
 bytes_asked (commands.Check file) files = check_asked (file_at files 0) (FirstBroken (file_at files 0))
+bytes_asked (commands.Gen seed count) files = units_asked (generated_file seed count)
 bytes_asked _ files = []
 
 -- Where the first file that is missing has this name, or where none is.

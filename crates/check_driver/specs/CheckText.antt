@@ -86,9 +86,13 @@ all_counts entries = found_counts (findings entries)
 abbrev pub assembly_line : List ℕ → List ℕ
 assembly_line name = codes "assembly " ++ escaped name ++ codes "\n"
 
--- The report of the assembly that a file is.
+-- The last line of the report of the assembly that a file is.
+abbrev pub summary_text : List ℕ → List ℕ
+summary_text bytes = summary_line (all_counts (entries_of bytes))
+
+-- The report of that assembly.
 unfoldable pub check_text : List ℕ → List ℕ → List ℕ
-check_text name bytes = assembly_line name ++ flat_map entry_lines (entries_of bytes) ++ summary_line (all_counts (entries_of bytes))
+check_text name bytes = assembly_line name ++ flat_map entry_lines (entries_of bytes) ++ summary_text bytes
 
 -- Each method of it is proved.
 abbrev pub all_methods_proved : List ℕ → Bool

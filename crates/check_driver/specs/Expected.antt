@@ -24,7 +24,7 @@ use Rattle.method_run.specs.declared.answer.RunAnswer.TheVariants as runs
 use Rattle.unit_builder.specs.WorldOf.{least_skipped, world_of}
 use Rattle.answer_lines.specs.Answers.{Answer, USAGE, missing_line, error_answer, output_answer, refused_answer, misfit_answer}
 use Rattle.check_driver.specs.Analysis.{unit_verdicts}
-use Rattle.check_driver.specs.CheckText.{all_methods_proved, check_text}
+use Rattle.check_driver.specs.CheckText.{all_methods_proved, check_text, summary_text}
 use Rattle.check_driver.specs.FaultText.{unit_fault_text, assembly_fault_text}
 use Rattle.check_driver.specs.IlText.{il_text, method_instrs}
 use Rattle.check_driver.specs.ListText.{list_text}
@@ -33,6 +33,7 @@ use Rattle.check_driver.specs.ReportText.{unit_report}
 use Rattle.command_words.specs.Words.{args_told, command_of, file_indexes, word_at, words_at}
 use Rattle.command_words.specs.declared.command.Command.{Command}
 use Rattle.command_words.specs.declared.command.Command.TheVariants as commands
+use Rattle.written_assemblies.specs.GeneratedFiles.{generated_file}
 
 abbrev pub report_answer : MethodUnit → Answer
 report_answer unit = output_answer (if all_proved (unit_verdicts unit) then 0 else 1) (unit_report unit)
@@ -73,6 +74,10 @@ il_answer name method bytes None = found_answer bytes (find_of bytes method)
 abbrev pub check_answer : List ℕ → List ℕ → Option AsmFault → Answer
 check_answer name bytes (Some fault) = refused_answer name (assembly_fault_text fault.cause) fault.at
 check_answer name bytes None = output_answer (if all_methods_proved bytes then 0 else 1) (check_text name bytes)
+
+-- The answer to `gen SEED COUNT` for the bytes of the file that is generated: the summary alone.
+abbrev pub gen_answer : List ℕ → Answer
+gen_answer bytes = output_answer (if all_methods_proved bytes then 0 else 1) (summary_text bytes)
 
 -- ---- runs
 
@@ -118,6 +123,7 @@ bytes_answer (commands.Il file method) words files =
 bytes_answer (commands.Check file) words files = check_answer (word_at words file) (file_at files 0) (FirstBroken (file_at files 0))
 bytes_answer (commands.Run run) words files =
     run_file_answer (word_at words run.file) (word_at words run.method) (args_told run words) run.steps (file_at files 0) (FirstBroken (file_at files 0))
+bytes_answer (commands.Gen seed count) words files = gen_answer (generated_file seed count)
 
 -- The answer where the first file that is missing has this name, or where none is.
 abbrev pub missing_or : Option (List ℕ) → Answer → Answer

@@ -97,7 +97,7 @@ fn find<D: Finder>(
 }
 
 /// Returns what is found of each method of an assembly. Of equal units one is judged.
-fn find_all<D: Finder>(
+pub fn find_all<D: Finder>(
     alloc: Global,
     assembly: &Assembly<'_>,
     finder: &mut D,
@@ -118,7 +118,7 @@ fn find_all<D: Finder>(
 }
 
 /// The counts of a report of which these are the findings.
-fn count(found: &[Finding]) -> Counts
+pub fn count(found: &[Finding]) -> Counts
     requires within { All IsWithin found.now }
     requires few { length found.now < 2 ^ 32 }
     ensures value { result ≡ found_counts (map told found.now) }
@@ -139,7 +139,7 @@ fn are_proved(found: &[Finding]) -> bool
 }
 
 /// The status of a report with these findings.
-fn status_of(found: &[Finding]) -> u8
+pub fn status_of(found: &[Finding]) -> u8
     ensures { result ≡ (if list_all (λ finding. is_proved (told finding)) found.now then 0 else 1) }
 {
     if are_proved(found) { 0 } else { 1 }

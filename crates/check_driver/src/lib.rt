@@ -5,6 +5,7 @@ mod analysis;
 mod check_answer;
 mod fault_text;
 mod finding;
+mod gen_answer;
 mod il_answer;
 mod judged_units;
 mod list_answer;

@@ -2,7 +2,7 @@
 
 #![tactic(auto, using(cc_base::proofs::SinkLemmas::sinks, cc_base::proofs::CountLemmas::counts))]
 
-ghost use Rattle.std.specs.Prelude.{◌≡◌, ◌⊎◌, ◌<◌, All, Contains, List, ℕ, length, Option, Some, IfOk, IfSome, None};
+ghost use Rattle.std.specs.Prelude.{◌≡◌, ◌⊎◌, ◌<◌, ◌≤◌, All, Contains, List, ℕ, length, Option, Some, IfOk, IfSome, None};
 ghost use Rattle.asm_image.specs.Faults.{FirstBroken};
 ghost use Rattle.asm_image.specs.Rows.{methods_of};
 ghost use Rattle.asm_image.specs.declared.method_row.MethodRow.{MethodRow};
@@ -18,11 +18,12 @@ ghost use Rattle.answer_lines.specs.Outcome.{Gives, GivesOrUnread, Leaves, last_
 ghost use Rattle.check_driver.specs.Headline.{IsAssemblyOf, TellAllProved, WasAppended};
 ghost use Rattle.check_driver.specs.ProvedUnit.{AreSpelled, AsksForUnit, IfUnit, IsHeldSpelled, PrintsProvedUnit, SpellSafeUnit};
 ghost use Rattle.check_driver.specs.Sections.{HasProvedLine, section};
-ghost use Rattle.command_words.specs.Words.{HasArguments, IfRun, args_told, command_of, file_indexes, file_names, used_indexes, word_at, words_at, words_bytes};
+ghost use Rattle.command_words.specs.Words.{HasArguments, IfGen, IfRun, args_told, command_of, file_indexes, file_names, used_indexes, word_at, words_at, words_bytes};
 ghost use Rattle.answer_lines.specs.Writing.{change_of};
 ghost use Rattle.unit_builder.specs.WorldOf.{world_of};
 
 use crate::check_answer::answer_check;
+use crate::gen_answer::answer_gen;
 use crate::il_answer::answer_il;
 use crate::list_answer::answer_list;
 use crate::reading::{Unread, read_files};
@@ -81,6 +82,7 @@ fn answer_bytes<O: Sink, E: Sink, D: Finder>(
     requires words { All (λ index. index < length words.now) (used_indexes command) }
     requires read { length read.now ≡ length (file_indexes command) }
     requires arguments { IfRun command (λ run. HasArguments run (words_bytes words.now)) }
+    requires few { IfGen command (λ seed count. count ≤ 10000) }
     ensures answer { Gives (bytes_answer command (words_bytes words.now) (bytes_read read.now)) result
         (change_of O.written O.faults out.old out.new) (change_of E.written E.faults err.old err.new) }
     ensures reportable { (O.written out.new ≡ O.written out.old) ⊎ IfCheck command (λ _. IsReportable (file_at (bytes_read read.now) 0)) }
@@ -123,6 +125,7 @@ fn answer_bytes<O: Sink, E: Sink, D: Finder>(
             )
         }
         Command::Run(run) => answer_run_words(alloc, run, words, &read[0], out, err),
+        Command::Gen(seed, count) => answer_gen(alloc, seed, count, out, finder),
     }
 }
 
@@ -138,6 +141,7 @@ fn answer_command<F: Files, O: Sink, E: Sink, D: Finder>(
 ) -> Result<u8, Interrupt>
     requires inside { All (λ index. index < length words.now) (used_indexes command) }
     requires arguments { IfRun command (λ run. HasArguments run (words_bytes words.now)) }
+    requires few { IfGen command (λ seed count. count ≤ 10000) }
     ensures answer { let given = words_bytes words.now in
         let names = words_at given (file_indexes command) in
         (met : List (Option (List ℕ))) × AreUnder (F.held files.old) names met

@@ -1,13 +1,16 @@
 -- Words and their bytes.
-use Rattle.std.proofs.Common.{◌≡◌, ℕ, ◌-◌, All, Bool, true, List, length, take, drop, String, Global, if◌then◌else◌, ap, sym, ◌∙◌}
+use Rattle.std.proofs.Common.{◌≡◌, ℕ, ◌-◌, All, Bool, true, List, length, take, drop, String, Global, if◌then◌else◌, Option, Some, None, ap, sym, ◌∙◌}
 use Rattle.std.specs.Bool.{IsTrue}
+use Rattle.std.specs.Option.{IfSome}
 use Rattle.std.specs.List.{list_all}
 use Rattle.std.specs.String.{string_bytes}
 use Rattle.std.proofs.lemmas.List.{drop-map, length-map, take-map}
 use Rattle.std.proofs.lemmas.List.Folds.{list_all-map}
 use Rattle.std.proofs.lemmas.List.Sums.{AllPass-from_list_all}
 use Rattle.run_arguments.specs.Arguments.{is_argument}
-use Rattle.command_words.specs.Words.{run_args, tells_steps, words_bytes}
+use Rattle.command_words.specs.declared.command.Command.{Command}
+use Rattle.command_words.specs.declared.command.Command.TheVariants as commands
+use Rattle.command_words.specs.Words.{HasArguments, IfRun, run_args, tells_steps, words_bytes}
 
 -- A test of the bytes of each word.
 pub all_words : (p : List ℕ → Bool) (words : List (String Global)) → list_all (λ word. p (string_bytes word)) words ≡ list_all p (words_bytes words)
@@ -31,3 +34,16 @@ pub are_arguments : (n first : ℕ) (words : List (String Global)) → list_all 
 are_arguments n first words all =
     AllPass-from_list_all (λ (word : String Global). is_argument (string_bytes word)) (take n (drop first words))
     (all_words is_argument (take n (drop first words)) ∙ ap (list_all is_argument) (words_between n first words) ∙ all)
+
+-- A command that is no run has no arguments to tell.
+no_run : (command : Command) (words : List (List ℕ)) → IfRun command (λ run. ⊥) → IfRun command (λ run. HasArguments run words)
+no_run (commands.Unit file) words none = tt
+no_run (commands.List file) words none = tt
+no_run (commands.Il file method) words none = tt
+no_run (commands.Check file) words none = tt
+no_run (commands.Run run) words none = absurd none
+no_run (commands.Gen seed count) words none = tt
+
+pub none_runs : (command : Option Command) (words : List (List ℕ)) → IfSome command (λ some. IfRun some (λ run. ⊥)) → IfSome command (λ some. IfRun some (λ run. HasArguments run words))
+none_runs None words none = tt
+none_runs (Some command) words none = no_run command words none

@@ -36,10 +36,31 @@ file_command word index =
 abbrev pub command_of_two : List ℕ → List ℕ → Option Command
 command_of_two word file = if is_name_word file then file_command word 1 else None
 
--- The command of three words: `il FILE METHOD`.
-abbrev pub command_of_three : List ℕ → List ℕ → List ℕ → Option Command
-command_of_three word file method =
-    if bytes_eq word (codes "il") && is_name_word file && is_name_word method then Some (commands.Il 1 2) else None
+-- The command that shows the instructions of a method.
+abbrev pub il_command : List ℕ → List ℕ → Option Command
+il_command file method = if is_name_word file && is_name_word method then Some (commands.Il 1 2) else None
+
+-- The greatest seed, and the most methods that are generated.
+abbrev pub MAX_SEED : ℕ
+MAX_SEED = 4294967295
+
+abbrev pub MAX_METHODS : ℕ
+MAX_METHODS = 10000
+
+-- The command that generates so many methods from a seed, where both are told. There is at least one method.
+abbrev pub gen_told : Option ℕ → Option ℕ → Option Command
+gen_told (Some seed) (Some count) = if count == 0 then None else Some (commands.Gen seed count)
+gen_told _ _ = None
+
+abbrev pub gen_command : List ℕ → List ℕ → Option Command
+gen_command seed count = gen_told (number_of_word MAX_SEED seed) (number_of_word MAX_METHODS count)
+
+-- The command of three words: `il FILE METHOD` or `gen SEED COUNT`.
+unfoldable pub command_of_three : List ℕ → List ℕ → List ℕ → Option Command
+command_of_three word first second =
+    if bytes_eq word (codes "il") then il_command first second
+    else if bytes_eq word (codes "gen") then gen_command first second
+    else None
 
 -- ---- runs
 
@@ -90,14 +111,19 @@ abbrev pub IfRun : Command → (RunWords → Type 0) → Type 0
 IfRun (commands.Run run) P = P run
 IfRun _ P = Unit {0}
 
+-- This holds of the seed and the number of methods of a command that generates.
+abbrev pub IfGen : Command → (ℕ → ℕ → Type 0) → Type 0
+IfGen (commands.Gen seed count) P = P seed count
+IfGen _ P = Unit {0}
+
 -- ---- commands
 
 -- The command that the words are, if they are one.
 abbrev pub command_of : List (List ℕ) → Option Command
 command_of (word ∷ file ∷ []) = command_of_two word file
-command_of (word ∷ file ∷ method ∷ args) =
-    if bytes_eq word (codes "run") then run_command (word ∷ file ∷ method ∷ args)
-    else if length args == 0 then command_of_three word file method
+command_of (word ∷ first ∷ second ∷ args) =
+    if bytes_eq word (codes "run") then run_command (word ∷ first ∷ second ∷ args)
+    else if length args == 0 then command_of_three word first second
     else None
 command_of _ = None
 
@@ -108,6 +134,7 @@ file_indexes (commands.List file) = file ∷ []
 file_indexes (commands.Il file method) = file ∷ []
 file_indexes (commands.Check file) = file ∷ []
 file_indexes (commands.Run run) = run.file ∷ []
+file_indexes (commands.Gen seed count) = []
 
 -- The indexes of those among them that name the assemblies whose reports the command makes, in the order of these.
 abbrev pub checked_indexes : Command → List ℕ
@@ -116,6 +143,7 @@ checked_indexes (commands.List file) = []
 checked_indexes (commands.Il file method) = []
 checked_indexes (commands.Check file) = file ∷ []
 checked_indexes (commands.Run run) = []
+checked_indexes (commands.Gen seed count) = []
 
 -- The indexes of all words that the command uses.
 abbrev pub used_indexes : Command → List ℕ
@@ -124,6 +152,7 @@ used_indexes (commands.List file) = file ∷ []
 used_indexes (commands.Il file method) = file ∷ method ∷ []
 used_indexes (commands.Check file) = file ∷ []
 used_indexes (commands.Run run) = run.file ∷ run.method ∷ []
+used_indexes (commands.Gen seed count) = []
 
 -- The words at these indexes.
 abbrev pub words_at : List (List ℕ) → List ℕ → List (List ℕ)

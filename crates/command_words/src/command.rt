@@ -2,7 +2,7 @@
 
 ghost use Rattle.std.specs.Prelude.{◌≡◌, ◌+◌, ◌<◌, ◌≤◌, ◌^◌, All, IfSome, IsTrue, length, string_bytes};
 ghost use Rattle.std.specs.List.{list_all};
-ghost use Rattle.command_words.specs.Words.{HasArguments, IfRun, args_end, command_of, command_of_three, command_of_two, file_indexes, is_name_word, names_run, run_args, run_command, run_steps, tells_steps, used_indexes, word_at, words_bytes};
+ghost use Rattle.command_words.specs.Words.{HasArguments, IfGen, IfRun, args_end, command_of, command_of_three, command_of_two, file_indexes, gen_command, il_command, is_name_word, names_run, run_args, run_command, run_steps, tells_steps, used_indexes, word_at, words_bytes};
 ghost use Rattle.run_arguments.specs.Arguments as arguments;
 
 use run_arguments::{is_argument, read_number};
@@ -22,6 +22,8 @@ pub enum Command {
     Check(u32),
     /// A run of a method.
     Run(RunWords),
+    /// The summary of the report of an assembly that is generated: its seed, then the number of its methods.
+    Gen(u32, u32),
 }
 
 /// The words of a run, and the number of steps that it may take.
@@ -48,6 +50,7 @@ impl Command {
             | Command::Il(file, _)
             | Command::Check(file)
             | Command::Run(RunWords { file, .. }) => slice::from_ref(file),
+            Command::Gen(_, _) => &[],
         }
     }
 }
@@ -78,15 +81,52 @@ fn command_of_two(word: &str, file: &str) -> Option<Command>
     }
 }
 
-/// The command of three words.
-fn command_of_three(word: &str, file: &str, method: &str) -> Option<Command>
+/// The command that shows the instructions of a method, where the words may name a file and a method.
+fn il_command(file: &str, method: &str) -> Option<Command>
     ensures inside { IfSome result (λ command. All (λ index. index < 3) (used_indexes command)) }
-    ensures command { result ≡ command_of_three word.now file.now method.now }
+    ensures no_run { IfSome result (λ command. IfRun command (λ run. ⊥)) }
+    ensures command { result ≡ il_command file.now method.now }
 {
-    if word == "il" && is_name_word(file) && is_name_word(method) {
+    if is_name_word(file) && is_name_word(method) {
         return Some(Command::Il(1, 2));
     }
     None
+}
+
+/// The greatest seed that the words may give.
+const MAX_SEED: u32 = 4_294_967_295;
+
+/// The most methods that the words may ask for.
+const MAX_METHODS: u32 = 10_000;
+
+/// The command that generates an assembly, where the words tell a seed and a number of methods, of which there is
+/// at least one.
+fn gen_command(seed: &str, count: &str) -> Option<Command>
+    ensures no_run { IfSome result (λ command. IfRun command (λ run. ⊥)) }
+    ensures command { result ≡ gen_command seed.now count.now }
+    ensures few { IfSome result (λ command. IfGen command (λ seed count. count ≤ 10000)) }
+{
+    let seed = read_number(seed, MAX_SEED)?;
+    let count = read_number(count, MAX_METHODS)?;
+    if count == 0 {
+        return None;
+    }
+    Some(Command::Gen(seed, count))
+}
+
+/// The command of three words.
+#[tactic(auto, unfolding(crate::specs::Words::command_of_three))]
+fn command_of_three(word: &str, first: &str, second: &str) -> Option<Command>
+    ensures inside { IfSome result (λ command. All (λ index. index < 3) (used_indexes command)) }
+    ensures no_run { IfSome result (λ command. IfRun command (λ run. ⊥)) }
+    ensures few { IfSome result (λ command. IfGen command (λ seed count. count ≤ 10000)) }
+    ensures command { result ≡ command_of_three word.now first.now second.now }
+{
+    match word {
+        "il" => il_command(first, second),
+        "gen" => gen_command(first, second),
+        _ => None,
+    }
 }
 
 /// The number of steps that a run may take where the words give none.
@@ -169,6 +209,7 @@ fn run_command(words: &[String]) -> Option<Command>
     requires { 3 ≤ length words.now }
     ensures inside { IfSome result (λ command. All (λ index. index < length words.now) (used_indexes command)) }
     ensures arguments { IfSome result (λ command. IfRun command (λ run. HasArguments run (words_bytes words.now))) }
+    ensures few { IfSome result (λ command. IfGen command (λ seed count. count ≤ 10000)) }
     ensures command { result ≡ run_command (words_bytes words.now) }
 {
     if !names_run(words) {
@@ -187,12 +228,13 @@ fn run_command(words: &[String]) -> Option<Command>
 pub fn parse_words(words: &[String]) -> Option<Command>
     ensures inside { IfSome result (λ command. All (λ index. index < length words.now) (used_indexes command)) }
     ensures arguments { IfSome result (λ command. IfRun command (λ run. HasArguments run (words_bytes words.now))) }
+    ensures few { IfSome result (λ command. IfGen command (λ seed count. count ≤ 10000)) }
     ensures command { result ≡ command_of (words_bytes words.now) }
 {
     match words {
         [word, file] => command_of_two(word.as_str(), file.as_str()),
         [word, _, _, ..] if word.as_str() == "run" => run_command(words),
-        [word, file, method] => command_of_three(word.as_str(), file.as_str(), method.as_str()),
+        [word, first, second] => command_of_three(word.as_str(), first.as_str(), second.as_str()),
         _ => None,
     }
 }

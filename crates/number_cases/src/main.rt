@@ -5,6 +5,7 @@
 
 mod definitions;
 mod facts;
+mod merge_rules;
 mod number_rules;
 mod rules;
 

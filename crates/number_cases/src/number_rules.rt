@@ -1,18 +1,19 @@
 //! The rules on numbers.
 
-ghost use Rattle.std.specs.Prelude.{◌≤◌, length, OnOk};
+ghost use Rattle.std.specs.Prelude.{◌≤◌, length, IfOk, OnOk};
+ghost use Rattle.number_facts.specs.Facts.{AreNarrow, IsThere};
 
 use crate::facts::{expr, facts_text, symbol};
 use domain_api::{Expr, Order};
 use number_facts::Numbers;
 use rule_text::{
-    Failure, append_number, append_wide_range, asked, check, comparison, operator, three_words,
-    two_words,
+    Failure, append_number, append_wide_range, asked, check, comparison, may_operate, narrow,
+    operator, three_words, two_words,
 };
 use std::alloc::{AllocError, Global};
 
 /// The symbol of a number is there.
-fn is_there(numbers: &Numbers, e: Expr) -> Result<(), Failure>
+pub fn is_there(numbers: &Numbers, e: Expr) -> Result<(), Failure>
     ensures { OnOk result (e.sym ≤ length numbers.now.ranges) }
 {
     if e.sym as usize <= numbers.ranges.len() {
@@ -20,6 +21,22 @@ fn is_there(numbers: &Numbers, e: Expr) -> Result<(), Failure>
     } else {
         Err(Failure::Unmet("the number's symbol is there"))
     }
+}
+
+/// The two numbers of an operator, each there, with a constant of at most 33 bits, and of symbols of int32.
+fn operands(alloc: Global, numbers: &Numbers, a: &str, b: &str) -> Result<(Expr, Expr), Failure>
+    ensures first { IfOk result (λ pair. IsThere numbers.now pair.0) }
+    ensures second { IfOk result (λ pair. IsThere numbers.now pair.1) }
+    ensures narrow { OnOk result (AreNarrow numbers.now) }
+{
+    let (a, b) = (expr(a)?, expr(b)?);
+    let ranges = range_facts::Numbers {
+        ranges: Vec::from_slice(alloc, numbers.ranges.as_slice())?,
+    };
+    narrow(&ranges)?;
+    rule_text::is_there(&ranges, a)?;
+    rule_text::is_there(&ranges, b)?;
+    Ok((a, b))
 }
 
 /// The text of a number that was made, or that there is none.
@@ -66,10 +83,31 @@ pub fn fresh(alloc: Global, numbers: &mut Numbers, argument: &str) -> Result<(),
 }
 
 /// A number of 64 bits.
-fn end(word: &str) -> Result<i64, Failure> {
+pub fn end(word: &str) -> Result<i64, Failure> {
     word.parse::<i64>()
         .ok()
         .ok_or(Failure::Unread("an end or a hole"))
+}
+
+/// `arith add s1 5 = s1+5`: the result of an operator.
+pub fn arith(alloc: Global, numbers: &mut Numbers, argument: &str) -> Result<(), Failure> {
+    let (question, told) = asked(argument)?;
+    let (op, a, b) = three_words(question)?;
+    let op = operator(op).ok_or(Failure::Unread("an operator"))?;
+    let (a, b) = operands(alloc, numbers, a, b)?;
+    may_operate(op, b)?;
+    let made = numbers.arith(op, a, b)?;
+    check(made_text(alloc, made)?, told)
+}
+
+/// `exact add.ovf s1 s2 = 5..17`: the ends that are judged for overflow.
+pub fn exact(alloc: Global, numbers: &Numbers, argument: &str) -> Result<(), Failure> {
+    let (question, told) = asked(argument)?;
+    let (op, a, b) = three_words(question)?;
+    let op = operator(op).ok_or(Failure::Unread("an operator"))?;
+    let (a, b) = operands(alloc, numbers, a, b)?;
+    let (lo, hi) = numbers.exact_ends(op, a, b);
+    check(format!(in alloc; "{lo}..{hi}")?, told)
 }
 
 /// `compare clt s1 5 = s2`: the truth of a comparison.

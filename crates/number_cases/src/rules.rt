@@ -1,7 +1,7 @@
 //! The rules, by the keywords of cases.
 
 use crate::facts::{facts, nothing};
-use crate::number_rules;
+use crate::{merge_rules, number_rules};
 use number_facts::Numbers;
 use rule_text::{Failure, Line, Rules};
 use std::alloc::Global;
@@ -12,6 +12,8 @@ pub struct NumberRules {
     alloc: Global,
     /// None where nothing is reached any more.
     numbers: Option<Numbers>,
+    /// What another state knows.
+    beside: Numbers,
 }
 
 impl NumberRules {
@@ -25,7 +27,13 @@ impl NumberRules {
             "ends" => number_rules::ends(alloc, numbers, argument)?,
             "gap" => number_rules::gap(alloc, numbers, argument)?,
             "fresh" => number_rules::fresh(alloc, numbers, argument)?,
+            "arith" => number_rules::arith(alloc, numbers, argument)?,
+            "exact" => number_rules::exact(alloc, numbers, argument)?,
             "compare" => number_rules::compare(alloc, numbers, argument)?,
+            "joined" | "widened" | "normed" => {
+                merge_rules::merged(alloc, numbers, &self.beside, keyword, argument)?;
+            }
+            "within-beside" => merge_rules::within(alloc, numbers, &self.beside, argument)?,
             _ => return Err(Failure::Unread("a keyword")),
         }
         Ok(Line::Answer)
@@ -48,6 +56,7 @@ impl Rules for NumberRules {
         NumberRules {
             alloc,
             numbers: Some(nothing(alloc)),
+            beside: nothing(alloc),
         }
     }
 
@@ -56,6 +65,10 @@ impl Rules for NumberRules {
             "before" => {
                 self.numbers = Some(facts(self.alloc, argument)?);
                 Ok(Line::Begin)
+            }
+            "beside" => {
+                self.beside = facts(self.alloc, argument)?;
+                Ok(Line::Setting)
             }
             "assume" => self.assume(argument, true),
             "assume-not" => self.assume(argument, false),

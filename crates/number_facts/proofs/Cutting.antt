@@ -28,7 +28,7 @@ raised_none : (facts : Facts) (lo : ℤ) (row : BoundRow) → is_pair row.s row.
 unfolding raised_by
 raised_none facts lo row pair = rw (second_false (row.s == 0) (row.t == 0) (row.s == row.t) pair) refl
 
-zero_stays : (facts : Facts) (rows : List BoundRow) (lo : ℤ) → AreBounds rows → cut_by_all (raised_by facts 0) rows lo ≡ lo
+pub zero_stays : (facts : Facts) (rows : List BoundRow) (lo : ℤ) → AreBounds rows → cut_by_all (raised_by facts 0) rows lo ≡ lo
 zero_stays facts [] lo form = refl
 zero_stays facts (row ∷ rows) lo form = rw (raised_none facts lo row form.0) (zero_stays facts rows lo form.2)
 

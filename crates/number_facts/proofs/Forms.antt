@@ -1,5 +1,5 @@
 -- The rules keep the form of what is known: symbols that are there, and ranges of int32.
-use Rattle.std.proofs.Common.{◌≡◌, ℕ, zero, suc, ◌==◌, ◌+◌, ◌≤◌, ◌<◌, ℤ, pos, ◌-ℤ◌, Bool, true, false, ◌&&◌, int_eq, Option, Some, None, List, [], ◌∷◌, ◌++◌, length, get_or, inl, inr, refl, arith}
+use Rattle.std.proofs.Common.{◌≡◌, ℕ, zero, suc, ◌==◌, ◌+◌, ◌≤◌, ◌<◌, ℤ, pos, ◌-ℤ◌, Bool, true, false, ◌&&◌, int_eq, Option, Some, None, List, [], ◌∷◌, ◌++◌, length, inl, inr, refl, arith}
 use Rattle.std.specs.Prelude.{set, Result, Ok, Err, IfOk, OnOk, OnErr}
 use Rattle.std.specs.Option.{option_map, option_and_then}
 use Rattle.std.specs.Int.{int_min, int_max}
@@ -12,7 +12,7 @@ use Rattle.cil_model.specs.Arithmetic.{LEAST, GREATEST}
 use Rattle.cil_model.specs.declared.instruction.BinOp.{BinOp}
 use Rattle.cil_model.specs.declared.instruction.CmpOp.{CmpOp}
 use Rattle.cil_model.specs.declared.instruction.CmpOp.TheVariants as comparisons
-use Rattle.interval_domain.specs.Interval.{Interval, between, one}
+use Rattle.interval_domain.specs.Interval.{Interval, between}
 use Rattle.pentagon_domain.specs.declared.bound_row.BoundRow.{BoundRow}
 use Rattle.pentagon_domain.specs.Rows.{is_pair, is_before, is_of, put, with_bound}
 use Rattle.pentagon_domain.proofs.Allowing.{AreBelow}
@@ -25,10 +25,11 @@ use Rattle.number_spans.proofs.NarrowRanges.{SomeNarrow, without_narrow, range_w
 use Rattle.number_facts.specs.Assume as rule
 use Rattle.number_facts.specs.Comparisons.{truth_of, defined_by, known, pushed, compared_or, compared}
 use Rattle.number_facts.specs.Ends.{range_of}
-use Rattle.number_facts.specs.Facts.{Facts, AreNarrow, IsNamed, range_at}
+use Rattle.number_facts.specs.Facts.{Facts, AreNarrow, IsNamed}
 use Rattle.number_facts.specs.Fresh.{Made, bounded, defined, facts_made, fresh, is_long, noted, related_so}
 use Rattle.number_facts.specs.Gaps.{at_most, equal}
 use Rattle.number_facts.specs.Holds.{AreNamed, KeepsForm, Names, NamesOwn}
+use Rattle.number_facts.proofs.Small.{narrow_range}
 use Rattle.number_facts.proofs.Truths.{named_truth}
 
 -- If anything is reached, its form is kept.
@@ -36,7 +37,7 @@ abbrev pub SomeKeepsForm : Facts → Option Facts → Type 0
 SomeKeepsForm before None = Unit {0}
 SomeKeepsForm before (Some after) = KeepsForm before after
 
-same_form : (facts : Facts) → KeepsForm facts facts
+pub same_form : (facts : Facts) → KeepsForm facts facts
 same_form facts = record { there = omega arith; named = λ is. is; narrow = λ is. is }
 
 then_form : (before : Facts) (o : Option Facts) (f : Facts → Option Facts) → SomeKeepsForm before o
@@ -59,7 +60,7 @@ all_set [] i r all is = tt
 all_set (q ∷ rs) zero r all is = (is, all.1)
 all_set (q ∷ rs) (suc i) r all is = (all.0, all_set rs i r all.1 is)
 
-longer : (rs : List Interval) (r : Interval) → length (rs ++ r ∷ []) ≡ length rs + 1
+pub longer : (rs : List Interval) (r : Interval) → length (rs ++ r ∷ []) ≡ length rs + 1
 longer [] r = refl
 longer (q ∷ rs) r = let rest = longer rs r in let more : suc (length (rs ++ r ∷ [])) ≡ suc (length rs) + 1 = omega (arith, rest) in more
 
@@ -83,7 +84,7 @@ with_bound_below : (rows : List BoundRow) (count s t : ℕ) (k : ℤ) → s < co
 with_bound_below rows count s t k from to all =
     cond_both (is_pair s t) _ _ (AllByRecursion (AreBelow count)) (λ e. put_below rows count s t k from to all) (λ e. all)
 
-bounded_form : (before facts : Facts) (s t : ℕ) (k : ℤ) → KeepsForm before facts → s ≤ length before.ranges → t ≤ length before.ranges
+pub bounded_form : (before facts : Facts) (s t : ℕ) (k : ℤ) → KeepsForm before facts → s ≤ length before.ranges → t ≤ length before.ranges
     → KeepsForm before (bounded facts s t k)
 unfolding bounded
 bounded_form before facts s t k kept first second =
@@ -118,7 +119,7 @@ appended_named facts r named =
           (λ d is. (omega (arith, is.0), still_names (length facts.ranges) d.1 is.1)) named.definitions);
     }
 
-appended_form : (facts : Facts) (r : Interval) → IsNarrow r → KeepsForm facts (record facts { ranges = facts.ranges ++ r ∷ [] })
+pub appended_form : (facts : Facts) (r : Interval) → IsNarrow r → KeepsForm facts (record facts { ranges = facts.ranges ++ r ∷ [] })
 appended_form facts r narrow =
     let size = longer facts.ranges r in
     record {
@@ -127,7 +128,7 @@ appended_form facts r narrow =
       narrow = λ all. all_appended IsNarrow facts.ranges r all narrow;
     }
 
-defined_form : (before facts : Facts) (s : ℕ) (def : Def) → KeepsForm before facts → s ≤ length facts.ranges → Names (length facts.ranges) def
+pub defined_form : (before facts : Facts) (s : ℕ) (def : Def) → KeepsForm before facts → s ≤ length facts.ranges → Names (length facts.ranges) def
     → KeepsForm before (defined facts s def)
 unfolding defined
 defined_form before facts s def kept there names = record {
@@ -190,19 +191,6 @@ form_kept (Ok x) before made after kept is failed = rw is kept
 form_kept (Err e) before made after kept is failed = rw failed (same_form before)
 
 -- ---- what is assumed
-
-narrow_zero : IsNarrow (one (pos 0))
-narrow_zero = record { least = omega (arith, ints); ordered = omega (arith, ints); greatest = omega (arith, ints); inner = tt }
-
-narrow_at : (rs : List Interval) (i : ℕ) → AllByRecursion IsNarrow rs → IsNarrow (get_or rs i (one (pos 0)))
-narrow_at [] i all = narrow_zero
-narrow_at (r ∷ rs) zero all = all.0
-narrow_at (r ∷ rs) (suc i) all = narrow_at rs i all.1
-
-narrow_range : (facts : Facts) (s : ℕ) → AreNarrow facts → IsNarrow (range_at facts s)
-unfolding range_at
-narrow_range facts zero all = narrow_zero
-narrow_range facts (suc s) all = narrow_at facts.ranges s all
 
 changed_form : (before facts : Facts) (s : ℕ) (o : Option Interval) → KeepsForm before facts → (AreNarrow facts → SomeNarrow o) → SomeKeepsForm before (rule.changed facts s o)
 unfolding rule.changed

@@ -1,5 +1,5 @@
 -- What is known of the numbers of a state, and what it means.
-use Rattle.std.specs.Prelude.{ℕ, zero, suc, ◌≤◌, pos, Bool, nat_le, length, List, get_or}
+use Rattle.std.specs.Prelude.{ℕ, zero, suc, ◌≤◌, ℤ, pos, negsuc, ◌≤ℤ◌, Bool, nat_le, length, List, get_or}
 use Rattle.std.specs.List.{AllByRecursion}
 use Rattle.domain_api.specs.declared.expr.Expr.{Expr}
 use Rattle.interval_domain.specs.Interval.{Interval, one}
@@ -28,6 +28,12 @@ range_at facts (suc s) = get_or facts.ranges s (one (pos 0))
 -- The symbol of an expression is there.
 abbrev pub IsNamed : Facts → Expr → Type 0
 IsNamed facts e = e.sym ≤ length facts.ranges
+
+-- It is, and its constant is one of -2^32 to 2^32, as that of each variable is.
+pub record IsThere (facts : Facts) (e : Expr) : Type 0 where
+  pub there : IsNamed facts e
+  pub least : negsuc 4294967295 ≤ℤ e.k
+  pub greatest : e.k ≤ℤ pos 4294967296
 
 -- Each range is one of int32.
 abbrev pub AreNarrow : Facts → Type 0

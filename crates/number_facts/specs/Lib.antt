@@ -7,3 +7,6 @@ pub mod Comparisons
 pub mod Assume
 pub mod Holds
 pub mod Laws
+pub mod Additions
+pub mod Arith
+pub mod Results

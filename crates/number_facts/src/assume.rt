@@ -16,10 +16,13 @@ use domain_api::{Expr, NoMemory};
 use interval_domain::Range;
 use number_spans::{below, constant, less_by, range_but_for, range_from, range_upto, sum_of};
 
-/// The comparison that holds where another does not.
-fn contrary(op: CmpOp) -> CmpOp
-    ensures { result ≡ rule.contrary op }
+/// The comparison that is assumed where one holds, or the contrary one where it does not hold.
+fn assumed(op: CmpOp, holds: bool) -> CmpOp
+    ensures { result ≡ (if holds then op else rule.contrary op) }
 {
+    if holds {
+        return op;
+    }
     match op {
         CmpOp::Eq => CmpOp::NeUn,
         CmpOp::Ge => CmpOp::Lt,
@@ -32,20 +35,6 @@ fn contrary(op: CmpOp) -> CmpOp
         CmpOp::LeUn => CmpOp::GtUn,
         CmpOp::LtUn => CmpOp::GeUn,
     }
-}
-
-/// The comparison that is assumed where one holds, or does not hold.
-fn assumed(op: CmpOp, holds: bool) -> CmpOp
-    ensures { result ≡ (if holds then op else rule.contrary op) }
-{
-    if holds { op } else { contrary(op) }
-}
-
-/// Returns whether a comparison is assumed in one step.
-fn is_one_step(op: CmpOp) -> bool
-    ensures { result ≡ rule.is_one_step op }
-{
-    matches!(op, CmpOp::Ge | CmpOp::Gt | CmpOp::Le | CmpOp::Lt)
 }
 
 /// Returns what is left of 1.
@@ -75,7 +64,7 @@ fn less_more(n: i128, more: i64) -> i128
 }
 
 /// A number and another one more.
-fn and_more(n: i128, more: i64) -> i128
+pub(crate) fn and_more(n: i128, more: i64) -> i128
     requires { IsFar n }
     ensures value { result ≡ n +ℤ more }
     ensures bound { IsBounded result }
@@ -132,7 +121,7 @@ impl Numbers {
         ensures value { result ≡ (range_of self.now e).hi -ℤ more }
         ensures bound { IsBounded result }
     {
-        less_more(with_constant(self.span_at(e.sym).hi, e.k), more)
+        less_more(with_constant(self.left_to(e.sym).hi, e.k), more)
     }
 
     /// The least number of an expression, and a number more.
@@ -141,7 +130,7 @@ impl Numbers {
         ensures value { result ≡ (range_of self.now e).lo +ℤ more }
         ensures bound { IsBounded result }
     {
-        and_more(with_constant(self.span_at(e.sym).lo, e.k), more)
+        and_more(with_constant(self.left_to(e.sym).lo, e.k), more)
     }
 
     /// The first expression is cut by the second, and then the second by the first.
@@ -177,18 +166,6 @@ impl Numbers {
         }
         self.bound(a.sym, b.sym, less_by(sum_of(a.k, more), b.k))?;
         Ok(self.cut_both(a, more, b))
-    }
-
-    /// The first expression is less than the second.
-    fn assume_less(&mut self, a: Expr, b: Expr) -> Result<bool, NoMemory>
-        requires first { a.sym ≤ length self.old.ranges }
-        requires second { b.sym ≤ length self.old.ranges }
-        ensures reached { IfOk result (λ r. r ≡ is_some (rule.assumed_less self.old a b)) }
-        ensures facts { IfOk result (λ r. r ≡ true → rule.assumed_less self.old a b ≡ Some self.new) }
-        ensures err { OnErr result (self.new ≡ self.old) }
-        ensures count { length self.new.ranges ≡ length self.old.ranges }
-    {
-        self.assume_at_most(a, 1, b)
     }
 
     /// The two are equal.
@@ -231,9 +208,9 @@ impl Numbers {
         ensures count { length self.new.ranges ≡ length self.old.ranges }
     {
         if self.is_at_most(a, 0, b) {
-            self.assume_less(a, b)
+            self.assume_at_most(a, 1, b)
         } else if self.is_at_most(b, 0, a) {
-            self.assume_less(b, a)
+            self.assume_at_most(b, 1, a)
         } else {
             Ok(true)
         }
@@ -267,7 +244,7 @@ impl Numbers {
             if !self.assume_at_most(constant(0), 0, a)? {
                 return Ok(false);
             }
-            self.assume_less(a, b)
+            self.assume_at_most(a, 1, b)
         } else if a.sym == 0 && a.k == 0 {
             self.assume_apart(b, constant(0))
         } else {
@@ -306,9 +283,9 @@ impl Numbers {
         match op {
             CmpOp::Eq => self.assume_equal(a, b),
             CmpOp::Ge => self.assume_at_most(b, 0, a),
-            CmpOp::Gt => self.assume_less(b, a),
+            CmpOp::Gt => self.assume_at_most(b, 1, a),
             CmpOp::Le => self.assume_at_most(a, 0, b),
-            CmpOp::Lt => self.assume_less(a, b),
+            CmpOp::Lt => self.assume_at_most(a, 1, b),
             CmpOp::NeUn => self.assume_apart(a, b),
             CmpOp::GeUn => self.assume_at_most_unsigned(b, a),
             CmpOp::GtUn => self.assume_less_unsigned(b, a),
@@ -326,7 +303,7 @@ impl Numbers {
         ensures err { OnErr result (self.new ≡ self.old) }
         ensures count { length self.new.ranges ≡ length self.old.ranges }
     {
-        if is_one_step(op) {
+        if let CmpOp::Ge | CmpOp::Gt | CmpOp::Le | CmpOp::Lt = op {
             return self.assume_steps(op, a, b);
         }
         let before = self.copy(*self.ranges.allocator())?;

@@ -43,7 +43,7 @@ impl Numbers {
     fn less_known(&self, a: Expr, b: Expr) -> Option<bool>
         ensures { result ≡ less_known self.now a b }
     {
-        if self.is_less(a, b) {
+        if self.is_at_most(a, 1, b) {
             Some(true)
         } else if self.is_at_most(b, 0, a) {
             Some(false)
@@ -59,7 +59,10 @@ impl Numbers {
     {
         let r = self.range_of(a);
         let q = self.range_of(b);
-        self.is_less(a, b) || self.is_less(b, a) || is_one_excluded(r, q) || is_one_excluded(q, r)
+        self.is_at_most(a, 1, b)
+            || self.is_at_most(b, 1, a)
+            || is_one_excluded(r, q)
+            || is_one_excluded(q, r)
     }
 
     /// Returns whether they are known to be equal, or known not to be.
@@ -103,18 +106,6 @@ impl Numbers {
         }
     }
 
-    /// A truth value that is not known, with what it is the truth of.
-    fn noted_truth(&mut self, def: Option<Def>) -> Result<Expr, NoMemory>
-        ensures value { IfOk result (λ e. e ≡ (noted self.old (between (pos 0) (pos 1)) (defined_by def)).expr) }
-        ensures facts { OnOk result (self.new ≡ (noted self.old (between (pos 0) (pos 1)) (defined_by def)).facts) }
-        ensures err { OnErr result (self.new ≡ self.old) }
-    {
-        match def {
-            None => self.noted(bit()),
-            Some(def) => self.noted_as(bit(), def),
-        }
-    }
-
     /// What a comparison of numbers that are not both constants pushes.
     fn pushed(&mut self, op: BinOp, a: Expr, b: Expr) -> Result<Expr, NoMemory>
         ensures value { IfOk result (λ e. e ≡ (pushed op self.old a b (known op self.old a b)).expr) }
@@ -123,7 +114,10 @@ impl Numbers {
     {
         match self.known(op, a, b) {
             Some(holds) => Ok(constant(i64::from(holds))),
-            None => self.noted_truth(truth_of(op, a, b)),
+            None => match truth_of(op, a, b) {
+                None => self.noted(bit()),
+                Some(def) => self.noted_as(bit(), def),
+            },
         }
     }
 

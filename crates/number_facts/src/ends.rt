@@ -1,14 +1,14 @@
 //! The numbers that ranges and bounds together leave to symbols and expressions.
 
-ghost use Rattle.std.specs.Prelude.{◌≡◌, ◌+ℤ◌, ◌-ℤ◌, pos, if◌then◌else◌};
-ghost use Rattle.std.specs.Int.{int_min, int_max};
+ghost use Rattle.std.specs.Prelude.{◌≡◌, ◌+ℤ◌, ◌-ℤ◌, pos, FitsSigned, if◌then◌else◌};
+ghost use Rattle.std.specs.Int.{w32, int_min, int_max};
 ghost use Rattle.interval_domain.specs.Interval.{inner_hole, is_hole};
-ghost use Rattle.pentagon_domain.specs.Rows.{rows_from};
-ghost use Rattle.number_spans.specs.Sizes.{IsBounded, IsLong, IsLongHole, IsWide};
-ghost use Rattle.number_facts.specs.Facts.{IsNamed, range_at};
+ghost use Rattle.pentagon_domain.specs.Rows.{AreBounds, rows_from};
+ghost use Rattle.number_spans.specs.Sizes.{IsBounded, IsLong, IsLongHole, IsSmall, IsWide};
+ghost use Rattle.number_facts.specs.Facts.{AreNarrow, IsNamed, IsThere, range_at};
 ghost use Rattle.number_facts.specs.Holds.{AreEndsOf};
 ghost use Rattle.number_facts.specs.Ends as rule;
-ghost use Rattle.number_facts.specs.Sizes.{IsSum};
+ghost use Rattle.number_facts.specs.Sizes.{AreNear, IsCut, IsNear, IsSum};
 
 use crate::numbers::Numbers;
 use domain_api::Expr;
@@ -19,6 +19,7 @@ use pentagon_domain::BoundRow;
 fn difference_of(a: i64, b: i64) -> i128
     ensures value { result ≡ a -ℤ b }
     ensures bound { IsSum result }
+    ensures small { FitsSigned w32 a → IsCut result }
 {
     i128::from(a) - i128::from(b)
 }
@@ -27,6 +28,7 @@ fn difference_of(a: i64, b: i64) -> i128
 fn sum_of(a: i64, b: i64) -> i128
     ensures value { result ≡ a +ℤ b }
     ensures bound { IsSum result }
+    ensures small { FitsSigned w32 a → IsCut result }
 {
     i128::from(a) + i128::from(b)
 }
@@ -35,40 +37,33 @@ fn sum_of(a: i64, b: i64) -> i128
 fn wide(n: i64) -> i128
     ensures value { result ≡ n }
     ensures bound { IsSum result }
+    ensures small { FitsSigned w32 n → IsCut result }
 {
     i128::from(n)
 }
 
 /// The lesser of two ends.
-#[tactic(auto, using(crate::proofs::Sums::sums))]
+#[tactic(auto, using(crate::proofs::Sums::sums, crate::proofs::Small::cuts))]
 fn lesser(a: i128, b: i128) -> i128
     requires first { IsSum a }
     requires second { IsSum b }
     ensures value { result ≡ int_min a b }
     ensures bound { IsSum result }
+    ensures small { IsCut a → IsCut b → IsCut result }
 {
     a.min(b)
 }
 
 /// The greater of two ends.
-#[tactic(auto, using(crate::proofs::Sums::sums))]
+#[tactic(auto, using(crate::proofs::Sums::sums, crate::proofs::Small::cuts))]
 fn greater(a: i128, b: i128) -> i128
     requires first { IsSum a }
     requires second { IsSum b }
     ensures value { result ≡ int_max a b }
     ensures bound { IsSum result }
+    ensures small { IsCut a → IsCut b → IsCut result }
 {
     a.max(b)
-}
-
-/// Returns whether the number is the hole.
-fn is_hole(hole: Option<i64>, n: i128) -> bool
-    ensures { result ≡ is_hole hole n }
-{
-    match hole {
-        None => false,
-        Some(hole) => i128::from(hole) == n,
-    }
 }
 
 /// The lower end, behind a hole that meets it.
@@ -76,8 +71,12 @@ fn behind_hole(lo: i128, hole: Option<i64>) -> i128
     requires { IsSum lo }
     ensures value { result ≡ (if is_hole hole lo then lo +ℤ pos 1 else lo) }
     ensures bound { IsWide result }
+    ensures small { IsCut lo → IsNear result }
 {
-    if is_hole(hole, lo) { lo + 1 } else { lo }
+    match hole {
+        Some(hole) if i128::from(hole) == lo => lo + 1,
+        _ => lo,
+    }
 }
 
 /// The upper end, before a hole that meets it.
@@ -85,8 +84,12 @@ fn before_hole(hi: i128, hole: Option<i64>) -> i128
     requires { IsSum hi }
     ensures value { result ≡ (if is_hole hole hi then hi -ℤ pos 1 else hi) }
     ensures bound { IsWide result }
+    ensures small { IsCut hi → IsNear result }
 {
-    if is_hole(hole, hi) { hi - 1 } else { hi }
+    match hole {
+        Some(hole) if i128::from(hole) == hi => hi - 1,
+        _ => hi,
+    }
 }
 
 /// A hole, where it stands strictly between the ends.
@@ -109,6 +112,7 @@ fn met(lo: i128, hi: i128, hole: Option<i64>) -> Span
     ensures value { result ≡ rule.met lo hi hole }
     ensures ends { IsLong result }
     ensures hole { IsLongHole result.hole }
+    ensures small { IsCut lo → IsCut hi → AreNear result }
 {
     Span {
         lo: behind_hole(lo, hole),
@@ -119,10 +123,12 @@ fn met(lo: i128, hi: i128, hole: Option<i64>) -> Span
 
 impl Numbers {
     /// The upper end of a symbol, cut by a bound that goes from it.
+    #[tactic(auto, using(crate::proofs::Small::narrow_ends))]
     fn lowered_by(&self, hi: i128, row: &BoundRow) -> i128
         requires { IsSum hi }
         ensures value { result ≡ rule.lowered_by self.now hi row.now }
         ensures bound { IsSum result }
+        ensures small { AreNarrow self.now → IsCut hi → IsCut result }
     {
         if self.has(row.t) {
             lesser(hi, difference_of(self.range_at(row.t).hi(), row.k))
@@ -132,11 +138,12 @@ impl Numbers {
     }
 
     /// The lower end of a symbol, raised by a bound, where that goes to it.
-    #[tactic(auto, unfolding(crate::specs::Ends::raised_by))]
+    #[tactic(auto, using(crate::proofs::Small::narrow_ends), unfolding(crate::specs::Ends::raised_by))]
     fn raised_by(&self, t: u32, lo: i128, row: &BoundRow) -> i128
         requires { IsSum lo }
         ensures value { result ≡ rule.raised_by self.now t lo row.now }
         ensures bound { IsSum result }
+        ensures small { AreNarrow self.now → IsCut lo → IsCut result }
     {
         if row.t == t && self.has(row.s) {
             greater(lo, sum_of(self.range_at(row.s).lo(), row.k))
@@ -146,10 +153,12 @@ impl Numbers {
     }
 
     /// The upper end of a symbol, cut by all bounds that go from it.
+    #[tactic(auto, using(crate::proofs::Cutting::cuts, crate::proofs::Small::narrow_ends))]
     fn highest(&self, s: u32) -> i128
         ensures value { result ≡
             rule.cut_by_all (rule.lowered_by self.now) (rows_from self.now.bounds s) (range_at self.now s).hi }
         ensures bound { IsSum result }
+        ensures small { AreNarrow self.now → IsCut result }
     {
         let mut hi = wide(self.range_at(s).hi());
         let rows = self.bounds.rows_from(s);
@@ -160,10 +169,12 @@ impl Numbers {
     }
 
     /// The lower end of a symbol, raised by all bounds that go to it. None goes to symbol 0.
-    #[tactic(auto, using(crate::proofs::Cutting::cuts))]
+    #[tactic(auto, using(crate::proofs::Cutting::cuts, crate::proofs::Small::narrow_ends))]
     fn lowest(&self, s: u32) -> i128
         ensures value { result ≡ rule.cut_by_all (rule.raised_by self.now s) self.now.bounds (range_at self.now s).lo }
         ensures bound { IsSum result }
+        ensures small { AreNarrow self.now → IsCut result }
+        ensures form { AreBounds self.now.bounds }
     {
         let mut lo = wide(self.range_at(s).lo());
         let rows = self.bounds.rows();
@@ -176,12 +187,15 @@ impl Numbers {
         lo
     }
 
-    /// The numbers that a symbol may be.
+    /// The numbers that are left to a symbol. They are no larger than ends of int32 that bounds cut, where ranges are of
+    /// int32.
     #[tactic(auto, unfolding(crate::specs::Ends::span_at))]
-    pub(crate) fn span_at(&self, s: u32) -> Span
+    pub(crate) fn left_to(&self, s: u32) -> Span
         ensures value { result ≡ rule.span_at self.now s }
         ensures ends { IsLong result }
         ensures hole { IsLongHole result.hole }
+        ensures small { AreNarrow self.now → AreNear result }
+        ensures form { AreBounds self.now.bounds }
     {
         met(self.lowest(s), self.highest(s), self.range_at(s).hole())
     }
@@ -193,7 +207,19 @@ impl Numbers {
         ensures low { IsBounded result.lo }
         ensures high { IsBounded result.hi }
     {
-        self.span_at(e.sym).shifted(e.k)
+        self.left_to(e.sym).shifted(e.k)
+    }
+
+    /// The numbers that an expression of a variable may have. Those of a constant begin with it.
+    #[tactic(auto, using(crate::proofs::Small::constant_low), unfolding(crate::specs::Ends::range_of))]
+    pub(crate) fn small_range_of(&self, e: Expr) -> Span
+        requires there { IsThere self.now e }
+        requires narrow { AreNarrow self.now }
+        ensures value { result ≡ rule.range_of self.now e }
+        ensures ends { IsSmall result }
+        ensures constant { e.sym ≡ 0 → result.lo ≡ e.k }
+    {
+        self.left_to(e.sym).shifted(e.k)
     }
 
     /// The least and the greatest number that an expression may have, and the number between them that it does not

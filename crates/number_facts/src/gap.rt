@@ -2,6 +2,7 @@
 
 ghost use Rattle.std.specs.Prelude.{◌≡◌, ◌-ℤ◌, ◌+ℤ◌, ◌≤ℤ◌, pos};
 ghost use Rattle.number_spans.specs.Sizes.{IsWide, IsBounded};
+ghost use Rattle.number_facts.specs.Sizes.{IsFar};
 ghost use Rattle.number_facts.specs.Ends.{range_of, span_at};
 ghost use Rattle.number_facts.specs.Gaps.{at_most, equal, gap, reaches};
 
@@ -10,22 +11,13 @@ use domain_api::{Expr, Order};
 use number_spans::{less_by, sum_of};
 
 /// The difference of two ends.
-fn far(from: i128, to: i128) -> i128
+pub(crate) fn far(from: i128, to: i128) -> i128
     requires first { IsWide from }
     requires second { IsWide to }
-    ensures { result ≡ to -ℤ from }
+    ensures value { result ≡ to -ℤ from }
+    ensures bound { IsFar result }
 {
     to - from
-}
-
-/// Returns whether a gap is so much at least.
-fn reaches(gap: Option<i64>, n: i128) -> bool
-    ensures { result ≡ reaches gap n }
-{
-    match gap {
-        None => false,
-        Some(gap) => n <= i128::from(gap),
-    }
 }
 
 impl Numbers {
@@ -33,7 +25,7 @@ impl Numbers {
     pub(crate) fn distance(&self, s: u32, t: u32) -> i128
         ensures { result ≡ (span_at self.now t).lo -ℤ (span_at self.now s).hi }
     {
-        far(self.span_at(s).hi, self.span_at(t).lo)
+        far(self.left_to(s).hi, self.left_to(t).lo)
     }
 
     /// Returns whether the first expression and a number more are known to be at most the second.
@@ -41,14 +33,11 @@ impl Numbers {
     pub(crate) fn is_at_most(&self, a: Expr, more: i64, b: Expr) -> bool
         ensures { result ≡ at_most self.now a more b }
     {
-        reaches(self.gap(a.sym, b.sym), less_by(sum_of(a.k, more), b.k))
-    }
-
-    /// Returns whether the first expression is known to be less than the second.
-    pub(crate) fn is_less(&self, a: Expr, b: Expr) -> bool
-        ensures { result ≡ at_most self.now a (pos 1) b }
-    {
-        self.is_at_most(a, 1, b)
+        let n = less_by(sum_of(a.k, more), b.k);
+        match self.gap(a.sym, b.sym) {
+            None => false,
+            Some(gap) => n <= i128::from(gap),
+        }
     }
 
     /// Returns whether they are known to be equal.

@@ -2,6 +2,8 @@
 //! changes it.
 #![tactic(auto)]
 
+mod additions;
+mod arith;
 mod assume;
 mod comparisons;
 mod ends;
@@ -9,6 +11,7 @@ mod fresh;
 mod gap;
 mod numbers;
 mod order;
+mod outcome;
 mod relation;
 
 pub use numbers::Numbers;

@@ -38,7 +38,7 @@ fn is_narrow(range: &Range) -> bool
 }
 
 /// Whether those of each range are.
-fn are_narrow(ranges: &[Range]) -> bool
+pub fn are_narrow(ranges: &[Range]) -> bool
     ensures { result ≡ true → AllByRecursion IsNarrow ranges.now }
 {
     match ranges {

@@ -21,3 +21,6 @@ pub mod PlanLemmas
 pub mod WholeLemmas
 pub mod BodyLemmas
 pub mod GeneratedLemmas
+pub mod AlikeFiles
+pub mod SmallFiles
+pub mod GeneratedFiles

@@ -6,3 +6,4 @@ pub mod Columns
 pub mod Readable
 pub mod Methods
 pub mod BodiesRead
+pub mod GeneratedFiles

@@ -16,6 +16,20 @@ use asm_writer::AsmPlan;
 use cc_base::{NoMemory, Refusal};
 use std::alloc::{AllocError, Global};
 
+/// Reads a file that has no fault. It is not refused, unless memory runs out.
+///
+/// Cost: that of reading the assembly.
+pub fn read_accepted<'a>(alloc: Global, bytes: &'a [u8]) -> Result<Assembly<'a>, NoMemory>
+    requires accepted { FirstBroken bytes.now ≡ None }
+    ensures { IfOk result (Reads bytes.now) }
+{
+    match Assembly::read(alloc, bytes) {
+        Ok(assembly) => Ok(assembly),
+        Err(Refusal::NoMemory) => Err(AllocError),
+        Err(Refusal::Bad(_)) => unreachable!(),
+    }
+}
+
 /// Reads the file that was written for a plan. It is not refused, unless memory runs out, and its methods are those
 /// of the plan.
 ///
@@ -38,9 +52,5 @@ pub fn read_written<'a>(
     ensures bodies { (index : ℕ) (m : MethodPlan) → IsMethodAt plan.now index m →
         ReadsBody plan.now bytes.now index m }
 {
-    match Assembly::read(alloc, bytes) {
-        Ok(assembly) => Ok(assembly),
-        Err(Refusal::NoMemory) => Err(AllocError),
-        Err(Refusal::Bad(_)) => unreachable!(),
-    }
+    read_accepted(alloc, bytes)
 }

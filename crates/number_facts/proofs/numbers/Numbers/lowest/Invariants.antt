@@ -1,7 +1,7 @@
 use Rattle.std.proofs.Common.{◌≡◌, drop}
 use Rattle.number_facts.specs.Ends as rule
-use Rattle.number_facts.specs.Facts.{range_at}
-use Rattle.number_facts.specs.Sizes.{IsSum}
+use Rattle.number_facts.specs.Facts.{AreNarrow, range_at}
+use Rattle.number_facts.specs.Sizes.{IsCut, IsSum}
 use Rattle.number_facts.proofs.numbers.Numbers.lowest.Given as goal
 
 -- What the bounds so far leave, and then the rest of them, is what all leave.
@@ -9,4 +9,5 @@ abbrev pub invariant-loop-row : goal.invariant-loop-row
 invariant-loop-row l = record {
   left : rule.cut_by_all (rule.raised_by l.self l.s) (drop l.row-index l.rows) l.lo ≡ rule.cut_by_all (rule.raised_by l.self l.s) l.rows (range_at l.self l.s).lo;
   bound : IsSum l.lo;
+  small : AreNarrow l.self → IsCut l.lo;
 }

@@ -1,0 +1,79 @@
+//! The answer to `gen SEED COUNT`.
+
+#![tactic(auto, using(cc_base::proofs::SinkLemmas::sinks, cc_base::proofs::CountLemmas::counts))]
+
+ghost use Rattle.std.specs.Prelude.{◌≡◌, ◌≤◌, IfOk, if◌then◌else◌};
+ghost use Rattle.check_driver.specs.Asked.{Asks, units_asked};
+ghost use Rattle.check_driver.specs.CheckText.{all_methods_proved, summary_text};
+ghost use Rattle.answer_lines.specs.Writing.{Writes, change_of};
+ghost use Rattle.written_assemblies.specs.GeneratedFiles.{generated_file};
+
+use crate::check_answer::{count, find_all, status_of};
+use answer_lines::{Interrupt, put_line, summary_line};
+use asm_image::Assembly;
+use cc_base::Sink;
+use std::alloc::{AllocError, Global};
+use widening_engine::Finder;
+use written_assemblies::{generated_file, read_accepted};
+
+/// What is told of an assembly without its methods: the last line of its report, and the status of a call that makes
+/// the report.
+#[derive(Drop)]
+struct Summary {
+    line: Vec<u8>,
+    status: u8,
+}
+
+/// Makes the summary of an assembly. The finder is asked as for its report.
+fn summarise<D: Finder>(
+    alloc: Global,
+    assembly: &Assembly<'_>,
+    finder: &mut D,
+) -> Result<Summary, AllocError>
+    ensures status { IfOk result (λ summary. summary.status ≡ (if all_methods_proved assembly.now then 0 else 1)) }
+    ensures line { IfOk result (λ summary. summary.line.items ≡ summary_text assembly.now) }
+    ensures asked { Asks (units_asked assembly.now) result (D.asked finder.old) (D.asked finder.new) }
+{
+    let found = find_all(alloc, assembly, finder)?;
+    Ok(Summary {
+        line: summary_line(alloc, count(&found))?,
+        status: status_of(&found),
+    })
+}
+
+/// Answers for an assembly that was generated.
+fn answer_generated<O: Sink, D: Finder>(
+    alloc: Global,
+    assembly: &Assembly<'_>,
+    out: &mut O,
+    finder: &mut D,
+) -> Result<u8, Interrupt>
+    ensures status { IfOk result (λ status. status ≡ (if all_methods_proved assembly.now then 0 else 1)) }
+    ensures written { Writes result (change_of O.written O.faults out.old out.new) (summary_text assembly.now) }
+    ensures asked { Asks (units_asked assembly.now) result (D.asked finder.old) (D.asked finder.new) }
+{
+    let summary = summarise(alloc, assembly, finder)?;
+    put_line(alloc, out, &summary.line)?;
+    Ok(summary.status)
+}
+
+/// Answers `gen SEED COUNT`: generates an assembly of so many methods from the seed, writes it to memory, reads it
+/// back, and puts the summary of its report.
+///
+/// Cost: linear in the count. The file is held until the answer is given.
+pub fn answer_gen<O: Sink, D: Finder>(
+    alloc: Global,
+    seed: u32,
+    count: u32,
+    out: &mut O,
+    finder: &mut D,
+) -> Result<u8, Interrupt>
+    requires few { count ≤ 10000 }
+    ensures status { IfOk result (λ status. status ≡ (if all_methods_proved (generated_file seed count) then 0 else 1)) }
+    ensures written { Writes result (change_of O.written O.faults out.old out.new) (summary_text (generated_file seed count)) }
+    ensures asked { Asks (units_asked (generated_file seed count)) result (D.asked finder.old) (D.asked finder.new) }
+{
+    let file = generated_file(alloc, seed, count)?;
+    let assembly = read_accepted(alloc, &file)?;
+    answer_generated(alloc, &assembly, out, finder)
+}

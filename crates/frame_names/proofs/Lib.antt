@@ -1,0 +1,7 @@
+pub mod FrameLemmas
+pub mod UseLemmas
+pub mod ListSteps
+pub mod SaidLaws
+pub mod BindingLaws
+pub mod TableLaws
+pub mod NearLaws

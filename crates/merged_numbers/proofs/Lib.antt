@@ -1,0 +1,10 @@
+pub mod TermLaws
+pub mod MergeLaws
+pub mod CutLaws
+pub mod OutcomeLaws
+pub mod RangeLists
+pub mod RowLaws
+pub mod InclusionLaws
+pub mod FormLaws
+pub mod ApartLaws
+pub mod Laws
