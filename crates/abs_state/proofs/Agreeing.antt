@@ -22,10 +22,10 @@ use Rattle.abs_state.specs.Forms.{EndsBy, IsVar, IsReference, TestsOf, HasForm}
 use Rattle.abs_state.specs.Holds.{HasValue, HaveValues, length_in, IsSo, AreSo, HoldsBy}
 use Rattle.abs_state.specs.Keeps.{HoldsOn}
 use Rattle.abs_state.specs.StateFacts.{StateFacts, reference_at}
-use Rattle.abs_state.specs.declared.reference.Reference.{Reference}
+use Rattle.frame_names.specs.declared.reference.Reference.{Reference}
 use Rattle.abs_state.specs.declared.reference.Unknown.{Unknown}
-use Rattle.abs_state.specs.declared.var.Var.{Var}
-use Rattle.abs_state.specs.declared.var.Var.TheVariants as vars
+use Rattle.frame_names.specs.declared.var.Var.{Var}
+use Rattle.frame_names.specs.declared.var.Var.TheVariants as vars
 use Rattle.abs_state.proofs.Searching.{reference_there}
 
 -- A choice that agrees with another one on so many symbols and references.

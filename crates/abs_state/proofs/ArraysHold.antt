@@ -34,10 +34,10 @@ use Rattle.abs_state.specs.Keeps.{HoldsOn, KeepsCall, KeepsNewArray, listed}
 use Rattle.abs_state.specs.Moves.{with_array}
 use Rattle.abs_state.specs.StateFacts.{StateFacts, State, are_apart, both_of_same_place, nullness_at, of_same_place, reference_at}
 use Rattle.abs_state.specs.States as calls
-use Rattle.abs_state.specs.declared.reference.Reference.{Reference}
+use Rattle.frame_names.specs.declared.reference.Reference.{Reference}
 use Rattle.abs_state.specs.declared.reference.Unknown.{Unknown}
-use Rattle.abs_state.specs.declared.var.Var.{Var}
-use Rattle.abs_state.specs.declared.var.Var.TheVariants as vars
+use Rattle.frame_names.specs.declared.var.Var.{Var}
+use Rattle.frame_names.specs.declared.var.Var.TheVariants as vars
 use Rattle.abs_state.proofs.Agreeing.{Agree, facts_agree, has_there, have_pushed, have_taken, pairs_agree, references_agree, values_agree}
 use Rattle.abs_state.proofs.Growing.{Grows, all_taken, same_facts}
 use Rattle.abs_state.proofs.MadeNumbers.{EachMade, IsMade, fresh_made, made_grows}

@@ -28,12 +28,12 @@ use Rattle.abs_state.specs.Comparing.{null_tested}
 use Rattle.abs_state.specs.Forms.{IsNumber, IsVar, IsReference, HasForm}
 use Rattle.abs_state.specs.Moves.{IsNamedNumber}
 use Rattle.abs_state.specs.StateFacts.{StateFacts, length_at, length_of, nullness_at, reference_at}
-use Rattle.abs_state.specs.declared.reference.Reference.{Reference}
+use Rattle.frame_names.specs.declared.reference.Reference.{Reference}
 use Rattle.abs_state.specs.declared.reference.Unknown.{Unknown}
 use Rattle.abs_state.specs.declared.test.Test.{Test}
 use Rattle.abs_state.specs.declared.test.Test.TheVariants.{Compares, IsNull}
-use Rattle.abs_state.specs.declared.var.Var.{Var}
-use Rattle.abs_state.specs.declared.var.Var.TheVariants as vars
+use Rattle.frame_names.specs.declared.var.Var.{Var}
+use Rattle.frame_names.specs.declared.var.Var.TheVariants as vars
 use Rattle.abs_state.proofs.Agreeing.{reference_of_form}
 use Rattle.abs_state.proofs.Growing.{Formed, Grows, grown, variables_stay, all_set}
 

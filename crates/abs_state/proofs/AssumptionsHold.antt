@@ -38,12 +38,12 @@ use Rattle.abs_state.specs.Holds.{HasValue, HoldsBy, HoldsIn, IsSo, AreSo}
 use Rattle.abs_state.specs.Keeps.{KeepsAssumed}
 use Rattle.abs_state.specs.StateFacts.{StateFacts, State, nullness_at, reference_at}
 use Rattle.abs_state.specs.States as calls
-use Rattle.abs_state.specs.declared.reference.Reference.{Reference}
+use Rattle.frame_names.specs.declared.reference.Reference.{Reference}
 use Rattle.abs_state.specs.declared.reference.Unknown.{Unknown}
 use Rattle.abs_state.specs.declared.test.Test.{Test}
 use Rattle.abs_state.specs.declared.test.Test.TheVariants.{Compares, IsNull}
-use Rattle.abs_state.specs.declared.var.Var.{Var}
-use Rattle.abs_state.specs.declared.var.Var.TheVariants as vars
+use Rattle.frame_names.specs.declared.var.Var.{Var}
+use Rattle.frame_names.specs.declared.var.Var.TheVariants as vars
 use Rattle.abs_state.proofs.ArraysHold.{nullness_agrees}
 use Rattle.abs_state.proofs.AssumptionForms.{ready_behind}
 use Rattle.abs_state.proofs.ComparisonForms.{tested_there}

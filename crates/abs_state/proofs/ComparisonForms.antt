@@ -26,8 +26,8 @@ use Rattle.symbolic_values.specs.declared.def.Def.TheVariants.{NullTest}
 use Rattle.abs_state.specs.Comparing.{null_tested, null_known, same_known, truth_expr, with_comparison, with_defined, with_known, with_null_known, with_null_test, with_same, with_same_known, with_tested, with_truth, is_equality}
 use Rattle.abs_state.specs.Forms.{IsNumber, IsVar, AreRising, TestsOf, HasForm}
 use Rattle.abs_state.specs.StateFacts.{StateFacts, nullness_at}
-use Rattle.abs_state.specs.declared.var.Var.{Var}
-use Rattle.abs_state.specs.declared.var.Var.TheVariants as vars
+use Rattle.frame_names.specs.declared.var.Var.{Var}
+use Rattle.frame_names.specs.declared.var.Var.TheVariants as vars
 use Rattle.abs_state.proofs.Growing.{Formed, Grows, all_weaker, all_pushed, one_longer, same_facts}
 use Rattle.abs_state.proofs.MadeNumbers.{on_top_form}
 use Rattle.abs_state.proofs.MoveForms.{pushed_form, number_form}

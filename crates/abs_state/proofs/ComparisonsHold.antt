@@ -36,8 +36,8 @@ use Rattle.abs_state.specs.Holds.{HasValue, HoldsBy}
 use Rattle.abs_state.specs.Keeps.{HoldsOn, KeepsComparison}
 use Rattle.abs_state.specs.StateFacts.{StateFacts, State, are_apart, nullness_at}
 use Rattle.abs_state.specs.States as calls
-use Rattle.abs_state.specs.declared.var.Var.{Var}
-use Rattle.abs_state.specs.declared.var.Var.TheVariants as vars
+use Rattle.frame_names.specs.declared.var.Var.{Var}
+use Rattle.frame_names.specs.declared.var.Var.TheVariants as vars
 use Rattle.abs_state.proofs.Agreeing.{have_pushed, made_holds}
 use Rattle.abs_state.proofs.ArraysHold.{are_apart_differ, nullness_agrees}
 use Rattle.abs_state.proofs.ComparisonForms.{tested_there}

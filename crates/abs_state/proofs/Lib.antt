@@ -12,3 +12,5 @@ pub mod ArraysHold
 pub mod KeptWhereOk
 pub mod ComparisonsHold
 pub mod AssumptionsHold
+pub mod ResultForms
+pub mod ResultsHold

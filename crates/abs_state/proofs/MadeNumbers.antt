@@ -16,7 +16,7 @@ use Rattle.number_facts.specs.Holds.{KeepsForm}
 use Rattle.abs_state.specs.Forms.{IsNumber, HasForm, IsVar}
 use Rattle.abs_state.specs.Moves.{on_top}
 use Rattle.abs_state.specs.StateFacts.{StateFacts}
-use Rattle.abs_state.specs.declared.var.Var.TheVariants as vars
+use Rattle.frame_names.specs.declared.var.Var.TheVariants as vars
 use Rattle.abs_state.proofs.Growing.{Formed, Grows, grown, variables_stay, all_pushed, one_longer}
 
 -- A number that is made is there, and no definition comes with it.

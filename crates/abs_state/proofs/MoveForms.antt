@@ -13,8 +13,8 @@ use Rattle.abs_state.specs.Calls.{apart_from_all, apart_with, returned, with_cal
 use Rattle.abs_state.specs.Forms.{IsNumber, IsVar, IsArrayPlace, HasForm, EndsBy}
 use Rattle.abs_state.specs.Moves.{beside, in_variable, is_byte, item_place, on_top, place_at, placed, popped, pushed, with_array, with_item, with_number, with_placed, with_put, with_stored}
 use Rattle.abs_state.specs.StateFacts.{StateFacts}
-use Rattle.abs_state.specs.declared.var.Var.{Var}
-use Rattle.abs_state.specs.declared.var.Var.TheVariants as vars
+use Rattle.frame_names.specs.declared.var.Var.{Var}
+use Rattle.frame_names.specs.declared.var.Var.TheVariants as vars
 use Rattle.abs_state.proofs.Growing.{Formed, grown, variables_stay, same_facts, with_reference, all_weaker, all_pushed, all_set, all_taken}
 use Rattle.abs_state.proofs.MadeNumbers.{IsMade, EachMade, fresh_made, made_grows, on_top_form, each_formed}
 

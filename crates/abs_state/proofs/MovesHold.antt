@@ -32,10 +32,10 @@ use Rattle.abs_state.specs.Keeps.{HoldsOn, KeepsLoad, KeepsPop, KeepsPush, Keeps
 use Rattle.abs_state.specs.Moves.{beside, greatest_item, in_variable, is_byte, item_place, least_item, on_top, place_at, place_of, placed, popped, with_item, with_number, with_placed, with_put, with_stored}
 use Rattle.abs_state.specs.StateFacts.{StateFacts, State, reference_at}
 use Rattle.abs_state.specs.States as calls
-use Rattle.abs_state.specs.declared.reference.Reference.{Reference}
+use Rattle.frame_names.specs.declared.reference.Reference.{Reference}
 use Rattle.abs_state.specs.declared.reference.Unknown.{Unknown}
-use Rattle.abs_state.specs.declared.var.Var.{Var}
-use Rattle.abs_state.specs.declared.var.Var.TheVariants as vars
+use Rattle.frame_names.specs.declared.var.Var.{Var}
+use Rattle.frame_names.specs.declared.var.Var.TheVariants as vars
 use Rattle.abs_state.proofs.Agreeing.{have_pushed, have_set, have_taken, as_many, made_holds}
 
 -- ---- pushes and pops

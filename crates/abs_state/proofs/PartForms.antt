@@ -20,10 +20,10 @@ use Rattle.abs_state.specs.FormTests.{is_inner, is_narrow, has, is_number, is_va
 use Rattle.abs_state.specs.Forms.{AreRising, EndsBy, HasForm, IsArrayPlace, IsNumber, IsReference, IsVar, TestsOf}
 use Rattle.abs_state.specs.StateFacts.{StateFacts}
 use Rattle.abs_state.specs.StateParts.{StateParts, AreOrdered, AreParts, known_of}
-use Rattle.abs_state.specs.declared.reference.Reference.{Reference}
+use Rattle.frame_names.specs.declared.reference.Reference.{Reference}
 use Rattle.abs_state.specs.declared.reference.Unknown.{Unknown}
-use Rattle.abs_state.specs.declared.var.Var.{Var}
-use Rattle.abs_state.specs.declared.var.Var.TheVariants as vars
+use Rattle.frame_names.specs.declared.var.Var.{Var}
+use Rattle.frame_names.specs.declared.var.Var.TheVariants as vars
 
 -- ---- tests
 

@@ -8,7 +8,7 @@ use Rattle.abs_state.specs.Assuming.{definition_at}
 use Rattle.abs_state.specs.Calls.{apart_with}
 use Rattle.abs_state.specs.FormTests.{rise_from}
 use Rattle.abs_state.specs.StateFacts.{reference_at}
-use Rattle.abs_state.specs.declared.reference.Reference.{Reference}
+use Rattle.frame_names.specs.declared.reference.Reference.{Reference}
 use Rattle.abs_state.specs.declared.reference.Unknown.{Unknown}
 
 -- ---- definitions

@@ -4,6 +4,7 @@ pub mod Moves
 pub mod Calls
 pub mod Comparing
 pub mod Assuming
+pub mod Arithmetic
 pub mod States
 pub mod StateParts
 pub mod FormTests

@@ -5,12 +5,13 @@ use Rattle.cil_model.specs.declared.instruction.BinOp.{BinOp}
 use Rattle.cil_model.specs.declared.instruction.CmpOp.{CmpOp}
 use Rattle.cil_model.specs.declared.place.Place.{Place}
 use Rattle.domain_api.specs.declared.expr.Expr.{Expr}
+use Rattle.abs_state.specs.Arithmetic.{with_result}
 use Rattle.abs_state.specs.Assuming.{assumed}
 use Rattle.abs_state.specs.Calls.{with_call}
 use Rattle.abs_state.specs.Comparing.{with_comparison}
 use Rattle.abs_state.specs.Moves.{pushed, popped, with_put, with_item, with_stored, with_array}
 use Rattle.abs_state.specs.StateFacts.{State}
-use Rattle.abs_state.specs.declared.var.Var.{Var}
+use Rattle.frame_names.specs.declared.var.Var.{Var}
 
 abbrev pub push : Var → State → State
 push v state = option_map (λ known. pushed known v) state
@@ -20,6 +21,9 @@ pop state = option_map popped state
 
 abbrev pub put : ℕ → Var → Place → State → State
 put i v place state = option_and_then (with_put i v place) state
+
+abbrev pub arith : BinOp → Expr → Expr → State → State
+arith op a b state = option_and_then (with_result op a b) state
 
 abbrev pub compare : BinOp → Var → Var → State → State
 compare op a b state = option_and_then (with_comparison op a b) state

@@ -10,9 +10,9 @@ ghost use Rattle.abs_state.specs.StateFacts.{nullness_at};
 
 use crate::comparing::null_tested;
 use crate::known::Known;
-use crate::reference::Reference;
+use frame_names::Reference;
 use crate::test::Test;
-use crate::var::Var;
+use frame_names::Var;
 use alias_facts::Nullness;
 use cil_model::CmpOp;
 use domain_api::{Expr, NoMemory};

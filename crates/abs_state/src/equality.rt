@@ -3,9 +3,10 @@
 ghost use Rattle.std.specs.Prelude.{◌≡◌, ◌↔◌, IsTrue};
 
 use crate::known::Known;
-use crate::reference::{Reference, Unknown};
+use crate::reference::Unknown;
+use frame_names::Reference;
 use crate::state::AbsState;
-use crate::var::Var;
+use frame_names::Var;
 use domain_api::Expr;
 use interval_domain::Range;
 use number_facts::Numbers;

@@ -1,6 +1,7 @@
 //! What is known of a point of a run, by symbols and references: the state of the analysis before an instruction.
 #![tactic(auto)]
 
+mod arithmetic;
 mod assuming;
 mod calls;
 mod comparing;
@@ -12,9 +13,8 @@ mod reference;
 mod state;
 mod steps;
 mod test;
-mod var;
 
+pub use frame_names::{Reference, Var};
 pub use parts::Parts;
-pub use reference::{Reference, Unknown};
+pub use reference::Unknown;
 pub use state::AbsState;
-pub use var::Var;

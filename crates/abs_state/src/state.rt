@@ -7,6 +7,10 @@ ghost use Rattle.cil_model.specs.Comparisons.{comparison_of};
 ghost use Rattle.number_facts.specs.Facts.{IsNamed};
 ghost use Rattle.number_facts.specs.Ends.{range_of};
 ghost use Rattle.number_facts.specs.Gaps as numbers;
+ghost use Rattle.number_facts.specs.Arith as operators;
+ghost use Rattle.interval_domain.specs.Arithmetic.{near};
+ghost use Rattle.number_spans.specs.Owed.{Divides, Shifts};
+ghost use Rattle.abs_state.specs.Arithmetic.{HasExactEnds, KeepsArith};
 ghost use Rattle.abs_state.specs.Forms.{HasForm, HasNumber, HasReference, HasVar, IsArrayPlace};
 ghost use Rattle.abs_state.specs.Keeps.{KeepsAssumed, KeepsCall, KeepsComparison, KeepsLoad, KeepsNewArray};
 ghost use Rattle.abs_state.specs.Keeps.{KeepsPop, KeepsPush, KeepsPut, KeepsStore};
@@ -14,7 +18,7 @@ ghost use Rattle.abs_state.specs.StateFacts.{length_at, nullness_at, variables_i
 ghost use Rattle.abs_state.specs.States as rule;
 
 use crate::known::Known;
-use crate::var::Var;
+use frame_names::Var;
 use alias_facts::Nullness;
 use cil_model::{BinOp, CmpOp, Place};
 use domain_api::{Expr, NoMemory, Order};
@@ -148,6 +152,20 @@ impl AbsState {
         self.known().numbers.gap(s, t)
     }
 
+    /// The ends of the range that is judged for overflow, for an operator that may overflow. One beyond 64 bits is the
+    /// nearest number of 64 bits.
+    #[tactic(auto, using(crate::proofs::ResultForms::is_there, crate::proofs::ResultForms::are_narrow))]
+    pub fn exact_ends(&self, op: BinOp, a: Expr, b: Expr) -> (i64, i64)
+        requires reached { IsSome self.now }
+        requires first { ForSome self.now (λ known. HasNumber known a) }
+        requires second { ForSome self.now (λ known. HasNumber known b) }
+        ensures least { ForSome self.now (λ known. result.0 ≡ near (operators.exact op known.facts a b).lo) }
+        ensures greatest { ForSome self.now (λ known. result.1 ≡ near (operators.exact op known.facts a b).hi) }
+        ensures sound { HasExactEnds op a b self.now result.0 result.1 }
+    {
+        self.known().numbers.exact_ends(op, a, b)
+    }
+
     /// Pushes what is known of a value.
     ///
     /// Here as below a state in which nothing is reached stays, and want of memory leaves the state as it was.
@@ -182,6 +200,21 @@ impl AbsState {
         ensures err { OnErr result (self.new ≡ self.old) }
     {
         self.put_var(i, v, place)
+    }
+
+    /// Pushes the result of an operator other than a comparison. Where there is none, nothing is reached.
+    ///
+    /// The caller owes a constant that divides other than 0, and one to shift by from 0 to 31.
+    pub fn arith(&mut self, op: BinOp, a: Expr, b: Expr) -> Result<(), NoMemory>
+        requires first { ForSome self.old (λ known. HasNumber known a) }
+        requires second { ForSome self.old (λ known. HasNumber known b) }
+        requires divisor { Divides op b }
+        requires amount { Shifts op b }
+        ensures ok { OnOk result (self.new ≡ rule.arith op a b self.old) }
+        ensures keeps { OnOk result (KeepsArith op a b self.old self.new) }
+        ensures err { OnErr result (self.new ≡ self.old) }
+    {
+        self.push_arith(op, a, b)
     }
 
     /// Pushes 1 where a comparison is true and 0 where it is false, or a number of both.

@@ -3,11 +3,12 @@
 ghost use Rattle.std.specs.Prelude.{◌≡◌, ◌+◌, ◌<◌, ◌≤◌, Some, OnOk, OnErr, IsSome, length};
 ghost use Rattle.std.specs.Option.{ForSome};
 ghost use Rattle.cil_model.specs.Comparisons.{comparison_of};
+ghost use Rattle.number_spans.specs.Owed.{Divides, Shifts};
 ghost use Rattle.abs_state.specs.Forms.{HasForm, HasNumber, HasReference, HasVar, IsArrayPlace};
 ghost use Rattle.abs_state.specs.States as rule;
 
 use crate::state::AbsState;
-use crate::var::Var;
+use frame_names::Var;
 use cil_model::{BinOp, CmpOp, Place};
 use domain_api::{Expr, NoMemory};
 
@@ -52,6 +53,26 @@ impl AbsState {
             return Ok(());
         };
         if !known.put(i as usize, v, place)? {
+            self.known = None;
+        }
+        Ok(())
+    }
+
+    /// Pushes the result of an operator.
+    #[tactic(auto, using(crate::proofs::ResultForms::is_there, crate::proofs::ResultForms::are_narrow))]
+    pub(crate) fn push_arith(&mut self, op: BinOp, a: Expr, b: Expr) -> Result<(), NoMemory>
+        requires first { ForSome self.old (λ known. HasNumber known a) }
+        requires second { ForSome self.old (λ known. HasNumber known b) }
+        requires divisor { Divides op b }
+        requires amount { Shifts op b }
+        ensures ok { OnOk result (self.new ≡ rule.arith op a b self.old) }
+        ensures err { OnErr result (self.new ≡ self.old) }
+        ensures form { ForSome self.old HasForm }
+    {
+        let Some(known) = &mut self.known else {
+            return Ok(());
+        };
+        if !known.arith(op, a, b)? {
             self.known = None;
         }
         Ok(())
