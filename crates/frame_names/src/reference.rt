@@ -10,7 +10,7 @@ use domain_api::Expr;
 /// What is known of a reference: it is null, or an array of this type. Null has the length 0.
 ///
 /// Reference r stands at place r - 1 of a table. Reference 0 is null and has no entry.
-#[derive(Drop, Debug)]
+#[derive(Clone, Copy, Debug, PartialEq, Eq)]
 pub struct Reference<C> {
     /// The type of the array.
     pub place: Place,

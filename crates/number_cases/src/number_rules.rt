@@ -23,36 +23,20 @@ pub fn is_there(numbers: &Numbers, e: Expr) -> Result<(), Failure>
     }
 }
 
-/// The symbol of a number is there, and its constant has at most 33 bits.
-fn is_near(numbers: &Numbers, e: Expr) -> Result<(), Failure>
-    ensures { OnOk result (IsThere numbers.now e) }
-{
-    if e.sym as usize <= numbers.ranges.len() && -4_294_967_296 <= e.k && e.k <= 4_294_967_296 {
-        Ok(())
-    } else {
-        Err(Failure::Unmet("the number's symbol is there, and its constant has at most 33 bits"))
-    }
-}
-
-/// The two numbers of an operator.
-fn operands(numbers: &Numbers, a: &str, b: &str) -> Result<(Expr, Expr), Failure>
+/// The two numbers of an operator, each there, with a constant of at most 33 bits, and of symbols of int32.
+fn operands(alloc: Global, numbers: &Numbers, a: &str, b: &str) -> Result<(Expr, Expr), Failure>
     ensures first { IfOk result (λ pair. IsThere numbers.now pair.0) }
     ensures second { IfOk result (λ pair. IsThere numbers.now pair.1) }
+    ensures narrow { OnOk result (AreNarrow numbers.now) }
 {
     let (a, b) = (expr(a)?, expr(b)?);
-    is_near(numbers, a)?;
-    is_near(numbers, b)?;
-    Ok((a, b))
-}
-
-/// The numbers of each symbol are int32.
-fn are_narrow(alloc: Global, numbers: &Numbers) -> Result<(), Failure>
-    ensures { OnOk result (AreNarrow numbers.now) }
-{
     let ranges = range_facts::Numbers {
         ranges: Vec::from_slice(alloc, numbers.ranges.as_slice())?,
     };
-    narrow(&ranges)
+    narrow(&ranges)?;
+    rule_text::is_there(&ranges, a)?;
+    rule_text::is_there(&ranges, b)?;
+    Ok((a, b))
 }
 
 /// The text of a number that was made, or that there is none.
@@ -110,8 +94,7 @@ pub fn arith(alloc: Global, numbers: &mut Numbers, argument: &str) -> Result<(),
     let (question, told) = asked(argument)?;
     let (op, a, b) = three_words(question)?;
     let op = operator(op).ok_or(Failure::Unread("an operator"))?;
-    let (a, b) = operands(numbers, a, b)?;
-    are_narrow(alloc, numbers)?;
+    let (a, b) = operands(alloc, numbers, a, b)?;
     may_operate(op, b)?;
     let made = numbers.arith(op, a, b)?;
     check(made_text(alloc, made)?, told)
@@ -122,8 +105,7 @@ pub fn exact(alloc: Global, numbers: &Numbers, argument: &str) -> Result<(), Fai
     let (question, told) = asked(argument)?;
     let (op, a, b) = three_words(question)?;
     let op = operator(op).ok_or(Failure::Unread("an operator"))?;
-    let (a, b) = operands(numbers, a, b)?;
-    are_narrow(alloc, numbers)?;
+    let (a, b) = operands(alloc, numbers, a, b)?;
     let (lo, hi) = numbers.exact_ends(op, a, b);
     check(format!(in alloc; "{lo}..{hi}")?, told)
 }

@@ -41,7 +41,7 @@ SomeKept count number P None = ⊥
 SomeKept count number P (Some facts) = Kept count number P facts
 
 -- one step after another
-then_kept : (count : ℕ) (number : ℕ → ℤ) (P : List (ℕ × Def) → Type 0) (o : Option Facts) (f : Facts → Option Facts) → SomeKept count number P o
+pub then_kept : (count : ℕ) (number : ℕ → ℤ) (P : List (ℕ × Def) → Type 0) (o : Option Facts) (f : Facts → Option Facts) → SomeKept count number P o
     → ((facts : Facts) → Kept count number P facts → SomeKept count number P (f facts)) → SomeKept count number P (option_and_then f o)
 then_kept count number P None f kept next = elim kept [ ]
 then_kept count number P (Some facts) f kept next = next facts kept
@@ -134,15 +134,15 @@ at_most_kept count number P facts a more b kept first second le =
     let stored = bounded_kept count number P facts a.sym b.sym ((a.k +ℤ more) -ℤ b.k) kept (omega (arith, ints, le)) in
     cut_kept count number P (bounded facts a.sym b.sym ((a.k +ℤ more) -ℤ b.k)) a more b stored first second le)
 
-less_kept : (count : ℕ) (number : ℕ → ℤ) (P : List (ℕ × Def) → Type 0) (facts : Facts) (a b : Expr) → Kept count number P facts → a.sym ≤ count → b.sym ≤ count
+pub less_kept : (count : ℕ) (number : ℕ → ℤ) (P : List (ℕ × Def) → Type 0) (facts : Facts) (a b : Expr) → Kept count number P facts → a.sym ≤ count → b.sym ≤ count
     → worth number a <ℤ worth number b → SomeKept count number P (assumed_less facts a b)
 less_kept count number P facts a b kept first second less = at_most_kept count number P facts a (pos 1) b kept first second (omega (arith, ints, less))
 
-le_kept : (count : ℕ) (number : ℕ → ℤ) (P : List (ℕ × Def) → Type 0) (facts : Facts) (a b : Expr) → Kept count number P facts → a.sym ≤ count → b.sym ≤ count
+pub le_kept : (count : ℕ) (number : ℕ → ℤ) (P : List (ℕ × Def) → Type 0) (facts : Facts) (a b : Expr) → Kept count number P facts → a.sym ≤ count → b.sym ≤ count
     → worth number a ≤ℤ worth number b → SomeKept count number P (assumed_at_most facts a (pos 0) b)
 le_kept count number P facts a b kept first second le = at_most_kept count number P facts a (pos 0) b kept first second (omega (arith, ints, le))
 
-equal_kept : (count : ℕ) (number : ℕ → ℤ) (P : List (ℕ × Def) → Type 0) (facts : Facts) (a b : Expr) → Kept count number P facts → a.sym ≤ count → b.sym ≤ count
+pub equal_kept : (count : ℕ) (number : ℕ → ℤ) (P : List (ℕ × Def) → Type 0) (facts : Facts) (a b : Expr) → Kept count number P facts → a.sym ≤ count → b.sym ≤ count
     → worth number a ≡ worth number b → SomeKept count number P (assumed_equal facts a b)
 unfolding assumed_equal
 equal_kept count number P facts a b kept first second same =
@@ -172,7 +172,7 @@ ordered_kept count number P facts a b kept first second other =
     (λ f. let le = at_most_holds facts number b (pos 0) a kept.allowed f in less_kept count number P facts b a kept second first (omega (arith, ints, le, other)))
     (λ f. kept))
 
-apart_kept : (count : ℕ) (number : ℕ → ℤ) (P : List (ℕ × Def) → Type 0) (facts : Facts) (a b : Expr) → Kept count number P facts → a.sym ≤ count → b.sym ≤ count
+pub apart_kept : (count : ℕ) (number : ℕ → ℤ) (P : List (ℕ × Def) → Type 0) (facts : Facts) (a b : Expr) → Kept count number P facts → a.sym ≤ count → b.sym ≤ count
     → worth number a ≢ worth number b → SomeKept count number P (assumed_apart facts a b)
 unfolding assumed_apart
 apart_kept count number P facts a b kept first second other =
