@@ -10,12 +10,11 @@ ghost use Rattle.abs_state.specs.StateFacts.{nullness_at};
 
 use crate::comparing::null_tested;
 use crate::known::Known;
-use frame_names::Reference;
 use crate::test::Test;
-use frame_names::Var;
 use alias_facts::Nullness;
 use cil_model::CmpOp;
 use domain_api::{Expr, NoMemory};
+use frame_names::{Reference, Var};
 use number_facts::Numbers;
 use symbolic_values::Def;
 

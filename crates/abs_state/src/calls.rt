@@ -6,11 +6,10 @@ ghost use Rattle.abs_state.specs.Calls as rule;
 
 use crate::known::Known;
 use crate::reference::Unknown;
-use frame_names::Reference;
-use frame_names::Var;
 use alias_facts::{Apart, Nullness};
 use cil_model::Place;
 use domain_api::NoMemory;
+use frame_names::{Reference, Var};
 
 impl Known {
     /// Returns whether a reference is known not to be the array that is passed, if one is.

@@ -7,10 +7,10 @@ ghost use Rattle.abs_state.specs.Comparing as rule;
 ghost use Rattle.abs_state.specs.Moves.{IsNamedNumber};
 
 use crate::known::Known;
-use frame_names::Var;
 use alias_facts::Nullness;
 use cil_model::BinOp;
 use domain_api::{Expr, NoMemory, Values};
+use frame_names::Var;
 use interval_domain::Range;
 use number_facts::Numbers;
 use std::alloc::AllocError;

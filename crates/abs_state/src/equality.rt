@@ -4,10 +4,9 @@ ghost use Rattle.std.specs.Prelude.{◌≡◌, ◌↔◌, IsTrue};
 
 use crate::known::Known;
 use crate::reference::Unknown;
-use frame_names::Reference;
 use crate::state::AbsState;
-use frame_names::Var;
 use domain_api::Expr;
+use frame_names::{Reference, Var};
 use interval_domain::Range;
 use number_facts::Numbers;
 use symbolic_values::Def;

@@ -4,11 +4,10 @@ ghost use Rattle.std.specs.Prelude.{◌≡◌, ◌≢◌, ◌+◌, ◌≤◌, �
 ghost use Rattle.abs_state.specs.StateFacts as rule;
 
 use crate::reference::Unknown;
-use frame_names::Reference;
-use frame_names::Var;
 use alias_facts::{Apart, Nullness};
 use cil_model::Place;
 use domain_api::{Expr, NoMemory};
+use frame_names::{Reference, Var};
 use number_facts::Numbers;
 use std::alloc::{AllocError, Global};
 use std::marker::Model;

@@ -8,11 +8,10 @@ ghost use Rattle.abs_state.specs.Moves as rule;
 
 use crate::known::Known;
 use crate::reference::Unknown;
-use frame_names::Reference;
-use frame_names::Var;
 use alias_facts::Nullness;
 use cil_model::Place;
 use domain_api::{Expr, NoMemory};
+use frame_names::{Reference, Var};
 use number_facts::Numbers;
 
 /// Returns whether the numbers of an expression are all numbers of bool.

@@ -7,12 +7,11 @@ ghost use Rattle.abs_state.specs.StateParts.{AreOrdered, AreParts, known_of, par
 
 use crate::known::Known;
 use crate::reference::Unknown;
-use frame_names::Reference;
 use crate::state::AbsState;
-use frame_names::Var;
 use alias_facts::Apart;
 use cil_model::Place;
 use domain_api::{Expr, NoMemory};
+use frame_names::{Reference, Var};
 use interval_domain::Range;
 use number_facts::Numbers;
 use pentagon_domain::{BoundRow, Bounds};

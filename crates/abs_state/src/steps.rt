@@ -8,9 +8,9 @@ ghost use Rattle.abs_state.specs.Forms.{HasForm, HasNumber, HasReference, HasVar
 ghost use Rattle.abs_state.specs.States as rule;
 
 use crate::state::AbsState;
-use frame_names::Var;
 use cil_model::{BinOp, CmpOp, Place};
 use domain_api::{Expr, NoMemory};
+use frame_names::Var;
 
 impl AbsState {
     /// Pushes what is known of a value.
