@@ -10,8 +10,8 @@ use Rattle.cil_model.specs.declared.place.Place.TheVariants as places
 use Rattle.number_facts.specs.Fresh.{Made, fresh}
 use Rattle.abs_state.specs.Moves.{with_number}
 use Rattle.abs_state.specs.StateFacts.{StateFacts, are_apart}
-use Rattle.abs_state.specs.declared.var.Var.{Var}
-use Rattle.abs_state.specs.declared.var.Var.TheVariants as vars
+use Rattle.frame_names.specs.declared.var.Var.{Var}
+use Rattle.frame_names.specs.declared.var.Var.TheVariants as vars
 
 -- A reference is known not to be the array that is passed, if one is.
 abbrev pub apart_from : StateFacts → ℕ → Var → Bool

@@ -15,8 +15,8 @@ use Rattle.symbolic_values.specs.declared.def.Def.{Def}
 use Rattle.symbolic_values.specs.declared.def.Def.TheVariants.{NullTest}
 use Rattle.abs_state.specs.Moves.{on_top, pushed, with_number}
 use Rattle.abs_state.specs.StateFacts.{StateFacts, are_apart, nullness_at}
-use Rattle.abs_state.specs.declared.var.Var.{Var}
-use Rattle.abs_state.specs.declared.var.Var.TheVariants as vars
+use Rattle.frame_names.specs.declared.var.Var.{Var}
+use Rattle.frame_names.specs.declared.var.Var.TheVariants as vars
 
 -- ---- numbers
 

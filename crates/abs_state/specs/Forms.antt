@@ -11,10 +11,10 @@ use Rattle.symbolic_values.specs.Pairing.{IsNear}
 use Rattle.symbolic_values.specs.declared.def.Def.{Def}
 use Rattle.symbolic_values.specs.declared.def.Def.TheVariants.{NullTest}
 use Rattle.abs_state.specs.StateFacts.{StateFacts, State}
-use Rattle.abs_state.specs.declared.reference.Reference.{Reference}
+use Rattle.frame_names.specs.declared.reference.Reference.{Reference}
 use Rattle.abs_state.specs.declared.reference.Unknown.{Unknown}
-use Rattle.abs_state.specs.declared.var.Var.{Var}
-use Rattle.abs_state.specs.declared.var.Var.TheVariants as vars
+use Rattle.frame_names.specs.declared.var.Var.{Var}
+use Rattle.frame_names.specs.declared.var.Var.TheVariants as vars
 
 -- The symbol of an expression is there, of so many, and its constant is one of -2^32 to 2^32.
 pub record IsNumber (symbols : ℕ) (e : Expr) : Type 0 where

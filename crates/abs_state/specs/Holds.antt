@@ -14,10 +14,10 @@ use Rattle.machine_points.specs.declared.point.Point.{Point}
 use Rattle.number_facts.specs.Holds.{Holds}
 use Rattle.symbolic_values.specs.Worth.{worth}
 use Rattle.abs_state.specs.StateFacts.{StateFacts, State, reference_at}
-use Rattle.abs_state.specs.declared.reference.Reference.{Reference}
+use Rattle.frame_names.specs.declared.reference.Reference.{Reference}
 use Rattle.abs_state.specs.declared.reference.Unknown.{Unknown}
-use Rattle.abs_state.specs.declared.var.Var.{Var}
-use Rattle.abs_state.specs.declared.var.Var.TheVariants as vars
+use Rattle.frame_names.specs.declared.var.Var.{Var}
+use Rattle.frame_names.specs.declared.var.Var.TheVariants as vars
 
 -- ---- variables
 

@@ -15,7 +15,7 @@ use Rattle.domain_api.specs.declared.expr.Expr.{Expr}
 use Rattle.symbolic_values.specs.Worth.{worth}
 use Rattle.abs_state.specs.Holds.{HasValue, HoldsIn}
 use Rattle.abs_state.specs.StateFacts.{StateFacts, State}
-use Rattle.abs_state.specs.declared.var.Var.{Var}
+use Rattle.frame_names.specs.declared.var.Var.{Var}
 
 abbrev pub symbols_in : State → ℕ
 symbols_in None = 0

@@ -12,10 +12,10 @@ use Rattle.number_facts.specs.Facts.{Facts, IsNamed}
 use Rattle.number_facts.specs.Fresh.{Made, fresh}
 use Rattle.number_spans.specs.declared.span.Span.{Span}
 use Rattle.abs_state.specs.StateFacts.{StateFacts, State, reference_at}
-use Rattle.abs_state.specs.declared.reference.Reference.{Reference}
+use Rattle.frame_names.specs.declared.reference.Reference.{Reference}
 use Rattle.abs_state.specs.declared.reference.Unknown.{Unknown}
-use Rattle.abs_state.specs.declared.var.Var.{Var}
-use Rattle.abs_state.specs.declared.var.Var.TheVariants as vars
+use Rattle.frame_names.specs.declared.var.Var.{Var}
+use Rattle.frame_names.specs.declared.var.Var.TheVariants as vars
 
 -- ---- pushes and pops
 

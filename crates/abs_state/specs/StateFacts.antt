@@ -8,9 +8,9 @@ use Rattle.alias_facts.specs.declared.nullness.Nullness.TheVariants.{Null}
 use Rattle.cil_model.specs.Values.{same_place}
 use Rattle.number_facts.specs.Facts.{Facts}
 use Rattle.number_spans.specs.Constants.{constant}
-use Rattle.abs_state.specs.declared.reference.Reference.{Reference}
+use Rattle.frame_names.specs.declared.reference.Reference.{Reference}
 use Rattle.abs_state.specs.declared.reference.Unknown.{Unknown}
-use Rattle.abs_state.specs.declared.var.Var.{Var}
+use Rattle.frame_names.specs.declared.var.Var.{Var}
 
 -- What each variable has, what is known of symbols, what is known of each reference from 1 on, in order, and which
 -- references are not the same array. Symbol 0 is the number 0, and reference 0 is null.

@@ -7,9 +7,9 @@ use Rattle.pentagon_domain.specs.declared.bound_row.BoundRow.{BoundRow}
 use Rattle.symbolic_values.specs.declared.def.Def.{Def}
 use Rattle.abs_state.specs.Forms.{HasForm}
 use Rattle.abs_state.specs.StateFacts.{StateFacts, State}
-use Rattle.abs_state.specs.declared.reference.Reference.{Reference}
+use Rattle.frame_names.specs.declared.reference.Reference.{Reference}
 use Rattle.abs_state.specs.declared.reference.Unknown.{Unknown}
-use Rattle.abs_state.specs.declared.var.Var.{Var}
+use Rattle.frame_names.specs.declared.var.Var.{Var}
 
 -- Whether something is reached, what each variable has, the range of each symbol from 1 on, definitions, bounds, what is
 -- known of each reference from 1 on, and which are apart.

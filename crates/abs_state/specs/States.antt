@@ -10,7 +10,7 @@ use Rattle.abs_state.specs.Calls.{with_call}
 use Rattle.abs_state.specs.Comparing.{with_comparison}
 use Rattle.abs_state.specs.Moves.{pushed, popped, with_put, with_item, with_stored, with_array}
 use Rattle.abs_state.specs.StateFacts.{StateFacts, State}
-use Rattle.abs_state.specs.declared.var.Var.{Var}
+use Rattle.frame_names.specs.declared.var.Var.{Var}
 
 abbrev pub push : Var → State → State
 push v state = option_map (λ known. pushed known v) state

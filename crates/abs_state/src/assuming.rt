@@ -8,7 +8,7 @@ ghost use Rattle.abs_state.specs.Assuming as rule;
 use crate::comparing::null_tested;
 use crate::known::Known;
 use crate::test::Test;
-use crate::var::Var;
+use frame_names::Var;
 use alias_facts::Nullness;
 use cil_model::CmpOp;
 use domain_api::{Expr, NoMemory};
@@ -100,7 +100,7 @@ fn symbol_told(numbers: &Numbers, op: CmpOp, a: Expr, b: Expr, holds: bool) -> O
 }
 
 /// The definition of a symbol.
-fn definition_at(definitions: &[(u32, Def)], symbol: u32) -> Option<Def>
+pub(crate) fn definition_at(definitions: &[(u32, Def)], symbol: u32) -> Option<Def>
     ensures { result ≡ rule.definition_at definitions.now symbol }
 {
     for (defined, def) in definitions {

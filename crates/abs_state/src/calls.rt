@@ -5,8 +5,9 @@ ghost use Rattle.std.specs.List.{list_all};
 ghost use Rattle.abs_state.specs.Calls as rule;
 
 use crate::known::Known;
-use crate::reference::{Reference, Unknown};
-use crate::var::Var;
+use crate::reference::Unknown;
+use frame_names::Reference;
+use frame_names::Var;
 use alias_facts::{Apart, Nullness};
 use cil_model::Place;
 use domain_api::NoMemory;

@@ -7,7 +7,7 @@ ghost use Rattle.abs_state.specs.Comparing as rule;
 ghost use Rattle.abs_state.specs.Moves.{IsNamedNumber};
 
 use crate::known::Known;
-use crate::var::Var;
+use frame_names::Var;
 use alias_facts::Nullness;
 use cil_model::BinOp;
 use domain_api::{Expr, NoMemory};

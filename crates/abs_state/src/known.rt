@@ -3,8 +3,9 @@
 ghost use Rattle.std.specs.Prelude.{◌≡◌, ◌≢◌, ◌+◌, ◌≤◌, ◌<◌, length, slice_get, Some, IfOk, OnOk, OnErr};
 ghost use Rattle.abs_state.specs.StateFacts as rule;
 
-use crate::reference::{Reference, Unknown};
-use crate::var::Var;
+use crate::reference::Unknown;
+use frame_names::Reference;
+use frame_names::Var;
 use alias_facts::{Apart, Nullness};
 use cil_model::Place;
 use domain_api::{Expr, NoMemory};

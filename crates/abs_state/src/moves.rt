@@ -7,8 +7,9 @@ ghost use Rattle.number_facts.specs.Fresh.{expr_made, facts_made};
 ghost use Rattle.abs_state.specs.Moves as rule;
 
 use crate::known::Known;
-use crate::reference::{Reference, Unknown};
-use crate::var::Var;
+use crate::reference::Unknown;
+use frame_names::Reference;
+use frame_names::Var;
 use alias_facts::Nullness;
 use cil_model::Place;
 use domain_api::{Expr, NoMemory};

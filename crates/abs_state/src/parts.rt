@@ -9,9 +9,10 @@ ghost use Rattle.abs_state.specs.StateFacts.{State};
 ghost use Rattle.abs_state.specs.StateParts.{AreParts, parts_of};
 
 use crate::known::Known;
-use crate::reference::{Reference, Unknown};
+use crate::reference::Unknown;
+use frame_names::Reference;
 use crate::state::AbsState;
-use crate::var::Var;
+use frame_names::Var;
 use alias_facts::Apart;
 use cil_model::Place;
 use domain_api::{Expr, NoMemory};

@@ -10,7 +10,7 @@ ghost use Rattle.abs_state.specs.StateFacts.{length_at, nullness_at, variables_i
 ghost use Rattle.abs_state.specs.States as rule;
 
 use crate::known::Known;
-use crate::var::Var;
+use frame_names::Var;
 use alias_facts::Nullness;
 use cil_model::{BinOp, CmpOp, Place};
 use domain_api::{Expr, NoMemory, Order};

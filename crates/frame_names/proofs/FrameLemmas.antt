@@ -1,0 +1,91 @@
+-- Variables of the same kinds, and constants that are near.
+use Rattle.std.proofs.Common.{◌≡◌, ℕ, zero, suc, pos, negsuc, ◌≤ℤ◌, true, true≢false, List, [], ◌∷◌, ◌++◌, length, map, Some, None, Option, refl, sym, ap, ◌∙◌, arith, length-append, false}
+use Rattle.std.proofs.lemmas.Int.{ints}
+use Rattle.std.proofs.lemmas.List.{length-map}
+use Rattle.std.specs.Prelude.{slice_get}
+use Rattle.std.specs.List.{AllByRecursion}
+use Rattle.domain_api.specs.declared.expr.Expr.{Expr}
+use Rattle.symbolic_values.specs.Pairing.{AreNear, IsNear}
+use Rattle.symbolic_values.specs.declared.pairs.Key.{Key}
+use Rattle.frame_names.specs.declared.reference.Reference.{Reference}
+use Rattle.frame_names.specs.declared.var.Var.{Var}
+use Rattle.frame_names.specs.declared.var.Var.TheVariants as vars
+use Rattle.frame_names.specs.Frames.{AreAlike, IsNearFrame, length_at, length_in, numbers_of, references_of}
+use Rattle.frame_names.specs.PairedFrames.{exprs_of, old_of, olds_of}
+
+pub same_references : (a b : List Var) → AreAlike a b → length (references_of a) ≡ length (references_of b)
+same_references [] [] alike = refl
+same_references [] (y ∷ b) alike = absurd alike
+same_references (x ∷ a) [] alike = absurd alike
+same_references (vars.Number e ∷ a) (vars.Number f ∷ b) alike = same_references a b alike.1
+same_references (vars.Reference r ∷ a) (vars.Reference q ∷ b) alike = ap suc (same_references a b alike.1)
+same_references (vars.Text ∷ a) (vars.Text ∷ b) alike = same_references a b alike.1
+same_references (vars.Number e ∷ a) (vars.Reference q ∷ b) alike = absurd (true≢false (sym alike.0))
+same_references (vars.Number e ∷ a) (vars.Text ∷ b) alike = absurd (true≢false (sym alike.0))
+same_references (vars.Reference r ∷ a) (vars.Number f ∷ b) alike = absurd (true≢false (sym alike.0))
+same_references (vars.Reference r ∷ a) (vars.Text ∷ b) alike = absurd (true≢false (sym alike.0))
+same_references (vars.Text ∷ a) (vars.Number f ∷ b) alike = absurd (true≢false (sym alike.0))
+same_references (vars.Text ∷ a) (vars.Reference q ∷ b) alike = absurd (true≢false (sym alike.0))
+
+pub same_numbers : (a b : List Var) → AreAlike a b → length (numbers_of a) ≡ length (numbers_of b)
+same_numbers [] [] alike = refl
+same_numbers [] (y ∷ b) alike = absurd alike
+same_numbers (x ∷ a) [] alike = absurd alike
+same_numbers (vars.Number e ∷ a) (vars.Number f ∷ b) alike = ap suc (same_numbers a b alike.1)
+same_numbers (vars.Reference r ∷ a) (vars.Reference q ∷ b) alike = same_numbers a b alike.1
+same_numbers (vars.Text ∷ a) (vars.Text ∷ b) alike = same_numbers a b alike.1
+same_numbers (vars.Number e ∷ a) (vars.Reference q ∷ b) alike = absurd (true≢false (sym alike.0))
+same_numbers (vars.Number e ∷ a) (vars.Text ∷ b) alike = absurd (true≢false (sym alike.0))
+same_numbers (vars.Reference r ∷ a) (vars.Number f ∷ b) alike = absurd (true≢false (sym alike.0))
+same_numbers (vars.Reference r ∷ a) (vars.Text ∷ b) alike = absurd (true≢false (sym alike.0))
+same_numbers (vars.Text ∷ a) (vars.Number f ∷ b) alike = absurd (true≢false (sym alike.0))
+same_numbers (vars.Text ∷ a) (vars.Reference q ∷ b) alike = absurd (true≢false (sym alike.0))
+
+pub alike_itself : (a : List Var) → AreAlike a a
+alike_itself [] = tt
+alike_itself (vars.Number e ∷ a) = (refl, alike_itself a)
+alike_itself (vars.Reference r ∷ a) = (refl, alike_itself a)
+alike_itself (vars.Text ∷ a) = (refl, alike_itself a)
+
+-- ---- near constants
+
+least_below : negsuc 4294967295 ≤ℤ pos 0
+least_below = omega (arith, ints)
+
+greatest_above : pos 0 ≤ℤ pos 4294967296
+greatest_above = omega (arith, ints)
+
+zero_is_near : IsNear (record { sym = 0; k = pos 0 })
+zero_is_near = record { least = least_below; greatest = greatest_above }
+
+near_append : (es fs : List Expr) → AreNear es → AreNear fs → AreNear (es ++ fs)
+near_append [] fs first second = second
+near_append (e ∷ es) fs first second = (first.0, near_append es fs first.1 second)
+
+module _ {C : Type 0} where
+  near_slot : (references : List (Reference C)) (place : ℕ) → AllByRecursion (λ known. IsNear known.length) references
+      → IsNear (length_in (slice_get references place))
+  near_slot [] place all = zero_is_near
+  near_slot (known ∷ references) zero all = all.0
+  near_slot (known ∷ references) (suc place) all = near_slot references place all.1
+
+  near_length : (references : List (Reference C)) (r : ℕ) → AllByRecursion (λ known. IsNear known.length) references → IsNear (length_at references r)
+  near_length references zero all = zero_is_near
+  near_length references (suc place) all = near_slot references place all
+
+  near_lengths : (references : List (Reference C)) (olds : List ℕ) → AllByRecursion (λ known. IsNear known.length) references
+      → AreNear (map (length_at references) olds)
+  near_lengths references [] all = tt
+  near_lengths references (r ∷ olds) all = (near_length references r all, near_lengths references olds all)
+
+  -- What is paired of a frame whose constants are near is near.
+  pub near_exprs : (vs : List Var) (references : List (Reference C)) (olds : List ℕ) → IsNearFrame vs references → AreNear (exprs_of vs references olds)
+  near_exprs vs references olds near = near_append (numbers_of vs) _ near.numbers (near_lengths references olds near.lengths)
+
+  -- As many expressions are paired on either side.
+  pub same_exprs : (a b : List Var) (known other : List (Reference C)) (keys : List Key) → AreAlike a b
+      → length (exprs_of a known (olds_of true keys)) ≡ length (exprs_of b other (olds_of false keys))
+  same_exprs a b known other keys alike =
+      omega (arith, same_numbers a b alike, length-append (numbers_of a) (map (length_at known) (olds_of true keys)),
+      length-append (numbers_of b) (map (length_at other) (olds_of false keys)), length-map (olds_of true keys) (length_at known),
+      length-map (olds_of false keys) (length_at other), length-map keys (old_of true), length-map keys (old_of false))

@@ -1,0 +1,8 @@
+use Rattle.std.proofs.Common.{◌≡◌, drop}
+use Rattle.frame_names.specs.Binding.{with_lengths}
+use Rattle.frame_names.proofs.binding.Tables.bind_lengths.Given as goal
+
+abbrev pub invariant-loop-index : goal.invariant-loop-index
+invariant-loop-index g l =
+    with_lengths (g.O.Order.gap l.self.order) l.self.a (drop l.index l.self.b) (drop l.index l.slots) l.symbols
+    ≡ with_lengths (g.O.Order.gap l.self.order) l.self.a l.self.b l.slots l.initial.symbols

@@ -1,0 +1,8 @@
+use Rattle.std.proofs.Common.{◌≡◌, drop}
+use Rattle.frame_names.specs.Binding.{with_vars}
+use Rattle.frame_names.proofs.binding.Tables.bind_vars.Given as goal
+
+abbrev pub invariant-loop-index : goal.invariant-loop-index
+invariant-loop-index g l =
+    with_vars (g.O.Order.gap l.self.order) l.self.a l.self.b (drop l.index l.xs) (drop l.index l.ys) l.slots
+    ≡ with_vars (g.O.Order.gap l.self.order) l.self.a l.self.b l.xs l.ys l.initial.slots

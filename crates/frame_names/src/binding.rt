@@ -1,0 +1,163 @@
+//! Binding the frame of one state to that of another.
+
+ghost use Rattle.std.specs.Prelude.{◌≡◌, ◌∷◌, Some, None, drop, length, IfOk, OnOk, if◌then◌else◌};
+ghost use Rattle.std.specs.Option.{option_and_then, option_map};
+ghost use Rattle.frame_names.specs.Frames.{AreAlike};
+ghost use Rattle.frame_names.specs.Binding.{bound_frames, filled_with, with_length, with_lengths, with_var, with_vars};
+
+use crate::frame::Frame;
+use crate::reference::{Reference, length_of};
+use crate::slots::{Bound, Slots, all_filled, bind_number, bind_reference};
+use crate::var::Var;
+use domain_api::{NoMemory, Order};
+use std::alloc::Global;
+use std::marker::Model;
+
+/// What a state's symbols are worth by another state, and which references its references are.
+#[derive(Drop)]
+pub struct Binding {
+    /// For each symbol, from symbol 0 on, what it was first bound to. Symbol 0 is the number 0.
+    pub symbols: Vec<Bound>,
+    /// For each reference, from reference 0 on, the other state's. Reference 0 is null.
+    pub references: Vec<u32>,
+}
+
+impl Model for Binding {
+    ghost use Rattle.frame_names.specs.Binding.{FrameBinding};
+
+    ghost Value = { FrameBinding };
+
+    ghost view = { λ binding. record { symbols = binding.symbols.items; references = binding.references.items } };
+}
+
+/// Two states' tables of references, and how the symbols of the first lie to each other.
+#[derive(Drop)]
+struct Tables<'a, O, C> {
+    order: &'a O,
+    a: &'a [Reference<C>],
+    b: &'a [Reference<C>],
+}
+
+impl<'a, O: Order, C> Tables<'a, O, C> {
+    /// Binds a variable of the second state to what the first has there. Returns false where it cannot be.
+    fn bind_var(&self, slots: &mut Slots, x: Var, y: Var) -> bool
+        ensures { (if result then Some slots.new else None)
+            ≡ with_var (O.gap self.now.order.now) self.now.a.now self.now.b.now x y slots.old }
+    {
+        match (x, y) {
+            (Var::Number(e), Var::Number(f)) => {
+                bind_number(self.order, slots.symbols.as_mut_slice(), e, f)
+            }
+            (Var::Reference(r), Var::Reference(q)) => {
+                bind_reference(self.a, self.b, slots.references.as_mut_slice(), r, q)
+            }
+            (Var::Text, Var::Text) => true,
+            _ => false,
+        }
+    }
+
+    /// Binds all variables in order. Returns false where one cannot be bound.
+    fn bind_vars(&self, slots: &mut Slots, xs: &[Var], ys: &[Var]) -> bool
+        requires { AreAlike xs.now ys.now }
+        ensures { (if result then Some slots.new else None)
+            ≡ with_vars (O.gap self.now.order.now) self.now.a.now self.now.b.now xs.now ys.now slots.old }
+    {
+        for index in 0..xs.len() {
+            if !self.bind_var(slots, xs[index], ys[index]) {
+                return false;
+            }
+        }
+        true
+    }
+
+    /// Binds the length of a reference to that of the one it is bound to. Returns false where it is not bound, or the
+    /// lengths cannot be.
+    fn bind_length(
+        &self,
+        symbols: &mut [Option<Bound>],
+        known: &Reference<C>,
+        slot: Option<u32>,
+    ) -> bool
+        ensures { (if result then Some symbols.new else None)
+            ≡ with_length (O.gap self.now.order.now) self.now.a.now known.now slot symbols.old }
+    {
+        match slot {
+            None => false,
+            Some(r) => bind_number(self.order, symbols, length_of(self.a, r), known.length),
+        }
+    }
+
+    /// Binds the lengths of all references, from reference 1 on, in order. Given are the slots of these.
+    fn bind_lengths(&self, symbols: &mut [Option<Bound>], slots: &[Option<u32>]) -> bool
+        requires { length self.now.b.now ≡ length slots.now }
+        ensures { (if result then Some symbols.new else None)
+            ≡ with_lengths (O.gap self.now.order.now) self.now.a.now self.now.b.now slots.now symbols.old }
+    {
+        for index in 0..slots.len() {
+            if !self.bind_length(symbols, &self.b[index], slots[index]) {
+                return false;
+            }
+        }
+        true
+    }
+}
+
+/// What all slots have. None where one is free.
+fn filled(alloc: Global, slots: &Slots) -> Result<Option<Binding>, NoMemory>
+    ensures { IfOk result (λ binding. binding ≡ filled_with slots.now.references slots.now.symbols) }
+{
+    let Some(symbols) = all_filled(alloc, slots.symbols.as_slice())? else {
+        return Ok(None);
+    };
+    let Some(references) = all_filled(alloc, slots.references.as_slice())? else {
+        return Ok(None);
+    };
+    Ok(Some(Binding {
+        symbols,
+        references,
+    }))
+}
+
+/// Binds the frame of a state b, which has so many symbols, to that of a state a: first the variables in order, then the
+/// lengths of references. A symbol or a reference is bound where it is met first. Where it is met again, the two must be
+/// shown to be equal, or be the same reference.
+///
+/// None where they are not, where a reference is bound to one of another type that may be an array, where reference 0
+/// meets one that may be an array, or where a symbol or a reference stays unbound.
+///
+/// Cost: two gaps for each variable and length.
+pub fn bind_frames<O: Order, C>(
+    alloc: Global,
+    order: &O,
+    a: &Frame<C>,
+    b: &Frame<C>,
+    symbols: usize,
+) -> Result<Option<Binding>, NoMemory>
+    requires alike { AreAlike a.now.vars.now b.now.vars.now }
+    ensures value { IfOk result (λ binding. binding ≡ bound_frames (O.gap order.now)
+        a.now.vars.now a.now.references.now b.now.vars.now b.now.references.now symbols) }
+{
+    let tables = Tables {
+        order,
+        a: a.references,
+        b: b.references,
+    };
+    let mut slots = Slots::free(alloc, symbols, b.references.len())?;
+    if !tables.bind_vars(&mut slots, a.vars, b.vars) {
+        return Ok(None);
+    }
+    let Slots {
+        symbols: mut numbers,
+        references,
+    } = slots;
+    if !tables.bind_lengths(numbers.as_mut_slice(), &references.as_slice()[1..]) {
+        return Ok(None);
+    }
+    filled(
+        alloc,
+        &Slots {
+            symbols: numbers,
+            references,
+        },
+    )
+}

@@ -1,0 +1,70 @@
+//! The table of references.
+
+ghost use Rattle.std.specs.Prelude.{◌≡◌};
+ghost use Rattle.frame_names.specs.Frames.{are_one_place, length_at, nullness_at, place_at, reference_at};
+
+use alias_facts::Nullness;
+use cil_model::Place;
+use domain_api::Expr;
+
+/// What is known of a reference: it is null, or an array of this type. Null has the length 0.
+///
+/// Reference r stands at place r - 1 of a table. Reference 0 is null and has no entry.
+#[derive(Clone, Copy, Debug, PartialEq, Eq)]
+pub struct Reference<C> {
+    /// The type of the array.
+    pub place: Place,
+    /// Whether it may be null.
+    pub nullness: Nullness,
+    /// The length.
+    pub length: Expr,
+    /// What stands for the items.
+    pub contents: C,
+}
+
+/// The entry of a reference. Reference 0, and one that is not there, have none.
+fn entry<C>(references: &[Reference<C>], reference: u32) -> Option<&Reference<C>>
+    ensures { result ≡ reference_at references.now reference }
+{
+    references.get(reference.checked_sub(1)? as usize)
+}
+
+/// The length of a reference: 0 where it has no entry.
+pub(crate) fn length_of<C>(references: &[Reference<C>], reference: u32) -> Expr
+    ensures { result ≡ length_at references.now reference }
+{
+    match entry(references, reference) {
+        None => Expr { sym: 0, k: 0 },
+        Some(known) => known.length,
+    }
+}
+
+/// What is known of a reference being null. One without an entry is null.
+pub(crate) fn nullness_of<C>(references: &[Reference<C>], reference: u32) -> Nullness
+    ensures { result ≡ nullness_at references.now reference }
+{
+    match entry(references, reference) {
+        None => Nullness::Null,
+        Some(known) => known.nullness,
+    }
+}
+
+/// The type of a reference, if it has an entry.
+pub(crate) fn place_of<C>(references: &[Reference<C>], reference: u32) -> Option<Place>
+    ensures { result ≡ place_at references.now reference }
+{
+    match entry(references, reference) {
+        None => None,
+        Some(known) => Some(known.place),
+    }
+}
+
+/// Returns whether both are there and the same.
+pub(crate) fn are_one_place(a: Option<Place>, b: Option<Place>) -> bool
+    ensures { result ≡ are_one_place a b }
+{
+    match (a, b) {
+        (Some(a), Some(b)) => a.number() == b.number(),
+        _ => false,
+    }
+}

@@ -1,0 +1,69 @@
+-- Gaps that are read from a row.
+use Rattle.std.proofs.Common.{◌≡◌, ◌≢◌, ℕ, zero, suc, ◌+◌, ◌<◌, ◌≤◌, ℤ, pos, List, [], ◌∷◌, length, get_or, Option, Some, None, slice_get, refl, sym, ap, ◌∙◌, add-one, arith}
+use Rattle.interval_domain.specs.Interval.{Interval}
+use Rattle.pentagon_domain.specs.Gaps as by_bounds
+use Rattle.symbolic_values.specs.declared.pairs.Key.{Key}
+use Rattle.symbolic_values.specs.Pairing.{origin}
+use Rattle.merged_numbers.specs.Merging.{steps, told, with_gap, row_of, rows_of}
+use Rattle.pentagon_domain.specs.declared.bound_row.BoundRow.{BoundRow}
+use Rattle.pentagon_domain.proofs.Reaches.{gap_same, gap_with_same}
+use Rattle.merged_numbers.specs.Known.{IsRow, Known, gap_or, between, gap}
+
+or_same : (bounds : List BoundRow) (apart : Option ℤ) (s t : ℕ) → s ≡ t → Some (pos 0) ≡ gap_or bounds apart s t
+or_same bounds None s t same = sym (gap_same bounds s t same)
+or_same bounds (Some n) s t same = sym (gap_with_same bounds n s t same)
+
+-- A symbol lies nowhere above itself.
+pub gap_itself : (side : Known) (s t : ℕ) → s ≡ t → Some (pos 0) ≡ gap side s t
+unfolding gap
+gap_itself side s t same = or_same side.bounds (between side s t) s t same
+
+-- ---- rows of bounds, one gap after another
+
+get_or-any : {X : Type 0} (xs : List X) (i : ℕ) (d e : X) → i < length xs → get_or xs i d ≡ get_or xs i e
+get_or-any [] i d e inside = absurd (omega (arith, inside))
+get_or-any (x ∷ xs) zero d e inside = refl
+get_or-any (x ∷ xs) (suc i) d e inside = get_or-any xs i d e (omega (arith, inside))
+
+steps_more : {X : Type 0} (step : ℕ → X → X) (n : ℕ) (x : X) → steps step (n + 1) x ≡ step n (steps step n x)
+steps_more step n x = rw (add-one n) refl
+
+pub row_more : (gap : Key → Key → Option ℤ) (keys : List Key) (rs : List Interval) (i j : ℕ) (d e : Key) (known : Option ℤ)
+    (start before after : List BoundRow) → i < length keys → j < length keys → known ≡ gap (get_or keys i d) (get_or keys j e)
+    → after ≡ with_gap (told rs i j) i j known before → before ≡ row_of gap keys rs i j start → after ≡ row_of gap keys rs i (j + 1) start
+row_more gap keys rs i j d e known start before after inside also known_is after_is so_far =
+    let step = (λ k. with_gap (told rs i k) i k (gap (get_or keys i origin) (get_or keys k origin))) in
+    after_is ∙ ap (λ rows. with_gap (told rs i j) i j known rows) so_far
+    ∙ ap (λ known. with_gap (told rs i j) i j known (row_of gap keys rs i j start))
+    (known_is ∙ ap (λ u. gap u (get_or keys j e)) (get_or-any keys i d origin inside) ∙ ap (gap (get_or keys i origin)) (get_or-any keys j e origin also))
+    ∙ sym (steps_more step j start)
+
+pub rows_more : (gap : Key → Key → Option ℤ) (keys : List Key) (rs : List Interval) (i : ℕ) (start before after : List BoundRow)
+    → after ≡ row_of gap keys rs i (length keys) before → before ≡ rows_of gap keys rs i start → after ≡ rows_of gap keys rs (i + 1) start
+rows_more gap keys rs i start before after after_is so_far =
+    after_is ∙ ap (row_of gap keys rs i (length keys)) so_far ∙ sym (steps_more (λ k. row_of gap keys rs k (length keys)) i start)
+
+pub row_end : (gap : Key → Key → Option ℤ) (keys : List Key) (rs : List Interval) (i j : ℕ) (start rows : List BoundRow) → j ≤ length keys → length keys ≤ j
+    → rows ≡ row_of gap keys rs i j start → rows ≡ row_of gap keys rs i (length keys) start
+row_end gap keys rs i j start rows upto past so_far =
+    let end : j ≡ length keys = omega (arith, upto, past) in
+    so_far ∙ ap (λ n. row_of gap keys rs i n start) end
+
+pub rows_end : (gap : Key → Key → Option ℤ) (keys : List Key) (rs : List Interval) (i : ℕ) (start rows : List BoundRow) → i ≤ length keys → length keys ≤ i
+    → rows ≡ rows_of gap keys rs i start → rows ≡ rows_of gap keys rs (length keys) start
+rows_end gap keys rs i start rows upto past so_far =
+    let end : i ≡ length keys = omega (arith, upto, past) in
+    so_far ∙ ap (λ n. rows_of gap keys rs n start) end
+
+-- The row from a symbol that is the same.
+pub row_of_same : (row : List (Option ℤ)) (bounds : List BoundRow) (s t : ℕ) → s ≡ t → IsRow row bounds s → IsRow row bounds t
+row_of_same row bounds s t same is = λ i inside. is i inside ∙ ap (λ k. by_bounds.gap bounds k i) same
+
+-- The symbols of the key at a place.
+pub key_symbol : (keys : List Key) (i : ℕ) (d : Key) → i < length keys → (get_or keys i d).s ≡ (get_or keys i origin).s
+key_symbol keys i d inside = ap (λ u. u.s) (get_or-any keys i d origin inside)
+
+pub key_other : (keys : List Key) (i : ℕ) (d : Key) → i < length keys → (get_or keys i d).t ≡ (get_or keys i origin).t
+key_other keys i d inside = ap (λ u. u.t) (get_or-any keys i d origin inside)
+
+pub ruleset rows = (row_more, rows_more, row_end, rows_end, row_of_same, key_symbol, key_other)

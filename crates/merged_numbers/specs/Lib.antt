@@ -1,0 +1,5 @@
+pub mod Known
+pub mod Spans
+pub mod Merging
+pub mod Meaning
+pub mod Included

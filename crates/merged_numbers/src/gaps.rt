@@ -1,0 +1,116 @@
+//! How far keys lie apart, and the bounds of this.
+
+ghost use Rattle.std.specs.Prelude.{◌≡◌, ◌<◌, ◌+◌, ◌+ℤ◌, ◌-ℤ◌, length, None, option_map, IfOk, OnOk};
+ghost use Rattle.number_spans.specs.Sizes.{IsWide};
+ghost use Rattle.merged_numbers.specs.Known as rule;
+ghost use Rattle.merged_numbers.specs.Known.{IsRow, known};
+ghost use Rattle.merged_numbers.specs.Meaning.{AreMeasured};
+ghost use Rattle.merged_numbers.specs.Merging.{told, with_gap};
+
+use crate::measures::{minus, more};
+use crate::side::Side;
+use crate::term::Term;
+use domain_api::{NoMemory, Order};
+use interval_domain::Range;
+use pentagon_domain::{Bounds, raised_gap};
+use std::alloc::AllocError;
+
+/// A gap with a constant more, which may leave 64 bits.
+fn moved(gap: Option<i64>, from: i128, to: i128) -> Option<i128>
+    requires first { IsWide from }
+    requires second { IsWide to }
+    ensures { result ≡ option_map (λ k. k +ℤ (to -ℤ from)) gap }
+{
+    match gap {
+        None => None,
+        Some(gap) => Some(more(gap, minus(to, from))),
+    }
+}
+
+impl Side<'_> {
+    /// How far the second symbol is known to lie above the first.
+    #[tactic(auto, unfolding(crate::specs::Known::gap))]
+    pub(crate) fn gap(&self, s: u32, t: u32) -> Option<i64>
+        requires { AreMeasured self.now.spans.now }
+        ensures { result ≡ rule.gap (known self.now) s t }
+    {
+        match self.between(s, t) {
+            None => self.bounds.gap(s, t),
+            Some(apart) => self.bounds.gap_with(s, t, apart),
+        }
+    }
+
+    /// The same, where the gaps from the first symbol by bounds alone were written.
+    #[tactic(auto, using(crate::proofs::RowLaws::gap_itself), unfolding(crate::specs::Known::gap))]
+    fn gap_by_row(&self, row: &[Option<i64>], s: u32, t: u32) -> Option<i64>
+        requires measured { AreMeasured self.now.spans.now }
+        requires row { IsRow row.now self.now.bounds.now s }
+        ensures { result ≡ rule.gap (known self.now) s t }
+    {
+        if s == t {
+            return Some(0);
+        }
+        let known = match row.get(t as usize) {
+            None => self.bounds.gap(s, t),
+            Some(gap) => *gap,
+        };
+        match self.between(s, t) {
+            None => known,
+            Some(apart) => raised_gap(known, apart),
+        }
+    }
+
+    /// How far the second term is known to lie above the first, where the gaps from the symbol of the first by bounds
+    /// alone were written.
+    #[tactic(auto, unfolding(crate::specs::Known::term_gap))]
+    pub(crate) fn term_gap(&self, row: &[Option<i64>], x: Term, y: Term) -> Option<i128>
+        requires measured { AreMeasured self.now.spans.now }
+        requires row { IsRow row.now self.now.bounds.now x.sym }
+        requires first { IsWide x.k }
+        requires second { IsWide y.k }
+        ensures { result ≡ rule.term_gap (known self.now) x y }
+    {
+        moved(self.gap_by_row(row, x.sym, y.sym), x.k, y.k)
+    }
+}
+
+/// The symbol that stands for the key at a place.
+fn symbol_at(place: usize) -> Result<u32, NoMemory>
+    ensures { IfOk result (λ symbol. symbol ≡ place + 1) }
+{
+    match u32::try_from(place) {
+        Ok(place) if place < u32::MAX => Ok(place + 1),
+        _ => Err(AllocError),
+    }
+}
+
+/// How far two ranges lie apart.
+fn apart(from: Range, to: Range) -> i128
+    ensures { result ≡ to.lo -ℤ from.hi }
+{
+    i128::from(to.lo()) - i128::from(from.hi())
+}
+
+/// Adds the bound of the symbols at two places, where it says more than their ranges and has 64 bits.
+pub(crate) fn add_gap(
+    bounds: &mut Bounds,
+    ranges: &[Range],
+    i: usize,
+    j: usize,
+    gap: Option<i128>,
+) -> Result<(), NoMemory>
+    requires first { i < length ranges.now }
+    requires second { j < length ranges.now }
+    ensures { OnOk result (bounds.new ≡ with_gap (told ranges.now i j) i j gap bounds.old) }
+{
+    let Some(gap) = gap else {
+        return Ok(());
+    };
+    if gap <= apart(ranges[i], ranges[j]) {
+        return Ok(());
+    }
+    match i64::try_from(gap) {
+        Err(_) => Ok(()),
+        Ok(k) => bounds.add_bound(symbol_at(i)?, symbol_at(j)?, k),
+    }
+}

@@ -1,0 +1,155 @@
+//! When a state says no more of numbers than another one does.
+
+ghost use Rattle.std.specs.Prelude.{◌≡◌, IfSome};
+ghost use Rattle.std.specs.List.{list_all};
+ghost use Rattle.number_spans.specs.Sizes.{IsWide};
+ghost use Rattle.number_spans.specs.Spans.{moved_hole};
+ghost use Rattle.merged_numbers.specs.Known.{known};
+ghost use Rattle.merged_numbers.specs.Meaning.{AreMeasured};
+ghost use Rattle.merged_numbers.specs.Included as rule;
+ghost use Rattle.merged_numbers.specs.Included.{Includes, bound_term, included};
+
+use crate::measures::apart;
+use crate::side::Side;
+use crate::term::Term;
+use domain_api::Expr;
+use interval_domain::Range;
+use number_spans::{Span, sum_of};
+use pentagon_domain::{BoundRow, Bounds};
+
+/// What a symbol is bound to: to a value of another state, less an offset.
+#[derive(Clone, Copy)]
+pub struct Binding {
+    /// The value by which the symbol was first bound.
+    pub value: Expr,
+    /// What the symbol's own expression added there.
+    pub offset: i64,
+}
+
+impl Binding {
+    /// What the symbol itself is worth.
+    fn term(&self) -> Term
+        ensures value { result ≡ bound_term self.now }
+        ensures near { IsWide result.k }
+    {
+        Term {
+            sym: self.value.sym,
+            k: i128::from(self.value.k) - i128::from(self.offset),
+        }
+    }
+}
+
+/// Returns whether a hole is no number of a span, once an offset is added.
+fn lacks(span: Span, hole: Option<i64>, offset: i64) -> bool
+    ensures { result ≡ rule.lacks span (moved_hole hole offset) }
+{
+    match hole {
+        None => true,
+        Some(hole) => span.excludes(sum_of(hole, offset)),
+    }
+}
+
+/// Returns whether the numbers of a span, less an offset, lie within a range.
+#[tactic(auto, unfolding(crate::specs::Included::lies_within))]
+fn lies_within(span: Span, offset: i64, range: &Range) -> bool
+    ensures { result ≡ rule.lies_within span offset range.now }
+{
+    sum_of(range.lo(), offset) <= span.lo
+        && span.hi <= sum_of(range.hi(), offset)
+        && lacks(span, range.hole(), offset)
+}
+
+/// Returns whether a gap is so much at least.
+fn reaches(gap: Option<i64>, n: i128) -> bool
+    ensures { result ≡ rule.reaches gap n }
+{
+    match gap {
+        None => false,
+        Some(gap) => n <= i128::from(gap),
+    }
+}
+
+/// What a symbol stands for, if it is bound.
+#[tactic(auto, using(crate::proofs::InclusionLaws::terms))]
+fn term_at(binding: &[Binding], symbol: u32) -> Option<Term>
+    ensures value { result ≡ rule.term_at binding.now symbol }
+    ensures near { IfSome result (λ x. IsWide x.k) }
+{
+    if symbol == 0 {
+        return Some(Term::of(0, 0));
+    }
+    match binding.get(symbol as usize - 1) {
+        None => None,
+        Some(bound) => Some(bound.term()),
+    }
+}
+
+impl Side<'_> {
+    /// Returns whether what a symbol is bound to lies within its range.
+    fn is_within(&self, binding: &Binding, range: &Range) -> bool
+        requires { AreMeasured self.now.spans.now }
+        ensures { result ≡ rule.is_within (known self.now) binding.now range.now }
+    {
+        let value = Term::of(binding.value.sym, binding.value.k);
+        lies_within(self.int32s(value), binding.offset, range)
+    }
+
+    /// Returns whether what each symbol is bound to lies within its range.
+    #[tactic(auto, using(crate::proofs::InclusionLaws::all))]
+    fn all_within(&self, binding: &[Binding], ranges: &[Range]) -> bool
+        requires { AreMeasured self.now.spans.now }
+        ensures { result ≡ rule.all_within (known self.now) binding.now ranges.now }
+    {
+        if binding.len() != ranges.len() {
+            return false;
+        }
+        for place in 0..ranges.len() {
+            if !self.is_within(&binding[place], &ranges[place]) {
+                return false;
+            }
+        }
+        true
+    }
+
+    /// Returns whether a bound follows.
+    fn follows(&self, binding: &[Binding], row: &BoundRow) -> bool
+        requires { AreMeasured self.now.spans.now }
+        ensures { result ≡ rule.follows (known self.now) binding.now row.now }
+    {
+        match (term_at(binding, row.s), term_at(binding, row.t)) {
+            (Some(x), Some(y)) => reaches(self.gap(x.sym, y.sym), apart(x.k, row.k, y.k)),
+            _ => false,
+        }
+    }
+
+    /// Returns whether all bounds follow.
+    fn all_follow(&self, binding: &[Binding], rows: &[BoundRow]) -> bool
+        requires { AreMeasured self.now.spans.now }
+        ensures { result ≡ list_all (rule.follows (known self.now) binding.now) rows.now }
+    {
+        rows.iter().all(|row| self.follows(binding, row))
+    }
+}
+
+/// Returns whether all that ranges and bounds say of symbols is known of what these are bound to.
+fn is_included(a: &Side, binding: &[Binding], ranges: &[Range], bounds: &Bounds) -> bool
+    requires { AreMeasured a.now.spans.now }
+    ensures { result ≡ included (known a.now) binding.now ranges.now bounds.now }
+{
+    a.all_within(binding, ranges) && a.all_follow(binding, bounds.rows())
+}
+
+/// Returns whether all that ranges and bounds say of symbols is known of what these are bound to. The range of symbol s
+/// and what it is bound to stand at place s - 1; where there are not as many of both, the answer is no. Ends count as
+/// numbers, also where a state leaves a value none.
+///
+/// Cost: a look at each range, and for each bound a search for each bound that goes from what its first symbol is bound
+/// to. Takes no memory.
+#[tactic(auto, using(crate::proofs::InclusionLaws::included_so))]
+pub fn includes(a: &Side, binding: &[Binding], ranges: &[Range], bounds: &Bounds) -> bool
+    requires { AreMeasured a.now.spans.now }
+    ensures value { result ≡ included (known a.now) binding.now ranges.now bounds.now }
+    ensures holds { Includes (known a.now) binding.now ranges.now bounds.now result }
+{
+    is_included(a, binding, ranges, bounds)
+}

@@ -1,0 +1,21 @@
+//! What two states know of numbers by ranges and bounds, as one; what one state knows in new names; and whether one
+//! says no more than another.
+#![tactic(auto)]
+
+mod gaps;
+mod inclusion;
+mod measures;
+mod merging;
+mod normal;
+mod outcome;
+mod ranges;
+mod rule;
+mod side;
+mod term;
+
+pub use inclusion::{Binding, includes};
+pub use merging::{joined, widened};
+pub use normal::normed;
+pub use outcome::Merged;
+pub use side::Side;
+

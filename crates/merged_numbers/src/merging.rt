@@ -1,0 +1,185 @@
+//! Two states as one.
+
+ghost use Rattle.std.specs.Prelude.{◌≡◌, ◌<◌, length, get_or, None, option_map, true, false, IfOk, OnOk};
+ghost use Rattle.symbolic_values.specs.Pairing.{origin};
+ghost use Rattle.merged_numbers.specs.Known.{IsRow, known};
+ghost use Rattle.merged_numbers.specs.Meaning.{AreMeasured, Keeps};
+ghost use Rattle.merged_numbers.specs.Merging as rule;
+ghost use Rattle.merged_numbers.specs.Merging.{merged_gap, merged_span, ranges_of, row_of, rows_of};
+ghost use Rattle.merged_numbers.specs.Spans as spans;
+
+use crate::gaps::add_gap;
+use crate::outcome::Merged;
+use crate::ranges::stored;
+use crate::rule::Rule;
+use crate::side::Side;
+use crate::term::Term;
+use domain_api::NoMemory;
+use interval_domain::Range;
+use pentagon_domain::Bounds;
+use std::alloc::Global;
+use symbolic_values::Key;
+
+/// Two sides that become one, and the keys of the new symbols.
+#[derive(Clone, Copy)]
+struct Sides<'a> {
+    rule: Rule,
+    keys: &'a [Key],
+    a: Side<'a>,
+    b: Side<'a>,
+}
+
+impl Sides<'_> {
+    /// The range of a key. None exactly where it is empty.
+    #[tactic(auto, using(crate::proofs::CutLaws::merged_span_cut))]
+    fn range(&self, key: &Key) -> Option<Range>
+        requires first { AreMeasured self.now.a.spans.now }
+        requires second { AreMeasured self.now.b.spans.now }
+        ensures { result ≡ spans.stored (merged_span self.now.rule (known self.now.a) (known self.now.b) key.now) }
+    {
+        let first = self.a.int32s(Term::first_of(key));
+        let second = self.b.int32s(Term::second_of(key));
+        stored(self.rule.span(first, second))
+    }
+
+    /// The range of each key. None where one of them is empty.
+    #[tactic(auto, using(crate::proofs::RangeLists::all_ranges))]
+    fn ranges(&self, alloc: Global) -> Result<Option<Vec<Range>>, NoMemory>
+        requires first { AreMeasured self.now.a.spans.now }
+        requires second { AreMeasured self.now.b.spans.now }
+        ensures { IfOk result (λ ranges. option_map (λ rs. rs.items) ranges
+            ≡ ranges_of (merged_span self.now.rule (known self.now.a) (known self.now.b)) self.now.keys.now) }
+    {
+        let mut ranges = Vec::with_capacity(alloc, self.keys.len())?;
+        for key in self.keys {
+            let Some(range) = self.range(key) else {
+                return Ok(None);
+            };
+            ranges.push(range)?;
+        }
+        Ok(Some(ranges))
+    }
+
+    /// How far the second key lies above the first on both sides, where the gaps from the first were written.
+    fn gap(
+        &self,
+        first: &[Option<i64>],
+        second: &[Option<i64>],
+        from: &Key,
+        to: &Key,
+    ) -> Option<i128>
+        requires one { AreMeasured self.now.a.spans.now }
+        requires other { AreMeasured self.now.b.spans.now }
+        requires first { IsRow first.now self.now.a.bounds.now from.now.s }
+        requires second { IsRow second.now self.now.b.bounds.now from.now.t }
+        ensures { result ≡ merged_gap self.now.rule (known self.now.a) (known self.now.b) from.now to.now }
+    {
+        self.rule.gap(
+            self.a
+                .term_gap(first, Term::first_of(from), Term::first_of(to)),
+            self.b
+                .term_gap(second, Term::second_of(from), Term::second_of(to)),
+        )
+    }
+
+    /// Adds the bounds from the key at a place to each key.
+    #[tactic(auto, using(crate::proofs::RowLaws::rows))]
+    fn add_row(
+        &self,
+        bounds: &mut Bounds,
+        ranges: &[Range],
+        first: &[Option<i64>],
+        second: &[Option<i64>],
+        i: usize,
+    ) -> Result<(), NoMemory>
+        requires one { AreMeasured self.now.a.spans.now }
+        requires other { AreMeasured self.now.b.spans.now }
+        requires first { IsRow first.now self.now.a.bounds.now (get_or self.now.keys.now i origin).s }
+        requires second { IsRow second.now self.now.b.bounds.now (get_or self.now.keys.now i origin).t }
+        requires ranges { length ranges.now ≡ length self.now.keys.now }
+        requires inside { i < length self.now.keys.now }
+        ensures { OnOk result (bounds.new ≡ row_of (merged_gap self.now.rule (known self.now.a) (known self.now.b)) self.now.keys.now
+            ranges.now i (length self.now.keys.now) bounds.old) }
+    {
+        for j in 0..self.keys.len() {
+            let gap = self.gap(first, second, &self.keys[i], &self.keys[j]);
+            add_gap(bounds, ranges, i, j, gap)?;
+        }
+        Ok(())
+    }
+
+    /// Adds the bounds from each key to each other.
+    #[tactic(auto, using(crate::proofs::RowLaws::rows))]
+    fn add_rows(
+        &self,
+        alloc: Global,
+        bounds: &mut Bounds,
+        ranges: &[Range],
+    ) -> Result<(), NoMemory>
+        requires one { AreMeasured self.now.a.spans.now }
+        requires other { AreMeasured self.now.b.spans.now }
+        requires ranges { length ranges.now ≡ length self.now.keys.now }
+        ensures { OnOk result (bounds.new ≡ rows_of (merged_gap self.now.rule (known self.now.a) (known self.now.b)) self.now.keys.now
+            ranges.now (length self.now.keys.now) bounds.old) }
+    {
+        let mut first = vec![in alloc; None; self.a.spans.len()]?;
+        let mut second = vec![in alloc; None; self.b.spans.len()]?;
+        for i in 0..self.keys.len() {
+            self.a.bounds.gaps_from(self.keys[i].s, first.as_mut_slice());
+            self.b.bounds.gaps_from(self.keys[i].t, second.as_mut_slice());
+            self.add_row(bounds, ranges, first.as_slice(), second.as_slice(), i)?;
+        }
+        Ok(())
+    }
+
+    /// Both as one.
+    #[tactic(auto, using(crate::proofs::RangeLists::ranges_length))]
+    fn merged(&self, alloc: Global) -> Result<Option<Merged>, NoMemory>
+        requires first { AreMeasured self.now.a.spans.now }
+        requires second { AreMeasured self.now.b.spans.now }
+        ensures { IfOk result (λ made. made ≡ rule.merged self.now.rule self.now.keys.now (known self.now.a) (known self.now.b)) }
+    {
+        let Some(ranges) = self.ranges(alloc)? else {
+            return Ok(None);
+        };
+        let mut bounds = Bounds::new(alloc);
+        self.add_rows(alloc, &mut bounds, ranges.as_slice())?;
+        Ok(Some(Merged { ranges, bounds }))
+    }
+}
+
+/// What both states know.
+#[tactic(auto, using(crate::proofs::Laws::merges))]
+pub fn joined(alloc: Global, keys: &[Key], a: &Side, b: &Side) -> Result<Option<Merged>, NoMemory>
+    requires first { AreMeasured a.now.spans.now }
+    requires second { AreMeasured b.now.spans.now }
+    ensures value { IfOk result (λ made. made ≡ rule.joined keys.now (known a.now) (known b.now)) }
+    ensures left { IfOk result (Keeps true keys.now (known a.now)) }
+    ensures right { IfOk result (Keeps false keys.now (known b.now)) }
+{
+    Sides {
+        rule: Rule::Join,
+        keys,
+        a: *a,
+        b: *b,
+    }
+    .merged(alloc)
+}
+
+/// What both know, with ends that settle.
+#[tactic(auto, using(crate::proofs::Laws::merges))]
+pub fn widened(alloc: Global, keys: &[Key], a: &Side, b: &Side) -> Result<Option<Merged>, NoMemory>
+    requires first { AreMeasured a.now.spans.now }
+    requires second { AreMeasured b.now.spans.now }
+    ensures value { IfOk result (λ made. made ≡ rule.widened keys.now (known a.now) (known b.now)) }
+    ensures left { IfOk result (Keeps true keys.now (known a.now)) }
+    ensures right { IfOk result (Keeps false keys.now (known b.now)) }
+{
+    Sides {
+        rule: Rule::Widening,
+        keys,
+        a: *a,
+        b: *b,
+    }
+    .merged(alloc)
+}
