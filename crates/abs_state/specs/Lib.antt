@@ -9,3 +9,8 @@ pub mod StateParts
 pub mod FormTests
 pub mod Holds
 pub mod Keeps
+pub mod LatticeParts
+pub mod Lattice
+pub mod LatticeInclusion
+pub mod LatticeKeeps
+pub mod LatticeAlike
