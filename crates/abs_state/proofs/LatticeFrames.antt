@@ -1,7 +1,9 @@
 -- Variables and references of a state that holds: what they are worth, and what they are in new names.
-use Rattle.std.proofs.Common.{◌≡◌, ℕ, zero, suc, ◌+◌, ◌<◌, ◌^◌, ℤ, pos, ◌+ℤ◌, Bool, true, false, List, [], ◌∷◌, ◌++◌, length, map, slice_get, get_or, Option, Some, None, FitsSigned, w32, refl, sym, ap, ◌∙◌, subst, arith}
+use Rattle.std.proofs.Common.{◌≡◌, ℕ, zero, suc, ◌+◌, ◌-◌, ◌==◌, ◌<◌, ◌^◌, ℤ, pos, ◌+ℤ◌, Bool, true, false, List, [], ◌∷◌, ◌++◌, length, map, slice_get, get_or, Option, Some, None, FitsSigned, w32, refl, sym, ap, ◌∙◌, subst, inl, inr, arith}
 use Rattle.std.specs.Prelude.{if◌then◌else◌}
 use Rattle.std.specs.List.{AllByRecursion}
+use Rattle.std.proofs.lemmas.Bool.{cases_Bool}
+use Rattle.std.proofs.lemmas.Bool.Decides.{Decides-eqb}
 use Rattle.std.proofs.lemmas.Int.{ints}
 use Rattle.domain_api.specs.declared.expr.Expr.{Expr}
 use Rattle.alias_facts.specs.Arrays.{is_no_array}
@@ -10,14 +12,17 @@ use Rattle.alias_facts.specs.declared.nullness.Nullness.TheVariants.{Null}
 use Rattle.cil_model.specs.Comparisons.{number_of, reference_of}
 use Rattle.cil_model.specs.Values.{Heap, IsArray, IsHeap}
 use Rattle.cil_model.specs.declared.machine.Value.{Value}
+use Rattle.cil_model.specs.declared.machine.Value.TheVariants as values
 use Rattle.cil_model.specs.declared.place.Place.{Place}
 use Rattle.frame_names.specs.Frames.{AreAlike, length_at, length_in, nullness_at, nullness_in, numbers_of, place_at, place_in, references_of}
 use Rattle.frame_names.specs.Frames as frames
-use Rattle.frame_names.specs.PairedFrames.{behind, first_expr, new_vars}
+use Rattle.frame_names.specs.Meaning.{Said, a_number, a_text, an_array, said}
+use Rattle.frame_names.specs.PairedFrames.{old_of}
 use Rattle.frame_names.specs.declared.reference.Reference.{Reference}
 use Rattle.frame_names.specs.declared.var.Var.{Var}
 use Rattle.frame_names.specs.declared.var.Var.TheVariants as vars
 use Rattle.symbolic_values.specs.Worth.{worth}
+use Rattle.symbolic_values.specs.declared.pairs.Key.{Key}
 use Rattle.abs_state.specs.Holds as holds
 use Rattle.abs_state.specs.Holds.{AreSo, FitsArray, HasValue, HaveValues, IsSo, length_of_array}
 use Rattle.abs_state.specs.LatticeAlike.{AreLike}
@@ -56,49 +61,60 @@ alike_of a b (vars.Reference r ∷ xs) (vars.Text ∷ ys) like = absurd like.0
 alike_of a b (vars.Text ∷ xs) (vars.Number f ∷ ys) like = absurd like.0
 alike_of a b (vars.Text ∷ xs) (vars.Reference q ∷ ys) like = absurd like.0
 
-cons_head : {X : Type 0} (x y : X) (xs ys : List X) → x ∷ xs ≡ y ∷ ys → x ≡ y
-cons_head x y xs ys same = cc
+-- ---- what variables have, by what they say
 
-cons_tail : {X : Type 0} (x y : X) (xs ys : List X) → x ∷ xs ≡ y ∷ ys → xs ≡ ys
-cons_tail x y xs ys same = cc
+-- A value is what a variable says.
+abbrev pub IsSaid : Said → Value → Type 0
+IsSaid (a_number n) value = number_of value ≡ Some n
+IsSaid (an_array array) value = reference_of value ≡ Some array
+IsSaid a_text value = value ≡ values.Text
 
--- Named expressions are worth what numbers were, and named references are what references were. Then variables in new
--- names have the values that they had.
-pub new_have : (number later : ℕ → ℤ) (array later_array : ℕ → Option ℕ) (shape side : List Var) (values : List Value) (ns rs : List Expr) (more : List ℤ)
-    (rest : List (Option ℕ)) → AreAlike shape side → map (worth later) ns ≡ map (worth number) (numbers_of side) ++ more
-    → map (λ (e : Expr). later_array e.sym) rs ≡ map array (references_of side) ++ rest → HaveValues number array side values
-    → HaveValues later later_array (new_vars ns rs shape) values
-new_have number later array later_array [] [] values ns rs more rest alike worths arrays has = has
-new_have number later array later_array [] (y ∷ side) values ns rs more rest alike worths arrays has = absurd alike
-new_have number later array later_array (x ∷ shape) [] values ns rs more rest alike worths arrays has = absurd alike
-new_have number later array later_array (x ∷ shape) (y ∷ side) [] ns rs more rest alike worths arrays has = absurd has
-new_have number later array later_array (vars.Number e ∷ shape) (vars.Number f ∷ side) (value ∷ values) [] rs more rest alike worths arrays has = absurd cc
-new_have number later array later_array (vars.Number e ∷ shape) (vars.Number f ∷ side) (value ∷ values) (n ∷ ns) rs more rest alike worths arrays has =
-    (has.0 ∙ ap (λ z. Some z) (sym (cons_head (worth later n) (worth number f) (map (worth later) ns) (map (worth number) (numbers_of side) ++ more) worths)),
-    new_have number later array later_array shape side values ns rs more rest alike.1
-    (cons_tail (worth later n) (worth number f) (map (worth later) ns) (map (worth number) (numbers_of side) ++ more) worths) arrays has.1)
-new_have number later array later_array (vars.Reference q ∷ shape) (vars.Reference r ∷ side) (value ∷ values) ns [] more rest alike worths arrays has = absurd cc
-new_have number later array later_array (vars.Reference q ∷ shape) (vars.Reference r ∷ side) (value ∷ values) ns (n ∷ rs) more rest alike worths arrays has =
-    (has.0
-    ∙ ap (λ z. Some z) (sym (cons_head (later_array n.sym) (array r) (map (λ (e : Expr). later_array e.sym) rs) (map array (references_of side) ++ rest) arrays)),
-    new_have number later array later_array shape side values ns rs more rest alike.1 worths
-    (cons_tail (later_array n.sym) (array r) (map (λ (e : Expr). later_array e.sym) rs) (map array (references_of side) ++ rest) arrays) has.1)
-new_have number later array later_array (vars.Text ∷ shape) (vars.Text ∷ side) (value ∷ values) ns rs more rest alike worths arrays has =
-    (has.0, new_have number later array later_array shape side values ns rs more rest alike.1 worths arrays has.1)
-new_have number later array later_array (vars.Number e ∷ shape) (vars.Reference r ∷ side) (value ∷ values) ns rs more rest alike worths arrays has = absurd cc
-new_have number later array later_array (vars.Number e ∷ shape) (vars.Text ∷ side) (value ∷ values) ns rs more rest alike worths arrays has = absurd cc
-new_have number later array later_array (vars.Reference r ∷ shape) (vars.Number e ∷ side) (value ∷ values) ns rs more rest alike worths arrays has = absurd cc
-new_have number later array later_array (vars.Reference r ∷ shape) (vars.Text ∷ side) (value ∷ values) ns rs more rest alike worths arrays has = absurd cc
-new_have number later array later_array (vars.Text ∷ shape) (vars.Number e ∷ side) (value ∷ values) ns rs more rest alike worths arrays has = absurd cc
-new_have number later array later_array (vars.Text ∷ shape) (vars.Reference r ∷ side) (value ∷ values) ns rs more rest alike worths arrays has = absurd cc
+abbrev pub AreSaid : List Said → List Value → Type 0
+AreSaid [] [] = Unit {0}
+AreSaid (x ∷ xs) (value ∷ values) = IsSaid x value × AreSaid xs values
+AreSaid _ _ = ⊥
+
+said_by : (number : ℕ → ℤ) (array : ℕ → Option ℕ) (vs : List Var) (values : List Value) → HaveValues number array vs values
+    → AreSaid (map (said number array) vs) values
+said_by number array [] [] have = have
+said_by number array [] (value ∷ values) have = have
+said_by number array (v ∷ vs) [] have = have
+said_by number array (vars.Number e ∷ vs) (value ∷ values) have = (have.0, said_by number array vs values have.1)
+said_by number array (vars.Reference r ∷ vs) (value ∷ values) have = (have.0, said_by number array vs values have.1)
+said_by number array (vars.Text ∷ vs) (value ∷ values) have = (have.0, said_by number array vs values have.1)
+
+have_said : (number : ℕ → ℤ) (array : ℕ → Option ℕ) (vs : List Var) (values : List Value) → AreSaid (map (said number array) vs) values
+    → HaveValues number array vs values
+have_said number array [] [] are = are
+have_said number array [] (value ∷ values) are = are
+have_said number array (v ∷ vs) [] are = are
+have_said number array (vars.Number e ∷ vs) (value ∷ values) are = (are.0, have_said number array vs values are.1)
+have_said number array (vars.Reference r ∷ vs) (value ∷ values) are = (are.0, have_said number array vs values are.1)
+have_said number array (vars.Text ∷ vs) (value ∷ values) are = (are.0, have_said number array vs values are.1)
+
+-- Variables that say the same have the same values.
+pub have_same : (number later : ℕ → ℤ) (array later_array : ℕ → Option ℕ) (new old : List Var) (values : List Value)
+    → map (said later later_array) new ≡ map (said number array) old → HaveValues number array old values → HaveValues later later_array new values
+have_same number later array later_array new old values same have =
+    have_said later later_array new values (subst (λ xs. AreSaid xs values) (sym same) (said_by number array old values have))
 
 -- ---- references
+
+not_zero : (r : ℕ) → (suc r == 0) ≡ false
+not_zero r = elim (cases_Bool (suc r == 0)) [
+  | inl is ↦ absurd (omega (arith, (Decides-eqb (suc r) 0).0 is))
+  | inr is ↦ is
+]
+
+one_back : (r : ℕ) → r ≡ suc r - 1
+one_back r = omega arith
 
 -- Both tables of references are read alike.
 pub same_entry : (references : List (Reference Unknown)) (r : ℕ) → states.reference_at references r ≡ frames.reference_at references r
 unfolding states.reference_at
 same_entry references zero = refl
-same_entry references (suc r) = refl
+same_entry references (suc r) =
+    ap (slice_get references) (one_back r) ∙ sym (ap (λ b. if b then None else slice_get references (suc r - 1)) (not_zero r))
 
 few_items : (heap : Heap) (i : ℕ) → IsHeap heap → holds.length_in heap i < 2 ^ 31
 few_items [] i arrays = grind arith
@@ -160,9 +176,7 @@ entries_so heap known number array r start so beyond = by (frames.reference_at k
     by None at = no_entry heap number known.references r (array r) start (beyond r at) at
     by (Some one) at = an_entry heap number known.references r (array r) one (so r one (same_entry known.references r ∙ at)) at
 
-pub lengths_fit : (heap : Heap) (known : StateFacts) (number : ℕ → ℤ) (array : ℕ → Option ℕ) (rs : List ℕ) → number 0 ≡ pos 0 → AreSo heap number array known.references
-    → AreNoneBeyond known array → IsHeap heap → AllFit number (map (length_at known.references) rs)
-lengths_fit heap known number array [] start so beyond arrays = tt
-lengths_fit heap known number array (r ∷ rs) start so beyond arrays =
-    (subst (FitsSigned w32) (sym (entries_so heap known number array r start so beyond).length_is) (length_fits heap (array r) arrays),
-    lengths_fit heap known number array rs start so beyond arrays)
+pub key_lengths_fit : (is_first : Bool) (references : List (Reference Unknown)) (number : ℕ → ℤ) (us : List Key)
+    → ((r : ℕ) → FitsSigned w32 (worth number (length_at references r))) → AllFit number (map (λ u. length_at references (old_of is_first u)) us)
+key_lengths_fit is_first references number [] fit = tt
+key_lengths_fit is_first references number (u ∷ us) fit = (fit (old_of is_first u), key_lengths_fit is_first references number us fit)

@@ -1,5 +1,5 @@
 -- Where a state holds, what it is in new names holds too: the two states that are made one, and the normal form.
-use Rattle.std.proofs.Common.{◌≡◌, ℕ, zero, suc, ◌+◌, ◌<◌, ◌≤◌, ℤ, pos, ◌+ℤ◌, Bool, true, false, List, [], ◌∷◌, ◌++◌, length, length-append, map, get_or, Option, Some, None, refl, sym, ap, ◌∙◌, subst, append-nil, drop, arith}
+use Rattle.std.proofs.Common.{◌≡◌, ℕ, zero, suc, ◌+◌, ◌<◌, ◌≤◌, ℤ, pos, ◌+ℤ◌, Bool, true, false, List, [], ◌∷◌, ◌++◌, length, map, get_or, Option, Some, None, FitsSigned, w32, refl, sym, ap, ◌∙◌, subst, append-nil, drop, arith}
 use Rattle.std.specs.Prelude.{if◌then◌else◌}
 use Rattle.std.specs.Option.{option_and_then, option_map}
 use Rattle.std.specs.List.{AllByRecursion, list_all}
@@ -15,8 +15,9 @@ use Rattle.cil_model.specs.declared.machine.Value.{Value}
 use Rattle.cil_model.specs.declared.place.Place.{Place}
 use Rattle.frame_names.specs.Frames.{AreAlike, length_at, numbers_of, place_at, place_in, references_of}
 use Rattle.frame_names.specs.MergedReferences.{merged_references}
-use Rattle.frame_names.proofs.FrameLemmas.{alike_itself, same_exprs, same_numbers, same_references}
-use Rattle.frame_names.specs.PairedFrames.{FramePairing, exprs_of, if_near, is_near, named_frame, old_at, old_of, olds_of, paired_frames, pairing_by, pairs_of}
+use Rattle.frame_names.specs.Meaning.{arrays_behind, numbers_behind}
+use Rattle.frame_names.proofs.SaidLaws.{frames_have_lengths, frames_say}
+use Rattle.frame_names.specs.PairedFrames.{FramePairing, exprs_of, if_near, is_near, named_frame, old_at, old_of, paired_frames, pairing_by, pairs_of}
 use Rattle.frame_names.specs.declared.reference.Reference.{Reference}
 use Rattle.frame_names.specs.declared.var.Var.{Var}
 use Rattle.frame_names.specs.declared.var.Var.TheVariants as vars
@@ -47,41 +48,10 @@ use Rattle.abs_state.specs.StateFacts as states
 use Rattle.abs_state.specs.StateFacts.{StateFacts, State}
 use Rattle.abs_state.specs.declared.reference.Unknown.{Unknown}
 use Rattle.abs_state.proofs.LatticeDefinitions.{definitions_so}
-use Rattle.abs_state.proofs.LatticeFrames.{IsEntry, alike_of, both_fit, entries_so, lengths_fit, new_have, same_entry, vars_fit}
+use Rattle.abs_state.proofs.LatticeFrames.{IsEntry, alike_of, both_fit, entries_so, have_same, key_lengths_fit, length_fits, same_entry, vars_fit}
 use Rattle.abs_state.proofs.LatticeNumbers.{numbers_allowed, zero_is}
 use Rattle.abs_state.proofs.LatticeReferences.{AllSo, HaveOnePlace, OldEntry, all_so, are_so}
 use Rattle.abs_state.proofs.LatticeUses.{AllFit, all_keys, at_named, exprs_near, keys_fit}
-
--- ---- the references of variables
-
--- The old references of uses of two lists of references.
-old_uses : (is_first : Bool) (a b : List ℕ) → length a ≡ length b → map (old_of is_first) (uses_of (map as_expr a) (map as_expr b)) ≡ (if is_first then a else b)
-old_uses true [] b same = refl
-old_uses true (r ∷ a) [] same = absurd (omega (arith, same))
-old_uses true (r ∷ a) (q ∷ b) same = ap (λ rs. r ∷ rs) (old_uses true a b (omega (arith, same)))
-old_uses false [] [] same = refl
-old_uses false [] (q ∷ b) same = absurd (omega (arith, same))
-old_uses false (r ∷ a) [] same = absurd (omega (arith, same))
-old_uses false (r ∷ a) (q ∷ b) same = ap (λ rs. q ∷ rs) (old_uses false a b (omega (arith, same)))
-
-same_old : (is_first : Bool) (array : ℕ → Option ℕ) (u v : Key) → same_key u v ≡ true → array (old_of is_first u) ≡ array (old_of is_first v)
-same_old true array u v is = let one : HaveOneKey u v = same_key_is u v is in ap array one.first_symbol
-same_old false array u v is = let one : HaveOneKey u v = same_key_is u v is in ap array one.second_symbol
-
-mapped : {X Y Z : Type 0} (f : X → Y) (g : Y → Z) (xs : List X) → map (λ x. g (f x)) xs ≡ map g (map f xs)
-mapped f g [] = refl
-mapped f g (x ∷ xs) = ap (λ ys. g (f x) ∷ ys) (mapped f g xs)
-
--- Each new reference of two lists of references is what the old one is on that side.
-pub named_references : (is_first : Bool) (array : ℕ → Option ℕ) (a b : List ℕ) → length a ≡ length b
-    → map (λ (e : Expr). array (old_at is_first (paired_references a b).keys e.sym)) (paired_references a b).exprs ≡ map array (if is_first then a else b)
-named_references is_first array a b same =
-    let es = map as_expr a in
-    let fs = map as_expr b in
-    ap (λ known. map (λ (e : Expr). array (old_of is_first (get_or known e.sym origin))) (map (named (known_in es fs)) (uses_of es fs)))
-    (sym (origin_first [] (uses_of es fs)))
-    ∙ at_named (λ u. array (old_of is_first u)) (same_old is_first array) (known_in es fs) (uses_of es fs) (all_known (origin ∷ []) (uses_of es fs))
-    ∙ mapped (old_of is_first) array (uses_of es fs) ∙ ap (map array) (old_uses is_first a b same)
 
 -- ---- references of like variables have one place
 
@@ -136,7 +106,7 @@ pub record PartsSo (variables : List Var) (references : List (Reference Unknown)
   pub defined : AllByRecursion (IsDefined number (λ r. is_no_array (array r))) definitions
   pub have : HaveValues number array variables vs
   pub fit : AllFit number (numbers_of variables)
-  pub lengths : (rs : List ℕ) → AllFit number (map (length_at references) rs)
+  pub lengths : (r : ℕ) → FitsSigned w32 (worth number (length_at references r))
   pub entries : (r : ℕ) → IsEntry heap number references r (array r)
   pub differ : AllDiffer array pairs
 
@@ -152,7 +122,7 @@ parts_so known vs heap number array so beyond machine =
       defined = so.facts.definitions;
       have = so.variables;
       fit = vars_fit number array known.variables vs so.variables machine.numbers;
-      lengths = λ rs. lengths_fit heap known number array rs start so.references beyond machine.arrays;
+      lengths = λ r. subst (FitsSigned w32) (sym (entries_so heap known number array r start so.references beyond).length_is) (length_fits heap (array r) machine.arrays);
       entries = λ r. entries_so heap known number array r start so.references beyond;
       differ = so.apart;
     }
@@ -173,18 +143,18 @@ pub frame : StateFacts → StateFacts → FramePairing
 frame a b = named_frame a.variables (pairs_of a.variables b.variables) (pairing_by (pairs_of a.variables b.variables) a.variables a.references b.variables b.references)
 
 first_exprs : StateFacts → StateFacts → List Expr
-first_exprs a b = exprs_of a.variables a.references (olds_of true (pairs_of a.variables b.variables).keys)
+first_exprs a b = exprs_of a.variables a.references true (pairs_of a.variables b.variables).keys
 
 second_exprs : StateFacts → StateFacts → List Expr
-second_exprs a b = exprs_of b.variables b.references (olds_of false (pairs_of a.variables b.variables).keys)
+second_exprs a b = exprs_of b.variables b.references false (pairs_of a.variables b.variables).keys
 
 exprs_fit : (is_first : Bool) (a b : StateFacts) (vs : List Value) (heap : Heap) (number : ℕ → ℤ) (array : ℕ → Option ℕ) → SideSo is_first a b vs heap number array
     → AllFit number (if is_first then first_exprs a b else second_exprs a b)
 unfolding first_exprs second_exprs
 exprs_fit true a b vs heap number array so =
-    both_fit number (numbers_of a.variables) _ so.fit (so.lengths (olds_of true (pairs_of a.variables b.variables).keys))
+    both_fit number (numbers_of a.variables) _ so.fit (key_lengths_fit true a.references number (pairs_of a.variables b.variables).keys so.lengths)
 exprs_fit false a b vs heap number array so =
-    both_fit number (numbers_of b.variables) _ so.fit (so.lengths (olds_of false (pairs_of a.variables b.variables).keys))
+    both_fit number (numbers_of b.variables) _ so.fit (key_lengths_fit false b.references number (pairs_of a.variables b.variables).keys so.lengths)
 
 if_true : {X : Type 0} (test : Bool) (x : X) → test ≡ true → (if test then Some x else None) ≡ Some x
 if_true true x is = refl
@@ -206,76 +176,26 @@ keys_are_int32 is_first a b vs heap number array so =
 
 -- ---- the new choice
 
-pub later_of : Bool → StateFacts → StateFacts → (ℕ → ℤ) → ℕ → ℤ
-later_of is_first a b number = behind_uses is_first number (origin ∷ (frame a b).numbers.keys)
+abbrev pub later_of : Bool → StateFacts → StateFacts → (ℕ → ℤ) → ℕ → ℤ
+later_of is_first a b number = numbers_behind is_first number (frame a b)
 
-pub arrays_of : Bool → StateFacts → StateFacts → (ℕ → Option ℕ) → ℕ → Option ℕ
-arrays_of is_first a b array r = array (old_at is_first (frame a b).references.keys r)
-
-map_both : (f : Expr → ℤ) (xs ys : List Expr) → map f (xs ++ ys) ≡ map f xs ++ map f ys
-map_both f [] ys = refl
-map_both f (x ∷ xs) ys = ap (λ zs. f x ∷ zs) (map_both f xs ys)
-
-worths_of : (is_first : Bool) (a b : StateFacts) (number : ℕ → ℤ) → AreAlike a.variables b.variables
-    → map (worth (later_of is_first a b number)) (frame a b).numbers.exprs
-    ≡ map (worth number) (numbers_of (if is_first then a.variables else b.variables))
-    ++ map (worth number) (map (length_at (if is_first then a.references else b.references)) (olds_of is_first (frame a b).references.keys))
-unfolding frame later_of
-worths_of true a b number alike =
-    paired_worth true number _ _ (same_exprs a.variables b.variables a.references b.references (pairs_of a.variables b.variables).keys alike)
-    ∙ map_both (worth number) (numbers_of a.variables) _
-worths_of false a b number alike =
-    paired_worth false number _ _ (same_exprs a.variables b.variables a.references b.references (pairs_of a.variables b.variables).keys alike)
-    ∙ map_both (worth number) (numbers_of b.variables) _
-
-map_drop : (f : Expr → ℤ) (count : ℕ) (xs : List Expr) → map f (drop count xs) ≡ drop count (map f xs)
-map_drop f zero xs = refl
-map_drop f (suc count) [] = refl
-map_drop f (suc count) (x ∷ xs) = map_drop f count xs
-
-drop_front : (xs ys : List ℤ) (count : ℕ) → count ≡ length xs → drop count (xs ++ ys) ≡ ys
-drop_front [] ys zero same = refl
-drop_front [] ys (suc count) same = absurd (omega (arith, same))
-drop_front (x ∷ xs) ys zero same = absurd (omega (arith, same))
-drop_front (x ∷ xs) ys (suc count) same = drop_front xs ys count (omega (arith, same))
-
-count_of : (is_first : Bool) (a b : StateFacts) (number : ℕ → ℤ) → AreAlike a.variables b.variables
-    → length (numbers_of a.variables) ≡ length (map (worth number) (numbers_of (if is_first then a.variables else b.variables)))
-count_of true a b number alike = sym (length-map (numbers_of a.variables) (worth number))
-count_of false a b number alike = same_numbers a.variables b.variables alike ∙ sym (length-map (numbers_of b.variables) (worth number))
-
-lengths_worth : (is_first : Bool) (a b : StateFacts) (number : ℕ → ℤ) → AreAlike a.variables b.variables
-    → map (worth (later_of is_first a b number)) (frame a b).lengths
-    ≡ map (worth number) (map (length_at (if is_first then a.references else b.references)) (olds_of is_first (frame a b).references.keys))
-unfolding frame
-lengths_worth is_first a b number alike =
-    map_drop (worth (later_of is_first a b number)) (length (numbers_of a.variables)) (frame a b).numbers.exprs
-    ∙ ap (drop (length (numbers_of a.variables))) (worths_of is_first a b number alike)
-    ∙ drop_front (map (worth number) (numbers_of (if is_first then a.variables else b.variables))) _ (length (numbers_of a.variables))
-    (count_of is_first a b number alike)
-
-arrays_named : (is_first : Bool) (a b : StateFacts) (array : ℕ → Option ℕ) → AreAlike a.variables b.variables
-    → map (λ (e : Expr). arrays_of is_first a b array e.sym) (frame a b).references.exprs
-    ≡ map array (references_of (if is_first then a.variables else b.variables)) ++ []
-unfolding frame arrays_of
-arrays_named true a b array alike =
-    named_references true array (references_of a.variables) (references_of b.variables) (same_references a.variables b.variables alike)
-    ∙ sym (append-nil (map array (references_of a.variables)))
-arrays_named false a b array alike =
-    named_references false array (references_of a.variables) (references_of b.variables) (same_references a.variables b.variables alike)
-    ∙ sym (append-nil (map array (references_of b.variables)))
-
-alike_side : (is_first : Bool) (a b : StateFacts) → AreAlike a.variables b.variables → AreAlike a.variables (if is_first then a.variables else b.variables)
-alike_side true a b alike = alike_itself a.variables
-alike_side false a b alike = alike
+abbrev pub arrays_of : Bool → StateFacts → StateFacts → (ℕ → Option ℕ) → ℕ → Option ℕ
+arrays_of is_first a b array = arrays_behind is_first array (frame a b)
 
 vars_have : (is_first : Bool) (a b : StateFacts) (vs : List Value) (heap : Heap) (number : ℕ → ℤ) (array : ℕ → Option ℕ) → AreAlike a.variables b.variables
     → SideSo is_first a b vs heap number array → HaveValues (later_of is_first a b number) (arrays_of is_first a b array) (frame a b).vars vs
-unfolding frame
 vars_have is_first a b vs heap number array alike so =
-    new_have number (later_of is_first a b number) array (arrays_of is_first a b array) a.variables (if is_first then a.variables else b.variables) vs
-    (frame a b).numbers.exprs (frame a b).references.exprs _ [] (alike_side is_first a b alike) (worths_of is_first a b number alike)
-    (arrays_named is_first a b array alike) so.have
+    have_same number (later_of is_first a b number) array (arrays_of is_first a b array) (frame a b).vars (if is_first then a.variables else b.variables) vs
+    (frames_say a.variables b.variables a.references b.references (Some (frame a b)) alike (sym (frame_made is_first a b vs heap number array so))
+    is_first number array) so.have
+
+lengths_worth : (is_first : Bool) (a b : StateFacts) (vs : List Value) (heap : Heap) (number : ℕ → ℤ) (array : ℕ → Option ℕ) → AreAlike a.variables b.variables
+    → SideSo is_first a b vs heap number array
+    → map (worth (later_of is_first a b number)) (frame a b).lengths
+    ≡ map (λ u. worth number (length_at (if is_first then a.references else b.references) (old_of is_first u))) (frame a b).references.keys
+lengths_worth is_first a b vs heap number array alike so =
+    frames_have_lengths a.variables b.variables a.references b.references (Some (frame a b)) alike (sym (frame_made is_first a b vs heap number array so))
+    is_first number
 
 old_entries : (is_first : Bool) (a b : StateFacts) (vs : List Value) (heap : Heap) (number : ℕ → ℤ) (array : ℕ → Option ℕ) (us : List Key)
     → SideSo is_first a b vs heap number array
@@ -287,18 +207,17 @@ references_so : (is_first : Bool) (a b : StateFacts) (vs : List Value) (heap : H
     → SideSo is_first a b vs heap number array
     → AreSo heap (later_of is_first a b number) (arrays_of is_first a b array)
     (map unknown_items (merged_references a.references b.references (frame a b).references.keys (frame a b).lengths))
-unfolding frame arrays_of
+unfolding frame
 references_so is_first a b vs heap number array like so =
     are_so heap (later_of is_first a b number) array is_first (pairs_of a.variables b.variables).keys _
     (all_so heap number (later_of is_first a b number) is_first a.references b.references (λ u. array (old_of is_first u))
     (pairs_of a.variables b.variables).keys (frame a b).lengths (key_places a b like)
     (old_entries is_first a b vs heap number array (pairs_of a.variables b.variables).keys so)
-    (lengths_worth is_first a b number (alike_of a b a.variables b.variables like)))
+    (lengths_worth is_first a b vs heap number array (alike_of a b a.variables b.variables like) so))
 
 -- ---- the whole
 
 null_stays : (is_first : Bool) (a b : StateFacts) (array : ℕ → Option ℕ) → array 0 ≡ None → arrays_of is_first a b array 0 ≡ None
-unfolding arrays_of
 null_stays true a b array none = none
 null_stays false a b array none = none
 
@@ -326,12 +245,10 @@ one_behind is_first number keys i = ap (behind_uses is_first number (origin ∷ 
     one_more n = omega arith
 
 zero_later : (is_first : Bool) (a b : StateFacts) (number : ℕ → ℤ) → later_of is_first a b number 0 ≡ number 0
-unfolding later_of
 zero_later is_first a b number = zero_behind is_first number (frame a b).numbers.keys
 
 names_later : (is_first : Bool) (a b : StateFacts) (number : ℕ → ℤ) (i : ℕ)
     → later_of is_first a b number (1 + i) ≡ worth_of_use is_first number (get_or (frame a b).numbers.keys i origin)
-unfolding later_of
 names_later is_first a b number i = one_behind is_first number (frame a b).numbers.keys i
 
 -- What both states know in new names holds of what one of them holds of.

@@ -19,7 +19,7 @@ use Rattle.cil_model.specs.declared.place.Place.{Place}
 use Rattle.frame_names.specs.ApartPairs.{are_apart_in_both, are_kept, cannot_be_same, joined_apart, kept_apart, pairs_by, were_kept, with_row, with_test}
 use Rattle.frame_names.specs.Frames.{are_one_place, length_at, nullness_at, place_at}
 use Rattle.frame_names.specs.MergedReferences.{merged_reference, merged_references, one_place}
-use Rattle.frame_names.specs.PairedFrames.{behind, first_expr, old_at, old_of, olds_of}
+use Rattle.frame_names.specs.PairedFrames.{behind, first_expr, old_at, old_of}
 use Rattle.frame_names.specs.declared.merging.MergedReference.{MergedReference}
 use Rattle.frame_names.specs.declared.reference.Reference.{Reference}
 use Rattle.symbolic_values.specs.Pairing.{origin}
@@ -28,8 +28,9 @@ use Rattle.symbolic_values.specs.declared.pairs.Key.{Key}
 use Rattle.abs_state.specs.Holds as holds
 use Rattle.abs_state.specs.Holds.{AreSo, FitsArray, IsSo, length_of_array}
 use Rattle.abs_state.specs.LatticeParts.{unknown_items}
+use Rattle.abs_state.specs.StateFacts as states
 use Rattle.abs_state.specs.declared.reference.Unknown.{Unknown}
-use Rattle.abs_state.proofs.LatticeFrames.{IsEntry, same_entry}
+use Rattle.abs_state.proofs.LatticeFrames.{IsEntry}
 
 -- ---- one new reference
 
@@ -93,17 +94,17 @@ cons_tail x y xs ys same = cc
 
 pub all_so : (heap : Heap) (number later : ℕ → ℤ) (is_first : Bool) (a b : List (Reference Unknown)) (array : Key → Option ℕ) (us : List Key) (lengths : List Expr)
     → AllByRecursion (HaveOnePlace a b) us → AllByRecursion (λ u. OldEntry heap number is_first a b u (array u)) us
-    → map (worth later) lengths ≡ map (worth number) (map (length_at (if is_first then a else b)) (olds_of is_first us))
+    → map (worth later) lengths ≡ map (λ u. worth number (length_at (if is_first then a else b) (old_of is_first u))) us
     → AllSo heap later array us (map unknown_items (merged_references a b us lengths))
 all_so heap number later is_first a b array [] lengths same old worths = tt
 all_so heap number later is_first a b array (u ∷ us) [] same old worths = absurd cc
 all_so heap number later is_first a b array (u ∷ us) (n ∷ lengths) same old worths =
     (new_so heap number later is_first a b u n (array u) same.0 old.0
     (cons_head (worth later n) (worth number (length_at (if is_first then a else b) (old_of is_first u))) (map (worth later) lengths)
-    (map (worth number) (map (length_at (if is_first then a else b)) (olds_of is_first us))) worths),
+    (map (λ u. worth number (length_at (if is_first then a else b) (old_of is_first u))) us) worths),
     all_so heap number later is_first a b array us lengths same.1 old.1
     (cons_tail (worth later n) (worth number (length_at (if is_first then a else b) (old_of is_first u))) (map (worth later) lengths)
-    (map (worth number) (map (length_at (if is_first then a else b)) (olds_of is_first us))) worths))
+    (map (λ u. worth number (length_at (if is_first then a else b) (old_of is_first u))) us) worths))
 
 so_at : (heap : Heap) (number : ℕ → ℤ) (array : Key → Option ℕ) (us : List Key) (rs : List (Reference Unknown)) (place : ℕ) (known : Reference Unknown)
     → AllSo heap number array us rs → slice_get rs place ≡ Some known → IsSo heap number known (array (get_or us place origin))
@@ -118,12 +119,12 @@ so_at heap number array (u ∷ us) (r ∷ rs) (suc place) known all at = so_at h
 
 pub are_so : (heap : Heap) (number : ℕ → ℤ) (array : ℕ → Option ℕ) (is_first : Bool) (us : List Key) (rs : List (Reference Unknown))
     → AllSo heap number (λ u. array (old_of is_first u)) us rs → AreSo heap number (λ r. array (old_at is_first us r)) rs
-are_so heap number array is_first us rs all zero known at = absurd (none_is (sym (same_entry rs zero) ∙ at))
+unfolding states.reference_at
+are_so heap number array is_first us rs all zero known at = absurd (none_is at)
   where
     none_is : None ≡ Some known → ⊥
     none_is is = cc
-are_so heap number array is_first us rs all (suc place) known at =
-    so_at heap number (λ u. array (old_of is_first u)) us rs place known all (sym (same_entry rs (suc place)) ∙ at)
+are_so heap number array is_first us rs all (suc place) known at = so_at heap number (λ u. array (old_of is_first u)) us rs place known all at
 
 -- ---- pairs
 

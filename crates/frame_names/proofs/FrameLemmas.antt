@@ -1,5 +1,5 @@
 -- Variables of the same kinds, and constants that are near.
-use Rattle.std.proofs.Common.{◌≡◌, ℕ, zero, suc, pos, negsuc, ◌≤ℤ◌, true, true≢false, List, [], ◌∷◌, ◌++◌, length, map, Some, None, Option, refl, sym, ap, ◌∙◌, arith, length-append, false}
+use Rattle.std.proofs.Common.{◌≡◌, ℕ, zero, suc, ◌-◌, ◌==◌, Bool, if◌then◌else◌, pos, negsuc, ◌≤ℤ◌, true, true≢false, List, [], ◌∷◌, ◌++◌, length, map, None, refl, sym, ap, arith, length-append, false}
 use Rattle.std.proofs.lemmas.Int.{ints}
 use Rattle.std.proofs.lemmas.List.{length-map}
 use Rattle.std.specs.Prelude.{slice_get}
@@ -11,7 +11,7 @@ use Rattle.frame_names.specs.declared.reference.Reference.{Reference}
 use Rattle.frame_names.specs.declared.var.Var.{Var}
 use Rattle.frame_names.specs.declared.var.Var.TheVariants as vars
 use Rattle.frame_names.specs.Frames.{AreAlike, IsNearFrame, length_at, length_in, numbers_of, references_of}
-use Rattle.frame_names.specs.PairedFrames.{exprs_of, old_of, olds_of}
+use Rattle.frame_names.specs.PairedFrames.{exprs_of, old_of}
 
 pub same_references : (a b : List Var) → AreAlike a b → length (references_of a) ≡ length (references_of b)
 same_references [] [] alike = refl
@@ -40,6 +40,12 @@ same_numbers (vars.Reference r ∷ a) (vars.Number f ∷ b) alike = absurd (true
 same_numbers (vars.Reference r ∷ a) (vars.Text ∷ b) alike = absurd (true≢false (sym alike.0))
 same_numbers (vars.Text ∷ a) (vars.Number f ∷ b) alike = absurd (true≢false (sym alike.0))
 same_numbers (vars.Text ∷ a) (vars.Reference q ∷ b) alike = absurd (true≢false (sym alike.0))
+
+pub same_length : (a b : List Var) → AreAlike a b → length a ≡ length b
+same_length [] [] alike = refl
+same_length [] (y ∷ b) alike = absurd alike
+same_length (x ∷ a) [] alike = absurd alike
+same_length (x ∷ a) (y ∷ b) alike = ap suc (same_length a b alike.1)
 
 pub alike_itself : (a : List Var) → AreAlike a a
 alike_itself [] = tt
@@ -70,22 +76,31 @@ module _ {C : Type 0} where
   near_slot (known ∷ references) (suc place) all = near_slot references place all.1
 
   near_length : (references : List (Reference C)) (r : ℕ) → AllByRecursion (λ known. IsNear known.length) references → IsNear (length_at references r)
-  near_length references zero all = zero_is_near
-  near_length references (suc place) all = near_slot references place all
+  near_length references r all = by (r == 0)
+    where
+      by : (none : Bool) → IsNear (length_in (if none then None else slice_get references (r - 1)))
+      by true = zero_is_near
+      by false = near_slot references (r - 1) all
 
-  near_lengths : (references : List (Reference C)) (olds : List ℕ) → AllByRecursion (λ known. IsNear known.length) references
-      → AreNear (map (length_at references) olds)
-  near_lengths references [] all = tt
-  near_lengths references (r ∷ olds) all = (near_length references r all, near_lengths references olds all)
+  near_lengths : (references : List (Reference C)) (is_first : Bool) (keys : List Key) → AllByRecursion (λ known. IsNear known.length) references
+      → AreNear (map (λ key. length_at references (old_of is_first key)) keys)
+  near_lengths references is_first [] all = tt
+  near_lengths references is_first (key ∷ keys) all = (near_length references (old_of is_first key) all, near_lengths references is_first keys all)
 
   -- What is paired of a frame whose constants are near is near.
-  pub near_exprs : (vs : List Var) (references : List (Reference C)) (olds : List ℕ) → IsNearFrame vs references → AreNear (exprs_of vs references olds)
-  near_exprs vs references olds near = near_append (numbers_of vs) _ near.numbers (near_lengths references olds near.lengths)
+  pub near_exprs : (vs : List Var) (references : List (Reference C)) (is_first : Bool) (keys : List Key) → IsNearFrame vs references
+      → AreNear (exprs_of vs references is_first keys)
+  near_exprs vs references is_first keys near = near_append (numbers_of vs) _ near.numbers (near_lengths references is_first keys near.lengths)
 
   -- As many expressions are paired on either side.
-  pub same_exprs : (a b : List Var) (known other : List (Reference C)) (keys : List Key) → AreAlike a b
-      → length (exprs_of a known (olds_of true keys)) ≡ length (exprs_of b other (olds_of false keys))
-  same_exprs a b known other keys alike =
-      omega (arith, same_numbers a b alike, length-append (numbers_of a) (map (length_at known) (olds_of true keys)),
-      length-append (numbers_of b) (map (length_at other) (olds_of false keys)), length-map (olds_of true keys) (length_at known),
-      length-map (olds_of false keys) (length_at other), length-map keys (old_of true), length-map keys (old_of false))
+  pub same_exprs : (a b : List Var) (known other : List (Reference C)) (first second : Bool) (keys : List Key) → AreAlike a b
+      → length (exprs_of a known first keys) ≡ length (exprs_of b other second keys)
+  same_exprs a b known other first second keys alike =
+      omega (
+        arith,
+        same_numbers a b alike,
+        length-append (numbers_of a) (map (λ key. length_at known (old_of first key)) keys),
+        length-append (numbers_of b) (map (λ key. length_at other (old_of second key)) keys),
+        length-map keys (λ key. length_at known (old_of first key)),
+        length-map keys (λ key. length_at other (old_of second key)),
+      )

@@ -1,3 +1,6 @@
 pub mod FrameLemmas
-pub mod OwnKeys
+pub mod UseLemmas
 pub mod ListSteps
+pub mod SaidLaws
+pub mod BindingLaws
+pub mod TableLaws

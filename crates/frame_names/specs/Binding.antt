@@ -1,5 +1,5 @@
 -- One frame bound to another: what its symbols are worth, and which references its references are, by the other's.
-use Rattle.std.specs.Prelude.{ℕ, zero, suc, ◌+◌, ◌==◌, ℤ, pos, ◌+ℤ◌, ◌-ℤ◌, int_le, Bool, true, false, ◌&&◌, ◌||◌, List, [], ◌∷◌, length, drop, set, slice_get, replicate, Option, Some, None, if◌then◌else◌}
+use Rattle.std.specs.Prelude.{ℕ, ◌==◌, ℤ, pos, ◌+ℤ◌, ◌-ℤ◌, int_le, Bool, false, ◌&&◌, ◌||◌, List, [], ◌∷◌, get_or, length, drop, set, slice_get, replicate, Option, Some, None, if◌then◌else◌}
 use Rattle.std.specs.Option.{option_and_then, option_map}
 use Rattle.domain_api.specs.declared.expr.Expr.{Expr}
 use Rattle.alias_facts.specs.NullnessOf.{is_null}
@@ -40,15 +40,15 @@ pub record SlotLists : Type 0 where
 abbrev pub bound_by : Expr → Expr → Bound
 bound_by e f = record { value = e; offset = f.k }
 
--- What a bound symbol is worth, and a constant more.
-abbrev pub expr_of : Bound → ℤ → Expr
-expr_of bound k = record { sym = bound.value.sym; k = (bound.value.k -ℤ bound.offset) +ℤ k }
+-- What an expression of a bound symbol is worth.
+abbrev pub expr_of : Bound → Expr → Expr
+expr_of bound f = record { sym = bound.value.sym; k = (bound.value.k -ℤ bound.offset) +ℤ f.k }
 
 -- An expression of the other state is bound to a slot that is there: it is the first, or equal to what is bound.
 abbrev pub number_in_slot : Gaps → Symbols → Expr → Expr → Option (Option Bound) → Option Symbols
 number_in_slot gap symbols e f None = None
 number_in_slot gap symbols e f (Some None) = Some (set symbols f.sym (Some (bound_by e f)))
-number_in_slot gap symbols e f (Some (Some bound)) = if is_equal gap e (expr_of bound f.k) then Some symbols else None
+number_in_slot gap symbols e f (Some (Some bound)) = if is_equal gap e (expr_of bound f) then Some symbols else None
 
 -- An expression of the other state is what an expression of this one is worth.
 abbrev pub with_number : Gaps → Expr → Expr → Symbols → Option Symbols
@@ -73,8 +73,9 @@ module _ {C : Type 0} where
 
   -- A reference of the other state is one of this state. Reference 0 asks for one that is null.
   abbrev pub with_reference : List (Reference C) → List (Reference C) → ℕ → ℕ → References → Option References
-  with_reference a b r zero slots = if is_null (nullness_at a r) then Some slots else None
-  with_reference a b r (suc q) slots = reference_in_slot (fits a b r (suc q)) slots r (suc q) (slice_get slots (suc q))
+  with_reference a b r q slots =
+      if q == 0 then (if is_null (nullness_at a r) then Some slots else None)
+      else reference_in_slot (fits a b r q) slots r q (slice_get slots q)
 
   -- ---- variables, and then lengths
 
@@ -98,10 +99,9 @@ module _ {C : Type 0} where
 
   -- The lengths of the references from 1 on, with the slots of these.
   abbrev pub with_lengths : Gaps → List (Reference C) → List (Reference C) → References → Symbols → Option Symbols
-  with_lengths gap a [] [] symbols = Some symbols
-  with_lengths gap a (known ∷ b) (slot ∷ slots) symbols =
-      option_and_then (with_lengths gap a b slots) (with_length gap a known slot symbols)
-  with_lengths gap a _ _ symbols = None
+  with_lengths gap a [] slots symbols = Some symbols
+  with_lengths gap a (known ∷ b) slots symbols =
+      option_and_then (with_lengths gap a b (drop 1 slots)) (with_length gap a known (get_or slots 0 None) symbols)
 
 -- ---- the whole
 

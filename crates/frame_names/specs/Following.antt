@@ -1,5 +1,5 @@
 -- What follows of a bound frame.
-use Rattle.std.specs.Prelude.{ℕ, Bool, true, false, ◌&&◌, List, [], ◌∷◌, get_or}
+use Rattle.std.specs.Prelude.{ℕ, Bool, true, ◌&&◌, List, [], ◌∷◌, drop, get_or}
 use Rattle.std.specs.List.{list_all}
 use Rattle.alias_facts.specs.NullnessOf.{entailed}
 use Rattle.alias_facts.specs.PairsOf.{Pair}
@@ -10,9 +10,8 @@ use Rattle.frame_names.specs.declared.reference.Reference.{Reference}
 module _ {C : Type 0} where
   -- What is known of each reference, from 1 on, is known of what it is bound to.
   abbrev pub all_entailed : List (Reference C) → List (Reference C) → List ℕ → Bool
-  all_entailed a [] _ = true
-  all_entailed a (known ∷ b) [] = false
-  all_entailed a (known ∷ b) (r ∷ bound) = entailed (nullness_at a r) known.nullness && all_entailed a b bound
+  all_entailed a [] bound = true
+  all_entailed a (known ∷ b) bound = entailed (nullness_at a (get_or bound 0 0)) known.nullness && all_entailed a b (drop 1 bound)
 
   -- What the references of each pair are bound to cannot be the same array.
   abbrev pub all_apart : List (Reference C) → List Pair → List ℕ → List Pair → Bool

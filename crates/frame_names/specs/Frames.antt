@@ -1,5 +1,5 @@
 -- The variables of a state, and its table of references.
-use Rattle.std.specs.Prelude.{◌≡◌, ℕ, zero, suc, ◌==◌, pos, Bool, true, false, List, [], ◌∷◌, slice_get, Option, Some, None, IsTrue}
+use Rattle.std.specs.Prelude.{◌≡◌, ℕ, ◌-◌, ◌==◌, pos, Bool, true, false, List, [], ◌∷◌, slice_get, Option, Some, None, if◌then◌else◌}
 use Rattle.std.specs.List.{AllByRecursion, filter_map}
 use Rattle.cil_model.specs.Places.{place_number}
 use Rattle.cil_model.specs.declared.place.Place.{Place}
@@ -44,8 +44,7 @@ AreAlike _ _ = ⊥
 
 module _ {C : Type 0} where
   abbrev pub reference_at : List (Reference C) → ℕ → Option (Reference C)
-  reference_at references zero = None
-  reference_at references (suc place) = slice_get references place
+  reference_at references r = if r == 0 then None else slice_get references (r - 1)
 
   abbrev pub length_in : Option (Reference C) → Expr
   length_in None = record { sym = 0; k = pos 0 }

@@ -2,5 +2,8 @@ pub mod Frames
 pub mod PairedFrames
 pub mod MergedReferences
 pub mod ApartPairs
+pub mod Meaning
 pub mod Binding
 pub mod Following
+pub mod BoundMeaning
+pub mod Tables

@@ -1,5 +1,5 @@
 -- What is known of each new reference of two frames that were named together.
-use Rattle.std.specs.Prelude.{ℕ, List, [], ◌∷◌, Option, Some, None}
+use Rattle.std.specs.Prelude.{List, [], ◌∷◌, Option, Some, None}
 use Rattle.alias_facts.specs.NullnessOf.{joined}
 use Rattle.cil_model.specs.declared.place.Place.{Place}
 use Rattle.cil_model.specs.declared.place.Place.TheVariants.{Void}

@@ -25,9 +25,6 @@ old_of is_first key = if is_first then key.s else key.t
 abbrev pub old_at : Bool → List Key → ℕ → ℕ
 old_at is_first keys new = old_of is_first (get_or (origin ∷ keys) new origin)
 
-abbrev pub olds_of : Bool → List Key → List ℕ
-olds_of is_first keys = map (old_of is_first) keys
-
 -- ---- the new variables, from the new numbers and references that are left
 
 abbrev pub first_expr : List Expr → Expr
@@ -60,12 +57,12 @@ named_frame vs references numbers = record {
 
 module _ {C : Type 0} where
   -- The numbers of a side's variables, and then the lengths of its references that are paired.
-  abbrev pub exprs_of : List Var → List (Reference C) → List ℕ → List Expr
-  exprs_of vs references olds = numbers_of vs ++ map (length_at references) olds
+  abbrev pub exprs_of : List Var → List (Reference C) → Bool → List Key → List Expr
+  exprs_of vs references is_first keys = numbers_of vs ++ map (λ key. length_at references (old_of is_first key)) keys
 
   abbrev pub pairing_by : Pairing → List Var → List (Reference C) → List Var → List (Reference C) → Pairing
   pairing_by references a known b other =
-      paired (exprs_of a known (olds_of true references.keys)) (exprs_of b other (olds_of false references.keys))
+      paired (exprs_of a known true references.keys) (exprs_of b other false references.keys)
 
 -- The constant is one of -2^32 to 2^32.
 abbrev pub is_near : Expr → Bool

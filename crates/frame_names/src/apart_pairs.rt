@@ -3,7 +3,8 @@
 ghost use Rattle.std.specs.Prelude.{◌≡◌, ◌&&◌, ◌∷◌, [], get_or, length, IfOk, OnOk};
 ghost use Rattle.symbolic_values.specs.Pairing.{origin};
 ghost use Rattle.alias_facts.specs.PairsOf.{contains, ordered, with_pair};
-ghost use Rattle.frame_names.specs.ApartPairs.{are_apart_in_both, cannot_be_same, joined_apart, kept_apart, old_at, pairs_by, were_kept, with_row, with_test};
+ghost use Rattle.frame_names.specs.ApartPairs.{are_apart_in_both, cannot_be_same, joined_apart, kept_apart, pairs_by, were_kept, with_row, with_test};
+ghost use Rattle.frame_names.specs.Tables.{DifferAsKept, DifferOnBoth};
 
 use crate::reference::{Reference, are_one_place, nullness_of, place_of};
 use alias_facts::Apart;
@@ -99,6 +100,21 @@ fn last_of(keys: &[Key]) -> Result<u32, NoMemory>
     }
 }
 
+impl<'a, C> Sides<'a, C> {
+    /// The pairs of new references that cannot be the same array on either side.
+    fn pairs(&self, alloc: Global) -> Result<Apart, NoMemory>
+        ensures { IfOk result (λ apart. apart ≡ joined_apart self.now.keys.now self.now.a.now
+            self.now.a_apart.now self.now.b.now self.now.b_apart.now) }
+    {
+        let last = last_of(self.keys)?;
+        let mut apart = Apart::new(alloc);
+        for before in 0..last {
+            self.keep_row(&mut apart, before + 1)?;
+        }
+        Ok(apart)
+    }
+}
+
 /// The pairs of new references that cannot be the same array in either state: there each two are kept apart, their types
 /// differ, or one is null. Given are the keys of the paired references.
 ///
@@ -112,6 +128,7 @@ pub fn joined_apart<C>(
     b_apart: &Apart,
 ) -> Result<Apart, NoMemory>
     ensures value { IfOk result (λ apart. apart ≡ joined_apart keys.now a.now a_apart.now b.now b_apart.now) }
+    ensures differ { IfOk result (DifferOnBoth keys.now a.now a_apart.now b.now b_apart.now) }
 {
     let sides = Sides {
         keys,
@@ -120,12 +137,7 @@ pub fn joined_apart<C>(
         b,
         b_apart,
     };
-    let last = last_of(keys)?;
-    let mut apart = Apart::new(alloc);
-    for before in 0..last {
-        sides.keep_row(&mut apart, before + 1)?;
-    }
-    Ok(apart)
+    sides.pairs(alloc)
 }
 
 // ---- the pairs of one state
@@ -156,11 +168,9 @@ fn keep_old_row(apart: &mut Apart, keys: &[Key], kept: &Apart, higher: u32) -> R
     Ok(())
 }
 
-/// The pairs of new references that were kept apart in the first state. Given are the keys of the paired references.
-///
-/// Cost: each two references are looked at.
-pub fn kept_apart(alloc: Global, keys: &[Key], kept: &Apart) -> Result<Apart, NoMemory>
-    ensures value { IfOk result (λ apart. apart ≡ kept_apart keys.now kept.now) }
+/// The pairs of new references that were kept apart in the first state.
+fn old_pairs(alloc: Global, keys: &[Key], kept: &Apart) -> Result<Apart, NoMemory>
+    ensures { IfOk result (λ apart. apart ≡ kept_apart keys.now kept.now) }
 {
     let last = last_of(keys)?;
     let mut apart = Apart::new(alloc);
@@ -168,4 +178,14 @@ pub fn kept_apart(alloc: Global, keys: &[Key], kept: &Apart) -> Result<Apart, No
         keep_old_row(&mut apart, keys, kept, before + 1)?;
     }
     Ok(apart)
+}
+
+/// The pairs of new references that were kept apart in the first state. Given are the keys of the paired references.
+///
+/// Cost: each two references are looked at.
+pub fn kept_apart(alloc: Global, keys: &[Key], kept: &Apart) -> Result<Apart, NoMemory>
+    ensures value { IfOk result (λ apart. apart ≡ kept_apart keys.now kept.now) }
+    ensures differ { IfOk result (DifferAsKept keys.now kept.now) }
+{
+    old_pairs(alloc, keys, kept)
 }

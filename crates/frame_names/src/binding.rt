@@ -1,8 +1,9 @@
 //! Binding the frame of one state to that of another.
 
-ghost use Rattle.std.specs.Prelude.{◌≡◌, ◌∷◌, Some, None, drop, length, IfOk, OnOk, if◌then◌else◌};
+ghost use Rattle.std.specs.Prelude.{◌≡◌, Some, None, get_or, IfOk, IfSome, if◌then◌else◌};
 ghost use Rattle.std.specs.Option.{option_and_then, option_map};
 ghost use Rattle.frame_names.specs.Frames.{AreAlike};
+ghost use Rattle.frame_names.specs.BoundMeaning.{HasSameLengths, SaysSame};
 ghost use Rattle.frame_names.specs.Binding.{bound_frames, filled_with, with_length, with_lengths, with_var, with_vars};
 
 use crate::frame::Frame;
@@ -28,6 +29,16 @@ impl Model for Binding {
     ghost Value = { FrameBinding };
 
     ghost view = { λ binding. record { symbols = binding.symbols.items; references = binding.references.items } };
+}
+
+/// The slot at an index. One that is not there is free.
+fn slot_at(slots: &[Option<u32>], index: usize) -> Option<u32>
+    ensures { result ≡ get_or slots.now index None }
+{
+    match slots.get(index) {
+        None => None,
+        Some(slot) => *slot,
+    }
 }
 
 /// Two states' tables of references, and how the symbols of the first lie to each other.
@@ -57,6 +68,7 @@ impl<'a, O: Order, C> Tables<'a, O, C> {
     }
 
     /// Binds all variables in order. Returns false where one cannot be bound.
+    #[tactic(auto, using(crate::proofs::FrameLemmas::same_length))]
     fn bind_vars(&self, slots: &mut Slots, xs: &[Var], ys: &[Var]) -> bool
         requires { AreAlike xs.now ys.now }
         ensures { (if result then Some slots.new else None)
@@ -88,13 +100,13 @@ impl<'a, O: Order, C> Tables<'a, O, C> {
     }
 
     /// Binds the lengths of all references, from reference 1 on, in order. Given are the slots of these.
+    #[tactic(auto, using(crate::proofs::ListSteps::head_drop, crate::proofs::ListSteps::next_drop))]
     fn bind_lengths(&self, symbols: &mut [Option<Bound>], slots: &[Option<u32>]) -> bool
-        requires { length self.now.b.now ≡ length slots.now }
         ensures { (if result then Some symbols.new else None)
             ≡ with_lengths (O.gap self.now.order.now) self.now.a.now self.now.b.now slots.now symbols.old }
     {
-        for index in 0..slots.len() {
-            if !self.bind_length(symbols, &self.b[index], slots[index]) {
+        for index in 0..self.b.len() {
+            if !self.bind_length(symbols, &self.b[index], slot_at(slots, index)) {
                 return false;
             }
         }
@@ -118,6 +130,43 @@ fn filled(alloc: Global, slots: &Slots) -> Result<Option<Binding>, NoMemory>
     }))
 }
 
+/// Binds the frame of a state to that of another.
+fn bound<O: Order, C>(
+    alloc: Global,
+    order: &O,
+    a: &Frame<C>,
+    b: &Frame<C>,
+    symbols: usize,
+) -> Result<Option<Binding>, NoMemory>
+    requires alike { AreAlike a.now.vars.now b.now.vars.now }
+    ensures { IfOk result (λ binding. binding ≡ bound_frames (O.gap order.now)
+        a.now.vars.now a.now.references.now b.now.vars.now b.now.references.now symbols) }
+{
+    let tables = Tables {
+        order,
+        a: a.references,
+        b: b.references,
+    };
+    let mut slots = Slots::free(alloc, symbols, b.references.len())?;
+    if !tables.bind_vars(&mut slots, a.vars, b.vars) {
+        return Ok(None);
+    }
+    let Slots {
+        symbols: mut numbers,
+        references,
+    } = slots;
+    if !tables.bind_lengths(numbers.as_mut_slice(), references.get(1..).unwrap_or(&[])) {
+        return Ok(None);
+    }
+    filled(
+        alloc,
+        &Slots {
+            symbols: numbers,
+            references,
+        },
+    )
+}
+
 /// Binds the frame of a state b, which has so many symbols, to that of a state a: first the variables in order, then the
 /// lengths of references. A symbol or a reference is bound where it is met first. Where it is met again, the two must be
 /// shown to be equal, or be the same reference.
@@ -136,28 +185,10 @@ pub fn bind_frames<O: Order, C>(
     requires alike { AreAlike a.now.vars.now b.now.vars.now }
     ensures value { IfOk result (λ binding. binding ≡ bound_frames (O.gap order.now)
         a.now.vars.now a.now.references.now b.now.vars.now b.now.references.now symbols) }
+    ensures says { IfOk result (λ binding. IfSome binding
+        (SaysSame (O.gap order.now) a.now.vars.now a.now.references.now b.now.vars.now)) }
+    ensures lengths { IfOk result (λ binding. IfSome binding
+        (HasSameLengths (O.gap order.now) a.now.references.now b.now.references.now)) }
 {
-    let tables = Tables {
-        order,
-        a: a.references,
-        b: b.references,
-    };
-    let mut slots = Slots::free(alloc, symbols, b.references.len())?;
-    if !tables.bind_vars(&mut slots, a.vars, b.vars) {
-        return Ok(None);
-    }
-    let Slots {
-        symbols: mut numbers,
-        references,
-    } = slots;
-    if !tables.bind_lengths(numbers.as_mut_slice(), &references.as_slice()[1..]) {
-        return Ok(None);
-    }
-    filled(
-        alloc,
-        &Slots {
-            symbols: numbers,
-            references,
-        },
-    )
+    bound(alloc, order, a, b, symbols)
 }

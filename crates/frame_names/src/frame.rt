@@ -1,12 +1,14 @@
 //! The variables of a state and its table of references.
 
-ghost use Rattle.std.specs.Prelude.{◌≡◌, ◌++◌, map, IfOk};
+ghost use Rattle.std.specs.Prelude.{◌≡◌, length, map, IfOk};
 ghost use Rattle.frame_names.specs.Frames.{length_at, numbers_of, references_of};
+ghost use Rattle.frame_names.specs.PairedFrames.{exprs_of, old_of};
 
 use crate::reference::{Reference, length_of};
 use crate::var::Var;
 use domain_api::{Expr, NoMemory};
 use std::alloc::Global;
+use symbolic_values::Key;
 
 /// What a state knows of its variables and references.
 #[derive(Drop)]
@@ -31,28 +33,49 @@ fn numbers_of(alloc: Global, vars: &[Var]) -> Result<Vec<Expr>, NoMemory>
     vars.iter().filter_map(|var| var.number()).collect(alloc)
 }
 
-/// The lengths of some references.
+/// How many variables have a number.
+pub(crate) fn count_numbers(vars: &[Var]) -> usize
+    ensures { result ≡ length (numbers_of vars.now) }
+{
+    vars.iter().filter_map(|var| var.number()).count()
+}
+
+/// What a paired reference was in the first state, or in the second.
+fn old_of(is_first: bool, key: &Key) -> u32
+    ensures { result ≡ old_of is_first key.now }
+{
+    if is_first { key.s } else { key.t }
+}
+
+/// The lengths of paired references in one of the states.
 fn lengths_of<C>(
     alloc: Global,
     table: &[Reference<C>],
-    references: &[u32],
+    is_first: bool,
+    keys: &[Key],
 ) -> Result<Vec<Expr>, NoMemory>
-    ensures { IfOk result (λ exprs. exprs.items ≡ map (length_at table.now) references.now) }
+    ensures { IfOk result (λ exprs. exprs.items ≡
+        map (λ key. length_at table.now (old_of is_first key)) keys.now) }
 {
-    references
-        .iter()
-        .map(|r| length_of(table, *r))
+    keys.iter()
+        .map(|key| length_of(table, old_of(is_first, key)))
         .collect(alloc)
 }
 
 impl<'a, C> Frame<'a, C> {
-    /// The numbers of the variables, and behind them the lengths of some references.
-    pub(crate) fn exprs(&self, alloc: Global, references: &[u32]) -> Result<Vec<Expr>, NoMemory>
+    /// The numbers of the variables, and behind them the lengths of paired references. This is the first of the paired
+    /// states, or the second.
+    pub(crate) fn exprs(
+        &self,
+        alloc: Global,
+        is_first: bool,
+        keys: &[Key],
+    ) -> Result<Vec<Expr>, NoMemory>
         ensures { IfOk result (λ exprs. exprs.items ≡
-            numbers_of self.now.vars.now ++ map (length_at self.now.references.now) references.now) }
+            exprs_of self.now.vars.now self.now.references.now is_first keys.now) }
     {
         let mut exprs = numbers_of(alloc, self.vars)?;
-        let lengths = lengths_of(alloc, self.references, references)?;
+        let lengths = lengths_of(alloc, self.references, is_first, keys)?;
         exprs.extend_from_slice(lengths.as_slice())?;
         Ok(exprs)
     }

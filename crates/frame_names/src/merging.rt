@@ -3,6 +3,7 @@
 ghost use Rattle.std.specs.Prelude.{◌≡◌, drop, get_or, pos, IfOk};
 ghost use Rattle.frame_names.specs.MergedReferences.{merged_reference, merged_references, one_place};
 ghost use Rattle.frame_names.specs.PairedFrames.{first_expr};
+ghost use Rattle.frame_names.specs.Tables.{AreNullsOnBoth, ArePlacesOnBoth};
 
 use crate::pairing::PairedFrames;
 use crate::reference::{Reference, nullness_of, place_of};
@@ -63,6 +64,7 @@ fn merged_reference<C>(
 }
 
 /// What is known of each reference of a key, with the length at the same place.
+#[tactic(auto, using(crate::proofs::ListSteps::behind_drop))]
 fn all_merged<C>(
     alloc: Global,
     keys: &[Key],
@@ -79,6 +81,20 @@ fn all_merged<C>(
     Ok(merged)
 }
 
+/// What is known of each new reference, in order.
+fn new_references<C>(
+    alloc: Global,
+    frames: &PairedFrames,
+    a: &[Reference<C>],
+    b: &[Reference<C>],
+) -> Result<Vec<MergedReference>, NoMemory>
+    ensures { IfOk result (λ merged. merged.items ≡
+        merged_references a.now b.now frames.now.references.keys frames.now.lengths) }
+{
+    let keys = frames.references.pairs.keys.as_slice();
+    all_merged(alloc, keys, frames.lengths.as_slice(), a, b)
+}
+
 /// What is known of each new reference, in order: what it was in both states, the type of one of the two that has one,
 /// whether it may be null where it was the one or the other, and the new length.
 pub fn merged_references<C>(
@@ -89,7 +105,9 @@ pub fn merged_references<C>(
 ) -> Result<Vec<MergedReference>, NoMemory>
     ensures value { IfOk result (λ merged. merged.items ≡
         merged_references a.now b.now frames.now.references.keys frames.now.lengths) }
+    ensures places { IfOk result (λ merged.
+        ArePlacesOnBoth a.now b.now frames.now.references.keys merged.items) }
+    ensures nulls { IfOk result (λ merged. AreNullsOnBoth a.now b.now merged.items) }
 {
-    let keys = frames.references.pairs.keys.as_slice();
-    all_merged(alloc, keys, frames.lengths.as_slice(), a, b)
+    new_references(alloc, frames, a, b)
 }

@@ -1,17 +1,20 @@
 //! Pairing the frames of two states.
 
-ghost use Rattle.std.specs.Prelude.{◌≡◌, true, false, drop, length, IfOk};
+ghost use Rattle.std.specs.Prelude.{◌≡◌, true, false, drop, length, IfOk, IfSome};
 ghost use Rattle.frame_names.specs.Frames.{AreAlike, IsNearFrame, numbers_of};
-ghost use Rattle.frame_names.specs.PairedFrames.{if_near, named_frame, olds_of, paired_frames, pairing_by, pairs_of};
+ghost use Rattle.frame_names.specs.Meaning.{HasBothLengths, SaysBoth};
+ghost use Rattle.frame_names.specs.Tables.{AgreeOnPlace, AreOfOnePlace};
+ghost use Rattle.std.specs.List.{AllByRecursion};
+ghost use Rattle.frame_names.specs.PairedFrames.{if_near, named_frame, paired_frames, pairing_by, pairs_of};
 
 use crate::exprs::are_near;
-use crate::frame::{Frame, references_of};
+use crate::frame::{Frame, count_numbers, references_of};
 use crate::naming::new_vars;
 use crate::var::Var;
 use domain_api::{Expr, NoMemory};
 use std::alloc::Global;
 use std::marker::Model;
-use symbolic_values::{Env, Key, Pairs, ReferencePairs, pair_references, pair_up};
+use symbolic_values::{Env, Pairs, ReferencePairs, pair_references, pair_up};
 
 /// The frames of two states, named together.
 ///
@@ -42,21 +45,8 @@ impl Model for PairedFrames {
     } };
 }
 
-/// What paired references were in the first state.
-fn firsts(alloc: Global, keys: &[Key]) -> Result<Vec<u32>, NoMemory>
-    ensures { IfOk result (λ olds. olds.items ≡ olds_of true keys.now) }
-{
-    keys.iter().map(|key| key.s).collect(alloc)
-}
-
-/// What paired references were in the second state.
-fn seconds(alloc: Global, keys: &[Key]) -> Result<Vec<u32>, NoMemory>
-    ensures { IfOk result (λ olds. olds.items ≡ olds_of false keys.now) }
-{
-    keys.iter().map(|key| key.t).collect(alloc)
-}
-
 /// The references of two lists of variables named together.
+#[tactic(auto, using(crate::proofs::FrameLemmas::same_references))]
 fn pairs_of(alloc: Global, a: &[Var], b: &[Var]) -> Result<ReferencePairs, NoMemory>
     requires { AreAlike a.now b.now }
     ensures { IfOk result (λ references. references.pairs ≡ pairs_of a.now b.now) }
@@ -67,6 +57,7 @@ fn pairs_of(alloc: Global, a: &[Var], b: &[Var]) -> Result<ReferencePairs, NoMem
 }
 
 /// The numbers of two frames named together, and behind them the lengths of paired references.
+#[tactic(auto, using(crate::proofs::FrameLemmas::same_exprs, crate::proofs::FrameLemmas::near_exprs, crate::proofs::FrameLemmas::alike_itself))]
 fn numbers_by<C>(
     alloc: Global,
     references: &ReferencePairs,
@@ -80,13 +71,11 @@ fn numbers_by<C>(
         pairing_by references.now.pairs a.now.vars.now a.now.references.now b.now.vars.now b.now.references.now) }
 {
     let keys = references.pairs.keys.as_slice();
-    let olds = firsts(alloc, keys)?;
     let first = Env {
-        exprs: a.exprs(alloc, olds.as_slice())?,
+        exprs: a.exprs(alloc, true, keys)?,
     };
-    let olds = seconds(alloc, keys)?;
     let second = Env {
-        exprs: b.exprs(alloc, olds.as_slice())?,
+        exprs: b.exprs(alloc, false, keys)?,
     };
     pair_up(alloc, &first, &second)
 }
@@ -123,13 +112,6 @@ fn named_frame(
     })
 }
 
-/// How many variables have a number.
-fn count_numbers(vars: &[Var]) -> usize
-    ensures { result ≡ length (numbers_of vars.now) }
-{
-    vars.iter().filter(|var| var.number().is_some()).count()
-}
-
 /// The frame of these pairs, unless a constant leaves -2^32 to 2^32.
 fn if_near(
     alloc: Global,
@@ -144,6 +126,19 @@ fn if_near(
     }
     let frames = named_frame(alloc, vars, references, numbers)?;
     Ok(Some(frames))
+}
+
+/// The frames of two states named together.
+fn paired<C>(alloc: Global, a: &Frame<C>, b: &Frame<C>) -> Result<Option<PairedFrames>, NoMemory>
+    requires alike { AreAlike a.now.vars.now b.now.vars.now }
+    requires first { IsNearFrame a.now.vars.now a.now.references.now }
+    requires second { IsNearFrame b.now.vars.now b.now.references.now }
+    ensures { IfOk result (λ frames. frames ≡
+        paired_frames a.now.vars.now a.now.references.now b.now.vars.now b.now.references.now) }
+{
+    let references = pairs_of(alloc, a.vars, b.vars)?;
+    let numbers = numbers_by(alloc, &references, a, b)?;
+    if_near(alloc, a.vars, references, numbers)
 }
 
 /// The frames of two states named together, variable by variable: first their references, then their numbers, and behind
@@ -163,10 +158,14 @@ pub fn pair_frames<C>(
     requires second { IsNearFrame b.now.vars.now b.now.references.now }
     ensures value { IfOk result (λ frames. frames ≡
         paired_frames a.now.vars.now a.now.references.now b.now.vars.now b.now.references.now) }
+    ensures says { IfOk result (λ frames. IfSome frames (SaysBoth a.now.vars.now b.now.vars.now)) }
+    ensures lengths { IfOk result (λ frames.
+        IfSome frames (HasBothLengths a.now.references.now b.now.references.now)) }
+    ensures places { AreOfOnePlace a.now.references.now b.now.references.now a.now.vars.now b.now.vars.now
+        → IfOk result (λ frames. IfSome frames (λ new.
+        AllByRecursion (AgreeOnPlace a.now.references.now b.now.references.now) new.references.keys)) }
 {
-    let references = pairs_of(alloc, a.vars, b.vars)?;
-    let numbers = numbers_by(alloc, &references, a, b)?;
-    if_near(alloc, a.vars, references, numbers)
+    paired(alloc, a, b)
 }
 
 /// The references of a list of variables named together with themselves.
@@ -178,32 +177,47 @@ fn own_pairs(alloc: Global, vars: &[Var]) -> Result<ReferencePairs, NoMemory>
 }
 
 /// The numbers of a frame named together with themselves, and behind them the lengths of its references.
+#[tactic(auto, using(crate::proofs::FrameLemmas::same_exprs, crate::proofs::FrameLemmas::near_exprs, crate::proofs::FrameLemmas::alike_itself))]
 fn own_numbers<C>(
     alloc: Global,
     references: &ReferencePairs,
     frame: &Frame<C>,
 ) -> Result<Pairs, NoMemory>
-    requires own { references.now.pairs ≡ pairs_of frame.now.vars.now frame.now.vars.now }
-    requires near { IsNearFrame frame.now.vars.now frame.now.references.now }
+    requires { IsNearFrame frame.now.vars.now frame.now.references.now }
     ensures { IfOk result (λ pairs. pairs ≡ pairing_by references.now.pairs
         frame.now.vars.now frame.now.references.now frame.now.vars.now frame.now.references.now) }
 {
-    let olds = firsts(alloc, references.pairs.keys.as_slice())?;
-    let env = Env {
-        exprs: frame.exprs(alloc, olds.as_slice())?,
+    let keys = references.pairs.keys.as_slice();
+    let first = Env {
+        exprs: frame.exprs(alloc, true, keys)?,
     };
-    pair_up(alloc, &env, &env)
+    let second = Env {
+        exprs: frame.exprs(alloc, false, keys)?,
+    };
+    pair_up(alloc, &first, &second)
+}
+
+/// The frame of a state named together with itself.
+fn own<C>(alloc: Global, frame: &Frame<C>) -> Result<Option<PairedFrames>, NoMemory>
+    requires { IsNearFrame frame.now.vars.now frame.now.references.now }
+    ensures { IfOk result (λ frames. frames ≡ paired_frames frame.now.vars.now frame.now.references.now
+        frame.now.vars.now frame.now.references.now) }
+{
+    let references = own_pairs(alloc, frame.vars)?;
+    let numbers = own_numbers(alloc, &references, frame)?;
+    if_near(alloc, frame.vars, references, numbers)
 }
 
 /// The frame of a state in the names of its own first uses: the state paired with itself.
 ///
 /// None, cost and `NoMemory`: as of `pair_frames`.
 pub fn name_frame<C>(alloc: Global, frame: &Frame<C>) -> Result<Option<PairedFrames>, NoMemory>
-    requires near { IsNearFrame frame.now.vars.now frame.now.references.now }
+    requires { IsNearFrame frame.now.vars.now frame.now.references.now }
     ensures value { IfOk result (λ frames. frames ≡ paired_frames frame.now.vars.now frame.now.references.now
         frame.now.vars.now frame.now.references.now) }
+    ensures says { IfOk result (λ frames. IfSome frames (SaysBoth frame.now.vars.now frame.now.vars.now)) }
+    ensures lengths { IfOk result (λ frames.
+        IfSome frames (HasBothLengths frame.now.references.now frame.now.references.now)) }
 {
-    let references = own_pairs(alloc, frame.vars)?;
-    let numbers = own_numbers(alloc, &references, frame)?;
-    if_near(alloc, frame.vars, references, numbers)
+    own(alloc, frame)
 }

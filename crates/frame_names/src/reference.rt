@@ -1,7 +1,7 @@
 //! The table of references.
 
 ghost use Rattle.std.specs.Prelude.{◌≡◌};
-ghost use Rattle.frame_names.specs.Frames.{are_one_place, length_at, nullness_at, place_at, reference_at};
+ghost use Rattle.frame_names.specs.Frames.{are_one_place, length_at, nullness_at, place_at};
 
 use alias_facts::Nullness;
 use cil_model::Place;
@@ -22,19 +22,16 @@ pub struct Reference<C> {
     pub contents: C,
 }
 
-/// The entry of a reference. Reference 0, and one that is not there, have none.
-fn entry<C>(references: &[Reference<C>], reference: u32) -> Option<&Reference<C>>
-    ensures { result ≡ reference_at references.now reference }
-{
-    references.get(reference.checked_sub(1)? as usize)
-}
-
 /// The length of a reference: 0 where it has no entry.
 pub(crate) fn length_of<C>(references: &[Reference<C>], reference: u32) -> Expr
     ensures { result ≡ length_at references.now reference }
 {
-    match entry(references, reference) {
-        None => Expr { sym: 0, k: 0 },
+    let zero = Expr { sym: 0, k: 0 };
+    if reference == 0 {
+        return zero;
+    }
+    match references.get(reference as usize - 1) {
+        None => zero,
         Some(known) => known.length,
     }
 }
@@ -43,7 +40,10 @@ pub(crate) fn length_of<C>(references: &[Reference<C>], reference: u32) -> Expr
 pub(crate) fn nullness_of<C>(references: &[Reference<C>], reference: u32) -> Nullness
     ensures { result ≡ nullness_at references.now reference }
 {
-    match entry(references, reference) {
+    if reference == 0 {
+        return Nullness::Null;
+    }
+    match references.get(reference as usize - 1) {
         None => Nullness::Null,
         Some(known) => known.nullness,
     }
@@ -53,7 +53,10 @@ pub(crate) fn nullness_of<C>(references: &[Reference<C>], reference: u32) -> Nul
 pub(crate) fn place_of<C>(references: &[Reference<C>], reference: u32) -> Option<Place>
     ensures { result ≡ place_at references.now reference }
 {
-    match entry(references, reference) {
+    if reference == 0 {
+        return None;
+    }
+    match references.get(reference as usize - 1) {
         None => None,
         Some(known) => Some(known.place),
     }

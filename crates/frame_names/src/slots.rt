@@ -3,7 +3,7 @@
 ghost use Rattle.std.specs.Prelude.{◌≡◌, ◌∷◌, ◌&&◌, ◌+ℤ◌, ◌-ℤ◌, ◌≤ℤ◌, ◌^◌, Some, None, negsuc, pos, drop, length, replicate, IfOk, if◌then◌else◌};
 ghost use Rattle.std.specs.Option.{option_map};
 ghost use Rattle.domain_api.specs.declared.expr.Expr.{Expr};
-ghost use Rattle.frame_names.specs.Binding.{all_filled, expr_of, fits, free_slots, is_equal, reaches, with_number, with_reference};
+ghost use Rattle.frame_names.specs.Binding.{all_filled, bound_by, expr_of, fits, free_slots, is_equal, reaches, with_number, with_reference};
 
 use crate::reference::{Reference, are_one_place, nullness_of, place_of};
 use alias_facts::Nullness;
@@ -47,31 +47,62 @@ fn reaches(gap: Option<i64>, by: i128) -> bool
     }
 }
 
-/// How far a constant lies above what a bound symbol adds to one.
-fn above(k: i64, bound: &Bound, l: i64) -> i128
-    ensures value { result ≡ k -ℤ ((bound.now.value.k -ℤ bound.now.offset) +ℤ l) }
-    ensures low { negsuc (2 ^ 66) ≤ℤ result }
-    ensures high { result ≤ℤ pos (2 ^ 66) }
+/// The difference of two constants.
+fn difference(k: i64, l: i64) -> i128
+    ensures value { result ≡ k -ℤ l }
+    ensures low { negsuc (2 ^ 64) ≤ℤ result }
+    ensures high { result ≤ℤ pos (2 ^ 64) }
 {
-    i128::from(k) - (i128::from(bound.value.k) - i128::from(bound.offset) + i128::from(l))
+    i128::from(k) - i128::from(l)
 }
 
-/// The number with its sign turned.
-fn turned(n: i128) -> i128
-    requires low { negsuc (2 ^ 66) ≤ℤ n }
-    requires high { n ≤ℤ pos (2 ^ 66) }
-    ensures { result ≡ pos 0 -ℤ n }
+/// A number, and a constant more.
+fn more_by(n: i128, k: i64) -> i128
+    requires low { negsuc (2 ^ 64) ≤ℤ n }
+    requires high { n ≤ℤ pos (2 ^ 64) }
+    ensures value { result ≡ n +ℤ k }
+    ensures low { negsuc (2 ^ 65) ≤ℤ result }
+    ensures high { result ≤ℤ pos (2 ^ 65) }
 {
-    -n
+    n + i128::from(k)
 }
 
-/// Returns whether an expression is shown to be equal to a bound symbol and a constant.
-fn is_equal<O: Order>(order: &O, e: Expr, bound: &Bound, k: i64) -> bool
-    ensures { result ≡ is_equal (O.gap order.now) e (expr_of bound.now k) }
+/// How far the second number lies above the first, and how far the first lies above the second.
+fn distances(k: i64, n: i128) -> (i128, i128)
+    requires low { negsuc (2 ^ 65) ≤ℤ n }
+    requires high { n ≤ℤ pos (2 ^ 65) }
+    ensures above { result.0 ≡ k -ℤ n }
+    ensures below { result.1 ≡ n -ℤ k }
 {
-    let distance = above(e.k, bound, k);
-    reaches(order.gap(e.sym, bound.value.sym), distance)
-        && reaches(order.gap(bound.value.sym, e.sym), turned(distance))
+    (i128::from(k) - n, n - i128::from(k))
+}
+
+/// The constant of an expression of a bound symbol, by what the symbol is bound to.
+fn constant_of(bound: &Bound, f: Expr) -> i128
+    ensures value { result ≡ (expr_of bound.now f).k }
+    ensures low { negsuc (2 ^ 65) ≤ℤ result }
+    ensures high { result ≤ℤ pos (2 ^ 65) }
+{
+    more_by(difference(bound.value.k, bound.offset), f.k)
+}
+
+/// Returns whether an expression is shown to be equal to one of a bound symbol.
+fn is_equal<O: Order>(order: &O, e: Expr, bound: &Bound, f: Expr) -> bool
+    ensures { result ≡ is_equal (O.gap order.now) e (expr_of bound.now f) }
+{
+    let (above, below) = distances(e.k, constant_of(bound, f));
+    reaches(order.gap(e.sym, bound.value.sym), above)
+        && reaches(order.gap(bound.value.sym, e.sym), below)
+}
+
+/// What is bound by an expression.
+fn bound_by(e: Expr, f: Expr) -> Bound
+    ensures { result ≡ bound_by e f }
+{
+    Bound {
+        value: e,
+        offset: f.k,
+    }
 }
 
 // ---- slots
@@ -88,12 +119,9 @@ pub(crate) fn bind_number<O: Order>(
 {
     match symbols.get(f.sym as usize) {
         None => false,
-        Some(Some(bound)) => is_equal(order, e, bound, f.k),
+        Some(Some(bound)) => is_equal(order, e, bound, f),
         Some(None) => {
-            symbols[f.sym as usize] = Some(Bound {
-                value: e,
-                offset: f.k,
-            });
+            symbols[f.sym as usize] = Some(bound_by(e, f));
             true
         }
     }
@@ -137,11 +165,8 @@ pub(crate) fn bind_reference<C>(
 fn free_behind<T: Copy>(alloc: Global, first: T, count: usize) -> Result<Vec<Option<T>>, NoMemory>
     ensures { IfOk result (λ slots. slots.items ≡ Some first ∷ replicate count None) }
 {
-    let mut slots = Vec::with_capacity(alloc, count)?;
-    slots.push(Some(first))?;
-    for _free in 0..count {
-        slots.push(None)?;
-    }
+    let mut slots = vec![in alloc; None; count]?;
+    slots.insert(0, Some(first))?;
     Ok(slots)
 }
 

@@ -1,13 +1,12 @@
 -- The int32 of a term, and what becomes of two such spans, do not leave int32 outwards.
-use Rattle.std.proofs.Common.{true, false, ℤ, pos, ◌+ℤ◌, ◌-ℤ◌, ◌≤ℤ◌, Option, Some, None, int_lt, slice_get, arith}
-use Rattle.std.specs.Prelude.{if◌then◌else◌}
+use Rattle.std.proofs.Common.{◌≡◌, true, false, ℤ, pos, ◌+ℤ◌, ◌-ℤ◌, ◌≤ℤ◌, Option, Some, None, int_lt, slice_get, arith}
 use Rattle.std.specs.Int.{int_min, int_max}
 use Rattle.std.proofs.lemmas.Bool.{cond_both}
 use Rattle.std.proofs.lemmas.Int.{ints, clamps}
 use Rattle.cil_model.specs.Arithmetic.{LEAST, GREATEST}
 use Rattle.interval_domain.specs.Interval.{is_hole}
 use Rattle.interval_domain.specs.Joins.{floor_of, ceiling_of, lower_end, upper_end}
-use Rattle.number_spans.specs.Spans.{full, moved_hole}
+use Rattle.number_spans.specs.Spans.{moved_hole}
 use Rattle.number_spans.specs.declared.span.Span.{Span}
 use Rattle.merged_numbers.specs.declared.rule.Rule.{Rule}
 use Rattle.merged_numbers.specs.declared.rule.Rule.TheVariants.{Join, Widening}
@@ -71,9 +70,9 @@ pub span_by_cut : (rule : Rule) (a b : Span) → IsCut a → IsCut b → IsCut (
 span_by_cut Join a b first second = hull_cut a b first second
 span_by_cut Widening a b first second = widened_cut a b first second
 
-pub merged_span_cut : (rule : Rule) (a b : Known) (u : Key) → IsCut (merged_span rule a b u)
-merged_span_cut rule a b u =
-    span_by_cut rule (int32s a (term_of true u)) (int32s b (term_of false u)) (int32s_cut a (term_of true u)) (int32s_cut b (term_of false u))
+pub merged_span_cut : (rule : Rule) (a b : Known) (u : Key) (r : Span) → r ≡ merged_span rule a b u → IsCut r
+merged_span_cut rule a b u r is =
+    rw is (span_by_cut rule (int32s a (term_of true u)) (int32s b (term_of false u)) (int32s_cut a (term_of true u)) (int32s_cut b (term_of false u)))
 
-pub own_span_cut : (a : Known) (u : Key) → IsCut (own_span a u)
-own_span_cut a u = int32s_cut a (term_of true u)
+pub own_span_cut : (a : Known) (u : Key) (r : Span) → r ≡ own_span a u → IsCut r
+own_span_cut a u r is = rw is (int32s_cut a (term_of true u))

@@ -1,13 +1,13 @@
 -- What is included is so.
 use Rattle.std.proofs.Common.{◌≡◌, ◌≢◌, ℕ, zero, suc, ◌+◌, ◌-◌, ◌<◌, ◌≤◌, ℤ, pos, ◌+ℤ◌, ◌-ℤ◌, ◌≤ℤ◌, Bool, true, false, ◌&&◌, int_le, List, [], ◌∷◌, length, get_or, slice_get, Option, Some, None, FitsSigned, w32, option_map, drop, drop-cons, add-one, refl, sym, ap, ◌∙◌, arith}
-use Rattle.std.specs.List.{AllByRecursion, list_all}
+use Rattle.std.specs.List.{list_all}
 use Rattle.std.proofs.lemmas.Bool.{and_parts}
 use Rattle.std.proofs.lemmas.Int.{ints}
 use Rattle.std.proofs.lemmas.List.{drop_all}
 use Rattle.interval_domain.specs.Interval.{Interval, one}
 use Rattle.pentagon_domain.specs.declared.bound_row.BoundRow.{BoundRow}
 use Rattle.pentagon_domain.specs.Gaps as by_bounds
-use Rattle.number_spans.specs.Spans.{Has, excludes, moved_hole}
+use Rattle.number_spans.specs.Spans.{Has, moved_hole}
 use Rattle.number_spans.specs.Stored as ranges
 use Rattle.number_spans.specs.declared.span.Span.{Span}
 use Rattle.number_spans.proofs.ComparingLaws.{excluded_apart}
@@ -16,8 +16,7 @@ use Rattle.merged_numbers.specs.declared.inclusion.Binding.{Binding}
 use Rattle.merged_numbers.specs.declared.term.Term.{Term}
 use Rattle.merged_numbers.specs.Known.{Known, gap, int32s, term, worth}
 use Rattle.merged_numbers.specs.Included.{AreValues, Includes, is_within, all_within, behind_binding, bound_term, follows, included, lacks, lies_above, lies_within, reaches, term_at, value_of, worth_or_zero}
-use Rattle.merged_numbers.specs.Merging.{Outcome}
-use Rattle.merged_numbers.specs.Meaning.{AllowsKnown, IsSo}
+use Rattle.merged_numbers.specs.Meaning.{AllowsKnown}
 use Rattle.merged_numbers.proofs.TermLaws.{gap_so, int32s_has}
 
 -- ---- ranges
@@ -35,14 +34,14 @@ le_of m n e = omega (arith, ints, e)
 within_allows : (r : Span) (k n : ℤ) (range : Interval) → lies_within r k range ≡ true → Has r n → ranges.Allows range (n -ℤ k)
 unfolding lies_within
 within_allows r k n range inside has =
-    let first = and_parts (int_le (range.lo +ℤ k) r.lo) _ inside in
-    let second = and_parts (int_le r.hi (range.hi +ℤ k)) _ first.1 in
-    let low = le_of (range.lo +ℤ k) r.lo first.0 in
-    let high = le_of r.hi (range.hi +ℤ k) second.0 in
+    let parts = and_parts (int_le (range.lo +ℤ k) r.lo && int_le r.hi (range.hi +ℤ k)) (lacks r (moved_hole range.hole k)) inside in
+    let ends = and_parts (int_le (range.lo +ℤ k) r.lo) (int_le r.hi (range.hi +ℤ k)) parts.0 in
+    let low = le_of (range.lo +ℤ k) r.lo ends.0 in
+    let high = le_of r.hi (range.hi +ℤ k) ends.1 in
     record {
       above = omega (arith, ints, low, has.above);
       below = omega (arith, ints, high, has.below);
-      no_hole = lacks_apart r range.hole n k has second.1;
+      no_hole = lacks_apart r range.hole n k has parts.1;
     }
 
 one_within : (a : Known) (number : ℕ → ℤ) (x : Binding) (range : Interval) → AllowsKnown a number → FitsSigned w32 (exprs.worth number x.value)

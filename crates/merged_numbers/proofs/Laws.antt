@@ -1,5 +1,5 @@
 -- What one or two states know is so of new symbols.
-use Rattle.std.proofs.Common.{◌≡◌, ℕ, suc, ℤ, ◌+ℤ◌, ◌≤ℤ◌, Bool, true, false, List, [], ◌∷◌, Option, Some, get_or, FitsSigned, w32, refl, sym, arith}
+use Rattle.std.proofs.Common.{◌≡◌, ℕ, ℤ, ◌+ℤ◌, ◌≤ℤ◌, Bool, true, false, List, [], ◌∷◌, Some, FitsSigned, w32, refl, arith}
 use Rattle.std.specs.Prelude.{if◌then◌else◌}
 use Rattle.std.specs.List.{AllByRecursion}
 use Rattle.std.proofs.lemmas.Int.{ints}
@@ -8,12 +8,11 @@ use Rattle.symbolic_values.specs.declared.pairs.Key.{Key}
 use Rattle.symbolic_values.specs.Pairing.{origin}
 use Rattle.symbolic_values.specs.Worth.{behind_uses, worth_of_use}
 use Rattle.merged_numbers.specs.declared.rule.Rule.{Rule}
-use Rattle.merged_numbers.specs.Known.{Known, worth, term_of, int32s, term_gap}
-use Rattle.merged_numbers.specs.Spans.{span_by, gap_by}
+use Rattle.merged_numbers.specs.Known.{Known, term_of, int32s, term_gap}
 use Rattle.merged_numbers.specs.Merging.{merged_span, merged_gap, merged, own_span, own_gap, normed}
 use Rattle.merged_numbers.specs.Meaning.{AllowsKnown, AreInt32, Keeps}
 use Rattle.merged_numbers.proofs.TermLaws.{int32s_has, term_gap_so}
-use Rattle.merged_numbers.proofs.MergeLaws.{IsAtLeast, span_first, span_second, gap_both}
+use Rattle.merged_numbers.proofs.MergeLaws.{span_first, span_second, gap_both}
 use Rattle.merged_numbers.proofs.OutcomeLaws.{outcome_so}
 
 -- ---- one side

@@ -4,6 +4,7 @@ pub mod CutLaws
 pub mod OutcomeLaws
 pub mod RangeLists
 pub mod RowLaws
-pub mod StoredLaws
 pub mod InclusionLaws
+pub mod FormLaws
+pub mod ApartLaws
 pub mod Laws

@@ -1,8 +1,6 @@
 -- What becomes of two spans has what either has, and what becomes of two gaps is at most each of them.
-use Rattle.std.proofs.Common.{◌≡◌, ◌≢◌, ℤ, ◌≤ℤ◌, true, Option, Some, None, FitsSigned, w32, int_lt, refl, sym, arith}
-use Rattle.std.specs.Prelude.{if◌then◌else◌}
+use Rattle.std.proofs.Common.{◌≡◌, ◌≢◌, ℤ, ◌≤ℤ◌, Option, Some, None, FitsSigned, w32, int_lt, refl, arith}
 use Rattle.std.specs.Option.{option_or}
-use Rattle.std.specs.Int.{int_min, int_max}
 use Rattle.std.proofs.lemmas.Bool.{cond_both}
 use Rattle.std.proofs.lemmas.Int.{ints, clamps}
 use Rattle.interval_domain.specs.Joins.{floor_of, ceiling_of, lower_end, upper_end}

@@ -1,6 +1,6 @@
 -- What is known of new symbols is so, where the span of each key has what it is worth and the gap of each two is so.
-use Rattle.std.proofs.Common.{◌≡◌, ℕ, zero, suc, ◌+◌, ◌<◌, ℤ, pos, ◌+ℤ◌, ◌≤ℤ◌, Bool, true, ◌&&◌, List, [], ◌∷◌, length, get_or, Option, Some, None, refl, sym, ap, subst, add-one, arith}
-use Rattle.std.specs.Prelude.{int_lt, option_map, if◌then◌else◌}
+use Rattle.std.proofs.Common.{◌≡◌, ◌≢◌, ℕ, zero, suc, ◌+◌, ◌<◌, ℤ, pos, ◌+ℤ◌, ◌≤ℤ◌, ◌&&◌, List, [], ◌∷◌, length, get_or, Option, Some, None, refl, sym, ap, add-one, arith}
+use Rattle.std.specs.Prelude.{int_lt, option_and_then}
 use Rattle.std.specs.List.{AllByRecursion}
 use Rattle.std.proofs.lemmas.Bool.{cond_both}
 use Rattle.interval_domain.specs.Interval.{Interval, one}
@@ -10,15 +10,30 @@ use Rattle.pentagon_domain.specs.Gaps as by_bounds
 use Rattle.pentagon_domain.proofs.Allowing.{with_bound_allows}
 use Rattle.number_spans.specs.Spans.{Has}
 use Rattle.number_spans.specs.Stored as ranges
+use Rattle.number_spans.specs.Stored.{range_without}
 use Rattle.number_spans.specs.declared.span.Span.{Span}
-use Rattle.number_spans.proofs.Lost.{range_without_allows}
+use Rattle.number_spans.proofs.Lost.{without_allows, range_without_allows}
 use Rattle.symbolic_values.specs.declared.pairs.Key.{Key}
 use Rattle.symbolic_values.specs.Pairing.{origin}
-use Rattle.merged_numbers.specs.Spans.{stored}
-use Rattle.merged_numbers.specs.Merging.{Outcome, put_before, ranges_of, steps, told, is_constant, with_gap, row_of, rows_of, with_bounds, outcome_of}
-use Rattle.merged_numbers.specs.Meaning.{IsSo, SomeSo}
+use Rattle.merged_numbers.specs.Spans.{but_for, stored}
+use Rattle.merged_numbers.specs.Merging.{put_before, ranges_of, steps, told, is_constant, with_gap, row_of, rows_of, with_bounds, outcome_of}
+use Rattle.merged_numbers.specs.Meaning.{SomeSo}
 
 -- ---- ranges
+
+but_for_allows : (r : Interval) (hole : Option ℤ) (n : ℤ) → ranges.Allows r n → hole ≢ Some n → ranges.SomeAllows (but_for r hole) n
+but_for_allows r None n allowed apart = allowed
+but_for_allows r (Some h) n allowed apart = without_allows r h n allowed (λ same. apart (ap Some (sym same)))
+
+some_but_for : (r : Option Interval) (hole : Option ℤ) (n : ℤ) → ranges.SomeAllows r n → hole ≢ Some n
+    → ranges.SomeAllows (option_and_then (λ ends. but_for ends hole) r) n
+some_but_for None hole n allowed apart = allowed
+some_but_for (Some r) hole n allowed apart = but_for_allows r hole n allowed apart
+
+-- The range that is stored of a span allows each number of it.
+pub stored_allows : (r : Span) (n : ℤ) → Has r n → ranges.SomeAllows (stored r) n
+stored_allows r n has =
+    some_but_for (range_without r.lo r.hi None) r.hole n (range_without_allows r.lo r.hi n None has.above has.below (λ is. absurd cc)) has.no_hole
 
 -- Each range allows what its key is worth.
 abbrev pub AllowEach : (Key → ℤ) → List Key → List Interval → Type 0
@@ -44,7 +59,7 @@ ranges_so : (span : Key → Span) (worth : Key → ℤ) (keys : List Key) → Al
 ranges_so span worth [] has = λ i inside. absurd (omega (arith, inside))
 ranges_so span worth (u ∷ us) has =
     before_allow worth u us (stored (span u)) (ranges_of span us)
-    (range_without_allows (span u).lo (span u).hi (worth u) (span u).hole has.0.above has.0.below has.0.no_hole) (ranges_so span worth us has.1)
+    (stored_allows (span u) (worth u) has.0) (ranges_so span worth us has.1)
 
 -- ---- bounds
 

@@ -1,5 +1,5 @@
 -- Gaps that are read from a row.
-use Rattle.std.proofs.Common.{◌≡◌, ◌≢◌, ℕ, zero, suc, ◌+◌, ◌<◌, ◌≤◌, ℤ, pos, List, [], ◌∷◌, length, get_or, Option, Some, None, slice_get, refl, sym, ap, ◌∙◌, add-one, arith}
+use Rattle.std.proofs.Common.{◌≡◌, ℕ, zero, suc, ◌+◌, ◌<◌, ◌≤◌, ℤ, pos, List, [], ◌∷◌, length, get_or, Option, Some, None, refl, sym, ap, ◌∙◌, add-one, arith}
 use Rattle.interval_domain.specs.Interval.{Interval}
 use Rattle.pentagon_domain.specs.Gaps as by_bounds
 use Rattle.symbolic_values.specs.declared.pairs.Key.{Key}
@@ -7,15 +7,16 @@ use Rattle.symbolic_values.specs.Pairing.{origin}
 use Rattle.merged_numbers.specs.Merging.{steps, told, with_gap, row_of, rows_of}
 use Rattle.pentagon_domain.specs.declared.bound_row.BoundRow.{BoundRow}
 use Rattle.pentagon_domain.proofs.Reaches.{gap_same, gap_with_same}
-use Rattle.merged_numbers.specs.Known.{IsRow, Known, gap_or, between, gap}
+use Rattle.merged_numbers.specs.Known as side_rule
+use Rattle.merged_numbers.specs.Known.{IsRow, Known, gap_or, between}
 
 or_same : (bounds : List BoundRow) (apart : Option ℤ) (s t : ℕ) → s ≡ t → Some (pos 0) ≡ gap_or bounds apart s t
 or_same bounds None s t same = sym (gap_same bounds s t same)
 or_same bounds (Some n) s t same = sym (gap_with_same bounds n s t same)
 
 -- A symbol lies nowhere above itself.
-pub gap_itself : (side : Known) (s t : ℕ) → s ≡ t → Some (pos 0) ≡ gap side s t
-unfolding gap
+pub gap_itself : (side : Known) (s t : ℕ) → s ≡ t → Some (pos 0) ≡ side_rule.gap side s t
+unfolding side_rule.gap
 gap_itself side s t same = or_same side.bounds (between side s t) s t same
 
 -- ---- rows of bounds, one gap after another
@@ -32,7 +33,7 @@ pub row_more : (gap : Key → Key → Option ℤ) (keys : List Key) (rs : List I
     (start before after : List BoundRow) → i < length keys → j < length keys → known ≡ gap (get_or keys i d) (get_or keys j e)
     → after ≡ with_gap (told rs i j) i j known before → before ≡ row_of gap keys rs i j start → after ≡ row_of gap keys rs i (j + 1) start
 row_more gap keys rs i j d e known start before after inside also known_is after_is so_far =
-    let step = (λ k. with_gap (told rs i k) i k (gap (get_or keys i origin) (get_or keys k origin))) in
+    let step : ℕ → List BoundRow → List BoundRow = (λ k. with_gap (told rs i k) i k (gap (get_or keys i origin) (get_or keys k origin))) in
     after_is ∙ ap (λ rows. with_gap (told rs i j) i j known rows) so_far
     ∙ ap (λ known. with_gap (told rs i j) i j known (row_of gap keys rs i j start))
     (known_is ∙ ap (λ u. gap u (get_or keys j e)) (get_or-any keys i d origin inside) ∙ ap (gap (get_or keys i origin)) (get_or-any keys j e origin also))
@@ -65,5 +66,15 @@ key_symbol keys i d inside = ap (λ u. u.s) (get_or-any keys i d origin inside)
 
 pub key_other : (keys : List Key) (i : ℕ) (d : Key) → i < length keys → (get_or keys i d).t ≡ (get_or keys i origin).t
 key_other keys i d inside = ap (λ u. u.t) (get_or-any keys i d origin inside)
+
+-- One more pair of a row, where its bound is that of the definition.
+pub pair_more : (gap : Key → Key → Option ℤ) (keys : List Key) (rs : List Interval) (i j : ℕ) (start before after : List BoundRow)
+    → after ≡ with_gap (told rs i j) i j (gap (get_or keys i origin) (get_or keys j origin)) before → before ≡ row_of gap keys rs i j start
+    → after ≡ row_of gap keys rs i (j + 1) start
+pair_more gap keys rs i j start before after after_is so_far =
+    let step : ℕ → List BoundRow → List BoundRow = (λ k. with_gap (told rs i k) i k (gap (get_or keys i origin) (get_or keys k origin))) in
+    after_is ∙ ap (step j) so_far ∙ sym (steps_more step j start)
+
+pub ruleset own_rows = (pair_more, row_end)
 
 pub ruleset rows = (row_more, rows_more, row_end, rows_end, row_of_same, key_symbol, key_other)

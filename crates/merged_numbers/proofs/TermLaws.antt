@@ -90,7 +90,7 @@ gap_with_spans side number s t (Some r) (Some q) k allowed one other is =
 
 -- The second symbol lies so far above the first.
 pub gap_so : (side : Known) (number : ℕ → ℤ) (s t : ℕ) (k : ℤ) → AllowsKnown side number → gap side s t ≡ Some k → by_bounds.LiesAbove number s t k
-unfolding gap, between
+unfolding gap between
 gap_so side number s t k allowed is = gap_with_spans side number s t (slice_get side.spans s) (slice_get side.spans t) k allowed refl refl is
 
 moved_so : (m n a b k : ℤ) (known : Option ℤ) → ((l : ℤ) → known ≡ Some l → (m +ℤ l) ≤ℤ n) → option_map (λ l. l +ℤ (b -ℤ a)) known ≡ Some k

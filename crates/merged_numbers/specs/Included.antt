@@ -29,7 +29,7 @@ lacks r (Some n) = excludes r n
 -- The numbers of a span, less an offset, lie within a range, and its hole is none of them. Ends count as numbers.
 unfoldable pub lies_within : Span → ℤ → Interval → Bool
 lies_within r offset range =
-    int_le (range.lo +ℤ offset) r.lo && (int_le r.hi (range.hi +ℤ offset) && lacks r (moved_hole range.hole offset))
+    int_le (range.lo +ℤ offset) r.lo && int_le r.hi (range.hi +ℤ offset) && lacks r (moved_hole range.hole offset)
 
 -- What a symbol is bound to lies within its range.
 abbrev pub is_within : Known → Binding → Interval → Bool

@@ -1,5 +1,5 @@
 -- What is known is so of numbers.
-use Rattle.std.specs.Prelude.{◌≡◌, ℕ, suc, ◌<◌, ℤ, pos, ◌≤ℤ◌, Bool, true, List, ◌∷◌, get_or, length, slice_get, Option, Some, None, FitsSigned}
+use Rattle.std.specs.Prelude.{◌≡◌, ℕ, suc, ◌+◌, ◌<◌, ℤ, pos, ◌≤ℤ◌, Bool, List, ◌∷◌, get_or, length, slice_get, Option, Some, None, FitsSigned}
 use Rattle.std.specs.Int.{w32}
 use Rattle.std.specs.List.{AllByRecursion}
 use Rattle.cil_model.specs.Arithmetic.{LEAST, GREATEST}
@@ -9,6 +9,7 @@ use Rattle.number_spans.specs.Spans.{Has}
 use Rattle.number_spans.specs.Stored as ranges
 use Rattle.number_spans.specs.declared.span.Span.{Span}
 use Rattle.pentagon_domain.specs.Gaps as by_bounds
+use Rattle.pentagon_domain.proofs.Allowing.{AreBelow}
 use Rattle.symbolic_values.specs.declared.pairs.Key.{Key}
 use Rattle.symbolic_values.specs.Pairing.{origin}
 use Rattle.symbolic_values.specs.Worth.{behind_uses, worth_of_use}
@@ -30,6 +31,18 @@ pub record IsCut (r : Span) : Type 0 where
   pub least : LEAST ≤ℤ r.lo
   pub greatest : r.hi ≤ℤ GREATEST
 
+-- ---- the form
+
+-- There is a range of int32 for each key, and bounds name no other symbols.
+pub record IsFormed (keys : List Key) (outcome : Outcome) : Type 0 where
+  pub count : length outcome.ranges ≡ length keys
+  pub narrow : AllByRecursion ranges.IsNarrow outcome.ranges
+  pub named : AllByRecursion (AreBelow (length keys + 1)) outcome.bounds
+
+abbrev pub HaveForm : List Key → Option Outcome → Type 0
+HaveForm keys None = Unit {0}
+HaveForm keys (Some outcome) = IsFormed keys outcome
+
 -- ---- choices
 
 -- What a state knows is so of a number for each symbol.
@@ -43,7 +56,8 @@ AreInt32 is_first number keys = AllByRecursion (λ u. FitsSigned w32 (worth_of_u
 
 -- What is known of new symbols is so of a number for each.
 pub record IsSo (outcome : Outcome) (number : ℕ → ℤ) : Type 0 where
-  pub ranges : (i : ℕ) → i < length outcome.ranges → ranges.Allows (get_or outcome.ranges i (one (pos 0))) (number (suc i))
+  pub ranges : (i : ℕ) → i < length outcome.ranges
+    → ranges.Allows (get_or outcome.ranges i (one (pos 0))) (number (suc i))
   pub bounds : by_bounds.Allows outcome.bounds number
 
 -- Something is known, and it is so.
@@ -51,8 +65,9 @@ abbrev pub SomeSo : Option Outcome → (ℕ → ℤ) → Type 0
 SomeSo None number = ⊥
 SomeSo (Some outcome) number = IsSo outcome number
 
--- All that a side knows is so of the outcome too, where each new symbol is worth what the first use of its key is on that
--- side. Where there is no outcome, there is no such choice.
+-- All that a side knows is so of the outcome too, where each new symbol is worth what the first use of its key is on
+-- that side. Where there is no outcome, there is no such choice.
 abbrev pub Keeps : Bool → List Key → Known → Option Outcome → Type 0
 Keeps is_first keys side outcome =
-    (number : ℕ → ℤ) → AllowsKnown side number → AreInt32 is_first number keys → SomeSo outcome (behind_uses is_first number (origin ∷ keys))
+    (number : ℕ → ℤ) → AllowsKnown side number → AreInt32 is_first number keys
+    → SomeSo outcome (behind_uses is_first number (origin ∷ keys))

@@ -60,7 +60,8 @@ rows_of gap keys ranges count rows = steps (λ i. row_of gap keys ranges i (leng
 
 abbrev pub with_bounds : (Key → Key → Option ℤ) → List Key → Option (List Interval) → Option Outcome
 with_bounds gap keys None = None
-with_bounds gap keys (Some ranges) = Some (record { ranges = ranges; bounds = rows_of gap keys ranges (length keys) [] })
+with_bounds gap keys (Some ranges) =
+    Some (record { ranges = ranges; bounds = rows_of gap keys ranges (length keys) [] })
 
 -- What is known of new symbols, by the span of each and the gap of each two. None where a range is empty.
 abbrev pub outcome_of : (Key → Span) → (Key → Key → Option ℤ) → List Key → Option Outcome

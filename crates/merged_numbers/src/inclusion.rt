@@ -1,6 +1,6 @@
 //! When a state says no more of numbers than another one does.
 
-ghost use Rattle.std.specs.Prelude.{◌≡◌, IfSome};
+ghost use Rattle.std.specs.Prelude.{◌≡◌, ◌+ℤ◌, int_le, IfSome};
 ghost use Rattle.std.specs.List.{list_all};
 ghost use Rattle.number_spans.specs.Sizes.{IsWide};
 ghost use Rattle.number_spans.specs.Spans.{moved_hole};
@@ -49,13 +49,27 @@ fn lacks(span: Span, hole: Option<i64>, offset: i64) -> bool
     }
 }
 
+/// Returns whether a number is at least the sum of two.
+fn is_from(lo: i64, offset: i64, n: i128) -> bool
+    ensures { result ≡ int_le (lo +ℤ offset) n }
+{
+    sum_of(lo, offset) <= n
+}
+
+/// Returns whether a number is at most the sum of two.
+fn is_up_to(n: i128, hi: i64, offset: i64) -> bool
+    ensures { result ≡ int_le n (hi +ℤ offset) }
+{
+    n <= sum_of(hi, offset)
+}
+
 /// Returns whether the numbers of a span, less an offset, lie within a range.
 #[tactic(auto, unfolding(crate::specs::Included::lies_within))]
 fn lies_within(span: Span, offset: i64, range: &Range) -> bool
     ensures { result ≡ rule.lies_within span offset range.now }
 {
-    sum_of(range.lo(), offset) <= span.lo
-        && span.hi <= sum_of(range.hi(), offset)
+    is_from(range.lo(), offset, span.lo)
+        && is_up_to(span.hi, range.hi(), offset)
         && lacks(span, range.hole(), offset)
 }
 

@@ -19,3 +19,5 @@ pub use normal::normed;
 pub use outcome::Merged;
 pub use side::Side;
 
+#[cfg(test)]
+mod tests;

@@ -3,7 +3,7 @@
 ghost use Rattle.std.specs.Prelude.{◌≡◌, ◌<◌, length, get_or, None, option_map, true, false, IfOk, OnOk};
 ghost use Rattle.symbolic_values.specs.Pairing.{origin};
 ghost use Rattle.merged_numbers.specs.Known.{IsRow, known};
-ghost use Rattle.merged_numbers.specs.Meaning.{AreMeasured, Keeps};
+ghost use Rattle.merged_numbers.specs.Meaning.{AreMeasured, HaveForm, Keeps};
 ghost use Rattle.merged_numbers.specs.Merging as rule;
 ghost use Rattle.merged_numbers.specs.Merging.{merged_gap, merged_span, ranges_of, row_of, rows_of};
 ghost use Rattle.merged_numbers.specs.Spans as spans;
@@ -16,6 +16,7 @@ use crate::side::Side;
 use crate::term::Term;
 use domain_api::NoMemory;
 use interval_domain::Range;
+use number_spans::Span;
 use pentagon_domain::Bounds;
 use std::alloc::Global;
 use symbolic_values::Key;
@@ -30,6 +31,17 @@ struct Sides<'a> {
 }
 
 impl Sides<'_> {
+    /// What a key may be on both sides.
+    fn span(&self, key: &Key) -> Span
+        requires first { AreMeasured self.now.a.spans.now }
+        requires second { AreMeasured self.now.b.spans.now }
+        ensures { result ≡ merged_span self.now.rule (known self.now.a) (known self.now.b) key.now }
+    {
+        let first = self.a.int32s(Term::first_of(key));
+        let second = self.b.int32s(Term::second_of(key));
+        self.rule.span(first, second)
+    }
+
     /// The range of a key. None exactly where it is empty.
     #[tactic(auto, using(crate::proofs::CutLaws::merged_span_cut))]
     fn range(&self, key: &Key) -> Option<Range>
@@ -37,9 +49,7 @@ impl Sides<'_> {
         requires second { AreMeasured self.now.b.spans.now }
         ensures { result ≡ spans.stored (merged_span self.now.rule (known self.now.a) (known self.now.b) key.now) }
     {
-        let first = self.a.int32s(Term::first_of(key));
-        let second = self.b.int32s(Term::second_of(key));
-        stored(self.rule.span(first, second))
+        stored(self.span(key))
     }
 
     /// The range of each key. None where one of them is empty.
@@ -98,8 +108,8 @@ impl Sides<'_> {
         requires second { IsRow second.now self.now.b.bounds.now (get_or self.now.keys.now i origin).t }
         requires ranges { length ranges.now ≡ length self.now.keys.now }
         requires inside { i < length self.now.keys.now }
-        ensures { OnOk result (bounds.new ≡ row_of (merged_gap self.now.rule (known self.now.a) (known self.now.b)) self.now.keys.now
-            ranges.now i (length self.now.keys.now) bounds.old) }
+        ensures { OnOk result (bounds.new ≡ row_of (merged_gap self.now.rule (known self.now.a) (known self.now.b))
+            self.now.keys.now ranges.now i (length self.now.keys.now) bounds.old) }
     {
         for j in 0..self.keys.len() {
             let gap = self.gap(first, second, &self.keys[i], &self.keys[j]);
@@ -110,23 +120,22 @@ impl Sides<'_> {
 
     /// Adds the bounds from each key to each other.
     #[tactic(auto, using(crate::proofs::RowLaws::rows))]
-    fn add_rows(
-        &self,
-        alloc: Global,
-        bounds: &mut Bounds,
-        ranges: &[Range],
-    ) -> Result<(), NoMemory>
+    fn add_rows(&self, alloc: Global, bounds: &mut Bounds, ranges: &[Range]) -> Result<(), NoMemory>
         requires one { AreMeasured self.now.a.spans.now }
         requires other { AreMeasured self.now.b.spans.now }
         requires ranges { length ranges.now ≡ length self.now.keys.now }
-        ensures { OnOk result (bounds.new ≡ rows_of (merged_gap self.now.rule (known self.now.a) (known self.now.b)) self.now.keys.now
-            ranges.now (length self.now.keys.now) bounds.old) }
+        ensures { OnOk result (bounds.new ≡ rows_of (merged_gap self.now.rule (known self.now.a) (known self.now.b))
+            self.now.keys.now ranges.now (length self.now.keys.now) bounds.old) }
     {
         let mut first = vec![in alloc; None; self.a.spans.len()]?;
         let mut second = vec![in alloc; None; self.b.spans.len()]?;
         for i in 0..self.keys.len() {
-            self.a.bounds.gaps_from(self.keys[i].s, first.as_mut_slice());
-            self.b.bounds.gaps_from(self.keys[i].t, second.as_mut_slice());
+            self.a
+                .bounds
+                .gaps_from(self.keys[i].s, first.as_mut_slice());
+            self.b
+                .bounds
+                .gaps_from(self.keys[i].t, second.as_mut_slice());
             self.add_row(bounds, ranges, first.as_slice(), second.as_slice(), i)?;
         }
         Ok(())
@@ -137,7 +146,8 @@ impl Sides<'_> {
     fn merged(&self, alloc: Global) -> Result<Option<Merged>, NoMemory>
         requires first { AreMeasured self.now.a.spans.now }
         requires second { AreMeasured self.now.b.spans.now }
-        ensures { IfOk result (λ made. made ≡ rule.merged self.now.rule self.now.keys.now (known self.now.a) (known self.now.b)) }
+        ensures { IfOk result (λ made. made
+            ≡ rule.merged self.now.rule self.now.keys.now (known self.now.a) (known self.now.b)) }
     {
         let Some(ranges) = self.ranges(alloc)? else {
             return Ok(None);
@@ -148,14 +158,22 @@ impl Sides<'_> {
     }
 }
 
-/// What both states know.
-#[tactic(auto, using(crate::proofs::Laws::merges))]
+/// What both states know of the new symbols that stand for keys: the range of each, and how they lie to each other.
+/// `None` exactly where a range is empty, so that nothing is reached; then no choice of numbers suits either state.
+///
+/// A range is the hull of what the first use of its key may be on both sides, as an int32. A bound is the lesser of
+/// what both sides know, where it says more than the new ranges.
+///
+/// Cost: for each key a pass over the symbols of both states and the bounds behind those of the key, and one over the
+/// keys. `NoMemory` where memory runs out, and where a symbol would need more than 32 bits.
+#[tactic(auto, using(crate::proofs::Laws::merges, crate::proofs::FormLaws::merged_formed))]
 pub fn joined(alloc: Global, keys: &[Key], a: &Side, b: &Side) -> Result<Option<Merged>, NoMemory>
     requires first { AreMeasured a.now.spans.now }
     requires second { AreMeasured b.now.spans.now }
     ensures value { IfOk result (λ made. made ≡ rule.joined keys.now (known a.now) (known b.now)) }
     ensures left { IfOk result (Keeps true keys.now (known a.now)) }
     ensures right { IfOk result (Keeps false keys.now (known b.now)) }
+    ensures form { IfOk result (HaveForm keys.now) }
 {
     Sides {
         rule: Rule::Join,
@@ -166,14 +184,18 @@ pub fn joined(alloc: Global, keys: &[Key], a: &Side, b: &Side) -> Result<Option<
     .merged(alloc)
 }
 
-/// What both know, with ends that settle.
-#[tactic(auto, using(crate::proofs::Laws::merges))]
+/// What both states know, as `joined` has it, but an end that the second state passes settles. A bound is that of the
+/// first state, where the second knows no less; a hole is one of the first.
+///
+/// Cost, `None` and `NoMemory`: as of `joined`.
+#[tactic(auto, using(crate::proofs::Laws::merges, crate::proofs::FormLaws::merged_formed))]
 pub fn widened(alloc: Global, keys: &[Key], a: &Side, b: &Side) -> Result<Option<Merged>, NoMemory>
     requires first { AreMeasured a.now.spans.now }
     requires second { AreMeasured b.now.spans.now }
     ensures value { IfOk result (λ made. made ≡ rule.widened keys.now (known a.now) (known b.now)) }
     ensures left { IfOk result (Keeps true keys.now (known a.now)) }
     ensures right { IfOk result (Keeps false keys.now (known b.now)) }
+    ensures form { IfOk result (HaveForm keys.now) }
 {
     Sides {
         rule: Rule::Widening,

@@ -1,9 +1,10 @@
 //! One state in the names of its own keys.
 
-ghost use Rattle.std.specs.Prelude.{◌≡◌, ◌<◌, length, get_or, None, option_map, true, IfOk, OnOk};
+ghost use Rattle.std.specs.Prelude.{◌≡◌, ◌<◌, true, length, get_or, slice_index_or, None, Some, option_map};
+ghost use Rattle.std.specs.Prelude.{IfOk, IsTrue, OnOk};
 ghost use Rattle.symbolic_values.specs.Pairing.{origin};
 ghost use Rattle.merged_numbers.specs.Known.{IsRow, known};
-ghost use Rattle.merged_numbers.specs.Meaning.{AreMeasured, Keeps};
+ghost use Rattle.merged_numbers.specs.Meaning.{AreMeasured, HaveForm, Keeps};
 ghost use Rattle.merged_numbers.specs.Spans as spans;
 ghost use Rattle.merged_numbers.specs.Merging as rule;
 ghost use Rattle.merged_numbers.specs.Merging.{own_gap, own_span};
@@ -15,9 +16,18 @@ use crate::side::Side;
 use crate::term::Term;
 use domain_api::NoMemory;
 use interval_domain::Range;
+use number_spans::Span;
 use pentagon_domain::Bounds;
 use std::alloc::Global;
 use symbolic_values::Key;
+
+/// What a key may be.
+fn span_of(key: &Key, a: &Side) -> Span
+    requires { AreMeasured a.now.spans.now }
+    ensures { result ≡ own_span (known a.now) key.now }
+{
+    a.int32s(Term::first_of(key))
+}
 
 /// The range of a key. None exactly where it is empty.
 #[tactic(auto, using(crate::proofs::CutLaws::own_span_cut))]
@@ -25,14 +35,15 @@ fn range_of(key: &Key, a: &Side) -> Option<Range>
     requires { AreMeasured a.now.spans.now }
     ensures { result ≡ spans.stored (own_span (known a.now) key.now) }
 {
-    stored(a.int32s(Term::first_of(key)))
+    stored(span_of(key, a))
 }
 
 /// The range of each key. None where one of them is empty.
 #[tactic(auto, using(crate::proofs::RangeLists::all_ranges))]
 fn ranges_of(alloc: Global, keys: &[Key], a: &Side) -> Result<Option<Vec<Range>>, NoMemory>
     requires { AreMeasured a.now.spans.now }
-    ensures { IfOk result (λ ranges. option_map (λ rs. rs.items) ranges ≡ rule.ranges_of (own_span (known a.now)) keys.now) }
+    ensures { IfOk result (λ ranges. option_map (λ rs. rs.items) ranges
+        ≡ rule.ranges_of (own_span (known a.now)) keys.now) }
 {
     let mut ranges = Vec::with_capacity(alloc, keys.len())?;
     for key in keys {
@@ -44,53 +55,92 @@ fn ranges_of(alloc: Global, keys: &[Key], a: &Side) -> Result<Option<Vec<Range>>
     Ok(Some(ranges))
 }
 
-/// Adds the bounds from the key at a place to each key, where the gaps from it were written.
-#[tactic(auto, using(crate::proofs::RowLaws::rows))]
-fn add_row(
-    bounds: &mut Bounds,
-    ranges: &[Range],
-    keys: &[Key],
-    a: &Side,
-    row: &[Option<i64>],
-    i: usize,
-) -> Result<(), NoMemory>
-    requires measured { AreMeasured a.now.spans.now }
-    requires row { IsRow row.now a.now.bounds.now (get_or keys.now i origin).s }
-    requires ranges { length ranges.now ≡ length keys.now }
-    requires inside { i < length keys.now }
-    ensures { OnOk result (bounds.new ≡ rule.row_of (own_gap (known a.now)) keys.now ranges.now i (length keys.now) bounds.old) }
+/// Returns whether a row tells that bounds say nothing of a symbol.
+fn is_unknown(row: &[Option<i64>], t: u32) -> bool
+    ensures { IsTrue result → (t < length row.now) × (slice_index_or row.now t None ≡ None) }
 {
-    for j in 0..keys.len() {
-        let gap = a.term_gap(row, Term::first_of(&keys[i]), Term::first_of(&keys[j]));
-        add_gap(bounds, ranges, i, j, gap)?;
+    match row.get(t as usize) {
+        None => false,
+        Some(gap) => gap.is_none(),
     }
-    Ok(())
 }
 
-/// Adds the bounds from each key to each other.
-#[tactic(auto, using(crate::proofs::RowLaws::rows))]
-fn add_rows(
-    alloc: Global,
-    bounds: &mut Bounds,
-    ranges: &[Range],
-    keys: &[Key],
-    a: &Side,
-) -> Result<(), NoMemory>
-    requires measured { AreMeasured a.now.spans.now }
-    requires ranges { length ranges.now ≡ length keys.now }
-    ensures { OnOk result (bounds.new ≡ rule.rows_of (own_gap (known a.now)) keys.now ranges.now (length keys.now) bounds.old) }
-{
-    let mut row = vec![in alloc; None; a.spans.len()]?;
-    for i in 0..keys.len() {
-        a.bounds.gaps_from(keys[i].s, row.as_mut_slice());
-        add_row(bounds, ranges, keys, a, row.as_slice(), i)?;
+/// A state with keys of its own, and the range of each.
+#[derive(Clone, Copy)]
+struct Own<'a> {
+    keys: &'a [Key],
+    a: Side<'a>,
+    ranges: &'a [Range],
+}
+
+impl Own<'_> {
+    /// Adds the bound of the keys at two places. Where bounds say nothing of both symbols, the new ranges say all.
+    fn add_pair(
+        &self,
+        bounds: &mut Bounds,
+        row: &[Option<i64>],
+        i: usize,
+        j: usize,
+    ) -> Result<(), NoMemory>
+        requires measured { AreMeasured self.now.a.spans.now }
+        requires ranges { Some self.now.ranges.now ≡ rule.ranges_of (own_span (known self.now.a)) self.now.keys.now }
+        requires as_many { length self.now.ranges.now ≡ length self.now.keys.now }
+        requires row { IsRow row.now self.now.a.bounds.now (get_or self.now.keys.now i origin).s }
+        requires first { i < length self.now.keys.now }
+        requires second { j < length self.now.keys.now }
+        ensures { OnOk result (bounds.new ≡ rule.with_gap (rule.told self.now.ranges.now i j) i j
+            (own_gap (known self.now.a) (get_or self.now.keys.now i origin) (get_or self.now.keys.now j origin))
+            bounds.old) }
+    {
+        let from = &self.keys[i];
+        let to = &self.keys[j];
+        if is_unknown(row, to.s) {
+            return Ok(());
+        }
+        let gap = self
+            .a
+            .term_gap(row, Term::first_of(from), Term::first_of(to));
+        add_gap(bounds, self.ranges, i, j, gap)
     }
-    Ok(())
+
+    /// Adds the bounds from the key at a place to each key, where the gaps from it were written.
+    #[tactic(auto, using(crate::proofs::RowLaws::own_rows))]
+    fn add_row(&self, bounds: &mut Bounds, row: &[Option<i64>], i: usize) -> Result<(), NoMemory>
+        requires measured { AreMeasured self.now.a.spans.now }
+        requires ranges { Some self.now.ranges.now ≡ rule.ranges_of (own_span (known self.now.a)) self.now.keys.now }
+        requires as_many { length self.now.ranges.now ≡ length self.now.keys.now }
+        requires row { IsRow row.now self.now.a.bounds.now (get_or self.now.keys.now i origin).s }
+        requires inside { i < length self.now.keys.now }
+        ensures { OnOk result (bounds.new ≡ rule.row_of (own_gap (known self.now.a)) self.now.keys.now
+            self.now.ranges.now i (length self.now.keys.now) bounds.old) }
+    {
+        for j in 0..self.keys.len() {
+            self.add_pair(bounds, row, i, j)?;
+        }
+        Ok(())
+    }
+
+    /// Adds the bounds from each key to each other.
+    #[tactic(auto, using(crate::proofs::RowLaws::rows))]
+    fn add_rows(&self, alloc: Global, bounds: &mut Bounds) -> Result<(), NoMemory>
+        requires measured { AreMeasured self.now.a.spans.now }
+        requires ranges { Some self.now.ranges.now ≡ rule.ranges_of (own_span (known self.now.a)) self.now.keys.now }
+        requires as_many { length self.now.ranges.now ≡ length self.now.keys.now }
+        ensures { OnOk result (bounds.new ≡ rule.rows_of (own_gap (known self.now.a)) self.now.keys.now
+            self.now.ranges.now (length self.now.keys.now) bounds.old) }
+    {
+        let mut row = vec![in alloc; None; self.a.spans.len()]?;
+        for i in 0..self.keys.len() {
+            self.a.bounds.gaps_from(self.keys[i].s, row.as_mut_slice());
+            self.add_row(bounds, row.as_slice(), i)?;
+        }
+        Ok(())
+    }
 }
 
 /// What one state knows, in the names of its own keys.
 #[tactic(auto, using(crate::proofs::RangeLists::ranges_length))]
-fn own(alloc: Global, keys: &[Key], a: &Side) -> Result<Option<Merged>, NoMemory>
+fn in_own_names(alloc: Global, keys: &[Key], a: &Side) -> Result<Option<Merged>, NoMemory>
     requires { AreMeasured a.now.spans.now }
     ensures { IfOk result (λ made. made ≡ rule.normed keys.now (known a.now)) }
 {
@@ -98,16 +148,28 @@ fn own(alloc: Global, keys: &[Key], a: &Side) -> Result<Option<Merged>, NoMemory
         return Ok(None);
     };
     let mut bounds = Bounds::new(alloc);
-    add_rows(alloc, &mut bounds, ranges.as_slice(), keys, a)?;
+    let state = Own {
+        keys,
+        a: *a,
+        ranges: ranges.as_slice(),
+    };
+    state.add_rows(alloc, &mut bounds)?;
     Ok(Some(Merged { ranges, bounds }))
 }
 
-/// What one state knows, in the names of its own keys.
-#[tactic(auto, using(crate::proofs::Laws::normed_keeps))]
+/// What one state knows of the new symbols that stand for its own keys: of each the int32 that its first use may be,
+/// and each bound that says more than the new ranges. `None` exactly where a range is empty. Of a key only what it says
+/// of the first side counts.
+///
+/// Cost: for each key a pass over the symbols of the state and the bounds behind those of the key, and one over the
+/// keys; only keys of which bounds say something together are looked at further. `NoMemory` where memory runs out, and
+/// where a symbol would need more than 32 bits.
+#[tactic(auto, using(crate::proofs::Laws::normed_keeps, crate::proofs::FormLaws::normed_formed))]
 pub fn normed(alloc: Global, keys: &[Key], a: &Side) -> Result<Option<Merged>, NoMemory>
     requires { AreMeasured a.now.spans.now }
     ensures value { IfOk result (λ made. made ≡ rule.normed keys.now (known a.now)) }
     ensures keeps { IfOk result (Keeps true keys.now (known a.now)) }
+    ensures form { IfOk result (HaveForm keys.now) }
 {
-    own(alloc, keys, a)
+    in_own_names(alloc, keys, a)
 }

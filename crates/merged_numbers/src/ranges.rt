@@ -22,15 +22,23 @@ fn range_between(lo: i128, hi: i128) -> Option<Range>
     range_without(lo as i64, hi as i64, None)
 }
 
+/// A range but for a hole. None exactly where that is its only number.
+fn but_for(range: Range, hole: Option<i128>) -> Option<Range>
+    ensures { result ≡ rule.but_for range hole }
+{
+    match hole {
+        None => Some(range),
+        Some(hole) => range_but_for(range, hole),
+    }
+}
+
 /// A span as it is stored. None exactly where it has no number.
-#[tactic(auto, using(crate::proofs::StoredLaws::stores))]
 pub(crate) fn stored(span: Span) -> Option<Range>
     requires { IsCut span }
     ensures { result ≡ rule.stored span }
 {
-    let range = range_between(span.lo, span.hi)?;
-    match span.hole {
-        None => Some(range),
-        Some(hole) => range_but_for(range, hole),
+    match range_between(span.lo, span.hi) {
+        None => None,
+        Some(range) => but_for(range, span.hole),
     }
 }

@@ -4,5 +4,5 @@ use Rattle.frame_names.proofs.binding.Tables.bind_lengths.Given as goal
 
 abbrev pub invariant-loop-index : goal.invariant-loop-index
 invariant-loop-index g l =
-    with_lengths (g.O.Order.gap l.self.order) l.self.a (drop l.index l.self.b) (drop l.index l.slots) l.symbols
-    ≡ with_lengths (g.O.Order.gap l.self.order) l.self.a l.self.b l.slots l.initial.symbols
+    with_lengths (g.O.Order.gap l.self.order.now) l.self.a.now (drop l.index l.self.b.now) (drop l.index l.slots) l.symbols
+    ≡ with_lengths (g.O.Order.gap l.self.order.now) l.self.a.now l.self.b.now l.slots l.initial.symbols
