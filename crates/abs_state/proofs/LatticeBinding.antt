@@ -125,11 +125,39 @@ reference_so a b r q slots new so made = by (q == 0) refl made
     by true none is = at_zero (is_null (nullness_at a r)) is
     by false other is = reference_slot_so a b r q slots new (fits a b r q) (slice_get slots q) (λ fit. well_by a b r q other fit) so is
 
+set_first : (slots : References) (q : ℕ) (y : Option ℕ) → (q == 0) ≡ false → slice_get (set slots q y) 0 ≡ slice_get slots 0
+set_first slots zero y other = absurd cc
+set_first [] (suc q) y other = refl
+set_first (o ∷ slots) (suc q) y other = refl
+
+-- Reference 0 stays what it is bound to.
+reference_first : (a b : List (Reference Unknown)) (r q : ℕ) (slots new : References) → slice_get slots 0 ≡ Some (Some 0) → with_reference a b r q slots ≡ Some new
+    → slice_get new 0 ≡ Some (Some 0)
+reference_first a b r q slots new first made = by (q == 0) refl made
+  where
+    kept : (test : Bool) → (if test then Some slots else None) ≡ Some new → slice_get new 0 ≡ Some (Some 0)
+    kept true is = subst (λ l. slice_get l 0 ≡ Some (Some 0)) (same_some slots new is) first
+    kept false is = absurd cc
+
+    in_slot : (fit : Bool) (slot : Option (Option ℕ)) → (q == 0) ≡ false → reference_in_slot fit slots r q slot ≡ Some new → slice_get new 0 ≡ Some (Some 0)
+    in_slot fit None other is = absurd cc
+    in_slot true (Some None) other is =
+        subst (λ l. slice_get l 0 ≡ Some (Some 0)) (same_some (set slots q (Some r)) new is) (set_first slots q (Some r) other ∙ first)
+    in_slot false (Some None) other is = absurd cc
+    in_slot fit (Some (Some bound)) other is = kept (r == bound) is
+
+    by : (none : Bool) → (q == 0) ≡ none
+        → (if none then (if is_null (nullness_at a r) then Some slots else None) else reference_in_slot (fits a b r q) slots r q (slice_get slots q)) ≡ Some new
+        → slice_get new 0 ≡ Some (Some 0)
+    by true none is = kept (is_null (nullness_at a r)) is
+    by false other is = in_slot (fits a b r q) (slice_get slots q) other is
+
 -- ---- variables, and then lengths
 
 pub record BothSo (number : ℕ → ℤ) (a b : List (Reference Unknown)) (slots : SlotLists) : Type 0 where
   pub symbols : SymbolsSo number slots.symbols
   pub references : SlotsSo (IsBoundWell a b) slots.references
+  pub first : slice_get slots.references 0 ≡ Some (Some 0)
 
 module _ (gap : Gaps) (number : ℕ → ℤ) (a b : List (Reference Unknown)) (keep : KeepGaps gap number) where
   number_var : (old new : SlotLists) (e f : Expr) (made : Option Symbols) → FitsSigned w32 (worth number e) → BothSo number a b old
@@ -137,14 +165,18 @@ module _ (gap : Gaps) (number : ℕ → ℤ) (a b : List (Reference Unknown)) (k
   number_var old new e f None own so found is = absurd cc
   number_var old new e f (Some symbols) own so found is =
       subst (BothSo number a b) (same_some (with_symbols old.references symbols) new is)
-      (record { symbols = number_so gap number e f old.symbols symbols keep own so.symbols found; references = so.references })
+      (record { symbols = number_so gap number e f old.symbols symbols keep own so.symbols found; references = so.references; first = so.first })
 
   reference_var : (old new : SlotLists) (r q : ℕ) (made : Option References) → BothSo number a b old
       → with_reference a b r q old.references ≡ made → option_map (with_references old.symbols) made ≡ Some new → BothSo number a b new
   reference_var old new r q None so found is = absurd cc
   reference_var old new r q (Some references) so found is =
       subst (BothSo number a b) (same_some (with_references old.symbols references) new is)
-      (record { symbols = so.symbols; references = reference_so a b r q old.references references so.references found })
+      (record {
+        symbols = so.symbols;
+        references = reference_so a b r q old.references references so.references found;
+        first = reference_first a b r q old.references references so.first found;
+      })
 
   var_step : (xs ys : List Var) (new : SlotLists) (next : Option SlotLists)
       → ((slots : SlotLists) → BothSo number a b slots → with_vars gap a b xs ys slots ≡ Some new → BothSo number a b new)
@@ -244,3 +276,25 @@ filled_so number a b symbols references binding so well zero_there are = record 
         by None made = absurd cc
         by (Some rest) made =
             ap (λ l. get_or l 0 d) (sym (same_some (y ∷ rest) xs made)) ∙ same_some y x (same_some (Some y) (Some x) there)
+
+-- What a state's frame is bound to, where values and lengths of the other are worth int32.
+pub binding_so : (gap : Gaps) (number : ℕ → ℤ) (a_vars b_vars : List Var) (a b : List (Reference Unknown)) (count : ℕ) (binding : FrameBinding) → KeepGaps gap number
+    → number 0 ≡ pos 0 → AllFit number (numbers_of a_vars) → ((r : ℕ) → FitsSigned w32 (worth number (length_at a r)))
+    → bound_frames gap a_vars a b_vars b count ≡ Some binding → BindingSo number a b binding
+binding_so gap number a_vars b_vars a b count binding keep start fit lengths is =
+    by (with_vars gap a b a_vars b_vars (free_slots count (length b))) refl is
+  where
+    at_end : (slots : SlotLists) (symbols : Option Symbols) → BothSo number a b slots → with_lengths gap a b (drop 1 slots.references) slots.symbols ≡ symbols
+        → option_and_then (filled_with slots.references) symbols ≡ Some binding → BindingSo number a b binding
+    at_end slots None so at made = absurd cc
+    at_end slots (Some symbols) so at made =
+        filled_so number a b symbols slots.references binding (lengths_so gap number a b keep b (drop 1 slots.references) slots.symbols symbols lengths so.symbols at)
+        so.references so.first (both_are symbols slots.references (all_filled symbols) (all_filled slots.references) binding refl refl made)
+
+    by : (found : Option SlotLists) → with_vars gap a b a_vars b_vars (free_slots count (length b)) ≡ found → option_and_then (filled gap a b) found ≡ Some binding
+        → BindingSo number a b binding
+    by None at made = absurd cc
+    by (Some slots) at made =
+        at_end slots (with_lengths gap a b (drop 1 slots.references) slots.symbols)
+        (vars_so gap number a b keep a_vars b_vars (free_slots count (length b)) slots fit
+        (record { symbols = free_symbols_so number count (length b) start; references = free_references_so a b count (length b); first = refl }) at) refl made

@@ -224,7 +224,7 @@ null_stays false a b array none = none
 zero_allowed : (n : ℤ) → n ≡ pos 0 → Allows (one (pos 0)) n
 zero_allowed n is = record { above = omega (arith, ints, is); below = omega (arith, ints, is); no_hole = λ wrong. cc }
 
-new_allowed : (facts : Facts) (outcome : Outcome) (number : ℕ → ℤ) → facts.ranges ≡ outcome.ranges → facts.bounds ≡ outcome.bounds → number 0 ≡ pos 0
+pub new_allowed : (facts : Facts) (outcome : Outcome) (number : ℕ → ℤ) → facts.ranges ≡ outcome.ranges → facts.bounds ≡ outcome.bounds → number 0 ≡ pos 0
     → numbers.IsSo outcome number → AllowsNumbers facts number
 unfolding range_at
 new_allowed facts outcome number ranges bounds start so = record {

@@ -41,11 +41,11 @@ HaveOnePlace a b u = (p q : Place) → place_at a u.s ≡ Some p → place_at b 
 has_as : (heap : Heap) (p q : Place) (i : ℕ) → place_number p ≡ place_number q → has_array heap p i ≡ has_array heap q i
 has_as heap p q i same = ap (λ n. option_map_or (λ (cell : ArrayCell). place_number cell.place == n) (slice_get heap i) false) same
 
-fits_as : (heap : Heap) (p q : Place) (array : Option ℕ) → place_number p ≡ place_number q → FitsArray heap q array → FitsArray heap p array
+pub fits_as : (heap : Heap) (p q : Place) (array : Option ℕ) → place_number p ≡ place_number q → FitsArray heap q array → FitsArray heap p array
 fits_as heap p q None same fits = tt
 fits_as heap p q (Some i) same fits = has_as heap p q i same ∙ fits
 
-none_fits : (heap : Heap) (p : Place) (array : Option ℕ) → array ≡ None → FitsArray heap p array
+pub none_fits : (heap : Heap) (p : Place) (array : Option ℕ) → array ≡ None → FitsArray heap p array
 none_fits heap p None is = tt
 none_fits heap p (Some i) is = absurd cc
 
