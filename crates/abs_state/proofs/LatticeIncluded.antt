@@ -6,6 +6,7 @@ use Rattle.std.specs.Ordering.{int_eq}
 use Rattle.std.proofs.lemmas.Bool.{and_parts}
 use Rattle.std.proofs.lemmas.Bool.Decides.{Decides-eqb, Decides-int_eq}
 use Rattle.std.proofs.lemmas.Int.{ints}
+use Rattle.std.proofs.lemmas.Option.{get_or_from_slice_get}
 use Rattle.domain_api.specs.declared.expr.Expr.{Expr}
 use Rattle.alias_facts.specs.Arrays.{AllDiffer, is_no_array}
 use Rattle.alias_facts.specs.NullnessOf.{Agrees, entailed, is_null}
@@ -21,7 +22,7 @@ use Rattle.frame_names.specs.ApartPairs.{cannot_be_same}
 use Rattle.frame_names.specs.Binding.{FrameBinding, bound_frames, fits}
 use Rattle.frame_names.specs.BoundMeaning.{AreLengthsBound, KeepGaps, NullsAreNull, arrays_bound, bound_worth, numbers_bound, zero_bound}
 use Rattle.frame_names.specs.Following.{all_apart, all_entailed}
-use Rattle.frame_names.specs.Frames.{are_one_place, length_at, nullness_at, place_at}
+use Rattle.frame_names.specs.Frames.{are_one_place, length_at, nullness_at, place_at, place_in}
 use Rattle.frame_names.specs.Frames as frames
 use Rattle.frame_names.specs.declared.reference.Reference.{Reference}
 use Rattle.frame_names.specs.declared.slots.Bound.{Bound}
@@ -32,6 +33,7 @@ use Rattle.merged_numbers.specs.declared.term.Term.{Term}
 use Rattle.merged_numbers.specs.Meaning as numbers
 use Rattle.merged_numbers.proofs.InclusionLaws.{included_so}
 use Rattle.number_facts.specs.Gaps.{gap}
+use Rattle.number_facts.specs.Laws.Allowing.{AllowsNumbers, gap_allowed}
 use Rattle.number_facts.specs.Holds.{IsDefined, is_below}
 use Rattle.symbolic_values.specs.Meaning.{ReferencesAgree, told}
 use Rattle.symbolic_values.specs.Names.{fitting, renamed_def, same_flag}
@@ -46,9 +48,9 @@ use Rattle.abs_state.specs.LatticeParts.{numbers_known}
 use Rattle.abs_state.specs.StateFacts as states
 use Rattle.abs_state.specs.StateFacts.{StateFacts}
 use Rattle.abs_state.specs.declared.reference.Unknown.{Unknown}
-use Rattle.abs_state.proofs.LatticeBinding.{BindingSo, IsBoundWell}
+use Rattle.abs_state.proofs.LatticeBinding.{BindingSo, IsBoundWell, binding_so}
 use Rattle.abs_state.proofs.LatticeDefinitions.{definition_so}
-use Rattle.abs_state.proofs.LatticeFrames.{IsEntry, have_same}
+use Rattle.abs_state.proofs.LatticeFrames.{IsEntry, have_same, same_entry}
 use Rattle.abs_state.proofs.LatticeMerging.{SideSo, new_allowed}
 use Rattle.abs_state.proofs.LatticeReferences.{cannot_differ, fits_as, none_fits}
 
@@ -244,3 +246,79 @@ apart_kept heap number array a kept bound (p ∷ pairs) entries differ is =
     let parts = and_parts (cannot_be_same a kept (get_or bound p.0 0) (get_or bound p.1 0)) (all_apart a kept bound pairs) is in
     (cannot_differ heap number a array kept (get_or bound p.0 0) (get_or bound p.1 0) entries differ parts.0,
     apart_kept heap number array a kept bound pairs entries differ parts.1)
+
+-- ---- the whole
+
+zero_less : (n : ℤ) → n ≡ pos 0 → ((n +ℤ pos 0) -ℤ pos 0) ≡ pos 0
+zero_less n is = omega (arith, ints, is)
+
+get_or_none : (xs : List ℕ) (i : ℕ) → slice_get xs i ≡ None → get_or xs i 0 ≡ 0
+get_or_none [] i is = refl
+get_or_none (x ∷ xs) zero is = absurd cc
+get_or_none (x ∷ xs) (suc i) is = get_or_none xs i is
+
+bound_fits : (heap : Heap) (number : ℕ → ℤ) (array : ℕ → Option ℕ) (a b : List (Reference Unknown)) (binding : FrameBinding) (i : ℕ) (known : Reference Unknown)
+    → array 0 ≡ None → ((r : ℕ) → IsEntry heap number a r (array r)) → BindingSo number a b binding → place_at b (suc i) ≡ Some known.place
+    → FitsArray heap known.place (array (get_or binding.references (suc i) 0))
+bound_fits heap number array a b binding i known none entries so place = by (slice_get binding.references (suc i)) refl
+  where
+    by : (slot : Option ℕ) → slice_get binding.references (suc i) ≡ slot → FitsArray heap known.place (array (get_or binding.references (suc i) 0))
+    by None at = none_fits heap known.place (array (get_or binding.references (suc i) 0)) (ap array (get_or_none binding.references (suc i) at) ∙ none)
+    by (Some r) at =
+        subst (λ n. FitsArray heap known.place (array n)) (sym (get_or_from_slice_get binding.references (suc i) r 0 at))
+        (fitting_array heap number a r (array r) (place_at a r) known.place refl (entries r)
+        (ap (λ q. is_null (nullness_at a r) || are_one_place (place_at a r) q) (sym place) ∙ so.well (suc i) r at))
+
+-- Where a state holds, so does one that is bound to it and of which all follows, by the choice behind the binding.
+pub included_holds : (a b : StateFacts) (vs : List Value) (heap : Heap) (number : ℕ → ℤ) (array : ℕ → Option ℕ) (binding : FrameBinding) → AllowsNumbers a.facts number
+    → SideSo true a a vs heap number array → bound_frames (gap a.facts) a.variables a.references b.variables b.references (length b.facts.ranges) ≡ Some binding
+    → all_follows a b binding ≡ true → HoldsBy b vs heap (numbers_bound number binding) (arrays_bound array binding)
+unfolding states.reference_at
+included_holds a b vs heap number array binding allowed so is follows = record {
+  null = ap array bound.null ∙ so.null;
+  facts = record {
+    allowed = new_allowed b.facts (record { ranges = b.facts.ranges; bounds = b.facts.bounds }) (numbers_bound number binding) refl refl
+    (ap (bound_worth number) bound.origin_is ∙ zero_less (number 0) so.origin_is)
+    (subst (numbers.IsSo (record { ranges = b.facts.ranges; bounds = b.facts.bounds })) (same_numbers number a.references b.references binding so.origin_is bound)
+    (included_so (numbers_known a.facts) (bound_values binding) b.facts.ranges b.facts.bounds _ refl number second.0 so.allowed
+    (values_fit number binding.symbols bound.fit)));
+    definitions = definitions_kept number array a.facts.definitions binding b.facts.definitions so.defined third.0;
+  };
+  variables = have_same number (numbers_bound number binding) array (arrays_bound array binding) b.variables a.variables vs
+  (frames_say_same (gap a.facts) a.variables b.variables a.references b.references (length b.facts.ranges) (Some binding) (sym is) number array keep nulls) so.have;
+  references = λ r known at. by r known at;
+  apart = apart_kept heap number array a.references a.apart binding.references b.apart so.entries so.differ third.1;
+}
+  where
+    keep : KeepGaps (gap a.facts) number
+    keep s t k told = gap_allowed a.facts number s t k told allowed
+
+    nulls : NullsAreNull a.references array
+    nulls r null = null_known (nullness_at a.references r) (array r) (so.entries r).agrees null
+
+    bound : BindingSo number a.references b.references binding
+    bound = binding_so (gap a.facts) number a.variables b.variables a.references b.references (length b.facts.ranges) binding keep so.origin_is so.fit so.lengths is
+
+    first : (all_entailed a.references b.references (drop 1 binding.references) ≡ true)
+        × ((numbers_follow a b binding && (definitions_follow a b binding && all_apart a.references a.apart binding.references b.apart)) ≡ true)
+    first = and_parts (all_entailed a.references b.references (drop 1 binding.references)) _ follows
+
+    second : (numbers_follow a b binding ≡ true) × ((definitions_follow a b binding && all_apart a.references a.apart binding.references b.apart) ≡ true)
+    second = and_parts (numbers_follow a b binding) _ first.1
+
+    third : (definitions_follow a b binding ≡ true) × (all_apart a.references a.apart binding.references b.apart ≡ true)
+    third = and_parts (definitions_follow a b binding) _ second.1
+
+    lengths_bound : AreLengthsBound number binding a.references b.references (drop 1 binding.references)
+    lengths_bound = frames_have_same_lengths (gap a.facts) a.variables b.variables a.references b.references (length b.facts.ranges) (Some binding) (sym is) number keep
+
+    by : (r : ℕ) (known : Reference Unknown) → states.reference_at b.references r ≡ Some known → IsSo heap (numbers_bound number binding) known (arrays_bound array binding r)
+    by zero known at = absurd cc
+    by (suc i) known at =
+        let here = followed heap number array a.references b.references binding (drop 1 binding.references) i known so.entries first.0 lengths_bound at in
+        record {
+          fits = bound_fits heap number array a.references b.references binding i known so.null so.entries bound
+          (ap place_in (sym (same_entry b.references (suc i)) ∙ at));
+          agrees = subst (λ r. Agrees known.nullness (is_no_array (array r))) (bound_at binding.references i) here.agrees;
+          length_is = here.length_is ∙ ap (λ r. length_of_array heap (array r)) (bound_at binding.references i);
+        }
