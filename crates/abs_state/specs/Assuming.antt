@@ -1,5 +1,5 @@
 -- What is known where a comparison is assumed to hold, or not to hold. None: nothing is reached then.
-use Rattle.std.specs.Prelude.{ℕ, zero, suc, ◌==◌, ◌≤◌, ℤ, pos, Bool, true, false, ◌&&◌, List, [], ◌∷◌, length, Option, Some, None, if◌then◌else◌}
+use Rattle.std.specs.Prelude.{ℕ, zero, suc, ◌==◌, ◌-◌, pos, set, Bool, true, false, ◌&&◌, List, [], ◌∷◌, Option, Some, None, if◌then◌else◌}
 use Rattle.std.specs.Option.{option_and_then, option_map}
 use Rattle.std.specs.Ordering.{int_eq}
 use Rattle.alias_facts.specs.declared.nullness.Nullness.{Nullness}
@@ -15,7 +15,7 @@ use Rattle.symbolic_values.specs.Names.{same_flag}
 use Rattle.symbolic_values.specs.declared.def.Def.{Def}
 use Rattle.symbolic_values.specs.declared.def.Def.TheVariants.{Eq, Lt, LtUn, NullTest, Sub}
 use Rattle.abs_state.specs.Comparing.{null_tested}
-use Rattle.abs_state.specs.StateFacts.{StateFacts, nullness_at}
+use Rattle.abs_state.specs.StateFacts.{StateFacts, nullness_at, reference_at}
 use Rattle.frame_names.specs.declared.reference.Reference.{Reference}
 use Rattle.abs_state.specs.declared.reference.Unknown.{Unknown}
 use Rattle.abs_state.specs.declared.test.Test.{Test}
@@ -34,15 +34,13 @@ contradicts May is = false
 contradicts NotNull is = is
 contradicts Null is = same_flag is false
 
-abbrev pub set_nullness : List (Reference Unknown) → ℕ → Nullness → List (Reference Unknown)
-set_nullness [] i told = []
-set_nullness (r ∷ rs) zero told = record r { nullness = told } ∷ rs
-set_nullness (r ∷ rs) (suc i) told = r ∷ set_nullness rs i told
+abbrev pub with_told : StateFacts → ℕ → Nullness → Option (Reference Unknown) → StateFacts
+with_told known r told None = known
+with_told known r told (Some reference) = record known { references = set known.references (r - 1) (record reference { nullness = told }) }
 
 -- That of reference 0 is never changed.
-abbrev pub with_nullness : StateFacts → ℕ → Nullness → StateFacts
-with_nullness known zero told = known
-with_nullness known (suc r) told = record known { references = set_nullness known.references r told }
+unfoldable pub with_nullness : StateFacts → ℕ → Nullness → StateFacts
+with_nullness known r told = with_told known r told (reference_at known.references r)
 
 -- A reference is null, or is not.
 unfoldable pub with_null : ℕ → Bool → StateFacts → Option StateFacts
@@ -118,26 +116,20 @@ with_test (IsNull r is) known = with_null r is known
 
 -- A test is so, and then what follows from it, in so many steps.
 unfoldable pub with_steps : ℕ → Option Test → StateFacts → Option StateFacts
-with_steps steps None known = Some known
-with_steps zero (Some test) known = Some known
+with_steps zero test known = Some known
+with_steps (suc steps) None known = Some known
 with_steps (suc steps) (Some test) known = option_and_then (with_steps steps (following known test)) (with_test test known)
 
 -- What a test names is there.
 abbrev pub IsNamedTest : StateFacts → Test → Type 0
 IsNamedTest known (Compares op a b holds) = IsNamed known.facts a × IsNamed known.facts b
-IsNamedTest known (IsNull r is) = r ≤ length known.references
+IsNamedTest known (IsNull r is) = Unit {0}
 
 abbrev pub AreNamedTests : StateFacts → Option Test → Type 0
 AreNamedTests known None = Unit {0}
 AreNamedTests known (Some test) = IsNamedTest known test
 
 -- ---- comparisons
-
--- What a variable may have is there.
-abbrev pub IsThere : StateFacts → Var → Type 0
-IsThere known (vars.Number e) = IsNamed known.facts e
-IsThere known (vars.Reference r) = r ≤ length known.references
-IsThere known vars.Text = Unit {0}
 
 abbrev pub is_equality : CmpOp → Bool
 is_equality comparisons.Eq = true

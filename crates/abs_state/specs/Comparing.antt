@@ -1,6 +1,5 @@
 -- What comparisons push (ECMA-335 III.3.21 to III.3.26). None: nothing is reached then.
-use Rattle.std.specs.Prelude.{ℕ, zero, suc, ◌==◌, pos, Bool, true, false, ◌&&◌, ◌||◌, [], ◌∷◌, ◌++◌, Option, Some, None, if◌then◌else◌}
-use Rattle.std.specs.Option.{option_map}
+use Rattle.std.specs.Prelude.{ℕ, ◌==◌, pos, Bool, true, false, ◌&&◌, ◌||◌, [], ◌∷◌, Option, Some, None, if◌then◌else◌}
 use Rattle.alias_facts.specs.declared.nullness.Nullness.{Nullness}
 use Rattle.alias_facts.specs.declared.nullness.Nullness.TheVariants.{May, NotNull, Null}
 use Rattle.cil_model.specs.Arithmetic.{truth}
@@ -8,7 +7,9 @@ use Rattle.cil_model.specs.declared.instruction.BinOp.{BinOp}
 use Rattle.cil_model.specs.declared.instruction.BinOp.TheVariants as operators
 use Rattle.domain_api.specs.declared.expr.Expr.{Expr}
 use Rattle.number_facts.specs.Comparisons.{compared}
-use Rattle.number_facts.specs.Fresh.{Made, defined, fresh}
+use Rattle.interval_domain.specs.Interval.{between}
+use Rattle.number_facts.specs.Fresh.{noted}
+use Rattle.number_facts.specs.declared.relation.Relation.TheVariants.{Is}
 use Rattle.number_spans.specs.Constants.{constant}
 use Rattle.symbolic_values.specs.Names.{same_flag}
 use Rattle.symbolic_values.specs.declared.def.Def.{Def}
@@ -51,34 +52,31 @@ same_known known r q =
 abbrev pub truth_expr : Bool → Bool → Expr
 truth_expr holds is = constant (truth (same_flag holds is))
 
-abbrev pub with_known : Bool → Bool → StateFacts → Option StateFacts
-with_known holds is known = Some (pushed known (vars.Number (truth_expr holds is)))
+abbrev pub with_known : Bool → Bool → StateFacts → StateFacts
+with_known holds is known = pushed known (vars.Number (truth_expr holds is))
 
--- A truth that is not known, with what it is the truth of.
-abbrev pub made_as : Def → Made → Made
-made_as def made = record made { facts = defined made.facts made.expr.sym def }
+-- A truth that is not known is on top, with what it is the truth of.
+unfoldable pub with_defined : Def → StateFacts → StateFacts
+with_defined def known = on_top known (noted known.facts (between (pos 0) (pos 1)) (Is def ∷ []))
 
-unfoldable pub with_defined : Def → StateFacts → Option StateFacts
-with_defined def known = option_map (λ made. on_top known (made_as def made)) (fresh known.facts (pos 0) (pos 1) None [])
-
-abbrev pub with_null_known : ℕ → Bool → StateFacts → Option Bool → Option StateFacts
+abbrev pub with_null_known : ℕ → Bool → StateFacts → Option Bool → StateFacts
 with_null_known r is known None = with_defined (NullTest r is) known
 with_null_known r is known (Some holds) = with_known holds is known
 
 -- Whether a reference is null, or is not, is on top.
-unfoldable pub with_null_test : ℕ → Bool → StateFacts → Option StateFacts
+unfoldable pub with_null_test : ℕ → Bool → StateFacts → StateFacts
 with_null_test r is known = with_null_known r is known (null_known (nullness_at known r))
 
 abbrev pub with_same_known : Bool → StateFacts → Option Bool → Option StateFacts
 with_same_known is known None = with_number (pos 0) (pos 1) known
-with_same_known is known (Some holds) = with_known holds is known
+with_same_known is known (Some holds) = Some (with_known holds is known)
 
 -- Whether two references are the same, or are not, is on top.
 unfoldable pub with_same : ℕ → ℕ → Bool → StateFacts → Option StateFacts
 with_same r q is known = with_same_known is known (same_known known r q)
 
 abbrev pub with_tested : ℕ → ℕ → Bool → StateFacts → Option ℕ → Option StateFacts
-with_tested r q is known (Some tested) = with_null_test tested is known
+with_tested r q is known (Some tested) = Some (with_null_test tested is known)
 with_tested r q is known None = with_same r q is known
 
 -- ---- both

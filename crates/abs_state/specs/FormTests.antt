@@ -1,5 +1,5 @@
 -- The forms of what is known, as tests.
-use Rattle.std.specs.Prelude.{ℕ, ◌+◌, ◌==◌, nat_le, nat_lt, ℤ, pos, negsuc, Bool, true, false, ◌&&◌, int_le, int_lt, List, [], ◌∷◌, Option, Some, None, length, if◌then◌else◌}
+use Rattle.std.specs.Prelude.{ℕ, ◌+◌, ◌==◌, nat_le, ℤ, pos, negsuc, Bool, true, false, ◌&&◌, int_le, int_lt, List, [], ◌∷◌, Option, Some, None, length}
 use Rattle.std.specs.List.{list_all}
 use Rattle.alias_facts.specs.PairsOf.{Pair}
 use Rattle.cil_model.specs.Arithmetic.{LEAST, GREATEST}
@@ -56,7 +56,7 @@ abbrev pub is_bound : ℕ → BoundRow → Bool
 is_bound symbols row = nat_le row.s symbols && nat_le row.t symbols
 
 abbrev pub is_pair : ℕ → Pair → Bool
-is_pair references p = nat_le p.1 references
+is_pair references p = nat_le p.0 references && nat_le p.1 references
 
 -- Symbols rise, from a least one on.
 abbrev pub rise_from : ℕ → List (ℕ × Def) → Bool
@@ -73,12 +73,19 @@ abbrev pub is_empty : StateParts → Bool
 is_empty parts =
     is_none parts.variables && (is_none parts.ranges && (is_none parts.definitions && (is_none parts.bounds && (is_none parts.references && is_none parts.apart))))
 
-unfoldable pub has_form : StateParts → Bool
-has_form parts =
+-- Of symbols: ranges are of int32, definitions rise and name what is there, and so do bounds.
+unfoldable pub has_numbers : StateParts → Bool
+has_numbers parts =
     list_all is_narrow parts.ranges
     && (are_rising parts.definitions
-    && (list_all (is_definition (length parts.ranges) (length parts.references)) parts.definitions
-    && (list_all (is_bound (length parts.ranges)) parts.bounds
-    && (list_all (is_var (length parts.ranges) (length parts.references)) parts.variables
-    && (list_all (is_reference (length parts.ranges)) parts.references
-    && list_all (is_pair (length parts.references)) parts.apart)))))
+    && (list_all (is_definition (length parts.ranges) (length parts.references)) parts.definitions && list_all (is_bound (length parts.ranges)) parts.bounds))
+
+abbrev pub has_variables : StateParts → Bool
+has_variables parts = list_all (is_var (length parts.ranges) (length parts.references)) parts.variables
+
+-- Of references: lengths are there, and so are those that are apart.
+unfoldable pub has_references : StateParts → Bool
+has_references parts = list_all (is_reference (length parts.ranges)) parts.references && list_all (is_pair (length parts.references)) parts.apart
+
+abbrev pub has_form : StateParts → Bool
+has_form parts = has_numbers parts && (has_variables parts && has_references parts)

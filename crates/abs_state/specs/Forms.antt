@@ -1,16 +1,16 @@
 -- The form of what is known: it speaks of what is there.
-use Rattle.std.specs.Prelude.{◌≡◌, ℕ, ◌<◌, ◌≤◌, List, [], ◌∷◌, All, length, Option, Some, None}
+use Rattle.std.specs.Prelude.{ℕ, ◌<◌, ◌≤◌, List, [], ◌∷◌, length}
 use Rattle.std.specs.List.{AllByRecursion}
 use Rattle.alias_facts.specs.PairsOf.{Pair}
 use Rattle.cil_model.specs.declared.place.Place.{Place}
 use Rattle.cil_model.specs.declared.place.Place.TheVariants as places
 use Rattle.domain_api.specs.declared.expr.Expr.{Expr}
-use Rattle.number_facts.specs.Facts.{Facts, AreNarrow, IsNamed}
+use Rattle.number_facts.specs.Facts.{AreNarrow}
 use Rattle.number_facts.specs.Holds.{AreNamed}
 use Rattle.symbolic_values.specs.Pairing.{IsNear}
 use Rattle.symbolic_values.specs.declared.def.Def.{Def}
 use Rattle.symbolic_values.specs.declared.def.Def.TheVariants.{NullTest}
-use Rattle.abs_state.specs.StateFacts.{StateFacts, State}
+use Rattle.abs_state.specs.StateFacts.{StateFacts}
 use Rattle.frame_names.specs.declared.reference.Reference.{Reference}
 use Rattle.abs_state.specs.declared.reference.Unknown.{Unknown}
 use Rattle.frame_names.specs.declared.var.Var.{Var}
@@ -46,6 +46,10 @@ abbrev pub AreRising : List (ℕ × Def) → Type 0
 AreRising [] = Unit {0}
 AreRising (d ∷ definitions) = AllByRecursion (λ later. d.0 < later.0) definitions × AreRising definitions
 
+-- Both references of a pair are there, of so many.
+abbrev pub EndsBy : ℕ → Pair → Type 0
+EndsBy references p = (p.0 ≤ references) × (p.1 ≤ references)
+
 -- Ranges are of int32, and what is named is there.
 pub record HasForm (known : StateFacts) : Type 0 where
   pub narrow : AreNarrow known.facts
@@ -54,7 +58,7 @@ pub record HasForm (known : StateFacts) : Type 0 where
   pub tests : AllByRecursion (λ d. TestsOf (length known.references) d.1) known.facts.definitions
   pub variables : AllByRecursion (IsVar (length known.facts.ranges) (length known.references)) known.variables
   pub references : AllByRecursion (IsReference (length known.facts.ranges)) known.references
-  pub pairs : AllByRecursion (λ p. p.1 ≤ length known.references) known.apart
+  pub pairs : AllByRecursion (EndsBy (length known.references)) known.apart
 
 -- What is handed to a call is there.
 abbrev pub HasVar : StateFacts → Var → Type 0

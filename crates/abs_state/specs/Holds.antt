@@ -1,5 +1,5 @@
 -- What a state says of values over a heap, and of a point of a run.
-use Rattle.std.specs.Prelude.{◌≡◌, ℕ, ◌≤◌, ℤ, pos, true, List, [], ◌∷◌, ◌++◌, length, reverse, slice_get, Option, Some, None}
+use Rattle.std.specs.Prelude.{◌≡◌, ℕ, ℤ, pos, true, List, [], ◌∷◌, ◌++◌, length, reverse, slice_get, Option, Some, None}
 use Rattle.std.specs.Option.{option_map_or}
 use Rattle.alias_facts.specs.Arrays.{AllDiffer, is_no_array}
 use Rattle.alias_facts.specs.NullnessOf.{Agrees}

@@ -14,7 +14,7 @@ use Rattle.cil_model.specs.declared.place.Place.{Place}
 use Rattle.domain_api.specs.declared.expr.Expr.{Expr}
 use Rattle.symbolic_values.specs.Worth.{worth}
 use Rattle.abs_state.specs.Holds.{HasValue, HoldsIn}
-use Rattle.abs_state.specs.StateFacts.{StateFacts, State}
+use Rattle.abs_state.specs.StateFacts.{State}
 use Rattle.frame_names.specs.declared.var.Var.{Var}
 
 abbrev pub symbols_in : State → ℕ
@@ -49,7 +49,7 @@ KeepsPop before after =
 abbrev pub KeepsPut : ℕ → Var → Place → State → State → Type 0
 KeepsPut i v place before after =
     (vs : List Value) (heap : Heap) (number : ℕ → ℤ) (array : ℕ → Option ℕ) (value stored : Value) → HoldsIn before vs heap number array
-    → HasValue number array v value → machine.put heap place value ≡ Some stored → IsValue heap stored
+    → HasValue number array v value → machine.put heap place value ≡ Some stored
     → HoldsOn before after (set vs i stored) heap number array
 
 -- ---- comparisons

@@ -14,3 +14,4 @@ pub mod Lattice
 pub mod LatticeInclusion
 pub mod LatticeKeeps
 pub mod LatticeAlike
+pub mod Laws

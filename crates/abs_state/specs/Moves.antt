@@ -11,7 +11,7 @@ use Rattle.number_facts.specs.Ends.{range_of}
 use Rattle.number_facts.specs.Facts.{Facts, IsNamed}
 use Rattle.number_facts.specs.Fresh.{Made, fresh}
 use Rattle.number_spans.specs.declared.span.Span.{Span}
-use Rattle.abs_state.specs.StateFacts.{StateFacts, State, reference_at}
+use Rattle.abs_state.specs.StateFacts.{StateFacts, reference_at}
 use Rattle.frame_names.specs.declared.reference.Reference.{Reference}
 use Rattle.abs_state.specs.declared.reference.Unknown.{Unknown}
 use Rattle.frame_names.specs.declared.var.Var.{Var}

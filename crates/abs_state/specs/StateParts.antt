@@ -47,12 +47,16 @@ parts_of (Some known) = record {
   apart = known.apart;
 }
 
--- What is known has its form, and bounds and pairs are in order.
-pub record IsKnown (known : StateFacts) : Type 0 where
-  pub form : HasForm known
+-- Bounds and pairs are in order, each once.
+pub record AreOrdered (known : StateFacts) : Type 0 where
   pub bounds : AreBounds known.facts.bounds
   pub in_order : AreInOrder known.apart
   pub proper : AreProper known.apart
+
+-- What is known has its form, and bounds and pairs are in order.
+pub record IsKnown (known : StateFacts) : Type 0 where
+  pub form : HasForm known
+  pub ordered : AreOrdered known
 
 -- They are the parts of a state: something is reached and what is known is in order, or nothing is reached and nothing
 -- is listed.

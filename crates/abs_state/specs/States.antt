@@ -1,5 +1,5 @@
 -- What calls do to a state: where nothing is reached it stays so.
-use Rattle.std.specs.Prelude.{ℕ, Bool, Some, Option}
+use Rattle.std.specs.Prelude.{ℕ, Bool}
 use Rattle.std.specs.Option.{option_and_then, option_map}
 use Rattle.cil_model.specs.declared.instruction.BinOp.{BinOp}
 use Rattle.cil_model.specs.declared.instruction.CmpOp.{CmpOp}
@@ -9,7 +9,7 @@ use Rattle.abs_state.specs.Assuming.{assumed}
 use Rattle.abs_state.specs.Calls.{with_call}
 use Rattle.abs_state.specs.Comparing.{with_comparison}
 use Rattle.abs_state.specs.Moves.{pushed, popped, with_put, with_item, with_stored, with_array}
-use Rattle.abs_state.specs.StateFacts.{StateFacts, State}
+use Rattle.abs_state.specs.StateFacts.{State}
 use Rattle.frame_names.specs.declared.var.Var.{Var}
 
 abbrev pub push : Var → State → State

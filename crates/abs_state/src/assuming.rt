@@ -4,9 +4,13 @@ ghost use Rattle.std.specs.Prelude.{◌≡◌, ◌≤◌, ◌-◌, true, length,
 ghost use Rattle.number_facts.specs.Assume.{contrary};
 ghost use Rattle.number_facts.specs.Facts.{IsNamed};
 ghost use Rattle.abs_state.specs.Assuming as rule;
+ghost use Rattle.abs_state.specs.Forms.{HasForm};
+ghost use Rattle.abs_state.specs.Moves.{IsNamedNumber};
+ghost use Rattle.abs_state.specs.StateFacts.{nullness_at};
 
 use crate::comparing::null_tested;
 use crate::known::Known;
+use crate::reference::Reference;
 use crate::test::Test;
 use frame_names::Var;
 use alias_facts::Nullness;
@@ -100,12 +104,13 @@ fn symbol_told(numbers: &Numbers, op: CmpOp, a: Expr, b: Expr, holds: bool) -> O
 }
 
 /// The definition of a symbol.
+#[tactic(auto, using(crate::proofs::Searching::defined_here, crate::proofs::Searching::defined_later, crate::proofs::Searching::defined_nowhere))]
 pub(crate) fn definition_at(definitions: &[(u32, Def)], symbol: u32) -> Option<Def>
     ensures { result ≡ rule.definition_at definitions.now symbol }
 {
-    for (defined, def) in definitions {
-        if *defined == symbol {
-            return Some(*def);
+    for definition in definitions {
+        if definition.0 == symbol {
+            return Some(definition.1);
         }
     }
     None
@@ -126,24 +131,50 @@ impl Known {
         told(def, so)
     }
 
+    /// Something is known of whether a reference is null. That of reference 0 is never changed.
+    #[tactic(auto, using(crate::proofs::Searching::reference_there), unfolding(crate::specs::Assuming::with_nullness))]
+    fn set_nullness(&mut self, r: u32, told: Nullness)
+        ensures { self.new ≡ rule.with_nullness self.old r told }
+    {
+        let Some(reference) = self.reference_at(r) else {
+            return;
+        };
+        self.references[r as usize - 1] = Reference {
+            place: reference.place,
+            nullness: told,
+            length: reference.length,
+            contents: reference.contents,
+        };
+    }
+
+    /// Returns whether a reference is known not to be as a test says.
+    fn contradicts(&self, r: u32, is: bool) -> bool
+        ensures { result ≡ rule.contradicts (nullness_at self.now r) is }
+    {
+        match self.nullness(r) {
+            Nullness::May => false,
+            Nullness::NotNull => is,
+            Nullness::Null => !is,
+        }
+    }
+
     /// A reference is null, or is not. False: nothing is reached.
     #[tactic(auto, unfolding(crate::specs::Assuming::with_null))]
     fn assume_null(&mut self, r: u32, is: bool) -> bool
-        requires { r ≤ length self.old.references }
         ensures reached { result ≡ is_some (rule.with_null r is self.old) }
         ensures ok { result ≡ true → rule.with_null r is self.old ≡ Some self.new }
     {
-        let (known, contrary) = if is {
-            (Nullness::Null, Nullness::NotNull)
-        } else {
-            (Nullness::NotNull, Nullness::Null)
-        };
-        if self.nullness(r) == contrary {
+        if self.contradicts(r, is) {
             return false;
         }
-        if r != 0 {
-            self.references[r as usize - 1].nullness = known;
-        }
+        self.set_nullness(
+            r,
+            if is {
+                Nullness::Null
+            } else {
+                Nullness::NotNull
+            },
+        );
         true
     }
 
@@ -163,11 +194,14 @@ impl Known {
 
     /// A test is so, and what follows from it by definitions, in so many steps. False: nothing is reached. After an error
     /// numbers alone may have changed.
+    #[tactic(auto, using(crate::proofs::AssumptionForms::ready_behind), unfolding(crate::specs::Assuming::with_steps))]
     fn assume_steps(&mut self, steps: u32, test: Option<Test>) -> Result<bool, NoMemory>
-        requires { rule.AreNamedTests self.old test }
+        requires form { HasForm self.old }
+        requires named { rule.AreNamedTests self.old test }
         ensures reached { IfOk result (λ reached. reached ≡ is_some (rule.with_steps steps test self.old)) }
         ensures ok { IfOk result (λ reached. reached ≡ true → rule.with_steps steps test self.old ≡ Some self.new) }
         ensures err { OnErr result (record self.new { facts = self.old.facts } ≡ self.old) }
+        ensures tested { OnErr result (is_some test ≡ true) }
     {
         let Some(test) = test else {
             return Ok(true);
@@ -184,16 +218,14 @@ impl Known {
 
     /// A comparison of numbers holds, with what follows from it by definitions. False: nothing is reached.
     ///
-    /// Cost: where a definition follows, what is known of numbers is copied, and put back where memory runs out.
-    fn assume_numbers(&mut self, test: Test) -> Result<bool, NoMemory>
-        requires { rule.IsNamedTest self.old test }
+    /// Cost: what is known of numbers is copied, and put back where memory runs out.
+    fn assume_all(&mut self, test: Test) -> Result<bool, NoMemory>
+        requires form { HasForm self.old }
+        requires named { rule.IsNamedTest self.old test }
         ensures reached { IfOk result (λ reached. reached ≡ is_some (rule.with_steps 9 (Some test) self.old)) }
         ensures ok { IfOk result (λ reached. reached ≡ true → rule.with_steps 9 (Some test) self.old ≡ Some self.new) }
         ensures err { OnErr result (self.new ≡ self.old) }
     {
-        if self.following(&test).is_none() {
-            return self.assume_test(&test);
-        }
         let before = self.numbers.copy(*self.variables.allocator())?;
         match self.assume_steps(STEPS, Some(test)) {
             Ok(reached) => Ok(reached),
@@ -204,10 +236,23 @@ impl Known {
         }
     }
 
+    /// The same. Nothing is copied where no definition follows.
+    #[tactic(auto, using(crate::proofs::Stepping::steps_alone))]
+    fn assume_numbers(&mut self, test: Test) -> Result<bool, NoMemory>
+        requires form { HasForm self.old }
+        requires named { rule.IsNamedTest self.old test }
+        ensures reached { IfOk result (λ reached. reached ≡ is_some (rule.with_steps 9 (Some test) self.old)) }
+        ensures ok { IfOk result (λ reached. reached ≡ true → rule.with_steps 9 (Some test) self.old ≡ Some self.new) }
+        ensures err { OnErr result (self.new ≡ self.old) }
+    {
+        match self.following(&test) {
+            None => self.assume_test(&test),
+            Some(_) => self.assume_all(test),
+        }
+    }
+
     /// Two references are the same, or are not. False: nothing is reached.
     fn assume_same(&mut self, r: u32, q: u32, is: bool) -> bool
-        requires first { r ≤ length self.old.references }
-        requires second { q ≤ length self.old.references }
         ensures reached { result ≡ is_some (rule.with_same r q is self.old) }
         ensures ok { result ≡ true → rule.with_same r q is self.old ≡ Some self.new }
     {
@@ -219,16 +264,29 @@ impl Known {
 
     /// A comparison holds, or does not. False: nothing is reached.
     #[tactic(auto, unfolding(crate::specs::Assuming::assumed))]
-    pub(crate) fn assume(&mut self, op: CmpOp, a: Var, b: Var, holds: bool) -> Result<bool, NoMemory>
-        requires first { rule.IsThere self.old a }
-        requires second { rule.IsThere self.old b }
+    pub(crate) fn assume(
+        &mut self,
+        op: CmpOp,
+        a: Var,
+        b: Var,
+        holds: bool,
+    ) -> Result<bool, NoMemory>
+        requires form { HasForm self.old }
+        requires first { IsNamedNumber self.old a }
+        requires second { IsNamedNumber self.old b }
         ensures reached { IfOk result (λ reached. reached ≡ is_some (rule.assumed op a b holds self.old)) }
         ensures ok { IfOk result (λ reached. reached ≡ true → rule.assumed op a b holds self.old ≡ Some self.new) }
         ensures err { OnErr result (self.new ≡ self.old) }
     {
         match (a, b) {
-            (Var::Number(x), Var::Number(y)) => self.assume_numbers(Test::Compares(op, x, y, holds)),
-            (Var::Reference(r), Var::Reference(q)) => Ok(self.assume_same(r, q, (op == CmpOp::Eq) == holds)),
+            (Var::Number(x), Var::Number(y)) => self.assume_numbers(Test::Compares(
+                op, x, y, holds,
+            )),
+            (Var::Reference(r), Var::Reference(q)) => Ok(self.assume_same(
+                r,
+                q,
+                (op == CmpOp::Eq) == holds,
+            )),
             _ => Ok(true),
         }
     }

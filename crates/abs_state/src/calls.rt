@@ -34,10 +34,11 @@ impl Known {
     /// array that was passed, or a new one.
     ///
     /// Cost: each reference is compared with each that is passed.
+    #[tactic(auto, using(crate::proofs::Searching::apart_one_more, crate::proofs::Searching::apart_no_more))]
     fn apart_with_result(&self, passed: &[Var]) -> Result<Apart, NoMemory>
         ensures { IfOk result (λ apart. apart ≡
             rule.apart_with (rule.apart_from_all self.now passed.now) (length self.now.references + 1)
-                (length self.now.references) self.now.apart) }
+            (length self.now.references) self.now.apart) }
     {
         let result = self.next_reference()?;
         let mut apart = self.apart.copy(*self.variables.allocator())?;
@@ -75,7 +76,12 @@ impl Known {
 
     /// Pushes what a call gives to which these variables were passed. False: nothing is reached.
     #[tactic(auto, unfolding(crate::specs::Calls::with_call))]
-    pub(crate) fn forget(&mut self, first: usize, args: usize, place: Place) -> Result<bool, NoMemory>
+    pub(crate) fn forget(
+        &mut self,
+        first: usize,
+        args: usize,
+        place: Place,
+    ) -> Result<bool, NoMemory>
         requires { first + args ≤ length self.old.variables }
         ensures reached { IfOk result (λ reached. reached ≡ is_some (rule.with_call first args place self.old)) }
         ensures ok { IfOk result (λ reached. reached ≡ true → rule.with_call first args place self.old ≡ Some self.new) }

@@ -1,7 +1,7 @@
 //! What comparisons push.
 
-ghost use Rattle.std.specs.Prelude.{◌≡◌, ◌≤◌, true, length, IfOk, OnOk, OnErr, Some, is_some};
-ghost use Rattle.cil_model.specs.declared.instruction.BinOp.{BinOp};
+ghost use Rattle.std.specs.Prelude.{◌≡◌, ◌≤◌, ◌+◌, pos, true, length, IfOk, OnOk, OnErr, Some, is_some};
+ghost use Rattle.interval_domain.specs.Interval.{between};
 ghost use Rattle.number_facts.specs.Facts.{IsNamed};
 ghost use Rattle.abs_state.specs.Comparing as rule;
 ghost use Rattle.abs_state.specs.Moves.{IsNamedNumber};
@@ -10,7 +10,10 @@ use crate::known::Known;
 use frame_names::Var;
 use alias_facts::Nullness;
 use cil_model::BinOp;
-use domain_api::{Expr, NoMemory};
+use domain_api::{Expr, NoMemory, Values};
+use interval_domain::Range;
+use number_facts::Numbers;
+use std::alloc::AllocError;
 use symbolic_values::Def;
 
 /// The reference that is compared with null. None where both are other references.
@@ -45,6 +48,21 @@ fn truth(holds: bool, is: bool) -> Expr
         sym: 0,
         k: i64::from(holds == is),
     }
+}
+
+/// The numbers of a truth.
+#[tactic(auto, using(number_spans::proofs::NoNumbers::hull_of_bits))]
+fn bit() -> Range
+    ensures { result ≡ between (pos 0) (pos 1) }
+{
+    Range::constant(0).hull(&Range::constant(1))
+}
+
+/// The number that the next symbol gets.
+fn next_symbol(numbers: &Numbers) -> Result<u32, NoMemory>
+    ensures { IfOk result (λ sym. sym ≡ length numbers.now.ranges + 1) }
+{
+    u32::try_from(numbers.ranges.len() + 1).map_err(|_| AllocError)
 }
 
 impl Known {
@@ -83,35 +101,31 @@ impl Known {
         }
     }
 
-    /// Pushes whether a reference is null, or is not.
-    #[tactic(auto, unfolding(crate::specs::Comparing::with_null_test))]
-    fn push_null_test(&mut self, r: u32, is: bool) -> Result<bool, NoMemory>
-        ensures reached { IfOk result (λ reached. reached ≡ is_some (rule.with_null_test r is self.old)) }
-        ensures ok { IfOk result (λ reached. reached ≡ true → rule.with_null_test r is self.old ≡ Some self.new) }
-        ensures err { OnErr result (self.new ≡ self.old) }
-    {
-        if let Some(holds) = null_known(self.nullness(r)) {
-            self.push(Var::Number(truth(holds, is)))?;
-            return Ok(true);
-        }
-        self.push_defined(Def::NullTest(r, is))
-    }
-
     /// Pushes a truth that is not known, with what it is the truth of.
-    #[tactic(auto, unfolding(crate::specs::Comparing::with_defined))]
-    fn push_defined(&mut self, def: Def) -> Result<bool, NoMemory>
-        ensures reached { IfOk result (λ reached. reached ≡ is_some (rule.with_defined def self.old)) }
-        ensures ok { IfOk result (λ reached. reached ≡ true → rule.with_defined def self.old ≡ Some self.new) }
+    #[tactic(auto, unfolding(crate::specs::Comparing::with_defined, number_facts::specs::Fresh::noted, number_facts::specs::Fresh::defined))]
+    fn push_defined(&mut self, def: Def) -> Result<(), NoMemory>
+        ensures ok { OnOk result (self.new ≡ rule.with_defined def self.old) }
         ensures err { OnErr result (self.new ≡ self.old) }
     {
+        let sym = next_symbol(&self.numbers)?;
         self.variables.reserve(1)?;
         self.numbers.definitions.reserve(1)?;
-        let Some(e) = self.numbers.fresh(0, 1, None)? else {
-            return Ok(false);
-        };
-        self.numbers.definitions.push((e.sym, def))?;
-        self.variables.push(Var::Number(e))?;
-        Ok(true)
+        self.numbers.ranges.push(bit())?;
+        self.numbers.definitions.push((sym, def))?;
+        self.variables.push(Var::Number(Expr { sym, k: 0 }))?;
+        Ok(())
+    }
+
+    /// Pushes whether a reference is null, or is not.
+    #[tactic(auto, unfolding(crate::specs::Comparing::with_null_test))]
+    fn push_null_test(&mut self, r: u32, is: bool) -> Result<(), NoMemory>
+        ensures ok { OnOk result (self.new ≡ rule.with_null_test r is self.old) }
+        ensures err { OnErr result (self.new ≡ self.old) }
+    {
+        match null_known(self.nullness(r)) {
+            Some(holds) => self.push(Var::Number(truth(holds, is))),
+            None => self.push_defined(Def::NullTest(r, is)),
+        }
     }
 
     /// Pushes whether two references other than 0 are the same, or are not.
@@ -143,7 +157,10 @@ impl Known {
                 Ok(true)
             }
             (Var::Reference(r), Var::Reference(q)) => match null_tested(r, q) {
-                Some(tested) => self.push_null_test(tested, op == BinOp::Ceq),
+                Some(tested) => {
+                    self.push_null_test(tested, op == BinOp::Ceq)?;
+                    Ok(true)
+                }
                 None => self.push_same(r, q, op == BinOp::Ceq),
             },
             _ => Ok(true),

@@ -31,10 +31,10 @@ impl Model for Known {
     ghost Value = { StateFacts };
 
     ghost view = { λ k. record {
-        variables = k.variables.items;
-        facts = k.numbers;
-        references = k.references.items;
-        apart = k.apart
+      variables = k.variables.items;
+      facts = k.numbers;
+      references = k.references.items;
+      apart = k.apart;
     } };
 }
 

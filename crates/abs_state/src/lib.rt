@@ -15,6 +15,7 @@ mod moves;
 mod parts;
 mod reference;
 mod state;
+mod steps;
 mod test;
 
 pub use parts::Parts;

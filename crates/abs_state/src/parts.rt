@@ -1,12 +1,9 @@
 //! A state as lists, and back.
 
-ghost use Rattle.std.specs.Prelude.{◌≡◌, ◌≤◌, ◌↔◌, true, length, IfOk, IfSome, IsSome, Some};
+ghost use Rattle.std.specs.Prelude.{◌≡◌, ◌↔◌, length, IfOk, IfSome, IsSome, Some};
 ghost use Rattle.std.specs.List.{list_all};
-ghost use Rattle.std.specs.Option.{ForSome};
 ghost use Rattle.abs_state.specs.FormTests as tests;
-ghost use Rattle.abs_state.specs.Forms.{HasForm};
-ghost use Rattle.abs_state.specs.StateFacts.{State};
-ghost use Rattle.abs_state.specs.StateParts.{AreParts, parts_of};
+ghost use Rattle.abs_state.specs.StateParts.{AreOrdered, AreParts, known_of, parts_of};
 
 use crate::known::Known;
 use crate::reference::Unknown;
@@ -48,13 +45,13 @@ impl Model for Parts {
     ghost Value = { StateParts };
 
     ghost view = { λ p. record {
-        reached = p.reached;
-        variables = p.variables.items;
-        ranges = p.ranges.items;
-        definitions = p.definitions.items;
-        bounds = p.bounds.items;
-        references = p.references.items;
-        apart = p.apart.items
+      reached = p.reached;
+      variables = p.variables.items;
+      ranges = p.ranges.items;
+      definitions = p.definitions.items;
+      bounds = p.bounds.items;
+      references = p.references.items;
+      apart = p.apart.items;
     } };
 }
 
@@ -141,24 +138,68 @@ impl Sizes {
         row.s as usize <= self.symbols && row.t as usize <= self.symbols
     }
 
-    /// Returns whether the higher reference of a pair is there.
+    /// Returns whether both references of a pair are there.
     fn has_pair(self, pair: &(u32, u32)) -> bool
         ensures { result ≡ tests.is_pair self.references pair.now }
     {
-        pair.1 as usize <= self.references
+        pair.0 as usize <= self.references && pair.1 as usize <= self.references
+    }
+
+    /// Returns whether what each variable has is there.
+    fn has_vars(self, variables: &[Var]) -> bool
+        ensures { result ≡ list_all (tests.is_var self.symbols self.references) variables.now }
+    {
+        variables.iter().all(|v| self.has_var(v))
+    }
+
+    /// Returns whether each reference is one of an array, and its length is there.
+    fn has_all_references(self, references: &[Reference<Unknown>]) -> bool
+        ensures { result ≡ list_all (tests.is_reference self.symbols) references.now }
+    {
+        references.iter().all(|r| self.has_reference(r))
+    }
+
+    /// Returns whether what each definition names is there.
+    fn has_definitions(self, definitions: &[(u32, Def)]) -> bool
+        ensures { result ≡ list_all (tests.is_definition self.symbols self.references) definitions.now }
+    {
+        definitions.iter().all(|d| self.has_definition(d))
+    }
+
+    /// Returns whether the symbols of each bound are there.
+    fn has_bounds(self, rows: &[BoundRow]) -> bool
+        ensures { result ≡ list_all (tests.is_bound self.symbols) rows.now }
+    {
+        rows.iter().all(|row| self.has_bound(row))
+    }
+
+    /// Returns whether the references of each pair are there.
+    fn has_pairs(self, pairs: &[(u32, u32)]) -> bool
+        ensures { result ≡ list_all (tests.is_pair self.references) pairs.now }
+    {
+        pairs.iter().all(|pair| self.has_pair(pair))
     }
 }
 
+/// Returns whether the numbers of each range are int32.
+fn are_narrow(ranges: &[Range]) -> bool
+    ensures { result ≡ list_all tests.is_narrow ranges.now }
+{
+    ranges.iter().all(is_narrow)
+}
+
 /// Returns whether each symbol is defined once at most, and they rise.
+#[tactic(auto, using(crate::proofs::Searching::rises_on, crate::proofs::Searching::falls_here, crate::proofs::Searching::rises_all))]
 fn are_rising(definitions: &[(u32, Def)]) -> bool
     ensures { result ≡ tests.are_rising definitions.now }
 {
     let mut least = 0;
-    for (symbol, _) in definitions {
-        if u64::from(*symbol) < least {
+    for definition in definitions {
+        let symbol = u64::from(definition.0);
+        if symbol < least {
             return false;
         }
-        least = u64::from(*symbol) + 1;
+        least = symbol + 1;
     }
     true
 }
@@ -176,25 +217,49 @@ impl Parts {
             && self.apart.is_empty()
     }
 
-    /// Returns whether what the lists name is there, and ranges are of int32.
+    /// How many symbols and references there are.
+    fn sizes(&self) -> Sizes
+        ensures symbols { result.symbols ≡ length self.now.ranges }
+        ensures references { result.references ≡ length self.now.references }
+    {
+        Sizes {
+            symbols: self.ranges.len(),
+            references: self.references.len(),
+        }
+    }
+
+    /// Returns whether ranges are of int32, and what is known of symbols names what is there.
+    #[tactic(auto, unfolding(crate::specs::FormTests::has_numbers))]
+    fn has_numbers(&self) -> bool
+        ensures { result ≡ tests.has_numbers self.now }
+    {
+        let sizes = self.sizes();
+        are_narrow(&self.ranges)
+            && are_rising(&self.definitions)
+            && sizes.has_definitions(&self.definitions)
+            && sizes.has_bounds(&self.bounds)
+    }
+
+    /// Returns whether what is known of references names what is there.
+    #[tactic(auto, unfolding(crate::specs::FormTests::has_references))]
+    fn has_references(&self) -> bool
+        ensures { result ≡ tests.has_references self.now }
+    {
+        let sizes = self.sizes();
+        sizes.has_all_references(&self.references) && sizes.has_pairs(&self.apart)
+    }
+
+    /// Returns whether ranges are of int32, and what is named is there.
     fn has_form(&self) -> bool
         ensures { result ≡ tests.has_form self.now }
     {
-        let sizes = Sizes {
-            symbols: self.ranges.len(),
-            references: self.references.len(),
-        };
-        self.ranges.iter().all(is_narrow)
-            && are_rising(&self.definitions)
-            && self.definitions.iter().all(|d| sizes.has_definition(d))
-            && self.bounds.iter().all(|row| sizes.has_bound(row))
-            && self.variables.iter().all(|v| sizes.has_var(v))
-            && self.references.iter().all(|r| sizes.has_reference(r))
-            && self.apart.iter().all(|pair| sizes.has_pair(pair))
+        self.has_numbers() && self.sizes().has_vars(&self.variables) && self.has_references()
     }
 
     /// What is known by these lists, where something is reached. None where bounds or pairs are not in order.
     fn known(&self, alloc: Global) -> Result<Option<Known>, NoMemory>
+        ensures value { IfOk result (λ made. IfSome made (λ known. known ≡ known_of self.now)) }
+        ensures some { IfOk result (λ made. IsSome made ↔ AreOrdered (known_of self.now)) }
     {
         let Some(bounds) = Bounds::of_rows(Vec::from_slice(alloc, self.bounds.as_slice())?) else {
             return Ok(None);
@@ -218,6 +283,8 @@ impl Parts {
 impl Known {
     /// The lists that this is made of.
     fn parts(&self, alloc: Global) -> Result<Parts, NoMemory>
+        ensures value { IfOk result (λ parts. parts ≡ parts_of (Some self.now)) }
+        ensures in_order { IfOk result (λ _. AreOrdered self.now) }
     {
         Ok(Parts {
             reached: true,
@@ -236,6 +303,8 @@ impl AbsState {
     ///
     /// Cost: that of putting the pairs of references in order, and else linear in the lengths of the lists.
     pub fn parts(&self, alloc: Global) -> Result<Parts, NoMemory>
+        ensures value { IfOk result (λ parts. parts ≡ parts_of self.now) }
+        ensures form { IfOk result (λ parts. AreParts parts) }
     {
         match &self.known {
             None => Ok(Parts {
@@ -255,6 +324,8 @@ impl AbsState {
     ///
     /// Cost: as of `parts`.
     pub fn of_parts(alloc: Global, parts: &Parts) -> Result<Option<AbsState>, NoMemory>
+        ensures value { IfOk result (λ made. IfSome made (λ state. parts_of state ≡ parts.now)) }
+        ensures exact { IfOk result (λ made. IsSome made ↔ AreParts parts.now) }
     {
         if !parts.reached {
             return Ok(if parts.is_empty() {

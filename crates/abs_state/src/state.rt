@@ -2,10 +2,12 @@
 
 ghost use Rattle.std.specs.Prelude.{◌≡◌, ◌+◌, ◌<◌, ◌≤◌, ◌↔◌, None, Some, IfOk, OnOk, OnErr, IsSome, IsTrue, is_some, length, slice_get};
 ghost use Rattle.std.specs.Option.{ForSome};
+ghost use Rattle.cil_model.specs.Comparisons.{comparison_of};
 ghost use Rattle.number_facts.specs.Facts.{IsNamed};
 ghost use Rattle.number_facts.specs.Ends.{range_of};
 ghost use Rattle.number_facts.specs.Gaps as numbers;
-ghost use Rattle.abs_state.specs.Forms.{HasForm, HasNumber, HasReference, HasVar};
+ghost use Rattle.abs_state.specs.Forms.{HasForm, HasNumber, HasReference, HasVar, IsArrayPlace};
+ghost use Rattle.abs_state.specs.Keeps.{KeepsAssumed, KeepsCall, KeepsComparison, KeepsLoad, KeepsNewArray, KeepsPop, KeepsPush, KeepsPut, KeepsStore};
 ghost use Rattle.abs_state.specs.StateFacts.{length_at, nullness_at, variables_in};
 ghost use Rattle.abs_state.specs.States as rule;
 
@@ -114,6 +116,7 @@ impl AbsState {
     }
 
     /// The length of a reference. That of reference 0 is 0.
+    #[tactic(auto, using(crate::proofs::AssumptionForms::length_number))]
     pub fn length(&self, r: u32) -> Expr
         requires reached { IsSome self.now }
         requires there { ForSome self.now (λ known. HasReference known r) }
@@ -149,13 +152,10 @@ impl AbsState {
     pub fn push(&mut self, v: Var) -> Result<(), NoMemory>
         requires { ForSome self.old (λ known. HasVar known v) }
         ensures ok { OnOk result (self.new ≡ rule.push v self.old) }
+        ensures keeps { OnOk result (KeepsPush v self.old self.new) }
         ensures err { OnErr result (self.new ≡ self.old) }
     {
-        let Some(known) = &mut self.known else {
-            return Ok(());
-        };
-        known.push(v)?;
-        Ok(())
+        self.push_var(v)
     }
 
     /// Takes the top of the stack, the last variable.
@@ -165,13 +165,10 @@ impl AbsState {
     /// Want of memory. This version takes none.
     pub fn pop(&mut self) -> Result<(), NoMemory>
         ensures ok { OnOk result (self.new ≡ rule.pop self.old) }
+        ensures keeps { OnOk result (KeepsPop self.old self.new) }
         ensures err { OnErr result (self.new ≡ self.old) }
     {
-        let Some(known) = &mut self.known else {
-            return Ok(());
-        };
-        known.pop();
-        Ok(())
+        self.pop_var()
     }
 
     /// Puts a value into variable i, which is of this type.
@@ -179,31 +176,22 @@ impl AbsState {
         requires there { ForSome self.old (λ known. i < length known.variables) }
         requires value { ForSome self.old (λ known. HasVar known v) }
         ensures ok { OnOk result (self.new ≡ rule.put i v place self.old) }
+        ensures keeps { OnOk result (KeepsPut i v place self.old self.new) }
         ensures err { OnErr result (self.new ≡ self.old) }
     {
-        let Some(known) = &mut self.known else {
-            return Ok(());
-        };
-        if !known.put(i as usize, v, place)? {
-            self.known = None;
-        }
-        Ok(())
+        self.put_var(i, v, place)
     }
 
     /// Pushes 1 where a comparison is true and 0 where it is false, or a number of both.
     pub fn compare(&mut self, op: BinOp, a: Var, b: Var) -> Result<(), NoMemory>
+        requires comparison { IsSome (comparison_of op) }
         requires first { ForSome self.old (λ known. HasVar known a) }
         requires second { ForSome self.old (λ known. HasVar known b) }
         ensures ok { OnOk result (self.new ≡ rule.compare op a b self.old) }
+        ensures keeps { OnOk result (KeepsComparison op a b self.old self.new) }
         ensures err { OnErr result (self.new ≡ self.old) }
     {
-        let Some(known) = &mut self.known else {
-            return Ok(());
-        };
-        if !known.compare(op, a, b)? {
-            self.known = None;
-        }
-        Ok(())
+        self.push_comparison(op, a, b)
     }
 
     /// Assumes that a comparison holds, or that it does not. Where it cannot, nothing is reached.
@@ -211,15 +199,10 @@ impl AbsState {
         requires first { ForSome self.old (λ known. HasVar known a) }
         requires second { ForSome self.old (λ known. HasVar known b) }
         ensures ok { OnOk result (self.new ≡ rule.assume op a b holds self.old) }
+        ensures keeps { OnOk result (KeepsAssumed op a b holds self.old self.new) }
         ensures err { OnErr result (self.new ≡ self.old) }
     {
-        let Some(known) = &mut self.known else {
-            return Ok(());
-        };
-        if !known.assume(op, a, b, holds)? {
-            self.known = None;
-        }
-        Ok(())
+        self.assume_comparison(op, a, b, holds)
     }
 
     /// Pushes the item of an array at an index. Nothing is known of what arrays hold: it may be any number of the
@@ -227,15 +210,10 @@ impl AbsState {
     pub fn load(&mut self, r: u32, _at: Expr) -> Result<(), NoMemory>
         requires { ForSome self.old (λ known. HasReference known r) }
         ensures ok { OnOk result (self.new ≡ rule.load r self.old) }
+        ensures keeps { OnOk result (KeepsLoad r self.old self.new) }
         ensures err { OnErr result (self.new ≡ self.old) }
     {
-        let Some(known) = &mut self.known else {
-            return Ok(());
-        };
-        if !known.load(r)? {
-            self.known = None;
-        }
-        Ok(())
+        self.push_item(r)
     }
 
     /// Stores a number into an array at an index. Nothing is known of what arrays hold: no variable and no reference
@@ -244,28 +222,21 @@ impl AbsState {
         requires there { ForSome self.old (λ known. HasReference known r) }
         requires value { ForSome self.old (λ known. HasNumber known value) }
         ensures ok { OnOk result (self.new ≡ rule.store r value self.old) }
+        ensures keeps { OnOk result (KeepsStore self.old self.new) }
         ensures err { OnErr result (self.new ≡ self.old) }
     {
-        let Some(known) = &mut self.known else {
-            return Ok(());
-        };
-        if !known.store(r, value)? {
-            self.known = None;
-        }
-        Ok(())
+        self.store_item(r, value)
     }
 
     /// Pushes a new array of this type and length.
     pub fn new_array(&mut self, place: Place, length: Expr) -> Result<(), NoMemory>
-        requires { ForSome self.old (λ known. HasNumber known length) }
+        requires place { IsArrayPlace place }
+        requires length { ForSome self.old (λ known. HasNumber known length) }
         ensures ok { OnOk result (self.new ≡ rule.new_array place length self.old) }
+        ensures keeps { OnOk result (KeepsNewArray place length self.old self.new) }
         ensures err { OnErr result (self.new ≡ self.old) }
     {
-        let Some(known) = &mut self.known else {
-            return Ok(());
-        };
-        known.new_array(place, length)?;
-        Ok(())
+        self.push_array(place, length)
     }
 
     /// Pushes what a call gives to which so many variables were passed, from the first one on: a value of this type, or
@@ -273,14 +244,9 @@ impl AbsState {
     pub fn forget(&mut self, first: u32, args: u32, place: Place) -> Result<(), NoMemory>
         requires { ForSome self.old (λ known. first + args ≤ length known.variables) }
         ensures ok { OnOk result (self.new ≡ rule.forget first args place self.old) }
+        ensures keeps { OnOk result (KeepsCall first args place self.old self.new) }
         ensures err { OnErr result (self.new ≡ self.old) }
     {
-        let Some(known) = &mut self.known else {
-            return Ok(());
-        };
-        if !known.forget(first as usize, args as usize, place)? {
-            self.known = None;
-        }
-        Ok(())
+        self.push_result(first, args, place)
     }
 }

@@ -4,3 +4,4 @@ pub mod ListSteps
 pub mod SaidLaws
 pub mod BindingLaws
 pub mod TableLaws
+pub mod NearLaws

@@ -7,3 +7,4 @@ pub mod Binding
 pub mod Following
 pub mod BoundMeaning
 pub mod Tables
+pub mod Fitting

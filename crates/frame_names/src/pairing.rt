@@ -1,7 +1,8 @@
 //! Pairing the frames of two states.
 
-ghost use Rattle.std.specs.Prelude.{◌≡◌, true, false, drop, length, IfOk, IfSome};
+ghost use Rattle.std.specs.Prelude.{◌≡◌, true, false, drop, length, IfOk, IfSome, ℕ, ℤ, Bool, IsSome, if◌then◌else◌};
 ghost use Rattle.frame_names.specs.Frames.{AreAlike, IsNearFrame, numbers_of};
+ghost use Rattle.frame_names.specs.Fitting.{AreInt32s};
 ghost use Rattle.frame_names.specs.Meaning.{HasBothLengths, SaysBoth};
 ghost use Rattle.frame_names.specs.Tables.{AgreeOnPlace, AreOfOnePlace};
 ghost use Rattle.std.specs.List.{AllByRecursion};
@@ -158,6 +159,9 @@ pub fn pair_frames<C>(
     requires second { IsNearFrame b.now.vars.now b.now.references.now }
     ensures value { IfOk result (λ frames. frames ≡
         paired_frames a.now.vars.now a.now.references.now b.now.vars.now b.now.references.now) }
+    ensures some { IfOk result (λ frames. (is_first : Bool) (number : ℕ → ℤ) →
+        AreInt32s number (if is_first then a.now.vars.now else b.now.vars.now)
+        (if is_first then a.now.references.now else b.now.references.now) → IsSome frames) }
     ensures says { IfOk result (λ frames. IfSome frames (SaysBoth a.now.vars.now b.now.vars.now)) }
     ensures lengths { IfOk result (λ frames.
         IfSome frames (HasBothLengths a.now.references.now b.now.references.now)) }
@@ -215,6 +219,8 @@ pub fn name_frame<C>(alloc: Global, frame: &Frame<C>) -> Result<Option<PairedFra
     requires { IsNearFrame frame.now.vars.now frame.now.references.now }
     ensures value { IfOk result (λ frames. frames ≡ paired_frames frame.now.vars.now frame.now.references.now
         frame.now.vars.now frame.now.references.now) }
+    ensures some { IfOk result (λ frames. (number : ℕ → ℤ) →
+        AreInt32s number frame.now.vars.now frame.now.references.now → IsSome frames) }
     ensures says { IfOk result (λ frames. IfSome frames (SaysBoth frame.now.vars.now frame.now.vars.now)) }
     ensures lengths { IfOk result (λ frames.
         IfSome frames (HasBothLengths frame.now.references.now frame.now.references.now)) }

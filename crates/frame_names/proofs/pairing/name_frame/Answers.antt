@@ -1,5 +1,7 @@
+use Rattle.std.proofs.Common.{true}
 use Rattle.std.proofs.lemmas.Result.{IfOk-weaker}
 use Rattle.frame_names.proofs.FrameLemmas.{alike_itself}
+use Rattle.frame_names.proofs.NearLaws.{frames_there}
 use Rattle.frame_names.proofs.SaidLaws.{frames_have_lengths, frames_say}
 use Rattle.frame_names.proofs.pairing.name_frame.Goals as goal
 
@@ -8,3 +10,10 @@ returns-clause-says g c = IfOk-weaker c.own.result _ _ (λ frames is. frames_say
 
 pub returns-clause-lengths : goal.returns-clause-lengths
 returns-clause-lengths g c = IfOk-weaker c.own.result _ _ (λ frames is. frames_have_lengths c.args.frame.now.vars.now c.args.frame.now.vars.now c.args.frame.now.references.now c.args.frame.now.references.now frames (alike_itself c.args.frame.now.vars.now) is) c.own.ensures
+
+pub returns-clause-some : goal.returns-clause-some
+returns-clause-some g c =
+    IfOk-weaker c.own.result _ _
+    (λ frames is. λ number fit. frames_there c.args.frame.now.vars.now c.args.frame.now.vars.now c.args.frame.now.references.now c.args.frame.now.references.now frames
+    true number (alike_itself c.args.frame.now.vars.now) is fit)
+    c.own.ensures

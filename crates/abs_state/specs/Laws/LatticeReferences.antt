@@ -30,7 +30,7 @@ use Rattle.abs_state.specs.Holds.{AreSo, FitsArray, IsSo, length_of_array}
 use Rattle.abs_state.specs.LatticeParts.{unknown_items}
 use Rattle.abs_state.specs.StateFacts as states
 use Rattle.abs_state.specs.declared.reference.Unknown.{Unknown}
-use Rattle.abs_state.proofs.LatticeFrames.{IsEntry}
+use Rattle.abs_state.specs.Laws.LatticeFrames.{IsEntry}
 
 -- ---- one new reference
 

@@ -30,7 +30,7 @@ use Rattle.abs_state.specs.LatticeKeeps.{AreNoneBeyond, IsMachineNumber}
 use Rattle.abs_state.specs.StateFacts as states
 use Rattle.abs_state.specs.StateFacts.{StateFacts}
 use Rattle.abs_state.specs.declared.reference.Unknown.{Unknown}
-use Rattle.abs_state.proofs.LatticeUses.{AllFit}
+use Rattle.abs_state.specs.Laws.LatticeUses.{AllFit}
 
 -- ---- variables
 

@@ -48,11 +48,11 @@ use Rattle.abs_state.specs.LatticeParts.{numbers_known}
 use Rattle.abs_state.specs.StateFacts as states
 use Rattle.abs_state.specs.StateFacts.{StateFacts}
 use Rattle.abs_state.specs.declared.reference.Unknown.{Unknown}
-use Rattle.abs_state.proofs.LatticeBinding.{BindingSo, IsBoundWell, binding_so}
-use Rattle.abs_state.proofs.LatticeDefinitions.{definition_so}
-use Rattle.abs_state.proofs.LatticeFrames.{IsEntry, have_same, same_entry}
-use Rattle.abs_state.proofs.LatticeMerging.{SideSo, new_allowed}
-use Rattle.abs_state.proofs.LatticeReferences.{cannot_differ, fits_as, none_fits}
+use Rattle.abs_state.specs.Laws.LatticeBinding.{BindingSo, IsBoundWell, binding_so}
+use Rattle.abs_state.specs.Laws.LatticeDefinitions.{definition_so}
+use Rattle.abs_state.specs.Laws.LatticeFrames.{IsEntry, have_same, same_entry}
+use Rattle.abs_state.specs.Laws.LatticeMerging.{SideSo, new_allowed}
+use Rattle.abs_state.specs.Laws.LatticeReferences.{cannot_differ, fits_as, none_fits}
 
 same_some : {X : Type 0} (x y : X) → Some x ≡ Some y → x ≡ y
 same_some x y same = cc

@@ -23,9 +23,9 @@ use Rattle.abs_state.specs.LatticeAlike.{AreLike}
 use Rattle.abs_state.specs.LatticeParts.{numbers_known}
 use Rattle.abs_state.specs.StateFacts.{StateFacts, both_of_same_place, reference_at}
 use Rattle.abs_state.specs.declared.reference.Unknown.{Unknown}
-use Rattle.abs_state.proofs.LatticeDefinitions.{both_says, one_says}
-use Rattle.abs_state.proofs.LatticeMerging.{SideSo, arrays_of, frame, frame_made, keys_are_int32, later_of, new_holds}
-use Rattle.abs_state.proofs.LatticeReferences.{joined_differ, kept_differ}
+use Rattle.abs_state.specs.Laws.LatticeDefinitions.{both_says, one_says}
+use Rattle.abs_state.specs.Laws.LatticeMerging.{SideSo, arrays_of, frame, frame_made, keys_are_int32, later_of, new_holds}
+use Rattle.abs_state.specs.Laws.LatticeReferences.{joined_differ, kept_differ}
 
 -- What a side knows of numbers is kept by a rule, whatever the keys.
 abbrev pub KeepsSide : Bool → NumberRule → StateFacts → StateFacts → Type 0

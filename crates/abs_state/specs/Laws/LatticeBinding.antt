@@ -18,7 +18,7 @@ use Rattle.frame_names.specs.declared.var.Var.TheVariants as vars
 use Rattle.frame_names.proofs.BindingLaws.{number_bound}
 use Rattle.symbolic_values.specs.Worth.{worth}
 use Rattle.abs_state.specs.declared.reference.Unknown.{Unknown}
-use Rattle.abs_state.proofs.LatticeUses.{AllFit}
+use Rattle.abs_state.specs.Laws.LatticeUses.{AllFit}
 
 -- ---- slots
 

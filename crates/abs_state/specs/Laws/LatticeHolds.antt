@@ -34,10 +34,10 @@ use Rattle.abs_state.specs.LatticeKeeps.{AreNoneBeyond, AreOfMachine, Follows, H
 use Rattle.abs_state.specs.StateFacts as states
 use Rattle.abs_state.specs.StateFacts.{StateFacts, State}
 use Rattle.abs_state.specs.declared.reference.Unknown.{Unknown}
-use Rattle.abs_state.proofs.LatticeFrames.{same_entry}
-use Rattle.abs_state.proofs.LatticeIncluded.{included_holds}
-use Rattle.abs_state.proofs.LatticeJoined.{KeepsSide, joined_keeps, merged_holds, normal_holds, widened_keeps}
-use Rattle.abs_state.proofs.LatticeMerging.{SideSo, arrays_of, later_of, parts_so}
+use Rattle.abs_state.specs.Laws.LatticeFrames.{same_entry}
+use Rattle.abs_state.specs.Laws.LatticeIncluded.{included_holds}
+use Rattle.abs_state.specs.Laws.LatticeJoined.{KeepsSide, joined_keeps, merged_holds, normal_holds, widened_keeps}
+use Rattle.abs_state.specs.Laws.LatticeMerging.{SideSo, arrays_of, later_of, parts_so}
 
 -- ---- a choice in which references that are not there are null
 

@@ -47,11 +47,11 @@ use Rattle.abs_state.specs.LatticeParts.{definitions_from, numbers_known, unknow
 use Rattle.abs_state.specs.StateFacts as states
 use Rattle.abs_state.specs.StateFacts.{StateFacts, State}
 use Rattle.abs_state.specs.declared.reference.Unknown.{Unknown}
-use Rattle.abs_state.proofs.LatticeDefinitions.{definitions_so}
-use Rattle.abs_state.proofs.LatticeFrames.{IsEntry, alike_of, both_fit, entries_so, have_same, key_lengths_fit, length_fits, same_entry, vars_fit}
-use Rattle.abs_state.proofs.LatticeNumbers.{numbers_allowed, zero_is}
-use Rattle.abs_state.proofs.LatticeReferences.{AllSo, HaveOnePlace, OldEntry, all_so, are_so}
-use Rattle.abs_state.proofs.LatticeUses.{AllFit, all_keys, at_named, exprs_near, keys_fit}
+use Rattle.abs_state.specs.Laws.LatticeDefinitions.{definitions_so}
+use Rattle.abs_state.specs.Laws.LatticeFrames.{IsEntry, alike_of, both_fit, entries_so, have_same, key_lengths_fit, length_fits, same_entry, vars_fit}
+use Rattle.abs_state.specs.Laws.LatticeNumbers.{numbers_allowed, zero_is}
+use Rattle.abs_state.specs.Laws.LatticeReferences.{AllSo, HaveOnePlace, OldEntry, all_so, are_so}
+use Rattle.abs_state.specs.Laws.LatticeUses.{AllFit, all_keys, at_named, exprs_near, keys_fit}
 
 -- ---- references of like variables have one place
 

@@ -1,0 +1,10 @@
+pub mod LatticeNumbers
+pub mod LatticeUses
+pub mod LatticeFrames
+pub mod LatticeReferences
+pub mod LatticeDefinitions
+pub mod LatticeMerging
+pub mod LatticeJoined
+pub mod LatticeBinding
+pub mod LatticeIncluded
+pub mod LatticeHolds
