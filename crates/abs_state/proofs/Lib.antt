@@ -12,3 +12,4 @@ pub mod ArraysHold
 pub mod KeptWhereOk
 pub mod ComparisonsHold
 pub mod AssumptionsHold
+pub mod LatticeCode

@@ -11,7 +11,7 @@ use Rattle.merged_numbers.specs.Known.{Known}
 use Rattle.number_facts.specs.Ends.{span_at}
 use Rattle.number_facts.specs.Facts.{Facts}
 use Rattle.number_spans.specs.declared.span.Span.{Span}
-use Rattle.symbolic_values.specs.Names.{paired_def, paired_reference, renamed_above}
+use Rattle.symbolic_values.specs.Names.{paired_def, renamed_above, symbol_of}
 use Rattle.symbolic_values.specs.OwnNames.{own_names}
 use Rattle.symbolic_values.specs.Pairing.{Pairing}
 use Rattle.symbolic_values.specs.declared.def.Def.{Def}
@@ -53,7 +53,7 @@ def_of_both frames a b u = if is_of_symbols u then common_def frames (definition
 
 -- The new reference of each reference below a count.
 abbrev pub reference_names : Pairing → ℕ → List (Option ℕ)
-reference_names pairs count = map (λ r. paired_reference pairs r r) (range_with_len 0 count)
+reference_names pairs count = map symbol_of (own_names pairs count)
 
 -- The definition of a key's symbol, in new names. The symbol is greater by the key's first constant than the old one.
 abbrev pub own_def : List (Option Expr) → List (Option ℕ) → List (ℕ × Def) → Key → Option Def

@@ -15,3 +15,4 @@ pub mod LatticeInclusion
 pub mod LatticeKeeps
 pub mod LatticeAlike
 pub mod Laws
+pub mod LatticeMerges

@@ -10,7 +10,7 @@ ghost use Rattle.abs_state.specs.StateFacts.{nullness_at};
 
 use crate::comparing::null_tested;
 use crate::known::Known;
-use crate::reference::Reference;
+use frame_names::Reference;
 use crate::test::Test;
 use frame_names::Var;
 use alias_facts::Nullness;

@@ -1,6 +1,14 @@
 //! Join, widening, normal form and inclusion of states.
 
-use crate::lattice_inclusion::is_included;
+ghost use Rattle.std.specs.Prelude.{◌≡◌, IfOk};
+ghost use Rattle.abs_state.specs.Holds.{HoldsAt};
+ghost use Rattle.abs_state.specs.Lattice as rule;
+ghost use Rattle.abs_state.specs.LatticeAlike.{AreLikeStates};
+ghost use Rattle.abs_state.specs.LatticeInclusion.{is_included};
+ghost use Rattle.abs_state.specs.LatticeMerges.{number_rule};
+ghost use Rattle.abs_state.specs.Laws.LatticeHolds as laws;
+
+use crate::lattice_inclusion::includes_known;
 use crate::lattice_merging::{Merging, merged, named};
 use crate::state::AbsState;
 use domain_api::{Lattice, NoMemory};
@@ -9,12 +17,11 @@ use std::alloc::Global;
 
 impl AbsState {
     /// Two states as one. Where one is not reached it is the other.
-    fn merged(
-        &self,
-        alloc: Global,
-        rule: Merging,
-        other: &AbsState,
-    ) -> Result<AbsState, NoMemory> {
+    #[tactic(auto, using(crate::proofs::LatticeCode::alike))]
+    fn merged(&self, alloc: Global, rule: Merging, other: &AbsState) -> Result<AbsState, NoMemory>
+        requires { AreLikeStates self.now other.now }
+        ensures { IfOk result (λ merged. merged ≡ rule.merged (number_rule rule) self.now other.now) }
+    {
         match (&self.known, &other.known) {
             (None, _) => other.copy(alloc),
             (_, None) => self.copy(alloc),
@@ -25,8 +32,13 @@ impl AbsState {
     }
 
     /// The normal form: what is known of variables, and of the references and lengths of these, in the names of first
-    /// uses.
-    pub fn norm(&self, alloc: Global) -> Result<AbsState, NoMemory> {
+    /// uses. Where no values of the machine are such, nothing is reached.
+    ///
+    /// Cost: that of naming, a pass over the bounds for each symbol that has a name, and a look at each two references
+    /// that have one.
+    pub fn norm(&self, alloc: Global) -> Result<AbsState, NoMemory>
+        ensures value { IfOk result (λ normal. normal ≡ rule.normal self.now) }
+    {
         match &self.known {
             None => Ok(AbsState::nothing()),
             Some(known) => Ok(AbsState {
@@ -38,6 +50,16 @@ impl AbsState {
 
 impl Lattice for AbsState {
     type Point = Point;
+
+    ghost holds = { HoldsAt };
+
+    ghost like = { AreLikeStates };
+
+    ghost join = { rule.join };
+
+    ghost widen = { rule.widen };
+
+    ghost leq = { is_included };
 
     fn join(&self, alloc: Global, other: &AbsState) -> Result<AbsState, NoMemory> {
         self.merged(alloc, Merging::Join, other)
@@ -51,7 +73,17 @@ impl Lattice for AbsState {
         match (&self.known, &other.known) {
             (None, _) => Ok(true),
             (_, None) => Ok(false),
-            (Some(a), Some(b)) => is_included(alloc, a, b),
+            (Some(a), Some(b)) => includes_known(alloc, a, b),
         }
     }
+
+    ghost join_left = { laws.join_left };
+
+    ghost join_right = { laws.join_right };
+
+    ghost widen_left = { laws.widen_left };
+
+    ghost widen_right = { laws.widen_right };
+
+    ghost leq_holds = { laws.leq_holds };
 }

@@ -1,8 +1,19 @@
 //! Two states as one, and one in the names of its own first uses.
 
+ghost use Rattle.std.specs.Prelude.{◌≡◌, ◌+◌, length, map, IfOk, Some, option_map};
+ghost use Rattle.std.specs.Option.{ForSome};
+ghost use Rattle.frame_names.specs.Frames.{AreAlike};
+ghost use Rattle.frame_names.specs.MergedReferences.{merged_references};
+ghost use Rattle.merged_numbers.specs.Known.{known};
+ghost use Rattle.merged_numbers.specs.Meaning.{AreMeasured};
+ghost use Rattle.merged_numbers.specs.Merging as numbers;
+ghost use Rattle.abs_state.specs.Forms.{HasForm};
+ghost use Rattle.abs_state.specs.Lattice as rule;
+ghost use Rattle.abs_state.specs.LatticeMerges as merges;
+ghost use Rattle.abs_state.specs.LatticeParts.{numbers_known, unknown_items};
+
 use crate::known::Known;
-use crate::lattice_definitions::{Names, definitions_of_both};
-use crate::lattice_numbers::spans_of;
+use crate::lattice_definitions::{definitions_of_both, renamed_definitions};
 use crate::reference::Unknown;
 use alias_facts::Apart;
 use domain_api::NoMemory;
@@ -32,7 +43,11 @@ impl Merging {
         keys: &[Key],
         a: &Side,
         b: &Side,
-    ) -> Result<Option<Merged>, NoMemory> {
+    ) -> Result<Option<Merged>, NoMemory>
+        requires first { AreMeasured a.now.spans.now }
+        requires second { AreMeasured b.now.spans.now }
+        ensures { IfOk result (λ made. made ≡ merges.number_rule self keys.now (known a.now) (known b.now)) }
+    {
         match self {
             Merging::Join => joined(alloc, keys, a, b),
             Merging::Widening => widened(alloc, keys, a, b),
@@ -41,7 +56,9 @@ impl Merging {
 }
 
 /// A merged reference, of whose items nothing is known.
-fn reference_of(merged: &MergedReference) -> Reference<Unknown> {
+fn reference_of(merged: &MergedReference) -> Reference<Unknown>
+    ensures { result ≡ unknown_items merged.now }
+{
     Reference {
         place: merged.place,
         nullness: merged.nullness,
@@ -56,7 +73,10 @@ fn references_of(
     frames: &PairedFrames,
     a: &[Reference<Unknown>],
     b: &[Reference<Unknown>],
-) -> Result<Vec<Reference<Unknown>>, NoMemory> {
+) -> Result<Vec<Reference<Unknown>>, NoMemory>
+    ensures { IfOk result (λ references. references.items ≡
+        map unknown_items (merged_references a.now b.now frames.now.references.keys frames.now.lengths)) }
+{
     let merged = merged_references(alloc, frames, a, b)?;
     merged.iter().map(|one| reference_of(one)).collect(alloc)
 }
@@ -68,7 +88,14 @@ fn known_of(
     definitions: Vec<(u32, Def)>,
     references: Vec<Reference<Unknown>>,
     apart: Apart,
-) -> Known {
+) -> Known
+    ensures { result ≡ record {
+        variables = frames.vars;
+        facts = record { ranges = numbers.ranges; definitions = definitions.items; bounds = numbers.bounds };
+        references = references.items;
+        apart = apart
+    } }
+{
     Known {
         variables: frames.vars,
         numbers: Numbers {
@@ -82,15 +109,19 @@ fn known_of(
 }
 
 /// What both states know of numbers. None: nothing is reached.
-fn merged_numbers_of(
+#[tactic(auto, using(crate::proofs::LatticeCode::measured))]
+fn numbers_of_both(
     alloc: Global,
     rule: Merging,
     keys: &[Key],
     a: &Known,
     b: &Known,
-) -> Result<Option<Merged>, NoMemory> {
-    let first = spans_of(alloc, &a.numbers)?;
-    let second = spans_of(alloc, &b.numbers)?;
+) -> Result<Option<Merged>, NoMemory>
+    ensures { IfOk result (λ made. made ≡
+        merges.number_rule rule keys.now (numbers_known a.now.facts) (numbers_known b.now.facts)) }
+{
+    let first = a.numbers.spans(alloc)?;
+    let second = b.numbers.spans(alloc)?;
     rule.numbers(
         alloc,
         keys,
@@ -99,20 +130,16 @@ fn merged_numbers_of(
     )
 }
 
-/// What both states know, where both are reached. None: nothing is reached.
-pub(crate) fn merged(
+/// What both states know in the names of their frames, given what they know of numbers.
+fn merged_as(
     alloc: Global,
-    rule: Merging,
+    frames: PairedFrames,
+    numbers: Merged,
     a: &Known,
     b: &Known,
-) -> Result<Option<Known>, NoMemory> {
-    let Some(frames) = pair_frames(alloc, &a.frame(), &b.frame())? else {
-        return Ok(None);
-    };
-    let keys = frames.numbers.keys.as_slice();
-    let Some(numbers) = merged_numbers_of(alloc, rule, keys, a, b)? else {
-        return Ok(None);
-    };
+) -> Result<Known, NoMemory>
+    ensures { IfOk result (λ known. known ≡ rule.merged_as a.now b.now frames numbers) }
+{
     let definitions = definitions_of_both(
         alloc,
         &frames,
@@ -133,37 +160,85 @@ pub(crate) fn merged(
         b.references.as_slice(),
         &b.apart,
     )?;
-    Ok(Some(known_of(frames, numbers, definitions, references, apart)))
+    Ok(known_of(frames, numbers, definitions, references, apart))
 }
 
-/// What one state knows of numbers. None: nothing is reached.
-fn normed_numbers_of(alloc: Global, keys: &[Key], a: &Known) -> Result<Option<Merged>, NoMemory> {
-    let spans = spans_of(alloc, &a.numbers)?;
-    normed(alloc, keys, &a.side(spans.as_slice()))
-}
-
-/// What a state knows, in the names of its own first uses. None: nothing is reached.
-pub(crate) fn named(alloc: Global, a: &Known) -> Result<Option<Known>, NoMemory> {
-    let Some(frames) = name_frame(alloc, &a.frame())? else {
+/// What both states know, where both are reached. None: nothing is reached.
+#[tactic(auto, using(crate::proofs::LatticeCode::near))]
+pub(crate) fn merged(
+    alloc: Global,
+    rule: Merging,
+    a: &Known,
+    b: &Known,
+) -> Result<Option<Known>, NoMemory>
+    requires first { HasForm a.now }
+    requires second { HasForm b.now }
+    requires alike { AreAlike a.now.variables b.now.variables }
+    ensures { IfOk result (λ known. known ≡ rule.merged_known (merges.number_rule rule) a.now b.now) }
+{
+    let Some(frames) = pair_frames(alloc, &a.frame(), &b.frame())? else {
         return Ok(None);
     };
     let keys = frames.numbers.keys.as_slice();
-    let Some(numbers) = normed_numbers_of(alloc, keys, a)? else {
+    let Some(numbers) = numbers_of_both(alloc, rule, keys, a, b)? else {
         return Ok(None);
     };
-    let names = Names::of(
+    let known = merged_as(alloc, frames, numbers, a, b)?;
+    Ok(Some(known))
+}
+
+/// What one state knows of numbers. None: nothing is reached.
+#[tactic(auto, using(crate::proofs::LatticeCode::measured))]
+fn numbers_of_one(alloc: Global, keys: &[Key], a: &Known) -> Result<Option<Merged>, NoMemory>
+    ensures { IfOk result (λ made. made ≡ numbers.normed keys.now (numbers_known a.now.facts)) }
+{
+    let spans = a.numbers.spans(alloc)?;
+    normed(alloc, keys, &a.side(spans.as_slice()))
+}
+
+/// What a state knows in the names of its frame, given what it knows of numbers.
+fn named_as(
+    alloc: Global,
+    frames: PairedFrames,
+    numbers: Merged,
+    a: &Known,
+) -> Result<Known, NoMemory>
+    ensures { IfOk result (λ known. known ≡ rule.normal_as a.now frames numbers) }
+{
+    let definitions = renamed_definitions(
         alloc,
         &frames,
         a.numbers.ranges.len() + 1,
         a.references.len() + 1,
+        a.numbers.definitions.as_slice(),
     )?;
-    let definitions = names.definitions(alloc, keys, a.numbers.definitions.as_slice())?;
     let references = references_of(
         alloc,
         &frames,
         a.references.as_slice(),
         a.references.as_slice(),
     )?;
-    let apart = kept_apart(alloc, frames.references.pairs.keys.as_slice(), &a.apart)?;
-    Ok(Some(known_of(frames, numbers, definitions, references, apart)))
+    let apart = kept_apart(
+        alloc,
+        frames.references.pairs.keys.as_slice(),
+        &a.apart,
+    )?;
+    Ok(known_of(frames, numbers, definitions, references, apart))
+}
+
+/// What a state knows, in the names of its own first uses. None: nothing is reached.
+#[tactic(auto, using(crate::proofs::LatticeCode::near))]
+pub(crate) fn named(alloc: Global, a: &Known) -> Result<Option<Known>, NoMemory>
+    requires { HasForm a.now }
+    ensures { IfOk result (λ known. known ≡ rule.normal_known a.now) }
+{
+    let Some(frames) = name_frame(alloc, &a.frame())? else {
+        return Ok(None);
+    };
+    let keys = frames.numbers.keys.as_slice();
+    let Some(numbers) = numbers_of_one(alloc, keys, a)? else {
+        return Ok(None);
+    };
+    let known = named_as(alloc, frames, numbers, a)?;
+    Ok(Some(known))
 }

@@ -8,3 +8,4 @@ pub mod Keeping
 pub mod NewSymbols
 pub mod Truths
 pub mod Forms
+pub mod SpanLists

@@ -10,6 +10,7 @@ mod gap;
 mod numbers;
 mod order;
 mod relation;
+mod spans;
 
 pub use numbers::Numbers;
 pub use relation::Relation;

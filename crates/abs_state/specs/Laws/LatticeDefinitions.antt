@@ -13,8 +13,8 @@ use Rattle.domain_api.specs.declared.expr.Expr.{Expr}
 use Rattle.frame_names.specs.PairedFrames.{FramePairing}
 use Rattle.number_facts.specs.Holds.{IsDefined, is_below}
 use Rattle.symbolic_values.specs.Meaning.{ReferencesAgree, null_behind, told}
-use Rattle.symbolic_values.specs.Names.{paired_def, paired_reference, renamed_above}
-use Rattle.symbolic_values.specs.OwnNames.{own_names}
+use Rattle.symbolic_values.specs.Names.{paired_def, paired_reference, renamed_above, symbol_of}
+use Rattle.symbolic_values.specs.OwnNames.{own_name, own_names}
 use Rattle.symbolic_values.specs.Pairing.{Pairing, origin}
 use Rattle.symbolic_values.specs.Worth.{behind_uses, worth_of_use}
 use Rattle.symbolic_values.specs.declared.def.Def.{Def}
@@ -119,17 +119,26 @@ both_says is_first number is_null frames a b u new all is = by (is_of_symbols u)
 zero_more : (n : ℕ) → 0 + n ≡ n
 zero_more n = omega arith
 
+mapped : (f : Option Expr → Option ℕ) (g : ℕ → Option Expr) (xs : List ℕ) → map f (map g xs) ≡ map (λ x. f (g x)) xs
+mapped f g [] = refl
+mapped f g (x ∷ xs) = ap (λ ys. f (g x) ∷ ys) (mapped f g xs)
+
+own_reference : (pairs : Pairing) (count r : ℕ) → r < count → get_or (reference_names pairs count) r None ≡ paired_reference pairs r r
+own_reference pairs count r below =
+    ap (λ xs. get_or xs r None) (mapped symbol_of (own_name pairs) (range_with_len 0 count))
+    ∙ get_or-map-range_with_len (λ s. paired_reference pairs s s) 0 count r r None below (zero_more r)
+
+own_references : (pairs : Pairing) (count : ℕ) → length (reference_names pairs count) ≡ count
+own_references pairs count =
+    ap length (mapped symbol_of (own_name pairs) (range_with_len 0 count)) ∙ length-map-range_with_len (λ s. paired_reference pairs s s) 0 count
+
 -- Each reference is null where its new name is.
 pub references_agree : (pairs : Pairing) (count : ℕ) (is_null : ℕ → Bool)
     → ReferencesAgree (reference_names pairs count) is_null (null_behind true is_null (origin ∷ pairs.keys))
 references_agree pairs count is_null r q at =
     elim (cases_lt r count) [
-      | inl below ↦
-          sym (paired_reference_null true is_null pairs r r q
-          (sym (get_or-map-range_with_len (λ s. paired_reference pairs s s) 0 count r r None below (zero_more r)) ∙ at))
-      | inr past ↦
-          none_is (sym (get_or_past (reference_names pairs count) r None
-          (omega (arith, past, length-map-range_with_len (λ s. paired_reference pairs s s) 0 count))) ∙ at)
+      | inl below ↦ sym (paired_reference_null true is_null pairs r r q (sym (own_reference pairs count r below) ∙ at))
+      | inr past ↦ none_is (sym (get_or_past (reference_names pairs count) r None (omega (arith, past, own_references pairs count))) ∙ at)
     ]
   where
     none_is : None ≡ Some q → is_null r ≡ null_behind true is_null (origin ∷ pairs.keys) q
