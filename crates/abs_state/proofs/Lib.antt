@@ -13,3 +13,4 @@ pub mod KeptWhereOk
 pub mod ComparisonsHold
 pub mod AssumptionsHold
 pub mod LatticeCode
+pub mod LatticeForms

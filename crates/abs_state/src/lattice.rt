@@ -38,6 +38,7 @@ impl AbsState {
     /// that have one.
     pub fn norm(&self, alloc: Global) -> Result<AbsState, NoMemory>
         ensures value { IfOk result (λ normal. normal ≡ rule.normal self.now) }
+        ensures keeps { IfOk result (λ normal. (p : Point) → HoldsAt self.now p → HoldsAt normal p) }
     {
         match &self.known {
             None => Ok(AbsState::nothing()),

@@ -1,7 +1,7 @@
 -- Join, widening, the normal form and inclusion keep what holds, of values over a heap and of points.
 use Rattle.std.proofs.Common.{◌≡◌, ℕ, zero, suc, ◌+◌, ◌<◌, ◌≤◌, ℤ, pos, Bool, true, false, List, [], ◌∷◌, ◌++◌, reverse, length, slice_get, Option, Some, None, FitsSigned, w32, refl, sym, ap, ◌∙◌, subst, inl, inr, arith}
 use Rattle.std.specs.Prelude.{if◌then◌else◌}
-use Rattle.std.specs.Option.{option_and_then, option_map}
+use Rattle.std.specs.Option.{ForSome, option_and_then, option_map}
 use Rattle.std.specs.List.{AllByRecursion}
 use Rattle.std.proofs.lemmas.Int.{ints}
 use Rattle.alias_facts.specs.Arrays.{AllDiffer, Differ, is_no_array}
@@ -223,3 +223,8 @@ widen_right a b p like at = at_point b (widen a b) p (merged_over false numbers.
 
 pub leq_holds : (a b : State) (p : Point) → AreLikeStates a b → is_included a b ≡ true → HoldsAt a p → HoldsAt b p
 leq_holds a b p like is at = at_point a b p (included_over a b like is) at
+
+-- The normal form holds of each point that its state holds of.
+pub normal_at : (a : State) (p : Point) → ForSome a HasForm → HoldsAt a p → HoldsAt (normal a) p
+normal_at None p form at = absurd at.frame.holds
+normal_at (Some a) p form at = at_point (Some a) (normal (Some a)) p (normal_over a (form a refl)) at
