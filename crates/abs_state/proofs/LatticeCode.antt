@@ -1,6 +1,7 @@
 -- What the code of the lattice rests on: spans that are measured, constants that are near, variables that are alike.
 use Rattle.std.proofs.Common.{◌≡◌, ℕ, List, [], ◌∷◌, map, refl, sym, subst}
 use Rattle.std.specs.List.{AllByRecursion}
+use Rattle.std.specs.Option.{ForSome}
 use Rattle.domain_api.specs.declared.expr.Expr.{Expr}
 use Rattle.frame_names.specs.Frames.{AreAlike, IsNearFrame, numbers_of}
 use Rattle.frame_names.specs.declared.reference.Reference.{Reference}
@@ -11,8 +12,12 @@ use Rattle.number_spans.specs.Sizes.{IsLong, IsLongHole}
 use Rattle.number_spans.specs.declared.span.Span.{Span}
 use Rattle.symbolic_values.specs.Pairing.{AreNear, IsNear}
 use Rattle.abs_state.specs.Forms.{HasForm, IsReference, IsVar}
+use Rattle.abs_state.specs.Lattice.{merged_known, normal_known}
 use Rattle.abs_state.specs.LatticeAlike.{AreComparable}
-use Rattle.abs_state.specs.StateFacts.{StateFacts}
+use Rattle.abs_state.specs.LatticeMerges.{number_rule}
+use Rattle.abs_state.specs.declared.lattice_merging.Merging.{Merging}
+use Rattle.abs_state.proofs.LatticeFormed.{merged_form, normal_form}
+use Rattle.abs_state.specs.StateFacts.{StateFacts, State}
 use Rattle.abs_state.specs.declared.reference.Unknown.{Unknown}
 use Rattle.abs_state.specs.Laws.LatticeFrames.{alike_of}
 
@@ -46,3 +51,13 @@ pub comparable_alike : (a b : StateFacts) → AreComparable a b → AreAlike a.v
 comparable_alike a b like = alike_of a b a.variables b.variables like.variables
 
 pub ruleset alike = (comparable_alike)
+
+-- ---- forms of what is made
+
+pub both_formed : (rule : Merging) (a b : StateFacts) (found : State) → HasForm a → HasForm b → found ≡ merged_known (number_rule rule) a b → ForSome found HasForm
+both_formed rule a b found first second is = subst (λ s. ForSome s HasForm) (sym is) (merged_form rule a b first second)
+
+pub one_formed : (a : StateFacts) (found : State) → HasForm a → found ≡ normal_known a → ForSome found HasForm
+one_formed a found form is = subst (λ s. ForSome s HasForm) (sym is) (normal_form a form)
+
+pub ruleset formed = (both_formed, one_formed)

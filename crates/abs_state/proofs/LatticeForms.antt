@@ -25,7 +25,7 @@ use Rattle.symbolic_values.specs.declared.def.Def.TheVariants.{Eq, Lt, LtUn, Nul
 use Rattle.symbolic_values.specs.declared.pairs.Key.{Key}
 use Rattle.symbolic_values.proofs.MeaningLaws.{fitting_is}
 use Rattle.abs_state.specs.Assuming.{definition_at}
-use Rattle.abs_state.specs.Forms.{AreRising, IsNumber, IsVar, TestsOf}
+use Rattle.abs_state.specs.Forms.{AreRising, EndsBy, IsNumber, IsVar, TestsOf}
 use Rattle.abs_state.specs.LatticeParts.{common_def, def_of_both, def_of_one, definitions_from, is_of_symbols, own_def, reference_names, with_definition}
 
 same_some : {X : Type 0} (x y : X) → Some x ≡ Some y → x ≡ y
@@ -196,41 +196,38 @@ inserted_all P p (x ∷ pairs) own all = step (comes_before x p) (same_pair p x)
     step false true rest = all
     step false false rest = (own, all)
 
-abbrev IsUpto : ℕ → Pair → Type 0
-IsUpto count p = p.1 ≤ count
-
-ordered_upto : (count r q : ℕ) → r ≤ count → q ≤ count → IsUpto count (ordered r q)
+ordered_upto : (count r q : ℕ) → r ≤ count → q ≤ count → EndsBy count (ordered r q)
 ordered_upto count r q first second = by (nat_lt q r)
   where
-    by : (less : Bool) → IsUpto count (if less then (q, r) else (r, q))
-    by true = first
-    by false = second
+    by : (less : Bool) → EndsBy count (if less then (q, r) else (r, q))
+    by true = (second, first)
+    by false = (first, second)
 
-test_upto : (count : ℕ) (test : ℕ → ℕ → Bool) (higher lower : ℕ) (pairs : List Pair) → higher ≤ count → lower ≤ count → AllByRecursion (λ p. p.1 ≤ count) pairs
-    → AllByRecursion (λ p. p.1 ≤ count) (with_test test higher pairs lower)
+test_upto : (count : ℕ) (test : ℕ → ℕ → Bool) (higher lower : ℕ) (pairs : List Pair) → higher ≤ count → lower ≤ count → AllByRecursion (EndsBy count) pairs
+    → AllByRecursion (EndsBy count) (with_test test higher pairs lower)
 test_upto count test higher lower pairs first second all = by (test lower higher) (is_proper (ordered lower higher))
   where
-    by : (told proper : Bool) → AllByRecursion (λ p. p.1 ≤ count) (if told then (if proper then inserted (ordered lower higher) pairs else pairs) else pairs)
-    by true true = inserted_all (λ p. p.1 ≤ count) (ordered lower higher) pairs (ordered_upto count lower higher second first) all
+    by : (told proper : Bool) → AllByRecursion (EndsBy count) (if told then (if proper then inserted (ordered lower higher) pairs else pairs) else pairs)
+    by true true = inserted_all (EndsBy count) (ordered lower higher) pairs (ordered_upto count lower higher second first) all
     by true false = all
     by false proper = all
 
-row_upto : (count : ℕ) (test : ℕ → ℕ → Bool) (higher from n : ℕ) (pairs : List Pair) → higher ≤ count → from + n ≤ suc count → AllByRecursion (λ p. p.1 ≤ count) pairs
-    → AllByRecursion (λ p. p.1 ≤ count) (fold (with_test test higher) pairs (range_with_len from n))
+row_upto : (count : ℕ) (test : ℕ → ℕ → Bool) (higher from n : ℕ) (pairs : List Pair) → higher ≤ count → from + n ≤ suc count → AllByRecursion (EndsBy count) pairs
+    → AllByRecursion (EndsBy count) (fold (with_test test higher) pairs (range_with_len from n))
 row_upto count test higher from zero pairs upto within all = all
 row_upto count test higher from (suc n) pairs upto within all =
     row_upto count test higher (from + 1) n (with_test test higher pairs from) upto (omega (arith, within))
     (test_upto count test higher from pairs upto (omega (arith, within)) all)
 
-rows_upto : (count : ℕ) (test : ℕ → ℕ → Bool) (from n : ℕ) (pairs : List Pair) → from + n ≤ suc count → AllByRecursion (λ p. p.1 ≤ count) pairs
-    → AllByRecursion (λ p. p.1 ≤ count) (fold (with_row test) pairs (range_with_len from n))
+rows_upto : (count : ℕ) (test : ℕ → ℕ → Bool) (from n : ℕ) (pairs : List Pair) → from + n ≤ suc count → AllByRecursion (EndsBy count) pairs
+    → AllByRecursion (EndsBy count) (fold (with_row test) pairs (range_with_len from n))
 rows_upto count test from zero pairs within all = all
 rows_upto count test from (suc n) pairs within all =
     rows_upto count test (from + 1) n (with_row test pairs from) (omega (arith, within))
     (row_upto count test from 1 (from - 1) pairs (omega (arith, within)) (omega (arith, within)) all)
 
 -- Pairs name no reference beyond the last.
-pub pairs_upto : (test : ℕ → ℕ → Bool) (count : ℕ) → AllByRecursion (λ p. p.1 ≤ count) (pairs_by test count)
+pub pairs_upto : (test : ℕ → ℕ → Bool) (count : ℕ) → AllByRecursion (EndsBy count) (pairs_by test count)
 pairs_upto test count = rows_upto count test 1 count [] (omega arith) tt
 
 -- ---- definitions of one state in new names

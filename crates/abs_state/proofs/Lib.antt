@@ -14,3 +14,4 @@ pub mod ComparisonsHold
 pub mod AssumptionsHold
 pub mod LatticeCode
 pub mod LatticeForms
+pub mod LatticeFormed

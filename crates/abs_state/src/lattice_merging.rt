@@ -164,7 +164,7 @@ fn merged_as(
 }
 
 /// What both states know, where both are reached. None: nothing is reached.
-#[tactic(auto, using(crate::proofs::LatticeCode::near))]
+#[tactic(auto, using(crate::proofs::LatticeCode::near, crate::proofs::LatticeCode::formed))]
 pub(crate) fn merged(
     alloc: Global,
     rule: Merging,
@@ -174,7 +174,8 @@ pub(crate) fn merged(
     requires first { HasForm a.now }
     requires second { HasForm b.now }
     requires alike { AreAlike a.now.variables b.now.variables }
-    ensures { IfOk result (λ known. known ≡ rule.merged_known (merges.number_rule rule) a.now b.now) }
+    ensures value { IfOk result (λ known. known ≡ rule.merged_known (merges.number_rule rule) a.now b.now) }
+    ensures form { IfOk result (λ known. ForSome known HasForm) }
 {
     let Some(frames) = pair_frames(alloc, &a.frame(), &b.frame())? else {
         return Ok(None);
@@ -227,10 +228,11 @@ fn named_as(
 }
 
 /// What a state knows, in the names of its own first uses. None: nothing is reached.
-#[tactic(auto, using(crate::proofs::LatticeCode::near))]
+#[tactic(auto, using(crate::proofs::LatticeCode::near, crate::proofs::LatticeCode::formed))]
 pub(crate) fn named(alloc: Global, a: &Known) -> Result<Option<Known>, NoMemory>
     requires { HasForm a.now }
-    ensures { IfOk result (λ known. known ≡ rule.normal_known a.now) }
+    ensures value { IfOk result (λ known. known ≡ rule.normal_known a.now) }
+    ensures form { IfOk result (λ known. ForSome known HasForm) }
 {
     let Some(frames) = name_frame(alloc, &a.frame())? else {
         return Ok(None);
