@@ -1,7 +1,7 @@
 //! Definitions of new symbols, each of which stands for a key.
 
 ghost use Rattle.std.specs.Prelude.{◌≡◌, ◌+◌, ◌++◌, [], map, IfOk, OnOk};
-ghost use Rattle.symbolic_values.specs.Names as names;
+ghost use Rattle.symbolic_values.specs.Names as naming;
 ghost use Rattle.symbolic_values.specs.OwnNames.{own_names};
 ghost use Rattle.abs_state.specs.LatticeParts as rule;
 
@@ -60,9 +60,9 @@ impl Sides<'_> {
         }
         let first = definition_at(self.a, key.s)?;
         let second = definition_at(self.b, key.t)?;
-        self.frames
-            .numbers
-            .named_def(&self.frames.references, first, second)
+        let frames = self.frames;
+        let pairs = &frames.numbers;
+        pairs.named_def(&frames.references, first, second)
     }
 }
 
@@ -100,7 +100,7 @@ struct Names<'a> {
 
 /// The new name of a reference, if it has one.
 fn reference_of(name: &Option<Expr>) -> Option<u32>
-    ensures { result ≡ names.symbol_of name.now }
+    ensures { result ≡ naming.symbol_of name.now }
 {
     match name {
         None => None,
@@ -115,7 +115,7 @@ fn reference_names(
     count: usize,
 ) -> Result<Vec<Option<u32>>, NoMemory>
     ensures { IfOk result (λ names. names.items ≡
-        map names.symbol_of (own_names frames.now.references count)) }
+        map naming.symbol_of (own_names frames.now.references count)) }
 {
     let names = frames.references.pairs.names(alloc, count)?;
     names.iter().map(|name| reference_of(name)).collect(alloc)

@@ -6,9 +6,9 @@ ghost use Rattle.frame_names.specs.Frames.{AreAlike};
 ghost use Rattle.frame_names.specs.MergedReferences.{merged_references};
 ghost use Rattle.merged_numbers.specs.Known.{known};
 ghost use Rattle.merged_numbers.specs.Meaning.{AreMeasured};
-ghost use Rattle.merged_numbers.specs.Merging as numbers;
+ghost use Rattle.merged_numbers.specs.Merging as outcomes;
 ghost use Rattle.abs_state.specs.Forms.{HasForm};
-ghost use Rattle.abs_state.specs.Lattice as rule;
+ghost use Rattle.abs_state.specs.Lattice as states;
 ghost use Rattle.abs_state.specs.LatticeMerges as merges;
 ghost use Rattle.abs_state.specs.LatticeParts.{numbers_known, unknown_items};
 
@@ -138,7 +138,7 @@ fn merged_as(
     a: &Known,
     b: &Known,
 ) -> Result<Known, NoMemory>
-    ensures { IfOk result (λ known. known ≡ rule.merged_as a.now b.now frames numbers) }
+    ensures { IfOk result (λ known. known ≡ states.merged_as a.now b.now frames numbers) }
 {
     let definitions = definitions_of_both(
         alloc,
@@ -174,13 +174,14 @@ pub(crate) fn merged(
     requires first { HasForm a.now }
     requires second { HasForm b.now }
     requires alike { AreAlike a.now.variables b.now.variables }
-    ensures value { IfOk result (λ known. known ≡ rule.merged_known (merges.number_rule rule) a.now b.now) }
+    ensures value { IfOk result (λ known. known ≡ states.merged_known (merges.number_rule rule) a.now b.now) }
     ensures form { IfOk result (λ known. ForSome known HasForm) }
 {
     let Some(frames) = pair_frames(alloc, &a.frame(), &b.frame())? else {
         return Ok(None);
     };
-    let keys = frames.numbers.keys.as_slice();
+    let pairs = &frames.numbers;
+    let keys = pairs.keys.as_slice();
     let Some(numbers) = numbers_of_both(alloc, rule, keys, a, b)? else {
         return Ok(None);
     };
@@ -191,7 +192,7 @@ pub(crate) fn merged(
 /// What one state knows of numbers. None: nothing is reached.
 #[tactic(auto, using(crate::proofs::LatticeCode::measured))]
 fn numbers_of_one(alloc: Global, keys: &[Key], a: &Known) -> Result<Option<Merged>, NoMemory>
-    ensures { IfOk result (λ made. made ≡ numbers.normed keys.now (numbers_known a.now.facts)) }
+    ensures { IfOk result (λ made. made ≡ outcomes.normed keys.now (numbers_known a.now.facts)) }
 {
     let spans = a.numbers.spans(alloc)?;
     normed(alloc, keys, &a.side(spans.as_slice()))
@@ -204,7 +205,7 @@ fn named_as(
     numbers: Merged,
     a: &Known,
 ) -> Result<Known, NoMemory>
-    ensures { IfOk result (λ known. known ≡ rule.normal_as a.now frames numbers) }
+    ensures { IfOk result (λ known. known ≡ states.normal_as a.now frames numbers) }
 {
     let definitions = renamed_definitions(
         alloc,
@@ -231,13 +232,14 @@ fn named_as(
 #[tactic(auto, using(crate::proofs::LatticeCode::near, crate::proofs::LatticeCode::formed))]
 pub(crate) fn named(alloc: Global, a: &Known) -> Result<Option<Known>, NoMemory>
     requires { HasForm a.now }
-    ensures value { IfOk result (λ known. known ≡ rule.normal_known a.now) }
+    ensures value { IfOk result (λ known. known ≡ states.normal_known a.now) }
     ensures form { IfOk result (λ known. ForSome known HasForm) }
 {
     let Some(frames) = name_frame(alloc, &a.frame())? else {
         return Ok(None);
     };
-    let keys = frames.numbers.keys.as_slice();
+    let pairs = &frames.numbers;
+    let keys = pairs.keys.as_slice();
     let Some(numbers) = numbers_of_one(alloc, keys, a)? else {
         return Ok(None);
     };

@@ -29,7 +29,6 @@ use Rattle.frame_names.specs.declared.slots.Bound.{Bound}
 use Rattle.frame_names.proofs.BindingLaws.{frames_have_same_lengths, frames_say_same}
 use Rattle.merged_numbers.specs.Included.{behind_binding, bound_term, included, worth_or_zero}
 use Rattle.merged_numbers.specs.declared.inclusion.Binding.{Binding}
-use Rattle.merged_numbers.specs.declared.term.Term.{Term}
 use Rattle.merged_numbers.specs.Meaning as numbers
 use Rattle.merged_numbers.proofs.InclusionLaws.{included_so}
 use Rattle.number_facts.specs.Gaps.{gap}

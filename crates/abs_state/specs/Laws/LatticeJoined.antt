@@ -14,7 +14,6 @@ use Rattle.frame_names.specs.declared.var.Var.TheVariants as vars
 use Rattle.merged_numbers.specs.Meaning.{Keeps, SomeSo}
 use Rattle.merged_numbers.specs.Merging as numbers
 use Rattle.merged_numbers.specs.Merging.{Outcome}
-use Rattle.merged_numbers.specs.declared.rule.Rule.TheVariants.{Join, Widening}
 use Rattle.merged_numbers.proofs.Laws.{merged_first, merged_second, normed_keeps}
 use Rattle.symbolic_values.specs.declared.pairs.Key.{Key}
 use Rattle.abs_state.specs.Holds.{HoldsIn}
@@ -55,12 +54,12 @@ merged_holds is_first rule a b vs heap number array keeps like so =
     (keeps (frame a b).numbers.keys number so.allowed (keys_are_int32 is_first a b vs heap number array so)))
 
 pub joined_keeps : (is_first : Bool) (a b : StateFacts) → KeepsSide is_first numbers.joined a b
-joined_keeps true a b keys = merged_first Join keys (numbers_known a.facts) (numbers_known b.facts)
-joined_keeps false a b keys = merged_second Join keys (numbers_known a.facts) (numbers_known b.facts)
+joined_keeps true a b keys = merged_first _ keys (numbers_known a.facts) (numbers_known b.facts)
+joined_keeps false a b keys = merged_second _ keys (numbers_known a.facts) (numbers_known b.facts)
 
 pub widened_keeps : (is_first : Bool) (a b : StateFacts) → KeepsSide is_first numbers.widened a b
-widened_keeps true a b keys = merged_first Widening keys (numbers_known a.facts) (numbers_known b.facts)
-widened_keeps false a b keys = merged_second Widening keys (numbers_known a.facts) (numbers_known b.facts)
+widened_keeps true a b keys = merged_first _ keys (numbers_known a.facts) (numbers_known b.facts)
+widened_keeps false a b keys = merged_second _ keys (numbers_known a.facts) (numbers_known b.facts)
 
 -- ---- one state
 
