@@ -19,7 +19,8 @@ use Rattle.frame_names.specs.declared.var.Var.TheVariants as vars
 use Rattle.merged_numbers.specs.Meaning.{HaveForm, IsFormed}
 use Rattle.merged_numbers.specs.Merging as numbers
 use Rattle.merged_numbers.specs.Merging.{Outcome}
-use Rattle.merged_numbers.proofs.FormLaws.{merged_formed, normed_formed}
+use Rattle.merged_numbers.proofs.FormLaws.{normed_formed}
+use Rattle.merged_numbers.proofs.RuleLaws.{joined_formed, widened_formed}
 use Rattle.number_facts.specs.Holds.{NamesOwn}
 use Rattle.pentagon_domain.proofs.Allowing.{AreBelow}
 use Rattle.symbolic_values.specs.FirstUses.{noted, first_uses}
@@ -211,8 +212,8 @@ none_formed : ForSome None HasForm
 none_formed known is = absurd cc
 
 rule_formed : (rule : Merging) (keys : List Key) (a b : StateFacts) → HaveForm keys (number_rule rule keys (numbers_known a.facts) (numbers_known b.facts))
-rule_formed rules.Join keys a b = merged_formed _ keys (numbers_known a.facts) (numbers_known b.facts)
-rule_formed rules.Widening keys a b = merged_formed _ keys (numbers_known a.facts) (numbers_known b.facts)
+rule_formed rules.Join keys a b = joined_formed keys (numbers_known a.facts) (numbers_known b.facts)
+rule_formed rules.Widening keys a b = widened_formed keys (numbers_known a.facts) (numbers_known b.facts)
 
 -- Two states as one have the form of states.
 pub merged_form : (rule : Merging) (a b : StateFacts) → HasForm a → HasForm b → ForSome (merged_known (number_rule rule) a b) HasForm

@@ -14,7 +14,8 @@ use Rattle.frame_names.specs.declared.var.Var.TheVariants as vars
 use Rattle.merged_numbers.specs.Meaning.{Keeps, SomeSo}
 use Rattle.merged_numbers.specs.Merging as numbers
 use Rattle.merged_numbers.specs.Merging.{Outcome}
-use Rattle.merged_numbers.proofs.Laws.{merged_first, merged_second, normed_keeps}
+use Rattle.merged_numbers.proofs.Laws.{normed_keeps}
+use Rattle.merged_numbers.proofs.RuleLaws.{joined_first, joined_second, widened_first, widened_second}
 use Rattle.symbolic_values.specs.declared.pairs.Key.{Key}
 use Rattle.abs_state.specs.Holds.{HoldsIn}
 use Rattle.abs_state.specs.Lattice.{NumberRule, merged_as, merged_by, merged_known, normal_as, normal_by, normal_known}
@@ -54,12 +55,12 @@ merged_holds is_first rule a b vs heap number array keeps like so =
     (keeps (frame a b).numbers.keys number so.allowed (keys_are_int32 is_first a b vs heap number array so)))
 
 pub joined_keeps : (is_first : Bool) (a b : StateFacts) → KeepsSide is_first numbers.joined a b
-joined_keeps true a b keys = merged_first _ keys (numbers_known a.facts) (numbers_known b.facts)
-joined_keeps false a b keys = merged_second _ keys (numbers_known a.facts) (numbers_known b.facts)
+joined_keeps true a b keys = joined_first keys (numbers_known a.facts) (numbers_known b.facts)
+joined_keeps false a b keys = joined_second keys (numbers_known a.facts) (numbers_known b.facts)
 
 pub widened_keeps : (is_first : Bool) (a b : StateFacts) → KeepsSide is_first numbers.widened a b
-widened_keeps true a b keys = merged_first _ keys (numbers_known a.facts) (numbers_known b.facts)
-widened_keeps false a b keys = merged_second _ keys (numbers_known a.facts) (numbers_known b.facts)
+widened_keeps true a b keys = widened_first keys (numbers_known a.facts) (numbers_known b.facts)
+widened_keeps false a b keys = widened_second keys (numbers_known a.facts) (numbers_known b.facts)
 
 -- ---- one state
 
