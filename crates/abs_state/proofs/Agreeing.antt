@@ -23,7 +23,7 @@ use Rattle.abs_state.specs.Holds.{HasValue, HaveValues, length_in, IsSo, AreSo, 
 use Rattle.abs_state.specs.Keeps.{HoldsOn}
 use Rattle.abs_state.specs.StateFacts.{StateFacts, reference_at}
 use Rattle.frame_names.specs.declared.reference.Reference.{Reference}
-use Rattle.abs_state.specs.declared.reference.Unknown.{Unknown}
+use Rattle.state_parts.specs.declared.reference.Unknown.{Unknown}
 use Rattle.frame_names.specs.declared.var.Var.{Var}
 use Rattle.frame_names.specs.declared.var.Var.TheVariants as vars
 use Rattle.abs_state.proofs.Searching.{reference_there}

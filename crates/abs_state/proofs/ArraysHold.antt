@@ -35,7 +35,7 @@ use Rattle.abs_state.specs.Moves.{with_array}
 use Rattle.abs_state.specs.StateFacts.{StateFacts, State, are_apart, both_of_same_place, nullness_at, of_same_place, reference_at}
 use Rattle.abs_state.specs.States as calls
 use Rattle.frame_names.specs.declared.reference.Reference.{Reference}
-use Rattle.abs_state.specs.declared.reference.Unknown.{Unknown}
+use Rattle.state_parts.specs.declared.reference.Unknown.{Unknown}
 use Rattle.frame_names.specs.declared.var.Var.{Var}
 use Rattle.frame_names.specs.declared.var.Var.TheVariants as vars
 use Rattle.abs_state.proofs.Agreeing.{Agree, facts_agree, has_there, have_pushed, have_taken, pairs_agree, references_agree, values_agree}

@@ -29,7 +29,7 @@ use Rattle.abs_state.specs.Forms.{IsNumber, IsVar, IsReference, HasForm}
 use Rattle.abs_state.specs.Moves.{IsNamedNumber}
 use Rattle.abs_state.specs.StateFacts.{StateFacts, length_at, length_of, nullness_at, reference_at}
 use Rattle.frame_names.specs.declared.reference.Reference.{Reference}
-use Rattle.abs_state.specs.declared.reference.Unknown.{Unknown}
+use Rattle.state_parts.specs.declared.reference.Unknown.{Unknown}
 use Rattle.abs_state.specs.declared.test.Test.{Test}
 use Rattle.abs_state.specs.declared.test.Test.TheVariants.{Compares, IsNull}
 use Rattle.frame_names.specs.declared.var.Var.{Var}

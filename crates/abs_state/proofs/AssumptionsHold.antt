@@ -39,7 +39,7 @@ use Rattle.abs_state.specs.Keeps.{KeepsAssumed}
 use Rattle.abs_state.specs.StateFacts.{StateFacts, State, nullness_at, reference_at}
 use Rattle.abs_state.specs.States as calls
 use Rattle.frame_names.specs.declared.reference.Reference.{Reference}
-use Rattle.abs_state.specs.declared.reference.Unknown.{Unknown}
+use Rattle.state_parts.specs.declared.reference.Unknown.{Unknown}
 use Rattle.abs_state.specs.declared.test.Test.{Test}
 use Rattle.abs_state.specs.declared.test.Test.TheVariants.{Compares, IsNull}
 use Rattle.frame_names.specs.declared.var.Var.{Var}

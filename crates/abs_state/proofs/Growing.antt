@@ -11,7 +11,7 @@ use Rattle.symbolic_values.specs.declared.def.Def.TheVariants.{Eq, Lt, LtUn, Nul
 use Rattle.abs_state.specs.Forms.{EndsBy, IsNumber, IsVar, IsReference, TestsOf, AreRising, HasForm}
 use Rattle.abs_state.specs.StateFacts.{StateFacts}
 use Rattle.frame_names.specs.declared.reference.Reference.{Reference}
-use Rattle.abs_state.specs.declared.reference.Unknown.{Unknown}
+use Rattle.state_parts.specs.declared.reference.Unknown.{Unknown}
 use Rattle.frame_names.specs.declared.var.Var.{Var}
 use Rattle.frame_names.specs.declared.var.Var.TheVariants as vars
 

@@ -33,7 +33,7 @@ use Rattle.abs_state.specs.Moves.{beside, greatest_item, in_variable, is_byte, i
 use Rattle.abs_state.specs.StateFacts.{StateFacts, State, reference_at}
 use Rattle.abs_state.specs.States as calls
 use Rattle.frame_names.specs.declared.reference.Reference.{Reference}
-use Rattle.abs_state.specs.declared.reference.Unknown.{Unknown}
+use Rattle.state_parts.specs.declared.reference.Unknown.{Unknown}
 use Rattle.frame_names.specs.declared.var.Var.{Var}
 use Rattle.frame_names.specs.declared.var.Var.TheVariants as vars
 use Rattle.abs_state.proofs.Agreeing.{have_pushed, have_set, have_taken, as_many, made_holds}

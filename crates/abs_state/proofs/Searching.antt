@@ -1,15 +1,13 @@
 -- What loops over lists find.
 use Rattle.std.proofs.Common.{◌≡◌, ℕ, zero, suc, ◌==◌, ◌+◌, ◌-◌, ◌≤◌, ◌<◌, Bool, true, false, List, [], ◌∷◌, length, get_or, drop, drop-cons, add-one, slice_get, Some, None, refl, arith}
-use Rattle.std.specs.Prelude.{nat_le}
 use Rattle.std.proofs.lemmas.List.{drop_all}
 use Rattle.symbolic_values.specs.declared.def.Def.{Def}
 use Rattle.alias_facts.specs.PairsOf.{Pair, ordered, with_pair}
 use Rattle.abs_state.specs.Assuming.{definition_at}
 use Rattle.abs_state.specs.Calls.{apart_with}
-use Rattle.abs_state.specs.FormTests.{rise_from}
 use Rattle.abs_state.specs.StateFacts.{reference_at}
 use Rattle.frame_names.specs.declared.reference.Reference.{Reference}
-use Rattle.abs_state.specs.declared.reference.Unknown.{Unknown}
+use Rattle.state_parts.specs.declared.reference.Unknown.{Unknown}
 
 -- ---- definitions
 
@@ -30,35 +28,6 @@ pub defined_nowhere : (definitions : List (ℕ × Def)) (i symbol : ℕ) → len
 defined_nowhere definitions i symbol past so_far = let none : drop i definitions ≡ [] = drop_all i definitions past in rw none at so_far
 
 pub ruleset definitions_found = (defined_here, defined_later, defined_nowhere)
-
--- ---- symbols that rise
-
-pub rises_on : (definitions : List (ℕ × Def)) (i least : ℕ) (d : ℕ × Def) → i < length definitions → least ≤ (get_or definitions i d).0
-    → rise_from least (drop i definitions) ≡ rise_from 0 definitions → rise_from ((get_or definitions i d).0 + 1) (drop (i + 1) definitions) ≡ rise_from 0 definitions
-rises_on definitions i least d inside above so_far =
-    let split : drop i definitions ≡ get_or definitions i d ∷ drop (suc i) definitions = drop-cons definitions i d inside in
-    let more : i + 1 ≡ suc i = add-one i in
-    let here : nat_le least (get_or definitions i d).0 ≡ true = le_true least _ above in
-    rw more (rw here at (rw split at so_far))
-  where
-    le_true : (m n : ℕ) → m ≤ n → nat_le m n ≡ true
-    le_true m n le = grind (arith, le)
-
-pub falls_here : (definitions : List (ℕ × Def)) (i least : ℕ) (d : ℕ × Def) → i < length definitions → (get_or definitions i d).0 < least
-    → rise_from least (drop i definitions) ≡ rise_from 0 definitions → false ≡ rise_from 0 definitions
-falls_here definitions i least d inside below so_far =
-    let split : drop i definitions ≡ get_or definitions i d ∷ drop (suc i) definitions = drop-cons definitions i d inside in
-    let below_it : nat_le least (get_or definitions i d).0 ≡ false = le_false least _ below in
-    rw below_it at (rw split at so_far)
-  where
-    le_false : (m n : ℕ) → n < m → nat_le m n ≡ false
-    le_false m n lt = grind (arith, lt)
-
-pub rises_all : (definitions : List (ℕ × Def)) (i least : ℕ) → length definitions ≤ i → rise_from least (drop i definitions) ≡ rise_from 0 definitions
-    → true ≡ rise_from 0 definitions
-rises_all definitions i least past so_far = let none : drop i definitions ≡ [] = drop_all i definitions past in rw none at so_far
-
-pub ruleset rising_symbols = (rises_on, falls_here, rises_all)
 
 -- ---- references
 

@@ -17,7 +17,7 @@ use Rattle.symbolic_values.specs.declared.def.Def.TheVariants.{Eq, Lt, LtUn, Nul
 use Rattle.abs_state.specs.Comparing.{null_tested}
 use Rattle.abs_state.specs.StateFacts.{StateFacts, nullness_at, reference_at}
 use Rattle.frame_names.specs.declared.reference.Reference.{Reference}
-use Rattle.abs_state.specs.declared.reference.Unknown.{Unknown}
+use Rattle.state_parts.specs.declared.reference.Unknown.{Unknown}
 use Rattle.abs_state.specs.declared.test.Test.{Test}
 use Rattle.abs_state.specs.declared.test.Test.TheVariants.{Compares, IsNull}
 use Rattle.frame_names.specs.declared.var.Var.{Var}

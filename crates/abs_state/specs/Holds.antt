@@ -15,7 +15,7 @@ use Rattle.number_facts.specs.Holds.{Holds}
 use Rattle.symbolic_values.specs.Worth.{worth}
 use Rattle.abs_state.specs.StateFacts.{StateFacts, State, reference_at}
 use Rattle.frame_names.specs.declared.reference.Reference.{Reference}
-use Rattle.abs_state.specs.declared.reference.Unknown.{Unknown}
+use Rattle.state_parts.specs.declared.reference.Unknown.{Unknown}
 use Rattle.frame_names.specs.declared.var.Var.{Var}
 use Rattle.frame_names.specs.declared.var.Var.TheVariants as vars
 

@@ -7,6 +7,5 @@ pub mod Assuming
 pub mod Arithmetic
 pub mod States
 pub mod StateParts
-pub mod FormTests
 pub mod Holds
 pub mod Keeps

@@ -13,7 +13,7 @@ use Rattle.number_facts.specs.Fresh.{Made, fresh}
 use Rattle.number_spans.specs.declared.span.Span.{Span}
 use Rattle.abs_state.specs.StateFacts.{StateFacts, reference_at}
 use Rattle.frame_names.specs.declared.reference.Reference.{Reference}
-use Rattle.abs_state.specs.declared.reference.Unknown.{Unknown}
+use Rattle.state_parts.specs.declared.reference.Unknown.{Unknown}
 use Rattle.frame_names.specs.declared.var.Var.{Var}
 use Rattle.frame_names.specs.declared.var.Var.TheVariants as vars
 

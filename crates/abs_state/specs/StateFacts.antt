@@ -9,7 +9,7 @@ use Rattle.cil_model.specs.Values.{same_place}
 use Rattle.number_facts.specs.Facts.{Facts}
 use Rattle.number_spans.specs.Constants.{constant}
 use Rattle.frame_names.specs.declared.reference.Reference.{Reference}
-use Rattle.abs_state.specs.declared.reference.Unknown.{Unknown}
+use Rattle.state_parts.specs.declared.reference.Unknown.{Unknown}
 use Rattle.frame_names.specs.declared.var.Var.{Var}
 
 -- What each variable has, what is known of symbols, what is known of each reference from 1 on, in order, and which

@@ -1,26 +1,10 @@
 -- A state as lists, and which lists are one.
-use Rattle.std.specs.Prelude.{◌≡◌, ℕ, Bool, true, false, List, [], Some, None}
-use Rattle.alias_facts.specs.PairsOf.{Pair, AreInOrder, AreProper}
-use Rattle.interval_domain.specs.Interval.{Interval}
+use Rattle.std.specs.Prelude.{◌≡◌, true, false, Some, None}
+use Rattle.alias_facts.specs.PairsOf.{AreInOrder, AreProper}
 use Rattle.pentagon_domain.specs.Rows.{AreBounds}
-use Rattle.pentagon_domain.specs.declared.bound_row.BoundRow.{BoundRow}
-use Rattle.symbolic_values.specs.declared.def.Def.{Def}
+use Rattle.state_parts.specs.Lists.{StateParts, nothing_listed}
 use Rattle.abs_state.specs.Forms.{HasForm}
 use Rattle.abs_state.specs.StateFacts.{StateFacts, State}
-use Rattle.frame_names.specs.declared.reference.Reference.{Reference}
-use Rattle.abs_state.specs.declared.reference.Unknown.{Unknown}
-use Rattle.frame_names.specs.declared.var.Var.{Var}
-
--- Whether something is reached, what each variable has, the range of each symbol from 1 on, definitions, bounds, what is
--- known of each reference from 1 on, and which are apart.
-pub record StateParts : Type 0 where
-  pub reached : Bool
-  pub variables : List Var
-  pub ranges : List Interval
-  pub definitions : List (ℕ × Def)
-  pub bounds : List BoundRow
-  pub references : List (Reference Unknown)
-  pub apart : List Pair
 
 -- What is known where something is reached.
 abbrev pub known_of : StateParts → StateFacts
@@ -30,9 +14,6 @@ known_of parts = record {
   references = parts.references;
   apart = parts.apart;
 }
-
-abbrev pub nothing_listed : StateParts
-nothing_listed = record { reached = false; variables = []; ranges = []; definitions = []; bounds = []; references = []; apart = [] }
 
 -- The parts of a state. Where nothing is reached all lists are empty.
 abbrev pub parts_of : State → StateParts

@@ -5,7 +5,7 @@ ghost use Rattle.std.specs.List.{list_all};
 ghost use Rattle.abs_state.specs.Calls as rule;
 
 use crate::known::Known;
-use crate::reference::Unknown;
+use state_parts::Unknown;
 use frame_names::Reference;
 use frame_names::Var;
 use alias_facts::{Apart, Nullness};

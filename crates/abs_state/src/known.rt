@@ -3,7 +3,7 @@
 ghost use Rattle.std.specs.Prelude.{◌≡◌, ◌≢◌, ◌+◌, ◌≤◌, ◌<◌, length, slice_get, Some, IfOk, OnOk, OnErr};
 ghost use Rattle.abs_state.specs.StateFacts as rule;
 
-use crate::reference::Unknown;
+use state_parts::Unknown;
 use frame_names::Reference;
 use frame_names::Var;
 use alias_facts::{Apart, Nullness};

@@ -9,12 +9,10 @@ mod equality;
 mod known;
 mod moves;
 mod parts;
-mod reference;
 mod state;
 mod steps;
 mod test;
 
 pub use frame_names::{Reference, Var};
-pub use parts::Parts;
-pub use reference::Unknown;
 pub use state::AbsState;
+pub use state_parts::{Parts, Unknown};

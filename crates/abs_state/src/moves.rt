@@ -7,7 +7,7 @@ ghost use Rattle.number_facts.specs.Fresh.{expr_made, facts_made};
 ghost use Rattle.abs_state.specs.Moves as rule;
 
 use crate::known::Known;
-use crate::reference::Unknown;
+use state_parts::Unknown;
 use frame_names::Reference;
 use frame_names::Var;
 use alias_facts::Nullness;

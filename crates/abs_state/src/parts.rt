@@ -1,283 +1,38 @@
-//! A state as lists, and back.
+//! A state from lists, and back.
 
-ghost use Rattle.std.specs.Prelude.{◌≡◌, ◌↔◌, length, IfOk, IfSome, IsSome, Some};
-ghost use Rattle.std.specs.List.{list_all};
-ghost use Rattle.abs_state.specs.FormTests as tests;
+ghost use Rattle.std.specs.Prelude.{◌≡◌, ◌↔◌, IfOk, IfSome, IsSome, Some};
 ghost use Rattle.abs_state.specs.StateParts.{AreOrdered, AreParts, known_of, parts_of};
 
 use crate::known::Known;
-use crate::reference::Unknown;
-use frame_names::Reference;
 use crate::state::AbsState;
-use frame_names::Var;
 use alias_facts::Apart;
-use cil_model::Place;
-use domain_api::{Expr, NoMemory};
-use interval_domain::Range;
+use domain_api::NoMemory;
 use number_facts::Numbers;
-use pentagon_domain::{BoundRow, Bounds};
+use pentagon_domain::Bounds;
+use state_parts::Parts;
 use std::alloc::Global;
-use std::marker::Model;
-use symbolic_values::Def;
 
-/// A state as lists. Symbol 0 and reference 0 are not among them.
-#[derive(Drop)]
-pub struct Parts {
-    /// True where something is reached. Where nothing is, all lists are empty.
-    pub reached: bool,
-    /// What each variable has: the arguments at the entry, the arguments, the locals, the stack from the bottom.
-    pub variables: Vec<Var>,
-    /// The range of each symbol, that of symbol s at place s - 1.
-    pub ranges: Vec<Range>,
-    /// What some symbols are, rising by the symbol, each once.
-    pub definitions: Vec<(u32, Def)>,
-    /// How symbols lie to each other, rising by the first symbol, then by the second.
-    pub bounds: Vec<BoundRow>,
-    /// What is known of each reference, that of reference r at place r - 1.
-    pub references: Vec<Reference<Unknown>>,
-    /// Which references are not the same array, lower first, in order.
-    pub apart: Vec<(u32, u32)>,
-}
-
-impl Model for Parts {
-    ghost use Rattle.abs_state.specs.StateParts.{StateParts};
-
-    ghost Value = { StateParts };
-
-    ghost view = { λ p. record {
-      reached = p.reached;
-      variables = p.variables.items;
-      ranges = p.ranges.items;
-      definitions = p.definitions.items;
-      bounds = p.bounds.items;
-      references = p.references.items;
-      apart = p.apart.items;
-    } };
-}
-
-/// Returns whether a hole lies strictly between two ends.
-fn is_inner(lo: i64, hi: i64, hole: Option<i64>) -> bool
-    ensures { result ≡ tests.is_inner lo hi hole }
+/// What is known by these lists, where something is reached. None where bounds or pairs are not in order.
+fn known(parts: &Parts, alloc: Global) -> Result<Option<Known>, NoMemory>
+    ensures value { IfOk result (λ made. IfSome made (λ known. known ≡ known_of parts.now)) }
+    ensures some { IfOk result (λ made. IsSome made ↔ AreOrdered (known_of parts.now)) }
 {
-    match hole {
-        None => true,
-        Some(hole) => lo < hole && hole < hi,
-    }
-}
-
-/// Returns whether the numbers of a range are int32, and there is one.
-#[tactic(auto, unfolding(crate::specs::FormTests::is_narrow))]
-fn is_narrow(range: &Range) -> bool
-    ensures { result ≡ tests.is_narrow range.now }
-{
-    let (lo, hi) = (range.lo(), range.hi());
-    i64::from(i32::MIN) <= lo
-        && lo <= hi
-        && hi <= i64::from(i32::MAX)
-        && is_inner(lo, hi, range.hole())
-}
-
-/// How many symbols and references there are.
-#[derive(Clone, Copy)]
-pub(crate) struct Sizes {
-    symbols: usize,
-    references: usize,
-}
-
-impl Sizes {
-    /// Returns whether the symbol of an expression is there.
-    fn has(self, e: Expr) -> bool
-        ensures { result ≡ tests.has self.symbols e }
-    {
-        e.sym as usize <= self.symbols
-    }
-
-    /// Returns whether the symbol of an expression is there, and its constant is near.
-    fn has_number(self, e: Expr) -> bool
-        ensures { result ≡ tests.is_number self.symbols e }
-    {
-        self.has(e) && -4_294_967_296 <= e.k && e.k <= 4_294_967_296
-    }
-
-    /// Returns whether what a variable has is there.
-    fn has_var(self, v: &Var) -> bool
-        ensures { result ≡ tests.is_var self.symbols self.references v.now }
-    {
-        match *v {
-            Var::Number(e) => self.has_number(e),
-            Var::Reference(r) => r as usize <= self.references,
-            Var::Text => true,
-        }
-    }
-
-    /// Returns whether a reference is one of an array, and its length is there.
-    fn has_reference(self, reference: &Reference<Unknown>) -> bool
-        ensures { result ≡ tests.is_reference self.symbols reference.now }
-    {
-        matches!(reference.place, Place::Bools | Place::Ints) && self.has_number(reference.length)
-    }
-
-    /// Returns whether what a definition names is there.
-    fn has_definition(self, definition: &(u32, Def)) -> bool
-        ensures { result ≡ tests.is_definition self.symbols self.references definition.now }
-    {
-        let (symbol, def) = *definition;
-        symbol as usize <= self.symbols
-            && match def {
-                Def::Eq(a, b) | Def::Lt(a, b) | Def::LtUn(a, b) | Def::Sub(a, b) => {
-                    self.has(a) && self.has(b)
-                }
-                Def::NullTest(r, _) => r as usize <= self.references,
-            }
-    }
-
-    /// Returns whether the symbols of a bound are there.
-    fn has_bound(self, row: &BoundRow) -> bool
-        ensures { result ≡ tests.is_bound self.symbols row.now }
-    {
-        row.s as usize <= self.symbols && row.t as usize <= self.symbols
-    }
-
-    /// Returns whether both references of a pair are there.
-    fn has_pair(self, pair: &(u32, u32)) -> bool
-        ensures { result ≡ tests.is_pair self.references pair.now }
-    {
-        pair.0 as usize <= self.references && pair.1 as usize <= self.references
-    }
-
-    /// Returns whether what each variable has is there.
-    fn has_vars(self, variables: &[Var]) -> bool
-        ensures { result ≡ list_all (tests.is_var self.symbols self.references) variables.now }
-    {
-        variables.iter().all(|v| self.has_var(v))
-    }
-
-    /// Returns whether each reference is one of an array, and its length is there.
-    fn has_all_references(self, references: &[Reference<Unknown>]) -> bool
-        ensures { result ≡ list_all (tests.is_reference self.symbols) references.now }
-    {
-        references.iter().all(|r| self.has_reference(r))
-    }
-
-    /// Returns whether what each definition names is there.
-    fn has_definitions(self, definitions: &[(u32, Def)]) -> bool
-        ensures { result ≡ list_all (tests.is_definition self.symbols self.references) definitions.now }
-    {
-        definitions.iter().all(|d| self.has_definition(d))
-    }
-
-    /// Returns whether the symbols of each bound are there.
-    fn has_bounds(self, rows: &[BoundRow]) -> bool
-        ensures { result ≡ list_all (tests.is_bound self.symbols) rows.now }
-    {
-        rows.iter().all(|row| self.has_bound(row))
-    }
-
-    /// Returns whether the references of each pair are there.
-    fn has_pairs(self, pairs: &[(u32, u32)]) -> bool
-        ensures { result ≡ list_all (tests.is_pair self.references) pairs.now }
-    {
-        pairs.iter().all(|pair| self.has_pair(pair))
-    }
-}
-
-/// Returns whether the numbers of each range are int32.
-fn are_narrow(ranges: &[Range]) -> bool
-    ensures { result ≡ list_all tests.is_narrow ranges.now }
-{
-    ranges.iter().all(is_narrow)
-}
-
-/// Returns whether each symbol is defined once at most, and they rise.
-#[tactic(auto, using(crate::proofs::Searching::rising_symbols))]
-fn are_rising(definitions: &[(u32, Def)]) -> bool
-    ensures { result ≡ tests.are_rising definitions.now }
-{
-    let mut least = 0;
-    for definition in definitions {
-        let symbol = u64::from(definition.0);
-        if symbol < least {
-            return false;
-        }
-        least = symbol + 1;
-    }
-    true
-}
-
-impl Parts {
-    /// Returns whether nothing is listed.
-    fn is_empty(&self) -> bool
-        ensures { result ≡ tests.is_empty self.now }
-    {
-        self.variables.is_empty()
-            && self.ranges.is_empty()
-            && self.definitions.is_empty()
-            && self.bounds.is_empty()
-            && self.references.is_empty()
-            && self.apart.is_empty()
-    }
-
-    /// How many symbols and references there are.
-    fn sizes(&self) -> Sizes
-        ensures symbols { result.symbols ≡ length self.now.ranges }
-        ensures references { result.references ≡ length self.now.references }
-    {
-        Sizes {
-            symbols: self.ranges.len(),
-            references: self.references.len(),
-        }
-    }
-
-    /// Returns whether ranges are of int32, and what is known of symbols names what is there.
-    #[tactic(auto, unfolding(crate::specs::FormTests::has_numbers))]
-    fn has_numbers(&self) -> bool
-        ensures { result ≡ tests.has_numbers self.now }
-    {
-        let sizes = self.sizes();
-        are_narrow(&self.ranges)
-            && are_rising(&self.definitions)
-            && sizes.has_definitions(&self.definitions)
-            && sizes.has_bounds(&self.bounds)
-    }
-
-    /// Returns whether what is known of references names what is there.
-    #[tactic(auto, unfolding(crate::specs::FormTests::has_references))]
-    fn has_references(&self) -> bool
-        ensures { result ≡ tests.has_references self.now }
-    {
-        let sizes = self.sizes();
-        sizes.has_all_references(&self.references) && sizes.has_pairs(&self.apart)
-    }
-
-    /// Returns whether ranges are of int32, and what is named is there.
-    fn has_form(&self) -> bool
-        ensures { result ≡ tests.has_form self.now }
-    {
-        self.has_numbers() && self.sizes().has_vars(&self.variables) && self.has_references()
-    }
-
-    /// What is known by these lists, where something is reached. None where bounds or pairs are not in order.
-    fn known(&self, alloc: Global) -> Result<Option<Known>, NoMemory>
-        ensures value { IfOk result (λ made. IfSome made (λ known. known ≡ known_of self.now)) }
-        ensures some { IfOk result (λ made. IsSome made ↔ AreOrdered (known_of self.now)) }
-    {
-        let Some(bounds) = Bounds::of_rows(Vec::from_slice(alloc, self.bounds.as_slice())?) else {
-            return Ok(None);
-        };
-        let Some(apart) = Apart::of_pairs(alloc, self.apart.as_slice())? else {
-            return Ok(None);
-        };
-        Ok(Some(Known {
-            variables: Vec::from_slice(alloc, self.variables.as_slice())?,
-            numbers: Numbers {
-                ranges: Vec::from_slice(alloc, self.ranges.as_slice())?,
-                definitions: Vec::from_slice(alloc, self.definitions.as_slice())?,
-                bounds,
-            },
-            references: Vec::from_slice(alloc, self.references.as_slice())?,
-            apart,
-        }))
-    }
+    let Some(bounds) = Bounds::of_rows(Vec::from_slice(alloc, parts.bounds.as_slice())?) else {
+        return Ok(None);
+    };
+    let Some(apart) = Apart::of_pairs(alloc, parts.apart.as_slice())? else {
+        return Ok(None);
+    };
+    Ok(Some(Known {
+        variables: Vec::from_slice(alloc, parts.variables.as_slice())?,
+        numbers: Numbers {
+            ranges: Vec::from_slice(alloc, parts.ranges.as_slice())?,
+            definitions: Vec::from_slice(alloc, parts.definitions.as_slice())?,
+            bounds,
+        },
+        references: Vec::from_slice(alloc, parts.references.as_slice())?,
+        apart,
+    }))
 }
 
 impl Known {
@@ -337,9 +92,11 @@ impl AbsState {
         if !parts.has_form() {
             return Ok(None);
         }
-        let Some(known) = parts.known(alloc)? else {
+        let Some(listed) = known(parts, alloc)? else {
             return Ok(None);
         };
-        Ok(Some(AbsState { known: Some(known) }))
+        Ok(Some(AbsState {
+            known: Some(listed),
+        }))
     }
 }

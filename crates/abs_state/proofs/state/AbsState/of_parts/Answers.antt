@@ -1,7 +1,7 @@
 use Rattle.std.proofs.Common.{sym, ap, is_some, ◌∙◌}
 use Rattle.abs_state.proofs.Growing.{same_form}
 use Rattle.abs_state.proofs.PartForms.{formed, made_exactly, refused}
-use Rattle.abs_state.specs.StateParts.{StateParts}
+use Rattle.state_parts.specs.Lists.{StateParts}
 use Rattle.abs_state.proofs.state.AbsState.of_parts.Goals as goal
 
 pub returns-then-not-has_form-clause-exact : goal.returns-then-not-has_form-clause-exact

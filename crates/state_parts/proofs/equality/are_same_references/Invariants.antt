@@ -1,5 +1,5 @@
 use Rattle.std.proofs.Common.{◌≡◌, length, take}
-use Rattle.abs_state.proofs.equality.are_same_definitions.Given as goal
+use Rattle.state_parts.proofs.equality.are_same_references.Given as goal
 
 abbrev pub invariant-loop-index : goal.invariant-loop-index
 invariant-loop-index l = record {
