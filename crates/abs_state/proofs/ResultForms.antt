@@ -58,23 +58,29 @@ MayDefine references (Is def ∷ rs) = TestsOf references def × AllByRecursion 
 
 bound_alone : (facts : Facts) (s t : ℕ) (k : ℤ) → (bounded facts s t k).definitions ≡ facts.definitions
 unfolding bounded
-bound_alone facts s t k = cond_both (is_long k) _ _ (λ (f : Facts). f.definitions ≡ facts.definitions) (λ e. refl) (λ e. refl)
+bound_alone facts s t k = cond_both (is_long k) _ _ (λ (f : Facts). f.definitions ≡ facts.definitions) (λ e. refl)
+    (λ e. refl)
 
-bounds_alone : (facts : Facts) (t : ℕ) (rs : List Relation) → AllByRecursion IsBound rs → (related_so facts t rs).definitions ≡ facts.definitions
+bounds_alone : (facts : Facts) (t : ℕ) (rs : List Relation) → AllByRecursion IsBound rs
+    → (related_so facts t rs).definitions ≡ facts.definitions
 bounds_alone facts t [] all = refl
 bounds_alone facts t (AtLeast s k ∷ rs) all = bounds_alone (bounded facts s t k) t rs all.1 ∙ bound_alone facts s t k
-bounds_alone facts t (AtMost s k ∷ rs) all = bounds_alone (bounded facts t s (neg_ℤ k)) t rs all.1 ∙ bound_alone facts t s (neg_ℤ k)
+bounds_alone facts t (AtMost s k ∷ rs) all = bounds_alone (bounded facts t s (neg_ℤ k)) t rs all.1
+    ∙ bound_alone facts t s (neg_ℤ k)
 bounds_alone facts t (Is def ∷ rs) all = elim all.0 [ ]
 
 appended : (facts : Facts) (t : ℕ) (def : Def) → (defined facts t def).definitions ≡ facts.definitions ++ (t, def) ∷ []
 unfolding defined
 appended facts t def = refl
 
-grows_alone : (known : StateFacts) (facts : Facts) → HasForm known → facts.definitions ≡ known.facts.definitions → KeepsForm known.facts facts → Grows known facts
+grows_alone : (known : StateFacts) (facts : Facts) → HasForm known → facts.definitions ≡ known.facts.definitions
+    → KeepsForm known.facts facts → Grows known facts
 grows_alone known facts form same kept = record { form = kept; rising = rw same form.rising; tests = rw same form.tests }
 
-grows_so : (known : StateFacts) (facts : Facts) (t : ℕ) (rs : List Relation) → HasForm known → facts.definitions ≡ known.facts.definitions
-    → length known.facts.ranges < t → MayDefine (length known.references) rs → KeepsForm known.facts (related_so facts t rs)
+grows_so : (known : StateFacts) (facts : Facts) (t : ℕ) (rs : List Relation) → HasForm known
+    → facts.definitions ≡ known.facts.definitions
+    → length known.facts.ranges < t → MayDefine (length known.references) rs
+    → KeepsForm known.facts (related_so facts t rs)
     → Grows known (related_so facts t rs)
 grows_so known facts t [] form same later may kept = grows_alone known facts form same kept
 grows_so known facts t (AtLeast s k ∷ rs) form same later may kept =
@@ -83,29 +89,36 @@ grows_so known facts t (AtMost s k ∷ rs) form same later may kept =
     grows_alone known _ form (bounds_alone facts t (AtMost s k ∷ rs) (tt, may) ∙ same) kept
 grows_so known facts t (Is def ∷ rs) form same later may kept =
     grows_by known _ t def form kept later
-    (bounds_alone (defined facts t def) t rs may.1 ∙ appended facts t def ∙ ap (λ (ds : List (ℕ × Def)). ds ++ (t, def) ∷ []) same) may.0
+    (bounds_alone (defined facts t def) t rs may.1 ∙ appended facts t def
+    ∙ ap (λ (ds : List (ℕ × Def)). ds ++ (t, def) ∷ []) same) may.0
 
-noted_grows : (known : StateFacts) (r : Interval) (rs : List Relation) → HasForm known → MayDefine (length known.references) rs
+noted_grows : (known : StateFacts) (r : Interval) (rs : List Relation) → HasForm known
+    → MayDefine (length known.references) rs
     → KeepsForm known.facts (noted known.facts r rs).facts → Grows known (noted known.facts r rs).facts
 unfolding noted
 noted_grows known r rs form may kept =
-    cond_both (int_eq r.lo r.hi) _ _ (λ (m : Made). KeepsForm known.facts m.facts → Grows known m.facts) (λ e k. same_facts known form)
+    cond_both (int_eq r.lo r.hi) _ _ (λ (m : Made). KeepsForm known.facts m.facts → Grows known m.facts)
+    (λ e k. same_facts known form)
     (λ e k. grows_so known _ (length known.facts.ranges + 1) rs form refl (omega arith) may k) kept
 
 abbrev pub EachGrows : StateFacts → Option Made → Type 0
 EachGrows known None = Unit {0}
 EachGrows known (Some made) = Grows known made.facts
 
-some_grows : (known : StateFacts) (o : Option Interval) (rs : List Relation) → HasForm known → MayDefine (length known.references) rs
+some_grows : (known : StateFacts) (o : Option Interval) (rs : List Relation) → HasForm known
+    → MayDefine (length known.references) rs
     → KeepsForm known.facts (facts_made known.facts (option_map (λ r. noted known.facts r rs) o))
     → EachGrows known (option_map (λ r. noted known.facts r rs) o)
 some_grows known None rs form may kept = tt
 some_grows known (Some r) rs form may kept = noted_grows known r rs form may kept
 
-settled_grows : (known : StateFacts) (o : Outcome) (rs : List Relation) → HasForm known → MayDefine (length known.references) rs
-    → KeepsForm known.facts (facts_made known.facts (settled known.facts o rs)) → EachGrows known (settled known.facts o rs)
+settled_grows : (known : StateFacts) (o : Outcome) (rs : List Relation) → HasForm known
+    → MayDefine (length known.references) rs
+    → KeepsForm known.facts (facts_made known.facts (settled known.facts o rs))
+    → EachGrows known (settled known.facts o rs)
 unfolding settled fresh
-settled_grows known (outcomes.Is e) rs form may kept = cond_both (is_kept e) _ _ (EachGrows known) (λ so. same_facts known form) (λ so. tt)
+settled_grows known (outcomes.Is e) rs form may kept = cond_both (is_kept e) _ _ (EachGrows known)
+    (λ so. same_facts known form) (λ so. tt)
 settled_grows known (outcomes.Within r) rs form may kept =
     some_grows known (range_without (int_max r.lo LEAST) (int_min r.hi GREATEST) None) rs form may kept
 
@@ -133,18 +146,23 @@ difference_may : (references : ℕ) (facts : Facts) (a b : Expr) → MayDefine r
 unfolding difference_relations
 difference_may references facts a b =
     cond_both (b.sym == 0) _ _ (MayDefine references) (λ e. may_bound references _ (sum_bound facts a (negated b)))
-    (λ e. cond_both (is_inside (difference_span facts a b)) _ _ (MayDefine references) (λ f. (tt, (tt, (tt, tt)))) (λ f. tt))
+    (λ e. cond_both (is_inside (difference_span facts a b)) _ _ (MayDefine references) (λ f. (tt, (tt, (tt, tt))))
+    (λ f. tt))
 
 two_bound : (b c : Bool) (rs qs : List Relation) → AllByRecursion IsBound rs → AllByRecursion IsBound qs
     → AllByRecursion IsBound (where_so b rs ++ where_so c qs)
-two_bound b c rs qs first second = all_both IsBound (where_so b rs) (where_so c qs) (where_bound b rs first) (where_bound c qs second)
+two_bound b c rs qs first second = all_both IsBound (where_so b rs) (where_so c qs) (where_bound b rs first)
+    (where_bound c qs second)
 
 quotient_bound : (facts : Facts) (a b : Expr) → AllByRecursion IsBound (quotient_relations facts a b)
 unfolding quotient_relations
 quotient_bound facts a b =
-    let less : List Relation = where_so (is_positive (range_of facts a) && is_above_one (range_of facts b)) (no_more a (pos 1)) in
-    let less_bound : AllByRecursion IsBound less = where_bound (is_positive (range_of facts a) && is_above_one (range_of facts b)) (no_more a (pos 1)) (tt, tt) in
-    where_bound (is_not_negative (range_of facts a) && is_positive (range_of facts b)) (no_more a (pos 0) ++ less) (tt, less_bound)
+    let less : List Relation = where_so (is_positive (range_of facts a) && is_above_one (range_of facts b))
+    (no_more a (pos 1)) in
+    let less_bound : AllByRecursion IsBound less = where_bound
+    (is_positive (range_of facts a) && is_above_one (range_of facts b)) (no_more a (pos 1)) (tt, tt) in
+    where_bound (is_not_negative (range_of facts a) && is_positive (range_of facts b)) (no_more a (pos 0) ++ less)
+    (tt, less_bound)
 
 remainder_bound : (facts : Facts) (a b : Expr) → AllByRecursion IsBound (remainder_relations facts a b)
 unfolding remainder_relations
@@ -154,14 +172,17 @@ common_bound : (facts : Facts) (a b : Expr) → AllByRecursion IsBound (common_r
 unfolding common_relations
 common_bound facts a b = two_bound _ _ (no_more a (pos 0)) (no_more b (pos 0)) (tt, tt) (tt, tt)
 
-relations_may : (op : BinOp) (references : ℕ) (facts : Facts) (a b : Expr) → MayDefine references (relations op facts a b)
+relations_may : (op : BinOp) (references : ℕ) (facts : Facts) (a b : Expr)
+    → MayDefine references (relations op facts a b)
 unfolding relations
 relations_may operators.Add references facts a b = may_bound references _ (sum_bound facts a b)
 relations_may operators.Sub references facts a b = difference_may references facts a b
 relations_may operators.Div references facts a b = may_bound references _ (quotient_bound facts a b)
-relations_may operators.DivUn references facts a b = may_bound references _ (where_bound (are_plain facts a b) _ (quotient_bound facts a b))
+relations_may operators.DivUn references facts a b = may_bound references _
+    (where_bound (are_plain facts a b) _ (quotient_bound facts a b))
 relations_may operators.Rem references facts a b = may_bound references _ (remainder_bound facts a b)
-relations_may operators.RemUn references facts a b = may_bound references _ (where_bound (are_plain facts a b) _ (remainder_bound facts a b))
+relations_may operators.RemUn references facts a b = may_bound references _
+    (where_bound (are_plain facts a b) _ (remainder_bound facts a b))
 relations_may operators.And references facts a b = may_bound references _ (common_bound facts a b)
 relations_may operators.Shr references facts a b = may_bound references _ (where_bound _ (no_more a (pos 0)) (tt, tt))
 relations_may operators.ShrUn references facts a b = may_bound references _ (where_bound _ (no_more a (pos 0)) (tt, tt))
@@ -180,17 +201,21 @@ relations_may operators.CltUn references facts a b = tt
 
 -- ---- a result on top
 
-each_result : (known : StateFacts) (o : Option Made) → HasForm known → EachGrows known o → IfSome (expr_made o) (IsThere (facts_made known.facts o))
+each_result : (known : StateFacts) (o : Option Made) → HasForm known → EachGrows known o
+    → IfSome (expr_made o) (IsThere (facts_made known.facts o))
     → Formed (option_map (on_top known) o)
 each_result known None form grows there = tt
 each_result known (Some made) form grows there =
-    on_top_form known made form grows (record { there = there.there; near = record { least = there.least; greatest = there.greatest } })
+    on_top_form known made form grows
+    (record { there = there.there; near = record { least = there.least; greatest = there.greatest } })
 
-pub with_result_form : (op : BinOp) (a b : Expr) (known : StateFacts) → HasForm known → HasNumber known a → HasNumber known b
+pub with_result_form : (op : BinOp) (a b : Expr) (known : StateFacts) → HasForm known → HasNumber known a
+    → HasNumber known b
     → Formed (with_result op a b known)
 unfolding with_result
 with_result_form op a b known form first second =
     each_result known _ form
-    (settled_grows known (outcome op known.facts a b) (relations op known.facts a b) form (relations_may op (length known.references) known.facts a b)
+    (settled_grows known (outcome op known.facts a b) (relations op known.facts a b) form
+    (relations_may op (length known.references) known.facts a b)
     (result_form op known.facts a b first.there second.there))
     (result_there op known.facts a b first.there second.there)

@@ -34,7 +34,8 @@ record AreWorth (number : ℕ → ℤ) (a b : Expr) (first second : ℤ) : Type 
   second_is : second ≡ worth number b
   fit : AreInt32 number a b
 
-worths : (heap : Heap) (number : ℕ → ℤ) (array : ℕ → Option ℕ) (a b : Expr) (first second : ℤ) → HaveInts heap number array a b first second
+worths : (heap : Heap) (number : ℕ → ℤ) (array : ℕ → Option ℕ) (a b : Expr) (first second : ℤ)
+    → HaveInts heap number array a b first second
     → AreWorth number a b first second
 worths heap number array a b first second have =
     let one = same_number first (worth number a) have.first_is in
@@ -42,32 +43,44 @@ worths heap number array a b first second have =
     record {
       first_is = one;
       second_is = two;
-      fit = record { first = subst (FitsSigned w32) one have.first_fits; second = subst (FitsSigned w32) two have.second_fits };
+      fit = record { first = subst (FitsSigned w32) one have.first_fits; second = subst
+      (FitsSigned w32) two have.second_fits };
     }
 
-result_so : (op : BinOp) (a b : Expr) (known : StateFacts) (vs : List Value) (heap : Heap) (number : ℕ → ℤ) (array : ℕ → Option ℕ) (first second n : ℤ)
-    → HasForm known → HasNumber known a → HasNumber known b → HoldsBy known vs heap number array → HaveInts heap number array a b first second
-    → operated op first second ≡ Ok n → HoldsOn (Some known) (with_result op a b known) (vs ++ values.Int n ∷ []) heap number array
+result_so : (op : BinOp) (a b : Expr) (known : StateFacts) (vs : List Value) (heap : Heap) (number : ℕ → ℤ)
+    (array : ℕ → Option ℕ) (first second n : ℤ)
+    → HasForm known → HasNumber known a → HasNumber known b → HoldsBy known vs heap number array
+    → HaveInts heap number array a b first second
+    → operated op first second ≡ Ok n
+    → HoldsOn (Some known) (with_result op a b known) (vs ++ values.Int n ∷ []) heap number array
 unfolding with_result
 result_so op a b known vs heap number array first second n form one two holds have gives =
     let so = worths heap number array a b first second have in
-    each_yields known.facts (settled known.facts (outcome op known.facts a b) (relations op known.facts a b)) number (λ r. is_no_array (array r)) n
+    each_yields known.facts (settled known.facts (outcome op known.facts a b) (relations op known.facts a b)) number
+    (λ r. is_no_array (array r)) n
     (λ o. HoldsOn (Some known) (option_map (on_top known) o) (vs ++ values.Int n ∷ []) heap number array)
-    (result_keeps op known.facts a b one.there two.there form.narrow number (λ r. is_no_array (array r)) n form.named holds.facts so.fit
-    (ap (λ (m : ℤ). operated op m (worth number b)) (sym so.first_is) ∙ ap (λ (m : ℤ). operated op first m) (sym so.second_is) ∙ gives))
-    (λ made more. made_holds known made (known.variables ++ vars.Number made.expr ∷ []) vs (vs ++ values.Int n ∷ []) heap heap number array n form holds
+    (result_keeps op known.facts a b one.there two.there form.narrow number
+    (λ r. is_no_array (array r)) n form.named holds.facts so.fit
+    (ap (λ (m : ℤ). operated op m (worth number b)) (sym so.first_is)
+    ∙ ap (λ (m : ℤ). operated op first m) (sym so.second_is) ∙ gives))
+    (λ made more. made_holds known made (known.variables ++ vars.Number made.expr ∷ []) vs
+    (vs ++ values.Int n ∷ []) heap heap number array n form holds
     (keeps_itself heap) more
-    (λ later values_are worth_is. have_pushed later array known.variables vs (vars.Number made.expr) (values.Int n) values_are (ap (λ (m : ℤ). Some m) (sym worth_is))))
+    (λ later values_are worth_is. have_pushed later array known.variables vs (vars.Number made.expr)
+    (values.Int n) values_are (ap (λ (m : ℤ). Some m) (sym worth_is))))
 
-pub arith_keeps : (op : BinOp) (a b : Expr) (state : State) → ForSome state HasForm → ForSome state (λ known. HasNumber known a)
+pub arith_keeps : (op : BinOp) (a b : Expr) (state : State) → ForSome state HasForm
+    → ForSome state (λ known. HasNumber known a)
     → ForSome state (λ known. HasNumber known b) → KeepsArith op a b state (calls.arith op a b state)
 arith_keeps op a b None form one two = λ vs heap number array first second n holds have gives. elim holds [ ]
 arith_keeps op a b (Some known) form one two = λ vs heap number array first second n holds have gives.
-    result_so op a b known vs heap number array first second n (form known refl) (one known refl) (two known refl) holds have gives
+    result_so op a b known vs heap number array first second n (form known refl) (one known refl)
+    (two known refl) holds have gives
 
 -- ---- ends
 
-pub exact_ends_hold : (op : BinOp) (a b : Expr) (state : State) (known : StateFacts) (lo hi : ℤ) → state ≡ Some known → HasForm known
+pub exact_ends_hold : (op : BinOp) (a b : Expr) (state : State) (known : StateFacts) (lo hi : ℤ) → state ≡ Some known
+    → HasForm known
     → AreExactEnds op a b known.facts lo hi → HasExactEnds op a b state lo hi
 exact_ends_hold op a b None known lo hi is form ends = absurd cc
 exact_ends_hold op a b (Some x) known lo hi is form ends = λ vs heap number array first second exact holds have exact_is.
@@ -75,7 +88,8 @@ exact_ends_hold op a b (Some x) known lo hi is form ends = λ vs heap number arr
     let same : x ≡ known = same_known x known is in
     let facts = holds.facts in
     ends number (λ r. is_no_array (array r)) exact form.named (rw same at facts) so.fit
-    (subst (λ (m : ℤ). IsExact op m (worth number b) exact) so.first_is (subst (λ (m : ℤ). IsExact op first m exact) so.second_is exact_is))
+    (subst (λ (m : ℤ). IsExact op m (worth number b) exact) so.first_is
+    (subst (λ (m : ℤ). IsExact op first m exact) so.second_is exact_is))
   where
     same_known : (x y : StateFacts) → Some x ≡ Some y → x ≡ y
     same_known x y is = cc

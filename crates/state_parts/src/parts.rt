@@ -33,7 +33,7 @@ pub struct Parts {
 }
 
 impl Model for Parts {
-    ghost use Rattle.state_parts.specs.StateParts.{StateParts};
+    ghost use Rattle.state_parts.specs.Lists.{StateParts};
 
     ghost Value = { StateParts };
 
