@@ -1,16 +1,3 @@
-pub mod Growing
-pub mod Searching
-pub mod MadeNumbers
-pub mod MoveForms
-pub mod ComparisonForms
-pub mod AssumptionForms
-pub mod Agreeing
-pub mod Stepping
+pub mod Rising
 pub mod PartForms
-pub mod MovesHold
-pub mod ArraysHold
 pub mod KeptWhereOk
-pub mod ComparisonsHold
-pub mod AssumptionsHold
-pub mod ResultForms
-pub mod ResultsHold

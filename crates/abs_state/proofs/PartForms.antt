@@ -17,11 +17,11 @@ use Rattle.symbolic_values.specs.declared.def.Def.{Def}
 use Rattle.symbolic_values.specs.declared.def.Def.TheVariants.{Eq, Lt, LtUn, NullTest, Sub}
 use Rattle.alias_facts.specs.PairsOf.{Pair}
 use Rattle.abs_state.specs.FormTests.{is_inner, is_narrow, has, is_number, is_var, is_array_place, is_reference, is_def, is_definition, is_bound, is_pair, rise_from, are_rising, has_numbers, has_references, has_form}
-use Rattle.abs_state.specs.Forms.{AreRising, EndsBy, HasForm, IsArrayPlace, IsNumber, IsReference, IsVar, TestsOf}
-use Rattle.abs_state.specs.StateFacts.{StateFacts}
+use Rattle.state_facts.specs.Forms.{AreRising, EndsBy, HasForm, IsArrayPlace, IsNumber, IsReference, IsVar, TestsOf}
+use Rattle.state_facts.specs.StateFacts.{StateFacts}
 use Rattle.abs_state.specs.StateParts.{StateParts, AreOrdered, AreParts, known_of}
 use Rattle.frame_names.specs.declared.reference.Reference.{Reference}
-use Rattle.abs_state.specs.declared.reference.Unknown.{Unknown}
+use Rattle.state_facts.specs.declared.reference.Unknown.{Unknown}
 use Rattle.frame_names.specs.declared.var.Var.{Var}
 use Rattle.frame_names.specs.declared.var.Var.TheVariants as vars
 

@@ -1,12 +1,2 @@
-pub mod StateFacts
-pub mod Forms
-pub mod Moves
-pub mod Calls
-pub mod Comparing
-pub mod Assuming
-pub mod Arithmetic
-pub mod States
 pub mod StateParts
 pub mod FormTests
-pub mod Holds
-pub mod Keeps

@@ -5,10 +5,10 @@ use Rattle.interval_domain.specs.Interval.{Interval}
 use Rattle.pentagon_domain.specs.Rows.{AreBounds}
 use Rattle.pentagon_domain.specs.declared.bound_row.BoundRow.{BoundRow}
 use Rattle.symbolic_values.specs.declared.def.Def.{Def}
-use Rattle.abs_state.specs.Forms.{HasForm}
-use Rattle.abs_state.specs.StateFacts.{StateFacts, State}
+use Rattle.state_facts.specs.Forms.{HasForm}
+use Rattle.state_facts.specs.StateFacts.{StateFacts, State}
 use Rattle.frame_names.specs.declared.reference.Reference.{Reference}
-use Rattle.abs_state.specs.declared.reference.Unknown.{Unknown}
+use Rattle.state_facts.specs.declared.reference.Unknown.{Unknown}
 use Rattle.frame_names.specs.declared.var.Var.{Var}
 
 -- Whether something is reached, what each variable has, the range of each symbol from 1 on, definitions, bounds, what is

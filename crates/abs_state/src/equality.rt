@@ -2,8 +2,8 @@
 
 ghost use Rattle.std.specs.Prelude.{◌≡◌, ◌↔◌, IsTrue};
 
-use crate::known::Known;
-use crate::reference::Unknown;
+use state_facts::Known;
+use state_facts::Unknown;
 use crate::state::AbsState;
 use domain_api::Expr;
 use frame_names::{Reference, Var};
@@ -141,16 +141,14 @@ fn are_same_numbers(a: &Numbers, b: &Numbers) -> bool
         && a.bounds.same(&b.bounds)
 }
 
-impl Known {
-    /// Returns whether the same is known.
-    fn same(&self, other: &Known) -> bool
-        ensures { IsTrue result ↔ (self.now ≡ other.now) }
-    {
-        are_same_variables(&self.variables, &other.variables)
-            && are_same_numbers(&self.numbers, &other.numbers)
-            && are_same_references(&self.references, &other.references)
-            && self.apart.same(&other.apart)
-    }
+/// Returns whether the same is known.
+fn is_same_known(a: &Known, b: &Known) -> bool
+    ensures { IsTrue result ↔ (a.now ≡ b.now) }
+{
+    are_same_variables(&a.variables, &b.variables)
+        && are_same_numbers(&a.numbers, &b.numbers)
+        && are_same_references(&a.references, &b.references)
+        && a.apart.same(&b.apart)
 }
 
 impl AbsState {
@@ -160,7 +158,7 @@ impl AbsState {
     {
         match (&self.known, &other.known) {
             (None, None) => true,
-            (Some(a), Some(b)) => a.same(b),
+            (Some(a), Some(b)) => is_same_known(a, b),
             _ => false,
         }
     }

@@ -1,20 +1,11 @@
 //! What is known of a point of a run, by symbols and references: the state of the analysis before an instruction.
 #![tactic(auto)]
 
-mod arithmetic;
-mod assuming;
-mod calls;
-mod comparing;
 mod equality;
-mod known;
-mod moves;
 mod parts;
-mod reference;
 mod state;
 mod steps;
-mod test;
 
-pub use frame_names::{Reference, Var};
 pub use parts::Parts;
-pub use reference::Unknown;
 pub use state::AbsState;
+pub use state_facts::{Reference, Unknown, Var};

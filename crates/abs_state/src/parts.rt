@@ -5,8 +5,8 @@ ghost use Rattle.std.specs.List.{list_all};
 ghost use Rattle.abs_state.specs.FormTests as tests;
 ghost use Rattle.abs_state.specs.StateParts.{AreOrdered, AreParts, known_of, parts_of};
 
-use crate::known::Known;
-use crate::reference::Unknown;
+use state_facts::Known;
+use state_facts::Unknown;
 use crate::state::AbsState;
 use alias_facts::Apart;
 use cil_model::Place;
@@ -188,7 +188,7 @@ fn are_narrow(ranges: &[Range]) -> bool
 }
 
 /// Returns whether each symbol is defined once at most, and they rise.
-#[tactic(auto, using(crate::proofs::Searching::rising_symbols))]
+#[tactic(auto, using(crate::proofs::Rising::rising_symbols))]
 fn are_rising(definitions: &[(u32, Def)]) -> bool
     ensures { result ≡ tests.are_rising definitions.now }
 {
@@ -279,22 +279,20 @@ impl Parts {
     }
 }
 
-impl Known {
-    /// The lists that this is made of.
-    fn parts(&self, alloc: Global) -> Result<Parts, NoMemory>
-        ensures value { IfOk result (λ parts. parts ≡ parts_of (Some self.now)) }
-        ensures in_order { IfOk result (λ _. AreOrdered self.now) }
-    {
-        Ok(Parts {
-            reached: true,
-            variables: Vec::from_slice(alloc, self.variables.as_slice())?,
-            ranges: Vec::from_slice(alloc, self.numbers.ranges.as_slice())?,
-            definitions: Vec::from_slice(alloc, self.numbers.definitions.as_slice())?,
-            bounds: Vec::from_slice(alloc, self.numbers.bounds.rows())?,
-            references: Vec::from_slice(alloc, self.references.as_slice())?,
-            apart: self.apart.pairs(alloc)?,
-        })
-    }
+/// The lists that what is known is made of, where something is reached.
+fn listed(alloc: Global, known: &Known) -> Result<Parts, NoMemory>
+    ensures value { IfOk result (λ parts. parts ≡ parts_of (Some known.now)) }
+    ensures in_order { IfOk result (λ _. AreOrdered known.now) }
+{
+    Ok(Parts {
+        reached: true,
+        variables: Vec::from_slice(alloc, known.variables.as_slice())?,
+        ranges: Vec::from_slice(alloc, known.numbers.ranges.as_slice())?,
+        definitions: Vec::from_slice(alloc, known.numbers.definitions.as_slice())?,
+        bounds: Vec::from_slice(alloc, known.numbers.bounds.rows())?,
+        references: Vec::from_slice(alloc, known.references.as_slice())?,
+        apart: known.apart.pairs(alloc)?,
+    })
 }
 
 impl AbsState {
@@ -315,7 +313,7 @@ impl AbsState {
                 references: Vec::new(alloc),
                 apart: Vec::new(alloc),
             }),
-            Some(known) => known.parts(alloc),
+            Some(known) => listed(alloc, known),
         }
     }
 

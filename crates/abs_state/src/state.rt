@@ -10,14 +10,14 @@ ghost use Rattle.number_facts.specs.Gaps as numbers;
 ghost use Rattle.number_facts.specs.Arith as operators;
 ghost use Rattle.interval_domain.specs.Arithmetic.{near};
 ghost use Rattle.number_spans.specs.Owed.{Divides, Shifts};
-ghost use Rattle.abs_state.specs.Arithmetic.{HasExactEnds, KeepsArith};
-ghost use Rattle.abs_state.specs.Forms.{HasForm, HasNumber, HasReference, HasVar, IsArrayPlace};
-ghost use Rattle.abs_state.specs.Keeps.{KeepsAssumed, KeepsCall, KeepsComparison, KeepsLoad, KeepsNewArray};
-ghost use Rattle.abs_state.specs.Keeps.{KeepsPop, KeepsPush, KeepsPut, KeepsStore};
-ghost use Rattle.abs_state.specs.StateFacts.{length_at, nullness_at, variables_in};
-ghost use Rattle.abs_state.specs.States as rule;
+ghost use Rattle.state_facts.specs.Arithmetic.{HasExactEnds, KeepsArith};
+ghost use Rattle.state_facts.specs.Forms.{HasForm, HasNumber, HasReference, HasVar, IsArrayPlace};
+ghost use Rattle.state_facts.specs.Keeps.{KeepsAssumed, KeepsCall, KeepsComparison, KeepsLoad, KeepsNewArray};
+ghost use Rattle.state_facts.specs.Keeps.{KeepsPop, KeepsPush, KeepsPut, KeepsStore};
+ghost use Rattle.state_facts.specs.StateFacts.{length_at, nullness_at, variables_in};
+ghost use Rattle.state_facts.specs.States as rule;
 
-use crate::known::Known;
+use state_facts::Known;
 use alias_facts::Nullness;
 use cil_model::{BinOp, CmpOp, Place};
 use domain_api::{Expr, NoMemory, Order};
@@ -36,8 +36,8 @@ pub struct AbsState {
 
 impl Model for AbsState {
     ghost use Rattle.std.specs.Option.{ForSome};
-    ghost use Rattle.abs_state.specs.Forms.{HasForm};
-    ghost use Rattle.abs_state.specs.StateFacts.{State};
+    ghost use Rattle.state_facts.specs.Forms.{HasForm};
+    ghost use Rattle.state_facts.specs.StateFacts.{State};
 
     ghost Value = { State };
 
@@ -122,7 +122,7 @@ impl AbsState {
     }
 
     /// The length of a reference. That of reference 0 is 0.
-    #[tactic(auto, using(crate::proofs::AssumptionForms::length_number))]
+    #[tactic(auto, using(state_facts::proofs::AssumptionForms::length_number))]
     pub fn length(&self, r: u32) -> Expr
         requires reached { IsSome self.now }
         requires there { ForSome self.now (λ known. HasReference known r) }
@@ -154,7 +154,7 @@ impl AbsState {
 
     /// The ends of the range that is judged for overflow, for an operator that may overflow. One beyond 64 bits is the
     /// nearest number of 64 bits.
-    #[tactic(auto, using(crate::proofs::ResultForms::is_there, crate::proofs::ResultForms::are_narrow))]
+    #[tactic(auto, using(state_facts::proofs::ResultForms::is_there, state_facts::proofs::ResultForms::are_narrow))]
     pub fn exact_ends(&self, op: BinOp, a: Expr, b: Expr) -> (i64, i64)
         requires reached { IsSome self.now }
         requires first { ForSome self.now (λ known. HasNumber known a) }

@@ -4,8 +4,8 @@ ghost use Rattle.std.specs.Prelude.{◌≡◌, ◌+◌, ◌<◌, ◌≤◌, Some
 ghost use Rattle.std.specs.Option.{ForSome};
 ghost use Rattle.cil_model.specs.Comparisons.{comparison_of};
 ghost use Rattle.number_spans.specs.Owed.{Divides, Shifts};
-ghost use Rattle.abs_state.specs.Forms.{HasForm, HasNumber, HasReference, HasVar, IsArrayPlace};
-ghost use Rattle.abs_state.specs.States as rule;
+ghost use Rattle.state_facts.specs.Forms.{HasForm, HasNumber, HasReference, HasVar, IsArrayPlace};
+ghost use Rattle.state_facts.specs.States as rule;
 
 use crate::state::AbsState;
 use cil_model::{BinOp, CmpOp, Place};
@@ -41,7 +41,7 @@ impl AbsState {
     }
 
     /// Puts a value into variable i, which is of this type.
-    #[tactic(auto, using(crate::proofs::AssumptionForms::named_var))]
+    #[tactic(auto, using(state_facts::proofs::AssumptionForms::named_var))]
     pub(crate) fn put_var(&mut self, i: u32, v: Var, place: Place) -> Result<(), NoMemory>
         requires there { ForSome self.old (λ known. i < length known.variables) }
         requires value { ForSome self.old (λ known. HasVar known v) }
@@ -59,7 +59,7 @@ impl AbsState {
     }
 
     /// Pushes the result of an operator.
-    #[tactic(auto, using(crate::proofs::ResultForms::is_there, crate::proofs::ResultForms::are_narrow))]
+    #[tactic(auto, using(state_facts::proofs::ResultForms::is_there, state_facts::proofs::ResultForms::are_narrow))]
     pub(crate) fn push_arith(&mut self, op: BinOp, a: Expr, b: Expr) -> Result<(), NoMemory>
         requires first { ForSome self.old (λ known. HasNumber known a) }
         requires second { ForSome self.old (λ known. HasNumber known b) }
@@ -79,7 +79,7 @@ impl AbsState {
     }
 
     /// Pushes 1 where a comparison is true and 0 where it is false, or a number of both.
-    #[tactic(auto, using(crate::proofs::AssumptionForms::named_var))]
+    #[tactic(auto, using(state_facts::proofs::AssumptionForms::named_var))]
     pub(crate) fn push_comparison(&mut self, op: BinOp, a: Var, b: Var) -> Result<(), NoMemory>
         requires comparison { IsSome (comparison_of op) }
         requires first { ForSome self.old (λ known. HasVar known a) }
@@ -98,7 +98,7 @@ impl AbsState {
     }
 
     /// Assumes that a comparison holds, or that it does not. Where it cannot, nothing is reached.
-    #[tactic(auto, using(crate::proofs::AssumptionForms::named_var))]
+    #[tactic(auto, using(state_facts::proofs::AssumptionForms::named_var))]
     pub(crate) fn assume_comparison(
         &mut self,
         op: CmpOp,

@@ -1,8 +1,8 @@
-use Rattle.abs_state.specs.Arithmetic.{KeepsArith}
-use Rattle.abs_state.specs.StateFacts.{State}
-use Rattle.abs_state.specs.States as calls
+use Rattle.state_facts.specs.Arithmetic.{KeepsArith}
+use Rattle.state_facts.specs.StateFacts.{State}
+use Rattle.state_facts.specs.States as calls
 use Rattle.abs_state.proofs.KeptWhereOk.{kept_where_ok}
-use Rattle.abs_state.proofs.ResultsHold.{arith_keeps}
+use Rattle.state_facts.proofs.ResultsHold.{arith_keeps}
 use Rattle.abs_state.proofs.state.AbsState.arith.Goals as goal
 
 pub returns-clause-keeps : goal.returns-clause-keeps

@@ -1,4 +1,4 @@
-use Rattle.abs_state.proofs.Growing.{same_form}
+use Rattle.state_facts.proofs.Growing.{same_form}
 use Rattle.abs_state.proofs.state.AbsState.copy.Goals as goal
 
 pub invariant_of-result-in-Some : goal.invariant_of-result-in-Some

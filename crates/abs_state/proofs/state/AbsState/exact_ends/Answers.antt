@@ -1,8 +1,8 @@
 use Rattle.std.proofs.Common.{ap, subst}
 use Rattle.number_facts.specs.Facts.{Facts}
 use Rattle.number_facts.specs.Results.{AreExactEnds}
-use Rattle.abs_state.specs.StateFacts.{StateFacts}
-use Rattle.abs_state.proofs.ResultsHold.{exact_ends_hold}
+use Rattle.state_facts.specs.StateFacts.{StateFacts}
+use Rattle.state_facts.proofs.ResultsHold.{exact_ends_hold}
 use Rattle.abs_state.proofs.state.AbsState.exact_ends.Goals as goal
 
 pub returns-clause-sound : goal.returns-clause-sound

@@ -1,5 +1,5 @@
 use Rattle.std.proofs.Common.{sym, ap, is_some, ◌∙◌}
-use Rattle.abs_state.proofs.Growing.{same_form}
+use Rattle.state_facts.proofs.Growing.{same_form}
 use Rattle.abs_state.proofs.PartForms.{formed, made_exactly, refused}
 use Rattle.abs_state.specs.StateParts.{StateParts}
 use Rattle.abs_state.proofs.state.AbsState.of_parts.Goals as goal

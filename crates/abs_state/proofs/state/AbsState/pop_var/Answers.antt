@@ -1,6 +1,6 @@
 use Rattle.std.proofs.Common.{◌∙◌}
-use Rattle.abs_state.proofs.Growing.{same_form}
-use Rattle.abs_state.proofs.MoveForms.{popped_form}
+use Rattle.state_facts.proofs.Growing.{same_form}
+use Rattle.state_facts.proofs.MoveForms.{popped_form}
 use Rattle.abs_state.proofs.state.AbsState.pop_var.Goals as goal
 
 pub invariant_of-self-2 : goal.invariant_of-self-2

@@ -1,7 +1,7 @@
-use Rattle.abs_state.specs.Keeps.{KeepsPush}
-use Rattle.abs_state.specs.StateFacts.{State}
-use Rattle.abs_state.specs.States as calls
-use Rattle.abs_state.proofs.MovesHold.{push_keeps}
+use Rattle.state_facts.specs.Keeps.{KeepsPush}
+use Rattle.state_facts.specs.StateFacts.{State}
+use Rattle.state_facts.specs.States as calls
+use Rattle.state_facts.proofs.MovesHold.{push_keeps}
 use Rattle.abs_state.proofs.KeptWhereOk.{kept_where_ok}
 use Rattle.abs_state.proofs.state.AbsState.push.Goals as goal
 

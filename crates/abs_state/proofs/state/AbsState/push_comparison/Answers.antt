@@ -1,6 +1,6 @@
 use Rattle.std.proofs.Common.{rules, sym, ◌∙◌}
-use Rattle.abs_state.proofs.Growing.{same_form, formed_new}
-use Rattle.abs_state.proofs.ComparisonForms.{compared_formed}
+use Rattle.state_facts.proofs.Growing.{same_form, formed_new}
+use Rattle.state_facts.proofs.ComparisonForms.{compared_formed}
 use Rattle.abs_state.proofs.state.AbsState.push_comparison.Goals as goal
 
 pub invariant_of-self-else-not-branch : goal.invariant_of-self-else-not-branch

@@ -1,6 +1,6 @@
 use Rattle.std.proofs.Common.{rules, ◌∙◌}
-use Rattle.abs_state.proofs.Growing.{same_form, formed_new}
-use Rattle.abs_state.proofs.MoveForms.{call_form}
+use Rattle.state_facts.proofs.Growing.{same_form, formed_new}
+use Rattle.state_facts.proofs.MoveForms.{call_form}
 use Rattle.abs_state.proofs.state.AbsState.push_result.Goals as goal
 
 pub invariant_of-self-else-not-branch : goal.invariant_of-self-else-not-branch

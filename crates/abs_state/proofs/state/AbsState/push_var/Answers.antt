@@ -1,6 +1,6 @@
 use Rattle.std.proofs.Common.{sym, ◌∙◌}
-use Rattle.abs_state.proofs.Growing.{same_form}
-use Rattle.abs_state.proofs.MoveForms.{pushed_form}
+use Rattle.state_facts.proofs.Growing.{same_form}
+use Rattle.state_facts.proofs.MoveForms.{pushed_form}
 use Rattle.abs_state.proofs.state.AbsState.push_var.Goals as goal
 
 pub invariant_of-self-2 : goal.invariant_of-self-2

@@ -1,6 +1,6 @@
 use Rattle.std.proofs.Common.{rules, sym, ◌∙◌}
-use Rattle.abs_state.proofs.Growing.{same_form, formed_new}
-use Rattle.abs_state.proofs.MoveForms.{stored_form}
+use Rattle.state_facts.proofs.Growing.{same_form, formed_new}
+use Rattle.state_facts.proofs.MoveForms.{stored_form}
 use Rattle.abs_state.proofs.state.AbsState.store_item.Goals as goal
 
 pub invariant_of-self-else-not-branch : goal.invariant_of-self-else-not-branch

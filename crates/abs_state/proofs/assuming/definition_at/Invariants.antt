@@ -1,6 +1,0 @@
-use Rattle.std.proofs.Common.{◌≡◌, drop}
-use Rattle.abs_state.specs.Assuming as rule
-use Rattle.abs_state.proofs.assuming.definition_at.Given as goal
-
-abbrev pub invariant-loop-definition : goal.invariant-loop-definition
-invariant-loop-definition l = rule.definition_at (drop l.definition-index l.definitions) l.symbol ≡ rule.definition_at l.definitions l.symbol

@@ -1,0 +1,469 @@
+-- What new arrays and calls keep.
+use Rattle.std.proofs.Common.{◌≡◌, ℕ, zero, suc, ◌==◌, ◌+◌, ◌≤◌, ◌<◌, ℤ, pos, ◌≤ℤ◌, Bool, true, false, Option, Some, None, List, [], ◌∷◌, ◌++◌, length, FitsSigned, w32, ◌⊎◌, append-nil, inl, inr, refl, sym, ap, subst, ◌∙◌, arith}
+use Rattle.std.specs.Prelude.{Contains, drop, take, slice_get, if◌then◌else◌}
+use Rattle.std.specs.List.{AllByRecursion}
+use Rattle.std.specs.Option.{ForSome, option_map, option_map_or}
+use Rattle.std.proofs.lemmas.Bool.{and_parts, cases_Bool, eqb-true, false≢true}
+use Rattle.std.proofs.lemmas.Int.{ints}
+use Rattle.std.proofs.lemmas.List.Elements.{All-contains, All-from_recursion}
+use Rattle.alias_facts.proofs.ApartLaws.{contained_differ, must_differ_sound, with_all_before_differ, with_pair_differ}
+use Rattle.alias_facts.specs.Arrays.{AllDiffer, Differ, DiffersFromEarlier, is_no_array}
+use Rattle.alias_facts.specs.NullnessOf.{Agrees}
+use Rattle.alias_facts.specs.declared.nullness.Nullness.{Nullness}
+use Rattle.alias_facts.specs.declared.nullness.Nullness.TheVariants.{May}
+use Rattle.alias_facts.specs.PairsOf.{Pair, contains, ordered, with_all_before}
+use Rattle.cil_model.proofs.HeapsKept.{array_of_heap, keeps_before}
+use Rattle.cil_model.specs.Arithmetic.{LEAST, GREATEST}
+use Rattle.cil_model.specs.Calls.{FitsResult, IsPassedOrNew}
+use Rattle.cil_model.specs.Comparisons.{number_of, reference_of}
+use Rattle.cil_model.specs.Values.{FitsPlace, Heap, IsArray, IsByte, IsHeap, KeepsForms, same_place}
+use Rattle.cil_model.specs.declared.machine.ArrayCell.{ArrayCell}
+use Rattle.cil_model.specs.declared.machine.Value.{Value}
+use Rattle.cil_model.specs.declared.machine.Value.TheVariants as values
+use Rattle.cil_model.specs.declared.place.Place.{Place}
+use Rattle.cil_model.specs.declared.place.Place.TheVariants as places
+use Rattle.domain_api.specs.declared.expr.Expr.{Expr}
+use Rattle.number_facts.specs.Facts.{Facts}
+use Rattle.number_facts.specs.Fresh.{Made, expr_made, facts_made, fresh}
+use Rattle.number_facts.specs.Holds.{Holds, HoldsWith, YieldsSome}
+use Rattle.symbolic_values.specs.Worth.{worth}
+use Rattle.state_facts.specs.Calls.{apart_from, apart_from_all, apart_with, passed, returned, with_call, with_result_array, with_returned}
+use Rattle.state_facts.specs.Forms.{HasForm, IsArrayPlace, IsVar}
+use Rattle.state_facts.specs.Holds.{HasValue, HaveValues, HoldsBy, IsSo, FitsArray, length_in, length_of_array}
+use Rattle.state_facts.specs.Keeps.{HoldsOn, KeepsCall, KeepsNewArray, listed}
+use Rattle.state_facts.specs.Moves.{with_array}
+use Rattle.state_facts.specs.StateFacts.{StateFacts, State, are_apart, both_of_same_place, nullness_at, of_same_place, reference_at}
+use Rattle.state_facts.specs.States as calls
+use Rattle.frame_names.specs.declared.reference.Reference.{Reference}
+use Rattle.state_facts.specs.declared.reference.Unknown.{Unknown}
+use Rattle.frame_names.specs.declared.var.Var.{Var}
+use Rattle.frame_names.specs.declared.var.Var.TheVariants as vars
+use Rattle.state_facts.proofs.Agreeing.{Agree, facts_agree, has_there, have_pushed, have_taken, pairs_agree, references_agree, values_agree}
+use Rattle.state_facts.proofs.Growing.{Grows, all_taken, same_facts}
+use Rattle.state_facts.proofs.MadeNumbers.{EachMade, IsMade, fresh_made, made_grows}
+use Rattle.state_facts.proofs.MovesHold.{fresh_yields, number_keeps, same_choice}
+
+-- ---- one reference more
+
+abbrev pub with_one : (ℕ → Option ℕ) → ℕ → Option ℕ → ℕ → Option ℕ
+with_one array t a r = if r == t then a else array r
+
+pub earlier_same : (array : ℕ → Option ℕ) (count : ℕ) (a : Option ℕ) (r : ℕ) → r ≤ count → with_one array (count + 1) a r ≡ array r
+earlier_same array count a r there = rw (other r count there) refl
+  where
+    other : (r count : ℕ) → r ≤ count → (r == (count + 1)) ≡ false
+    other r count there = elim (cases_Bool (r == (count + 1))) [
+      | inl is ↦ let same : r ≡ count + 1 = eqb-true r (count + 1) is in absurd (omega (arith, there, same))
+      | inr is ↦ is
+    ]
+
+pub new_same : (array : ℕ → Option ℕ) (count : ℕ) (a : Option ℕ) → with_one array (count + 1) a (count + 1) ≡ a
+new_same array count a = rw (self (count + 1)) refl
+  where
+    self : (n : ℕ) → (n == n) ≡ true
+    self n = grind arith
+
+got_of : (xs : List (Reference Unknown)) (x y : Reference Unknown) (i : ℕ) → slice_get (xs ++ x ∷ []) i ≡ Some y
+    → (slice_get xs i ≡ Some y) ⊎ ((i ≡ length xs) × (x ≡ y))
+got_of [] x y zero is = inr (refl, same x y is)
+  where
+    same : (x y : Reference Unknown) → Some x ≡ Some y → x ≡ y
+    same x y is = cc
+got_of [] x y (suc i) is = absurd cc
+got_of (z ∷ xs) x y zero is = inl is
+got_of (z ∷ xs) x y (suc i) is = elim (got_of xs x y i is) [ inl there ↦ inl there | inr last ↦ inr (ap suc last.0, last.1) ]
+
+pub found_of : (xs : List (Reference Unknown)) (x y : Reference Unknown) (r : ℕ) → reference_at (xs ++ x ∷ []) r ≡ Some y
+    → (reference_at xs r ≡ Some y) ⊎ ((r ≡ length xs + 1) × (x ≡ y))
+unfolding reference_at
+found_of xs x y zero is = absurd cc
+found_of xs x y (suc r) is = elim (got_of xs x y r is) [
+  | inl there ↦ inl there
+  | inr last ↦ inr (next r (length xs) last.0, last.1)
+]
+  where
+    next : (m n : ℕ) → m ≡ n → suc m ≡ n + 1
+    next m n is = omega (arith, is)
+
+-- All but the pairs that are apart is so of one reference more, which is null or this array.
+pub reference_holds : (known : StateFacts) (facts : Facts) (x : Reference Unknown) (apart : List Pair) (vs : List Value) (value : Value) (old new : Heap)
+    (number later : ℕ → ℤ) (array : ℕ → Option ℕ) (a : Option ℕ)
+    → HasForm known → HoldsBy known vs old number array → KeepsForms old new → Grows known facts
+    → ((s : ℕ) → s ≤ length known.facts.ranges → later s ≡ number s) → Holds facts later (λ r. is_no_array (array r)) → IsSo new later x a
+    → reference_of value ≡ Some a → AllDiffer (with_one array (length known.references + 1) a) apart
+    → HoldsOn (Some known) (Some (record {
+      variables = known.variables ++ vars.Reference (length known.references + 1) ∷ [];
+      facts = facts;
+      references = known.references ++ x ∷ [];
+      apart = apart;
+    })) (vs ++ value ∷ []) new number array
+reference_holds known facts x apart vs value old new number later array a form holds kept grows agrees facts_hold so is differ =
+    let count = length known.references in
+    let more = with_one array (count + 1) a in
+    let agree : Agree (length known.facts.ranges) count number array later more = record { numbers = agrees; arrays = λ r there. earlier_same array count a r there } in
+    let before = references_agree old new (length known.facts.ranges) number later array more known.references agree kept form.references holds.references in
+    record {
+      later = later;
+      later_array = more;
+      agrees = agrees;
+      agrees_arrays = λ r there. earlier_same array count a r there;
+      holds = record {
+        null = earlier_same array count a 0 (omega arith) ∙ holds.null;
+        facts = facts_agree facts later count (λ r. is_no_array (array r)) (λ r. is_no_array (more r))
+            (λ r there. ap is_no_array (earlier_same array count a r there)) grows.tests facts_hold;
+        variables = have_pushed later more known.variables vs (vars.Reference (count + 1)) value
+            (values_agree (length known.facts.ranges) count number later array more known.variables vs agree form.variables holds.variables)
+            (is ∙ ap (λ (o : Option ℕ). Some o) (sym (new_same array count a)));
+        references = λ r y at. elim (found_of known.references x y r at) [
+          | inl there ↦ before r y there
+          | inr last ↦ rw (last.0, new_same array count a) (subst (λ (z : Reference Unknown). IsSo new later z a) last.1 so)
+        ];
+        apart = differ;
+      };
+    }
+
+-- a reference that is there is null or an array of the heap
+present : (xs : List (Reference Unknown)) (i : ℕ) → i < length xs → (x : Reference Unknown) × (slice_get xs i ≡ Some x)
+present [] i there = absurd (omega (arith, there))
+present (x ∷ xs) zero there = (x, refl)
+present (x ∷ xs) (suc i) there = present xs i (omega (arith, there))
+
+pub present_at : (xs : List (Reference Unknown)) (r : ℕ) → 0 < r → r ≤ length xs → (x : Reference Unknown) × (reference_at xs r ≡ Some x)
+unfolding reference_at
+present_at xs zero least there = absurd (omega (arith, least))
+present_at xs (suc r) least there = present xs r (omega (arith, there))
+
+fits_below : (heap : Heap) (place : Place) (o : Option ℕ) (n : ℕ) → FitsArray heap place o → o ≡ Some n → n < length heap
+fits_below heap place None n fits is = absurd cc
+fits_below heap place (Some i) n fits is = subst (λ (m : ℕ). m < length heap) (same i is) (has_there heap place i fits)
+  where
+    same : (i : ℕ) → Some i ≡ Some n → i ≡ n
+    same i is = cc
+
+pub below_heap : (known : StateFacts) (vs : List Value) (heap : Heap) (number : ℕ → ℤ) (array : ℕ → Option ℕ) (q n : ℕ) → HoldsBy known vs heap number array
+    → q ≤ length known.references → array q ≡ Some n → n < length heap
+below_heap known vs heap number array zero n holds there is = absurd (none_some n (sym holds.null ∙ is))
+  where
+    none_some : (n : ℕ) → None ≡ Some n → ⊥
+    none_some n is = cc
+below_heap known vs heap number array (suc q) n holds there is =
+    let found = present_at known.references (suc q) (omega arith) there in
+    fits_below heap (found.0).place (array (suc q)) n (holds.references (suc q) found.0 found.1).fits is
+
+-- ---- new arrays
+
+last_place : (heap : Heap) (cell : ArrayCell) → slice_get (heap ++ cell ∷ []) (length heap) ≡ Some cell
+last_place [] cell = refl
+last_place (c ∷ heap) cell = last_place heap cell
+
+place_is_itself : (p : Place) → same_place p p ≡ true
+place_is_itself places.Void = refl
+place_is_itself places.Bool = refl
+place_is_itself places.Int = refl
+place_is_itself places.Bools = refl
+place_is_itself places.Ints = refl
+
+new_array_so : (known : StateFacts) (place : Place) (e : Expr) (heap : Heap) (cell : ArrayCell) (number : ℕ → ℤ) (x : Reference Unknown) → cell.place ≡ place
+    → x.place ≡ place → Agrees x.nullness false → x.length ≡ e → worth number e ≡ pos (length cell.items)
+    → IsSo (heap ++ cell ∷ []) number x (Some (length heap))
+new_array_so known place e heap cell number x cell_is x_is agrees length_is is =
+    let got = last_place heap cell in
+    record {
+      fits = rw got (rw (cell_is, x_is) (place_is_itself place));
+      agrees = agrees;
+      length_is = ap (worth number) length_is ∙ is ∙ ap (λ (o : Option ArrayCell). pos (option_map_or (λ (c : ArrayCell). length c.items) o 0)) (sym got);
+    }
+
+new_differs : (known : StateFacts) (vs : List Value) (heap : Heap) (number : ℕ → ℤ) (array : ℕ → Option ℕ) (j : ℕ) → HoldsBy known vs heap number array
+    → length heap ≤ j → DiffersFromEarlier (with_one array (length known.references + 1) (Some j)) (length known.references + 1)
+new_differs known vs heap number array j holds past = λ q least before n first second.
+    let count = length known.references in
+    let there : q ≤ count = omega (arith, before) in
+    let old = below_heap known vs heap number array q n holds there (sym (earlier_same array count (Some j) q there) ∙ first) in
+    let same : j ≡ n = equal j n (sym (new_same array count (Some j)) ∙ second) in
+    omega (arith, old, same, past)
+  where
+    equal : (j n : ℕ) → Some j ≡ Some n → j ≡ n
+    equal j n is = cc
+
+pub new_array_keeps : (place : Place) (e : Expr) (state : State) → ForSome state HasForm → KeepsNewArray place e state (calls.new_array place e state)
+unfolding with_array
+new_array_keeps place e None form = λ vs heap number array cell holds is many. elim holds [ ]
+new_array_keeps place e (Some known) form = λ vs heap number array cell holds is many.
+    let count = length known.references in
+    let f = form known refl in
+    reference_holds known known.facts _ (with_all_before (count + 1) known.apart) vs (values.Array (length heap)) heap (heap ++ cell ∷ []) number number array
+    (Some (length heap)) f holds (keeps_before heap (cell ∷ [])) (same_facts known f) (λ s there. refl) holds.facts
+    (new_array_so known place e heap cell number _ is refl refl refl many) refl
+    (with_all_before_differ known.apart (with_one array (count + 1) (Some (length heap))) (count + 1)
+    (pairs_agree (length known.facts.ranges) count number number array (with_one array (count + 1) (Some (length heap))) known.apart
+    (record { numbers = λ s there. refl; arrays = λ r there. earlier_same array count (Some (length heap)) r there }) f.pairs holds.apart)
+    (new_differs known vs heap number array (length heap) holds (omega arith)))
+
+-- ---- calls
+
+each_made_yields : (known : StateFacts) (o : Option Made) (number : ℕ → ℤ) (is_null : ℕ → Bool) (n : ℤ) (P : Option Made → Type 0) → EachMade known.facts o
+    → YieldsSome known.facts (facts_made known.facts o) number is_null (expr_made o) n
+    → ((made : Made) → IsMade known.facts made → HoldsWith known.facts made.facts number is_null made.expr n → P (Some made)) → P o
+each_made_yields known None number is_null n P each yields next = elim yields [ ]
+each_made_yields known (Some made) number is_null n P each yields next = next made each yields
+
+-- what is known of a reference agrees with what it is
+pub nullness_agrees : (known : StateFacts) (vs : List Value) (heap : Heap) (number : ℕ → ℤ) (array : ℕ → Option ℕ) (r : ℕ) → HoldsBy known vs heap number array
+    → r ≤ length known.references → Agrees (nullness_at known r) (is_no_array (array r))
+unfolding reference_at
+nullness_agrees known vs heap number array zero holds there = ap is_no_array holds.null
+nullness_agrees known vs heap number array (suc r) holds there =
+    let found = present known.references r there in
+    rw found.1 (holds.references (suc r) found.0 found.1).agrees
+
+-- arrays of different types are not the same
+places_differ : (heap : Heap) (number : ℕ → ℤ) (a b : Option (Reference Unknown)) (i j : Option ℕ) (n : ℕ)
+    → ((x : Reference Unknown) → a ≡ Some x → IsSo heap number x i) → ((x : Reference Unknown) → b ≡ Some x → IsSo heap number x j)
+    → both_of_same_place a b ≡ false → i ≡ Some n → j ≡ Some n → ⊥
+places_differ heap number None b i j n first second other is also = absurd (false≢true (sym other))
+places_differ heap number (Some x) None i j n first second other is also = absurd (false≢true (sym other))
+places_differ heap number (Some x) (Some y) i j n first second other is also =
+    let one : FitsArray heap x.place (Some n) = subst (FitsArray heap x.place) is (first x refl).fits in
+    let two : FitsArray heap y.place (Some n) = subst (FitsArray heap y.place) also (second y refl).fits in
+    both (slice_get heap n) one two
+  where
+    same_places : (p q o : Place) → same_place o p ≡ true → same_place o q ≡ true → same_place p q ≡ true
+    same_places p q o one two = grind (arith, one, two)
+
+    both : (o : Option ArrayCell) → option_map_or (λ (c : ArrayCell). same_place c.place x.place) o false ≡ true
+        → option_map_or (λ (c : ArrayCell). same_place c.place y.place) o false ≡ true → ⊥
+    both None one two = absurd (false≢true one)
+    both (Some c) one two = absurd (false≢true (sym other ∙ same_places x.place y.place c.place one two))
+
+pub are_apart_differ : (known : StateFacts) (vs : List Value) (heap : Heap) (number : ℕ → ℤ) (array : ℕ → Option ℕ) (r q : ℕ) → HoldsBy known vs heap number array
+    → r ≤ length known.references → q ≤ length known.references → are_apart known r q ≡ true → Differ array r q
+unfolding are_apart
+are_apart_differ known vs heap number array r q holds first second apart =
+    must_differ_sound array r q (contains known.apart (ordered r q)) (of_same_place known r q) (nullness_at known r) (nullness_at known q)
+    (λ kept. contained_differ known.apart array r q kept holds.apart)
+    (λ other n is also.
+    places_differ heap number (reference_at known.references r) (reference_at known.references q) (array r) (array q) n (λ x so. holds.references r x so)
+    (λ x so. holds.references q x so) other is also)
+    (nullness_agrees known vs heap number array r holds first) (nullness_agrees known vs heap number array q holds second) apart
+
+-- A reference is this array, and another one is known not to be the same as it.
+pub record IsPassed (known : StateFacts) (array : ℕ → Option ℕ) (q j : ℕ) : Type 0 where
+  pub reference : ℕ
+  pub there : reference ≤ length known.references
+  pub is : array reference ≡ Some j
+  pub apart : are_apart known q reference ≡ true
+
+-- an array that was passed is that of a reference that was
+passed_one : (known : StateFacts) (number : ℕ → ℤ) (array : ℕ → Option ℕ) (v : Var) (x : Value) (j q : ℕ) → HasValue number array v x
+    → IsVar (length known.facts.ranges) (length known.references) v → apart_from known q v ≡ true → x ≡ values.Array j → IsPassed known array q j
+passed_one known number array (vars.Number e) x j q has is apart so = absurd (no_number (subst (λ (y : Value). number_of y ≡ Some (worth number e)) so has))
+  where
+    no_number : None ≡ Some (worth number e) → ⊥
+    no_number is = cc
+passed_one known number array (vars.Reference r) x j q has is apart so =
+    record { reference = r; there = is; is = same (array r) (subst (λ (y : Value). reference_of y ≡ Some (array r)) so has); apart = apart }
+  where
+    same : (o : Option ℕ) → Some (Some j) ≡ Some o → o ≡ Some j
+    same o is = cc
+passed_one known number array vars.Text x j q has is apart so = absurd (no_text (sym so ∙ has))
+  where
+    no_text : values.Array j ≡ values.Text → ⊥
+    no_text is = cc
+
+each_passed : (known : StateFacts) (number : ℕ → ℤ) (array : ℕ → Option ℕ) (vs : List Var) (xs : List Value) (j q : ℕ) → HaveValues number array vs xs
+    → AllByRecursion (IsVar (length known.facts.ranges) (length known.references)) vs → apart_from_all known vs q ≡ true
+    → AllByRecursion (λ x. x ≡ values.Array j → IsPassed known array q j) xs
+each_passed known number array [] [] j q have are apart = tt
+each_passed known number array [] (x ∷ xs) j q have are apart = elim have [ ]
+each_passed known number array (v ∷ vs) [] j q have are apart = elim have [ ]
+each_passed known number array (v ∷ vs) (x ∷ xs) j q have are apart =
+    let parts = and_parts (apart_from known q v) (apart_from_all known vs q) apart in
+    (passed_one known number array v x j q have.0 are.0 parts.0, each_passed known number array vs xs j q have.1 are.1 parts.1)
+
+-- a reference that is apart from all that was passed is not the array that a call gives
+result_differs : (known : StateFacts) (vs : List Value) (heap : Heap) (number : ℕ → ℤ) (array : ℕ → Option ℕ) (passed_vars : List Var) (xs : List Value) (j q : ℕ)
+    → HoldsBy known vs heap number array → AllByRecursion (IsVar (length known.facts.ranges) (length known.references)) passed_vars
+    → HaveValues number array passed_vars xs → (Contains xs (values.Array j)) ⊎ (length heap ≤ j) → q ≤ length known.references
+    → apart_from_all known passed_vars q ≡ true → array q ≡ Some j → ⊥
+result_differs known vs heap number array passed_vars xs j q holds are have passed_or_new there apart is = elim passed_or_new [
+  | inl among ↦
+      let found = All-contains (λ x. x ≡ values.Array j → IsPassed known array q j) xs (values.Array j)
+      (All-from_recursion (λ x. x ≡ values.Array j → IsPassed known array q j) xs (each_passed known number array passed_vars xs j q have are apart)) among refl in
+      are_apart_differ known vs heap number array q found.reference holds there found.there found.apart j is found.is
+  | inr past ↦ let below = below_heap known vs heap number array q j holds there is in omega (arith, below, past)
+]
+
+-- the pairs with one for each reference that passes a test, where that is not the new array
+apart_with_differ : (test : ℕ → Bool) (array : ℕ → Option ℕ) (new count : ℕ) (pairs : List Pair) → AllDiffer array pairs
+    → ((q : ℕ) → q ≤ count → test q ≡ true → Differ array new q) → AllDiffer array (apart_with test new count pairs)
+apart_with_differ test array new zero pairs all differ = all
+apart_with_differ test array new (suc q) pairs all differ =
+    let rest = apart_with_differ test array new q pairs all (λ r there. differ r (omega (arith, there))) in
+    elim (cases_Bool (test (suc q))) [
+      | inl is ↦ rw is (with_pair_differ _ array new (suc q) rest (differ (suc q) (omega arith) is))
+      | inr is ↦ rw is rest
+    ]
+
+-- the pairs behind the result of a call, which is null or this array
+call_differs : (known : StateFacts) (vs : List Value) (heap : Heap) (number : ℕ → ℤ) (array : ℕ → Option ℕ) (passed_vars : List Var) (xs : List Value) (a : Option ℕ)
+    → HasForm known → HoldsBy known vs heap number array → AllByRecursion (IsVar (length known.facts.ranges) (length known.references)) passed_vars
+    → HaveValues number array passed_vars xs → ((j : ℕ) → a ≡ Some j → (Contains xs (values.Array j)) ⊎ (length heap ≤ j))
+    → AllDiffer (with_one array (length known.references + 1) a)
+    (apart_with (apart_from_all known passed_vars) (length known.references + 1) (length known.references) known.apart)
+call_differs known vs heap number array passed_vars xs a form holds are have passed_or_new =
+    let count = length known.references in
+    let more = with_one array (count + 1) a in
+    apart_with_differ (apart_from_all known passed_vars) more (count + 1) count known.apart
+    (pairs_agree (length known.facts.ranges) count number number array more known.apart
+    (record { numbers = λ s there. refl; arrays = λ r there. earlier_same array count a r there }) form.pairs holds.apart)
+    (λ q there apart n first second.
+    let a_is : a ≡ Some n = sym (new_same array count a) ∙ first in
+    let q_is : array q ≡ Some n = sym (earlier_same array count a q there) ∙ second in
+    result_differs known vs heap number array passed_vars xs n q holds are have (passed_or_new n a_is) there apart q_is)
+
+-- an array that a call gives, or null, with a length of its own
+result_so : (place : Place) (new : Heap) (later : ℕ → ℤ) (x : Reference Unknown) (a : Option ℕ) → x.place ≡ place → x.nullness ≡ May → FitsArray new place a
+    → worth later x.length ≡ length_of_array new a → IsSo new later x a
+result_so place new later x a place_is nullness_is fits is = record {
+  fits = subst (λ (p : Place). FitsArray new p a) (sym place_is) fits;
+  agrees = subst (λ (n : Nullness). Agrees n (is_no_array a)) (sym nullness_is) tt;
+  length_is = is;
+}
+
+returned_keeps : (place : Place) (known : StateFacts) (passed_vars : List Var) (vs xs : List Value) (value : Value) (heap new : Heap) (number : ℕ → ℤ)
+    (array : ℕ → Option ℕ) (a : Option ℕ) → HasForm known → IsArrayPlace place → HoldsBy known vs heap number array → KeepsForms heap new
+    → AllByRecursion (IsVar (length known.facts.ranges) (length known.references)) passed_vars → HaveValues number array passed_vars xs
+    → ((j : ℕ) → a ≡ Some j → (Contains xs (values.Array j)) ⊎ (length heap ≤ j)) → FitsArray new place a → reference_of value ≡ Some a
+    → (pos 0 ≤ℤ length_of_array new a) × (length_of_array new a ≤ℤ pos 2147483647)
+    → HoldsOn (Some known)
+    (with_returned (apart_with (apart_from_all known passed_vars) (length known.references + 1) (length known.references) known.apart) place known)
+    (vs ++ value ∷ []) new number array
+unfolding with_returned
+returned_keeps place known passed_vars vs xs value heap new number array a form fits_place holds kept are have passed_or_new fits is ends =
+    let apart = apart_with (apart_from_all known passed_vars) (length known.references + 1) (length known.references) known.apart in
+    each_made_yields known (fresh known.facts (pos 0) (pos 2147483647) None []) number (λ r. is_no_array (array r)) (length_of_array new a)
+    (λ o. HoldsOn (Some known) (option_map (returned apart place known) o) (vs ++ value ∷ []) new number array)
+    (fresh_made known.facts (pos 0) (pos 2147483647))
+    (fresh_yields known.facts (pos 0) (pos 2147483647) (length_of_array new a) number (λ r. is_no_array (array r)) form.named holds.facts
+    (omega (arith, ints, ends.0, ends.1)) ends.0 ends.1)
+    (λ made is_made more.
+    reference_holds known made.facts _ apart vs value heap new number more.later array a form holds kept (made_grows known made form is_made) more.agrees more.holds
+    (result_so place new more.later _ a refl refl fits more.is) is (call_differs known vs heap number array passed_vars xs a form holds are have passed_or_new))
+
+long_enough : (heap : Heap) (i : ℕ) → IsHeap heap → (pos 0 ≤ℤ pos (length_in heap i)) × (pos (length_in heap i) ≤ℤ pos 2147483647)
+long_enough heap i is = each (slice_get heap i) (λ cell so. array_of_heap heap i cell is so)
+  where
+    each : (o : Option ArrayCell) → ((cell : ArrayCell) → o ≡ Some cell → IsArray cell)
+        → (pos 0 ≤ℤ pos (option_map_or (λ (c : ArrayCell). length c.items) o 0)) × (pos (option_map_or (λ (c : ArrayCell). length c.items) o 0) ≤ℤ pos 2147483647)
+    each None are = (omega (arith, ints), omega (arith, ints))
+    each (Some cell) are = let short = (are cell refl).1 in (omega (arith, ints), omega (arith, ints, short))
+
+array_long : (heap : Heap) (a : Option ℕ) → IsHeap heap → (pos 0 ≤ℤ length_of_array heap a) × (length_of_array heap a ≤ℤ pos 2147483647)
+array_long heap None is = (omega (arith, ints), omega (arith, ints))
+array_long heap (Some i) is = long_enough heap i is
+
+-- ---- what a call gives, by its type
+
+fitting_value : (new : Heap) (place : Place) (value : Value) → IsArrayPlace place → FitsPlace new place value
+    → (a : Option ℕ) × (reference_of value ≡ Some a) × FitsArray new place a
+fitting_value new places.Bools values.Null is fits = (None, refl, tt)
+fitting_value new places.Bools (values.Array i) is fits = (Some i, refl, fits)
+fitting_value new places.Ints values.Null is fits = (None, refl, tt)
+fitting_value new places.Ints (values.Array i) is fits = (Some i, refl, fits)
+fitting_value new places.Bools (values.Int n) is fits = elim fits [ ]
+fitting_value new places.Bools (values.Native n) is fits = elim fits [ ]
+fitting_value new places.Bools values.Text is fits = elim fits [ ]
+fitting_value new places.Ints (values.Int n) is fits = elim fits [ ]
+fitting_value new places.Ints (values.Native n) is fits = elim fits [ ]
+fitting_value new places.Ints values.Text is fits = elim fits [ ]
+fitting_value new places.Void value is fits = elim is [ ]
+fitting_value new places.Bool value is fits = elim is [ ]
+fitting_value new places.Int value is fits = elim is [ ]
+
+array_of_value : (value : Value) (j : ℕ) → reference_of value ≡ Some (Some j) → value ≡ values.Array j
+array_of_value values.Null j is = absurd cc
+array_of_value (values.Array i) j is = cc
+array_of_value (values.Int n) j is = absurd cc
+array_of_value (values.Native n) j is = absurd cc
+array_of_value values.Text j is = absurd cc
+
+have_dropped : (number : ℕ → ℤ) (array : ℕ → Option ℕ) (n : ℕ) (vs : List Var) (xs : List Value) → HaveValues number array vs xs
+    → HaveValues number array (drop n vs) (drop n xs)
+have_dropped number array zero vs xs have = have
+have_dropped number array (suc n) [] [] have = tt
+have_dropped number array (suc n) [] (x ∷ xs) have = elim have [ ]
+have_dropped number array (suc n) (v ∷ vs) [] have = elim have [ ]
+have_dropped number array (suc n) (v ∷ vs) (x ∷ xs) have = have_dropped number array n vs xs have.1
+
+all_dropped : {X : Type 0} (P : X → Type 0) (n : ℕ) (xs : List X) → AllByRecursion P xs → AllByRecursion P (drop n xs)
+all_dropped P zero xs all = all
+all_dropped P (suc n) [] all = tt
+all_dropped P (suc n) (x ∷ xs) all = all_dropped P n xs all.1
+
+array_result : (first args : ℕ) (place : Place) (known : StateFacts) (vs : List Value) (heap new : Heap) (number : ℕ → ℤ) (array : ℕ → Option ℕ) (value : Value)
+    → HasForm known → IsArrayPlace place → HoldsBy known vs heap number array → IsHeap new → KeepsForms heap new → FitsPlace new place value
+    → IsPassedOrNew heap (take args (drop first vs)) (Some value)
+    → HoldsOn (Some known) (with_result_array first args place known) (vs ++ value ∷ []) new number array
+array_result first args place known vs heap new number array value form fits_place holds is_heap kept fits passed_or_new =
+    let found = fitting_value new place value fits_place fits in
+    returned_keeps place known (passed first args known) vs (take args (drop first vs)) value heap new number array found.0 form fits_place holds kept
+    (all_taken (IsVar (length known.facts.ranges) (length known.references)) args (drop first known.variables)
+    (all_dropped (IsVar (length known.facts.ranges) (length known.references)) first known.variables form.variables))
+    (have_taken number array args (drop first known.variables) (drop first vs) (have_dropped number array first known.variables vs holds.variables))
+    (λ j so. subst (λ (v : Value). IsPassedOrNew heap (take args (drop first vs)) (Some v))
+    (array_of_value value j (found.1 ∙ ap (λ (o : Option ℕ). Some o) so)) passed_or_new)
+    found.2 found.1 (array_long new found.0 is_heap)
+
+number_value : (new : Heap) (value : Value) → FitsPlace new places.Int value → (n : ℤ) × (number_of value ≡ Some n) × FitsSigned w32 n
+number_value new (values.Int n) fits = (n, refl, fits)
+number_value new (values.Native n) fits = elim fits [ ]
+number_value new values.Null fits = elim fits [ ]
+number_value new (values.Array i) fits = elim fits [ ]
+number_value new values.Text fits = elim fits [ ]
+
+byte_value : (new : Heap) (value : Value) → FitsPlace new places.Bool value → (n : ℤ) × (number_of value ≡ Some n) × IsByte n
+byte_value new (values.Int n) fits = (n, refl, fits)
+byte_value new (values.Native n) fits = elim fits [ ]
+byte_value new values.Null fits = elim fits [ ]
+byte_value new (values.Array i) fits = elim fits [ ]
+byte_value new values.Text fits = elim fits [ ]
+
+nothing_given : (known : StateFacts) (vs : List Value) (heap new : Heap) (number : ℕ → ℤ) (array : ℕ → Option ℕ) → HasForm known → HoldsBy known vs heap number array
+    → KeepsForms heap new → HoldsOn (Some known) (Some known) (vs ++ []) new number array
+nothing_given known vs heap new number array form holds kept =
+    rw append-nil (same_choice known known vs new number array (record {
+      null = holds.null;
+      facts = holds.facts;
+      variables = holds.variables;
+      references = references_agree heap new (length known.facts.ranges) number number array array known.references
+          (record { numbers = λ s there. refl; arrays = λ r there. refl }) kept form.references holds.references;
+      apart = holds.apart;
+    }))
+
+call_result : (first args : ℕ) (place : Place) (known : StateFacts) (vs : List Value) (heap new : Heap) (number : ℕ → ℤ) (array : ℕ → Option ℕ) (result : Option Value)
+    → HasForm known → HoldsBy known vs heap number array → IsHeap new → KeepsForms heap new → FitsResult new place result
+    → IsPassedOrNew heap (take args (drop first vs)) result → HoldsOn (Some known) (with_call first args place known) (vs ++ listed result) new number array
+unfolding with_call
+call_result first args places.Void known vs heap new number array None form holds is_heap kept fits passed_or_new = nothing_given known vs heap new number array form holds kept
+call_result first args places.Void known vs heap new number array (Some value) form holds is_heap kept fits passed_or_new = elim fits [ ]
+call_result first args places.Bool known vs heap new number array None form holds is_heap kept fits passed_or_new = elim fits [ ]
+call_result first args places.Int known vs heap new number array None form holds is_heap kept fits passed_or_new = elim fits [ ]
+call_result first args places.Bools known vs heap new number array None form holds is_heap kept fits passed_or_new = elim fits [ ]
+call_result first args places.Ints known vs heap new number array None form holds is_heap kept fits passed_or_new = elim fits [ ]
+call_result first args places.Bool known vs heap new number array (Some value) form holds is_heap kept fits passed_or_new =
+    let found = byte_value new value fits in
+    number_keeps (pos 0) (pos 255) found.0 known vs heap new number array value form holds kept found.1 (omega (arith, ints, found.2.0, found.2.1)) found.2.0
+    (omega (arith, ints, found.2.1))
+call_result first args places.Int known vs heap new number array (Some value) form holds is_heap kept fits passed_or_new =
+    let found = number_value new value fits in
+    number_keeps LEAST GREATEST found.0 known vs heap new number array value form holds kept found.1 found.2 (omega (arith, ints, found.2)) (omega (arith, ints, found.2))
+call_result first args places.Bools known vs heap new number array (Some value) form holds is_heap kept fits passed_or_new =
+    array_result first args places.Bools known vs heap new number array value form tt holds is_heap kept fits passed_or_new
+call_result first args places.Ints known vs heap new number array (Some value) form holds is_heap kept fits passed_or_new =
+    array_result first args places.Ints known vs heap new number array value form tt holds is_heap kept fits passed_or_new
+
+pub call_keeps : (first args : ℕ) (place : Place) (state : State) → ForSome state HasForm → KeepsCall first args place state (calls.forget first args place state)
+call_keeps first args place None form = λ vs heap new number array result holds is_heap kept fits passed_or_new. elim holds [ ]
+call_keeps first args place (Some known) form = λ vs heap new number array result holds is_heap kept fits passed_or_new.
+    call_result first args place known vs heap new number array result (form known refl) holds is_heap kept fits passed_or_new

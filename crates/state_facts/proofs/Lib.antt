@@ -1,0 +1,14 @@
+pub mod Growing
+pub mod Searching
+pub mod MadeNumbers
+pub mod MoveForms
+pub mod ComparisonForms
+pub mod AssumptionForms
+pub mod Agreeing
+pub mod Stepping
+pub mod MovesHold
+pub mod ArraysHold
+pub mod ComparisonsHold
+pub mod AssumptionsHold
+pub mod ResultForms
+pub mod ResultsHold

@@ -1,0 +1,71 @@
+-- The form of what is known: it speaks of what is there.
+use Rattle.std.specs.Prelude.{ℕ, ◌<◌, ◌≤◌, List, [], ◌∷◌, length}
+use Rattle.std.specs.List.{AllByRecursion}
+use Rattle.alias_facts.specs.PairsOf.{Pair}
+use Rattle.cil_model.specs.declared.place.Place.{Place}
+use Rattle.cil_model.specs.declared.place.Place.TheVariants as places
+use Rattle.domain_api.specs.declared.expr.Expr.{Expr}
+use Rattle.number_facts.specs.Facts.{AreNarrow}
+use Rattle.number_facts.specs.Holds.{AreNamed}
+use Rattle.symbolic_values.specs.Pairing.{IsNear}
+use Rattle.symbolic_values.specs.declared.def.Def.{Def}
+use Rattle.symbolic_values.specs.declared.def.Def.TheVariants.{NullTest}
+use Rattle.state_facts.specs.StateFacts.{StateFacts}
+use Rattle.frame_names.specs.declared.reference.Reference.{Reference}
+use Rattle.state_facts.specs.declared.reference.Unknown.{Unknown}
+use Rattle.frame_names.specs.declared.var.Var.{Var}
+use Rattle.frame_names.specs.declared.var.Var.TheVariants as vars
+
+-- The symbol of an expression is there, of so many, and its constant is one of -2^32 to 2^32.
+pub record IsNumber (symbols : ℕ) (e : Expr) : Type 0 where
+  pub there : e.sym ≤ symbols
+  pub near : IsNear e
+
+-- What a variable has is there, where there are so many symbols and references.
+abbrev pub IsVar : (symbols references : ℕ) → Var → Type 0
+IsVar symbols references (vars.Number e) = IsNumber symbols e
+IsVar symbols references (vars.Reference r) = r ≤ references
+IsVar symbols references vars.Text = Unit {0}
+
+abbrev pub IsArrayPlace : Place → Type 0
+IsArrayPlace places.Bools = Unit {0}
+IsArrayPlace places.Ints = Unit {0}
+IsArrayPlace _ = ⊥
+
+pub record IsReference (symbols : ℕ) (r : Reference Unknown) : Type 0 where
+  pub place : IsArrayPlace r.place
+  pub length_is : IsNumber symbols r.length
+
+-- The reference that a null test names is there.
+abbrev pub TestsOf : ℕ → Def → Type 0
+TestsOf references (NullTest r is) = r ≤ references
+TestsOf references _ = Unit {0}
+
+-- Each symbol is defined once at most, and they rise.
+abbrev pub AreRising : List (ℕ × Def) → Type 0
+AreRising [] = Unit {0}
+AreRising (d ∷ definitions) = AllByRecursion (λ later. d.0 < later.0) definitions × AreRising definitions
+
+-- Both references of a pair are there, of so many.
+abbrev pub EndsBy : ℕ → Pair → Type 0
+EndsBy references p = (p.0 ≤ references) × (p.1 ≤ references)
+
+-- Ranges are of int32, and what is named is there.
+pub record HasForm (known : StateFacts) : Type 0 where
+  pub narrow : AreNarrow known.facts
+  pub named : AreNamed known.facts
+  pub rising : AreRising known.facts.definitions
+  pub tests : AllByRecursion (λ d. TestsOf (length known.references) d.1) known.facts.definitions
+  pub variables : AllByRecursion (IsVar (length known.facts.ranges) (length known.references)) known.variables
+  pub references : AllByRecursion (IsReference (length known.facts.ranges)) known.references
+  pub pairs : AllByRecursion (EndsBy (length known.references)) known.apart
+
+-- What is handed to a call is there.
+abbrev pub HasVar : StateFacts → Var → Type 0
+HasVar known v = IsVar (length known.facts.ranges) (length known.references) v
+
+abbrev pub HasReference : StateFacts → ℕ → Type 0
+HasReference known r = r ≤ length known.references
+
+abbrev pub HasNumber : StateFacts → Expr → Type 0
+HasNumber known e = IsNumber (length known.facts.ranges) e

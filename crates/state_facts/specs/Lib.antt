@@ -1,0 +1,10 @@
+pub mod StateFacts
+pub mod Forms
+pub mod Moves
+pub mod Calls
+pub mod Comparing
+pub mod Assuming
+pub mod Arithmetic
+pub mod States
+pub mod Holds
+pub mod Keeps

@@ -1,0 +1,110 @@
+-- What moves do to what is known. None: nothing is reached then.
+use Rattle.std.specs.Prelude.{ℕ, ◌+◌, ◌-◌, ℤ, pos, Bool, ◌&&◌, int_le, [], ◌∷◌, ◌++◌, length, take, set, Option, Some, None, if◌then◌else◌}
+use Rattle.std.specs.Option.{option_map}
+use Rattle.alias_facts.specs.PairsOf.{with_all_before}
+use Rattle.alias_facts.specs.declared.nullness.Nullness.TheVariants.{NotNull}
+use Rattle.cil_model.specs.Arithmetic.{LEAST, GREATEST}
+use Rattle.cil_model.specs.declared.place.Place.{Place}
+use Rattle.cil_model.specs.declared.place.Place.TheVariants as places
+use Rattle.domain_api.specs.declared.expr.Expr.{Expr}
+use Rattle.number_facts.specs.Ends.{range_of}
+use Rattle.number_facts.specs.Facts.{Facts, IsNamed}
+use Rattle.number_facts.specs.Fresh.{Made, fresh}
+use Rattle.number_spans.specs.declared.span.Span.{Span}
+use Rattle.state_facts.specs.StateFacts.{StateFacts, reference_at}
+use Rattle.frame_names.specs.declared.reference.Reference.{Reference}
+use Rattle.state_facts.specs.declared.reference.Unknown.{Unknown}
+use Rattle.frame_names.specs.declared.var.Var.{Var}
+use Rattle.frame_names.specs.declared.var.Var.TheVariants as vars
+
+-- ---- pushes and pops
+
+-- One more variable, on top of the stack.
+abbrev pub pushed : StateFacts → Var → StateFacts
+pushed known v = record known { variables = known.variables ++ v ∷ [] }
+
+-- The top is taken.
+unfoldable pub popped : StateFacts → StateFacts
+popped known = record known { variables = take (length known.variables - 1) known.variables }
+
+-- A number that was made is on top.
+abbrev pub on_top : StateFacts → Made → StateFacts
+on_top known made = record known { variables = known.variables ++ vars.Number made.expr ∷ []; facts = made.facts }
+
+-- A number from lo to hi is on top, of which no more is known.
+unfoldable pub with_number : ℤ → ℤ → StateFacts → Option StateFacts
+with_number lo hi known = option_map (on_top known) (fresh known.facts lo hi None [])
+
+-- ---- puts
+
+abbrev pub is_byte : Span → Bool
+is_byte r = int_le (pos 0) r.lo && int_le r.hi (pos 255)
+
+-- A number as it is put into a place: a bool takes a number that is one of bool, and of another nothing is known after.
+unfoldable pub placed : Facts → Expr → Place → Option Made
+placed facts e places.Bool =
+    if is_byte (range_of facts e) then Some (record { expr = e; facts = facts })
+    else fresh facts (pos 0) (pos 255) None []
+placed facts e _ = Some (record { expr = e; facts = facts })
+
+-- A number that was made is what a variable has.
+abbrev pub in_variable : StateFacts → ℕ → Made → StateFacts
+in_variable known i made =
+    record known { variables = set known.variables i (vars.Number made.expr); facts = made.facts }
+
+unfoldable pub with_placed : ℕ → Expr → Place → StateFacts → Option StateFacts
+with_placed i e place known = option_map (in_variable known i) (placed known.facts e place)
+
+-- A value is put into the place of a variable.
+unfoldable pub with_put : ℕ → Var → Place → StateFacts → Option StateFacts
+with_put i (vars.Number e) place known = with_placed i e place known
+with_put i v place known = Some (record known { variables = set known.variables i v })
+
+-- The symbol of a number is there.
+abbrev pub IsNamedNumber : StateFacts → Var → Type 0
+IsNamedNumber known (vars.Number e) = IsNamed known.facts e
+IsNamedNumber known _ = Unit {0}
+
+-- ---- arrays
+
+-- The type of a reference. That of reference 0 does not matter.
+abbrev pub place_of : Option (Reference Unknown) → Place
+place_of None = places.Ints
+place_of (Some r) = r.place
+
+abbrev pub place_at : StateFacts → ℕ → Place
+place_at known r = place_of (reference_at known.references r)
+
+-- What an item of an array may be.
+abbrev pub least_item : Place → ℤ
+least_item places.Bools = pos 0
+least_item _ = LEAST
+
+abbrev pub greatest_item : Place → ℤ
+greatest_item places.Bools = pos 255
+greatest_item _ = GREATEST
+
+-- An item of an array is on top.
+unfoldable pub with_item : ℕ → StateFacts → Option StateFacts
+with_item r known = with_number (least_item (place_at known r)) (greatest_item (place_at known r)) known
+
+abbrev pub item_place : Place → Place
+item_place places.Bools = places.Bool
+item_place _ = places.Int
+
+abbrev pub beside : StateFacts → Made → StateFacts
+beside known made = record known { facts = made.facts }
+
+-- A number is stored into an array, as it is put into an item's place. Nothing is known of what arrays hold.
+unfoldable pub with_stored : ℕ → Expr → StateFacts → Option StateFacts
+with_stored r value known = option_map (beside known) (placed known.facts value (item_place (place_at known r)))
+
+-- A new array is on top. It is none of those that were there before.
+unfoldable pub with_array : Place → Expr → StateFacts → StateFacts
+with_array place length_is known = record {
+  variables = known.variables ++ vars.Reference (length known.references + 1) ∷ [];
+  facts = known.facts;
+  references = known.references
+    ++ record { place = place; nullness = NotNull; length = length_is; contents = record {} } ∷ [];
+  apart = with_all_before (length known.references + 1) known.apart;
+}

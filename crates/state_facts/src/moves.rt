@@ -1,0 +1,181 @@
+//! Moves: pushes, pops, puts, loads and new arrays.
+
+ghost use Rattle.std.specs.Prelude.{◌≡◌, ◌<◌, ◌≤◌, true, length, IfOk, OnOk, OnErr, Some, is_some};
+ghost use Rattle.number_facts.specs.Facts.{IsNamed};
+ghost use Rattle.number_facts.specs.Ends.{range_of};
+ghost use Rattle.number_facts.specs.Fresh.{expr_made, facts_made};
+ghost use Rattle.state_facts.specs.Moves as rule;
+
+use crate::known::Known;
+use crate::reference::Unknown;
+use alias_facts::Nullness;
+use cil_model::Place;
+use domain_api::{Expr, NoMemory};
+use frame_names::{Reference, Var};
+use number_facts::Numbers;
+
+/// Returns whether the numbers of an expression are all numbers of bool.
+fn is_byte(numbers: &Numbers, e: Expr) -> bool
+    requires { IsNamed numbers.now e }
+    ensures { result ≡ rule.is_byte (range_of numbers.now e) }
+{
+    let (lo, hi, _) = numbers.ends(e);
+    0 <= lo && hi <= 255
+}
+
+/// A number as it is put into a place.
+#[tactic(auto, unfolding(crate::specs::Moves::placed))]
+fn placed(numbers: &mut Numbers, e: Expr, place: Place) -> Result<Option<Expr>, NoMemory>
+    requires { IsNamed numbers.old e }
+    ensures value { IfOk result (λ made. made ≡ expr_made (rule.placed numbers.old e place)) }
+    ensures facts { OnOk result (numbers.new ≡ facts_made numbers.old (rule.placed numbers.old e place)) }
+    ensures err { OnErr result (numbers.new ≡ numbers.old) }
+{
+    match place {
+        Place::Bool if !is_byte(numbers, e) => numbers.fresh(0, 255, None),
+        _ => Ok(Some(e)),
+    }
+}
+
+/// The least and the greatest number that an item of an array of this place may be.
+fn item_ends(place: Place) -> (i64, i64)
+    ensures least { result.0 ≡ rule.least_item place }
+    ensures greatest { result.1 ≡ rule.greatest_item place }
+{
+    match place {
+        Place::Bools => (0, 255),
+        _ => (i64::from(i32::MIN), i64::from(i32::MAX)),
+    }
+}
+
+/// The type of the items of an array of this place.
+fn item_place(place: Place) -> Place
+    ensures { result ≡ rule.item_place place }
+{
+    match place {
+        Place::Bools => Place::Bool,
+        _ => Place::Int,
+    }
+}
+
+impl Known {
+    /// Pushes what is known of a value.
+    pub fn push(&mut self, v: Var) -> Result<(), NoMemory>
+        ensures ok { OnOk result (self.new ≡ rule.pushed self.old v) }
+        ensures err { OnErr result (self.new ≡ self.old) }
+    {
+        self.variables.push(v)?;
+        Ok(())
+    }
+
+    /// Takes the top, if there is one.
+    #[tactic(auto, unfolding(crate::specs::Moves::popped))]
+    pub fn pop(&mut self)
+        ensures { self.new ≡ rule.popped self.old }
+    {
+        let _top = self.variables.pop();
+    }
+
+    /// Pushes a number from one to another, of which no more is known. False: there is none.
+    #[tactic(auto, unfolding(crate::specs::Moves::with_number))]
+    pub(crate) fn push_number(&mut self, lo: i64, hi: i64) -> Result<bool, NoMemory>
+        ensures reached { IfOk result (λ reached. reached ≡ is_some (rule.with_number lo hi self.old)) }
+        ensures ok { IfOk result (λ reached. reached ≡ true → rule.with_number lo hi self.old ≡ Some self.new) }
+        ensures err { OnErr result (self.new ≡ self.old) }
+    {
+        self.variables.reserve(1)?;
+        let Some(e) = self.numbers.fresh(lo, hi, None)? else {
+            return Ok(false);
+        };
+        self.variables.push(Var::Number(e))?;
+        Ok(true)
+    }
+
+    /// Puts a number into a variable. False: nothing is reached.
+    #[tactic(auto, unfolding(crate::specs::Moves::with_placed))]
+    fn put_number(&mut self, i: usize, e: Expr, place: Place) -> Result<bool, NoMemory>
+        requires there { i < length self.old.variables }
+        requires named { IsNamed self.old.facts e }
+        ensures reached { IfOk result (λ reached. reached ≡ is_some (rule.with_placed i e place self.old)) }
+        ensures ok { IfOk result (λ reached. reached ≡ true → rule.with_placed i e place self.old ≡ Some self.new) }
+        ensures err { OnErr result (self.new ≡ self.old) }
+    {
+        let Some(e) = placed(&mut self.numbers, e, place)? else {
+            return Ok(false);
+        };
+        self.variables[i] = Var::Number(e);
+        Ok(true)
+    }
+
+    /// Puts a value into a variable. False: nothing is reached.
+    #[tactic(auto, unfolding(crate::specs::Moves::with_put))]
+    pub fn put(&mut self, i: usize, v: Var, place: Place) -> Result<bool, NoMemory>
+        requires there { i < length self.old.variables }
+        requires named { rule.IsNamedNumber self.old v }
+        ensures reached { IfOk result (λ reached. reached ≡ is_some (rule.with_put i v place self.old)) }
+        ensures ok { IfOk result (λ reached. reached ≡ true → rule.with_put i v place self.old ≡ Some self.new) }
+        ensures err { OnErr result (self.new ≡ self.old) }
+    {
+        match v {
+            Var::Number(e) => self.put_number(i, e, place),
+            _ => {
+                self.variables[i] = v;
+                Ok(true)
+            }
+        }
+    }
+
+    /// The type of a reference. That of reference 0 does not matter.
+    fn place(&self, r: u32) -> Place
+        ensures { result ≡ rule.place_at self.now r }
+    {
+        match self.reference_at(r) {
+            None => Place::Ints,
+            Some(reference) => reference.place,
+        }
+    }
+
+    /// Pushes an item of an array. False: there is none.
+    #[tactic(auto, unfolding(crate::specs::Moves::with_item))]
+    pub fn load(&mut self, r: u32) -> Result<bool, NoMemory>
+        ensures reached { IfOk result (λ reached. reached ≡ is_some (rule.with_item r self.old)) }
+        ensures ok { IfOk result (λ reached. reached ≡ true → rule.with_item r self.old ≡ Some self.new) }
+        ensures err { OnErr result (self.new ≡ self.old) }
+    {
+        let (lo, hi) = item_ends(self.place(r));
+        self.push_number(lo, hi)
+    }
+
+    /// Stores a number into an array. Nothing is known of what arrays hold. False: nothing is reached.
+    #[tactic(auto, unfolding(crate::specs::Moves::with_stored))]
+    pub fn store(&mut self, r: u32, value: Expr) -> Result<bool, NoMemory>
+        requires { IsNamed self.old.facts value }
+        ensures reached { IfOk result (λ reached. reached ≡ is_some (rule.with_stored r value self.old)) }
+        ensures ok { IfOk result (λ reached. reached ≡ true → rule.with_stored r value self.old ≡ Some self.new) }
+        ensures err { OnErr result (self.new ≡ self.old) }
+    {
+        let place = item_place(self.place(r));
+        let made = placed(&mut self.numbers, value, place)?;
+        Ok(made.is_some())
+    }
+
+    /// Pushes a new array.
+    #[tactic(auto, unfolding(crate::specs::Moves::with_array))]
+    pub fn new_array(&mut self, place: Place, length: Expr) -> Result<(), NoMemory>
+        ensures ok { OnOk result (self.new ≡ rule.with_array place length self.old) }
+        ensures err { OnErr result (self.new ≡ self.old) }
+    {
+        let r = self.next_reference()?;
+        self.variables.reserve(1)?;
+        self.references.reserve(1)?;
+        self.apart.set_apart_from_earlier(r)?;
+        self.references.push(Reference {
+            place,
+            nullness: Nullness::NotNull,
+            length,
+            contents: Unknown,
+        })?;
+        self.variables.push(Var::Reference(r))?;
+        Ok(())
+    }
+}
