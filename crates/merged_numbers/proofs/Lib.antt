@@ -8,3 +8,4 @@ pub mod InclusionLaws
 pub mod FormLaws
 pub mod ApartLaws
 pub mod Laws
+pub mod RuleLaws

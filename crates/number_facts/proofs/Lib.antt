@@ -1,4 +1,5 @@
 pub mod Symbols
+pub mod SpanLists
 pub mod Sums
 pub mod Cutting
 pub mod Small

@@ -1,0 +1,3 @@
+pub mod PartsFormed
+pub mod Formed
+pub mod Code

@@ -1,0 +1,10 @@
+pub mod Numbers
+pub mod Uses
+pub mod Frames
+pub mod References
+pub mod Definitions
+pub mod MergedHolds
+pub mod BothHold
+pub mod BoundHolds
+pub mod IncludedHolds
+pub mod StatesHold

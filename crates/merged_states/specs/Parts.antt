@@ -1,0 +1,71 @@
+-- What becomes of the parts of states in new names: numbers, definitions and references.
+use Rattle.std.specs.Prelude.{ℕ, suc, ◌+◌, pos, Bool, ◌&&◌, List, [], ◌∷◌, length, map, Option, Some, None, if◌then◌else◌}
+use Rattle.std.specs.Option.{option_and_then}
+use Rattle.std.specs.List.{range_with_len}
+use Rattle.std.specs.Ordering.{int_eq}
+use Rattle.domain_api.specs.declared.expr.Expr.{Expr}
+use Rattle.frame_names.specs.PairedFrames.{FramePairing}
+use Rattle.frame_names.specs.declared.merging.MergedReference.{MergedReference}
+use Rattle.frame_names.specs.declared.reference.Reference.{Reference}
+use Rattle.merged_numbers.specs.Known.{Known}
+use Rattle.number_facts.specs.Ends.{span_at}
+use Rattle.number_facts.specs.Facts.{Facts}
+use Rattle.number_spans.specs.declared.span.Span.{Span}
+use Rattle.symbolic_values.specs.Names.{paired_def, renamed_above, symbol_of}
+use Rattle.symbolic_values.specs.OwnNames.{own_names}
+use Rattle.symbolic_values.specs.Pairing.{Pairing}
+use Rattle.symbolic_values.specs.declared.def.Def.{Def}
+use Rattle.symbolic_values.specs.declared.pairs.Key.{Key}
+use Rattle.state_facts.specs.Assuming.{definition_at}
+use Rattle.state_facts.specs.declared.reference.Unknown.{Unknown}
+
+-- ---- numbers
+
+-- The numbers that each symbol may be, from symbol 0 on.
+abbrev pub spans_of : Facts → List Span
+spans_of facts = map (span_at facts) (range_with_len 0 (length facts.ranges + 1))
+
+abbrev pub numbers_known : Facts → Known
+numbers_known facts = record { spans = spans_of facts; bounds = facts.bounds }
+
+-- ---- definitions of new symbols, each of which stands for a key
+
+abbrev pub with_definition : ℕ → Option Def → List (ℕ × Def) → List (ℕ × Def)
+with_definition symbol None later = later
+with_definition symbol (Some def) later = (symbol, def) ∷ later
+
+-- The definitions of the symbols from one on, given what defines a key.
+abbrev pub definitions_from : (Key → Option Def) → ℕ → List Key → List (ℕ × Def)
+definitions_from def symbol [] = []
+definitions_from def symbol (u ∷ us) = with_definition symbol (def u) (definitions_from def (suc symbol) us)
+
+-- The symbol of the key is worth what its symbols in both states are.
+abbrev pub is_of_symbols : Key → Bool
+is_of_symbols u = int_eq u.first (pos 0) && int_eq u.shift (pos 0)
+
+abbrev pub common_def : FramePairing → Option Def → Option Def → Option Def
+common_def frames (Some a) (Some b) = paired_def frames.numbers frames.references a b
+common_def frames _ _ = None
+
+-- The definition of a key's symbol, where both states have the same one.
+abbrev pub def_of_both : FramePairing → List (ℕ × Def) → List (ℕ × Def) → Key → Option Def
+def_of_both frames a b u = if is_of_symbols u then common_def frames (definition_at a u.s) (definition_at b u.t) else None
+
+-- The new reference of each reference below a count.
+abbrev pub reference_names : Pairing → ℕ → List (Option ℕ)
+reference_names pairs count = map symbol_of (own_names pairs count)
+
+-- The definition of a key's symbol, in new names. The symbol is greater by the key's first constant than the old one.
+abbrev pub own_def : List (Option Expr) → List (Option ℕ) → List (ℕ × Def) → Key → Option Def
+own_def symbols references definitions u = option_and_then (renamed_above u.first symbols references) (definition_at definitions u.s)
+
+-- The same, where there were so many symbols and references, with symbol 0 and reference 0.
+abbrev pub def_of_one : FramePairing → ℕ → ℕ → List (ℕ × Def) → Key → Option Def
+def_of_one frames symbols references definitions u =
+    own_def (own_names frames.numbers symbols) (reference_names frames.references references) definitions u
+
+-- ---- references
+
+-- A merged reference, of whose items nothing is known.
+abbrev pub unknown_items : MergedReference → Reference Unknown
+unknown_items r = record { place = r.place; nullness = r.nullness; length = r.length; contents = record {} }

@@ -1,0 +1,248 @@
+//! Two states as one, and one in the names of its own first uses.
+
+ghost use Rattle.std.specs.Prelude.{◌≡◌, ◌+◌, length, map, IfOk, Some, option_map};
+ghost use Rattle.std.specs.Option.{ForSome};
+ghost use Rattle.frame_names.specs.Frames.{AreAlike};
+ghost use Rattle.frame_names.specs.MergedReferences.{merged_references};
+ghost use Rattle.merged_numbers.specs.Known.{known};
+ghost use Rattle.merged_numbers.specs.Meaning.{AreMeasured};
+ghost use Rattle.merged_numbers.specs.Merging as outcomes;
+ghost use Rattle.state_facts.specs.Forms.{HasForm};
+ghost use Rattle.merged_states.specs.Merging as states;
+ghost use Rattle.merged_states.specs.Rules as merges;
+ghost use Rattle.merged_states.specs.Parts.{numbers_known, unknown_items};
+
+use crate::definitions::{definitions_of_both, renamed_definitions};
+use crate::sides::{frame_of, side_of};
+use alias_facts::Apart;
+use domain_api::NoMemory;
+use frame_names::{
+    MergedReference, PairedFrames, Reference, joined_apart, kept_apart, merged_references,
+    name_frame, pair_frames,
+};
+use merged_numbers::{Merged, Side, joined, normed, widened};
+use number_facts::Numbers;
+use state_facts::{Known, Unknown};
+use std::alloc::Global;
+use symbolic_values::{Def, Key};
+
+/// How two states become one.
+#[derive(Clone, Copy)]
+pub enum Merging {
+    /// What either may be.
+    Join,
+    /// What either may be, with ends that settle.
+    Widening,
+}
+
+impl Merging {
+    /// What both states know of numbers.
+    fn numbers(
+        self,
+        alloc: Global,
+        keys: &[Key],
+        a: &Side,
+        b: &Side,
+    ) -> Result<Option<Merged>, NoMemory>
+        requires first { AreMeasured a.now.spans.now }
+        requires second { AreMeasured b.now.spans.now }
+        ensures { IfOk result (λ made. made ≡ merges.number_rule self keys.now (known a.now) (known b.now)) }
+    {
+        match self {
+            Merging::Join => joined(alloc, keys, a, b),
+            Merging::Widening => widened(alloc, keys, a, b),
+        }
+    }
+}
+
+/// A merged reference, of whose items nothing is known.
+fn reference_of(merged: &MergedReference) -> Reference<Unknown>
+    ensures { result ≡ unknown_items merged.now }
+{
+    Reference {
+        place: merged.place,
+        nullness: merged.nullness,
+        length: merged.length,
+        contents: Unknown,
+    }
+}
+
+/// What is known of each new reference.
+fn references_of(
+    alloc: Global,
+    frames: &PairedFrames,
+    a: &[Reference<Unknown>],
+    b: &[Reference<Unknown>],
+) -> Result<Vec<Reference<Unknown>>, NoMemory>
+    ensures { IfOk result (λ references. references.items ≡
+        map unknown_items (merged_references a.now b.now frames.now.references.keys frames.now.lengths)) }
+{
+    let merged = merged_references(alloc, frames, a, b)?;
+    merged.iter().map(|one| reference_of(one)).collect(alloc)
+}
+
+/// What is known of new symbols and references.
+fn known_of(
+    frames: PairedFrames,
+    numbers: Merged,
+    definitions: Vec<(u32, Def)>,
+    references: Vec<Reference<Unknown>>,
+    apart: Apart,
+) -> Known
+    ensures { result ≡ record {
+        variables = frames.vars;
+        facts = record { ranges = numbers.ranges; definitions = definitions.items; bounds = numbers.bounds };
+        references = references.items;
+        apart = apart
+    } }
+{
+    Known {
+        variables: frames.vars,
+        numbers: Numbers {
+            ranges: numbers.ranges,
+            definitions,
+            bounds: numbers.bounds,
+        },
+        references,
+        apart,
+    }
+}
+
+/// What both states know of numbers. None: nothing is reached.
+#[tactic(auto, using(crate::proofs::Code::measured))]
+fn numbers_of_both(
+    alloc: Global,
+    rule: Merging,
+    keys: &[Key],
+    a: &Known,
+    b: &Known,
+) -> Result<Option<Merged>, NoMemory>
+    ensures { IfOk result (λ made. made ≡
+        merges.number_rule rule keys.now (numbers_known a.now.facts) (numbers_known b.now.facts)) }
+{
+    let first = a.numbers.spans(alloc)?;
+    let second = b.numbers.spans(alloc)?;
+    rule.numbers(
+        alloc,
+        keys,
+        &side_of(a, first.as_slice()),
+        &side_of(b, second.as_slice()),
+    )
+}
+
+/// What both states know in the names of their frames, given what they know of numbers.
+fn merged_as(
+    alloc: Global,
+    frames: PairedFrames,
+    numbers: Merged,
+    a: &Known,
+    b: &Known,
+) -> Result<Known, NoMemory>
+    ensures { IfOk result (λ known. known ≡ states.merged_as a.now b.now frames numbers) }
+{
+    let definitions = definitions_of_both(
+        alloc,
+        &frames,
+        a.numbers.definitions.as_slice(),
+        b.numbers.definitions.as_slice(),
+    )?;
+    let references = references_of(
+        alloc,
+        &frames,
+        a.references.as_slice(),
+        b.references.as_slice(),
+    )?;
+    let apart = joined_apart(
+        alloc,
+        frames.references.pairs.keys.as_slice(),
+        a.references.as_slice(),
+        &a.apart,
+        b.references.as_slice(),
+        &b.apart,
+    )?;
+    Ok(known_of(frames, numbers, definitions, references, apart))
+}
+
+/// What both states know, where both are reached. None: nothing is reached.
+#[tactic(auto, using(crate::proofs::Code::near, crate::proofs::Code::formed))]
+pub fn merged(
+    alloc: Global,
+    rule: Merging,
+    a: &Known,
+    b: &Known,
+) -> Result<Option<Known>, NoMemory>
+    requires first { HasForm a.now }
+    requires second { HasForm b.now }
+    requires alike { AreAlike a.now.variables b.now.variables }
+    ensures value { IfOk result (λ known. known ≡ states.merged_known (merges.number_rule rule) a.now b.now) }
+    ensures form { IfOk result (λ known. ForSome known HasForm) }
+{
+    let Some(frames) = pair_frames(alloc, &frame_of(a), &frame_of(b))? else {
+        return Ok(None);
+    };
+    let pairs = &frames.numbers;
+    let keys = pairs.keys.as_slice();
+    let Some(numbers) = numbers_of_both(alloc, rule, keys, a, b)? else {
+        return Ok(None);
+    };
+    let known = merged_as(alloc, frames, numbers, a, b)?;
+    Ok(Some(known))
+}
+
+/// What one state knows of numbers. None: nothing is reached.
+#[tactic(auto, using(crate::proofs::Code::measured))]
+fn numbers_of_one(alloc: Global, keys: &[Key], a: &Known) -> Result<Option<Merged>, NoMemory>
+    ensures { IfOk result (λ made. made ≡ outcomes.normed keys.now (numbers_known a.now.facts)) }
+{
+    let spans = a.numbers.spans(alloc)?;
+    normed(alloc, keys, &side_of(a, spans.as_slice()))
+}
+
+/// What a state knows in the names of its frame, given what it knows of numbers.
+fn named_as(
+    alloc: Global,
+    frames: PairedFrames,
+    numbers: Merged,
+    a: &Known,
+) -> Result<Known, NoMemory>
+    ensures { IfOk result (λ known. known ≡ states.normal_as a.now frames numbers) }
+{
+    let definitions = renamed_definitions(
+        alloc,
+        &frames,
+        a.numbers.ranges.len() + 1,
+        a.references.len() + 1,
+        a.numbers.definitions.as_slice(),
+    )?;
+    let references = references_of(
+        alloc,
+        &frames,
+        a.references.as_slice(),
+        a.references.as_slice(),
+    )?;
+    let apart = kept_apart(
+        alloc,
+        frames.references.pairs.keys.as_slice(),
+        &a.apart,
+    )?;
+    Ok(known_of(frames, numbers, definitions, references, apart))
+}
+
+/// What a state knows, in the names of its own first uses. None: nothing is reached.
+#[tactic(auto, using(crate::proofs::Code::near, crate::proofs::Code::formed))]
+pub fn named(alloc: Global, a: &Known) -> Result<Option<Known>, NoMemory>
+    requires { HasForm a.now }
+    ensures value { IfOk result (λ known. known ≡ states.normal_known a.now) }
+    ensures form { IfOk result (λ known. ForSome known HasForm) }
+{
+    let Some(frames) = name_frame(alloc, &frame_of(a))? else {
+        return Ok(None);
+    };
+    let pairs = &frames.numbers;
+    let keys = pairs.keys.as_slice();
+    let Some(numbers) = numbers_of_one(alloc, keys, a)? else {
+        return Ok(None);
+    };
+    let known = named_as(alloc, frames, numbers, a)?;
+    Ok(Some(known))
+}
