@@ -8,16 +8,15 @@ ghost use Rattle.merged_states.specs.Inclusion.{is_included};
 ghost use Rattle.merged_states.specs.Rules.{number_rule};
 ghost use Rattle.merged_states.specs.Laws.StatesHold as laws;
 
-use crate::inclusion::includes_known;
-use crate::merging::{Merging, merged, named};
 use crate::state::AbsState;
 use domain_api::{Lattice, NoMemory};
 use machine_points::Point;
+use merged_states::{Merging, includes, merged, named};
 use std::alloc::Global;
 
 impl AbsState {
     /// Two states as one. Where one is not reached it is the other.
-    #[tactic(auto, using(crate::proofs::Code::alike))]
+    #[tactic(auto, using(merged_states::proofs::Code::alike))]
     fn merged(&self, alloc: Global, rule: Merging, other: &AbsState) -> Result<AbsState, NoMemory>
         requires { AreLikeStates self.now other.now }
         ensures { IfOk result (λ merged. merged ≡ rule.merged (number_rule rule) self.now other.now) }
@@ -74,7 +73,7 @@ impl Lattice for AbsState {
         match (&self.known, &other.known) {
             (None, _) => Ok(true),
             (_, None) => Ok(false),
-            (Some(a), Some(b)) => includes_known(alloc, a, b),
+            (Some(a), Some(b)) => includes(alloc, a, b),
         }
     }
 

@@ -2,6 +2,7 @@
 #![tactic(auto)]
 
 mod equality;
+mod lattice;
 mod parts;
 mod state;
 mod steps;
