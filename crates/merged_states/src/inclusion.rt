@@ -3,6 +3,7 @@
 ghost use Rattle.std.specs.Prelude.{◌≡◌, drop, get_or, map, IfOk, None};
 ghost use Rattle.std.specs.List.{list_all};
 ghost use Rattle.frame_names.specs.Frames.{AreAlike};
+ghost use Rattle.merged_states.specs.Following.{TellsFollowing};
 ghost use Rattle.merged_states.specs.Inclusion as rule;
 
 use crate::sides::{frame_of, side_of};
@@ -150,7 +151,7 @@ fn bound_values(
 }
 
 /// Returns whether what the second state knows of numbers by ranges and bounds is known of what they are bound to.
-#[tactic(auto, using(crate::proofs::Code::measured))]
+#[tactic(auto, using(crate::proofs::Handed::measured))]
 fn numbers_follow(
     alloc: Global,
     a: &Known,
@@ -191,8 +192,8 @@ fn all_follows(
     apart_follows(alloc, first, &a.apart, &b.apart, binding)
 }
 
-/// Returns whether the first state says at least as much as the second, where both are reached.
-pub fn includes(alloc: Global, a: &Known, b: &Known) -> Result<bool, NoMemory>
+/// Returns whether the frame of the second state can be bound to that of the first, and all follows then.
+fn is_included(alloc: Global, a: &Known, b: &Known) -> Result<bool, NoMemory>
     requires { AreAlike a.now.variables b.now.variables }
     ensures { IfOk result (λ is. is ≡ rule.is_included_known a.now b.now) }
 {
@@ -201,4 +202,16 @@ pub fn includes(alloc: Global, a: &Known, b: &Known) -> Result<bool, NoMemory>
         return Ok(false);
     };
     all_follows(alloc, a, b, &binding)
+}
+
+/// Returns whether the first state says at least as much as the second, where both are reached: each variable and
+/// length of the second is bound to what the first has there, and all that the second knows is known of what is bound.
+///
+/// Cost: two gaps for each variable and length, a search for each bound and definition, and a look at each pair.
+pub fn includes(alloc: Global, a: &Known, b: &Known) -> Result<bool, NoMemory>
+    requires { AreAlike a.now.variables b.now.variables }
+    ensures value { IfOk result (λ is. is ≡ rule.is_included_known a.now b.now) }
+    ensures holds { IfOk result (TellsFollowing a.now b.now) }
+{
+    is_included(alloc, a, b)
 }

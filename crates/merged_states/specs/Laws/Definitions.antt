@@ -1,10 +1,10 @@
 -- Definitions of new symbols are so.
-use Rattle.std.proofs.Common.{◌≡◌, ℕ, zero, suc, ◌+◌, ◌<◌, ◌==◌, ℤ, pos, ◌+ℤ◌, Bool, true, false, ◌&&◌, List, [], ◌∷◌, length, map, get_or, Option, Some, None, refl, sym, ap, ◌∙◌, subst, inl, inr, arith}
+use Rattle.std.proofs.Common.{◌≡◌, ℕ, suc, ◌+◌, ◌<◌, ◌==◌, ℤ, pos, ◌+ℤ◌, Bool, true, false, List, [], ◌∷◌, length, map, get_or, Option, Some, None, refl, sym, ap, ◌∙◌, inl, inr, arith}
 use Rattle.std.specs.Prelude.{if◌then◌else◌}
 use Rattle.std.specs.Option.{option_and_then}
 use Rattle.std.specs.List.{AllByRecursion, range_with_len}
 use Rattle.std.specs.Ordering.{int_eq}
-use Rattle.std.proofs.lemmas.Bool.{and_parts, cases_Bool, cases_lt}
+use Rattle.std.proofs.lemmas.Bool.{and_parts, cases_lt}
 use Rattle.std.proofs.lemmas.Bool.Decides.{Decides-eqb, Decides-int_eq}
 use Rattle.std.proofs.lemmas.Int.{ints}
 use Rattle.std.proofs.lemmas.List.{get_or_past}
@@ -13,7 +13,7 @@ use Rattle.domain_api.specs.declared.expr.Expr.{Expr}
 use Rattle.frame_names.specs.PairedFrames.{FramePairing}
 use Rattle.number_facts.specs.Holds.{IsDefined, is_below}
 use Rattle.symbolic_values.specs.Meaning.{ReferencesAgree, null_behind, told}
-use Rattle.symbolic_values.specs.Names.{paired_def, paired_reference, renamed_above, symbol_of}
+use Rattle.symbolic_values.specs.Names.{paired_reference, renamed_above, symbol_of}
 use Rattle.symbolic_values.specs.OwnNames.{own_name, own_names}
 use Rattle.symbolic_values.specs.Pairing.{Pairing, origin}
 use Rattle.symbolic_values.specs.Worth.{behind_uses, worth_of_use}
@@ -23,7 +23,7 @@ use Rattle.symbolic_values.proofs.MeaningLaws.{renamed_above_told}
 use Rattle.symbolic_values.proofs.OwnNameLaws.{own_names_agree}
 use Rattle.symbolic_values.proofs.PairedMeaning.{paired_reference_null, paired_told}
 use Rattle.state_facts.specs.Assuming.{definition_at}
-use Rattle.merged_states.specs.Parts.{common_def, def_of_both, def_of_one, definitions_from, is_of_symbols, own_def, reference_names, with_definition}
+use Rattle.merged_states.specs.Parts.{common_def, def_of_both, def_of_one, definitions_from, is_of_symbols, reference_names, with_definition}
 
 -- ---- a definition that is there
 

@@ -1,5 +1,5 @@
 -- Variables and references of a state that holds: what they are worth, and what they are in new names.
-use Rattle.std.proofs.Common.{◌≡◌, ℕ, zero, suc, ◌+◌, ◌-◌, ◌==◌, ◌<◌, ◌^◌, ℤ, pos, ◌+ℤ◌, Bool, true, false, List, [], ◌∷◌, ◌++◌, length, map, slice_get, get_or, Option, Some, None, FitsSigned, w32, refl, sym, ap, ◌∙◌, subst, inl, inr, arith}
+use Rattle.std.proofs.Common.{◌≡◌, ℕ, zero, suc, ◌-◌, ◌==◌, ◌<◌, ◌^◌, ℤ, pos, ◌+ℤ◌, Bool, false, List, [], ◌∷◌, ◌++◌, map, slice_get, Option, Some, None, FitsSigned, w32, refl, sym, ap, ◌∙◌, subst, inl, inr, arith}
 use Rattle.std.specs.Prelude.{if◌then◌else◌}
 use Rattle.std.specs.List.{AllByRecursion}
 use Rattle.std.proofs.lemmas.Bool.{cases_Bool}
@@ -8,9 +8,8 @@ use Rattle.std.proofs.lemmas.Int.{ints}
 use Rattle.domain_api.specs.declared.expr.Expr.{Expr}
 use Rattle.alias_facts.specs.Arrays.{is_no_array}
 use Rattle.alias_facts.specs.NullnessOf.{Agrees}
-use Rattle.alias_facts.specs.declared.nullness.Nullness.TheVariants.{Null}
 use Rattle.cil_model.specs.Comparisons.{number_of, reference_of}
-use Rattle.cil_model.specs.Values.{Heap, IsArray, IsHeap}
+use Rattle.cil_model.specs.Values.{Heap, IsHeap}
 use Rattle.cil_model.specs.declared.machine.Value.{Value}
 use Rattle.cil_model.specs.declared.machine.Value.TheVariants as values
 use Rattle.cil_model.specs.declared.place.Place.{Place}

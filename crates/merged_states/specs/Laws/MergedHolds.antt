@@ -1,11 +1,9 @@
 -- Where a state holds, what it is in new names holds too: the two states that are made one, and the normal form.
-use Rattle.std.proofs.Common.{◌≡◌, ℕ, zero, suc, ◌+◌, ◌<◌, ◌≤◌, ℤ, pos, ◌+ℤ◌, Bool, true, false, List, [], ◌∷◌, ◌++◌, length, map, get_or, Option, Some, None, FitsSigned, w32, refl, sym, ap, ◌∙◌, subst, append-nil, drop, arith}
+use Rattle.std.proofs.Common.{◌≡◌, ℕ, zero, suc, ◌+◌, ◌≤◌, ℤ, pos, Bool, true, false, List, [], ◌∷◌, length, map, get_or, Option, Some, None, FitsSigned, w32, refl, sym, ap, ◌∙◌, subst, arith}
 use Rattle.std.specs.Prelude.{if◌then◌else◌}
-use Rattle.std.specs.Option.{option_and_then, option_map}
 use Rattle.std.specs.List.{AllByRecursion, list_all}
 use Rattle.std.proofs.lemmas.Bool.Decides.{Decides-eqb}
 use Rattle.std.proofs.lemmas.Int.{ints}
-use Rattle.std.proofs.lemmas.List.{length-map}
 use Rattle.domain_api.specs.declared.expr.Expr.{Expr}
 use Rattle.alias_facts.specs.Arrays.{AllDiffer, is_no_array}
 use Rattle.alias_facts.specs.PairsOf.{Pair}
@@ -13,11 +11,11 @@ use Rattle.cil_model.specs.Places.{place_number}
 use Rattle.cil_model.specs.Values.{Heap}
 use Rattle.cil_model.specs.declared.machine.Value.{Value}
 use Rattle.cil_model.specs.declared.place.Place.{Place}
-use Rattle.frame_names.specs.Frames.{AreAlike, length_at, numbers_of, place_at, place_in, references_of}
+use Rattle.frame_names.specs.Frames.{AreAlike, length_at, numbers_of, place_in, references_of}
 use Rattle.frame_names.specs.MergedReferences.{merged_references}
 use Rattle.frame_names.specs.Meaning.{arrays_behind, numbers_behind}
 use Rattle.frame_names.proofs.SaidLaws.{frames_have_lengths, frames_say}
-use Rattle.frame_names.specs.PairedFrames.{FramePairing, exprs_of, if_near, is_near, named_frame, old_at, old_of, paired_frames, pairing_by, pairs_of}
+use Rattle.frame_names.specs.PairedFrames.{FramePairing, exprs_of, is_near, named_frame, old_of, paired_frames, pairing_by, pairs_of}
 use Rattle.frame_names.specs.declared.reference.Reference.{Reference}
 use Rattle.frame_names.specs.declared.var.Var.{Var}
 use Rattle.frame_names.specs.declared.var.Var.TheVariants as vars
@@ -27,31 +25,30 @@ use Rattle.merged_numbers.specs.Meaning.{AreInt32, Keeps, SomeSo}
 use Rattle.merged_numbers.specs.Meaning as numbers
 use Rattle.merged_numbers.specs.Merging.{Outcome}
 use Rattle.number_facts.specs.Facts.{Facts, range_at}
-use Rattle.number_facts.specs.Holds.{Holds, IsDefined, is_below}
+use Rattle.number_facts.specs.Holds.{IsDefined, is_below}
 use Rattle.number_facts.specs.Laws.Allowing.{AllowsNumbers}
 use Rattle.number_spans.specs.Stored.{Allows}
 use Rattle.pentagon_domain.specs.Gaps as by_bounds
-use Rattle.symbolic_values.specs.Meaning.{null_behind, told}
-use Rattle.symbolic_values.specs.Names.{as_expr, paired_references}
-use Rattle.symbolic_values.specs.Pairing.{Pairing, behind_first, known_in, named, origin, paired, same_key, use_of, uses_of}
+use Rattle.symbolic_values.specs.Meaning.{told}
+use Rattle.symbolic_values.specs.Names.{as_expr}
+use Rattle.symbolic_values.specs.Pairing.{Pairing, origin, paired, use_of, uses_of}
 use Rattle.symbolic_values.specs.Worth.{behind_uses, worth, worth_of_use}
 use Rattle.symbolic_values.specs.declared.def.Def.{Def}
 use Rattle.symbolic_values.specs.declared.pairs.Key.{Key}
-use Rattle.symbolic_values.proofs.Keys.{HaveOneKey, same_key_is}
-use Rattle.symbolic_values.proofs.WorthLaws.{all_known, origin_first, paired_worth, zero_behind}
-use Rattle.state_facts.specs.Holds.{AreSo, HaveValues, HoldsBy, HoldsIn}
+use Rattle.symbolic_values.proofs.WorthLaws.{zero_behind}
+use Rattle.state_facts.specs.Holds.{AreSo, HaveValues, HoldsBy}
 use Rattle.merged_states.specs.Merging.{known_as}
 use Rattle.merged_states.specs.Alike.{AreLike}
-use Rattle.merged_states.specs.Following.{AreNoneBeyond, AreOfMachine, IsMachineNumber}
-use Rattle.merged_states.specs.Parts.{definitions_from, numbers_known, unknown_items}
+use Rattle.merged_states.specs.Following.{AreNoneBeyond, AreOfMachine}
+use Rattle.merged_states.specs.Parts.{numbers_known, unknown_items}
 use Rattle.state_facts.specs.StateFacts as states
 use Rattle.state_facts.specs.StateFacts.{StateFacts, State}
 use Rattle.state_facts.specs.declared.reference.Unknown.{Unknown}
 use Rattle.merged_states.specs.Laws.Definitions.{definitions_so}
 use Rattle.merged_states.specs.Laws.Frames.{IsEntry, alike_of, both_fit, entries_so, have_same, key_lengths_fit, length_fits, same_entry, vars_fit}
 use Rattle.merged_states.specs.Laws.Numbers.{numbers_allowed, zero_is}
-use Rattle.merged_states.specs.Laws.References.{AllSo, HaveOnePlace, OldEntry, all_so, are_so}
-use Rattle.merged_states.specs.Laws.Uses.{AllFit, all_keys, at_named, exprs_near, keys_fit}
+use Rattle.merged_states.specs.Laws.References.{HaveOnePlace, OldEntry, all_so, are_so}
+use Rattle.merged_states.specs.Laws.Uses.{AllFit, all_keys, exprs_near, keys_fit}
 
 -- ---- references of like variables have one place
 
@@ -263,7 +260,7 @@ new_holds is_first a b vs heap number array outcome def pairs like so numbers_so
   facts = record {
     allowed = new_allowed _ outcome (later_of is_first a b number) refl refl (zero_later is_first a b number ∙ so.origin_is) numbers_so;
     definitions = definitions_so (later_of is_first a b number) (λ r. is_no_array (arrays_of is_first a b array r)) (worth_of_use is_first number) def 1
-    (frame a b).numbers.keys (names_later is_first a b number) says;
+        (frame a b).numbers.keys (names_later is_first a b number) says;
   };
   variables = vars_have is_first a b vs heap number array (alike_of a b a.variables b.variables like) so;
   references = references_so is_first a b vs heap number array like so;

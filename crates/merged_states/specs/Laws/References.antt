@@ -1,11 +1,10 @@
 -- References of two frames that are named together: what is known of each new one is so, and pairs that are kept are.
-use Rattle.std.proofs.Common.{◌≡◌, ℕ, zero, suc, ◌+◌, ◌-◌, ◌<◌, ◌==◌, ℤ, pos, Bool, true, false, not, ◌&&◌, ◌||◌, List, [], ◌∷◌, ◌++◌, length, map, slice_get, get_or, Option, Some, None, refl, sym, ap, ◌∙◌, subst, true≢false, append-nil, arith}
+use Rattle.std.proofs.Common.{◌≡◌, ℕ, zero, suc, ◌-◌, ◌==◌, ℤ, Bool, true, false, List, [], ◌∷◌, length, map, slice_get, get_or, Option, Some, None, refl, sym, ap, ◌∙◌, subst, true≢false}
 use Rattle.std.specs.Prelude.{if◌then◌else◌}
 use Rattle.std.specs.Option.{option_map_or}
 use Rattle.std.specs.List.{AllByRecursion, fold, range_with_len}
 use Rattle.std.proofs.lemmas.Bool.{and_parts, cond_both}
 use Rattle.std.proofs.lemmas.Bool.Decides.{Decides-eqb}
-use Rattle.std.proofs.lemmas.List.{length-map}
 use Rattle.domain_api.specs.declared.expr.Expr.{Expr}
 use Rattle.alias_facts.specs.Arrays.{AllDiffer, Differ, is_no_array}
 use Rattle.alias_facts.specs.NullnessOf.{Agrees, joined}
@@ -16,17 +15,15 @@ use Rattle.cil_model.specs.Places.{place_number}
 use Rattle.cil_model.specs.Values.{Heap, has_array, same_place}
 use Rattle.cil_model.specs.declared.machine.ArrayCell.{ArrayCell}
 use Rattle.cil_model.specs.declared.place.Place.{Place}
-use Rattle.frame_names.specs.ApartPairs.{are_apart_in_both, are_kept, cannot_be_same, joined_apart, kept_apart, pairs_by, were_kept, with_row, with_test}
+use Rattle.frame_names.specs.ApartPairs.{are_apart_in_both, cannot_be_same, joined_apart, kept_apart, pairs_by, were_kept, with_row, with_test}
 use Rattle.frame_names.specs.Frames.{are_one_place, length_at, nullness_at, place_at}
 use Rattle.frame_names.specs.MergedReferences.{merged_reference, merged_references, one_place}
-use Rattle.frame_names.specs.PairedFrames.{behind, first_expr, old_at, old_of}
-use Rattle.frame_names.specs.declared.merging.MergedReference.{MergedReference}
+use Rattle.frame_names.specs.PairedFrames.{old_at, old_of}
 use Rattle.frame_names.specs.declared.reference.Reference.{Reference}
 use Rattle.symbolic_values.specs.Pairing.{origin}
 use Rattle.symbolic_values.specs.Worth.{worth}
 use Rattle.symbolic_values.specs.declared.pairs.Key.{Key}
-use Rattle.state_facts.specs.Holds as holds
-use Rattle.state_facts.specs.Holds.{AreSo, FitsArray, IsSo, length_of_array}
+use Rattle.state_facts.specs.Holds.{AreSo, FitsArray, IsSo}
 use Rattle.merged_states.specs.Parts.{unknown_items}
 use Rattle.state_facts.specs.StateFacts as states
 use Rattle.state_facts.specs.declared.reference.Unknown.{Unknown}
@@ -98,13 +95,14 @@ pub all_so : (heap : Heap) (number later : ℕ → ℤ) (is_first : Bool) (a b :
     → AllSo heap later array us (map unknown_items (merged_references a b us lengths))
 all_so heap number later is_first a b array [] lengths same old worths = tt
 all_so heap number later is_first a b array (u ∷ us) [] same old worths = absurd cc
-all_so heap number later is_first a b array (u ∷ us) (n ∷ lengths) same old worths =
-    (new_so heap number later is_first a b u n (array u) same.0 old.0
-    (cons_head (worth later n) (worth number (length_at (if is_first then a else b) (old_of is_first u))) (map (worth later) lengths)
-    (map (λ u. worth number (length_at (if is_first then a else b) (old_of is_first u))) us) worths),
-    all_so heap number later is_first a b array us lengths same.1 old.1
-    (cons_tail (worth later n) (worth number (length_at (if is_first then a else b) (old_of is_first u))) (map (worth later) lengths)
-    (map (λ u. worth number (length_at (if is_first then a else b) (old_of is_first u))) us) worths))
+all_so heap number later is_first a b array (u ∷ us) (n ∷ lengths) same old worths = (
+  new_so heap number later is_first a b u n (array u) same.0 old.0
+      (cons_head (worth later n) (worth number (length_at (if is_first then a else b) (old_of is_first u))) (map (worth later) lengths)
+      (map (λ u. worth number (length_at (if is_first then a else b) (old_of is_first u))) us) worths),
+  all_so heap number later is_first a b array us lengths same.1 old.1
+      (cons_tail (worth later n) (worth number (length_at (if is_first then a else b) (old_of is_first u))) (map (worth later) lengths)
+      (map (λ u. worth number (length_at (if is_first then a else b) (old_of is_first u))) us) worths),
+)
 
 so_at : (heap : Heap) (number : ℕ → ℤ) (array : Key → Option ℕ) (us : List Key) (rs : List (Reference Unknown)) (place : ℕ) (known : Reference Unknown)
     → AllSo heap number array us rs → slice_get rs place ≡ Some known → IsSo heap number known (array (get_or us place origin))

@@ -1,19 +1,17 @@
 -- Join, widening, the normal form and inclusion keep what holds, of values over a heap and of points.
-use Rattle.std.proofs.Common.{◌≡◌, ℕ, zero, suc, ◌+◌, ◌<◌, ◌≤◌, ℤ, pos, Bool, true, false, List, [], ◌∷◌, ◌++◌, reverse, length, slice_get, Option, Some, None, FitsSigned, w32, refl, sym, ap, ◌∙◌, subst, inl, inr, arith}
+use Rattle.std.proofs.Common.{◌≡◌, ℕ, zero, suc, ◌<◌, ◌≤◌, ℤ, pos, Bool, true, false, List, [], ◌∷◌, ◌++◌, reverse, length, slice_get, Option, Some, None, FitsSigned, w32, refl, sym, ap, ◌∙◌, subst, arith}
 use Rattle.std.specs.Prelude.{if◌then◌else◌}
-use Rattle.std.specs.Option.{ForSome, option_and_then, option_map}
+use Rattle.std.specs.Option.{ForSome}
 use Rattle.std.specs.List.{AllByRecursion}
 use Rattle.std.proofs.lemmas.Int.{ints}
-use Rattle.alias_facts.specs.Arrays.{AllDiffer, Differ, is_no_array}
+use Rattle.alias_facts.specs.Arrays.{AllDiffer, is_no_array}
 use Rattle.alias_facts.specs.PairsOf.{Pair}
 use Rattle.cil_model.proofs.Lists.{all_reverse}
-use Rattle.cil_model.specs.Comparisons.{number_of}
 use Rattle.cil_model.specs.Values.{Heap, IsValue}
 use Rattle.cil_model.specs.declared.machine.Value.{Value}
 use Rattle.cil_model.specs.declared.machine.Value.TheVariants as values
 use Rattle.frame_names.specs.Binding.{FrameBinding, bound_frames}
 use Rattle.frame_names.specs.BoundMeaning.{arrays_bound, numbers_bound}
-use Rattle.frame_names.specs.Frames as frames
 use Rattle.frame_names.specs.declared.reference.Reference.{Reference}
 use Rattle.frame_names.specs.declared.var.Var.{Var}
 use Rattle.frame_names.specs.declared.var.Var.TheVariants as vars
@@ -26,10 +24,10 @@ use Rattle.symbolic_values.specs.Names.{same_flag}
 use Rattle.symbolic_values.specs.declared.def.Def.{Def}
 use Rattle.symbolic_values.specs.declared.def.Def.TheVariants.{Eq, Lt, LtUn, NullTest, Sub}
 use Rattle.state_facts.specs.Forms.{HasForm, IsVar, TestsOf}
-use Rattle.state_facts.specs.Holds.{AreSo, HaveValues, HoldsAt, HoldsBy, HoldsIn, IsSo, variables_of}
+use Rattle.state_facts.specs.Holds.{AreSo, HaveValues, HoldsAt, HoldsBy, IsSo, variables_of}
 use Rattle.merged_states.specs.Merging.{NumberRule, join, merged, normal, widen}
 use Rattle.merged_states.specs.Alike.{AreComparable, AreLikeStates}
-use Rattle.merged_states.specs.Inclusion.{all_follows, if_bound, is_included}
+use Rattle.merged_states.specs.Inclusion.{if_bound, is_included, is_included_known}
 use Rattle.merged_states.specs.Following.{AreNoneBeyond, AreOfMachine, Follows, HoldsOver, IsMachineNumber}
 use Rattle.state_facts.specs.StateFacts as states
 use Rattle.state_facts.specs.StateFacts.{StateFacts, State}
@@ -64,10 +62,11 @@ in_stays (Some known) array n is = is
 
 differ_stays : (known : StateFacts) (array : ℕ → Option ℕ) (pairs : List Pair) → AllDiffer array pairs → AllDiffer (arrays_in known array) pairs
 differ_stays known array [] all = tt
-differ_stays known array (p ∷ pairs) all =
-    (λ n first second. all.0 n (in_stays (states.reference_at known.references p.0) (array p.0) n first)
-    (in_stays (states.reference_at known.references p.1) (array p.1) n second),
-    differ_stays known array pairs all.1)
+differ_stays known array (p ∷ pairs) all = (
+  λ n first second. all.0 n (in_stays (states.reference_at known.references p.0) (array p.0) n first)
+      (in_stays (states.reference_at known.references p.1) (array p.1) n second),
+  differ_stays known array pairs all.1,
+)
 
 values_stay : (known : StateFacts) (number : ℕ → ℤ) (array : ℕ → Option ℕ) (vs : List Var) (values : List Value) → array 0 ≡ None
     → AllByRecursion (IsVar (length known.facts.ranges) (length known.references)) vs → HaveValues number array vs values
@@ -155,11 +154,9 @@ normal_over a form vs heap machine over = record {
   holds = normal_holds a vs heap over.number (arrays_in a over.array) (side_so a vs heap over.number over.array form machine over.holds);
 }
 
--- What a state is included in holds wherever the state does.
-pub included_over : (a b : State) → AreLikeStates a b → is_included a b ≡ true → Follows a b
-included_over None b like is vs heap machine over = absurd over.holds
-included_over (Some a) None like is vs heap machine over = absurd cc
-included_over (Some a) (Some b) like is vs heap machine over =
+-- What a reached state is included in holds wherever the state does.
+pub known_included : (a b : StateFacts) → HasForm a → is_included_known a b ≡ true → Follows (Some a) (Some b)
+known_included a b form is vs heap machine over =
     by (bound_frames (gap a.facts) a.variables a.references b.variables b.references (length b.facts.ranges)) refl is
   where
     by : (found : Option FrameBinding) → bound_frames (gap a.facts) a.variables a.references b.variables b.references (length b.facts.ranges) ≡ found
@@ -169,8 +166,14 @@ included_over (Some a) (Some b) like is vs heap machine over =
       number = numbers_bound over.number binding;
       array = arrays_bound (arrays_in a over.array) binding;
       holds = included_holds a b vs heap over.number (arrays_in a over.array) binding over.holds.facts.allowed
-      (side_so a vs heap over.number over.array like.first machine over.holds) at follows;
+          (side_so a vs heap over.number over.array form machine over.holds) at follows;
     }
+
+-- What a state is included in holds wherever the state does.
+pub included_over : (a b : State) → AreLikeStates a b → is_included a b ≡ true → Follows a b
+included_over None b like is vs heap machine over = absurd over.holds
+included_over (Some a) None like is vs heap machine over = absurd cc
+included_over (Some a) (Some b) like is vs heap machine over = known_included a b like.first is vs heap machine over
 
 -- ---- points
 
@@ -201,10 +204,10 @@ at_point a b p follows at =
     let machine = at.machine in
     let over = follows (variables_of p.frame) p.heap (record {
       numbers = both_all IsMachineNumber (p.frame.entry_args ++ p.frame.args ++ p.frame.locals) (reverse p.frame.stack)
-      (both_all IsMachineNumber (p.frame.entry_args ++ p.frame.args) p.frame.locals
-      (both_all IsMachineNumber p.frame.entry_args p.frame.args (all_fit p.frame.entry_heap p.frame.entry_args machine.entry_args)
-      (all_fit p.heap p.frame.args machine.args)) (all_fit p.heap p.frame.locals machine.locals))
-      (all_reverse IsMachineNumber p.frame.stack (all_fit p.heap p.frame.stack machine.stack));
+          (both_all IsMachineNumber (p.frame.entry_args ++ p.frame.args) p.frame.locals
+          (both_all IsMachineNumber p.frame.entry_args p.frame.args (all_fit p.frame.entry_heap p.frame.entry_args machine.entry_args)
+          (all_fit p.heap p.frame.args machine.args)) (all_fit p.heap p.frame.locals machine.locals))
+          (all_reverse IsMachineNumber p.frame.stack (all_fit p.heap p.frame.stack machine.stack));
       arrays = machine.heap;
     }) (record { number = at.frame.number; array = at.frame.array; holds = at.frame.holds }) in
     record { machine = machine; frame = record { number = over.number; array = over.array; holds = over.holds } }

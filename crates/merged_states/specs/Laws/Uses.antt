@@ -1,5 +1,5 @@
 -- The first uses of expressions that are worth int32.
-use Rattle.std.proofs.Common.{◌≡◌, ℕ, suc, ◌<◌, ℤ, pos, negsuc, ◌+ℤ◌, ◌-ℤ◌, ◌≤ℤ◌, Bool, true, false, ◌&&◌, int_le, List, [], ◌∷◌, length, map, get_or, FitsSigned, w32, refl, sym, ap, ◌∙◌, subst, arith}
+use Rattle.std.proofs.Common.{◌≡◌, ℕ, ◌<◌, ℤ, pos, negsuc, ◌+ℤ◌, ◌-ℤ◌, ◌≤ℤ◌, Bool, true, false, ◌&&◌, int_le, List, [], ◌∷◌, length, map, get_or, FitsSigned, w32, refl, sym, ap, ◌∙◌, subst, arith}
 use Rattle.std.specs.Prelude.{if◌then◌else◌}
 use Rattle.std.specs.List.{AllByRecursion, list_all}
 use Rattle.std.proofs.lemmas.Int.{ints}
@@ -7,12 +7,11 @@ use Rattle.std.proofs.lemmas.List.Sums.{passes_at_first}
 use Rattle.domain_api.specs.declared.expr.Expr.{Expr}
 use Rattle.merged_numbers.specs.Meaning.{AreInt32}
 use Rattle.symbolic_values.specs.FirstUses.{noted, first_uses}
-use Rattle.symbolic_values.specs.Pairing.{behind_first, known_in, name_at, named, number_in, origin, paired, same_key, use_of, uses_of}
+use Rattle.symbolic_values.specs.Pairing.{behind_first, known_in, named, number_in, origin, paired, same_key, uses_of}
 use Rattle.symbolic_values.specs.Worth.{behind_uses, worth, worth_of_use}
 use Rattle.symbolic_values.specs.declared.pairs.Key.{Key}
-use Rattle.symbolic_values.proofs.Keys.{HaveOneKey, same_key_is}
 use Rattle.symbolic_values.proofs.Noting.{all_at, all_noted}
-use Rattle.symbolic_values.proofs.WorthLaws.{AllKnown, all_known, named_worth, origin_first}
+use Rattle.symbolic_values.proofs.WorthLaws.{AllKnown, all_known, named_worth}
 use Rattle.frame_names.specs.PairedFrames.{is_near}
 
 -- ---- what is so of each use is so of the first uses
