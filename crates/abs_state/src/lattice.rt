@@ -16,7 +16,7 @@ use std::alloc::Global;
 
 impl AbsState {
     /// Two states as one. Where one is not reached it is the other.
-    #[tactic(auto, using(merged_states::proofs::Code::alike))]
+    #[tactic(auto, using(merged_states::proofs::Handed::alike))]
     fn merged(&self, alloc: Global, rule: Merging, other: &AbsState) -> Result<AbsState, NoMemory>
         requires { AreLikeStates self.now other.now }
         ensures { IfOk result (λ merged. merged ≡ rule.merged (number_rule rule) self.now other.now) }
