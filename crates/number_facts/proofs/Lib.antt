@@ -19,3 +19,4 @@ pub mod AdditionLaws
 pub mod OperatorLaws
 pub mod ResultLaws
 pub mod ResultForms
+pub mod SpanLists

@@ -29,7 +29,7 @@ impl Numbers {
     }
 
     /// The number that the next symbol gets.
-    fn next_symbol(&self) -> Result<u32, NoMemory>
+    pub(crate) fn next_symbol(&self) -> Result<u32, NoMemory>
         ensures { IfOk result (λ sym. sym ≡ length self.now.ranges + 1) }
     {
         u32::try_from(self.ranges.len() + 1).map_err(|_| AllocError)

@@ -13,6 +13,7 @@ mod numbers;
 mod order;
 mod outcome;
 mod relation;
+mod spans;
 
 pub use numbers::Numbers;
 pub use relation::Relation;
