@@ -259,7 +259,8 @@ impl Parts {
         ensures value { IfOk result (λ made. IfSome made (λ known. known ≡ known_of self.now)) }
         ensures some { IfOk result (λ made. IsSome made ↔ AreOrdered (known_of self.now)) }
     {
-        let Some(bounds) = Bounds::of_rows(Vec::from_slice(alloc, self.bounds.as_slice())?) else {
+        let rows = Vec::from_slice(alloc, self.bounds.as_slice())?;
+        let Some(bounds) = Bounds::of_rows(alloc, rows)? else {
             return Ok(None);
         };
         let Some(apart) = Apart::of_pairs(alloc, self.apart.as_slice())? else {

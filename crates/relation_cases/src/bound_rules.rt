@@ -79,7 +79,7 @@ pub fn rows_from(alloc: Global, bounds: &Bounds, argument: &str) -> Result<(), F
 /// `made s1+3 <= s2 = yes`: whether rows in this order are bounds. Where they are, they come again, also of a copy.
 pub fn made(alloc: Global, argument: &str) -> Result<(), Failure> {
     let (question, told) = asked(argument)?;
-    let Some(bounds) = Bounds::of_rows(rows_of(alloc, question)?) else {
+    let Some(bounds) = Bounds::of_rows(alloc, rows_of(alloc, question)?)? else {
         return check_yes(alloc, false, told);
     };
     check_yes(alloc, true, told)?;
