@@ -58,7 +58,7 @@ impl Known {
 
     /// What is known of a reference. None for reference 0, which is null.
     #[tactic(auto, unfolding(crate::specs::StateFacts::reference_at))]
-    pub(crate) fn reference_at(&self, r: u32) -> Option<Reference<Unknown>>
+    pub fn reference_at(&self, r: u32) -> Option<Reference<Unknown>>
         ensures { result ≡ rule.reference_at self.now.references r }
     {
         if r == 0 {
