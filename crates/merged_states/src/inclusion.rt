@@ -1,6 +1,6 @@
 //! Whether one state says at least as much as another.
 
-ghost use Rattle.std.specs.Prelude.{◌≡◌, drop, get_or, map, IfOk, None};
+ghost use Rattle.std.specs.Prelude.{◌≡◌, get_or, IfOk, None};
 ghost use Rattle.std.specs.List.{list_all};
 ghost use Rattle.frame_names.specs.Frames.{AreAlike};
 ghost use Rattle.merged_states.specs.Following.{TellsFollowing};
@@ -98,9 +98,7 @@ fn all_follow(
 ) -> bool
     ensures { result ≡ list_all (rule.def_follows definitions.now symbols.now references.now) others.now }
 {
-    others
-        .iter()
-        .all(|definition| def_follows(definitions, symbols, references, definition))
+    others.iter().all(|definition| def_follows(definitions, symbols, references, definition))
 }
 
 /// Returns whether each definition of the second state is one of the first.
@@ -122,61 +120,23 @@ fn definitions_follow(
     ))
 }
 
-/// What a symbol is bound to, for ranges and bounds.
-fn as_bound(bound: &Bound) -> merged_numbers::Binding
-    ensures { result ≡ rule.as_bound bound.now }
-{
-    merged_numbers::Binding {
-        value: bound.value,
-        offset: bound.offset,
-    }
-}
-
-/// The same of each.
-fn as_bounds(alloc: Global, bound: &[Bound]) -> Result<Vec<merged_numbers::Binding>, NoMemory>
-    ensures { IfOk result (λ values. values.items ≡ map rule.as_bound bound.now) }
-{
-    bound.iter().map(|bound| as_bound(bound)).collect(alloc)
-}
-
-/// What each symbol from 1 on is bound to.
-fn bound_values(
-    alloc: Global,
-    binding: &Binding,
-) -> Result<Vec<merged_numbers::Binding>, NoMemory>
-    ensures { IfOk result (λ values. values.items ≡ rule.bound_values binding.now) }
-{
-    let bound = binding.symbols.get(1..).unwrap_or(&[]);
-    as_bounds(alloc, bound)
-}
-
 /// Returns whether what the second state knows of numbers by ranges and bounds is known of what they are bound to.
 #[tactic(auto, using(crate::proofs::Handed::measured))]
-fn numbers_follow(
-    alloc: Global,
-    a: &Known,
-    b: &Known,
-    binding: &Binding,
-) -> Result<bool, NoMemory>
+fn numbers_follow(alloc: Global, a: &Known, b: &Known, binding: &Binding) -> Result<bool, NoMemory>
     ensures { IfOk result (λ follow. follow ≡ rule.numbers_follow a.now b.now binding.now) }
 {
     let spans = a.numbers.spans(alloc)?;
-    let bound = bound_values(alloc, binding)?;
+    let bound = binding.symbols.get(1..).unwrap_or(&[]);
     Ok(includes_numbers(
         &side_of(a, spans.as_slice()),
-        bound.as_slice(),
+        bound,
         b.numbers.ranges.as_slice(),
         &b.numbers.bounds,
     ))
 }
 
 /// Returns whether the first state knows all that the second knows of what is bound.
-fn all_follows(
-    alloc: Global,
-    a: &Known,
-    b: &Known,
-    binding: &Binding,
-) -> Result<bool, NoMemory>
+fn all_follows(alloc: Global, a: &Known, b: &Known, binding: &Binding) -> Result<bool, NoMemory>
     ensures { IfOk result (λ follows. follows ≡ rule.all_follows a.now b.now binding.now) }
 {
     let (first, second) = (a.references.as_slice(), b.references.as_slice());

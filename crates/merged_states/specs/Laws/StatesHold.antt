@@ -46,21 +46,25 @@ entry_array (Some known) array = array
 abbrev pub arrays_in : StateFacts → (ℕ → Option ℕ) → ℕ → Option ℕ
 arrays_in known array r = entry_array (states.reference_at known.references r) (array r)
 
-entry_there : (references : List (Reference Unknown)) (i : ℕ) (array : Option ℕ) → i < length references → entry_array (slice_get references i) array ≡ array
+entry_there : (references : List (Reference Unknown)) (i : ℕ) (array : Option ℕ) → i < length references
+    → entry_array (slice_get references i) array ≡ array
 entry_there [] i array there = absurd (omega (arith, there))
 entry_there (known ∷ references) zero array there = refl
 entry_there (known ∷ references) (suc i) array there = entry_there references i array (omega (arith, there))
 
-there_stays : (known : StateFacts) (array : ℕ → Option ℕ) (r : ℕ) → array 0 ≡ None → r ≤ length known.references → arrays_in known array r ≡ array r
+there_stays : (known : StateFacts) (array : ℕ → Option ℕ) (r : ℕ) → array 0 ≡ None → r ≤ length known.references
+    → arrays_in known array r ≡ array r
 unfolding states.reference_at
 there_stays known array zero none there = sym none
 there_stays known array (suc i) none there = entry_there known.references i (array (suc i)) (omega (arith, there))
 
-in_stays : (entry : Option (Reference Unknown)) (array : Option ℕ) (n : ℕ) → entry_array entry array ≡ Some n → array ≡ Some n
+in_stays : (entry : Option (Reference Unknown)) (array : Option ℕ) (n : ℕ) → entry_array entry array ≡ Some n
+    → array ≡ Some n
 in_stays None array n is = absurd cc
 in_stays (Some known) array n is = is
 
-differ_stays : (known : StateFacts) (array : ℕ → Option ℕ) (pairs : List Pair) → AllDiffer array pairs → AllDiffer (arrays_in known array) pairs
+differ_stays : (known : StateFacts) (array : ℕ → Option ℕ) (pairs : List Pair) → AllDiffer array pairs
+    → AllDiffer (arrays_in known array) pairs
 differ_stays known array [] all = tt
 differ_stays known array (p ∷ pairs) all = (
   λ n first second. all.0 n (in_stays (states.reference_at known.references p.0) (array p.0) n first)
@@ -68,39 +72,57 @@ differ_stays known array (p ∷ pairs) all = (
   differ_stays known array pairs all.1,
 )
 
-values_stay : (known : StateFacts) (number : ℕ → ℤ) (array : ℕ → Option ℕ) (vs : List Var) (values : List Value) → array 0 ≡ None
-    → AllByRecursion (IsVar (length known.facts.ranges) (length known.references)) vs → HaveValues number array vs values
+values_stay : (known : StateFacts) (number : ℕ → ℤ) (array : ℕ → Option ℕ) (vs : List Var) (values : List Value)
+    → array 0 ≡ None
+    → AllByRecursion (IsVar (length known.facts.ranges) (length known.references)) vs
+    → HaveValues number array vs values
     → HaveValues number (arrays_in known array) vs values
 values_stay known number array [] [] none named have = have
 values_stay known number array [] (value ∷ values) none named have = have
 values_stay known number array (v ∷ vs) [] none named have = have
-values_stay known number array (vars.Number e ∷ vs) (value ∷ values) none named have = (have.0, values_stay known number array vs values none named.1 have.1)
-values_stay known number array (vars.Reference r ∷ vs) (value ∷ values) none named have =
-    (have.0 ∙ ap (λ x. Some x) (sym (there_stays known array r none named.0)), values_stay known number array vs values none named.1 have.1)
-values_stay known number array (vars.Text ∷ vs) (value ∷ values) none named have = (have.0, values_stay known number array vs values none named.1 have.1)
+values_stay known number array (vars.Number e ∷ vs) (value ∷ values) none named have =
+    (have.0, values_stay known number array vs values none named.1 have.1)
+values_stay known number array (vars.Reference r ∷ vs) (value ∷ values) none named have = (
+  have.0
+      ∙ ap (λ x. Some x) (sym (there_stays known array r none named.0)),
+  values_stay known number array vs values none
+      named.1 have.1,
+)
+values_stay known number array (vars.Text ∷ vs) (value ∷ values) none named have =
+    (have.0, values_stay known number array vs values none named.1 have.1)
 
-says_still : (known : StateFacts) (number : ℕ → ℤ) (array : ℕ → Option ℕ) (def : Def) → array 0 ≡ None → TestsOf (length known.references) def
-    → told is_below number (λ r. is_no_array (array r)) def ≡ told is_below number (λ r. is_no_array (arrays_in known array r)) def
+says_still : (known : StateFacts) (number : ℕ → ℤ) (array : ℕ → Option ℕ) (def : Def) → array 0 ≡ None
+    → TestsOf (length known.references) def
+    → told is_below number (λ r. is_no_array (array r)) def ≡ told is_below number
+    (λ r. is_no_array (arrays_in known array r)) def
 says_still known number array (Eq x y) none there = refl
 says_still known number array (Lt x y) none there = refl
 says_still known number array (LtUn x y) none there = refl
 says_still known number array (Sub x y) none there = refl
-says_still known number array (NullTest r is) none there = ap (λ x. truth (same_flag (is_no_array x) is)) (sym (there_stays known array r none there))
+says_still known number array (NullTest r is) none there =
+    ap (λ x. truth (same_flag (is_no_array x) is)) (sym (there_stays known array r none there))
 
-defined_still : (known : StateFacts) (number : ℕ → ℤ) (array : ℕ → Option ℕ) (definitions : List (ℕ × Def)) → array 0 ≡ None
-    → AllByRecursion (λ d. TestsOf (length known.references) d.1) definitions → AllByRecursion (IsDefined number (λ r. is_no_array (array r))) definitions
+defined_still : (known : StateFacts) (number : ℕ → ℤ) (array : ℕ → Option ℕ) (definitions : List (ℕ × Def))
+    → array 0 ≡ None
+    → AllByRecursion (λ d. TestsOf (length known.references) d.1) definitions
+    → AllByRecursion (IsDefined number (λ r. is_no_array (array r))) definitions
     → AllByRecursion (IsDefined number (λ r. is_no_array (arrays_in known array r))) definitions
 defined_still known number array [] none tests all = tt
-defined_still known number array (d ∷ definitions) none tests all =
-    (all.0 ∙ says_still known number array d.1 none tests.0, defined_still known number array definitions none tests.1 all.1)
+defined_still known number array (d ∷ definitions) none tests all = (
+  all.0
+      ∙ says_still known number array d.1 none tests.0,
+  defined_still known number array definitions none tests.1 all.1,
+)
 
-references_still : (known : StateFacts) (heap : Heap) (number : ℕ → ℤ) (array : ℕ → Option ℕ) → AreSo heap number array known.references
+references_still : (known : StateFacts) (heap : Heap) (number : ℕ → ℤ) (array : ℕ → Option ℕ)
+    → AreSo heap number array known.references
     → AreSo heap number (arrays_in known array) known.references
 references_still known heap number array so r entry at =
     subst (IsSo heap number entry) (sym (ap (λ o. entry_array o (array r)) at)) (so r entry at)
 
 -- A state that holds by some choice holds by one in which references that are not there are null.
-pub holds_within : (known : StateFacts) (vs : List Value) (heap : Heap) (number : ℕ → ℤ) (array : ℕ → Option ℕ) → HasForm known → HoldsBy known vs heap number array
+pub holds_within : (known : StateFacts) (vs : List Value) (heap : Heap) (number : ℕ → ℤ) (array : ℕ → Option ℕ)
+    → HasForm known → HoldsBy known vs heap number array
     → HoldsBy known vs heap number (arrays_in known array)
 holds_within known vs heap number array form so = record {
   null = there_stays known array 0 so.null (omega arith) ∙ so.null;
@@ -118,40 +140,51 @@ none_beyond known array r at = ap (λ o. entry_array o (array r)) (same_entry kn
 
 -- ---- states
 
-side_so : (known : StateFacts) (vs : List Value) (heap : Heap) (number : ℕ → ℤ) (array : ℕ → Option ℕ) → HasForm known → AreOfMachine vs heap
+side_so : (known : StateFacts) (vs : List Value) (heap : Heap) (number : ℕ → ℤ) (array : ℕ → Option ℕ)
+    → HasForm known → AreOfMachine vs heap
     → HoldsBy known vs heap number array → SideSo true known known vs heap number (arrays_in known array)
 side_so known vs heap number array form machine so =
-    parts_so known vs heap number (arrays_in known array) (holds_within known vs heap number array form so) (none_beyond known array) machine
+    parts_so known vs heap number (arrays_in known array) (holds_within known vs heap number array form so)
+    (none_beyond known array) machine
 
 known_over : (is_first : Bool) (rule : NumberRule) (a b : StateFacts) → KeepsSide is_first rule a b → AreComparable a b
     → Follows (Some (if is_first then a else b)) (merged rule (Some a) (Some b))
 known_over true rule a b keeps like vs heap machine over = record {
   number = later_of true a b over.number;
   array = arrays_of true a b (arrays_in a over.array);
-  holds = merged_holds true rule a b vs heap over.number (arrays_in a over.array) keeps like.variables (side_so a vs heap over.number over.array like.first machine over.holds);
+  holds =
+      merged_holds true rule a b vs heap over.number (arrays_in a over.array) keeps like.variables
+      (side_so a vs heap over.number over.array like.first machine over.holds);
 }
 known_over false rule a b keeps like vs heap machine over = record {
   number = later_of false a b over.number;
   array = arrays_of false a b (arrays_in b over.array);
-  holds = merged_holds false rule a b vs heap over.number (arrays_in b over.array) keeps like.variables (side_so b vs heap over.number over.array like.second machine over.holds);
+  holds =
+      merged_holds false rule a b vs heap over.number (arrays_in b over.array) keeps like.variables
+      (side_so b vs heap over.number over.array like.second machine over.holds);
 }
 
 -- Both as one hold wherever one of them does.
-pub merged_over : (is_first : Bool) (rule : NumberRule) (a b : State) → ((x y : StateFacts) → KeepsSide is_first rule x y) → AreLikeStates a b
+pub merged_over : (is_first : Bool) (rule : NumberRule) (a b : State)
+    → ((x y : StateFacts) → KeepsSide is_first rule x y) → AreLikeStates a b
     → Follows (if is_first then a else b) (merged rule a b)
 merged_over true rule None b keeps like vs heap machine over = absurd over.holds
 merged_over false rule None b keeps like vs heap machine over = over
 merged_over true rule (Some a) None keeps like vs heap machine over = over
 merged_over false rule (Some a) None keeps like vs heap machine over = absurd over.holds
-merged_over true rule (Some a) (Some b) keeps like vs heap machine over = known_over true rule a b (keeps a b) like vs heap machine over
-merged_over false rule (Some a) (Some b) keeps like vs heap machine over = known_over false rule a b (keeps a b) like vs heap machine over
+merged_over true rule (Some a) (Some b) keeps like vs heap machine over =
+    known_over true rule a b (keeps a b) like vs heap machine over
+merged_over false rule (Some a) (Some b) keeps like vs heap machine over =
+    known_over false rule a b (keeps a b) like vs heap machine over
 
 -- The normal form holds wherever its state does.
 pub normal_over : (a : StateFacts) → HasForm a → Follows (Some a) (normal (Some a))
 normal_over a form vs heap machine over = record {
   number = later_of true a a over.number;
   array = arrays_of true a a (arrays_in a over.array);
-  holds = normal_holds a vs heap over.number (arrays_in a over.array) (side_so a vs heap over.number over.array form machine over.holds);
+  holds =
+      normal_holds a vs heap over.number (arrays_in a over.array)
+      (side_so a vs heap over.number over.array form machine over.holds);
 }
 
 -- What a reached state is included in holds wherever the state does.
@@ -159,7 +192,8 @@ pub known_included : (a b : StateFacts) → HasForm a → is_included_known a b 
 known_included a b form is vs heap machine over =
     by (bound_frames (gap a.facts) a.variables a.references b.variables b.references (length b.facts.ranges)) refl is
   where
-    by : (found : Option FrameBinding) → bound_frames (gap a.facts) a.variables a.references b.variables b.references (length b.facts.ranges) ≡ found
+    by : (found : Option FrameBinding)
+        → bound_frames (gap a.facts) a.variables a.references b.variables b.references (length b.facts.ranges) ≡ found
         → if_bound a b found ≡ true → HoldsOver (Some b) vs heap
     by None at follows = absurd cc
     by (Some binding) at follows = record {
@@ -194,7 +228,8 @@ all_fit : (heap : Heap) (vs : List Value) → AllByRecursion (IsValue heap) vs �
 all_fit heap [] all = tt
 all_fit heap (v ∷ vs) all = (number_fits heap v all.0, all_fit heap vs all.1)
 
-both_all : {X : Type 0} (P : X → Type 0) (xs ys : List X) → AllByRecursion P xs → AllByRecursion P ys → AllByRecursion P (xs ++ ys)
+both_all : {X : Type 0} (P : X → Type 0) (xs ys : List X) → AllByRecursion P xs → AllByRecursion P ys
+    → AllByRecursion P (xs ++ ys)
 both_all P [] ys first second = second
 both_all P (x ∷ xs) ys first second = (first.0, both_all P xs ys first.1 second)
 
@@ -205,7 +240,8 @@ at_point a b p follows at =
     let over = follows (variables_of p.frame) p.heap (record {
       numbers = both_all IsMachineNumber (p.frame.entry_args ++ p.frame.args ++ p.frame.locals) (reverse p.frame.stack)
           (both_all IsMachineNumber (p.frame.entry_args ++ p.frame.args) p.frame.locals
-          (both_all IsMachineNumber p.frame.entry_args p.frame.args (all_fit p.frame.entry_heap p.frame.entry_args machine.entry_args)
+          (both_all IsMachineNumber p.frame.entry_args p.frame.args
+          (all_fit p.frame.entry_heap p.frame.entry_args machine.entry_args)
           (all_fit p.heap p.frame.args machine.args)) (all_fit p.heap p.frame.locals machine.locals))
           (all_reverse IsMachineNumber p.frame.stack (all_fit p.heap p.frame.stack machine.stack));
       arrays = machine.heap;
@@ -222,7 +258,8 @@ pub widen_left : (a b : State) (p : Point) → AreLikeStates a b → HoldsAt a p
 widen_left a b p like at = at_point a (widen a b) p (merged_over true numbers.widened a b (widened_keeps true) like) at
 
 pub widen_right : (a b : State) (p : Point) → AreLikeStates a b → HoldsAt b p → HoldsAt (widen a b) p
-widen_right a b p like at = at_point b (widen a b) p (merged_over false numbers.widened a b (widened_keeps false) like) at
+widen_right a b p like at =
+    at_point b (widen a b) p (merged_over false numbers.widened a b (widened_keeps false) like) at
 
 pub leq_holds : (a b : State) (p : Point) → AreLikeStates a b → is_included a b ≡ true → HoldsAt a p → HoldsAt b p
 leq_holds a b p like is at = at_point a b p (included_over a b like is) at
