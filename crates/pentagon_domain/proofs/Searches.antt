@@ -5,7 +5,7 @@ use Rattle.std.specs.List.Sorted.{IsPartitionedBy, IsNonDecreasingBy}
 use Rattle.std.proofs.lemmas.Bool.{cases_Bool, cases_order, and_parts, eq-eqb, ne_eqb, le-leb, lt-leb}
 use Rattle.std.proofs.lemmas.Bool.Decides.{nat_tests}
 use Rattle.pentagon_domain.specs.declared.bound_row.BoundRow.{BoundRow}
-use Rattle.pentagon_domain.specs.Rows.{is_before, is_of, is_found, StandsBefore, AreBounds, rows_from, stored, place_of}
+use Rattle.pentagon_domain.specs.Rows.{is_before, is_of, is_found, StandsBefore, AreBounds, stored, place_of}
 
 -- ---- the row at a place
 

@@ -1,16 +1,16 @@
 -- Rows by the symbol to which they go.
-use Rattle.std.proofs.Common.{◌≡◌, ℕ, zero, suc, ◌≤◌, ◌<◌, ◌==◌, ℤ, pos, Bool, true, false, not, ◌&&◌, List, [], ◌∷◌, length, get_or, map, filter, drop, drop-cons, add-one, ◌+◌, refl, sym, ap, subst, ◌∙◌, arith, inl, inr}
+use Rattle.std.proofs.Common.{◌≡◌, ℕ, zero, suc, ◌≤◌, ◌<◌, ◌==◌, pos, Bool, true, false, not, ◌&&◌, List, [], ◌∷◌, length, get_or, map, filter, drop, drop-cons, add-one, ◌+◌, refl, sym, ap, subst, ◌∙◌, arith, inl, inr}
 use Rattle.std.specs.Prelude.{Result, Ok, Err, IsOk, OnOk}
 use Rattle.std.specs.List.{AllByRecursion, AllWithin}
 use Rattle.std.specs.List.Sorted.{IsPartitionedBy, IsNonDecreasingBy, IsStableByKey}
 use Rattle.std.specs.Ordering.{is_lt, nat_cmp}
-use Rattle.std.proofs.lemmas.Bool.{cases_Bool, cases_order, and_parts, eq-eqb, eqb-true, ne_eqb}
+use Rattle.std.proofs.lemmas.Bool.{cases_Bool, cases_order, and_parts, eq-eqb, eqb-true}
 use Rattle.std.proofs.lemmas.Bool.Decides.{nat_tests}
 use Rattle.std.proofs.lemmas.List.{drop_all, get_or-map, length-map, map-id}
 use Rattle.pentagon_domain.specs.declared.bound_row.BoundRow.{BoundRow}
 use Rattle.pentagon_domain.specs.Rows.{is_pair, is_before, is_of, StandsBefore, AreBounds, rows_to, place_of, put, with_bound, with_bounds}
 use Rattle.pentagon_domain.specs.Targets.{turned, AreTargets, put_at}
-use Rattle.pentagon_domain.proofs.Puts.{bound, put_in_order, put_bounds}
+use Rattle.pentagon_domain.proofs.Puts.{put_in_order, put_bounds}
 use Rattle.pentagon_domain.proofs.Searches.{later_other, partitioned, place_is, symbols_rise}
 
 -- ---- searches among them

@@ -59,9 +59,7 @@ pub fn add(bounds: &mut Bounds, argument: &str) -> Result<(), Failure> {
 pub fn bounds(alloc: Global, argument: &str) -> Result<Bounds, Failure> {
     let rows = rows_of(alloc, argument)?;
     let mut bounds = Bounds::with_capacity(alloc, rows.len())?;
-    for row in &rows {
-        bounds.add_bound(row.s, row.t, row.k)?;
-    }
+    bounds.add_all(&rows)?;
     Ok(bounds)
 }
 
@@ -74,6 +72,12 @@ pub fn rows(alloc: Global, bounds: &Bounds, told: &str) -> Result<(), Failure> {
 pub fn rows_from(alloc: Global, bounds: &Bounds, argument: &str) -> Result<(), Failure> {
     let (s, told) = asked(argument)?;
     check(rows_text(alloc, bounds.rows_from(symbol(s)?))?, told)
+}
+
+/// `rows-to s2 = s1+3 <= s2`: what is stored to a symbol.
+pub fn rows_to(alloc: Global, bounds: &Bounds, argument: &str) -> Result<(), Failure> {
+    let (t, told) = asked(argument)?;
+    check(rows_text(alloc, bounds.rows_to(symbol(t)?))?, told)
 }
 
 /// `made s1+3 <= s2 = yes`: whether rows in this order are bounds. Where they are, they come again, also of a copy.
