@@ -2,7 +2,6 @@
 #![tactic(auto)]
 
 mod equality;
-mod lattice;
 mod parts;
 mod state;
 mod steps;
