@@ -270,13 +270,7 @@ impl Known {
     ///
     /// Want of memory leaves what was known.
     #[tactic(auto, unfolding(crate::specs::Assuming::assumed))]
-    pub fn assume(
-        &mut self,
-        op: CmpOp,
-        a: Var,
-        b: Var,
-        holds: bool,
-    ) -> Result<bool, NoMemory>
+    pub fn assume(&mut self, op: CmpOp, a: Var, b: Var, holds: bool) -> Result<bool, NoMemory>
         requires form { HasForm self.old }
         requires first { IsNamedNumber self.old a }
         requires second { IsNamedNumber self.old b }

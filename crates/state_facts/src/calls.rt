@@ -82,12 +82,7 @@ impl Known {
     ///
     /// Want of memory leaves what was known.
     #[tactic(auto, unfolding(crate::specs::Calls::with_call))]
-    pub fn forget(
-        &mut self,
-        first: usize,
-        args: usize,
-        place: Place,
-    ) -> Result<bool, NoMemory>
+    pub fn forget(&mut self, first: usize, args: usize, place: Place) -> Result<bool, NoMemory>
         requires { first + args ≤ length self.old.variables }
         ensures reached { IfOk result (λ reached. reached ≡ is_some (rule.with_call first args place self.old)) }
         ensures ok { IfOk result (λ reached. reached ≡ true →
