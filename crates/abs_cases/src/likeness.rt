@@ -9,6 +9,7 @@ use rule_text::Failure;
 use std::alloc::Global;
 
 /// What is known of a reference. None for reference 0.
+#[tactic(auto, unfolding(state_facts::specs::StateFacts::reference_at))]
 fn known_of(references: &[Reference<Unknown>], r: u32) -> Option<Reference<Unknown>>
     ensures { result ≡ reference_at references.now r }
 {
@@ -37,9 +38,9 @@ struct Tables<'a> {
 
 impl Tables<'_> {
     /// Whether both variables have a number or a text, or references that may be one.
-    fn is_like(self, v: Var, w: Var) -> bool
-        ensures { result ≡ true → (a b : StateFacts) → a.references ≡ self.first.now → b.references ≡ self.second.now →
-            IsLike a b v w }
+    fn is_like(&self, v: Var, w: Var) -> bool
+        ensures { result ≡ true → (a b : StateFacts) → a.references ≡ self.now.first.now
+            → b.references ≡ self.now.second.now → IsLike a b v w }
     {
         match (v, w) {
             (Var::Number(_), Var::Number(_)) => true,
@@ -52,9 +53,9 @@ impl Tables<'_> {
     }
 
     /// Whether there are as many variables, and each two are so.
-    fn are_like(self, vs: &[Var], ws: &[Var]) -> bool
-        ensures { result ≡ true → (a b : StateFacts) → a.references ≡ self.first.now → b.references ≡ self.second.now →
-            AreLike a b vs.now ws.now }
+    fn are_like(&self, vs: &[Var], ws: &[Var]) -> bool
+        ensures { result ≡ true → (a b : StateFacts) → a.references ≡ self.now.first.now
+            → b.references ≡ self.now.second.now → AreLike a b vs.now ws.now }
     {
         match (vs, ws) {
             ([], []) => true,
@@ -66,6 +67,7 @@ impl Tables<'_> {
 
 /// Both states have as many variables, and each two both have a number or a text, or references of one type, where
 /// both are reached.
+#[tactic(auto, using(crate::proofs::AlikeStates::like_states))]
 pub fn are_alike(alloc: Global, a: &AbsState, b: &AbsState) -> Result<(), Failure>
     ensures { OnOk result (AreLikeStates a.now b.now) }
 {

@@ -105,12 +105,7 @@ pub fn has_variable(alloc: Global, state: &AbsState, i: u32) -> Result<(), Failu
 }
 
 /// So many variables from one on are there, where something is reached.
-pub fn has_variables(
-    alloc: Global,
-    state: &AbsState,
-    first: u32,
-    count: u32,
-) -> Result<(), Failure>
+pub fn has_variables(alloc: Global, state: &AbsState, first: u32, count: u32) -> Result<(), Failure>
     ensures { OnOk result (ForSome state.now (λ known. first + count ≤ length known.variables)) }
 {
     let sizes = sizes_of(alloc, state)?;
