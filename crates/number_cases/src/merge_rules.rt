@@ -4,9 +4,10 @@ ghost use Rattle.std.specs.Prelude.{◌≡◌, true, ◌≤◌, length, OnOk};
 ghost use Rattle.number_spans.specs.Sizes.{IsWide};
 ghost use Rattle.merged_numbers.specs.Meaning.{AreMeasured, IsMeasured};
 
-use crate::facts::{expr, facts_text, symbol};
+use crate::facts::facts_text;
 use crate::number_rules::{end, is_there};
 use domain_api::Expr;
+use fact_text::{expr, symbol};
 use frame_names::Bound;
 use merged_numbers::{Merged, Side, includes, joined, normed, widened};
 use number_facts::Numbers;

@@ -3,8 +3,9 @@
 ghost use Rattle.std.specs.Prelude.{◌≤◌, length, IfOk, OnOk};
 ghost use Rattle.number_facts.specs.Facts.{AreNarrow, IsThere};
 
-use crate::facts::{expr, facts_text, symbol};
+use crate::facts::facts_text;
 use domain_api::{Expr, Order};
+use fact_text::{expr, symbol};
 use number_facts::Numbers;
 use rule_text::{
     Failure, append_number, append_wide_range, asked, check, comparison, may_operate, narrow,

@@ -1,6 +1,6 @@
 //! The text of definitions.
 
-use crate::facts::{expr, reference};
+use crate::words::{append_reference, expr, reference};
 use domain_api::Expr;
 use rule_text::{Failure, append_number};
 use std::alloc::AllocError;
@@ -37,6 +37,12 @@ fn append_of_numbers(text: &mut String, name: &str, x: Expr, y: Expr) -> Result<
     append_number(text, y)
 }
 
+/// Appends the text of a null test.
+fn append_test(text: &mut String, name: &str, r: u32) -> Result<(), AllocError> {
+    text.push_str(name)?;
+    append_reference(text, r)
+}
+
 /// Appends the text of a definition.
 pub fn append_definition(text: &mut String, def: Def) -> Result<(), AllocError> {
     match def {
@@ -44,7 +50,7 @@ pub fn append_definition(text: &mut String, def: Def) -> Result<(), AllocError> 
         Def::Lt(x, y) => append_of_numbers(text, "lt", x, y),
         Def::LtUn(x, y) => append_of_numbers(text, "lt.un", x, y),
         Def::Sub(x, y) => append_of_numbers(text, "difference", x, y),
-        Def::NullTest(r, true) => write!(text, "null r{r}"),
-        Def::NullTest(r, false) => write!(text, "not-null r{r}"),
+        Def::NullTest(r, true) => append_test(text, "null ", r),
+        Def::NullTest(r, false) => append_test(text, "not-null ", r),
     }
 }

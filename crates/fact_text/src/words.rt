@@ -1,0 +1,36 @@
+//! The words of symbols, references and numbers.
+
+use domain_api::Expr;
+use rule_text::{Failure, number};
+use std::alloc::AllocError;
+
+/// The number of a word: `7`, or `s2+7`.
+pub fn expr(word: &str) -> Result<Expr, Failure> {
+    number(word).ok_or(Failure::Unread("a number"))
+}
+
+/// What stands behind a letter: the number of a symbol or of a reference.
+fn numbered(word: &str, letter: char) -> Option<u32> {
+    word.strip_prefix(letter)?.parse::<u32>().ok()
+}
+
+/// The symbol of a word: `s2`.
+pub fn symbol(word: &str) -> Result<u32, Failure> {
+    numbered(word, 's').ok_or(Failure::Unread("a symbol"))
+}
+
+/// The reference of a word: `r2`, or `null`.
+pub fn reference(word: &str) -> Result<u32, Failure> {
+    if word == "null" {
+        return Ok(0);
+    }
+    numbered(word, 'r').ok_or(Failure::Unread("a reference"))
+}
+
+/// Appends the word of a reference.
+pub fn append_reference(text: &mut String, r: u32) -> Result<(), AllocError> {
+    match r {
+        0 => text.push_str("null"),
+        _ => write!(text, "r{r}"),
+    }
+}
