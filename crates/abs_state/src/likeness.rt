@@ -24,7 +24,7 @@ fn is_like(a: &Known, b: &Known, v: Var, w: Var) -> bool
 }
 
 /// Returns whether there are as many variables, and each two are like each other.
-#[tactic(auto, using(crate::proofs::Likeness::likeness))]
+#[tactic(auto, using(crate::proofs::AlikeVariables::likeness))]
 fn are_like(a: &Known, b: &Known) -> bool
     ensures { IsTrue result ↔ AreLike a.now b.now a.now.variables b.now.variables }
 {
