@@ -91,6 +91,3 @@ apart_no_more test new (suc q) pairs least fails =
     let same : suc q + 1 - 1 ≡ suc q = omega arith in
     let before : suc q - 1 ≡ q = omega arith in
     rw (same, before) (rw fails refl)
-
-pub none_apart : (test : ℕ → Bool) (new : ℕ) (pairs : List Pair) → pairs ≡ apart_with test new (1 - 1) pairs
-none_apart test new pairs = refl

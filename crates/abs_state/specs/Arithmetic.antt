@@ -17,7 +17,8 @@ use Rattle.abs_state.specs.StateFacts.{StateFacts, State}
 
 -- The result of an operator is on top. None: nothing is reached then.
 unfoldable pub with_result : BinOp → Expr → Expr → StateFacts → Option StateFacts
-with_result op a b known = option_map (on_top known) (settled known.facts (outcome op known.facts a b) (relations op known.facts a b))
+with_result op a b known =
+    option_map (on_top known) (settled known.facts (outcome op known.facts a b) (relations op known.facts a b))
 
 -- Two expressions have these int32.
 pub record HaveInts (heap : Heap) (number : ℕ → ℤ) (array : ℕ → Option ℕ) (a b : Expr) (first second : ℤ) : Type 0 where
@@ -30,7 +31,8 @@ pub record HaveInts (heap : Heap) (number : ℕ → ℤ) (array : ℕ → Option
 abbrev pub KeepsArith : BinOp → Expr → Expr → State → State → Type 0
 KeepsArith op a b before after =
     (vs : List Value) (heap : Heap) (number : ℕ → ℤ) (array : ℕ → Option ℕ) (first second result : ℤ)
-    → HoldsIn before vs heap number array → HaveInts heap number array a b first second → operated op first second ≡ Ok result
+    → HoldsIn before vs heap number array → HaveInts heap number array a b first second
+    → operated op first second ≡ Ok result
     → HoldsOn before after (vs ++ values.Int result ∷ []) heap number array
 
 -- No exact result of an operator that may overflow is below lo or above hi.

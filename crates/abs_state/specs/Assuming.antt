@@ -36,7 +36,8 @@ contradicts Null is = same_flag is false
 
 abbrev pub with_told : StateFacts → ℕ → Nullness → Option (Reference Unknown) → StateFacts
 with_told known r told None = known
-with_told known r told (Some reference) = record known { references = set known.references (r - 1) (record reference { nullness = told }) }
+with_told known r told (Some reference) =
+    record known { references = set known.references (r - 1) (record reference { nullness = told }) }
 
 -- That of reference 0 is never changed.
 unfoldable pub with_nullness : StateFacts → ℕ → Nullness → StateFacts
@@ -70,7 +71,8 @@ symbol_with_zero a b = if is_zero b then symbol_alone a else if is_zero a then s
 -- Where 0 is less than a symbol, both taken as unsigned, and this is not known to be an order of signed numbers, the
 -- symbol differs from 0.
 unfoldable pub symbol_above_zero : Facts → Expr → Expr → Option ℕ
-symbol_above_zero facts a b = if is_not_negative (range_of facts b) then None else if is_zero a then symbol_alone b else None
+symbol_above_zero facts a b =
+    if is_not_negative (range_of facts b) then None else if is_zero a then symbol_alone b else None
 
 abbrev pub with_flag : Bool → Option ℕ → Option (ℕ × Bool)
 with_flag so symbol = option_map (λ s. (s, so)) symbol
@@ -101,7 +103,8 @@ told_of definitions told = option_and_then (told_by told.1) (definition_at defin
 -- What follows from a test.
 unfoldable pub following : StateFacts → Test → Option Test
 following known (Compares op a b holds) =
-    option_and_then (told_of known.facts.definitions) (symbol_told known.facts (if holds then op else numbers.contrary op) a b)
+    option_and_then (told_of known.facts.definitions)
+    (symbol_told known.facts (if holds then op else numbers.contrary op) a b)
 following known (IsNull r is) = None
 
 -- ---- tests
@@ -118,7 +121,8 @@ with_test (IsNull r is) known = with_null r is known
 unfoldable pub with_steps : ℕ → Option Test → StateFacts → Option StateFacts
 with_steps zero test known = Some known
 with_steps (suc steps) None known = Some known
-with_steps (suc steps) (Some test) known = option_and_then (with_steps steps (following known test)) (with_test test known)
+with_steps (suc steps) (Some test) known =
+    option_and_then (with_steps steps (following known test)) (with_test test known)
 
 -- What a test names is there.
 abbrev pub IsNamedTest : StateFacts → Test → Type 0

@@ -33,12 +33,14 @@ abbrev pub returned : List Pair → Place → StateFacts → Made → StateFacts
 returned apart place known made = record {
   variables = known.variables ++ vars.Reference (length known.references + 1) ∷ [];
   facts = made.facts;
-  references = known.references ++ record { place = place; nullness = May; length = made.expr; contents = record {} } ∷ [];
+  references = known.references
+    ++ record { place = place; nullness = May; length = made.expr; contents = record {} } ∷ [];
   apart = apart;
 }
 
 unfoldable pub with_returned : List Pair → Place → StateFacts → Option StateFacts
-with_returned apart place known = option_map (returned apart place known) (fresh known.facts (pos 0) (pos 2147483647) None [])
+with_returned apart place known =
+    option_map (returned apart place known) (fresh known.facts (pos 0) (pos 2147483647) None [])
 
 -- The variables that are passed.
 abbrev pub passed : ℕ → ℕ → StateFacts → List Var
@@ -47,7 +49,9 @@ passed first args known = take args (drop first known.variables)
 -- An array that a call gives is one that was passed, or a new one.
 abbrev pub with_result_array : ℕ → ℕ → Place → StateFacts → Option StateFacts
 with_result_array first args place known =
-    with_returned (apart_with (apart_from_all known (passed first args known)) (length known.references + 1) (length known.references) known.apart)
+    with_returned
+    (apart_with (apart_from_all known (passed first args known)) (length known.references + 1) (length known.references)
+    known.apart)
     place known
 
 -- What a call gives is on top, unless it gives nothing.

@@ -46,7 +46,9 @@ is_array known r = is_not_null (nullness_at known r)
 -- Two references are known to be the same, or known not to be: they are apart, and one is an array.
 unfoldable pub same_known : StateFacts → ℕ → ℕ → Option Bool
 same_known known r q =
-    if r == q then Some true else if are_apart known r q && (is_array known r || is_array known q) then Some false else None
+    if r == q then Some true
+    else if are_apart known r q && (is_array known r || is_array known q) then Some false
+    else None
 
 -- The number of a truth, or of its contrary.
 abbrev pub truth_expr : Bool → Bool → Expr
@@ -88,5 +90,6 @@ is_equality _ = false
 -- The truth of a comparison is on top. Of two references it is whether they are the same, or are not.
 unfoldable pub with_comparison : BinOp → Var → Var → StateFacts → Option StateFacts
 with_comparison op (vars.Number a) (vars.Number b) known = Some (with_truth op a b known)
-with_comparison op (vars.Reference r) (vars.Reference q) known = with_tested r q (is_equality op) known (null_tested r q)
+with_comparison op (vars.Reference r) (vars.Reference q) known =
+    with_tested r q (is_equality op) known (null_tested r q)
 with_comparison op _ _ known = Some known

@@ -71,21 +71,25 @@ is_none xs = length xs == 0
 
 abbrev pub is_empty : StateParts → Bool
 is_empty parts =
-    is_none parts.variables && (is_none parts.ranges && (is_none parts.definitions && (is_none parts.bounds && (is_none parts.references && is_none parts.apart))))
+    is_none parts.variables && (is_none parts.ranges && (is_none parts.definitions
+    && (is_none parts.bounds && (is_none parts.references && is_none parts.apart))))
 
 -- Of symbols: ranges are of int32, definitions rise and name what is there, and so do bounds.
 unfoldable pub has_numbers : StateParts → Bool
 has_numbers parts =
     list_all is_narrow parts.ranges
     && (are_rising parts.definitions
-    && (list_all (is_definition (length parts.ranges) (length parts.references)) parts.definitions && list_all (is_bound (length parts.ranges)) parts.bounds))
+    && (list_all (is_definition (length parts.ranges) (length parts.references)) parts.definitions
+    && list_all (is_bound (length parts.ranges)) parts.bounds))
 
 abbrev pub has_variables : StateParts → Bool
 has_variables parts = list_all (is_var (length parts.ranges) (length parts.references)) parts.variables
 
 -- Of references: lengths are there, and so are those that are apart.
 unfoldable pub has_references : StateParts → Bool
-has_references parts = list_all (is_reference (length parts.ranges)) parts.references && list_all (is_pair (length parts.references)) parts.apart
+has_references parts =
+    list_all (is_reference (length parts.ranges)) parts.references
+    && list_all (is_pair (length parts.references)) parts.apart
 
 abbrev pub has_form : StateParts → Bool
 has_form parts = has_numbers parts && (has_variables parts && has_references parts)

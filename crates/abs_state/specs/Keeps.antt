@@ -1,4 +1,5 @@
--- What each call keeps: where a state holds by a choice, the state after it holds by that choice, or by one that says more.
+-- What each call keeps: where a state holds by a choice, the state after it holds by that choice, or by one that says
+-- more.
 use Rattle.std.specs.Prelude.{◌≡◌, ℕ, ◌-◌, ◌≤◌, ℤ, pos, Bool, List, [], ◌∷◌, ◌++◌, Contains, length, take, drop, set, slice_get, Option, Some, None}
 use Rattle.cil_model.specs.Arithmetic.{truth}
 use Rattle.cil_model.specs.Calls.{FitsResult, IsPassedOrNew}
@@ -37,7 +38,8 @@ pub record HoldsOn (before after : State) (vs : List Value) (heap : Heap) (numbe
 
 abbrev pub KeepsPush : Var → State → State → Type 0
 KeepsPush v before after =
-    (vs : List Value) (heap : Heap) (number : ℕ → ℤ) (array : ℕ → Option ℕ) (value : Value) → HoldsIn before vs heap number array
+    (vs : List Value) (heap : Heap) (number : ℕ → ℤ) (array : ℕ → Option ℕ) (value : Value)
+    → HoldsIn before vs heap number array
     → HasValue number array v value → HoldsIn after (vs ++ value ∷ []) heap number array
 
 abbrev pub KeepsPop : State → State → Type 0
@@ -48,7 +50,8 @@ KeepsPop before after =
 -- A value is put into a variable as the machine puts it into a place.
 abbrev pub KeepsPut : ℕ → Var → Place → State → State → Type 0
 KeepsPut i v place before after =
-    (vs : List Value) (heap : Heap) (number : ℕ → ℤ) (array : ℕ → Option ℕ) (value stored : Value) → HoldsIn before vs heap number array
+    (vs : List Value) (heap : Heap) (number : ℕ → ℤ) (array : ℕ → Option ℕ) (value stored : Value)
+    → HoldsIn before vs heap number array
     → HasValue number array v value → machine.put heap place value ≡ Some stored
     → HoldsOn before after (set vs i stored) heap number array
 
@@ -57,9 +60,11 @@ KeepsPut i v place before after =
 -- What is pushed is what the machine pushes.
 abbrev pub KeepsComparison : BinOp → Var → Var → State → State → Type 0
 KeepsComparison op a b before after =
-    (vs : List Value) (heap : Heap) (number : ℕ → ℤ) (array : ℕ → Option ℕ) (first second : Value) (cmp : CmpOp) (so : Bool)
+    (vs : List Value) (heap : Heap) (number : ℕ → ℤ) (array : ℕ → Option ℕ)
+    (first second : Value) (cmp : CmpOp) (so : Bool)
     → HoldsIn before vs heap number array → HasValue number array a first → HasValue number array b second
-    → IsValue heap first → IsValue heap second → comparison_of op ≡ Some cmp → pushed_comparison cmp first second ≡ Some so
+    → IsValue heap first → IsValue heap second → comparison_of op ≡ Some cmp
+    → pushed_comparison cmp first second ≡ Some so
     → HoldsOn before after (vs ++ values.Int (truth so) ∷ []) heap number array
 
 abbrev pub KeepsAssumed : CmpOp → Var → Var → Bool → State → State → Type 0
@@ -75,7 +80,8 @@ KeepsAssumed op a b holds before after =
 abbrev pub KeepsLoad : ℕ → State → State → Type 0
 KeepsLoad r before after =
     (vs : List Value) (heap : Heap) (number : ℕ → ℤ) (array : ℕ → Option ℕ) (i : ℕ) (cell : ArrayCell) (n : ℤ)
-    → HoldsIn before vs heap number array → IsHeap heap → array r ≡ Some i → slice_get heap i ≡ Some cell → Contains cell.items n
+    → HoldsIn before vs heap number array → IsHeap heap → array r ≡ Some i → slice_get heap i ≡ Some cell
+    → Contains cell.items n
     → HoldsOn before after (vs ++ values.Int n ∷ []) heap number array
 
 -- Arrays may hold other items.
@@ -87,7 +93,8 @@ KeepsStore before after =
 -- An array of this type and length comes behind the others.
 abbrev pub KeepsNewArray : Place → Expr → State → State → Type 0
 KeepsNewArray place length_is before after =
-    (vs : List Value) (heap : Heap) (number : ℕ → ℤ) (array : ℕ → Option ℕ) (cell : ArrayCell) → HoldsIn before vs heap number array
+    (vs : List Value) (heap : Heap) (number : ℕ → ℤ) (array : ℕ → Option ℕ) (cell : ArrayCell)
+    → HoldsIn before vs heap number array
     → cell.place ≡ place → worth number length_is ≡ pos (length cell.items)
     → HoldsOn before after (vs ++ values.Array (length heap) ∷ []) (heap ++ cell ∷ []) number array
 
@@ -98,6 +105,8 @@ listed (Some value) = value ∷ []
 -- A call gives a value of its place, or none, and an array that it gives was passed or is new.
 abbrev pub KeepsCall : ℕ → ℕ → Place → State → State → Type 0
 KeepsCall first args place before after =
-    (vs : List Value) (heap new : Heap) (number : ℕ → ℤ) (array : ℕ → Option ℕ) (result : Option Value) → HoldsIn before vs heap number array
-    → IsHeap new → KeepsForms heap new → FitsResult new place result → IsPassedOrNew heap (take args (drop first vs)) result
+    (vs : List Value) (heap new : Heap) (number : ℕ → ℤ) (array : ℕ → Option ℕ) (result : Option Value)
+    → HoldsIn before vs heap number array
+    → IsHeap new → KeepsForms heap new → FitsResult new place result
+    → IsPassedOrNew heap (take args (drop first vs)) result
     → HoldsOn before after (vs ++ listed result) new number array

@@ -43,12 +43,14 @@ is_byte r = int_le (pos 0) r.lo && int_le r.hi (pos 255)
 -- A number as it is put into a place: a bool takes a number that is one of bool, and of another nothing is known after.
 unfoldable pub placed : Facts → Expr → Place → Option Made
 placed facts e places.Bool =
-    if is_byte (range_of facts e) then Some (record { expr = e; facts = facts }) else fresh facts (pos 0) (pos 255) None []
+    if is_byte (range_of facts e) then Some (record { expr = e; facts = facts })
+    else fresh facts (pos 0) (pos 255) None []
 placed facts e _ = Some (record { expr = e; facts = facts })
 
 -- A number that was made is what a variable has.
 abbrev pub in_variable : StateFacts → ℕ → Made → StateFacts
-in_variable known i made = record known { variables = set known.variables i (vars.Number made.expr); facts = made.facts }
+in_variable known i made =
+    record known { variables = set known.variables i (vars.Number made.expr); facts = made.facts }
 
 unfoldable pub with_placed : ℕ → Expr → Place → StateFacts → Option StateFacts
 with_placed i e place known = option_map (in_variable known i) (placed known.facts e place)
@@ -102,6 +104,7 @@ unfoldable pub with_array : Place → Expr → StateFacts → StateFacts
 with_array place length_is known = record {
   variables = known.variables ++ vars.Reference (length known.references + 1) ∷ [];
   facts = known.facts;
-  references = known.references ++ record { place = place; nullness = NotNull; length = length_is; contents = record {} } ∷ [];
+  references = known.references
+    ++ record { place = place; nullness = NotNull; length = length_is; contents = record {} } ∷ [];
   apart = with_all_before (length known.references + 1) known.apart;
 }

@@ -59,4 +59,5 @@ of_same_place known r q = both_of_same_place (reference_at known.references r) (
 
 -- Two references are known not to be the same array: the pair is kept, their places differ, or one is null.
 unfoldable pub are_apart : StateFacts → ℕ → ℕ → Bool
-are_apart known r q = must_differ (contains known.apart (ordered r q)) (of_same_place known r q) (nullness_at known r) (nullness_at known q)
+are_apart known r q =
+    must_differ (contains known.apart (ordered r q)) (of_same_place known r q) (nullness_at known r) (nullness_at known q)

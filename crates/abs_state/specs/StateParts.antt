@@ -32,7 +32,9 @@ known_of parts = record {
 }
 
 abbrev pub nothing_listed : StateParts
-nothing_listed = record { reached = false; variables = []; ranges = []; definitions = []; bounds = []; references = []; apart = [] }
+nothing_listed = record {
+  reached = false; variables = []; ranges = []; definitions = []; bounds = []; references = []; apart = []
+}
 
 -- The parts of a state. Where nothing is reached all lists are empty.
 abbrev pub parts_of : State → StateParts
