@@ -6,6 +6,7 @@ mod lattice;
 mod parts;
 mod state;
 mod steps;
+mod unknown_values;
 
 pub use parts::Parts;
 pub use state::AbsState;
