@@ -1,0 +1,66 @@
+-- Trees that are shown, and trees that are assumed.
+use Rattle.std.specs.Prelude.{ℤ, pos, Bool, true, false, not, ◌&&◌, Option, Some, None, if◌then◌else◌}
+use Rattle.std.specs.Option.{option_and_then}
+use Rattle.std.specs.Ordering.{int_eq}
+use Rattle.cil_model.specs.Terms as terms
+use Rattle.cil_model.specs.Terms.{Term}
+use Rattle.cil_model.specs.declared.instruction.BinOp.TheVariants as operators
+use Rattle.frame_names.specs.declared.var.Var.{Var}
+use Rattle.frame_names.specs.declared.var.Var.TheVariants as vars
+use Rattle.merged_states.specs.Merging.{join}
+use Rattle.number_facts.specs.Ends.{range_of}
+use Rattle.number_spans.specs.Spans.{excludes}
+use Rattle.number_spans.specs.declared.span.Span.{Span}
+use Rattle.state_facts.specs.StateFacts.{StateFacts, State}
+use Rattle.clause_trees.specs.TreeValues.{Evaluated, Valued, in_state, true_known, value}
+use Rattle.clause_trees.specs.declared.reader.Time.TheVariants.{Now}
+use Rattle.clause_trees.specs.declared.reader.TreeEnv.{TreeEnv}
+
+abbrev pub value_in : TreeEnv → Term → State → Evaluated
+value_in env t state = in_state (value env Now t) state
+
+-- ---- assumed
+
+-- The value of a tree is true, or false.
+abbrev pub assumed_value : Bool → Evaluated → State
+assumed_value holds e = option_and_then (λ v. true_known v.value holds v.known) e.reached
+
+-- A tree is true, or false. Of a condition it is what either branch leaves, and of a comparison with the constant 0 it is
+-- what is known where the other side is not so.
+unfoldable pub assumed : TreeEnv → Bool → Term → State → State
+assumed env holds (terms.Cond c a b) state =
+    join (assumed env holds a (assumed env true c state)) (assumed env holds b (assumed env false c state))
+assumed env holds (terms.Bin operators.Ceq a (terms.Const n)) state =
+    if int_eq n (pos 0) then assumed env (not holds) a state
+    else assumed_value holds (value_in env (terms.Bin operators.Ceq a (terms.Const n)) state)
+assumed env holds t state = assumed_value holds (value_in env t state)
+
+-- ---- shown
+
+abbrev pub is_zero : Span → Bool
+is_zero r = int_eq r.lo (pos 0) && int_eq r.hi (pos 0)
+
+-- A number is known to be true, or false.
+abbrev pub is_known : Bool → Var → StateFacts → Bool
+is_known true (vars.Number e) known = excludes (range_of known.facts e) (pos 0)
+is_known false (vars.Number e) known = is_zero (range_of known.facts e)
+is_known holds _ known = false
+
+abbrev pub known_where_reached : Bool → Option Valued → Bool
+known_where_reached holds None = true
+known_where_reached holds (Some v) = is_known holds v.value v.known
+
+-- No obligation inside faults, and the value is known to be so.
+abbrev pub shown_value : Bool → Evaluated → Bool
+shown_value holds e = e.entailed && known_where_reached holds e.reached
+
+-- A tree is shown to be true, or false. Of a condition the test faults nowhere, and each branch is shown where it is
+-- taken.
+unfoldable pub shown : TreeEnv → Bool → Term → State → Bool
+shown env holds (terms.Cond c a b) state =
+    (value_in env c state).entailed
+    && (shown env holds a (assumed env true c state) && shown env holds b (assumed env false c state))
+shown env holds (terms.Bin operators.Ceq a (terms.Const n)) state =
+    if int_eq n (pos 0) then shown env (not holds) a state
+    else shown_value holds (value_in env (terms.Bin operators.Ceq a (terms.Const n)) state)
+shown env holds t state = shown_value holds (value_in env t state)

@@ -1,0 +1,36 @@
+//! Clauses in states: whether a state shows a clause's tree to be true or false, and what is known where it is.
+//!
+//! The value of a tree (specs/TreeValues) is whether every obligation inside is entailed, the state that assumes them,
+//! and an expression or a reference. What is pushed for it is taken from the stack again, so that variables stay as
+//! they were. specs/ClauseStates has shown and assumed trees.
+//!
+//! What is to be proved of it. A *reading* of a tree (cil_model's `Reading`) goes with a state that holds of values over
+//! the heap at the end, by a choice, where its arguments and its result are the values of the variables that the
+//! environment names, each array of the heap at entry kept its type and its length, and the arguments' arrays were
+//! there. Let the tree have a kind in an Ensures of the method. Then, for every such reading and choice:
+//!
+//! - **Assumed obligations are harmless** (`KeepsValue`). Where the tree has a value in the machine's sense (`value_of`),
+//!   the state behind the tree holds of the same values, by a choice that is as before for each symbol and reference
+//!   that was there, and by which the expression or reference has that value.
+//! - **Entailed obligations cannot fault** (`HasValueWhereEntailed`). Where all obligations inside are entailed, the tree
+//!   has a value in the machine's sense.
+//! - **Shown is true** (`ShowsIt`). A tree that is shown is true, and one that is shown false is false: its value is a
+//!   number other than 0, or 0.
+//! - **Assumed is kept** (`KeepsAssumedTree`). Where the tree is true, the state in which it is assumed holds of the same
+//!   values over the same heap, by some choice, and where it is false that in which it is assumed false. The choice may
+//!   be another one, since cases are joined in new names.
+//!
+//! The first two are one induction over the tree, with the state and the choice general: entailed obligations of a node
+//! are met since the first law gives the state behind its operands. The last two go over conditions and negations alone
+//! and rest on these.
+#![tactic(auto)]
+
+mod clauses;
+mod conditions;
+mod evaluated;
+mod nodes;
+mod reader;
+mod values;
+
+pub use clauses::{assume_tree, assume_tree_false, tree_shown, tree_shown_false};
+pub use reader::TreeEnv;
