@@ -44,7 +44,7 @@ pub(crate) fn assume_true(state: &mut AbsState, value: Var, holds: bool) -> Resu
 }
 
 /// What is seen of a value.
-fn seen(state: &AbsState, value: Var) -> Option<Seen> {
+fn seen_of(state: &AbsState, value: Var) -> Option<Seen> {
     match value {
         Var::Number(e) => {
             let (lo, hi, hole) = state.ends(e);
@@ -102,7 +102,7 @@ impl Reader<'_> {
         let found = self.value(&mut inside, tree)?;
         let seen = match found.value {
             None => None,
-            Some(value) => seen(&inside, value),
+            Some(value) => seen_of(&inside, value),
         };
         Ok(Branch {
             entailed: found.entailed,
