@@ -1,17 +1,32 @@
-//! Values of which little is known, and the types of references.
+//! Values of which little is known, the types of references, and the stack from its top.
 
-ghost use Rattle.std.specs.Prelude.{◌≡◌, OnOk, OnErr, IsSome};
+ghost use Rattle.std.specs.Prelude.{◌≡◌, OnOk, OnErr, IfSome, IsSome, reverse, slice_get};
 ghost use Rattle.std.specs.Option.{ForSome};
-ghost use Rattle.state_facts.specs.Forms.{HasForm};
+ghost use Rattle.state_facts.specs.Forms.{HasForm, HasVar};
 ghost use Rattle.state_facts.specs.Moves.{place_at};
+ghost use Rattle.state_facts.specs.StateFacts.{variables_in};
 ghost use Rattle.state_facts.specs.UnknownValues as rule;
 
 use crate::state::AbsState;
 use cil_model::Place;
 use domain_api::NoMemory;
+use frame_names::Var;
 use number_spans::Span;
 
 impl AbsState {
+    /// What the variable has on which so many others lie. None where there is no such variable, and where nothing is
+    /// reached.
+    pub fn from_top(&self, above: usize) -> Option<Var>
+        ensures value { result ≡ slice_get (reverse (variables_in self.now)) above }
+        ensures form { IfSome result (λ v. ForSome self.now (λ known. HasVar known v)) }
+    {
+        let Some(known) = &self.known else {
+            return None;
+        };
+        let below = known.variables.len().checked_sub(above)?;
+        known.variables.get(below.checked_sub(1)?).copied()
+    }
+
     /// The type of the arrays that a reference may be. That of reference 0 does not matter.
     pub fn place(&self, r: u32) -> Place
         requires reached { IsSome self.now }

@@ -11,19 +11,24 @@ use Rattle.merged_states.specs.Merging.{join}
 use Rattle.number_facts.specs.Ends.{range_of}
 use Rattle.number_spans.specs.Spans.{excludes}
 use Rattle.number_spans.specs.declared.span.Span.{Span}
+use Rattle.state_facts.specs.Moves.{popped}
 use Rattle.state_facts.specs.StateFacts.{StateFacts, State}
-use Rattle.clause_trees.specs.TreeValues.{Evaluated, Valued, in_state, true_known, value}
+use Rattle.state_obligations.specs.Judged.{Judged}
+use Rattle.clause_trees.specs.TreeValues.{from_top, in_state, true_known, value}
 use Rattle.clause_trees.specs.declared.reader.Time.TheVariants.{Now}
 use Rattle.clause_trees.specs.declared.reader.TreeEnv.{TreeEnv}
 
-abbrev pub value_in : TreeEnv → Term → State → Evaluated
+abbrev pub value_in : TreeEnv → Term → State → Judged
 value_in env t state = in_state (value env Now t) state
 
 -- ---- assumed
 
--- The value of a tree is true, or false.
-abbrev pub assumed_value : Bool → Evaluated → State
-assumed_value holds e = option_and_then (λ v. true_known v.value holds v.known) e.reached
+abbrev pub assumed_top : Bool → StateFacts → State
+assumed_top holds known = option_and_then (λ v. true_known holds v (popped known)) (from_top 0 known)
+
+-- The value of a tree is true, or false. It is taken from the stack.
+abbrev pub assumed_value : Bool → Judged → State
+assumed_value holds j = option_and_then (assumed_top holds) j.state
 
 -- A tree is true, or false. Of a condition it is what either branch leaves, and of a comparison with the constant 0 it is
 -- what is known where the other side is not so.
@@ -41,18 +46,18 @@ abbrev pub is_zero : Span → Bool
 is_zero r = int_eq r.lo (pos 0) && int_eq r.hi (pos 0)
 
 -- A number is known to be true, or false.
-abbrev pub is_known : Bool → Var → StateFacts → Bool
-is_known true (vars.Number e) known = excludes (range_of known.facts e) (pos 0)
-is_known false (vars.Number e) known = is_zero (range_of known.facts e)
-is_known holds _ known = false
+abbrev pub is_known : Bool → StateFacts → Option Var → Bool
+is_known true known (Some (vars.Number e)) = excludes (range_of known.facts e) (pos 0)
+is_known false known (Some (vars.Number e)) = is_zero (range_of known.facts e)
+is_known holds known _ = false
 
-abbrev pub known_where_reached : Bool → Option Valued → Bool
-known_where_reached holds None = true
-known_where_reached holds (Some v) = is_known holds v.value v.known
+abbrev pub is_top_known : Bool → State → Bool
+is_top_known holds None = true
+is_top_known holds (Some known) = is_known holds known (from_top 0 known)
 
 -- No obligation inside faults, and the value is known to be so.
-abbrev pub shown_value : Bool → Evaluated → Bool
-shown_value holds e = e.entailed && known_where_reached holds e.reached
+abbrev pub shown_value : Bool → Judged → Bool
+shown_value holds j = j.entailed && is_top_known holds j.state
 
 -- A tree is shown to be true, or false. Of a condition the test faults nowhere, and each branch is shown where it is
 -- taken.

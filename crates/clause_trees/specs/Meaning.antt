@@ -1,5 +1,5 @@
 -- What it means that trees are shown and assumed.
-use Rattle.std.specs.Prelude.{◌≡◌, ℕ, ◌+◌, ◌≤◌, ℤ, pos, Bool, true, false, not, length, List, slice_get, Option, Some, None, IsSome}
+use Rattle.std.specs.Prelude.{◌≡◌, ℕ, ◌+◌, ℤ, pos, Bool, true, false, List, [], ◌∷◌, ◌++◌, slice_get, Option, Some, IsSome}
 use Rattle.std.specs.List.{AllByRecursion}
 use Rattle.std.specs.Option.{option_and_then}
 use Rattle.cil_model.specs.Clauses.{Reading, at_entry, is_number_true, value_of}
@@ -13,10 +13,11 @@ use Rattle.cil_model.specs.declared.place.Kind.{Kind}
 use Rattle.cil_model.specs.declared.place.Kind.TheVariants as kinds
 use Rattle.cil_model.specs.declared.place.Place.{Place}
 use Rattle.state_facts.specs.Forms.{HasForm}
-use Rattle.state_facts.specs.Holds.{HasValue, HoldsBy, HoldsIn}
+use Rattle.state_facts.specs.Holds.{HoldsBy, HoldsIn}
+use Rattle.state_facts.specs.Keeps.{HoldsOn}
 use Rattle.state_facts.specs.StateFacts.{StateFacts, State}
 use Rattle.clause_trees.specs.ClauseStates.{assumed, shown}
-use Rattle.clause_trees.specs.TreeValues.{Evaluated, Valued, value}
+use Rattle.clause_trees.specs.TreeValues.{value}
 use Rattle.clause_trees.specs.declared.reader.Time.{Time}
 use Rattle.clause_trees.specs.declared.reader.Time.TheVariants.{Now, Entry}
 use Rattle.clause_trees.specs.declared.reader.TreeEnv.{TreeEnv}
@@ -46,29 +47,15 @@ is_now Entry = false
 
 -- ---- values
 
--- What is known behind a tree holds by a choice that is as before for each symbol and reference that was there, and by
--- which the tree's value is this one.
-pub record HoldsWithValue (before : StateFacts) (v : Valued) (vs : List Value) (heap : Heap) (number : ℕ → ℤ) (array : ℕ → Option ℕ) (is : Value) : Type 0 where
-  pub later : ℕ → ℤ
-  pub later_array : ℕ → Option ℕ
-  pub agrees : (s : ℕ) → s ≤ length before.facts.ranges → later s ≡ number s
-  pub agrees_arrays : (r : ℕ) → r ≤ length before.references → later_array r ≡ array r
-  pub holds : HoldsBy v.known vs heap later later_array
-  pub has : HasValue later later_array v.value is
-
-abbrev pub ReachesValue : StateFacts → Option Valued → List Value → Heap → (ℕ → ℤ) → (ℕ → Option ℕ) → Value → Type 0
-ReachesValue before None vs heap number array is = ⊥
-ReachesValue before (Some v) vs heap number array is = HoldsWithValue before v vs heap number array is
-
--- Obligations that are assumed are harmless: where a tree has a value, something is reached behind it, and holds with
--- that value.
+-- Obligations that are assumed are harmless: where a tree has a value, the state behind it holds with that value on top,
+-- by a choice that is as before for each symbol and reference that was there.
 abbrev pub KeepsValue : TreeEnv → Time → Term → StateFacts → Type 0
 KeepsValue env time t known =
     (args : List Place) (result : Place) (vs : List Value) (heap : Heap) (number : ℕ → ℤ) (array : ℕ → Option ℕ)
     (r : Reading) (is : Value)
     → HasForm known → Reads env args result vs heap r → HoldsBy known vs heap number array
     → value_of t (reading_at time r) ≡ Some is
-    → ReachesValue known (value env time t known).reached vs heap number array is
+    → HoldsOn (Some known) (value env time t known).state (vs ++ is ∷ []) heap number array
 
 -- Obligations that are entailed cannot fault: where all are, a tree that has a kind has a value.
 abbrev pub HasValueWhereEntailed : TreeEnv → Time → Term → StateFacts → Type 0

@@ -5,9 +5,11 @@ ghost use Rattle.clause_trees.specs.ClauseStates as rule;
 
 use crate::conditions::assume_true;
 use crate::reader::{Reader, Time, TreeEnv};
+use crate::stack::take;
 use abs_state::{AbsState, Var};
 use cil_model::{BinOp, Node, Tree};
-use domain_api::{Lattice, NoMemory};
+use domain_api::{Expr, Lattice, NoMemory};
+use number_spans::Span;
 use std::alloc::Global;
 
 /// Returns whether the tree is the constant 0.
@@ -23,19 +25,21 @@ fn without_negations(tree: &Tree, holds: bool) -> (&Tree, bool) {
     }
 }
 
-/// Returns whether a value is known to be true, or to be false. Where nothing is reached it is.
-fn is_known(state: &AbsState, value: Option<Var>, holds: bool) -> bool {
-    match value {
-        None => true,
-        Some(Var::Number(e)) => {
-            let (lo, hi, hole) = state.ends(e);
-            if holds {
-                0 < lo || hi < 0 || hole == Some(0)
-            } else {
-                lo == 0 && hi == 0
-            }
-        }
-        Some(_) => false,
+/// Returns whether a number is known not to be 0, or to be 0.
+fn is_number_known(state: &AbsState, e: Expr, holds: bool) -> bool {
+    let (lo, hi, hole) = state.ends(e);
+    if holds {
+        Span { lo, hi, hole }.excludes(0)
+    } else {
+        lo == 0 && hi == 0
+    }
+}
+
+/// Returns whether the number on top of the stack is known to be true, or to be false. Where nothing is reached it is.
+fn is_top_known(state: &AbsState, holds: bool) -> bool {
+    match state.from_top(0) {
+        Some(Var::Number(e)) => is_number_known(state, e, holds),
+        _ => !state.reached(),
     }
 }
 
@@ -60,10 +64,11 @@ fn joined(alloc: Global, a: AbsState, b: AbsState) -> Result<AbsState, NoMemory>
 impl Reader<'_> {
     /// What is known where a tree that is no condition is true, and where it is false.
     fn cases_of_value(self, mut state: AbsState, tree: &Tree) -> Result<Cases, NoMemory> {
-        let found = self.value(&mut state, tree)?;
+        self.value(&mut state, tree)?;
+        let value = take(&mut state)?;
         let mut holds = state;
         let mut fails = holds.copy(self.alloc)?;
-        if let Some(value) = found.value {
+        if let Some(value) = value {
             assume_true(&mut holds, value, true)?;
             assume_true(&mut fails, value, false)?;
         }
@@ -110,8 +115,8 @@ impl Reader<'_> {
         tree: &Tree,
         holds: bool,
     ) -> Result<AbsState, NoMemory> {
-        let found = self.value(&mut state, tree)?;
-        if let Some(value) = found.value {
+        self.value(&mut state, tree)?;
+        if let Some(value) = take(&mut state)? {
             assume_true(&mut state, value, holds)?;
         }
         Ok(state)
@@ -149,8 +154,8 @@ impl Reader<'_> {
         tree: &Tree,
         holds: bool,
     ) -> Result<bool, NoMemory> {
-        let found = self.value(&mut state, tree)?;
-        Ok(found.entailed && is_known(&state, found.value, holds))
+        let entailed = self.value(&mut state, tree)?;
+        Ok(entailed && is_top_known(&state, holds))
     }
 
     /// The same of a condition: its test faults nowhere, and each branch is shown where it is reached.
@@ -161,8 +166,7 @@ impl Reader<'_> {
         branches: (&Tree, &Tree),
         holds: bool,
     ) -> Result<bool, NoMemory> {
-        let found = self.value(&mut state.copy(self.alloc)?, test)?;
-        if !found.entailed {
+        if !self.value(&mut state.copy(self.alloc)?, test)? {
             return Ok(false);
         }
         let tested = self.cases(state, test)?;

@@ -1,10 +1,11 @@
 //! Conditions as values.
 
 ghost use Rattle.std.specs.Prelude.{◌≡◌, IfOk, OnOk};
+ghost use Rattle.std.specs.Option.{option_and_then};
 ghost use Rattle.clause_trees.specs.TreeValues as rule;
 
-use crate::evaluated::{Evaluated, given, taken};
 use crate::reader::Reader;
+use crate::stack::{refused, take};
 use abs_state::{AbsState, Var};
 use cil_model::{CmpOp, Place, Tree};
 use domain_api::NoMemory;
@@ -33,7 +34,7 @@ struct Branch {
 
 /// Assumes that a value is true: a number other than 0, or a reference other than null. Or that it is not.
 pub(crate) fn assume_true(state: &mut AbsState, value: Var, holds: bool) -> Result<(), NoMemory>
-    ensures { OnOk result (state.new ≡ rule.with_true value holds state.old) }
+    ensures { OnOk result (state.new ≡ option_and_then (rule.true_known holds value) state.old) }
 {
     let zero = match value {
         Var::Number(_) => Var::Number(constant(0)),
@@ -74,18 +75,17 @@ fn seen_of_reached(a: Option<Seen>, b: Option<Seen>) -> Option<Seen> {
     }
 }
 
-/// A value of which this is seen alone. None where nothing is reached.
-fn value_seen(state: &mut AbsState, seen: Option<Seen>) -> Result<Option<Var>, NoMemory> {
+/// Pushes a value of which this is seen alone. Where nothing is seen, nothing is reached.
+fn push_seen(state: &mut AbsState, seen: Option<Seen>) -> Result<(), NoMemory> {
     match seen {
         None => {
             *state = AbsState::nothing();
-            return Ok(None);
+            Ok(())
         }
-        Some(Seen::Null) => return Ok(given(state, Var::Reference(0)).value),
-        Some(Seen::Number(span)) => state.push_within(span)?,
-        Some(Seen::Array(place)) => state.push_unknown(place)?,
+        Some(Seen::Null) => state.push(Var::Reference(0)),
+        Some(Seen::Number(span)) => state.push_within(span),
+        Some(Seen::Array(place)) => state.push_unknown(place),
     }
-    taken(state)
 }
 
 impl Reader<'_> {
@@ -99,35 +99,41 @@ impl Reader<'_> {
     ) -> Result<Branch, NoMemory> {
         let mut inside = state.copy(self.alloc)?;
         assume_true(&mut inside, test, holds)?;
-        let found = self.value(&mut inside, tree)?;
-        let seen = match found.value {
+        let entailed = self.value(&mut inside, tree)?;
+        let seen = match inside.from_top(0) {
             None => None,
             Some(value) => seen_of(&inside, value),
         };
-        Ok(Branch {
-            entailed: found.entailed,
-            seen,
-        })
+        Ok(Branch { entailed, seen })
     }
 
-    /// Evaluates a condition. The obligations and the value of a branch are taken where the test holds, or does not, and
-    /// the state is then that behind the test.
+    /// Pushes a value of either branch, where a test has this value. The obligations and the value of a branch are taken
+    /// where the test holds, or does not, and the state is then that behind the test.
+    fn chosen(
+        self,
+        state: &mut AbsState,
+        test: Var,
+        a: &Tree,
+        b: &Tree,
+    ) -> Result<bool, NoMemory> {
+        let first = self.branch(state, test, true, a)?;
+        let second = self.branch(state, test, false, b)?;
+        push_seen(state, seen_of_reached(first.seen, second.seen))?;
+        Ok(first.entailed && second.entailed)
+    }
+
+    /// Pushes the value of a condition.
     pub fn condition(
         self,
         state: &mut AbsState,
         test: &Tree,
         a: &Tree,
         b: &Tree,
-    ) -> Result<Evaluated, NoMemory> {
-        let tested = self.value(state, test)?;
-        let Some(value) = tested.value else {
-            return Ok(tested);
-        };
-        let first = self.branch(state, value, true, a)?;
-        let second = self.branch(state, value, false, b)?;
-        Ok(Evaluated {
-            entailed: tested.entailed && first.entailed && second.entailed,
-            value: value_seen(state, seen_of_reached(first.seen, second.seen))?,
-        })
+    ) -> Result<bool, NoMemory> {
+        let entailed = self.value(state, test)?;
+        match take(state)? {
+            Some(value) => Ok(self.chosen(state, value, a, b)? && entailed),
+            None => Ok(refused(state) && entailed),
+        }
     }
 }

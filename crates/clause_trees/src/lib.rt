@@ -1,8 +1,9 @@
 //! Clauses in states: whether a state shows a clause's tree to be true or false, and what is known where it is.
 //!
-//! The value of a tree (specs/TreeValues) is whether every obligation inside is entailed, the state that assumes them,
-//! and an expression or a reference. What is pushed for it is taken from the stack again, so that variables stay as
-//! they were. specs/ClauseStates has shown and assumed trees.
+//! A tree pushes its value (specs/TreeValues): a node takes its operands from the stack and pushes what it gives, with
+//! whether every obligation so far is entailed, in the state that assumes them. So the variables below stay as they
+//! were, and no expression is kept beside a state that changes. specs/ClauseStates has shown and assumed trees: the
+//! value is taken from the stack and known, or assumed, to be true or false.
 //!
 //! What is to be proved of it. A *reading* of a tree (cil_model's `Reading`) goes with a state that holds of values over
 //! the heap at the end, by a choice, where its arguments and its result are the values of the variables that the
@@ -10,8 +11,8 @@
 //! there. Let the tree have a kind in an Ensures of the method. Then, for every such reading and choice:
 //!
 //! - **Assumed obligations are harmless** (`KeepsValue`). Where the tree has a value in the machine's sense (`value_of`),
-//!   the state behind the tree holds of the same values, by a choice that is as before for each symbol and reference
-//!   that was there, and by which the expression or reference has that value.
+//!   the state behind the tree holds of the same values and that value on top, by a choice that is as before for each
+//!   symbol and reference that was there.
 //! - **Entailed obligations cannot fault** (`HasValueWhereEntailed`). Where all obligations inside are entailed, the tree
 //!   has a value in the machine's sense.
 //! - **Shown is true** (`ShowsIt`). A tree that is shown is true, and one that is shown false is false: its value is a
@@ -20,16 +21,16 @@
 //!   values over the same heap, by some choice, and where it is false that in which it is assumed false. The choice may
 //!   be another one, since cases are joined in new names.
 //!
-//! The first two are one induction over the tree, with the state and the choice general: entailed obligations of a node
-//! are met since the first law gives the state behind its operands. The last two go over conditions and negations alone
-//! and rest on these.
+//! The first two are inductions over the tree, with the values, the state and the choice general: a node's operands lie
+//! on the stack, so its law is a chain of those of the calls, and its entailed obligations are met since the first law
+//! gives the state behind its operands. The last two go over conditions and negations alone and rest on these.
 #![tactic(auto)]
 
 mod clauses;
 mod conditions;
-mod evaluated;
 mod nodes;
 mod reader;
+mod stack;
 mod values;
 
 pub use clauses::{assume_tree, assume_tree_false, tree_shown, tree_shown_false};

@@ -1,36 +1,48 @@
-//! What the nodes of trees give of the values below them.
+//! What the nodes of trees make of the values below them, which lie on the stack. Each answers whether its obligations
+//! are entailed, each in the state that assumes those before it. The state then assumes them, and the node's value lies
+//! on the stack in place of its operands.
 
 ghost use Rattle.std.specs.Prelude.{◌≡◌, IfOk, OnOk};
 ghost use Rattle.clause_trees.specs.TreeValues as rule;
 
-use crate::evaluated::{Evaluated, refused, taken};
 use crate::reader::Time;
+use crate::stack::{refused, take, take_two};
 use abs_state::{AbsState, Var};
 use cil_model::{BinOp, Place, UnOp};
 use domain_api::{Expr, NoMemory};
 use number_spans::constant;
 use state_obligations::{Operation, judge};
 
+/// A value that owes nothing.
+pub(crate) fn given(state: &mut AbsState, value: Var) -> Result<bool, NoMemory>
+    ensures { IfOk result (λ entailed. rule.Finds entailed state.new (rule.in_state (rule.given value) state.old)) }
+{
+    state.push(value)?;
+    Ok(true)
+}
+
+/// What the variable of a list index has.
+pub(crate) fn variable(state: &mut AbsState, index: Option<u32>) -> Result<bool, NoMemory>
+    ensures { IfOk result (λ entailed. rule.Finds entailed state.new (rule.in_state (rule.variable index) state.old)) }
+{
+    match index {
+        Some(index) if u64::from(index) < state.var_count() => given(state, state.var(index)),
+        _ => Ok(refused(state)),
+    }
+}
+
 /// The length of a reference, which owes that it is not null.
-fn length_of(state: &mut AbsState, array: Var) -> Result<Evaluated, NoMemory> {
-    let Var::Reference(r) = array else {
+pub(crate) fn length(state: &mut AbsState) -> Result<bool, NoMemory>
+    ensures { IfOk result (λ entailed. rule.Finds entailed state.new (rule.in_state (rule.on_one rule.length_value) state.old)) }
+{
+    let Some(Var::Reference(r)) = take(state)? else {
         return Ok(refused(state));
     };
     let entailed = judge(state, Operation::Length(r))?;
-    let value = if state.reached() {
-        Some(Var::Number(state.length(r)))
-    } else {
-        None
-    };
-    Ok(Evaluated { entailed, value })
-}
-
-/// The same of an evaluated tree.
-pub(crate) fn length(state: &mut AbsState, array: Evaluated) -> Result<Evaluated, NoMemory> {
-    let Some(value) = array.value else {
-        return Ok(array);
-    };
-    Ok(length_of(state, value)?.behind(array.entailed))
+    if state.reached() {
+        state.push(Var::Number(state.length(r)))?;
+    }
+    Ok(entailed)
 }
 
 /// The type of the items of an array of this type.
@@ -56,58 +68,28 @@ fn push_item(
 }
 
 /// The item of a reference at an index, which owes that the reference is not null and that the index is one of it.
-fn element_of(
-    state: &mut AbsState,
-    time: Time,
-    place: Place,
-    array: Var,
-    index: Var,
-) -> Result<Evaluated, NoMemory> {
-    let (Var::Reference(r), Var::Number(i)) = (array, index) else {
+pub(crate) fn element(state: &mut AbsState, time: Time, place: Place) -> Result<bool, NoMemory> {
+    let Some((Var::Reference(r), Var::Number(i))) = take_two(state)? else {
         return Ok(refused(state));
     };
     let entailed = judge(state, Operation::Element(r, i))?;
     push_item(state, time, place, r, i)?;
-    let value = taken(state)?;
-    Ok(Evaluated { entailed, value })
-}
-
-/// The same of evaluated trees.
-pub(crate) fn element(
-    state: &mut AbsState,
-    time: Time,
-    place: Place,
-    array: Evaluated,
-    index: Evaluated,
-) -> Result<Evaluated, NoMemory> {
-    let entailed = array.entailed && index.entailed;
-    let (Some(array), Some(index)) = (array.value, index.value) else {
-        return Ok(Evaluated {
-            entailed,
-            value: None,
-        });
-    };
-    Ok(element_of(state, time, place, array, index)?.behind(entailed))
+    Ok(entailed)
 }
 
 /// The result of an operator of two numbers, which owes that the operator does not fault.
-fn arithmetic(state: &mut AbsState, op: BinOp, a: Expr, b: Expr) -> Result<Evaluated, NoMemory> {
+fn arithmetic(state: &mut AbsState, op: BinOp, a: Expr, b: Expr) -> Result<bool, NoMemory> {
     let entailed = judge(state, Operation::Binary(op, a, b))?;
     if state.reached() {
         state.arith(op, a, b)?;
     }
-    let value = taken(state)?;
-    Ok(Evaluated { entailed, value })
+    Ok(entailed)
 }
 
 /// The truth of a comparison, which owes nothing.
-fn comparison(state: &mut AbsState, op: BinOp, a: Var, b: Var) -> Result<Evaluated, NoMemory> {
+fn comparison(state: &mut AbsState, op: BinOp, a: Var, b: Var) -> Result<bool, NoMemory> {
     state.compare(op, a, b)?;
-    let value = taken(state)?;
-    Ok(Evaluated {
-        entailed: true,
-        value,
-    })
+    Ok(true)
 }
 
 /// Returns whether the operator is a comparison.
@@ -119,31 +101,17 @@ fn is_comparison(op: BinOp) -> bool {
 }
 
 /// What an operator gives of two values. References are compared alone.
-fn binary_of(state: &mut AbsState, op: BinOp, a: Var, b: Var) -> Result<Evaluated, NoMemory> {
-    match (is_comparison(op), a, b) {
-        (false, Var::Number(a), Var::Number(b)) => arithmetic(state, op, a, b),
-        (true, Var::Number(_), Var::Number(_)) | (true, Var::Reference(_), Var::Reference(_)) => {
-            comparison(state, op, a, b)
+pub(crate) fn binary(state: &mut AbsState, op: BinOp) -> Result<bool, NoMemory> {
+    match (is_comparison(op), take_two(state)?) {
+        (false, Some((Var::Number(a), Var::Number(b)))) => arithmetic(state, op, a, b),
+        (true, Some((Var::Number(a), Var::Number(b)))) => {
+            comparison(state, op, Var::Number(a), Var::Number(b))
+        }
+        (true, Some((Var::Reference(r), Var::Reference(q)))) => {
+            comparison(state, op, Var::Reference(r), Var::Reference(q))
         }
         _ => Ok(refused(state)),
     }
-}
-
-/// The same of evaluated trees.
-pub(crate) fn binary(
-    state: &mut AbsState,
-    op: BinOp,
-    a: Evaluated,
-    b: Evaluated,
-) -> Result<Evaluated, NoMemory> {
-    let entailed = a.entailed && b.entailed;
-    let (Some(a), Some(b)) = (a.value, b.value) else {
-        return Ok(Evaluated {
-            entailed,
-            value: None,
-        });
-    };
-    Ok(binary_of(state, op, a, b)?.behind(entailed))
 }
 
 /// What an operator of one number is subtracted from: `neg` is 0 - e, and `not` is -1 - e.
@@ -154,18 +122,10 @@ fn minuend(op: UnOp) -> Expr {
     }
 }
 
-/// What an operator gives of one evaluated tree.
-pub(crate) fn unary(
-    state: &mut AbsState,
-    op: UnOp,
-    operand: Evaluated,
-) -> Result<Evaluated, NoMemory> {
-    match operand.value {
-        None => Ok(operand),
-        Some(Var::Number(e)) => {
-            let result = arithmetic(state, BinOp::Sub, minuend(op), e)?;
-            Ok(result.behind(operand.entailed))
-        }
-        Some(_) => Ok(refused(state)),
-    }
+/// What an operator gives of one number.
+pub(crate) fn unary(state: &mut AbsState, op: UnOp) -> Result<bool, NoMemory> {
+    let Some(Var::Number(e)) = take(state)? else {
+        return Ok(refused(state));
+    };
+    arithmetic(state, BinOp::Sub, minuend(op), e)
 }

@@ -3,23 +3,16 @@
 ghost use Rattle.std.specs.Prelude.{◌≡◌, IfOk};
 ghost use Rattle.clause_trees.specs.TreeValues as rule;
 
-use crate::evaluated::{Evaluated, given, refused};
-use crate::nodes::{binary, element, length, unary};
+use crate::nodes::{binary, element, given, length, unary, variable};
 use crate::reader::Reader;
 use abs_state::{AbsState, Var};
 use cil_model::{Node, Tree};
 use domain_api::NoMemory;
 use number_spans::constant;
 
-/// What the variable of a list index has.
-fn variable(state: &mut AbsState, index: Option<u32>) -> Evaluated {
-    if !state.reached() {
-        return given(state, Var::Text);
-    }
-    match index {
-        Some(index) if u64::from(index) < state.var_count() => given(state, state.var(index)),
-        _ => refused(state),
-    }
+/// A number of a clause.
+fn number(n: i32) -> Var {
+    Var::Number(constant(i64::from(n)))
 }
 
 impl Reader<'_> {
@@ -28,41 +21,44 @@ impl Reader<'_> {
         self.env.args.checked_add(u32::from(n))
     }
 
-    /// Evaluates a tree: whether all obligations inside are entailed, each in the state that assumes those before it,
-    /// and the value. The state assumes them then, and its variables are as before.
+    /// Pushes the value of a tree. Answers whether all obligations inside are entailed, each in the state that assumes
+    /// those before it. The state then assumes them.
     ///
     /// Cost: what the obligations and operators of its nodes cost, and two copies of the state for each condition. It
     /// goes as deep as the tree.
-    pub fn value(self, state: &mut AbsState, tree: &Tree) -> Result<Evaluated, NoMemory>
-        ensures { IfOk result (λ found.
-            rule.Finds found.entailed found.value state.new
-            (rule.in_state (rule.value self.env.now self.time tree.now) state.old)) }
+    pub fn value(self, state: &mut AbsState, tree: &Tree) -> Result<bool, NoMemory>
+        ensures { IfOk result (λ entailed.
+            rule.Finds entailed state.new (rule.in_state (rule.value self.env.now self.time tree.now) state.old)) }
     {
         match &tree.node {
-            Node::Const(n) => Ok(given(state, Var::Number(constant(i64::from(*n))))),
-            Node::Arg(n) => Ok(variable(state, self.argument(*n))),
-            Node::Null => Ok(given(state, Var::Reference(0))),
-            Node::Result => Ok(variable(state, self.env.result)),
+            Node::Const(n) => given(state, number(*n)),
+            Node::Arg(n) => variable(state, self.argument(*n)),
+            Node::Null => given(state, Var::Reference(0)),
+            Node::Result => variable(state, self.env.result),
             Node::Len(array) => {
-                let array = self.value(state, array)?;
-                length(state, array)
+                let entailed = self.value(state, array)?;
+                Ok(length(state)? && entailed)
             }
             Node::Elem(place, array, index) => {
-                let array = self.value(state, array)?;
-                let index = self.value(state, index)?;
-                element(state, self.time, *place, array, index)
+                let entailed = self.values(state, array, index)?;
+                Ok(element(state, self.time, *place)? && entailed)
             }
             Node::Bin(op, a, b) => {
-                let a = self.value(state, a)?;
-                let b = self.value(state, b)?;
-                binary(state, *op, a, b)
+                let entailed = self.values(state, a, b)?;
+                Ok(binary(state, *op)? && entailed)
             }
             Node::Un(op, operand) => {
-                let operand = self.value(state, operand)?;
-                unary(state, *op, operand)
+                let entailed = self.value(state, operand)?;
+                Ok(unary(state, *op)? && entailed)
             }
             Node::Old(operand) => self.at_entry().value(state, operand),
             Node::Cond(test, a, b) => self.condition(state, test, a, b),
         }
+    }
+
+    /// Pushes the values of two trees, one after the other.
+    fn values(self, state: &mut AbsState, a: &Tree, b: &Tree) -> Result<bool, NoMemory> {
+        let entailed = self.value(state, a)?;
+        Ok(self.value(state, b)? && entailed)
     }
 }
