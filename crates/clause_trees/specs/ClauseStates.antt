@@ -30,8 +30,8 @@ assumed_top holds known = option_and_then (λ v. true_known holds v (popped know
 abbrev pub assumed_value : Bool → Judged → State
 assumed_value holds j = option_and_then (assumed_top holds) j.state
 
--- A tree is true, or false. Of a condition it is what either branch leaves, and of a comparison with the constant 0 it is
--- what is known where the other side is not so.
+-- A tree is true, or false. A condition leaves what either branch leaves, and a comparison with the constant 0 what is
+-- known where its other side is not so.
 unfoldable pub assumed : TreeEnv → Bool → Term → State → State
 assumed env holds (terms.Cond c a b) state =
     join (assumed env holds a (assumed env true c state)) (assumed env holds b (assumed env false c state))

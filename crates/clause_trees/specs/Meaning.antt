@@ -26,7 +26,8 @@ use Rattle.clause_trees.specs.declared.reader.TreeEnv.{TreeEnv}
 
 -- Of a method of these arguments and this result: trees read values where the environment says. The arguments are
 -- values of the heap at entry, of which each array kept its type and its length.
-pub record Reads (env : TreeEnv) (args : List Place) (result : Place) (vs : List Value) (heap : Heap) (r : Reading) : Type 0 where
+pub record Reads (env : TreeEnv) (args : List Place) (result : Place) (vs : List Value) (heap : Heap) (r : Reading)
+  : Type 0 where
   pub heap_is : r.heap ≡ heap
   pub args_are : (n : ℕ) (v : Value) → slice_get r.args n ≡ Some v → slice_get vs (env.args + n) ≡ Some v
   pub result_is : (v : Value) → r.result ≡ Some v → option_and_then (slice_get vs) env.result ≡ Some v
@@ -47,8 +48,8 @@ is_now Entry = false
 
 -- ---- values
 
--- Obligations that are assumed are harmless: where a tree has a value, the state behind it holds with that value on top,
--- by a choice that is as before for each symbol and reference that was there.
+-- Obligations that are assumed are harmless: where a tree has a value, the state behind it holds with that value on
+-- top, by a choice that is as before for each symbol and reference that was there.
 abbrev pub KeepsValue : TreeEnv → Time → Term → StateFacts → Type 0
 KeepsValue env time t known =
     (args : List Place) (result : Place) (vs : List Value) (heap : Heap) (number : ℕ → ℤ) (array : ℕ → Option ℕ)

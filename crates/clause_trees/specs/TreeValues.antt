@@ -34,8 +34,8 @@ use Rattle.clause_trees.specs.declared.reader.TreeEnv.{TreeEnv}
 
 -- ---- steps
 
--- What a tree makes of what is known: whether all obligations inside are entailed, and the state that assumes them, with
--- the value on top.
+-- What a tree makes of what is known: whether all obligations inside are entailed, and the state that assumes them,
+-- with the value on top.
 abbrev pub Step : Type 0
 Step = StateFacts → Judged
 

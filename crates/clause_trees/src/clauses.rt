@@ -195,8 +195,8 @@ fn reader<'a>(alloc: Global, env: &'a TreeEnv) -> Reader<'a> {
     }
 }
 
-/// Returns whether a state shows a tree to be true: no obligation inside faults, and its value is a number other than 0.
-/// Where nothing is reached, all is shown.
+/// Returns whether a state shows a tree to be true: no obligation inside faults, and its value is a number other than
+/// 0. Where nothing is reached, all is shown.
 ///
 /// Cost: what the obligations and operators of its nodes cost, and some copies of the state for each condition. It goes
 /// as deep as the tree.

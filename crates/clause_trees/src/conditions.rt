@@ -107,8 +107,8 @@ impl Reader<'_> {
         Ok(Branch { entailed, seen })
     }
 
-    /// Pushes a value of either branch, where a test has this value. The obligations and the value of a branch are taken
-    /// where the test holds, or does not, and the state is then that behind the test.
+    /// Pushes a value of either branch, where a test has this value. The obligations and the value of a branch are
+    /// taken where the test holds, or does not, and the state is then that behind the test.
     fn chosen(
         self,
         state: &mut AbsState,

@@ -5,21 +5,21 @@
 //! were, and no expression is kept beside a state that changes. specs/ClauseStates has shown and assumed trees: the
 //! value is taken from the stack and known, or assumed, to be true or false.
 //!
-//! What is to be proved of it. A *reading* of a tree (cil_model's `Reading`) goes with a state that holds of values over
-//! the heap at the end, by a choice, where its arguments and its result are the values of the variables that the
+//! What is to be proved of it (specs/Meaning). A *reading* of a tree goes with a state that holds of values over the
+//! heap at the end, by a choice, where the reading's arguments and result are the values of the variables that the
 //! environment names, each array of the heap at entry kept its type and its length, and the arguments' arrays were
-//! there. Let the tree have a kind in an Ensures of the method. Then, for every such reading and choice:
+//! there. Then, for every such reading and choice:
 //!
 //! - **Assumed obligations are harmless** (`KeepsValue`). Where the tree has a value in the machine's sense (`value_of`),
 //!   the state behind the tree holds of the same values and that value on top, by a choice that is as before for each
 //!   symbol and reference that was there.
-//! - **Entailed obligations cannot fault** (`HasValueWhereEntailed`). Where all obligations inside are entailed, the tree
-//!   has a value in the machine's sense.
-//! - **Shown is true** (`ShowsIt`). A tree that is shown is true, and one that is shown false is false: its value is a
-//!   number other than 0, or 0.
+//! - **Entailed obligations cannot fault** (`HasValueWhereEntailed`). Where all obligations inside are entailed, a tree
+//!   that has a kind in a clause of the method has a value in the machine's sense.
+//! - **Shown is true** (`ShowsIt`). A clause that is shown is true: its value is a number other than 0. One that is shown
+//!   false has the value 0.
 //! - **Assumed is kept** (`KeepsAssumedTree`). Where the tree is true, the state in which it is assumed holds of the same
-//!   values over the same heap, by some choice, and where it is false that in which it is assumed false. The choice may
-//!   be another one, since cases are joined in new names.
+//!   values over the same heap, by some choice, and where it is false, so does the state in which it is assumed false.
+//!   The choice may be another one, since cases are joined in new names.
 //!
 //! The first two are inductions over the tree, with the values, the state and the choice general: a node's operands lie
 //! on the stack, so its law is a chain of those of the calls, and its entailed obligations are met since the first law

@@ -33,7 +33,8 @@ pub(crate) fn variable(state: &mut AbsState, index: Option<u32>) -> Result<bool,
 
 /// The length of a reference, which owes that it is not null.
 pub(crate) fn length(state: &mut AbsState) -> Result<bool, NoMemory>
-    ensures { IfOk result (λ entailed. rule.Finds entailed state.new (rule.in_state (rule.on_one rule.length_value) state.old)) }
+    ensures { IfOk result (λ entailed.
+        rule.Finds entailed state.new (rule.in_state (rule.on_one rule.length_value) state.old)) }
 {
     let Some(Var::Reference(r)) = take(state)? else {
         return Ok(refused(state));
@@ -68,7 +69,10 @@ fn push_item(
 }
 
 /// The item of a reference at an index, which owes that the reference is not null and that the index is one of it.
-pub(crate) fn element(state: &mut AbsState, time: Time, place: Place) -> Result<bool, NoMemory> {
+pub(crate) fn element(state: &mut AbsState, time: Time, place: Place) -> Result<bool, NoMemory>
+    ensures { IfOk result (λ entailed.
+        rule.Finds entailed state.new (rule.in_state (rule.on_two (rule.element_value time place)) state.old)) }
+{
     let Some((Var::Reference(r), Var::Number(i))) = take_two(state)? else {
         return Ok(refused(state));
     };
@@ -78,7 +82,10 @@ pub(crate) fn element(state: &mut AbsState, time: Time, place: Place) -> Result<
 }
 
 /// The result of an operator of two numbers, which owes that the operator does not fault.
-fn arithmetic(state: &mut AbsState, op: BinOp, a: Expr, b: Expr) -> Result<bool, NoMemory> {
+fn arithmetic(state: &mut AbsState, op: BinOp, a: Expr, b: Expr) -> Result<bool, NoMemory>
+    ensures { IfOk result (λ entailed.
+        rule.Finds entailed state.new (rule.in_state (rule.arithmetic op a b) state.old)) }
+{
     let entailed = judge(state, Operation::Binary(op, a, b))?;
     if state.reached() {
         state.arith(op, a, b)?;
@@ -87,7 +94,10 @@ fn arithmetic(state: &mut AbsState, op: BinOp, a: Expr, b: Expr) -> Result<bool,
 }
 
 /// The truth of a comparison, which owes nothing.
-fn comparison(state: &mut AbsState, op: BinOp, a: Var, b: Var) -> Result<bool, NoMemory> {
+fn comparison(state: &mut AbsState, op: BinOp, a: Var, b: Var) -> Result<bool, NoMemory>
+    ensures { IfOk result (λ entailed.
+        rule.Finds entailed state.new (rule.in_state (rule.comparison op a b) state.old)) }
+{
     state.compare(op, a, b)?;
     Ok(true)
 }
@@ -101,7 +111,10 @@ fn is_comparison(op: BinOp) -> bool {
 }
 
 /// What an operator gives of two values. References are compared alone.
-pub(crate) fn binary(state: &mut AbsState, op: BinOp) -> Result<bool, NoMemory> {
+pub(crate) fn binary(state: &mut AbsState, op: BinOp) -> Result<bool, NoMemory>
+    ensures { IfOk result (λ entailed.
+        rule.Finds entailed state.new (rule.in_state (rule.on_two (rule.binary_value op)) state.old)) }
+{
     match (is_comparison(op), take_two(state)?) {
         (false, Some((Var::Number(a), Var::Number(b)))) => arithmetic(state, op, a, b),
         (true, Some((Var::Number(a), Var::Number(b)))) => {
@@ -123,7 +136,10 @@ fn minuend(op: UnOp) -> Expr {
 }
 
 /// What an operator gives of one number.
-pub(crate) fn unary(state: &mut AbsState, op: UnOp) -> Result<bool, NoMemory> {
+pub(crate) fn unary(state: &mut AbsState, op: UnOp) -> Result<bool, NoMemory>
+    ensures { IfOk result (λ entailed.
+        rule.Finds entailed state.new (rule.in_state (rule.on_one (rule.unary_value op)) state.old)) }
+{
     let Some(Var::Number(e)) = take(state)? else {
         return Ok(refused(state));
     };

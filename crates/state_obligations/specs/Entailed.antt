@@ -36,6 +36,6 @@ entailed_by (conditions.Overflow op a b) known = are_int32 (exact op known.facts
 entailed_by (conditions.Assert e) known = excludes (range_of known.facts e) (pos 0)
 
 -- Where nothing is reached, each is.
-abbrev pub entailed : Condition → State → Bool
-entailed condition None = true
-entailed condition (Some known) = entailed_by condition known
+abbrev pub is_entailed : Condition → State → Bool
+is_entailed condition None = true
+is_entailed condition (Some known) = entailed_by condition known

@@ -2,7 +2,7 @@
 use Rattle.std.specs.Prelude.{Bool, true, ◌&&◌, List, [], ◌∷◌}
 use Rattle.state_facts.specs.StateFacts.{State}
 use Rattle.state_obligations.specs.Assumed.{assume}
-use Rattle.state_obligations.specs.Entailed.{entailed}
+use Rattle.state_obligations.specs.Entailed.{is_entailed}
 use Rattle.state_obligations.specs.declared.condition.Condition.{Condition}
 
 -- Whether all are entailed, and the state that assumes them.
@@ -11,8 +11,8 @@ pub record Judged : Type 0 where
   pub state : State
 
 abbrev pub with_entailed : Bool → Judged → Judged
-with_entailed is judged = record judged { entailed = is && judged.entailed }
+with_entailed is j = record j { entailed = is && j.entailed }
 
 abbrev pub judged : List Condition → State → Judged
 judged [] state = record { entailed = true; state = state }
-judged (c ∷ cs) state = with_entailed (entailed c state) (judged cs (assume c state))
+judged (c ∷ cs) state = with_entailed (is_entailed c state) (judged cs (assume c state))

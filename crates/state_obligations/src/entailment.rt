@@ -7,11 +7,12 @@ ghost use Rattle.number_facts.specs.Arith.{exact};
 ghost use Rattle.number_facts.specs.Ends.{range_of};
 ghost use Rattle.number_facts.specs.Facts.{IsNamed};
 ghost use Rattle.number_facts.specs.Gaps.{at_most};
+ghost use Rattle.number_spans.specs.Constants.{constant};
 ghost use Rattle.number_spans.specs.Spans as spans;
 ghost use Rattle.state_facts.specs.Comparing.{is_array};
 ghost use Rattle.state_facts.specs.Forms.{HasNumber};
 ghost use Rattle.state_obligations.specs.Conditions.{IsThere};
-ghost use Rattle.state_obligations.specs.Entailed.{are_int32, entailed_by, entailed};
+ghost use Rattle.state_obligations.specs.Entailed.{are_int32, entailed_by, is_entailed};
 ghost use Rattle.state_obligations.specs.Meaning.{EntailsIt};
 
 use crate::condition::Condition;
@@ -58,6 +59,8 @@ fn is_less(state: &AbsState, a: Expr, b: Expr) -> bool
 /// Returns whether an expression is known to lie between two numbers.
 fn is_between(state: &AbsState, least: i64, e: Expr, greatest: i64) -> bool
     requires reached { IsSome state.now }
+    ensures { ForSome state.now (λ known. result ≡
+        (at_most known.facts (constant least) 0 e && at_most known.facts e 0 (constant greatest))) }
 {
     is_at_most(state, constant(least), 0, e) && is_at_most(state, e, 0, constant(greatest))
 }
@@ -84,7 +87,7 @@ fn is_int32(state: &AbsState, op: BinOp, a: Expr, b: Expr) -> bool
 
 /// Returns whether a state in which something is reached entails a condition.
 #[tactic(auto, unfolding(crate::specs::Entailed::entailed_by))]
-fn is_entailed(state: &AbsState, condition: Condition) -> bool
+fn is_entailed_where_reached(state: &AbsState, condition: Condition) -> bool
     requires reached { IsSome state.now }
     requires there { ForSome state.now (λ known. IsThere known condition) }
     ensures { ForSome state.now (λ known. result ≡ entailed_by condition known) }
@@ -110,9 +113,9 @@ fn is_entailed(state: &AbsState, condition: Condition) -> bool
 /// Cost: that of a gap or two. It takes no memory.
 pub fn entails(state: &AbsState, condition: Condition) -> bool
     requires there { ForSome state.now (λ known. IsThere known condition) }
-    ensures value { result ≡ entailed condition state.now }
+    ensures value { result ≡ is_entailed condition state.now }
     // It is met then.
     ensures sound { result ≡ true → EntailsIt condition state.now }
 {
-    !state.reached() || is_entailed(state, condition)
+    !state.reached() || is_entailed_where_reached(state, condition)
 }
