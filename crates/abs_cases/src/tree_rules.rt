@@ -134,7 +134,11 @@ pub fn owes(alloc: Global, state: &AbsState, argument: &str) -> Result<(), Failu
             if !found.is_empty() {
                 found.push_str(", ")?;
             }
-            let is = if entails(state, condition) { "yes" } else { "no" };
+            let is = if entails(state, condition) {
+                "yes"
+            } else {
+                "no"
+            };
             write!(found, "{name} {is}")?;
         }
     }

@@ -96,11 +96,7 @@ impl Words<'_> {
                 let place = self.place()?;
                 Ok(Node::Elem(place, self.operand()?, self.operand()?))
             }
-            "cond" => Ok(Node::Cond(
-                self.operand()?,
-                self.operand()?,
-                self.operand()?,
-            )),
+            "cond" => Ok(Node::Cond(self.operand()?, self.operand()?, self.operand()?)),
             _ => leaf(word),
         }
     }

@@ -27,7 +27,7 @@ use Rattle.clause_trees.specs.declared.reader.TreeEnv.{TreeEnv}
 -- Of a method of these arguments and this result: trees read values where the environment says. The arguments are
 -- values of the heap at entry, of which each array kept its type and its length.
 pub record Reads (env : TreeEnv) (args : List Place) (result : Place) (vs : List Value) (heap : Heap) (r : Reading)
-  : Type 0 where
+    : Type 0 where
   pub heap_is : r.heap ≡ heap
   pub args_are : (n : ℕ) (v : Value) → slice_get r.args n ≡ Some v → slice_get vs (env.args + n) ≡ Some v
   pub result_is : (v : Value) → r.result ≡ Some v → option_and_then (slice_get vs) env.result ≡ Some v

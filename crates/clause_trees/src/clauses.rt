@@ -170,8 +170,10 @@ impl Reader<'_> {
             return Ok(false);
         }
         let tested = self.cases(state, test)?;
-        Ok(self.is_shown(tested.holds, branches.0, holds)?
-            && self.is_shown(tested.fails, branches.1, holds)?)
+        Ok(
+            self.is_shown(tested.holds, branches.0, holds)?
+                && self.is_shown(tested.fails, branches.1, holds)?,
+        )
     }
 
     /// Returns whether a tree is shown to be true, or to be false.

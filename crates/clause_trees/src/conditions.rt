@@ -109,13 +109,7 @@ impl Reader<'_> {
 
     /// Pushes a value of either branch, where a test has this value. The obligations and the value of a branch are
     /// taken where the test holds, or does not, and the state is then that behind the test.
-    fn chosen(
-        self,
-        state: &mut AbsState,
-        test: Var,
-        a: &Tree,
-        b: &Tree,
-    ) -> Result<bool, NoMemory> {
+    fn chosen(self, state: &mut AbsState, test: Var, a: &Tree, b: &Tree) -> Result<bool, NoMemory> {
         let first = self.branch(state, test, true, a)?;
         let second = self.branch(state, test, false, b)?;
         push_seen(state, seen_of_reached(first.seen, second.seen))?;
