@@ -1,8 +1,9 @@
 //! The text of trees.
 //!
 //! The nodes of a tree stand in preorder: a number, `arg0`, `null`, `result`, `len T`, `elem int32[] T T`, `add T T`
-//! and the other operators by their names, `neg T`, `not T`, `old T`, `cond T T T`. `is-zero T` is `ceq T 0`. A node
-//! of one operand may stand so many times: `neg*3 T` is `neg neg neg T`.
+//! and the other operators by their names, `neg T`, `not T`, `old T`, `cond T T T`. `is-zero T` is `ceq T 0`,
+//! `and-one T` is `add T 1` and `one-and T` is `add 1 T`. A node of one operand may stand so many times: `neg*3 T` is
+//! `neg neg neg T`.
 
 use cil_model::{BinOp, Node, Place, Tree, UnOp};
 use domain_api::NoMemory;
@@ -17,6 +18,12 @@ struct Words<'a> {
     words: SplitWhitespace<'a>,
 }
 
+/// A constant, in a box.
+fn constant(alloc: Global, n: i32) -> Result<Box<Tree>, Failure> {
+    let node = Node::Const(n);
+    Ok(Box::new(alloc, Tree { node })?)
+}
+
 /// A node of one operand.
 fn unary(alloc: Global, word: &str, operand: Tree) -> Result<Node, Failure> {
     let operand = Box::new(alloc, operand)?;
@@ -25,21 +32,19 @@ fn unary(alloc: Global, word: &str, operand: Tree) -> Result<Node, Failure> {
         "neg" => Ok(Node::Un(UnOp::Neg, operand)),
         "not" => Ok(Node::Un(UnOp::Not, operand)),
         "old" => Ok(Node::Old(operand)),
-        _ => {
-            let zero = Box::new(
-                alloc,
-                Tree {
-                    node: Node::Const(0),
-                },
-            )?;
-            Ok(Node::Bin(BinOp::Ceq, operand, zero))
-        }
+        "is-zero" => Ok(Node::Bin(BinOp::Ceq, operand, constant(alloc, 0)?)),
+        "and-one" => Ok(Node::Bin(BinOp::Add, operand, constant(alloc, 1)?)),
+        "one-and" => Ok(Node::Bin(BinOp::Add, constant(alloc, 1)?, operand)),
+        _ => Err(Failure::Unread("a node of one operand")),
     }
 }
 
 /// Returns whether the word is one of a node of one operand.
 fn is_unary(word: &str) -> bool {
-    matches!(word, "len" | "neg" | "not" | "old" | "is-zero")
+    matches!(
+        word,
+        "len" | "neg" | "not" | "old" | "is-zero" | "and-one" | "one-and"
+    )
 }
 
 /// A word, and how many times it stands.
