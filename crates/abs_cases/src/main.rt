@@ -3,7 +3,6 @@
 //! The words are the names of files of cases. docs/RULE_CASES.md says how a case is written.
 #![tactic(auto)]
 
-mod likeness;
 mod premises;
 mod rules;
 mod state_answers;

@@ -3,6 +3,7 @@
 ghost use Rattle.std.specs.Prelude.{◌≡◌, ◌<◌, ◌≤◌, ◌+◌, length, IfOk, OnOk, IsSome};
 ghost use Rattle.std.specs.Option.{ForSome};
 ghost use Rattle.cil_model.specs.Comparisons.{comparison_of};
+ghost use Rattle.merged_states.specs.Alike.{AreLikeStates};
 ghost use Rattle.number_facts.specs.Facts.{IsNamed};
 ghost use Rattle.state_facts.specs.Forms.{HasNumber, HasReference, HasVar, IsArrayPlace};
 
@@ -105,12 +106,7 @@ pub fn has_variable(alloc: Global, state: &AbsState, i: u32) -> Result<(), Failu
 }
 
 /// So many variables from one on are there, where something is reached.
-pub fn has_variables(
-    alloc: Global,
-    state: &AbsState,
-    first: u32,
-    count: u32,
-) -> Result<(), Failure>
+pub fn has_variables(alloc: Global, state: &AbsState, first: u32, count: u32) -> Result<(), Failure>
     ensures { OnOk result (ForSome state.now (λ known. first + count ≤ length known.variables)) }
 {
     let sizes = sizes_of(alloc, state)?;
@@ -138,5 +134,16 @@ pub fn is_comparison(op: BinOp) -> Result<(), Failure>
     match op {
         BinOp::Ceq | BinOp::Cgt | BinOp::CgtUn | BinOp::Clt | BinOp::CltUn => Ok(()),
         _ => Err(Failure::Unmet("the operator is a comparison")),
+    }
+}
+
+/// Two states may be joined, widened and compared.
+pub fn are_alike(a: &AbsState, b: &AbsState) -> Result<(), Failure>
+    ensures { OnOk result (AreLikeStates a.now b.now) }
+{
+    if a.is_like(b) {
+        Ok(())
+    } else {
+        Err(Failure::Unmet("both states have variables of the same kinds"))
     }
 }

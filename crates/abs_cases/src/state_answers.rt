@@ -1,7 +1,6 @@
 //! The rules that tell something of a state.
 
-use crate::likeness::are_alike;
-use crate::premises::{has_number, has_reference, has_symbol, reached};
+use crate::premises::{are_alike, has_number, has_reference, has_symbol, reached};
 use crate::state_steps::{read_count, read_operator};
 use crate::states::{append_value, parts, state, state_text};
 use abs_state::AbsState;
@@ -58,7 +57,7 @@ pub fn leq(alloc: Global, found: &AbsState, argument: &str) -> Result<(), Failur
         return Err(Failure::Unread("yes or no, and a state"));
     };
     let other = state(alloc, other)?;
-    are_alike(alloc, found, &other)?;
+    are_alike(found, &other)?;
     check_yes(alloc, found.leq(alloc, &other)?, told)
 }
 

@@ -1,8 +1,7 @@
 //! The rules that change a state.
 
-use crate::likeness::are_alike;
 use crate::premises::{
-    has_number, has_reference, has_value, has_variable, has_variables, is_array_place,
+    are_alike, has_number, has_reference, has_value, has_variable, has_variables, is_array_place,
     is_comparison,
 };
 use crate::states::{state, value};
@@ -127,13 +126,13 @@ pub fn forget(alloc: Global, state: &mut AbsState, argument: &str) -> Result<(),
 /// `join STATE`: both states as one.
 pub fn join(alloc: Global, before: &AbsState, argument: &str) -> Result<AbsState, Failure> {
     let other = state(alloc, argument)?;
-    are_alike(alloc, before, &other)?;
+    are_alike(before, &other)?;
     Ok(before.join(alloc, &other)?)
 }
 
 /// `widen STATE`: a state and its next one as one, with ends that settle.
 pub fn widen(alloc: Global, before: &AbsState, argument: &str) -> Result<AbsState, Failure> {
     let other = state(alloc, argument)?;
-    are_alike(alloc, before, &other)?;
+    are_alike(before, &other)?;
     Ok(before.widen(alloc, &other)?)
 }

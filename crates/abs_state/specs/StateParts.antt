@@ -33,7 +33,13 @@ known_of parts = record {
 
 abbrev pub nothing_listed : StateParts
 nothing_listed = record {
-  reached = false; variables = []; ranges = []; definitions = []; bounds = []; references = []; apart = []
+  reached = false;
+  variables = [];
+  ranges = [];
+  definitions = [];
+  bounds = [];
+  references = [];
+  apart = [];
 }
 
 -- The parts of a state. Where nothing is reached all lists are empty.

@@ -2,13 +2,12 @@
 
 ghost use Rattle.std.specs.Prelude.{◌≡◌, ◌↔◌, IsTrue};
 
-use state_facts::Known;
-use state_facts::Unknown;
 use crate::state::AbsState;
 use domain_api::Expr;
 use frame_names::{Reference, Var};
 use interval_domain::Range;
 use number_facts::Numbers;
+use state_facts::{Known, Unknown};
 use symbolic_values::Def;
 
 /// Returns whether two ranges are equal.

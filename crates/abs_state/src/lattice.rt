@@ -2,7 +2,7 @@
 
 ghost use Rattle.std.specs.Prelude.{◌≡◌, IfOk};
 ghost use Rattle.state_facts.specs.Holds.{HoldsAt};
-ghost use Rattle.merged_states.specs.Merging as rule;
+ghost use Rattle.merged_states.specs.Merging as states;
 ghost use Rattle.merged_states.specs.Alike.{AreLikeStates};
 ghost use Rattle.merged_states.specs.Inclusion.{is_included};
 ghost use Rattle.merged_states.specs.Rules.{number_rule};
@@ -16,10 +16,10 @@ use std::alloc::Global;
 
 impl AbsState {
     /// Two states as one. Where one is not reached it is the other.
-    #[tactic(auto, using(merged_states::proofs::Code::alike))]
+    #[tactic(auto, using(merged_states::proofs::Handed::alike))]
     fn merged(&self, alloc: Global, rule: Merging, other: &AbsState) -> Result<AbsState, NoMemory>
         requires { AreLikeStates self.now other.now }
-        ensures { IfOk result (λ merged. merged ≡ rule.merged (number_rule rule) self.now other.now) }
+        ensures { IfOk result (λ merged. merged ≡ states.merged (number_rule rule) self.now other.now) }
     {
         match (&self.known, &other.known) {
             (None, _) => other.copy(alloc),
@@ -36,7 +36,7 @@ impl AbsState {
     /// Cost: that of naming, a pass over the bounds for each symbol that has a name, and a look at each two references
     /// that have one.
     pub fn norm(&self, alloc: Global) -> Result<AbsState, NoMemory>
-        ensures value { IfOk result (λ normal. normal ≡ rule.normal self.now) }
+        ensures value { IfOk result (λ normal. normal ≡ states.normal self.now) }
         ensures keeps { IfOk result (λ normal. (p : Point) → HoldsAt self.now p → HoldsAt normal p) }
     {
         match &self.known {
@@ -55,9 +55,9 @@ impl Lattice for AbsState {
 
     ghost like = { AreLikeStates };
 
-    ghost join = { rule.join };
+    ghost join = { states.join };
 
-    ghost widen = { rule.widen };
+    ghost widen = { states.widen };
 
     ghost leq = { is_included };
 
@@ -69,6 +69,7 @@ impl Lattice for AbsState {
         self.merged(alloc, Merging::Widening, other)
     }
 
+    #[tactic(auto, using(merged_states::proofs::Handed::alike))]
     fn leq(&self, alloc: Global, other: &AbsState) -> Result<bool, NoMemory> {
         match (&self.known, &other.known) {
             (None, _) => Ok(true),

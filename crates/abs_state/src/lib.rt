@@ -3,6 +3,7 @@
 
 mod equality;
 mod lattice;
+mod likeness;
 mod parts;
 mod state;
 mod steps;

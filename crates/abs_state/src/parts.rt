@@ -5,8 +5,6 @@ ghost use Rattle.std.specs.List.{list_all};
 ghost use Rattle.abs_state.specs.FormTests as tests;
 ghost use Rattle.abs_state.specs.StateParts.{AreOrdered, AreParts, known_of, parts_of};
 
-use state_facts::Known;
-use state_facts::Unknown;
 use crate::state::AbsState;
 use alias_facts::Apart;
 use cil_model::Place;
@@ -15,6 +13,7 @@ use frame_names::{Reference, Var};
 use interval_domain::Range;
 use number_facts::Numbers;
 use pentagon_domain::{BoundRow, Bounds};
+use state_facts::{Known, Unknown};
 use std::alloc::Global;
 use std::marker::Model;
 use symbolic_values::Def;
@@ -260,7 +259,8 @@ impl Parts {
         ensures value { IfOk result (λ made. IfSome made (λ known. known ≡ known_of self.now)) }
         ensures some { IfOk result (λ made. IsSome made ↔ AreOrdered (known_of self.now)) }
     {
-        let Some(bounds) = Bounds::of_rows(Vec::from_slice(alloc, self.bounds.as_slice())?) else {
+        let rows = Vec::from_slice(alloc, self.bounds.as_slice())?;
+        let Some(bounds) = Bounds::of_rows(alloc, rows)? else {
             return Ok(None);
         };
         let Some(apart) = Apart::of_pairs(alloc, self.apart.as_slice())? else {

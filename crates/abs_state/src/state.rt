@@ -17,11 +17,11 @@ ghost use Rattle.state_facts.specs.Keeps.{KeepsPop, KeepsPush, KeepsPut, KeepsSt
 ghost use Rattle.state_facts.specs.StateFacts.{length_at, nullness_at, variables_in};
 ghost use Rattle.state_facts.specs.States as rule;
 
-use state_facts::Known;
 use alias_facts::Nullness;
 use cil_model::{BinOp, CmpOp, Place};
 use domain_api::{Expr, NoMemory, Order};
 use frame_names::Var;
+use state_facts::Known;
 use std::alloc::Global;
 use std::marker::Model;
 

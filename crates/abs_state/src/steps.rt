@@ -121,7 +121,7 @@ impl AbsState {
         Ok(())
     }
 
-    /// Pushes the item of an array at an index. Nothing is known of what arrays hold: it may be any number of the
+    /// Pushes an item of an array.
     pub(crate) fn push_item(&mut self, r: u32) -> Result<(), NoMemory>
         requires { ForSome self.old (λ known. HasReference known r) }
         ensures ok { OnOk result (self.new ≡ rule.load r self.old) }
@@ -137,7 +137,7 @@ impl AbsState {
         Ok(())
     }
 
-    /// Stores a number into an array at an index. Nothing is known of what arrays hold: no variable and no reference
+    /// Stores a number into an array.
     pub(crate) fn store_item(&mut self, r: u32, value: Expr) -> Result<(), NoMemory>
         requires there { ForSome self.old (λ known. HasReference known r) }
         requires value { ForSome self.old (λ known. HasNumber known value) }
@@ -169,7 +169,7 @@ impl AbsState {
         Ok(())
     }
 
-    /// Pushes what a call gives to which so many variables were passed, from the first one on: a value of this type, or
+    /// Pushes what a call gives to which so many variables were passed, from the first one on.
     pub(crate) fn push_result(
         &mut self,
         first: u32,

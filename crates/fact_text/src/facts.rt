@@ -75,10 +75,7 @@ pub fn append_bounds(text: &mut String, rows: &[BoundRow]) -> Result<(), AllocEr
 }
 
 /// Appends each definition.
-pub fn append_definitions(
-    text: &mut String,
-    definitions: &[(u32, Def)],
-) -> Result<(), AllocError> {
+pub fn append_definitions(text: &mut String, definitions: &[(u32, Def)]) -> Result<(), AllocError> {
     for (s, def) in definitions {
         separate_fact(text)?;
         write!(text, "s{s} is ")?;

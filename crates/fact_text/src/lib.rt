@@ -6,12 +6,12 @@
 
 mod definitions;
 mod facts;
-mod nullness;
+mod nullness_names;
 mod words;
 
 pub use definitions::{append_definition, definition};
 pub use facts::{
     Fact, add_range, append_bounds, append_definitions, append_ranges, read_fact, separate_fact,
 };
-pub use nullness::{nullness, nullness_name};
+pub use nullness_names::{nullness, nullness_name};
 pub use words::{append_reference, expr, reference, symbol};

@@ -4,6 +4,7 @@ use Rattle.std.specs.List.{list_all}
 use Rattle.std.proofs.lemmas.Bool.{and_parts}
 use Rattle.std.proofs.lemmas.Int.{ints}
 use Rattle.std.proofs.lemmas.List.{drop_all}
+use Rattle.frame_names.specs.declared.slots.Bound.{Bound}
 use Rattle.interval_domain.specs.Interval.{Interval, one}
 use Rattle.pentagon_domain.specs.declared.bound_row.BoundRow.{BoundRow}
 use Rattle.pentagon_domain.specs.Gaps as by_bounds
@@ -12,7 +13,6 @@ use Rattle.number_spans.specs.Stored as ranges
 use Rattle.number_spans.specs.declared.span.Span.{Span}
 use Rattle.number_spans.proofs.ComparingLaws.{excluded_apart}
 use Rattle.symbolic_values.specs.Worth as exprs
-use Rattle.merged_numbers.specs.declared.inclusion.Binding.{Binding}
 use Rattle.merged_numbers.specs.declared.term.Term.{Term}
 use Rattle.merged_numbers.specs.Known.{Known, gap, int32s, term, worth}
 use Rattle.merged_numbers.specs.Included.{AreValues, Includes, is_within, all_within, behind_binding, bound_term, follows, included, lacks, lies_above, lies_within, reaches, term_at, value_of, worth_or_zero}
@@ -44,14 +44,14 @@ within_allows r k n range inside has =
       no_hole = lacks_apart r range.hole n k has parts.1;
     }
 
-one_within : (a : Known) (number : ℕ → ℤ) (x : Binding) (range : Interval) → AllowsKnown a number → FitsSigned w32 (exprs.worth number x.value)
+one_within : (a : Known) (number : ℕ → ℤ) (x : Bound) (range : Interval) → AllowsKnown a number → FitsSigned w32 (exprs.worth number x.value)
     → lies_within (int32s a (value_of x)) x.offset range ≡ true → ranges.Allows range (worth number (bound_term x))
 one_within a number x range allowed fits inside =
     let allows = within_allows (int32s a (value_of x)) x.offset (worth number (value_of x)) range inside (int32s_has a number (value_of x) allowed fits) in
     let same : ((number x.value.sym +ℤ x.value.k) -ℤ x.offset) ≡ (number x.value.sym +ℤ (x.value.k -ℤ x.offset)) = omega (arith, ints) in
     rw same at allows
 
-all_allow : (a : Known) (number : ℕ → ℤ) (binding : List Binding) (rs : List Interval) → AllowsKnown a number → AreValues number binding
+all_allow : (a : Known) (number : ℕ → ℤ) (binding : List Bound) (rs : List Interval) → AllowsKnown a number → AreValues number binding
     → all_within a binding rs ≡ true → (i : ℕ) → i < length rs → ranges.Allows (get_or rs i (one (pos 0))) (behind_binding binding number (suc i))
 all_allow a number [] [] allowed fit all i inside = absurd (omega (arith, inside))
 all_allow a number [] (range ∷ rs) allowed fit all i inside = absurd cc
@@ -75,7 +75,7 @@ above_so a number (Some x) None k allowed is = absurd cc
 above_so a number (Some x) (Some y) k allowed is =
     reached (number x.sym) (number y.sym) x.k y.k k (gap a x.sym y.sym) (λ l told. gap_so a number x.sym y.sym l allowed told) is
 
-all_above : (a : Known) (number : ℕ → ℤ) (binding : List Binding) (rows : List BoundRow) → AllowsKnown a number → list_all (follows a binding) rows ≡ true
+all_above : (a : Known) (number : ℕ → ℤ) (binding : List Bound) (rows : List BoundRow) → AllowsKnown a number → list_all (follows a binding) rows ≡ true
     → by_bounds.Allows rows (behind_binding binding number)
 all_above a number binding [] allowed all = tt
 all_above a number binding (row ∷ rows) allowed all =
@@ -83,7 +83,7 @@ all_above a number binding (row ∷ rows) allowed all =
     (above_so a number (term_at binding row.s) (term_at binding row.t) row.k allowed parts.0, all_above a number binding rows allowed parts.1)
 
 -- What is included is so of what symbols are bound to.
-pub included_so : (a : Known) (binding : List Binding) (rs : List Interval) (rows : List BoundRow) (answer : Bool) → answer ≡ included a binding rs rows
+pub included_so : (a : Known) (binding : List Bound) (rs : List Interval) (rows : List BoundRow) (answer : Bool) → answer ≡ included a binding rs rows
     → Includes a binding rs rows answer
 included_so a binding rs rows answer told number is allowed fit =
     let parts = and_parts (all_within a binding rs) (list_all (follows a binding) rows) (sym told ∙ is) in
@@ -91,44 +91,44 @@ included_so a binding rs rows answer told number is allowed fit =
 
 -- ---- the code
 
-pub term_behind : (binding : List Binding) (s : ℕ) → s ≢ 0 → term_at binding s ≡ option_map bound_term (slice_get binding (s - 1))
+pub term_behind : (binding : List Bound) (s : ℕ) → s ≢ 0 → term_at binding s ≡ option_map bound_term (slice_get binding (s - 1))
 term_behind binding zero other = elim (other refl) [ ]
 term_behind binding (suc s) other = let back : s ≡ suc s - 1 = omega arith in ap (λ k. option_map bound_term (slice_get binding k)) back
 
-pub term_zero : (binding : List Binding) (s : ℕ) → s ≡ 0 → term_at binding s ≡ Some (term 0 (pos 0))
+pub term_zero : (binding : List Bound) (s : ℕ) → s ≡ 0 → term_at binding s ≡ Some (term 0 (pos 0))
 term_zero binding zero is = refl
 term_zero binding (suc s) is = absurd (omega (arith, is))
 
 pub ruleset terms = (term_behind, term_zero)
 
-within_split : (a : Known) (binding : List Binding) (rs : List Interval) (i : ℕ) (d : Binding) (e : Interval) → i < length binding → i < length rs
+within_split : (a : Known) (binding : List Bound) (rs : List Interval) (i : ℕ) (d : Bound) (e : Interval) → i < length binding → i < length rs
     → all_within a (drop i binding) (drop i rs) ≡ (is_within a (get_or binding i d) (get_or rs i e) && all_within a (drop (i + 1) binding) (drop (i + 1) rs))
 within_split a binding rs i d e inside also =
     let first : drop i binding ≡ get_or binding i d ∷ drop (suc i) binding = drop-cons binding i d inside in
     let second : drop i rs ≡ get_or rs i e ∷ drop (suc i) rs = drop-cons rs i e also in
     rw (add-one, first, second) refl
 
-pub within_more : (a : Known) (binding : List Binding) (rs : List Interval) (i : ℕ) (d : Binding) (e : Interval) (whole : Bool) → length binding ≡ length rs → i < length rs
+pub within_more : (a : Known) (binding : List Bound) (rs : List Interval) (i : ℕ) (d : Bound) (e : Interval) (whole : Bool) → length binding ≡ length rs → i < length rs
     → is_within a (get_or binding i d) (get_or rs i e) ≡ true → all_within a (drop i binding) (drop i rs) ≡ whole
     → all_within a (drop (i + 1) binding) (drop (i + 1) rs) ≡ whole
 within_more a binding rs i d e whole same inside here so_far =
     let split = within_split a binding rs i d e (omega (arith, same, inside)) inside in
     rw here at (rw split at so_far)
 
-pub within_fails : (a : Known) (binding : List Binding) (rs : List Interval) (i : ℕ) (d : Binding) (e : Interval) (whole : Bool) → length binding ≡ length rs → i < length rs
+pub within_fails : (a : Known) (binding : List Bound) (rs : List Interval) (i : ℕ) (d : Bound) (e : Interval) (whole : Bool) → length binding ≡ length rs → i < length rs
     → is_within a (get_or binding i d) (get_or rs i e) ≡ false → all_within a (drop i binding) (drop i rs) ≡ whole → false ≡ whole
 within_fails a binding rs i d e whole same inside here so_far =
     let split = within_split a binding rs i d e (omega (arith, same, inside)) inside in
     rw here at (rw split at so_far)
 
-pub within_end : (a : Known) (binding : List Binding) (rs : List Interval) (i : ℕ) (whole : Bool) → length binding ≡ length rs → length rs ≤ i
+pub within_end : (a : Known) (binding : List Bound) (rs : List Interval) (i : ℕ) (whole : Bool) → length binding ≡ length rs → length rs ≤ i
     → all_within a (drop i binding) (drop i rs) ≡ whole → true ≡ whole
 within_end a binding rs i whole same past so_far =
     let none : drop i binding ≡ [] = drop_all i binding (omega (arith, same, past)) in
     let also : drop i rs ≡ [] = drop_all i rs past in
     rw (none, also) at so_far
 
-pub lengths_differ : (a : Known) (binding : List Binding) (rs : List Interval) → length binding ≢ length rs → false ≡ all_within a binding rs
+pub lengths_differ : (a : Known) (binding : List Bound) (rs : List Interval) → length binding ≢ length rs → false ≡ all_within a binding rs
 lengths_differ a [] [] other = elim (other refl) [ ]
 lengths_differ a [] (r ∷ rs) other = refl
 lengths_differ a (x ∷ xs) [] other = refl

@@ -12,30 +12,19 @@ ghost use Rattle.merged_numbers.specs.Included.{Includes, bound_term, included};
 use crate::measures::apart;
 use crate::side::Side;
 use crate::term::Term;
-use domain_api::Expr;
+use frame_names::Bound;
 use interval_domain::Range;
 use number_spans::{Span, sum_of};
 use pentagon_domain::{BoundRow, Bounds};
 
-/// What a symbol is bound to: to a value of another state, less an offset.
-#[derive(Clone, Copy)]
-pub struct Binding {
-    /// The value by which the symbol was first bound.
-    pub value: Expr,
-    /// What the symbol's own expression added there.
-    pub offset: i64,
-}
-
-impl Binding {
-    /// What the symbol itself is worth.
-    fn term(&self) -> Term
-        ensures value { result ≡ bound_term self.now }
-        ensures near { IsWide result.k }
-    {
-        Term {
-            sym: self.value.sym,
-            k: i128::from(self.value.k) - i128::from(self.offset),
-        }
+/// What a bound symbol itself is worth.
+fn term_of(bound: &Bound) -> Term
+    ensures value { result ≡ bound_term bound.now }
+    ensures near { IsWide result.k }
+{
+    Term {
+        sym: bound.value.sym,
+        k: i128::from(bound.value.k) - i128::from(bound.offset),
     }
 }
 
@@ -85,7 +74,7 @@ fn reaches(gap: Option<i64>, n: i128) -> bool
 
 /// What a symbol stands for, if it is bound.
 #[tactic(auto, using(crate::proofs::InclusionLaws::terms))]
-fn term_at(binding: &[Binding], symbol: u32) -> Option<Term>
+fn term_at(binding: &[Bound], symbol: u32) -> Option<Term>
     ensures value { result ≡ rule.term_at binding.now symbol }
     ensures near { IfSome result (λ x. IsWide x.k) }
 {
@@ -94,23 +83,23 @@ fn term_at(binding: &[Binding], symbol: u32) -> Option<Term>
     }
     match binding.get(symbol as usize - 1) {
         None => None,
-        Some(bound) => Some(bound.term()),
+        Some(bound) => Some(term_of(bound)),
     }
 }
 
 impl Side<'_> {
     /// Returns whether what a symbol is bound to lies within its range.
-    fn is_within(&self, binding: &Binding, range: &Range) -> bool
+    fn is_within(&self, bound: &Bound, range: &Range) -> bool
         requires { AreMeasured self.now.spans.now }
-        ensures { result ≡ rule.is_within (known self.now) binding.now range.now }
+        ensures { result ≡ rule.is_within (known self.now) bound.now range.now }
     {
-        let value = Term::of(binding.value.sym, binding.value.k);
-        lies_within(self.int32s(value), binding.offset, range)
+        let value = Term::of(bound.value.sym, bound.value.k);
+        lies_within(self.int32s(value), bound.offset, range)
     }
 
     /// Returns whether what each symbol is bound to lies within its range.
     #[tactic(auto, using(crate::proofs::InclusionLaws::all))]
-    fn all_within(&self, binding: &[Binding], ranges: &[Range]) -> bool
+    fn all_within(&self, binding: &[Bound], ranges: &[Range]) -> bool
         requires { AreMeasured self.now.spans.now }
         ensures { result ≡ rule.all_within (known self.now) binding.now ranges.now }
     {
@@ -126,7 +115,7 @@ impl Side<'_> {
     }
 
     /// Returns whether a bound follows.
-    fn follows(&self, binding: &[Binding], row: &BoundRow) -> bool
+    fn follows(&self, binding: &[Bound], row: &BoundRow) -> bool
         requires { AreMeasured self.now.spans.now }
         ensures { result ≡ rule.follows (known self.now) binding.now row.now }
     {
@@ -137,7 +126,7 @@ impl Side<'_> {
     }
 
     /// Returns whether all bounds follow.
-    fn all_follow(&self, binding: &[Binding], rows: &[BoundRow]) -> bool
+    fn all_follow(&self, binding: &[Bound], rows: &[BoundRow]) -> bool
         requires { AreMeasured self.now.spans.now }
         ensures { result ≡ list_all (rule.follows (known self.now) binding.now) rows.now }
     {
@@ -146,7 +135,7 @@ impl Side<'_> {
 }
 
 /// Returns whether all that ranges and bounds say of symbols is known of what these are bound to.
-fn is_included(a: &Side, binding: &[Binding], ranges: &[Range], bounds: &Bounds) -> bool
+fn is_included(a: &Side, binding: &[Bound], ranges: &[Range], bounds: &Bounds) -> bool
     requires { AreMeasured a.now.spans.now }
     ensures { result ≡ included (known a.now) binding.now ranges.now bounds.now }
 {
@@ -160,7 +149,7 @@ fn is_included(a: &Side, binding: &[Binding], ranges: &[Range], bounds: &Bounds)
 /// Cost: a look at each range, and for each bound a search for each bound that goes from what its first symbol is bound
 /// to. Takes no memory.
 #[tactic(auto, using(crate::proofs::InclusionLaws::included_so))]
-pub fn includes(a: &Side, binding: &[Binding], ranges: &[Range], bounds: &Bounds) -> bool
+pub fn includes(a: &Side, binding: &[Bound], ranges: &[Range], bounds: &Bounds) -> bool
     requires { AreMeasured a.now.spans.now }
     ensures value { result ≡ included (known a.now) binding.now ranges.now bounds.now }
     ensures holds { Includes (known a.now) binding.now ranges.now bounds.now result }

@@ -13,7 +13,7 @@ mod rule;
 mod side;
 mod term;
 
-pub use inclusion::{Binding, includes};
+pub use inclusion::includes;
 pub use merging::{joined, widened};
 pub use normal::normed;
 pub use outcome::Merged;

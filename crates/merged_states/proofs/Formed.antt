@@ -1,5 +1,5 @@
 -- States that are made of others in new names have the form of states.
-use Rattle.std.proofs.Common.{◌≡◌, ℕ, zero, suc, ◌+◌, ◌-◌, ◌<◌, ◌≤◌, ◌==◌, ℤ, pos, Bool, true, false, List, [], ◌∷◌, length, map, drop, slice_get, Option, Some, None, refl, sym, ap, ◌∙◌, subst, inl, inr, arith}
+use Rattle.std.proofs.Common.{◌≡◌, ℕ, zero, suc, ◌+◌, ◌-◌, ◌<◌, ◌≤◌, ◌==◌, Bool, true, false, List, [], ◌∷◌, length, map, drop, slice_get, Option, Some, None, refl, sym, ap, ◌∙◌, subst, inl, inr, arith}
 use Rattle.std.specs.Prelude.{if◌then◌else◌}
 use Rattle.std.specs.Option.{ForSome, option_and_then, option_map}
 use Rattle.std.specs.List.{AllByRecursion, list_all}
@@ -11,8 +11,8 @@ use Rattle.alias_facts.specs.PairsOf.{Pair}
 use Rattle.cil_model.specs.declared.place.Place.{Place}
 use Rattle.frame_names.specs.ApartPairs.{joined_apart, kept_apart}
 use Rattle.frame_names.specs.Frames.{place_at, place_in, references_of}
-use Rattle.frame_names.specs.MergedReferences.{merged_reference, merged_references, one_place}
-use Rattle.frame_names.specs.PairedFrames.{FramePairing, behind, first_expr, if_near, is_near, named_frame, paired_frames, pairing_by, pairs_of}
+use Rattle.frame_names.specs.MergedReferences.{merged_references, one_place}
+use Rattle.frame_names.specs.PairedFrames.{FramePairing, behind, is_near, named_frame, paired_frames, pairing_by, pairs_of}
 use Rattle.frame_names.specs.declared.reference.Reference.{Reference}
 use Rattle.frame_names.specs.declared.var.Var.{Var}
 use Rattle.frame_names.specs.declared.var.Var.TheVariants as vars
@@ -25,14 +25,14 @@ use Rattle.number_facts.specs.Holds.{NamesOwn}
 use Rattle.pentagon_domain.proofs.Allowing.{AreBelow}
 use Rattle.symbolic_values.specs.FirstUses.{noted, first_uses}
 use Rattle.symbolic_values.specs.Names.{as_expr}
-use Rattle.symbolic_values.specs.Pairing.{Pairing, behind_first, known_in, origin, paired, same_key, use_of, uses_of}
+use Rattle.symbolic_values.specs.Pairing.{behind_first, origin, same_key, use_of, uses_of}
 use Rattle.symbolic_values.specs.declared.def.Def.{Def}
 use Rattle.symbolic_values.specs.declared.pairs.Key.{Key}
 use Rattle.symbolic_values.proofs.Noting.{all_noted}
 use Rattle.symbolic_values.proofs.Origins.{noted_origin, noted_other}
 use Rattle.symbolic_values.proofs.WorthLaws as worths
 use Rattle.state_facts.specs.Forms.{EndsBy, HasForm, IsArrayPlace, IsNumber, IsReference, IsVar, TestsOf}
-use Rattle.merged_states.specs.Merging.{NumberRule, known_as, merged_as, merged_by, merged_known, normal_as, normal_by, normal_known}
+use Rattle.merged_states.specs.Merging.{known_as, merged_as, merged_by, merged_known, normal_as, normal_by, normal_known}
 use Rattle.merged_states.specs.Rules.{number_rule}
 use Rattle.merged_states.specs.Parts.{def_of_both, def_of_one, numbers_known, unknown_items}
 use Rattle.state_facts.specs.StateFacts.{StateFacts}
@@ -122,9 +122,10 @@ pairs_have a b first second =
 references_formed : (symbols : ℕ) (a b : List (Reference Unknown)) (us : List Key) (lengths : List Expr) → AllByRecursion (HasArrayPlace a b) us
     → AllByRecursion (IsNumber symbols) lengths → AllByRecursion (IsReference symbols) (map unknown_items (merged_references a b us lengths))
 references_formed symbols a b [] lengths places all = tt
-references_formed symbols a b (u ∷ us) [] places all =
-    (record { place = places.0; length_is = record { there = omega arith; near = record { least = omega (arith, ints); greatest = omega (arith, ints) } } },
-    references_formed symbols a b us [] places.1 tt)
+references_formed symbols a b (u ∷ us) [] places all = (
+  record { place = places.0; length_is = record { there = omega arith; near = record { least = omega (arith, ints); greatest = omega (arith, ints) } } },
+  references_formed symbols a b us [] places.1 tt,
+)
 references_formed symbols a b (u ∷ us) (e ∷ lengths) places all =
     (record { place = places.0; length_is = all.0 }, references_formed symbols a b us lengths places.1 all.1)
 
@@ -152,17 +153,17 @@ known_formed a b frames outcome def pairs formed parts =
       named = record {
         bounds = subst (λ n. AllByRecursion (AreBelow (n + 1)) outcome.bounds) count formed.named;
         definitions = subst (λ n. AllByRecursion (NamesOwn n) (known_as a b frames outcome def pairs).facts.definitions) count
-        (each_definition (NamesOwn (length frames.numbers.keys)) def 1 (1 + length frames.numbers.keys) frames.numbers.keys (omega arith)
-        (λ s u d above below is. (omega (arith, below), (parts.defs u d is).names)));
+            (each_definition (NamesOwn (length frames.numbers.keys)) def 1 (1 + length frames.numbers.keys) frames.numbers.keys (omega arith)
+            (λ s u d above below is. (omega (arith, below), (parts.defs u d is).names)));
       };
       rising = rising_from def 1 frames.numbers.keys;
       tests = subst (λ n. AllByRecursion (λ d. TestsOf n d.1) (known_as a b frames outcome def pairs).facts.definitions) arrays
-      (each_definition (λ d. TestsOf (length frames.references.keys) d.1) def 1 (1 + length frames.numbers.keys) frames.numbers.keys (omega arith)
-      (λ s u d above below is. (parts.defs u d is).tests));
+          (each_definition (λ d. TestsOf (length frames.references.keys) d.1) def 1 (1 + length frames.numbers.keys) frames.numbers.keys (omega arith)
+          (λ s u d above below is. (parts.defs u d is).tests));
       variables = subst (λ n. AllByRecursion (IsVar (length outcome.ranges) n) frames.vars) arrays
-      (subst (λ n. AllByRecursion (IsVar n (length frames.references.keys)) frames.vars) count parts.variables);
+          (subst (λ n. AllByRecursion (IsVar n (length frames.references.keys)) frames.vars) count parts.variables);
       references = subst (λ n. AllByRecursion (IsReference n) (known_as a b frames outcome def pairs).references) count
-      (references_formed (length frames.numbers.keys) a.references b.references frames.references.keys frames.lengths parts.places parts.lengths);
+          (references_formed (length frames.numbers.keys) a.references b.references frames.references.keys frames.lengths parts.places parts.lengths);
       pairs = subst (λ n. AllByRecursion (EndsBy n) pairs) arrays parts.upto;
     }
 
@@ -187,7 +188,7 @@ frame_formed a b def pairs defs upto first second f is = by (list_all is_near ne
         record {
           defs = defs new;
           variables = vars_there (length new.numbers.keys) (length new.references.keys) new.numbers.exprs new.references.exprs a.variables all
-          (worths.paired_there _ _);
+              (worths.paired_there _ _);
           lengths = drop_all_there (IsNumber (length new.numbers.keys)) _ new.numbers.exprs all;
           places = pairs_have a b first second;
           upto = upto new;

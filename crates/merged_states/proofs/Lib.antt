@@ -1,3 +1,5 @@
+pub mod Handed
 pub mod PartsFormed
 pub mod Formed
-pub mod Code
+pub mod Made
+pub mod InclusionLaws

@@ -1,32 +1,32 @@
 -- What is made of states in new names has the form of states.
-use Rattle.std.proofs.Common.{◌≡◌, ℕ, zero, suc, ◌+◌, ◌-◌, ◌<◌, ◌≤◌, ◌==◌, nat_lt, ℤ, pos, negsuc, ◌+ℤ◌, ◌-ℤ◌, ◌≤ℤ◌, Bool, true, false, ◌&&◌, int_le, List, [], ◌∷◌, length, map, drop, slice_get, get_or, Option, Some, None, refl, sym, ap, ◌∙◌, subst, inl, inr, arith}
+use Rattle.std.proofs.Common.{◌≡◌, ℕ, zero, suc, ◌+◌, ◌-◌, ◌<◌, ◌≤◌, ◌==◌, nat_lt, ℤ, pos, negsuc, ◌+ℤ◌, ◌-ℤ◌, ◌≤ℤ◌, Bool, true, false, ◌&&◌, int_le, List, [], ◌∷◌, length, map, get_or, Option, Some, None, refl, sym, ◌∙◌, subst, inl, inr, arith}
 use Rattle.std.specs.Prelude.{if◌then◌else◌}
-use Rattle.std.specs.Option.{ForSome, option_and_then, option_map}
+use Rattle.std.specs.Option.{option_and_then}
 use Rattle.std.specs.List.{AllByRecursion, fold, list_all, position, range_with_len}
 use Rattle.std.specs.Ordering.{int_eq}
-use Rattle.std.proofs.lemmas.Bool.{and_parts, cases_Bool, cases_lt, cond_both}
+use Rattle.std.proofs.lemmas.Bool.{and_parts, cases_lt}
 use Rattle.std.proofs.lemmas.Bool.Decides.{Decides-eqb}
 use Rattle.std.proofs.lemmas.Int.{ints}
 use Rattle.std.proofs.lemmas.List.{get_or_past}
 use Rattle.std.proofs.lemmas.List.FromFn.{get_or-map-range_with_len, length-map-range_with_len}
 use Rattle.std.proofs.lemmas.List.Quantifiers.{position-Some}
 use Rattle.domain_api.specs.declared.expr.Expr.{Expr}
-use Rattle.alias_facts.specs.PairsOf.{Pair, comes_before, inserted, is_proper, ordered, same_pair, with_pair}
+use Rattle.alias_facts.specs.PairsOf.{Pair, comes_before, inserted, is_proper, ordered, same_pair}
 use Rattle.frame_names.specs.ApartPairs.{pairs_by, with_row, with_test}
 use Rattle.frame_names.specs.PairedFrames.{FramePairing, behind, first_expr, is_near, new_vars}
 use Rattle.frame_names.specs.declared.var.Var.{Var}
 use Rattle.frame_names.specs.declared.var.Var.TheVariants as vars
-use Rattle.number_facts.specs.Holds.{Names, NamesOwn}
-use Rattle.symbolic_values.specs.Names.{are_same_constant, as_expr, fitting, moved, named_at, null_test, of_both, paired_def, paired_expr, paired_reference, renamed, renamed_above, renamed_def, renamed_more, symbol_of, unless_more, where_same}
+use Rattle.number_facts.specs.Holds.{Names}
+use Rattle.symbolic_values.specs.Names.{are_same_constant, as_expr, fitting, moved, named_at, null_test, of_both, paired_def, paired_expr, paired_reference, renamed, renamed_above, renamed_more, symbol_of, unless_more, where_same}
 use Rattle.symbolic_values.specs.OwnNames.{own_name, own_names}
-use Rattle.symbolic_values.specs.Pairing.{IsNear, Pairing, origin, same_key, use_of}
+use Rattle.symbolic_values.specs.Pairing.{Pairing, origin, same_key, use_of}
 use Rattle.symbolic_values.specs.declared.def.Def.{Def}
 use Rattle.symbolic_values.specs.declared.def.Def.TheVariants.{Eq, Lt, LtUn, NullTest, Sub}
 use Rattle.symbolic_values.specs.declared.pairs.Key.{Key}
 use Rattle.symbolic_values.proofs.MeaningLaws.{fitting_is}
 use Rattle.state_facts.specs.Assuming.{definition_at}
 use Rattle.state_facts.specs.Forms.{AreRising, EndsBy, IsNumber, IsVar, TestsOf}
-use Rattle.merged_states.specs.Parts.{common_def, def_of_both, def_of_one, definitions_from, is_of_symbols, own_def, reference_names, with_definition}
+use Rattle.merged_states.specs.Parts.{common_def, def_of_both, def_of_one, definitions_from, is_of_symbols, reference_names, with_definition}
 
 same_some : {X : Type 0} (x y : X) → Some x ≡ Some y → x ≡ y
 same_some x y same = cc
@@ -154,9 +154,10 @@ pub numbers_there : (symbols : ℕ) (exprs : List Expr) → AllByRecursion (λ (
 numbers_there symbols [] there near = tt
 numbers_there symbols (e ∷ exprs) there near =
     let parts = and_parts (is_near e) (list_all is_near exprs) near in
-    let ends = and_parts (int_le (negsuc 4294967295) e.k) (int_le e.k (pos 4294967296)) parts.0 in
-    (record { there = there.0; near = record { least = le_of (negsuc 4294967295) e.k ends.0; greatest = le_of e.k (pos 4294967296) ends.1 } },
-    numbers_there symbols exprs there.1 parts.1)
+    let ends = and_parts (int_le (negsuc 4294967295) e.k) (int_le e.k (pos 4294967296)) parts.0 in (
+      record { there = there.0; near = record { least = le_of (negsuc 4294967295) e.k ends.0; greatest = le_of e.k (pos 4294967296) ends.1 } },
+      numbers_there symbols exprs there.1 parts.1,
+    )
   where
     le_of : (m n : ℤ) → int_le m n ≡ true → m ≤ℤ n
     le_of m n is = omega (arith, ints, is)

@@ -1,5 +1,5 @@
 -- States that may be joined, widened and compared.
-use Rattle.std.specs.Prelude.{◌≡◌, true, List, [], ◌∷◌, Option, Some, None}
+use Rattle.std.specs.Prelude.{◌≡◌, true, List, [], ◌∷◌, Some}
 use Rattle.frame_names.specs.declared.var.Var.{Var}
 use Rattle.frame_names.specs.declared.var.Var.TheVariants as vars
 use Rattle.state_facts.specs.Forms.{HasForm}
@@ -8,7 +8,8 @@ use Rattle.state_facts.specs.StateFacts.{StateFacts, State, both_of_same_place, 
 -- Both have a number or a text, or both have references, of which one is reference 0 or which have one type.
 abbrev pub IsLike : StateFacts → StateFacts → Var → Var → Type 0
 IsLike a b (vars.Number e) (vars.Number f) = Unit {0}
-IsLike a b (vars.Reference r) (vars.Reference q) = both_of_same_place (reference_at a.references r) (reference_at b.references q) ≡ true
+IsLike a b (vars.Reference r) (vars.Reference q) =
+    both_of_same_place (reference_at a.references r) (reference_at b.references q) ≡ true
 IsLike a b vars.Text vars.Text = Unit {0}
 IsLike a b _ _ = ⊥
 

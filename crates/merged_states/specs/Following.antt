@@ -1,12 +1,13 @@
 -- What it means that one state follows from another: it holds of the same values over the same heap.
-use Rattle.std.specs.Prelude.{◌≡◌, ℕ, ℤ, ◌∷◌, List, Option, None, FitsSigned, Some}
+use Rattle.std.specs.Prelude.{◌≡◌, ℕ, ℤ, Bool, true, List, Option, None, FitsSigned, Some}
 use Rattle.std.specs.Int.{w32}
 use Rattle.std.specs.List.{AllByRecursion}
 use Rattle.cil_model.specs.Comparisons.{number_of}
 use Rattle.cil_model.specs.Values.{Heap, IsHeap}
 use Rattle.cil_model.specs.declared.machine.Value.{Value}
-use Rattle.frame_names.specs.Frames.{AreAlike, reference_at}
-use Rattle.state_facts.specs.Holds.{HoldsBy, HoldsIn}
+use Rattle.frame_names.specs.Frames.{reference_at}
+use Rattle.state_facts.specs.Forms.{HasForm}
+use Rattle.state_facts.specs.Holds.{HoldsIn}
 use Rattle.state_facts.specs.StateFacts.{StateFacts, State}
 
 -- A number that a value has is an int32.
@@ -27,6 +28,10 @@ pub record HoldsOver (state : State) (vs : List Value) (heap : Heap) : Type 0 wh
 -- Wherever the first state holds, the second one does.
 abbrev pub Follows : State → State → Type 0
 Follows a b = (vs : List Value) (heap : Heap) → AreOfMachine vs heap → HoldsOver a vs heap → HoldsOver b vs heap
+
+-- A yes tells that the second state follows from the first, where the first has its form.
+abbrev pub TellsFollowing : StateFacts → StateFacts → Bool → Type 0
+TellsFollowing a b answer = answer ≡ true → HasForm a → Follows (Some a) (Some b)
 
 -- References that are not there are null.
 abbrev pub AreNoneBeyond : StateFacts → (ℕ → Option ℕ) → Type 0

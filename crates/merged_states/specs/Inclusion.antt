@@ -1,5 +1,5 @@
 -- Whether one state says at least as much as another.
-use Rattle.std.specs.Prelude.{ℕ, ◌==◌, ℤ, pos, ◌-ℤ◌, Bool, true, false, ◌&&◌, List, length, map, drop, get_or, Option, Some, None, if◌then◌else◌}
+use Rattle.std.specs.Prelude.{ℕ, ◌==◌, pos, ◌-ℤ◌, Bool, true, false, ◌&&◌, List, length, map, drop, get_or, Option, Some, None, if◌then◌else◌}
 use Rattle.std.specs.List.{list_all}
 use Rattle.std.specs.Ordering.{int_eq}
 use Rattle.domain_api.specs.declared.expr.Expr.{Expr}
@@ -7,12 +7,11 @@ use Rattle.frame_names.specs.Binding.{FrameBinding, bound_frames}
 use Rattle.frame_names.specs.Following.{all_apart, all_entailed}
 use Rattle.frame_names.specs.declared.slots.Bound.{Bound}
 use Rattle.merged_numbers.specs.Included.{included}
-use Rattle.merged_numbers.specs.declared.inclusion.Binding.{Binding}
 use Rattle.number_facts.specs.Gaps.{gap}
 use Rattle.symbolic_values.specs.Names.{fitting, renamed_def, same_flag}
 use Rattle.symbolic_values.specs.declared.def.Def.{Def}
 use Rattle.symbolic_values.specs.declared.def.Def.TheVariants.{Eq, Lt, LtUn, NullTest, Sub}
-use Rattle.state_facts.specs.Assuming.{definition_at, symbol_alone}
+use Rattle.state_facts.specs.Assuming.{definition_at}
 use Rattle.merged_states.specs.Parts.{numbers_known}
 use Rattle.state_facts.specs.StateFacts.{StateFacts, State}
 
@@ -63,15 +62,9 @@ definitions_follow a b binding =
 
 -- ---- ranges and bounds
 
-abbrev pub as_bound : Bound → Binding
-as_bound x = record { value = x.value; offset = x.offset }
-
--- What each symbol from 1 on is bound to.
-abbrev pub bound_values : FrameBinding → List Binding
-bound_values binding = map as_bound (drop 1 binding.symbols)
-
+-- What the second state knows of symbols from 1 on is known of what they are bound to.
 abbrev pub numbers_follow : StateFacts → StateFacts → FrameBinding → Bool
-numbers_follow a b binding = included (numbers_known a.facts) (bound_values binding) b.facts.ranges b.facts.bounds
+numbers_follow a b binding = included (numbers_known a.facts) (drop 1 binding.symbols) b.facts.ranges b.facts.bounds
 
 -- ---- the whole
 
@@ -79,7 +72,8 @@ numbers_follow a b binding = included (numbers_known a.facts) (bound_values bind
 abbrev pub all_follows : StateFacts → StateFacts → FrameBinding → Bool
 all_follows a b binding =
     all_entailed a.references b.references (drop 1 binding.references)
-    && (numbers_follow a b binding && (definitions_follow a b binding && all_apart a.references a.apart binding.references b.apart))
+    && (numbers_follow a b binding
+    && (definitions_follow a b binding && all_apart a.references a.apart binding.references b.apart))
 
 abbrev pub if_bound : StateFacts → StateFacts → Option FrameBinding → Bool
 if_bound a b None = false

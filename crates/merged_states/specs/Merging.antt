@@ -21,7 +21,11 @@ NumberRule = List Key → Known → Known → Option Outcome
 abbrev pub known_as : StateFacts → StateFacts → FramePairing → Outcome → (Key → Option Def) → List Pair → StateFacts
 known_as a b frames outcome def apart = record {
   variables = frames.vars;
-  facts = record { ranges = outcome.ranges; definitions = definitions_from def 1 frames.numbers.keys; bounds = outcome.bounds };
+  facts = record {
+    ranges = outcome.ranges;
+    definitions = definitions_from def 1 frames.numbers.keys;
+    bounds = outcome.bounds;
+  };
   references = map unknown_items (merged_references a.references b.references frames.references.keys frames.lengths);
   apart = apart;
 }
@@ -40,7 +44,8 @@ merged_by rule a b frames =
     option_map (merged_as a b frames) (rule frames.numbers.keys (numbers_known a.facts) (numbers_known b.facts))
 
 abbrev pub merged_known : NumberRule → StateFacts → StateFacts → State
-merged_known rule a b = option_and_then (merged_by rule a b) (paired_frames a.variables a.references b.variables b.references)
+merged_known rule a b =
+    option_and_then (merged_by rule a b) (paired_frames a.variables a.references b.variables b.references)
 
 -- Where one is not reached it is the other.
 abbrev pub merged : NumberRule → State → State → State
@@ -61,7 +66,8 @@ widen a b = merged numbers.widened a b
 -- The frame is named by its own first uses. Definitions stay as far as what they name does, and pairs that are kept.
 abbrev pub normal_as : StateFacts → FramePairing → Outcome → StateFacts
 normal_as a frames outcome =
-    known_as a a frames outcome (def_of_one frames (length a.facts.ranges + 1) (length a.references + 1) a.facts.definitions)
+    known_as a a frames outcome
+    (def_of_one frames (length a.facts.ranges + 1) (length a.references + 1) a.facts.definitions)
     (kept_apart frames.references.keys a.apart)
 
 abbrev pub normal_by : StateFacts → FramePairing → State

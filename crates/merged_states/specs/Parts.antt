@@ -49,7 +49,8 @@ common_def frames _ _ = None
 
 -- The definition of a key's symbol, where both states have the same one.
 abbrev pub def_of_both : FramePairing → List (ℕ × Def) → List (ℕ × Def) → Key → Option Def
-def_of_both frames a b u = if is_of_symbols u then common_def frames (definition_at a u.s) (definition_at b u.t) else None
+def_of_both frames a b u =
+    if is_of_symbols u then common_def frames (definition_at a u.s) (definition_at b u.t) else None
 
 -- The new reference of each reference below a count.
 abbrev pub reference_names : Pairing → ℕ → List (Option ℕ)
@@ -57,7 +58,8 @@ reference_names pairs count = map symbol_of (own_names pairs count)
 
 -- The definition of a key's symbol, in new names. The symbol is greater by the key's first constant than the old one.
 abbrev pub own_def : List (Option Expr) → List (Option ℕ) → List (ℕ × Def) → Key → Option Def
-own_def symbols references definitions u = option_and_then (renamed_above u.first symbols references) (definition_at definitions u.s)
+own_def symbols references definitions u =
+    option_and_then (renamed_above u.first symbols references) (definition_at definitions u.s)
 
 -- The same, where there were so many symbols and references, with symbol 0 and reference 0.
 abbrev pub def_of_one : FramePairing → ℕ → ℕ → List (ℕ × Def) → Key → Option Def

@@ -12,11 +12,7 @@ use std::alloc::{AllocError, Global};
 use symbolic_values::{Def, Key};
 
 /// Adds the definition of a symbol, if it has one.
-fn add(
-    definitions: &mut Vec<(u32, Def)>,
-    symbol: u32,
-    def: Option<Def>,
-) -> Result<(), NoMemory>
+fn add(definitions: &mut Vec<(u32, Def)>, symbol: u32, def: Option<Def>) -> Result<(), NoMemory>
     ensures { OnOk result (definitions.new.items ≡ definitions.old.items ++ rule.with_definition symbol def []) }
 {
     let Some(def) = def else {
@@ -30,7 +26,10 @@ fn add(
 fn symbol_at(place: usize) -> Result<u32, NoMemory>
     ensures { IfOk result (λ symbol. symbol ≡ place + 1) }
 {
-    u32::try_from(place as u64 + 1).map_err(|_| AllocError)
+    match u32::try_from(place) {
+        Ok(place) if place < u32::MAX => Ok(place + 1),
+        _ => Err(AllocError),
+    }
 }
 
 // ---- two states
@@ -68,7 +67,7 @@ impl Sides<'_> {
 
 /// The definitions that both states have.
 ///
-/// Cost: a search of each symbol that is worth the same in both states.
+/// Cost: for each key whose symbol is worth the same in both states, a pass over the definitions of both.
 pub(crate) fn definitions_of_both(
     alloc: Global,
     frames: &PairedFrames,
@@ -80,7 +79,7 @@ pub(crate) fn definitions_of_both(
 {
     let sides = Sides { frames, a, b };
     let keys = frames.numbers.keys.as_slice();
-    let mut definitions = Vec::new(alloc);
+    let mut definitions = Vec::with_capacity(alloc, a.len().min(b.len()))?;
     for place in 0..keys.len() {
         let symbol = symbol_at(place)?;
         add(&mut definitions, symbol, sides.def_of(&keys[place]))?;
@@ -124,10 +123,15 @@ fn reference_names(
 impl Names<'_> {
     /// The definition of a key's symbol, which is the key's first constant above the old one.
     fn def_of(&self, key: &Key) -> Option<Def>
-        ensures { result ≡ rule.own_def self.now.symbols.items self.now.references.items self.now.definitions.now key.now }
+        ensures { result ≡ rule.own_def self.now.symbols.items self.now.references.items
+            self.now.definitions.now key.now }
     {
         let def = definition_at(self.definitions, key.s)?;
-        def.renamed_above(key.first, self.symbols.as_slice(), self.references.as_slice())
+        def.renamed_above(
+            key.first,
+            self.symbols.as_slice(),
+            self.references.as_slice(),
+        )
     }
 
     /// The definitions in new names.
@@ -135,7 +139,7 @@ impl Names<'_> {
         ensures { IfOk result (λ definitions. definitions.items ≡ rule.definitions_from
             (rule.own_def self.now.symbols.items self.now.references.items self.now.definitions.now) 1 keys.now) }
     {
-        let mut definitions = Vec::new(alloc);
+        let mut definitions = Vec::with_capacity(alloc, self.definitions.len())?;
         for place in 0..keys.len() {
             let symbol = symbol_at(place)?;
             add(&mut definitions, symbol, self.def_of(&keys[place]))?;
@@ -147,7 +151,7 @@ impl Names<'_> {
 /// The definitions of a state in the names of its own first uses, where it has so many symbols and references, with
 /// symbol 0 and reference 0.
 ///
-/// Cost: a search of each symbol that has a name.
+/// Cost: for each key a pass over the definitions.
 pub(crate) fn renamed_definitions(
     alloc: Global,
     frames: &PairedFrames,
@@ -155,8 +159,8 @@ pub(crate) fn renamed_definitions(
     references: usize,
     definitions: &[(u32, Def)],
 ) -> Result<Vec<(u32, Def)>, NoMemory>
-    ensures { IfOk result (λ renamed. renamed.items ≡
-        rule.definitions_from (rule.def_of_one frames.now symbols references definitions.now) 1 frames.now.numbers.keys) }
+    ensures { IfOk result (λ renamed. renamed.items ≡ rule.definitions_from
+        (rule.def_of_one frames.now symbols references definitions.now) 1 frames.now.numbers.keys) }
 {
     let names = Names {
         symbols: frames.numbers.names(alloc, symbols)?,

@@ -1,8 +1,9 @@
 //! Whether one state says at least as much as another.
 
-ghost use Rattle.std.specs.Prelude.{◌≡◌, drop, get_or, map, IfOk, None};
+ghost use Rattle.std.specs.Prelude.{◌≡◌, get_or, IfOk, None};
 ghost use Rattle.std.specs.List.{list_all};
 ghost use Rattle.frame_names.specs.Frames.{AreAlike};
+ghost use Rattle.merged_states.specs.Following.{TellsFollowing};
 ghost use Rattle.merged_states.specs.Inclusion as rule;
 
 use crate::sides::{frame_of, side_of};
@@ -97,9 +98,7 @@ fn all_follow(
 ) -> bool
     ensures { result ≡ list_all (rule.def_follows definitions.now symbols.now references.now) others.now }
 {
-    others
-        .iter()
-        .all(|definition| def_follows(definitions, symbols, references, definition))
+    others.iter().all(|definition| def_follows(definitions, symbols, references, definition))
 }
 
 /// Returns whether each definition of the second state is one of the first.
@@ -121,61 +120,23 @@ fn definitions_follow(
     ))
 }
 
-/// What a symbol is bound to, for ranges and bounds.
-fn as_bound(bound: &Bound) -> merged_numbers::Binding
-    ensures { result ≡ rule.as_bound bound.now }
-{
-    merged_numbers::Binding {
-        value: bound.value,
-        offset: bound.offset,
-    }
-}
-
-/// The same of each.
-fn as_bounds(alloc: Global, bound: &[Bound]) -> Result<Vec<merged_numbers::Binding>, NoMemory>
-    ensures { IfOk result (λ values. values.items ≡ map rule.as_bound bound.now) }
-{
-    bound.iter().map(|bound| as_bound(bound)).collect(alloc)
-}
-
-/// What each symbol from 1 on is bound to.
-fn bound_values(
-    alloc: Global,
-    binding: &Binding,
-) -> Result<Vec<merged_numbers::Binding>, NoMemory>
-    ensures { IfOk result (λ values. values.items ≡ rule.bound_values binding.now) }
-{
-    let bound = binding.symbols.get(1..).unwrap_or(&[]);
-    as_bounds(alloc, bound)
-}
-
 /// Returns whether what the second state knows of numbers by ranges and bounds is known of what they are bound to.
-#[tactic(auto, using(crate::proofs::Code::measured))]
-fn numbers_follow(
-    alloc: Global,
-    a: &Known,
-    b: &Known,
-    binding: &Binding,
-) -> Result<bool, NoMemory>
+#[tactic(auto, using(crate::proofs::Handed::measured))]
+fn numbers_follow(alloc: Global, a: &Known, b: &Known, binding: &Binding) -> Result<bool, NoMemory>
     ensures { IfOk result (λ follow. follow ≡ rule.numbers_follow a.now b.now binding.now) }
 {
     let spans = a.numbers.spans(alloc)?;
-    let bound = bound_values(alloc, binding)?;
+    let bound = binding.symbols.get(1..).unwrap_or(&[]);
     Ok(includes_numbers(
         &side_of(a, spans.as_slice()),
-        bound.as_slice(),
+        bound,
         b.numbers.ranges.as_slice(),
         &b.numbers.bounds,
     ))
 }
 
 /// Returns whether the first state knows all that the second knows of what is bound.
-fn all_follows(
-    alloc: Global,
-    a: &Known,
-    b: &Known,
-    binding: &Binding,
-) -> Result<bool, NoMemory>
+fn all_follows(alloc: Global, a: &Known, b: &Known, binding: &Binding) -> Result<bool, NoMemory>
     ensures { IfOk result (λ follows. follows ≡ rule.all_follows a.now b.now binding.now) }
 {
     let (first, second) = (a.references.as_slice(), b.references.as_slice());
@@ -191,8 +152,8 @@ fn all_follows(
     apart_follows(alloc, first, &a.apart, &b.apart, binding)
 }
 
-/// Returns whether the first state says at least as much as the second, where both are reached.
-pub fn includes(alloc: Global, a: &Known, b: &Known) -> Result<bool, NoMemory>
+/// Returns whether the frame of the second state can be bound to that of the first, and all follows then.
+fn is_included(alloc: Global, a: &Known, b: &Known) -> Result<bool, NoMemory>
     requires { AreAlike a.now.variables b.now.variables }
     ensures { IfOk result (λ is. is ≡ rule.is_included_known a.now b.now) }
 {
@@ -201,4 +162,16 @@ pub fn includes(alloc: Global, a: &Known, b: &Known) -> Result<bool, NoMemory>
         return Ok(false);
     };
     all_follows(alloc, a, b, &binding)
+}
+
+/// Returns whether the first state says at least as much as the second, where both are reached: each variable and
+/// length of the second is bound to what the first has there, and all that the second knows is known of what is bound.
+///
+/// Cost: two gaps for each variable and length, a search for each bound and definition, and a look at each pair.
+pub fn includes(alloc: Global, a: &Known, b: &Known) -> Result<bool, NoMemory>
+    requires { AreAlike a.now.variables b.now.variables }
+    ensures value { IfOk result (λ is. is ≡ rule.is_included_known a.now b.now) }
+    ensures holds { IfOk result (TellsFollowing a.now b.now) }
+{
+    is_included(alloc, a, b)
 }

@@ -8,6 +8,8 @@ ghost use Rattle.merged_numbers.specs.Known.{known};
 ghost use Rattle.merged_numbers.specs.Meaning.{AreMeasured};
 ghost use Rattle.merged_numbers.specs.Merging as outcomes;
 ghost use Rattle.state_facts.specs.Forms.{HasForm};
+ghost use Rattle.merged_states.specs.Alike.{AreComparable};
+ghost use Rattle.merged_states.specs.Following.{Follows};
 ghost use Rattle.merged_states.specs.Merging as states;
 ghost use Rattle.merged_states.specs.Rules as merges;
 ghost use Rattle.merged_states.specs.Parts.{numbers_known, unknown_items};
@@ -90,10 +92,10 @@ fn known_of(
     apart: Apart,
 ) -> Known
     ensures { result ≡ record {
-        variables = frames.vars;
-        facts = record { ranges = numbers.ranges; definitions = definitions.items; bounds = numbers.bounds };
-        references = references.items;
-        apart = apart
+      variables = frames.vars;
+      facts = record { ranges = numbers.ranges; definitions = definitions.items; bounds = numbers.bounds };
+      references = references.items;
+      apart = apart;
     } }
 {
     Known {
@@ -109,7 +111,7 @@ fn known_of(
 }
 
 /// What both states know of numbers. None: nothing is reached.
-#[tactic(auto, using(crate::proofs::Code::measured))]
+#[tactic(auto, using(crate::proofs::Handed::measured))]
 fn numbers_of_both(
     alloc: Global,
     rule: Merging,
@@ -146,26 +148,15 @@ fn merged_as(
         a.numbers.definitions.as_slice(),
         b.numbers.definitions.as_slice(),
     )?;
-    let references = references_of(
-        alloc,
-        &frames,
-        a.references.as_slice(),
-        b.references.as_slice(),
-    )?;
-    let apart = joined_apart(
-        alloc,
-        frames.references.pairs.keys.as_slice(),
-        a.references.as_slice(),
-        &a.apart,
-        b.references.as_slice(),
-        &b.apart,
-    )?;
+    let (first, second) = (a.references.as_slice(), b.references.as_slice());
+    let references = references_of(alloc, &frames, first, second)?;
+    let keys = frames.references.pairs.keys.as_slice();
+    let apart = joined_apart(alloc, keys, first, &a.apart, second, &b.apart)?;
     Ok(known_of(frames, numbers, definitions, references, apart))
 }
 
-/// What both states know, where both are reached. None: nothing is reached.
-#[tactic(auto, using(crate::proofs::Code::near, crate::proofs::Code::formed))]
-pub fn merged(
+/// What both states know.
+fn known_of_both(
     alloc: Global,
     rule: Merging,
     a: &Known,
@@ -174,23 +165,38 @@ pub fn merged(
     requires first { HasForm a.now }
     requires second { HasForm b.now }
     requires alike { AreAlike a.now.variables b.now.variables }
-    ensures value { IfOk result (λ known. known ≡ states.merged_known (merges.number_rule rule) a.now b.now) }
-    ensures form { IfOk result (λ known. ForSome known HasForm) }
+    ensures { IfOk result (λ known. known ≡ states.merged_known (merges.number_rule rule) a.now b.now) }
 {
     let Some(frames) = pair_frames(alloc, &frame_of(a), &frame_of(b))? else {
         return Ok(None);
     };
     let pairs = &frames.numbers;
-    let keys = pairs.keys.as_slice();
-    let Some(numbers) = numbers_of_both(alloc, rule, keys, a, b)? else {
+    let Some(numbers) = numbers_of_both(alloc, rule, pairs.keys.as_slice(), a, b)? else {
         return Ok(None);
     };
     let known = merged_as(alloc, frames, numbers, a, b)?;
     Ok(Some(known))
 }
 
+/// What both states know, where both are reached. None: nothing is reached.
+///
+/// Cost: that of naming the frames and of merging what is known of numbers, a pass over the definitions of both states
+/// for each new symbol, and a look at each two new references. `NoMemory` where memory runs out, and where a symbol or
+/// a reference would need more than 32 bits.
+pub fn merged(alloc: Global, rule: Merging, a: &Known, b: &Known) -> Result<Option<Known>, NoMemory>
+    requires first { HasForm a.now }
+    requires second { HasForm b.now }
+    requires alike { AreAlike a.now.variables b.now.variables }
+    ensures value { IfOk result (λ known. known ≡ states.merged_known (merges.number_rule rule) a.now b.now) }
+    ensures form { IfOk result (λ known. ForSome known HasForm) }
+    ensures left { AreComparable a.now b.now → IfOk result (Follows (Some a.now)) }
+    ensures right { AreComparable a.now b.now → IfOk result (Follows (Some b.now)) }
+{
+    known_of_both(alloc, rule, a, b)
+}
+
 /// What one state knows of numbers. None: nothing is reached.
-#[tactic(auto, using(crate::proofs::Code::measured))]
+#[tactic(auto, using(crate::proofs::Handed::measured))]
 fn numbers_of_one(alloc: Global, keys: &[Key], a: &Known) -> Result<Option<Merged>, NoMemory>
     ensures { IfOk result (λ made. made ≡ outcomes.normed keys.now (numbers_known a.now.facts)) }
 {
@@ -214,35 +220,38 @@ fn named_as(
         a.references.len() + 1,
         a.numbers.definitions.as_slice(),
     )?;
-    let references = references_of(
-        alloc,
-        &frames,
-        a.references.as_slice(),
-        a.references.as_slice(),
-    )?;
-    let apart = kept_apart(
-        alloc,
-        frames.references.pairs.keys.as_slice(),
-        &a.apart,
-    )?;
+    let known = a.references.as_slice();
+    let references = references_of(alloc, &frames, known, known)?;
+    let keys = frames.references.pairs.keys.as_slice();
+    let apart = kept_apart(alloc, keys, &a.apart)?;
     Ok(known_of(frames, numbers, definitions, references, apart))
 }
 
-/// What a state knows, in the names of its own first uses. None: nothing is reached.
-#[tactic(auto, using(crate::proofs::Code::near, crate::proofs::Code::formed))]
-pub fn named(alloc: Global, a: &Known) -> Result<Option<Known>, NoMemory>
+/// What a state knows in the names of its own first uses.
+fn known_of_one(alloc: Global, a: &Known) -> Result<Option<Known>, NoMemory>
     requires { HasForm a.now }
-    ensures value { IfOk result (λ known. known ≡ states.normal_known a.now) }
-    ensures form { IfOk result (λ known. ForSome known HasForm) }
+    ensures { IfOk result (λ known. known ≡ states.normal_known a.now) }
 {
     let Some(frames) = name_frame(alloc, &frame_of(a))? else {
         return Ok(None);
     };
     let pairs = &frames.numbers;
-    let keys = pairs.keys.as_slice();
-    let Some(numbers) = numbers_of_one(alloc, keys, a)? else {
+    let Some(numbers) = numbers_of_one(alloc, pairs.keys.as_slice(), a)? else {
         return Ok(None);
     };
     let known = named_as(alloc, frames, numbers, a)?;
     Ok(Some(known))
+}
+
+/// What a state knows, in the names of its own first uses. None: nothing is reached.
+///
+/// Cost: that of naming the frame and what is known of numbers, a pass over the definitions for each symbol that has a
+/// name, and a look at each two references that have one. `NoMemory` as of `merged`.
+pub fn named(alloc: Global, a: &Known) -> Result<Option<Known>, NoMemory>
+    requires { HasForm a.now }
+    ensures value { IfOk result (λ known. known ≡ states.normal_known a.now) }
+    ensures form { IfOk result (λ known. ForSome known HasForm) }
+    ensures keeps { IfOk result (Follows (Some a.now)) }
+{
+    known_of_one(alloc, a)
 }

@@ -8,7 +8,8 @@ use crate::facts::facts_text;
 use crate::number_rules::{end, is_there};
 use domain_api::Expr;
 use fact_text::{expr, symbol};
-use merged_numbers::{Binding, Merged, Side, includes, joined, normed, widened};
+use frame_names::Bound;
+use merged_numbers::{Merged, Side, includes, joined, normed, widened};
 use number_facts::Numbers;
 use number_spans::Span;
 use rule_text::{Failure, asked, check, check_yes, two_words};
@@ -141,14 +142,14 @@ pub fn merged(
 }
 
 /// The values and offsets of a text, each two behind a `,`; `none` where there are none.
-fn bindings(alloc: Global, text: &str) -> Result<Vec<Binding>, Failure> {
+fn bindings(alloc: Global, text: &str) -> Result<Vec<Bound>, Failure> {
     let mut bindings = Vec::new(alloc);
     if text == "none" {
         return Ok(bindings);
     }
     for text in text.split(',') {
         let (value, offset) = two_words(text)?;
-        bindings.push(Binding {
+        bindings.push(Bound {
             value: expr(value)?,
             offset: end(offset)?,
         })?;

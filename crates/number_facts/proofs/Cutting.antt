@@ -1,10 +1,9 @@
 -- Ends that are cut by one bound after another.
-use Rattle.std.proofs.Common.{◌≡◌, ℕ, suc, ◌==◌, ◌+◌, ◌<◌, ◌≤◌, ℤ, Bool, true, false, not, ◌&&◌, List, [], ◌∷◌, length, get_or, drop, drop-cons, add-one, refl, sym, ap, ◌∙◌}
+use Rattle.std.proofs.Common.{◌≡◌, ℕ, suc, ◌==◌, ◌+◌, ◌<◌, ◌≤◌, ℤ, Bool, true, false, not, ◌&&◌, List, [], ◌∷◌, length, get_or, drop, drop-cons, add-one, refl}
 use Rattle.std.proofs.lemmas.List.{drop_all}
 use Rattle.pentagon_domain.specs.declared.bound_row.BoundRow.{BoundRow}
-use Rattle.pentagon_domain.specs.Rows.{AreBounds, is_pair}
-use Rattle.number_facts.specs.Ends.{cut_by_all, raised_by}
-use Rattle.number_facts.specs.Facts.{Facts}
+use Rattle.pentagon_domain.specs.Rows.{AreBounds, rows_to}
+use Rattle.number_facts.specs.Ends.{cut_by_all}
 
 -- one more bound
 pub cut_more : (by : ℤ → BoundRow → ℤ) (rows : List BoundRow) (i : ℕ) (n now whole : ℤ) (d : BoundRow) → i < length rows
@@ -24,17 +23,8 @@ second_false a false c e = refl
 second_false true true c e = absurd cc
 second_false false true c e = absurd cc
 
-raised_none : (facts : Facts) (lo : ℤ) (row : BoundRow) → is_pair row.s row.t ≡ true → raised_by facts 0 lo row ≡ lo
-unfolding raised_by
-raised_none facts lo row pair = rw (second_false (row.s == 0) (row.t == 0) (row.s == row.t) pair) refl
+pub none_to_zero : (rows : List BoundRow) → AreBounds rows → rows_to rows 0 ≡ []
+none_to_zero [] form = refl
+none_to_zero (row ∷ rows) form = rw (second_false (row.s == 0) (row.t == 0) (row.s == row.t) form.0) (none_to_zero rows form.2)
 
-pub zero_stays : (facts : Facts) (rows : List BoundRow) (lo : ℤ) → AreBounds rows → cut_by_all (raised_by facts 0) rows lo ≡ lo
-zero_stays facts [] lo form = refl
-zero_stays facts (row ∷ rows) lo form = rw (raised_none facts lo row form.0) (zero_stays facts rows lo form.2)
-
-pub zero_uncut : (facts : Facts) (rows : List BoundRow) (s : ℕ) (lo n : ℤ) → s ≡ 0 → AreBounds rows → lo ≡ n
-    → lo ≡ cut_by_all (raised_by facts s) rows n
-zero_uncut facts rows s lo n zero_is form is =
-    is ∙ sym (zero_stays facts rows n form) ∙ ap (λ t. cut_by_all (raised_by facts t) rows n) (sym zero_is)
-
-pub ruleset cuts = (cut_more, cut_all, zero_uncut)
+pub ruleset cuts = (cut_more, cut_all)

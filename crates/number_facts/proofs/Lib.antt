@@ -1,5 +1,4 @@
 pub mod Symbols
-pub mod SpanLists
 pub mod Sums
 pub mod Cutting
 pub mod Small
@@ -20,3 +19,4 @@ pub mod AdditionLaws
 pub mod OperatorLaws
 pub mod ResultLaws
 pub mod ResultForms
+pub mod SpanLists

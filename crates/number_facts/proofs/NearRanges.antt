@@ -3,11 +3,11 @@ use Rattle.std.proofs.Common.{ℕ, ℤ, ◌+ℤ◌, ◌-ℤ◌, ◌≤ℤ◌, Op
 use Rattle.std.specs.Prelude.{if◌then◌else◌}
 use Rattle.std.proofs.lemmas.Bool.{cond_both}
 use Rattle.std.proofs.lemmas.Int.{ints, clamps}
-use Rattle.std.specs.Prelude.{List, [], ◌∷◌, ◌==◌, ◌&&◌}
+use Rattle.std.specs.Prelude.{List, [], ◌∷◌}
 use Rattle.domain_api.specs.declared.expr.Expr.{Expr}
 use Rattle.interval_domain.specs.Interval.{is_hole}
 use Rattle.pentagon_domain.specs.declared.bound_row.BoundRow.{BoundRow}
-use Rattle.pentagon_domain.specs.Rows.{rows_from}
+use Rattle.pentagon_domain.specs.Rows.{rows_from, rows_to}
 use Rattle.symbolic_values.specs.Worth.{worth}
 use Rattle.number_spans.specs.Sizes.{IsSmall}
 use Rattle.number_spans.specs.Spans.{shifted}
@@ -16,16 +16,15 @@ use Rattle.number_facts.specs.Facts.{Facts, AreNarrow, IsNamed, has, range_at}
 use Rattle.number_facts.proofs.Small.{narrow_range}
 use Rattle.number_facts.specs.Laws.Allowing.{AllowsNumbers, span_has}
 
-raised_from : (facts : Facts) (t : ℕ) (row : BoundRow) (lo : ℤ) → lo ≤ℤ raised_by facts t lo row
-unfolding raised_by
-raised_from facts t row lo = cond_both (row.t == t && has facts row.s) _ _ (λ n. lo ≤ℤ n)
-    (λ e. omega (arith, ints, clamps)) (λ e. omega (arith, ints))
+raised_from : (facts : Facts) (row : BoundRow) (lo : ℤ) → lo ≤ℤ raised_by facts lo row
+raised_from facts row lo = cond_both (has facts row.s) _ _ (λ n. lo ≤ℤ n) (λ e. omega (arith, ints, clamps))
+    (λ e. omega (arith, ints))
 
-raised_all : (facts : Facts) (t : ℕ) (rows : List BoundRow) (lo : ℤ) → lo ≤ℤ cut_by_all (raised_by facts t) rows lo
-raised_all facts t [] lo = omega (arith, ints)
-raised_all facts t (row ∷ rows) lo =
-    let rest = raised_all facts t rows (raised_by facts t lo row) in
-    let more = raised_from facts t row lo in
+raised_all : (facts : Facts) (rows : List BoundRow) (lo : ℤ) → lo ≤ℤ cut_by_all (raised_by facts) rows lo
+raised_all facts [] lo = omega (arith, ints)
+raised_all facts (row ∷ rows) lo =
+    let rest = raised_all facts rows (raised_by facts lo row) in
+    let more = raised_from facts row lo in
     omega (arith, ints, rest, more)
 
 lowered_from : (facts : Facts) (row : BoundRow) (hi : ℤ) → lowered_by facts hi row ≤ℤ hi
@@ -51,9 +50,9 @@ hole_below hole hi = cond_both (is_hole hole hi) _ _ (λ n. n ≤ℤ hi) (λ e. 
 pub span_above : (facts : Facts) (s : ℕ) → (range_at facts s).lo ≤ℤ (span_at facts s).lo
 unfolding span_at met
 span_above facts s =
-    let cut = raised_all facts s facts.bounds (range_at facts s).lo in
-    let behind = hole_above (range_at facts s).hole (cut_by_all (raised_by facts s) facts.bounds (range_at facts s).lo)
-    in
+    let cut = raised_all facts (rows_to facts.bounds s) (range_at facts s).lo in
+    let behind = hole_above (range_at facts s).hole
+    (cut_by_all (raised_by facts) (rows_to facts.bounds s) (range_at facts s).lo) in
     omega (arith, ints, cut, behind)
 
 span_below : (facts : Facts) (s : ℕ) → (span_at facts s).hi ≤ℤ (range_at facts s).hi

@@ -20,7 +20,7 @@ use Rattle.number_spans.specs.declared.span.Span.{Span}
 use Rattle.number_facts.specs.Ends.{met, range_of, span_at}
 use Rattle.number_facts.specs.Facts.{Facts, AreNarrow, IsThere, range_at}
 use Rattle.number_facts.specs.Sizes.{AreNear, IsCut, IsNear}
-use Rattle.number_facts.proofs.Cutting.{zero_stays}
+use Rattle.number_facts.proofs.Cutting.{none_to_zero}
 
 narrow_zero : IsNarrow (one (pos 0))
 narrow_zero = record { least = omega (arith, ints); ordered = omega (arith, ints); greatest = omega (arith, ints); inner = tt }
@@ -74,7 +74,7 @@ small facts e r q left near there is =
 
 zero_low : (facts : Facts) → AreBounds facts.bounds → (span_at facts 0).lo ≡ pos 0
 unfolding span_at met range_at
-zero_low facts form = rw (zero_stays facts facts.bounds (pos 0) form) refl
+zero_low facts form = rw (none_to_zero facts.bounds form) refl
 
 -- the numbers of a constant begin with it
 pub constant_low : (facts : Facts) (e : Expr) (r : Span) → r ≡ range_of facts e → AreBounds facts.bounds → e.sym ≡ 0 → r.lo ≡ e.k

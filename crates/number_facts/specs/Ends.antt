@@ -1,10 +1,10 @@
 -- The numbers that ranges and bounds together leave to symbols and expressions.
-use Rattle.std.specs.Prelude.{ℕ, ◌==◌, ℤ, pos, ◌+ℤ◌, ◌-ℤ◌, ◌&&◌, List, [], ◌∷◌, Option, if◌then◌else◌}
+use Rattle.std.specs.Prelude.{ℕ, ℤ, pos, ◌+ℤ◌, ◌-ℤ◌, List, [], ◌∷◌, Option, if◌then◌else◌}
 use Rattle.std.specs.Int.{int_min, int_max}
 use Rattle.domain_api.specs.declared.expr.Expr.{Expr}
 use Rattle.interval_domain.specs.Interval.{inner_hole, is_hole}
 use Rattle.pentagon_domain.specs.declared.bound_row.BoundRow.{BoundRow}
-use Rattle.pentagon_domain.specs.Rows.{rows_from}
+use Rattle.pentagon_domain.specs.Rows.{rows_from, rows_to}
 use Rattle.number_spans.specs.Spans.{shifted}
 use Rattle.number_spans.specs.declared.span.Span.{Span}
 use Rattle.number_facts.specs.Facts.{Facts, has, range_at}
@@ -14,8 +14,8 @@ abbrev pub lowered_by : Facts → ℤ → BoundRow → ℤ
 lowered_by facts hi row = if has facts row.t then int_min hi ((range_at facts row.t).hi -ℤ row.k) else hi
 
 -- So it keeps t at or above the least stored number of s and k more.
-unfoldable pub raised_by : Facts → ℕ → ℤ → BoundRow → ℤ
-raised_by facts t lo row = if row.t == t && has facts row.s then int_max lo ((range_at facts row.s).lo +ℤ row.k) else lo
+abbrev pub raised_by : Facts → ℤ → BoundRow → ℤ
+raised_by facts lo row = if has facts row.s then int_max lo ((range_at facts row.s).lo +ℤ row.k) else lo
 
 -- An end, cut by one bound after another.
 abbrev pub cut_by_all : (ℤ → BoundRow → ℤ) → List BoundRow → ℤ → ℤ
@@ -33,8 +33,8 @@ met lo hi hole = record {
 -- The numbers of a symbol: the ends of its range, cut by each of its bounds, and its hole. There may be none.
 unfoldable pub span_at : Facts → ℕ → Span
 span_at facts s =
-    met (cut_by_all (raised_by facts s) facts.bounds (range_at facts s).lo) (cut_by_all (lowered_by facts) (rows_from facts.bounds s) (range_at facts s).hi)
-    (range_at facts s).hole
+    met (cut_by_all (raised_by facts) (rows_to facts.bounds s) (range_at facts s).lo)
+    (cut_by_all (lowered_by facts) (rows_from facts.bounds s) (range_at facts s).hi) (range_at facts s).hole
 
 -- The numbers of an expression.
 unfoldable pub range_of : Facts → Expr → Span

@@ -7,6 +7,7 @@ use Rattle.domain_api.specs.declared.expr.Expr.{Expr}
 use Rattle.cil_model.specs.Arithmetic.{LEAST, GREATEST}
 use Rattle.interval_domain.specs.Interval.{Interval}
 use Rattle.pentagon_domain.specs.Rows.{with_bound}
+use Rattle.pentagon_domain.specs.declared.bound_row.BoundRow.{BoundRow}
 use Rattle.symbolic_values.specs.declared.def.Def.{Def}
 use Rattle.number_spans.specs.Constants.{constant}
 use Rattle.number_spans.specs.Stored.{range_without}
@@ -38,6 +39,28 @@ related facts t (Is def) = defined facts t def
 abbrev pub related_so : Facts → ℕ → List Relation → Facts
 related_so facts t [] = facts
 related_so facts t (r ∷ rs) = related_so (related facts t r) t rs
+
+-- The bounds and the definitions that are stored of a symbol of which this is known.
+abbrev pub long_row : ℕ → ℕ → ℤ → List BoundRow
+long_row s t k = if is_long k then record { s = s; t = t; k = k } ∷ [] else []
+
+abbrev pub row_of : ℕ → Relation → List BoundRow
+row_of t (AtLeast s k) = long_row s t k
+row_of t (AtMost s k) = long_row t s (neg_ℤ k)
+row_of t (Is def) = []
+
+abbrev pub rows_of : ℕ → List Relation → List BoundRow
+rows_of t [] = []
+rows_of t (r ∷ rs) = row_of t r ++ rows_of t rs
+
+abbrev pub definition_of : ℕ → Relation → List (ℕ × Def)
+definition_of t (AtLeast s k) = []
+definition_of t (AtMost s k) = []
+definition_of t (Is def) = (t, def) ∷ []
+
+abbrev pub definitions_of : ℕ → List Relation → List (ℕ × Def)
+definitions_of t [] = []
+definitions_of t (r ∷ rs) = definition_of t r ++ definitions_of t rs
 
 -- A number of a range: the constant, where it has one number alone, else a new symbol of which this is known.
 unfoldable pub noted : Facts → Interval → List Relation → Made

@@ -9,6 +9,7 @@ ghost use Rattle.number_facts.specs.Facts.{IsNamed};
 ghost use Rattle.number_facts.specs.Holds.{KeepsForm, KeepsTruth};
 
 use crate::numbers::Numbers;
+use crate::relation::Relation;
 use cil_model::BinOp;
 use domain_api::{Expr, NoMemory, Values};
 use interval_domain::Range;
@@ -115,8 +116,8 @@ impl Numbers {
         match self.known(op, a, b) {
             Some(holds) => Ok(constant(i64::from(holds))),
             None => match truth_of(op, a, b) {
-                None => self.noted(bit()),
-                Some(def) => self.noted_as(bit(), def),
+                None => self.noted_with(bit(), &[]),
+                Some(def) => self.noted_with(bit(), &[Relation::Is(def)]),
             },
         }
     }

@@ -3,7 +3,7 @@
 ghost use Rattle.std.specs.Prelude.{◌≡◌, ◌+ℤ◌, ◌-ℤ◌, pos, FitsSigned, if◌then◌else◌};
 ghost use Rattle.std.specs.Int.{w32, int_min, int_max};
 ghost use Rattle.interval_domain.specs.Interval.{inner_hole, is_hole};
-ghost use Rattle.pentagon_domain.specs.Rows.{AreBounds, rows_from};
+ghost use Rattle.pentagon_domain.specs.Rows.{AreBounds, rows_from, rows_to};
 ghost use Rattle.number_spans.specs.Sizes.{IsBounded, IsLong, IsLongHole, IsSmall, IsWide};
 ghost use Rattle.number_facts.specs.Facts.{AreNarrow, IsNamed, IsThere, range_at};
 ghost use Rattle.number_facts.specs.Holds.{AreEndsOf};
@@ -137,15 +137,15 @@ impl Numbers {
         }
     }
 
-    /// The lower end of a symbol, raised by a bound, where that goes to it.
-    #[tactic(auto, using(crate::proofs::Small::narrow_ends), unfolding(crate::specs::Ends::raised_by))]
-    fn raised_by(&self, t: u32, lo: i128, row: &BoundRow) -> i128
+    /// The lower end of a symbol, raised by a bound that goes to it.
+    #[tactic(auto, using(crate::proofs::Small::narrow_ends))]
+    fn raised_by(&self, lo: i128, row: &BoundRow) -> i128
         requires { IsSum lo }
-        ensures value { result ≡ rule.raised_by self.now t lo row.now }
+        ensures value { result ≡ rule.raised_by self.now lo row.now }
         ensures bound { IsSum result }
         ensures small { AreNarrow self.now → IsCut lo → IsCut result }
     {
-        if row.t == t && self.has(row.s) {
+        if self.has(row.s) {
             greater(lo, sum_of(self.range_at(row.s).lo(), row.k))
         } else {
             lo
@@ -168,21 +168,19 @@ impl Numbers {
         hi
     }
 
-    /// The lower end of a symbol, raised by all bounds that go to it. None goes to symbol 0.
+    /// The lower end of a symbol, raised by all bounds that go to it.
     #[tactic(auto, using(crate::proofs::Cutting::cuts, crate::proofs::Small::narrow_ends))]
-    fn lowest(&self, s: u32) -> i128
-        ensures value { result ≡ rule.cut_by_all (rule.raised_by self.now s) self.now.bounds (range_at self.now s).lo }
+    fn lowest(&self, t: u32) -> i128
+        ensures value { result ≡
+            rule.cut_by_all (rule.raised_by self.now) (rows_to self.now.bounds t) (range_at self.now t).lo }
         ensures bound { IsSum result }
         ensures small { AreNarrow self.now → IsCut result }
         ensures form { AreBounds self.now.bounds }
     {
-        let mut lo = wide(self.range_at(s).lo());
-        let rows = self.bounds.rows();
-        if s == 0 {
-            return lo;
-        }
+        let mut lo = wide(self.range_at(t).lo());
+        let rows = self.bounds.rows_to(t);
         for row in rows {
-            lo = self.raised_by(s, lo, row);
+            lo = self.raised_by(lo, row);
         }
         lo
     }

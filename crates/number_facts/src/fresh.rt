@@ -1,18 +1,70 @@
 //! New symbols.
 
-ghost use Rattle.std.specs.Prelude.{◌≡◌, ◌+◌, neg_ℤ, length, IfOk, OnOk, OnErr, [], ◌∷◌};
+ghost use Rattle.std.specs.Prelude.{◌≡◌, ◌+◌, ◌++◌, length, IfOk, OnOk, OnErr, []};
 ghost use Rattle.std.specs.Option.{option_map};
-ghost use Rattle.number_facts.specs.Fresh.{bounded, expr_made, facts_made, fresh, noted, related, related_so};
+ghost use Rattle.number_facts.specs.Fresh.{bounded, expr_made, facts_made, fresh, noted};
+ghost use Rattle.number_facts.specs.Fresh.{definition_of, definitions_of, long_row, row_of, rows_of};
 ghost use Rattle.number_facts.specs.Holds.{KeepsForm, KeepsFresh};
-ghost use Rattle.number_facts.specs.declared.relation.Relation.TheVariants.{Is};
 
 use crate::numbers::Numbers;
 use crate::relation::Relation;
 use domain_api::{Expr, NoMemory};
 use interval_domain::Range;
 use number_spans::{constant, range_without};
+use pentagon_domain::BoundRow;
 use std::alloc::AllocError;
 use symbolic_values::Def;
+
+/// Notes a bound s + k <= t, where k has 64 bits.
+fn note_bound(bounds: &mut Vec<BoundRow>, s: u32, t: u32, k: i128) -> Result<(), NoMemory>
+    ensures { OnOk result (bounds.new.items ≡ bounds.old.items ++ long_row s t k) }
+{
+    match i64::try_from(k) {
+        Ok(k) => {
+            bounds.push(BoundRow { s, t, k })?;
+            Ok(())
+        }
+        Err(_) => Ok(()),
+    }
+}
+
+/// Notes one thing that is known of a symbol.
+fn note(
+    bounds: &mut Vec<BoundRow>,
+    definitions: &mut Vec<(u32, Def)>,
+    t: u32,
+    relation: Relation,
+) -> Result<(), NoMemory>
+    ensures bounds { OnOk result (bounds.new.items ≡ bounds.old.items ++ row_of t relation) }
+    ensures definitions { OnOk result (definitions.new.items ≡ definitions.old.items ++ definition_of t relation) }
+{
+    match relation {
+        Relation::AtLeast(s, k) => note_bound(bounds, s, t, k),
+        Relation::AtMost(_, i128::MIN) => Ok(()),
+        Relation::AtMost(s, k) => note_bound(bounds, t, s, -k),
+        Relation::Is(def) => {
+            definitions.push((t, def))?;
+            Ok(())
+        }
+    }
+}
+
+/// Notes all that is known of a symbol.
+#[tactic(auto, using(crate::proofs::Relating::steps))]
+fn note_all(
+    bounds: &mut Vec<BoundRow>,
+    definitions: &mut Vec<(u32, Def)>,
+    t: u32,
+    known: &[Relation],
+) -> Result<(), NoMemory>
+    ensures bounds { OnOk result (bounds.new.items ≡ bounds.old.items ++ rows_of t known.now) }
+    ensures definitions { OnOk result (definitions.new.items ≡ definitions.old.items ++ definitions_of t known.now) }
+{
+    for relation in known {
+        note(bounds, definitions, t, *relation)?;
+    }
+    Ok(())
+}
 
 impl Numbers {
     /// Stores a bound s + k <= t, where k has 64 bits.
@@ -29,87 +81,32 @@ impl Numbers {
     }
 
     /// The number that the next symbol gets.
-    fn next_symbol(&self) -> Result<u32, NoMemory>
+    pub(crate) fn next_symbol(&self) -> Result<u32, NoMemory>
         ensures { IfOk result (λ sym. sym ≡ length self.now.ranges + 1) }
     {
         u32::try_from(self.ranges.len() + 1).map_err(|_| AllocError)
     }
 
-    /// A number of a range: the constant where it has one alone, else a new symbol.
-    #[tactic(auto, unfolding(crate::specs::Fresh::noted))]
-    pub(crate) fn noted(&mut self, range: Range) -> Result<Expr, NoMemory>
-        ensures value { IfOk result (λ e. e ≡ (noted self.old range []).expr) }
-        ensures facts { OnOk result (self.new ≡ (noted self.old range []).facts) }
-        ensures err { OnErr result (self.new ≡ self.old) }
-    {
-        if range.lo() == range.hi() {
-            return Ok(constant(range.lo()));
-        }
-        let sym = self.next_symbol()?;
-        self.ranges.push(range)?;
-        Ok(Expr { sym, k: 0 })
-    }
-
-    /// A number of a range: the constant where it has one alone, else a new symbol with this definition.
-    #[tactic(auto, unfolding(crate::specs::Fresh::noted, crate::specs::Fresh::defined))]
-    pub(crate) fn noted_as(&mut self, range: Range, def: Def) -> Result<Expr, NoMemory>
-        ensures value { IfOk result (λ e. e ≡ (noted self.old range (Is def ∷ [])).expr) }
-        ensures facts { OnOk result (self.new ≡ (noted self.old range (Is def ∷ [])).facts) }
-        ensures err { OnErr result (self.new ≡ self.old) }
-    {
-        if range.lo() == range.hi() {
-            return Ok(constant(range.lo()));
-        }
-        let sym = self.next_symbol()?;
-        self.definitions.reserve(1)?;
-        self.ranges.push(range)?;
-        self.definitions.push((sym, def))?;
-        Ok(Expr { sym, k: 0 })
-    }
-
-    /// Stores one thing that is known of a symbol.
-    #[tactic(auto, unfolding(crate::specs::Fresh::defined, crate::specs::Fresh::bounded))]
-    fn relate(&mut self, t: u32, relation: Relation) -> Result<(), NoMemory>
-        ensures { OnOk result (self.new ≡ related self.old t relation) }
-    {
-        match relation {
-            Relation::AtLeast(s, k) => self.bound(s, t, k),
-            Relation::AtMost(_, i128::MIN) => Ok(()),
-            Relation::AtMost(s, k) => self.bound(t, s, -k),
-            Relation::Is(def) => {
-                self.definitions.push((t, def))?;
-                Ok(())
-            }
-        }
-    }
-
-    /// Stores all that is known of a symbol.
-    #[tactic(auto, using(crate::proofs::Relating::steps))]
-    fn relate_all(&mut self, t: u32, known: &[Relation]) -> Result<(), NoMemory>
-        ensures { OnOk result (self.new ≡ related_so self.old t known.now) }
-    {
-        for relation in known {
-            self.relate(t, *relation)?;
-        }
-        Ok(())
-    }
-
-    /// A number of a range: the constant where it has one alone, else a new symbol of which this is known. Where that is
-    /// more than the range, it costs a copy of what is known.
-    #[tactic(auto, unfolding(crate::specs::Fresh::noted))]
-    fn noted_with(&mut self, range: Range, known: &[Relation]) -> Result<Expr, NoMemory>
+    /// A number of a range: the constant where it has one alone, else a new symbol of which this is known. It costs
+    /// what is known of it, and the places of its bounds among the others.
+    #[tactic(auto, using(crate::proofs::Relating::stored_so), unfolding(crate::specs::Fresh::noted))]
+    pub(crate) fn noted_with(&mut self, range: Range, known: &[Relation]) -> Result<Expr, NoMemory>
         ensures value { IfOk result (λ e. e ≡ (noted self.old range known.now).expr) }
         ensures facts { OnOk result (self.new ≡ (noted self.old range known.now).facts) }
         ensures err { OnErr result (self.new ≡ self.old) }
     {
-        if known.is_empty() || range.lo() == range.hi() {
-            return self.noted(range);
+        if range.lo() == range.hi() {
+            return Ok(constant(range.lo()));
         }
         let sym = self.next_symbol()?;
-        let mut after = self.copy(*self.ranges.allocator())?;
-        after.ranges.push(range)?;
-        after.relate_all(sym, known)?;
-        *self = after;
+        let mut bounds = Vec::new(*self.ranges.allocator());
+        let mut definitions = Vec::new(*self.ranges.allocator());
+        note_all(&mut bounds, &mut definitions, sym, known)?;
+        self.ranges.reserve(1)?;
+        self.definitions.reserve(definitions.len())?;
+        self.bounds.add_all(&bounds)?;
+        self.ranges.push(range)?;
+        self.definitions.extend_from_slice(&definitions)?;
         Ok(Expr { sym, k: 0 })
     }
 

@@ -1,5 +1,6 @@
 pub mod Searches
 pub mod Puts
+pub mod TargetLists
 pub mod Neighbours
 pub mod Cuts
 pub mod Reaches

@@ -1,12 +1,12 @@
 -- Rows that gain a bound.
-use Rattle.std.proofs.Common.{◌≡◌, ℕ, ℤ, Bool, true, false, List, [], ◌∷◌, ◌++◌, get_or, set, take, drop, refl, sym, ap, subst, ◌∙◌, arith, inl, inr}
-use Rattle.std.specs.Prelude.{if◌then◌else◌}
+use Rattle.std.proofs.Common.{◌≡◌, ℕ, zero, suc, ◌≤◌, ℤ, true, false, List, [], ◌∷◌, ◌++◌, length, get_or, set, take, drop, refl, ap, arith, inl, inr}
 use Rattle.std.specs.Int.{int_max}
 use Rattle.std.specs.List.{AllByRecursion}
 use Rattle.std.proofs.lemmas.Bool.{cases_Bool}
 use Rattle.std.proofs.lemmas.Bool.Decides.{nat_tests}
 use Rattle.pentagon_domain.specs.declared.bound_row.BoundRow.{BoundRow}
 use Rattle.pentagon_domain.specs.Rows.{is_pair, is_before, is_of, is_found, StandsBefore, AreBounds, place_of, put}
+use Rattle.pentagon_domain.specs.Targets.{put_at}
 use Rattle.pentagon_domain.proofs.Searches.{before_trans}
 
 -- The bound of two symbols.
@@ -18,23 +18,27 @@ abbrev pub lifted : BoundRow → ℤ → BoundRow
 lifted row k = record row { k = int_max row.k k }
 
 -- A row that is there gets the greater constant.
-pub put_over : (rows : List BoundRow) (s t : ℕ) (k : ℤ) (d : BoundRow) → is_found rows (place_of rows s t) s t ≡ true
-    → put rows s t k ≡ set rows (place_of rows s t) (lifted (get_or rows (place_of rows s t) d) k)
-put_over [] s t k d found = absurd cc
-put_over (row ∷ rows) s t k d found =
-    elim (cases_Bool (is_before row s t)) [
-      | inl before ↦ let later : is_found rows (place_of rows s t) s t ≡ true = rw before at found in rw before (ap (λ ys. row ∷ ys) (put_over rows s t k d later))
-      | inr behind ↦ let here : is_of row s t ≡ true = rw behind at found in rw (behind, here) refl
-    ]
+pub put_over : (rows : List BoundRow) (place : ℕ) (new d : BoundRow) → is_found rows place new.s new.t ≡ true
+    → put_at rows place new ≡ set rows place (lifted (get_or rows place d) new.k)
+put_over [] place new d found = absurd cc
+put_over (row ∷ rows) zero new d found = let here : is_of row new.s new.t ≡ true = found in rw here refl
+put_over (row ∷ rows) (suc place) new d found = ap (λ ys. row ∷ ys) (put_over rows place new d found)
 
 -- A new one is inserted.
-pub put_new : (rows : List BoundRow) (s t : ℕ) (k : ℤ) → is_found rows (place_of rows s t) s t ≡ false
-    → put rows s t k ≡ take (place_of rows s t) rows ++ bound s t k ∷ drop (place_of rows s t) rows
-put_new [] s t k missing = refl
-put_new (row ∷ rows) s t k missing =
-    elim (cases_Bool (is_before row s t)) [
-      | inl before ↦ let later : is_found rows (place_of rows s t) s t ≡ false = rw before at missing in rw before (ap (λ ys. row ∷ ys) (put_new rows s t k later))
-      | inr behind ↦ let here : is_of row s t ≡ false = rw behind at missing in rw (behind, here) refl
+pub put_new : (rows : List BoundRow) (place : ℕ) (new : BoundRow) → place ≤ length rows → is_found rows place new.s new.t ≡ false
+    → put_at rows place new ≡ take place rows ++ new ∷ drop place rows
+put_new [] zero new inside missing = refl
+put_new [] (suc place) new inside missing = absurd (omega (arith, inside))
+put_new (row ∷ rows) zero new inside missing = let here : is_of row new.s new.t ≡ false = missing in rw here refl
+put_new (row ∷ rows) (suc place) new inside missing = ap (λ ys. row ∷ ys) (put_new rows place new (omega (arith, inside)) missing)
+
+-- At the place of its symbols it is put in order.
+pub put_in_order : (rows : List BoundRow) (new : BoundRow) → put_at rows (place_of rows new.s new.t) new ≡ put rows new.s new.t new.k
+put_in_order [] new = refl
+put_in_order (row ∷ rows) new =
+    elim (cases_Bool (is_before row new.s new.t)) [
+      | inl before ↦ rw before (ap (λ ys. row ∷ ys) (put_in_order rows new))
+      | inr behind ↦ rw behind refl
     ]
 
 -- ---- they are rows of bounds again
@@ -73,13 +77,8 @@ put_bounds (row ∷ rows) s t k pair form =
           ]
     ]
 
-pub form_of_insert : (b : Bool) (rows : List BoundRow) (s t : ℕ) (k : ℤ) (after : List BoundRow) (place : ℕ) → AreBounds rows → is_pair s t ≡ true
-    → is_found rows place s t ≡ false → place ≡ place_of rows s t → after ≡ (if b then take place rows ++ bound s t k ∷ drop place rows else rows) → AreBounds after
-form_of_insert true rows s t k after place form pair missing is ends =
-    let there : is_found rows (place_of rows s t) s t ≡ false = rw is at missing in
-    let put_is : after ≡ put rows s t k = (rw is at ends) ∙ sym (put_new rows s t k there) in
-    subst AreBounds (sym put_is) (put_bounds rows s t k pair form)
-form_of_insert false rows s t k after place form pair missing is ends = subst AreBounds (sym ends) form
+-- What a row at a place rests on.
+pub ruleset puts = (put_over, put_new)
 
--- What an addition of a bound rests on.
-pub ruleset puts = (put_over, put_new, put_bounds)
+-- What a row in order rests on.
+pub ruleset in_order = (put_in_order, put_bounds)

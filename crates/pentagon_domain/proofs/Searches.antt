@@ -5,7 +5,7 @@ use Rattle.std.specs.List.Sorted.{IsPartitionedBy, IsNonDecreasingBy}
 use Rattle.std.proofs.lemmas.Bool.{cases_Bool, cases_order, and_parts, eq-eqb, ne_eqb, le-leb, lt-leb}
 use Rattle.std.proofs.lemmas.Bool.Decides.{nat_tests}
 use Rattle.pentagon_domain.specs.declared.bound_row.BoundRow.{BoundRow}
-use Rattle.pentagon_domain.specs.Rows.{is_before, is_of, is_found, StandsBefore, AreBounds, rows_from, stored, place_of}
+use Rattle.pentagon_domain.specs.Rows.{is_before, is_of, is_found, StandsBefore, AreBounds, stored, place_of}
 
 -- ---- the row at a place
 
@@ -101,15 +101,15 @@ passing_rest p (x ∷ xs) (suc k) le front behind =
     (passing_rest p xs k (omega (arith, le)) (λ j d low high. front (suc j) d (omega arith) (omega (arith, high)))
     (λ j d low high. behind (suc j) d (omega (arith, low)) (omega (arith, high))))
 
--- The rows from a symbol on and up to it are those of the symbol.
-pub from_and_up_to : (rows : List BoundRow) (s : ℕ) → filter (λ row. nat_le row.s s) (filter (λ row. nat_le s row.s) rows) ≡ rows_from rows s
-from_and_up_to [] s = refl
-from_and_up_to (row ∷ rows) s =
-    let rest = from_and_up_to rows s in
-    elim (cases_order row.s s) [
-      | inl same ↦ rw (le-leb s row.s (omega (arith, same)), le-leb row.s s (omega (arith, same)), eq-eqb row.s s same) (ap (λ ys. row ∷ ys) rest)
-      | inr (inl low) ↦ rw (lt-leb s row.s low, ne_eqb row.s s (λ e. omega (arith, e, low))) rest
-      | inr (inr high) ↦ rw (le-leb s row.s (omega (arith, high)), lt-leb row.s s high, ne_eqb row.s s (λ e. omega (arith, e, high))) rest
+-- Items from a number on and up to it are those of the number.
+pub from_and_up_to : {X : Type 0} (n : X → ℕ) (xs : List X) (s : ℕ) → filter (λ x. nat_le (n x) s) (filter (λ x. nat_le s (n x)) xs) ≡ filter (λ x. n x == s) xs
+from_and_up_to n [] s = refl
+from_and_up_to n (x ∷ xs) s =
+    let rest = from_and_up_to n xs s in
+    elim (cases_order (n x) s) [
+      | inl same ↦ rw (le-leb s (n x) (omega (arith, same)), le-leb (n x) s (omega (arith, same)), eq-eqb (n x) s same) (ap (λ ys. x ∷ ys) rest)
+      | inr (inl low) ↦ rw (lt-leb s (n x) low, ne_eqb (n x) s (λ e. omega (arith, e, low))) rest
+      | inr (inr high) ↦ rw (le-leb s (n x) (omega (arith, high)), lt-leb (n x) s high, ne_eqb (n x) s (λ e. omega (arith, e, high))) rest
     ]
 
 -- ---- the constant of two symbols
@@ -137,7 +137,7 @@ stored_found (row ∷ rows) s t d found =
       | inr behind ↦ let here : is_of row s t ≡ true = rw behind at found in rw behind (hit row rows s t here)
     ]
 
-later_other : (row later : BoundRow) (s t : ℕ) → is_before row s t ≡ false → is_of row s t ≡ false → is_before row later.s later.t ≡ true → is_of later s t ≡ false
+pub later_other : (row later : BoundRow) (s t : ℕ) → is_before row s t ≡ false → is_of row s t ≡ false → is_before row later.s later.t ≡ true → is_of later s t ≡ false
 later_other row later s t behind other before = grind (arith, nat_tests)
 
 nothing_later : (row : BoundRow) (rows : List BoundRow) (s t : ℕ) → is_before row s t ≡ false → is_of row s t ≡ false → AllByRecursion (StandsBefore row) rows → stored rows s t ≡ None

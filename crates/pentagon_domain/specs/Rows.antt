@@ -29,6 +29,10 @@ AreBounds (row ∷ rows) = IsTrue (is_pair row.s row.t) × AllByRecursion (Stand
 abbrev pub rows_from : List BoundRow → ℕ → List BoundRow
 rows_from rows s = filter (λ row. row.s == s) rows
 
+-- The rows that go to a symbol.
+abbrev pub rows_to : List BoundRow → ℕ → List BoundRow
+rows_to rows t = filter (λ row. row.t == t) rows
+
 -- The constant of the row that goes to a symbol.
 abbrev pub constant_to : List BoundRow → ℕ → Option ℤ
 constant_to [] t = None
@@ -63,3 +67,8 @@ put (row ∷ rows) s t k = if is_before row s t then row ∷ put rows s t k else
 -- The rows behind the addition of a bound: nothing is stored of equal symbols, and of symbol 0.
 abbrev pub with_bound : List BoundRow → ℕ → ℕ → ℤ → List BoundRow
 with_bound rows s t k = if is_pair s t then put rows s t k else rows
+
+-- The rows behind the additions of bounds, one after another.
+abbrev pub with_bounds : List BoundRow → List BoundRow → List BoundRow
+with_bounds rows [] = rows
+with_bounds rows (bound ∷ bounds) = with_bounds (with_bound rows bound.s bound.t bound.k) bounds

@@ -3,9 +3,10 @@
 ghost use Rattle.std.specs.Prelude.{◌≡◌, ℕ, ℤ, [], ◌↔◌, IsSome, IfSome, IsTrue, IfOk, OnOk, OnErr};
 
 use crate::bound_row::BoundRow;
-use crate::changes::add;
+use crate::changes::{add, add_all};
 use crate::forms::{are_bounds, are_same};
-use crate::search::{rows_from, stored};
+use crate::search::{rows_from, rows_to, stored};
+use crate::targets::by_target;
 use domain_api::NoMemory;
 use std::alloc::Global;
 use std::marker::Model;
@@ -15,22 +16,26 @@ use std::marker::Model;
 #[derive(Drop)]
 pub struct Bounds {
     rows: Vec<BoundRow>,
+    /// The same rows, rising by the second symbol, then by the first.
+    targets: Vec<BoundRow>,
 }
 
 impl Model for Bounds {
     ghost use Rattle.std.specs.Prelude.{List};
     ghost use Rattle.pentagon_domain.specs.declared.bound_row.BoundRow.{BoundRow};
     ghost use Rattle.pentagon_domain.specs.Rows.{AreBounds};
+    ghost use Rattle.pentagon_domain.specs.Targets.{AreTargets};
 
     ghost Value = { List BoundRow };
 
     ghost view = { λ bounds. bounds.rows.items };
 
-    ghost invariant = { λ bounds. AreBounds bounds.rows.items };
+    ghost invariant = { λ bounds.
+        AreBounds bounds.rows.items × AreTargets bounds.targets.items bounds.rows.items };
 }
 
 impl Bounds {
-    ghost use Rattle.pentagon_domain.specs.Rows.{AreBounds, rows_from, stored, with_bound};
+    ghost use Rattle.pentagon_domain.specs.Rows.{AreBounds, rows_from, rows_to, stored, with_bound, with_bounds};
     ghost use Rattle.pentagon_domain.specs.Gaps.{Allows, LiesAbove};
 
     /// No bound. Takes no memory.
@@ -39,6 +44,7 @@ impl Bounds {
     {
         Bounds {
             rows: Vec::new(alloc),
+            targets: Vec::new(alloc),
         }
     }
 
@@ -48,20 +54,21 @@ impl Bounds {
     {
         Ok(Bounds {
             rows: Vec::with_capacity(alloc, count)?,
+            targets: Vec::with_capacity(alloc, count)?,
         })
     }
 
     /// The bounds of these rows. None exactly where they are not in order, each pair once, or one is of equal symbols
-    /// or of symbol 0. Takes no memory, and costs one pass.
-    pub fn of_rows(rows: Vec<BoundRow>) -> Option<Bounds>
-        ensures some { IsSome result ↔ AreBounds rows.items }
-        ensures value { IfSome result (λ bounds. bounds ≡ rows.items) }
+    /// or of symbol 0. Costs one pass, a copy, and a sort of that.
+    pub fn of_rows(alloc: Global, rows: Vec<BoundRow>) -> Result<Option<Bounds>, NoMemory>
+        ensures some { IfOk result (λ made. IsSome made ↔ AreBounds rows.items) }
+        ensures value { IfOk result (λ made. IfSome made (λ bounds. bounds ≡ rows.items)) }
     {
-        if are_bounds(&rows) {
-            Some(Bounds { rows })
-        } else {
-            None
+        if !are_bounds(&rows) {
+            return Ok(None);
         }
+        let targets = by_target(alloc, &rows)?;
+        Ok(Some(Bounds { rows, targets }))
     }
 
     /// The rows, rising by the first symbol, then by the second. Takes no memory.
@@ -80,6 +87,14 @@ impl Bounds {
         rows_from(&self.rows, s)
     }
 
+    /// The rows that go to a symbol, rising by the first one. They are found by halving; no memory is taken.
+    pub fn rows_to(&self, t: u32) -> &[BoundRow]
+        ensures value { result.now ≡ rows_to self.now t }
+        ensures form { AreBounds self.now }
+    {
+        rows_to(&self.targets, t)
+    }
+
     /// The constant of the bound of two symbols. It is found by halving; no memory is taken.
     pub fn stored(&self, s: u32, t: u32) -> Option<i64>
         ensures { result ≡ stored self.now s t }
@@ -90,8 +105,8 @@ impl Bounds {
     /// Adds the bound s + k <= t; of two bounds of the same symbols the greater k is kept. Where the
     /// symbols are equal or one is 0, nothing is stored. After an error nothing has changed.
     ///
-    /// The place is found by halving, and a new row moves those behind it: rows that come in their order cost the
-    /// search alone.
+    /// Its places, by the first symbol and by the second, are found by halving, and a new row moves those behind it in
+    /// both orders.
     #[tactic(auto, using(crate::proofs::Allowing::with_bound_allows))]
     pub fn add_bound(&mut self, s: u32, t: u32, k: i64) -> Result<(), NoMemory>
         ensures value { OnOk result (self.new ≡ with_bound self.old s t k) }
@@ -99,7 +114,16 @@ impl Bounds {
         ensures keeps { OnOk result ((number : ℕ → ℤ) → Allows self.old number → LiesAbove number s t k →
             Allows self.new number) }
     {
-        add(&mut self.rows, BoundRow { s, t, k })
+        add(&mut self.rows, &mut self.targets, BoundRow { s, t, k })
+    }
+
+    /// Adds bounds one after another, each as `add_bound` does. After an error nothing has changed: room for all is
+    /// taken first.
+    pub fn add_all(&mut self, bounds: &[BoundRow]) -> Result<(), NoMemory>
+        ensures value { OnOk result (self.new ≡ with_bounds self.old bounds.now) }
+        ensures unchanged { OnErr result (self.new ≡ self.old) }
+    {
+        add_all(&mut self.rows, &mut self.targets, bounds)
     }
 
     /// The same bounds again. Costs one pass.
@@ -108,6 +132,7 @@ impl Bounds {
     {
         Ok(Bounds {
             rows: Vec::from_slice(alloc, self.rows.as_slice())?,
+            targets: Vec::from_slice(alloc, self.targets.as_slice())?,
         })
     }
 

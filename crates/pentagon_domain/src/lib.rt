@@ -8,6 +8,7 @@ mod forms;
 mod gaps;
 mod order;
 mod search;
+mod targets;
 
 pub use bound_row::BoundRow;
 pub use bounds::Bounds;

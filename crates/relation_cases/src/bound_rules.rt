@@ -59,9 +59,7 @@ pub fn add(bounds: &mut Bounds, argument: &str) -> Result<(), Failure> {
 pub fn bounds(alloc: Global, argument: &str) -> Result<Bounds, Failure> {
     let rows = rows_of(alloc, argument)?;
     let mut bounds = Bounds::with_capacity(alloc, rows.len())?;
-    for row in &rows {
-        bounds.add_bound(row.s, row.t, row.k)?;
-    }
+    bounds.add_all(&rows)?;
     Ok(bounds)
 }
 
@@ -76,10 +74,16 @@ pub fn rows_from(alloc: Global, bounds: &Bounds, argument: &str) -> Result<(), F
     check(rows_text(alloc, bounds.rows_from(symbol(s)?))?, told)
 }
 
+/// `rows-to s2 = s1+3 <= s2`: what is stored to a symbol.
+pub fn rows_to(alloc: Global, bounds: &Bounds, argument: &str) -> Result<(), Failure> {
+    let (t, told) = asked(argument)?;
+    check(rows_text(alloc, bounds.rows_to(symbol(t)?))?, told)
+}
+
 /// `made s1+3 <= s2 = yes`: whether rows in this order are bounds. Where they are, they come again, also of a copy.
 pub fn made(alloc: Global, argument: &str) -> Result<(), Failure> {
     let (question, told) = asked(argument)?;
-    let Some(bounds) = Bounds::of_rows(rows_of(alloc, question)?) else {
+    let Some(bounds) = Bounds::of_rows(alloc, rows_of(alloc, question)?)? else {
         return check_yes(alloc, false, told);
     };
     check_yes(alloc, true, told)?;

@@ -3,7 +3,7 @@ use Rattle.std.proofs.Common.{◌≡◌, ℕ, ◌==◌, ◌+◌, ◌<◌, ℤ, n
 use Rattle.std.specs.Prelude.{pos, IfSome}
 use Rattle.std.specs.List.{AllByRecursion}
 use Rattle.std.specs.Int.{int_min, int_max}
-use Rattle.std.specs.Option.{ForSome, option_map}
+use Rattle.std.specs.Option.{option_map}
 use Rattle.std.proofs.lemmas.Bool.{cond_both}
 use Rattle.cil_model.specs.Arithmetic.{LEAST, GREATEST}
 use Rattle.cil_model.specs.declared.instruction.BinOp.{BinOp}
@@ -15,8 +15,8 @@ use Rattle.number_spans.specs.Spans.{is_not_negative}
 use Rattle.number_spans.specs.Stored.{range_without}
 use Rattle.number_facts.proofs.ResultForms.{result_form, result_there}
 use Rattle.number_facts.proofs.ResultNames.{all_both}
-use Rattle.number_facts.specs.Additions.{at_most, beside, difference_relations, difference_span, is_inside, sum_relations, sum_span, uppers}
-use Rattle.number_facts.specs.Arith.{are_plain, common_relations, is_above_one, is_kept, is_positive, no_more, outcome, quotient_relations, relations, remainder_relations, settled, shift_relations, where_so}
+use Rattle.number_facts.specs.Additions.{at_most, difference_relations, difference_span, is_inside, sum_relations, sum_span, uppers}
+use Rattle.number_facts.specs.Arith.{are_plain, common_relations, is_above_one, is_kept, is_positive, no_more, outcome, quotient_relations, relations, remainder_relations, settled, where_so}
 use Rattle.number_facts.specs.Ends.{range_of}
 use Rattle.number_facts.specs.Facts.{AreNarrow, Facts, IsThere}
 use Rattle.number_facts.specs.Fresh.{Made, bounded, defined, expr_made, facts_made, fresh, is_long, noted, related_so}
@@ -27,7 +27,7 @@ use Rattle.number_facts.specs.declared.relation.Relation.{Relation}
 use Rattle.number_facts.specs.declared.relation.Relation.TheVariants.{AtLeast, AtMost, Is}
 use Rattle.symbolic_values.specs.declared.def.Def.{Def}
 use Rattle.state_facts.specs.Arithmetic.{with_result}
-use Rattle.state_facts.specs.Forms.{HasForm, HasNumber, IsNumber, TestsOf}
+use Rattle.state_facts.specs.Forms.{HasForm, HasNumber, TestsOf}
 use Rattle.state_facts.specs.Moves.{on_top}
 use Rattle.state_facts.specs.StateFacts.{StateFacts}
 use Rattle.state_facts.proofs.ComparisonForms.{grows_by}

@@ -1,5 +1,5 @@
 -- What results of operators keep: what is pushed is what the machine's operator gives.
-use Rattle.std.proofs.Common.{◌≡◌, ℕ, ℤ, ◌≤ℤ◌, Option, Some, None, List, [], ◌∷◌, ◌++◌, length, FitsSigned, w32, refl, sym, ap, subst, ◌∙◌}
+use Rattle.std.proofs.Common.{◌≡◌, ℕ, ℤ, Option, Some, None, List, [], ◌∷◌, ◌++◌, FitsSigned, w32, refl, sym, ap, subst, ◌∙◌}
 use Rattle.std.specs.Prelude.{Ok}
 use Rattle.std.specs.Option.{ForSome, option_map}
 use Rattle.alias_facts.specs.Arrays.{is_no_array}

@@ -1,6 +1,5 @@
 -- What loops over lists find.
 use Rattle.std.proofs.Common.{◌≡◌, ℕ, zero, suc, ◌==◌, ◌+◌, ◌-◌, ◌≤◌, ◌<◌, Bool, true, false, List, [], ◌∷◌, length, get_or, drop, drop-cons, add-one, slice_get, Some, None, refl, arith}
-use Rattle.std.specs.Prelude.{nat_le}
 use Rattle.std.proofs.lemmas.List.{drop_all}
 use Rattle.symbolic_values.specs.declared.def.Def.{Def}
 use Rattle.alias_facts.specs.PairsOf.{Pair, ordered, with_pair}

@@ -34,7 +34,7 @@ returned apart place known made = record {
   variables = known.variables ++ vars.Reference (length known.references + 1) ∷ [];
   facts = made.facts;
   references = known.references
-    ++ record { place = place; nullness = May; length = made.expr; contents = record {} } ∷ [];
+      ++ record { place = place; nullness = May; length = made.expr; contents = record {} } ∷ [];
   apart = apart;
 }
 

@@ -105,6 +105,6 @@ with_array place length_is known = record {
   variables = known.variables ++ vars.Reference (length known.references + 1) ∷ [];
   facts = known.facts;
   references = known.references
-    ++ record { place = place; nullness = NotNull; length = length_is; contents = record {} } ∷ [];
+      ++ record { place = place; nullness = NotNull; length = length_is; contents = record {} } ∷ [];
   apart = with_all_before (length known.references + 1) known.apart;
 }

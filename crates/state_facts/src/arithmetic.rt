@@ -11,7 +11,13 @@ use domain_api::{Expr, NoMemory};
 use frame_names::Var;
 
 impl Known {
-    /// Pushes the result of an operator. False: nothing is reached.
+    /// Pushes the result of an operator other than a comparison, on int32. False: there is none, and nothing is reached.
+    ///
+    /// The caller owes a constant that divides other than 0, and one to shift by from 0 to 31.
+    ///
+    /// # Errors
+    ///
+    /// Want of memory leaves what was known.
     #[tactic(auto, unfolding(crate::specs::Arithmetic::with_result))]
     pub fn arith(&mut self, op: BinOp, a: Expr, b: Expr) -> Result<bool, NoMemory>
         requires first { IsThere self.old.facts a }

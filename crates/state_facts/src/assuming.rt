@@ -261,15 +261,16 @@ impl Known {
         }
     }
 
-    /// A comparison holds, or does not. False: nothing is reached.
+    /// Assumes that a comparison holds, or where the flag is false, that it does not, and what follows from that by
+    /// eight definitions at most, one after another. False: it cannot be so, and nothing is reached.
+    ///
+    /// Cost: where a definition follows, what is known of numbers is copied, and put back where memory runs out.
+    ///
+    /// # Errors
+    ///
+    /// Want of memory leaves what was known.
     #[tactic(auto, unfolding(crate::specs::Assuming::assumed))]
-    pub fn assume(
-        &mut self,
-        op: CmpOp,
-        a: Var,
-        b: Var,
-        holds: bool,
-    ) -> Result<bool, NoMemory>
+    pub fn assume(&mut self, op: CmpOp, a: Var, b: Var, holds: bool) -> Result<bool, NoMemory>
         requires form { HasForm self.old }
         requires first { IsNamedNumber self.old a }
         requires second { IsNamedNumber self.old b }

@@ -73,14 +73,16 @@ impl Known {
         Ok(true)
     }
 
-    /// Pushes what a call gives to which these variables were passed. False: nothing is reached.
+    /// Pushes what a call gives to which so many variables were passed, from the first one on, counted from 0: a value
+    /// of this type, or nothing. False: nothing is reached.
+    ///
+    /// Cost: of an array, each reference is compared with each that is passed.
+    ///
+    /// # Errors
+    ///
+    /// Want of memory leaves what was known.
     #[tactic(auto, unfolding(crate::specs::Calls::with_call))]
-    pub fn forget(
-        &mut self,
-        first: usize,
-        args: usize,
-        place: Place,
-    ) -> Result<bool, NoMemory>
+    pub fn forget(&mut self, first: usize, args: usize, place: Place) -> Result<bool, NoMemory>
         requires { first + args ≤ length self.old.variables }
         ensures reached { IfOk result (λ reached. reached ≡ is_some (rule.with_call first args place self.old)) }
         ensures ok { IfOk result (λ reached. reached ≡ true →

@@ -142,7 +142,12 @@ impl Known {
         self.push_number(0, 1)
     }
 
-    /// Pushes the truth of a comparison. False: nothing is reached.
+    /// Pushes the truth of a comparison, 1 or 0, or a number of both. Of two references it is whether they are the same
+    /// array, or are not. False: nothing is reached.
+    ///
+    /// # Errors
+    ///
+    /// Want of memory leaves what was known.
     #[tactic(auto, unfolding(crate::specs::Comparing::with_comparison))]
     pub fn compare(&mut self, op: BinOp, a: Var, b: Var) -> Result<bool, NoMemory>
         requires first { IsNamedNumber self.old a }

@@ -18,9 +18,11 @@ use std::marker::Model;
 pub struct Known {
     /// What each variable has: the arguments at the entry, the arguments, the locals, the stack from the bottom.
     pub variables: Vec<Var>,
+    /// What is known of symbols, of which expressions speak.
     pub numbers: Numbers,
     /// What is known of each reference, that of reference r at place r - 1.
     pub references: Vec<Reference<Unknown>>,
+    /// Which references are known not to be the same array.
     pub apart: Apart,
 }
 
@@ -38,7 +40,11 @@ impl Model for Known {
 }
 
 impl Known {
-    /// The same again.
+    /// The same again. Costs one pass over all lists.
+    ///
+    /// # Errors
+    ///
+    /// Want of memory.
     pub fn copy(&self, alloc: Global) -> Result<Known, NoMemory>
         ensures { IfOk result (λ again. again ≡ self.now) }
     {
@@ -52,7 +58,7 @@ impl Known {
 
     /// What is known of a reference. None for reference 0, which is null.
     #[tactic(auto, unfolding(crate::specs::StateFacts::reference_at))]
-    pub(crate) fn reference_at(&self, r: u32) -> Option<Reference<Unknown>>
+    pub fn reference_at(&self, r: u32) -> Option<Reference<Unknown>>
         ensures { result ≡ rule.reference_at self.now.references r }
     {
         if r == 0 {
@@ -61,7 +67,7 @@ impl Known {
         self.references.get(r as usize - 1).copied()
     }
 
-    /// What is known of whether a reference is null.
+    /// What is known of whether reference r is null. Reference 0 is, and so is one that is not there.
     pub fn nullness(&self, r: u32) -> Nullness
         ensures { result ≡ rule.nullness_at self.now r }
     {
@@ -71,7 +77,7 @@ impl Known {
         }
     }
 
-    /// The length of a reference.
+    /// The length of the array that reference r is, in items. That of reference 0, and of one that is not there, is 0.
     pub fn length(&self, r: u32) -> Expr
         ensures { result ≡ rule.length_at self.now r }
     {
@@ -101,7 +107,7 @@ impl Known {
             .cannot_be_same(r, q, same_place, self.nullness(r), self.nullness(q))
     }
 
-    /// The number that the next reference gets.
+    /// The number that the next reference gets. Want of memory where there are as many references as a `u32` counts.
     pub(crate) fn next_reference(&self) -> Result<u32, NoMemory>
         ensures { IfOk result (λ r. r ≡ length self.now.references + 1) }
     {

@@ -59,7 +59,11 @@ fn item_place(place: Place) -> Place
 }
 
 impl Known {
-    /// Pushes what is known of a value.
+    /// Pushes what is known of a value: one variable more, on top of the stack.
+    ///
+    /// # Errors
+    ///
+    /// Want of memory leaves what was known.
     pub fn push(&mut self, v: Var) -> Result<(), NoMemory>
         ensures ok { OnOk result (self.new ≡ rule.pushed self.old v) }
         ensures err { OnErr result (self.new ≡ self.old) }
@@ -68,7 +72,7 @@ impl Known {
         Ok(())
     }
 
-    /// Takes the top, if there is one.
+    /// Takes the top of the stack, the last variable, if there is one.
     #[tactic(auto, unfolding(crate::specs::Moves::popped))]
     pub fn pop(&mut self)
         ensures { self.new ≡ rule.popped self.old }
@@ -107,7 +111,12 @@ impl Known {
         Ok(true)
     }
 
-    /// Puts a value into a variable. False: nothing is reached.
+    /// Puts a value into variable i, counted from 0, as the machine puts it into a place of this type: into a bool goes
+    /// a number from 0 to 255, and of another number nothing more is known. False: nothing is reached.
+    ///
+    /// # Errors
+    ///
+    /// Want of memory leaves what was known.
     #[tactic(auto, unfolding(crate::specs::Moves::with_put))]
     pub fn put(&mut self, i: usize, v: Var, place: Place) -> Result<bool, NoMemory>
         requires there { i < length self.old.variables }
@@ -135,7 +144,11 @@ impl Known {
         }
     }
 
-    /// Pushes an item of an array. False: there is none.
+    /// Pushes an item of array r: a number from 0 to 255 of an array of bool, else an int32. False: nothing is reached.
+    ///
+    /// # Errors
+    ///
+    /// Want of memory leaves what was known.
     #[tactic(auto, unfolding(crate::specs::Moves::with_item))]
     pub fn load(&mut self, r: u32) -> Result<bool, NoMemory>
         ensures reached { IfOk result (λ reached. reached ≡ is_some (rule.with_item r self.old)) }
@@ -146,7 +159,12 @@ impl Known {
         self.push_number(lo, hi)
     }
 
-    /// Stores a number into an array. Nothing is known of what arrays hold. False: nothing is reached.
+    /// Stores a number into array r. Nothing is known of what arrays hold, so that no variable and no reference changes.
+    /// False: nothing is reached.
+    ///
+    /// # Errors
+    ///
+    /// Want of memory leaves what was known.
     #[tactic(auto, unfolding(crate::specs::Moves::with_stored))]
     pub fn store(&mut self, r: u32, value: Expr) -> Result<bool, NoMemory>
         requires { IsNamed self.old.facts value }
@@ -159,7 +177,11 @@ impl Known {
         Ok(made.is_some())
     }
 
-    /// Pushes a new array.
+    /// Pushes a new array of this type and length in items. It is not null, and none of the references that are there.
+    ///
+    /// # Errors
+    ///
+    /// Want of memory leaves what was known.
     #[tactic(auto, unfolding(crate::specs::Moves::with_array))]
     pub fn new_array(&mut self, place: Place, length: Expr) -> Result<(), NoMemory>
         ensures ok { OnOk result (self.new ≡ rule.with_array place length self.old) }

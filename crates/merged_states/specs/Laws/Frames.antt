@@ -1,5 +1,5 @@
 -- Variables and references of a state that holds: what they are worth, and what they are in new names.
-use Rattle.std.proofs.Common.{◌≡◌, ℕ, zero, suc, ◌+◌, ◌-◌, ◌==◌, ◌<◌, ◌^◌, ℤ, pos, ◌+ℤ◌, Bool, true, false, List, [], ◌∷◌, ◌++◌, length, map, slice_get, get_or, Option, Some, None, FitsSigned, w32, refl, sym, ap, ◌∙◌, subst, inl, inr, arith}
+use Rattle.std.proofs.Common.{◌≡◌, ℕ, zero, suc, ◌-◌, ◌==◌, ◌<◌, ◌^◌, ℤ, pos, ◌+ℤ◌, Bool, false, List, [], ◌∷◌, ◌++◌, map, slice_get, Option, Some, None, FitsSigned, w32, refl, sym, ap, ◌∙◌, subst, inl, inr, arith}
 use Rattle.std.specs.Prelude.{if◌then◌else◌}
 use Rattle.std.specs.List.{AllByRecursion}
 use Rattle.std.proofs.lemmas.Bool.{cases_Bool}
@@ -8,9 +8,8 @@ use Rattle.std.proofs.lemmas.Int.{ints}
 use Rattle.domain_api.specs.declared.expr.Expr.{Expr}
 use Rattle.alias_facts.specs.Arrays.{is_no_array}
 use Rattle.alias_facts.specs.NullnessOf.{Agrees}
-use Rattle.alias_facts.specs.declared.nullness.Nullness.TheVariants.{Null}
 use Rattle.cil_model.specs.Comparisons.{number_of, reference_of}
-use Rattle.cil_model.specs.Values.{Heap, IsArray, IsHeap}
+use Rattle.cil_model.specs.Values.{Heap, IsHeap}
 use Rattle.cil_model.specs.declared.machine.Value.{Value}
 use Rattle.cil_model.specs.declared.machine.Value.TheVariants as values
 use Rattle.cil_model.specs.declared.place.Place.{Place}
@@ -34,7 +33,8 @@ use Rattle.merged_states.specs.Laws.Uses.{AllFit}
 
 -- ---- variables
 
-pub vars_fit : (number : ℕ → ℤ) (array : ℕ → Option ℕ) (vs : List Var) (values : List Value) → HaveValues number array vs values
+pub vars_fit : (number : ℕ → ℤ) (array : ℕ → Option ℕ) (vs : List Var) (values : List Value)
+    → HaveValues number array vs values
     → AllByRecursion IsMachineNumber values → AllFit number (numbers_of vs)
 vars_fit number array [] values has fit = tt
 vars_fit number array (v ∷ vs) [] has fit = absurd has
@@ -74,7 +74,8 @@ AreSaid [] [] = Unit {0}
 AreSaid (x ∷ xs) (value ∷ values) = IsSaid x value × AreSaid xs values
 AreSaid _ _ = ⊥
 
-said_by : (number : ℕ → ℤ) (array : ℕ → Option ℕ) (vs : List Var) (values : List Value) → HaveValues number array vs values
+said_by : (number : ℕ → ℤ) (array : ℕ → Option ℕ) (vs : List Var) (values : List Value)
+    → HaveValues number array vs values
     → AreSaid (map (said number array) vs) values
 said_by number array [] [] have = have
 said_by number array [] (value ∷ values) have = have
@@ -83,7 +84,8 @@ said_by number array (vars.Number e ∷ vs) (value ∷ values) have = (have.0, s
 said_by number array (vars.Reference r ∷ vs) (value ∷ values) have = (have.0, said_by number array vs values have.1)
 said_by number array (vars.Text ∷ vs) (value ∷ values) have = (have.0, said_by number array vs values have.1)
 
-have_said : (number : ℕ → ℤ) (array : ℕ → Option ℕ) (vs : List Var) (values : List Value) → AreSaid (map (said number array) vs) values
+have_said : (number : ℕ → ℤ) (array : ℕ → Option ℕ) (vs : List Var) (values : List Value)
+    → AreSaid (map (said number array) vs) values
     → HaveValues number array vs values
 have_said number array [] [] are = are
 have_said number array [] (value ∷ values) are = are
@@ -94,9 +96,11 @@ have_said number array (vars.Text ∷ vs) (value ∷ values) are = (are.0, have_
 
 -- Variables that say the same have the same values.
 pub have_same : (number later : ℕ → ℤ) (array later_array : ℕ → Option ℕ) (new old : List Var) (values : List Value)
-    → map (said later later_array) new ≡ map (said number array) old → HaveValues number array old values → HaveValues later later_array new values
+    → map (said later later_array) new ≡ map (said number array) old → HaveValues number array old values
+    → HaveValues later later_array new values
 have_same number later array later_array new old values same have =
-    have_said later later_array new values (subst (λ xs. AreSaid xs values) (sym same) (said_by number array old values have))
+    have_said later later_array new values
+    (subst (λ xs. AreSaid xs values) (sym same) (said_by number array old values have))
 
 -- ---- references
 
@@ -110,11 +114,13 @@ one_back : (r : ℕ) → r ≡ suc r - 1
 one_back r = omega arith
 
 -- Both tables of references are read alike.
-pub same_entry : (references : List (Reference Unknown)) (r : ℕ) → states.reference_at references r ≡ frames.reference_at references r
+pub same_entry : (references : List (Reference Unknown)) (r : ℕ)
+    → states.reference_at references r ≡ frames.reference_at references r
 unfolding states.reference_at
 same_entry references zero = refl
 same_entry references (suc r) =
-    ap (slice_get references) (one_back r) ∙ sym (ap (λ b. if b then None else slice_get references (suc r - 1)) (not_zero r))
+    ap (slice_get references) (one_back r)
+    ∙ sym (ap (λ b. if b then None else slice_get references (suc r - 1)) (not_zero r))
 
 few_items : (heap : Heap) (i : ℕ) → IsHeap heap → holds.length_in heap i < 2 ^ 31
 few_items [] i arrays = grind arith
@@ -132,7 +138,8 @@ length_fits heap None arrays = none_fits
 length_fits heap (Some i) arrays = few_fits (holds.length_in heap i) (few_items heap i arrays)
 
 -- What is so of a reference: of one that is not there, that it is null.
-pub record IsEntry (heap : Heap) (number : ℕ → ℤ) (references : List (Reference Unknown)) (r : ℕ) (array : Option ℕ) : Type 0 where
+pub record IsEntry (heap : Heap) (number : ℕ → ℤ) (references : List (Reference Unknown)) (r : ℕ)
+    (array : Option ℕ) : Type 0 where
   pub length_is : worth number (length_at references r) ≡ length_of_array heap array
   pub agrees : Agrees (nullness_at references r) (is_no_array array)
   pub fits : (place : Place) → place_at references r ≡ Some place → FitsArray heap place array
@@ -144,10 +151,12 @@ no_length n is = omega (arith, ints, is)
 some_place : (a b : Place) → Some a ≡ Some b → a ≡ b
 some_place a b same = cc
 
-no_entry : (heap : Heap) (number : ℕ → ℤ) (references : List (Reference Unknown)) (r : ℕ) (array : Option ℕ) → number 0 ≡ pos 0 → array ≡ None
+no_entry : (heap : Heap) (number : ℕ → ℤ) (references : List (Reference Unknown)) (r : ℕ) (array : Option ℕ)
+    → number 0 ≡ pos 0 → array ≡ None
     → frames.reference_at references r ≡ None → IsEntry heap number references r array
 no_entry heap number references r array start none at = record {
-  length_is = ap (λ o. worth number (length_in o)) at ∙ no_length (number 0) start ∙ sym (ap (length_of_array heap) none);
+  length_is =
+      ap (λ o. worth number (length_in o)) at ∙ no_length (number 0) start ∙ sym (ap (length_of_array heap) none);
   agrees = subst (λ o. Agrees (nullness_in o) (is_no_array array)) (sym at) (ap is_no_array none);
   fits = λ place is. absurd (none_is place (sym (ap place_in at) ∙ is));
   absent = λ is. none;
@@ -156,27 +165,36 @@ no_entry heap number references r array start none at = record {
     none_is : (place : Place) → None ≡ Some place → ⊥
     none_is place is = cc
 
-an_entry : (heap : Heap) (number : ℕ → ℤ) (references : List (Reference Unknown)) (r : ℕ) (array : Option ℕ) (known : Reference Unknown)
-    → IsSo heap number known array → frames.reference_at references r ≡ Some known → IsEntry heap number references r array
+an_entry : (heap : Heap) (number : ℕ → ℤ) (references : List (Reference Unknown)) (r : ℕ) (array : Option ℕ)
+    (known : Reference Unknown)
+    → IsSo heap number known array → frames.reference_at references r ≡ Some known
+    → IsEntry heap number references r array
 an_entry heap number references r array known so at = record {
   length_is = ap (λ o. worth number (length_in o)) at ∙ so.length_is;
   agrees = subst (λ o. Agrees (nullness_in o) (is_no_array array)) (sym at) so.agrees;
-  fits = λ place is. subst (λ p. FitsArray heap p array) (some_place known.place place (sym (ap place_in at) ∙ is)) so.fits;
+  fits =
+      λ place is. subst (λ p. FitsArray heap p array) (some_place known.place place (sym (ap place_in at) ∙ is))
+      so.fits;
   absent = λ is. absurd (some_is (sym (ap place_in at) ∙ is));
 }
   where
     some_is : Some known.place ≡ None → ⊥
     some_is is = cc
 
-pub entries_so : (heap : Heap) (known : StateFacts) (number : ℕ → ℤ) (array : ℕ → Option ℕ) (r : ℕ) → number 0 ≡ pos 0 → AreSo heap number array known.references
+pub entries_so : (heap : Heap) (known : StateFacts) (number : ℕ → ℤ) (array : ℕ → Option ℕ) (r : ℕ)
+    → number 0 ≡ pos 0 → AreSo heap number array known.references
     → AreNoneBeyond known array → IsEntry heap number known.references r (array r)
 entries_so heap known number array r start so beyond = by (frames.reference_at known.references r) refl
   where
-    by : (entry : Option (Reference Unknown)) → frames.reference_at known.references r ≡ entry → IsEntry heap number known.references r (array r)
+    by : (entry : Option (Reference Unknown)) → frames.reference_at known.references r ≡ entry
+        → IsEntry heap number known.references r (array r)
     by None at = no_entry heap number known.references r (array r) start (beyond r at) at
-    by (Some one) at = an_entry heap number known.references r (array r) one (so r one (same_entry known.references r ∙ at)) at
+    by (Some one) at =
+        an_entry heap number known.references r (array r) one (so r one (same_entry known.references r ∙ at)) at
 
 pub key_lengths_fit : (is_first : Bool) (references : List (Reference Unknown)) (number : ℕ → ℤ) (us : List Key)
-    → ((r : ℕ) → FitsSigned w32 (worth number (length_at references r))) → AllFit number (map (λ u. length_at references (old_of is_first u)) us)
+    → ((r : ℕ) → FitsSigned w32 (worth number (length_at references r)))
+    → AllFit number (map (λ u. length_at references (old_of is_first u)) us)
 key_lengths_fit is_first references number [] fit = tt
-key_lengths_fit is_first references number (u ∷ us) fit = (fit (old_of is_first u), key_lengths_fit is_first references number us fit)
+key_lengths_fit is_first references number (u ∷ us) fit =
+    (fit (old_of is_first u), key_lengths_fit is_first references number us fit)

@@ -1,5 +1,5 @@
 -- What a state knows of numbers, as it is handed on for merging, is so wherever the state holds.
-use Rattle.std.proofs.Common.{◌≡◌, ℕ, zero, suc, ◌+◌, ◌<◌, ◌≤◌, ℤ, pos, ◌+ℤ◌, ◌≤ℤ◌, Option, Some, None, length, slice_get, get_or, refl, sym, ap, ◌∙◌, subst, arith}
+use Rattle.std.proofs.Common.{◌≡◌, ℕ, ◌+◌, ◌<◌, ◌≤◌, ℤ, pos, ◌≤ℤ◌, Some, length, slice_get, sym, ◌∙◌, subst, arith}
 use Rattle.std.proofs.lemmas.Int.{ints}
 use Rattle.std.proofs.lemmas.Option.{slice_get_within, get_or_from_slice_get}
 use Rattle.std.proofs.lemmas.List.FromFn.{length-map-range_with_len, get_or-map-range_with_len}
@@ -14,18 +14,23 @@ use Rattle.merged_states.specs.Parts.{numbers_known, spans_of}
 zero_more : (n : ℕ) → 0 + n ≡ n
 zero_more n = omega arith
 
-pub spans_there : (facts : Facts) (s : ℕ) (r : Span) → slice_get (spans_of facts) s ≡ Some r → (s ≤ length facts.ranges) × (span_at facts s ≡ r)
+pub spans_there : (facts : Facts) (s : ℕ) (r : Span) → slice_get (spans_of facts) s ≡ Some r
+    → (s ≤ length facts.ranges) × (span_at facts s ≡ r)
 spans_there facts s r is =
     let count : ℕ = length facts.ranges + 1 in
     let long : length (spans_of facts) ≡ count = length-map-range_with_len (span_at facts) 0 count in
     let within : s < length (spans_of facts) = slice_get_within (spans_of facts) s r is in
-    let below : s < count = omega (arith, within, long) in
-    (omega (arith, below),
-    sym (get_or-map-range_with_len (span_at facts) 0 count s s r below (zero_more s)) ∙ get_or_from_slice_get (spans_of facts) s r r is)
+    let below : s < count = omega (arith, within, long) in (
+      omega (arith, below),
+      sym (get_or-map-range_with_len (span_at facts) 0 count s s r below (zero_more s))
+          ∙ get_or_from_slice_get (spans_of facts) s r r is,
+    )
 
-pub numbers_allowed : (facts : Facts) (number : ℕ → ℤ) → AllowsNumbers facts number → AllowsKnown (numbers_known facts) number
+pub numbers_allowed : (facts : Facts) (number : ℕ → ℤ) → AllowsNumbers facts number
+    → AllowsKnown (numbers_known facts) number
 numbers_allowed facts number allowed = record {
-  spans = λ s r is. let there = spans_there facts s r is in subst (λ q. Has q (number s)) there.1 (span_has facts number s there.0 allowed);
+  spans = λ s r is. let there =
+      spans_there facts s r is in subst (λ q. Has q (number s)) there.1 (span_has facts number s there.0 allowed);
   bounds = allowed.bounds;
 }
 

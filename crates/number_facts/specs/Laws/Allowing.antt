@@ -8,7 +8,7 @@ use Rattle.std.proofs.lemmas.Grind.{common_steps}
 use Rattle.std.proofs.lemmas.Int.{ints, clamps}
 use Rattle.interval_domain.specs.Interval.{is_hole, inner_hole, is_inside}
 use Rattle.pentagon_domain.specs.declared.bound_row.BoundRow.{BoundRow}
-use Rattle.pentagon_domain.specs.Rows.{rows_from}
+use Rattle.pentagon_domain.specs.Rows.{rows_from, rows_to}
 use Rattle.pentagon_domain.specs.Gaps as by_bounds
 use Rattle.pentagon_domain.specs.Laws.GapsHold.{gap_above, gap_with_above}
 use Rattle.number_spans.specs.Spans.{Has}
@@ -51,20 +51,23 @@ lowered_below facts number s (row ∷ rows) hi allowed some below =
       | inr other ↦ rw other (lowered_below facts number s rows hi allowed some.1 below)
     ]
 
+-- those that go to it leave it above
 raised_above : (facts : Facts) (number : ℕ → ℤ) (t : ℕ) (rows : List BoundRow) (lo : ℤ) → AllowsNumbers facts number → by_bounds.Allows rows number
-    → lo ≤ℤ number t → cut_by_all (raised_by facts t) rows lo ≤ℤ number t
-unfolding raised_by
+    → lo ≤ℤ number t → cut_by_all (raised_by facts) (rows_to rows t) lo ≤ℤ number t
 raised_above facts number t [] lo allowed some above = above
 raised_above facts number t (row ∷ rows) lo allowed some above =
-    raised_above facts number t rows (raised_by facts t lo row) allowed some.1
-    (cond_both (row.t == t && has facts row.s) _ _ (λ l. l ≤ℤ number t)
-    (λ e.
-    let parts = and_parts (row.t == t) (has facts row.s) e in
-    let same : number row.t ≡ number t = ap number (eqb-true row.t t parts.0) in
-    let from = (allowed.ranges row.s (le_true row.s (length facts.ranges) parts.1)).above in
-    let first : (number row.s +ℤ row.k) ≤ℤ number row.t = some.0 in
-    higher_still lo (range_at facts row.s).lo row.k (number t) above (omega (arith, ints, same, from, first)))
-    (λ other. above))
+    elim (cases_Bool (row.t == t)) [
+      | inl to ↦
+          rw to (raised_above facts number t rows (raised_by facts lo row) allowed some.1
+          (cond_both (has facts row.s) _ _ (λ l. l ≤ℤ number t)
+          (λ there.
+          let same : number row.t ≡ number t = ap number (eqb-true row.t t to) in
+          let from = (allowed.ranges row.s (le_true row.s (length facts.ranges) there)).above in
+          let first : (number row.s +ℤ row.k) ≤ℤ number row.t = some.0 in
+          higher_still lo (range_at facts row.s).lo row.k (number t) above (omega (arith, ints, same, from, first)))
+          (λ other. above)))
+      | inr other ↦ rw other (raised_above facts number t rows lo allowed some.1 above)
+    ]
 
 hole_apart : (hole : Option ℤ) (k n : ℤ) → is_hole hole k ≡ true → hole ≢ Some n → n ≢ k
 hole_apart None k n is apart = λ e. grind (arith, is)

@@ -12,4 +12,4 @@ rows_up_to-requires c =
     (IsNonDecreasingBy-filter (λ row. row.s) (λ row. nat_le c.args.s row.s) c.args.rows.now (symbols_rise c.args.rows.now c.requires))
 
 pub returns : goal.returns
-returns c = c.rows_up_to.ensures ∙ (rw c.rows_from_on.ensures (from_and_up_to c.args.rows.now c.args.s))
+returns c = c.rows_up_to.ensures ∙ (rw c.rows_from_on.ensures (from_and_up_to (λ row. row.s) c.args.rows.now c.args.s))
