@@ -7,7 +7,7 @@ use cil_model::FaultKind;
 use clause_trees::{TreeEnv, assume_tree, assume_tree_false, tree_shown, tree_shown_false};
 use fact_text::{expr, reference};
 use rule_text::{Failure, asked, check, check_yes, fault, operator};
-use state_obligations::{Operation, assume, entails, judge};
+use state_obligations::Operation;
 use std::alloc::Global;
 
 /// `result-at 2`: the variable that has the result of trees; `arguments-at 1`: that which has argument 0.
@@ -134,7 +134,7 @@ pub fn owes(alloc: Global, state: &AbsState, argument: &str) -> Result<(), Failu
             if !found.is_empty() {
                 found.push_str(", ")?;
             }
-            let is = if entails(state, condition) {
+            let is = if state.entails(condition) {
                 "yes"
             } else {
                 "no"
@@ -155,7 +155,7 @@ pub fn assume_no(alloc: Global, state: &mut AbsState, argument: &str) -> Result<
     let Some(condition) = operation.condition(kind) else {
         return Err(Failure::Unread("a fault of the operation"));
     };
-    assume(state, condition)?;
+    state.assume_met(condition)?;
     Ok(())
 }
 
@@ -164,5 +164,5 @@ pub fn assume_no(alloc: Global, state: &mut AbsState, argument: &str) -> Result<
 pub fn judged(alloc: Global, state: &mut AbsState, argument: &str) -> Result<(), Failure> {
     let (text, told) = asked(argument)?;
     let operation = operation(alloc, state, text)?;
-    check_yes(alloc, judge(state, operation)?, told)
+    check_yes(alloc, state.judge(operation)?, told)
 }

@@ -11,7 +11,7 @@ use abs_state::{AbsState, Var};
 use cil_model::{BinOp, Place, UnOp};
 use domain_api::{Expr, NoMemory};
 use number_spans::constant;
-use state_obligations::{Operation, judge};
+use state_obligations::Operation;
 
 /// A value that owes nothing.
 pub(crate) fn given(state: &mut AbsState, value: Var) -> Result<bool, NoMemory>
@@ -39,7 +39,7 @@ pub(crate) fn length(state: &mut AbsState) -> Result<bool, NoMemory>
     let Some(Var::Reference(r)) = take(state)? else {
         return Ok(refused(state));
     };
-    let entailed = judge(state, Operation::Length(r))?;
+    let entailed = state.judge(Operation::Length(r))?;
     if state.reached() {
         state.push(Var::Number(state.length(r)))?;
     }
@@ -76,7 +76,7 @@ pub(crate) fn element(state: &mut AbsState, time: Time, place: Place) -> Result<
     let Some((Var::Reference(r), Var::Number(i))) = take_two(state)? else {
         return Ok(refused(state));
     };
-    let entailed = judge(state, Operation::Element(r, i))?;
+    let entailed = state.judge(Operation::Element(r, i))?;
     push_item(state, time, place, r, i)?;
     Ok(entailed)
 }
@@ -86,7 +86,7 @@ fn arithmetic(state: &mut AbsState, op: BinOp, a: Expr, b: Expr) -> Result<bool,
     ensures { IfOk result (λ entailed.
         rule.Finds entailed state.new (rule.in_state (rule.arithmetic op a b) state.old)) }
 {
-    let entailed = judge(state, Operation::Binary(op, a, b))?;
+    let entailed = state.judge(Operation::Binary(op, a, b))?;
     if state.reached() {
         state.arith(op, a, b)?;
     }

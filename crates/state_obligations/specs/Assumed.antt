@@ -28,6 +28,10 @@ differing e n known = compared comparisons.NeUn e (constant n) known
 abbrev pub not_negative : Expr → StateFacts → State
 not_negative e known = compared comparisons.Le (constant (pos 0)) e known
 
+-- An amount to shift by is one of 0 to 31.
+abbrev pub amount : Expr → StateFacts → State
+amount n known = option_and_then (compared comparisons.Le n (constant (pos 31))) (not_negative n known)
+
 -- The quotient was not that of the least int32 and -1: where the one is known, the other was another.
 unfoldable pub no_division_overflow : Expr → Expr → StateFacts → State
 no_division_overflow a b known =
@@ -41,8 +45,7 @@ assumed_by (conditions.NullUse r) known = assumed comparisons.NeUn (vars.Referen
 assumed_by (conditions.Lower i) known = not_negative i known
 assumed_by (conditions.Upper r i) known = compared comparisons.Lt i (length_at known r) known
 assumed_by (conditions.ArraySize n) known = not_negative n known
-assumed_by (conditions.Shift n) known =
-    option_and_then (compared comparisons.Le n (constant (pos 31))) (not_negative n known)
+assumed_by (conditions.Shift n) known = amount n known
 assumed_by (conditions.DivZero b) known = differing b (pos 0) known
 assumed_by (conditions.DivOverflow a b) known = no_division_overflow a b known
 assumed_by (conditions.Overflow op a b) known = Some known

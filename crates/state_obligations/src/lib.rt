@@ -13,9 +13,7 @@
 mod assumption;
 mod condition;
 mod entailment;
-mod judgement;
 
 pub use assumption::assume;
 pub use condition::{Condition, Operation};
 pub use entailment::entails;
-pub use judgement::judge;
