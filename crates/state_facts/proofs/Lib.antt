@@ -12,3 +12,4 @@ pub mod ComparisonsHold
 pub mod AssumptionsHold
 pub mod ResultForms
 pub mod ResultsHold
+pub mod Following

@@ -1,8 +1,8 @@
 //! What is known where a condition was met.
 
 ghost use Rattle.std.specs.Prelude.{◌≡◌, true, IfOk, OnErr, Some, is_some};
-ghost use Rattle.state_facts.specs.Assuming.{assumed};
-ghost use Rattle.state_facts.specs.Forms.{HasForm, HasNumber, HasReference};
+ghost use Rattle.number_facts.specs.Facts.{IsNamed};
+ghost use Rattle.state_facts.specs.Forms.{HasForm};
 ghost use Rattle.state_obligations.specs.Assumed as rule;
 ghost use Rattle.state_obligations.specs.Conditions.{IsThere};
 
@@ -25,8 +25,8 @@ fn is_just(e: Expr, n: i64) -> bool
 /// Assumes a comparison of two numbers. False, here as below: nothing is reached.
 fn assume_numbers(known: &mut Known, op: CmpOp, a: Expr, b: Expr) -> Result<bool, NoMemory>
     requires form { HasForm known.old }
-    requires first { HasNumber known.old a }
-    requires second { HasNumber known.old b }
+    requires first { IsNamed known.old.facts a }
+    requires second { IsNamed known.old.facts b }
     ensures reached { IfOk result (λ reached. reached ≡ is_some (rule.compared op a b known.old)) }
     ensures ok { IfOk result (λ reached. reached ≡ true → rule.compared op a b known.old ≡ Some known.new) }
     ensures err { OnErr result (known.new ≡ known.old) }
@@ -37,7 +37,7 @@ fn assume_numbers(known: &mut Known, op: CmpOp, a: Expr, b: Expr) -> Result<bool
 /// Assumes that a number is another one than this.
 fn assume_not(known: &mut Known, e: Expr, n: i64) -> Result<bool, NoMemory>
     requires form { HasForm known.old }
-    requires there { HasNumber known.old e }
+    requires there { IsNamed known.old.facts e }
     ensures reached { IfOk result (λ reached. reached ≡ is_some (rule.differing e n known.old)) }
     ensures ok { IfOk result (λ reached. reached ≡ true → rule.differing e n known.old ≡ Some known.new) }
     ensures err { OnErr result (known.new ≡ known.old) }
@@ -48,7 +48,7 @@ fn assume_not(known: &mut Known, e: Expr, n: i64) -> Result<bool, NoMemory>
 /// Assumes that a number is not negative.
 fn assume_not_negative(known: &mut Known, e: Expr) -> Result<bool, NoMemory>
     requires form { HasForm known.old }
-    requires there { HasNumber known.old e }
+    requires there { IsNamed known.old.facts e }
     ensures reached { IfOk result (λ reached. reached ≡ is_some (rule.not_negative e known.old)) }
     ensures ok { IfOk result (λ reached. reached ≡ true → rule.not_negative e known.old ≡ Some known.new) }
     ensures err { OnErr result (known.new ≡ known.old) }
@@ -57,9 +57,10 @@ fn assume_not_negative(known: &mut Known, e: Expr) -> Result<bool, NoMemory>
 }
 
 /// Assumes that an amount to shift by is one of 0 to 31.
+#[tactic(auto, using(state_facts::proofs::Following::ready_behind_compared))]
 fn assume_amount(known: &mut Known, n: Expr) -> Result<bool, NoMemory>
     requires form { HasForm known.old }
-    requires there { HasNumber known.old n }
+    requires there { IsNamed known.old.facts n }
     ensures reached { IfOk result (λ reached. reached ≡ is_some (rule.amount n known.old)) }
     ensures ok { IfOk result (λ reached. reached ≡ true → rule.amount n known.old ≡ Some known.new) }
     ensures form { OnErr result (HasForm known.new) }
@@ -74,8 +75,8 @@ fn assume_amount(known: &mut Known, n: Expr) -> Result<bool, NoMemory>
 #[tactic(auto, unfolding(crate::specs::Assumed::no_division_overflow))]
 fn assume_no_division_overflow(known: &mut Known, a: Expr, b: Expr) -> Result<bool, NoMemory>
     requires form { HasForm known.old }
-    requires first { HasNumber known.old a }
-    requires second { HasNumber known.old b }
+    requires first { IsNamed known.old.facts a }
+    requires second { IsNamed known.old.facts b }
     ensures reached { IfOk result (λ reached. reached ≡ is_some (rule.no_division_overflow a b known.old)) }
     ensures ok { IfOk result (λ reached. reached ≡ true → rule.no_division_overflow a b known.old ≡ Some known.new) }
     ensures err { OnErr result (known.new ≡ known.old) }

@@ -1,6 +1,7 @@
 //! When what is known entails a condition.
 
-ghost use Rattle.std.specs.Prelude.{◌≡◌, ◌&&◌, true};
+ghost use Rattle.std.specs.Prelude.{◌≡◌, ◌&&◌, pos, int_le};
+ghost use Rattle.cil_model.specs.Arithmetic.{LEAST, GREATEST};
 ghost use Rattle.number_facts.specs.Arith.{exact};
 ghost use Rattle.number_facts.specs.Ends.{range_of};
 ghost use Rattle.number_facts.specs.Facts.{IsNamed};
@@ -10,14 +11,13 @@ ghost use Rattle.number_spans.specs.Spans as spans;
 ghost use Rattle.state_facts.specs.Forms.{HasForm, HasNumber};
 ghost use Rattle.state_obligations.specs.Conditions.{IsThere};
 ghost use Rattle.state_obligations.specs.Entailed.{are_int32, entailed_by};
-ghost use Rattle.state_obligations.specs.Meaning.{EntailsIt};
 
 use crate::condition::Condition;
 use alias_facts::Nullness;
 use cil_model::BinOp;
 use domain_api::{Expr, Order};
 use number_facts::Numbers;
-use number_spans::{Span, constant};
+use number_spans::{Span, constant, less_by, sum_of};
 use state_facts::Known;
 
 /// The least int32.
@@ -28,7 +28,7 @@ const LEAST_INT32: i128 = -2_147_483_648;
 fn is_at_most(numbers: &Numbers, a: Expr, more: i64, b: Expr) -> bool
     ensures { result ≡ at_most numbers.now a more b }
 {
-    let far = i128::from(a.k) + i128::from(more) - i128::from(b.k);
+    let far = less_by(sum_of(a.k, more), b.k);
     match numbers.gap(a.sym, b.sym) {
         None => false,
         Some(gap) => far <= i128::from(gap),
@@ -37,7 +37,8 @@ fn is_at_most(numbers: &Numbers, a: Expr, more: i64, b: Expr) -> bool
 
 /// Returns whether an expression is known to lie between two numbers.
 fn is_between(numbers: &Numbers, least: i64, e: Expr, greatest: i64) -> bool
-    ensures { result ≡ (at_most numbers.now (constant least) 0 e && at_most numbers.now e 0 (constant greatest)) }
+    ensures { result ≡
+        (at_most numbers.now (constant least) (pos 0) e && at_most numbers.now e (pos 0) (constant greatest)) }
 {
     is_at_most(numbers, constant(least), 0, e) && is_at_most(numbers, e, 0, constant(greatest))
 }
@@ -51,15 +52,22 @@ fn is_excluded(numbers: &Numbers, e: Expr, n: i128) -> bool
     Span { lo, hi, hole }.excludes(n)
 }
 
+/// Returns whether both ends of a range are int32.
+fn are_ends_int32(ends: (i64, i64)) -> bool
+    ensures { result ≡ (int_le LEAST ends.0 && int_le ends.1 GREATEST) }
+{
+    i64::from(i32::MIN) <= ends.0 && ends.1 <= i64::from(i32::MAX)
+}
+
 /// Returns whether the exact result of an operator is an int32.
+#[tactic(auto, using(crate::proofs::Nearest::near_int32))]
 fn is_int32(known: &Known, op: BinOp, a: Expr, b: Expr) -> bool
     requires form { HasForm known.now }
     requires first { HasNumber known.now a }
     requires second { HasNumber known.now b }
     ensures { result ≡ are_int32 (exact op known.now.facts a b) }
 {
-    let (lo, hi) = known.numbers.exact_ends(op, a, b);
-    i64::from(i32::MIN) <= lo && hi <= i64::from(i32::MAX)
+    are_ends_int32(known.numbers.exact_ends(op, a, b))
 }
 
 /// Returns whether what is known entails a condition of operands.
