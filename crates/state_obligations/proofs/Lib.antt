@@ -1,0 +1,5 @@
+pub mod Nearest
+pub mod Following
+pub mod ConditionLaws
+pub mod JudgedLaws
+pub mod FaultLaws
