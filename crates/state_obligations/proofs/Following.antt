@@ -1,11 +1,11 @@
 -- Behind what is assumed the form is kept, and what was there is there still.
-use Rattle.std.proofs.Common.{◌≡◌, ℕ, zero, suc, ◌≤◌, ◌-◌, ℤ, pos, negsuc, Bool, true, false, ◌&&◌, ◌==◌, int_eq, List, [], ◌∷◌, Option, Some, None, length, refl, sym, ap, subst, ◌∙◌, arith}
-use Rattle.std.specs.Prelude.{map, set, slice_get}
+use Rattle.std.proofs.Common.{◌≡◌, ℕ, zero, suc, ◌==◌, ◌-◌, ◌≤◌, ℤ, pos, negsuc, Bool, true, List, [], ◌∷◌, Option, Some, None, length, refl, sym, ap, subst, ◌∙◌, arith}
+use Rattle.std.specs.Prelude.{map, set, slice_get, Ok, if◌then◌else◌}
 use Rattle.std.specs.List.{AllByRecursion}
 use Rattle.std.specs.Option.{option_and_then, option_map}
 use Rattle.std.proofs.lemmas.Bool.{cond_both}
-use Rattle.std.proofs.lemmas.Int.{ints}
 use Rattle.std.proofs.lemmas.List.{length-map}
+use Rattle.alias_facts.specs.declared.nullness.Nullness.{Nullness}
 use Rattle.cil_model.specs.Arithmetic.{LEAST}
 use Rattle.cil_model.specs.declared.instruction.CmpOp.{CmpOp}
 use Rattle.cil_model.specs.declared.instruction.CmpOp.TheVariants as comparisons
@@ -13,21 +13,22 @@ use Rattle.domain_api.specs.declared.expr.Expr.{Expr}
 use Rattle.frame_names.specs.declared.reference.Reference.{Reference}
 use Rattle.frame_names.specs.declared.var.Var.{Var}
 use Rattle.frame_names.specs.declared.var.Var.TheVariants as vars
-use Rattle.alias_facts.specs.declared.nullness.Nullness.{Nullness}
+use Rattle.number_facts.proofs.Forms.{form_where_ok}
 use Rattle.number_facts.specs.Assume as numbers
 use Rattle.number_facts.specs.Facts.{Facts, IsNamed}
+use Rattle.number_facts.specs.Holds.{AreNamed, KeepsForm, Names, NamesOwn}
 use Rattle.number_spans.specs.Constants.{constant}
 use Rattle.symbolic_values.specs.Names.{same_flag}
-use Rattle.state_facts.proofs.AssumptionForms.{EachFollows, Follows, IsReady, length_number, named_var, ready_behind, test_follows}
-use Rattle.state_facts.proofs.Growing.{number_stays, var_stays}
-use Rattle.state_facts.specs.Assuming.{AreNamedTests, IsNamedTest, assumed, contradicts, following, is_equality, null_if, with_facts, with_null, with_null_tested, with_nullness, with_steps, with_test, with_told}
+use Rattle.symbolic_values.specs.declared.def.Def.{Def}
+use Rattle.symbolic_values.specs.declared.def.Def.TheVariants.{Eq, Lt, LtUn, NullTest, Sub}
+use Rattle.state_facts.proofs.AssumptionForms.{assumed_form, length_number}
+use Rattle.state_facts.proofs.Growing.{Formed, number_stays, var_stays}
+use Rattle.state_facts.specs.Assuming.{assumed, contradicts, definition_at, following, is_equality, null_if, symbol_told, told_by, told_of, with_facts, with_null, with_null_tested, with_nullness, with_steps, with_test, with_told}
 use Rattle.state_facts.specs.Comparing.{null_tested}
 use Rattle.state_facts.specs.Forms.{HasForm, HasNumber, HasReference, HasVar}
 use Rattle.state_facts.specs.Moves.{IsNamedNumber}
 use Rattle.state_facts.specs.StateFacts.{StateFacts, State, length_at, nullness_at, reference_at}
 use Rattle.state_facts.specs.declared.reference.Unknown.{Unknown}
-use Rattle.state_facts.specs.declared.test.Test.{Test}
-use Rattle.state_facts.specs.declared.test.Test.TheVariants.{Compares, IsNull}
 use Rattle.state_obligations.specs.Assumed.{amount, assumed_by, compared, differing, is_just, no_division_overflow, not_negative}
 use Rattle.state_obligations.specs.Conditions.{AreThere, IsThere}
 use Rattle.state_obligations.specs.Following.{StaysThere, StaysThereIn, shape_of}
@@ -107,111 +108,152 @@ told_same (suc r) told known x is =
     let before : suc r - 1 ≡ r = omega arith in
     rw before (set_same shape_of known.references r x (record x { nullness = told }) is refl)
 
--- Only ranges and what is known of null may differ.
-record AreAlike (before after : StateFacts) : Type 0 where
+-- ---- steps
+
+-- What is known of numbers names what is there, no symbol is lost, and of variables and references nothing but what is
+-- known of null has changed.
+record IsAfter (before after : StateFacts) : Type 0 where
+  named : AreNamed after.facts
+  symbols : length before.facts.ranges ≤ length after.facts.ranges
   variables : after.variables ≡ before.variables
   references : map shape_of after.references ≡ map shape_of before.references
 
-abbrev AreAlikeIn : StateFacts → State → Type 0
-AreAlikeIn before None = Unit {0}
-AreAlikeIn before (Some after) = AreAlike before after
+abbrev IsAfterIn : StateFacts → State → Type 0
+IsAfterIn before None = Unit {0}
+IsAfterIn before (Some after) = IsAfter before after
 
-alike_itself : (known : StateFacts) → AreAlike known known
-alike_itself known = record { variables = refl; references = refl }
+after_itself : (known : StateFacts) → AreNamed known.facts → IsAfter known known
+after_itself known named = record { named = named; symbols = omega arith; variables = refl; references = refl }
 
-alike_on : (before between : StateFacts) (o : State) → AreAlike before between → AreAlikeIn between o → AreAlikeIn before o
-alike_on before between None first rest = tt
-alike_on before between (Some after) first rest =
-    record { variables = rest.variables ∙ first.variables; references = rest.references ∙ first.references }
-
-then_alike : (known : StateFacts) (o : State) (f : StateFacts → State) → AreAlikeIn known o → ((x : StateFacts) → AreAlikeIn x (f x))
-    → AreAlikeIn known (option_and_then f o)
-then_alike known None f alike rest = tt
-then_alike known (Some x) f alike rest = alike_on known x (f x) alike (rest x)
-
-told_alike : (r : ℕ) (told : Nullness) (known : StateFacts) (o : Option (Reference Unknown)) → reference_at known.references r ≡ o
-    → AreAlike known (with_told known r told o)
-told_alike r told known None is = alike_itself known
-told_alike r told known (Some x) is = record { variables = refl; references = told_same r told known x is }
-
-numbers_alike : (known : StateFacts) (o : Option Facts) → AreAlikeIn known (option_map (with_facts known) o)
-numbers_alike known None = tt
-numbers_alike known (Some f) = record { variables = refl; references = refl }
-
-null_alike : (r : ℕ) (is : Bool) (known : StateFacts) → AreAlikeIn known (with_null r is known)
-unfolding with_null with_nullness
-null_alike r is known =
-    cond_both (contradicts (nullness_at known r) is) _ _ (AreAlikeIn known) (λ e. tt)
-    (λ e. told_alike r (null_if is) known (reference_at known.references r) refl)
-
-test_alike : (test : Test) (known : StateFacts) → AreAlikeIn known (with_test test known)
-unfolding with_test
-test_alike (Compares op a b holds) known = numbers_alike known (numbers.assumed op known.facts a b holds)
-test_alike (IsNull r is) known = null_alike r is known
-
-steps_alike : (steps : ℕ) (test : Option Test) (known : StateFacts) → AreAlikeIn known (with_steps steps test known)
-unfolding with_steps
-steps_alike zero test known = alike_itself known
-steps_alike (suc steps) None known = alike_itself known
-steps_alike (suc steps) (Some test) known =
-    then_alike known (with_test test known) (with_steps steps (following known test)) (test_alike test known)
-    (λ x. steps_alike steps (following known test) x)
-
--- ---- the form, by the steps
-
-follows_on : (before between : StateFacts) (o : State) → Follows before between → EachFollows between o → EachFollows before o
-follows_on before between None first rest = tt
-follows_on before between (Some after) first rest =
+after_on : (before between : StateFacts) (o : State) → IsAfter before between → IsAfterIn between o → IsAfterIn before o
+after_on before between None first rest = tt
+after_on before between (Some after) first rest =
     let more : length before.facts.ranges ≤ length between.facts.ranges = first.symbols in
     let again : length between.facts.ranges ≤ length after.facts.ranges = rest.symbols in
-    record { form = rest.form; symbols = omega (arith, more, again) }
+    record {
+      named = rest.named;
+      symbols = omega (arith, more, again);
+      variables = rest.variables ∙ first.variables;
+      references = rest.references ∙ first.references;
+    }
 
-then_follows : (known : StateFacts) (o : State) (next : Option Test) (f : StateFacts → State) → EachFollows known o
-    → ((x : StateFacts) → o ≡ Some x → IsReady x next) → ((x : StateFacts) → IsReady x next → EachFollows x (f x))
-    → EachFollows known (option_and_then f o)
-then_follows known None next f follows ready rest = tt
-then_follows known (Some x) next f follows ready rest = follows_on known x (f x) follows (rest x (ready x refl))
+then_after : (known : StateFacts) (o : State) (f : StateFacts → State) → IsAfterIn known o → ((x : StateFacts) → IsAfter known x → IsAfterIn x (f x))
+    → IsAfterIn known (option_and_then f o)
+then_after known None f after rest = tt
+then_after known (Some x) f after rest = after_on known x (f x) after (rest x after)
 
-steps_follow : (steps : ℕ) (test : Option Test) (known : StateFacts) → HasForm known → AreNamedTests known test → EachFollows known (with_steps steps test known)
+told_after : (r : ℕ) (told : Nullness) (known : StateFacts) (o : Option (Reference Unknown)) → AreNamed known.facts → reference_at known.references r ≡ o
+    → IsAfter known (with_told known r told o)
+told_after r told known None named is = after_itself known named
+told_after r told known (Some x) named is =
+    record { named = named; symbols = omega arith; variables = refl; references = told_same r told known x is }
+
+null_after : (r : ℕ) (is : Bool) (known : StateFacts) → AreNamed known.facts → IsAfterIn known (with_null r is known)
+unfolding with_null with_nullness
+null_after r is known named =
+    cond_both (contradicts (nullness_at known r) is) _ _ (IsAfterIn known) (λ e. tt)
+    (λ e. told_after r (null_if is) known (reference_at known.references r) named refl)
+
+facts_after : (known : StateFacts) (o : Option Facts) → AreNamed known.facts → ((f : Facts) → o ≡ Some f → KeepsForm known.facts f)
+    → IsAfterIn known (option_map (with_facts known) o)
+facts_after known None named kept = tt
+facts_after known (Some f) named kept =
+    let form = kept f refl in record { named = form.named named; symbols = form.there; variables = refl; references = refl }
+
+numbers_after : (op : CmpOp) (a b : Expr) (holds : Bool) (known : StateFacts) → AreNamed known.facts → IsNamed known.facts a → IsNamed known.facts b
+    → IsAfterIn known (option_map (with_facts known) (numbers.assumed op known.facts a b holds))
+numbers_after op a b holds known named first second =
+    facts_after known (numbers.assumed op known.facts a b holds) named
+    (λ f is. form_where_ok {E = ℕ} op known.facts a b holds (Ok true) f first second (λ reached. is) refl)
+
+names_more : (m n : ℕ) (def : Def) → m ≤ n → Names m def → Names n def
+names_more m n (Eq a b) more names = (omega (arith, more, names.0), omega (arith, more, names.1))
+names_more m n (Lt a b) more names = (omega (arith, more, names.0), omega (arith, more, names.1))
+names_more m n (LtUn a b) more names = (omega (arith, more, names.0), omega (arith, more, names.1))
+names_more m n (NullTest r is) more names = tt
+names_more m n (Sub a b) more names = (omega (arith, more, names.0), omega (arith, more, names.1))
+
+-- So many steps, from what a definition says.
+abbrev AreSteps : ℕ → Type 0
+AreSteps n = (so : Bool) (def : Def) (known : StateFacts) → AreNamed known.facts → Names (length known.facts.ranges) def
+    → IsAfterIn known (with_steps n (told_by so def) known)
+
+no_steps : (n : ℕ) (known : StateFacts) → AreNamed known.facts → IsAfterIn known (with_steps n None known)
 unfolding with_steps
-steps_follow zero test known form named = record { form = form; symbols = omega arith }
-steps_follow (suc steps) None known form named = record { form = form; symbols = omega arith }
-steps_follow (suc steps) (Some test) known form named =
-    then_follows known (with_test test known) (following known test) (with_steps steps (following known test)) (test_follows test known form named)
-    (λ x is. ready_behind test known x form named is)
-    (λ x ready. steps_follow steps (following known test) x ready.form ready.named)
+no_steps zero known named = after_itself known named
+no_steps (suc n) known named = after_itself known named
+
+-- what a definition that is found says
+found_after : (n : ℕ) (definitions : List (ℕ × Def)) (s : ℕ) (so : Bool) (m : ℕ) (known : StateFacts) → AreSteps n → AllByRecursion (NamesOwn m) definitions
+    → m ≤ length known.facts.ranges → AreNamed known.facts → IsAfterIn known (with_steps n (option_and_then (told_by so) (definition_at definitions s)) known)
+found_after n [] s so m known steps all more named = no_steps n known named
+found_after n (d ∷ definitions) s so m known steps all more named =
+    cond_both (d.0 == s) _ _ (λ (o : Option Def). IsAfterIn known (with_steps n (option_and_then (told_by so) o) known))
+    (λ e. steps so d.1 known named (names_more m (length known.facts.ranges) d.1 more all.0.1))
+    (λ e. found_after n definitions s so m known steps all.1 more named)
+
+-- what follows from what is told of a symbol
+following_after : (n : ℕ) (before : Facts) (o : Option (ℕ × Bool)) (known : StateFacts) → AreSteps n → AreNamed before
+    → length before.ranges ≤ length known.facts.ranges → AreNamed known.facts
+    → IsAfterIn known (with_steps n (option_and_then (told_of before.definitions) o) known)
+following_after n before None known steps before_named more named = no_steps n known named
+following_after n before (Some t) known steps before_named more named =
+    found_after n before.definitions t.0 t.1 (length before.ranges) known steps before_named.definitions more named
+
+-- a comparison, and what follows from it
+compared_after : (n : ℕ) (op : CmpOp) (a b : Expr) (holds : Bool) (known : StateFacts) → AreSteps n → AreNamed known.facts → IsNamed known.facts a
+    → IsNamed known.facts b
+    → IsAfterIn known
+    (option_and_then
+    (with_steps n (option_and_then (told_of known.facts.definitions) (symbol_told known.facts (if holds then op else numbers.contrary op) a b)))
+    (option_map (with_facts known) (numbers.assumed op known.facts a b holds)))
+compared_after n op a b holds known steps named first second =
+    then_after known (option_map (with_facts known) (numbers.assumed op known.facts a b holds)) _ (numbers_after op a b holds known named first second)
+    (λ x after.
+    following_after n known.facts (symbol_told known.facts (if holds then op else numbers.contrary op) a b) x steps named after.symbols after.named)
+
+all_steps : (n : ℕ) → AreSteps n
+unfolding with_steps with_test following
+all_steps zero so def known named names = after_itself known named
+all_steps (suc n) so (Eq a b) known named names = compared_after n comparisons.Eq a b so known (all_steps n) named names.0 names.1
+all_steps (suc n) so (Lt a b) known named names = compared_after n comparisons.Lt a b so known (all_steps n) named names.0 names.1
+all_steps (suc n) so (LtUn a b) known named names = compared_after n comparisons.LtUn a b so known (all_steps n) named names.0 names.1
+all_steps (suc n) so (NullTest r is) known named names =
+    then_after known (with_null r (same_flag is so) known) (with_steps n None) (null_after r (same_flag is so) known named) (λ x after. no_steps n x after.named)
+all_steps (suc n) so (Sub a b) known named names = after_itself known named
 
 -- ---- comparisons
 
-both_stay : (known : StateFacts) (o : State) → EachFollows known o → AreAlikeIn known o → StaysThereIn known o
-both_stay known None follows alike = tt
-both_stay known (Some x) follows alike =
-    record { form = follows.form; symbols = follows.symbols; variables = alike.variables; references = alike.references }
+numbers_compared : (op : CmpOp) (a b : Expr) (holds : Bool) (known : StateFacts) → AreNamed known.facts → IsNamed known.facts a → IsNamed known.facts b
+    → IsAfterIn known (assumed op (vars.Number a) (vars.Number b) holds known)
+unfolding assumed with_steps with_test following
+numbers_compared op a b holds known named first second = compared_after 8 op a b holds known (all_steps 8) named first second
 
-null_follows : (r : ℕ) (is : Bool) (known : StateFacts) → HasForm known → EachFollows known (with_null r is known)
-unfolding with_test
-null_follows r is known form = test_follows (IsNull r is) known form tt
+both_stay : (known : StateFacts) (o : State) → Formed o → IsAfterIn known o → StaysThereIn known o
+both_stay known None formed after = tt
+both_stay known (Some x) formed after =
+    record { form = formed; symbols = after.symbols; variables = after.variables; references = after.references }
 
-null_stays : (r : ℕ) (is : Bool) (known : StateFacts) → HasForm known → StaysThereIn known (with_null r is known)
-null_stays r is known form = both_stay known (with_null r is known) (null_follows r is known form) (null_alike r is known)
+same_after : (is : Bool) (known : StateFacts) (o : Option ℕ) → AreNamed known.facts → IsAfterIn known (with_null_tested o is known)
+same_after is known None named = after_itself known named
+same_after is known (Some r) named = null_after r is known named
 
-same_stays : (is : Bool) (known : StateFacts) (o : Option ℕ) → HasForm known → StaysThereIn known (with_null_tested o is known)
-same_stays is known None form = stays_itself known form
-same_stays is known (Some r) form = null_stays r is known form
+any_after : (op : CmpOp) (a b : Var) (holds : Bool) (known : StateFacts) → AreNamed known.facts → IsNamedNumber known a → IsNamedNumber known b
+    → IsAfterIn known (assumed op a b holds known)
+unfolding assumed
+any_after op (vars.Number a) (vars.Number b) holds known named first second = numbers_compared op a b holds known named first second
+any_after op (vars.Number a) (vars.Reference q) holds known named first second = after_itself known named
+any_after op (vars.Number a) vars.Text holds known named first second = after_itself known named
+any_after op (vars.Reference r) (vars.Number b) holds known named first second = after_itself known named
+any_after op (vars.Reference r) (vars.Reference q) holds known named first second = same_after (same_flag (is_equality op) holds) known (null_tested r q) named
+any_after op (vars.Reference r) vars.Text holds known named first second = after_itself known named
+any_after op vars.Text b holds known named first second = after_itself known named
 
 -- Where a comparison is assumed, what was there is there still.
 pub comparison_follows : (op : CmpOp) (a b : Var) (holds : Bool) (known : StateFacts) → HasForm known → IsNamedNumber known a → IsNamedNumber known b
     → StaysThereIn known (assumed op a b holds known)
-unfolding assumed
-comparison_follows op (vars.Number a) (vars.Number b) holds known form first second =
-    both_stay known (with_steps 9 (Some (Compares op a b holds)) known) (steps_follow 9 (Some (Compares op a b holds)) known form (first, second))
-    (steps_alike 9 (Some (Compares op a b holds)) known)
-comparison_follows op (vars.Number a) (vars.Reference q) holds known form first second = stays_itself known form
-comparison_follows op (vars.Number a) vars.Text holds known form first second = stays_itself known form
-comparison_follows op (vars.Reference r) (vars.Number b) holds known form first second = stays_itself known form
-comparison_follows op (vars.Reference r) (vars.Reference q) holds known form first second = same_stays (same_flag (is_equality op) holds) known (null_tested r q) form
-comparison_follows op (vars.Reference r) vars.Text holds known form first second = stays_itself known form
-comparison_follows op vars.Text b holds known form first second = stays_itself known form
+comparison_follows op a b holds known form first second =
+    both_stay known (assumed op a b holds known) (assumed_form op a b holds known form first second) (any_after op a b holds known form.named first second)
 
 -- The form is kept, and what a number names is there.
 pub record IsReadyFor (known : StateFacts) (e : Expr) : Type 0 where
