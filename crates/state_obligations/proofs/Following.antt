@@ -255,19 +255,6 @@ pub comparison_follows : (op : CmpOp) (a b : Var) (holds : Bool) (known : StateF
 comparison_follows op a b holds known form first second =
     both_stay known (assumed op a b holds known) (assumed_form op a b holds known form first second) (any_after op a b holds known form.named first second)
 
--- The form is kept, and what a number names is there.
-pub record IsReadyFor (known : StateFacts) (e : Expr) : Type 0 where
-  pub form : HasForm known
-  pub named : IsNamed known.facts e
-
-pub ready_for : (op : CmpOp) (a b e : Expr) (known after : StateFacts) → HasForm known → IsNamed known.facts a → IsNamed known.facts b
-    → IsNamed known.facts e → assumed op (vars.Number a) (vars.Number b) true known ≡ Some after → IsReadyFor after e
-ready_for op a b e known after form first second there is =
-    behind (subst (StaysThereIn known) is (comparison_follows op (vars.Number a) (vars.Number b) true known form first second))
-  where
-    behind : StaysThere known after → IsReadyFor after e
-    behind stays = let more : length known.facts.ranges ≤ length after.facts.ranges = stays.symbols in record { form = stays.form; named = omega (arith, more, there) }
-
 -- ---- conditions
 
 differing_follows : (e : Expr) (n : ℤ) (known : StateFacts) → HasForm known → HasNumber known e → StaysThereIn known (differing e n known)
@@ -275,6 +262,19 @@ differing_follows e n known form there = comparison_follows comparisons.NeUn (va
 
 pub not_negative_follows : (e : Expr) (known : StateFacts) → HasForm known → HasNumber known e → StaysThereIn known (not_negative e known)
 not_negative_follows e known form there = comparison_follows comparisons.Le (vars.Number (constant (pos 0))) (vars.Number e) true known form (omega arith) there.there
+
+-- The form is kept, and what a number names is there.
+pub record IsReadyFor (known : StateFacts) (e : Expr) : Type 0 where
+  pub form : HasForm known
+  pub named : IsNamed known.facts e
+
+-- So it is where the number was assumed not to be negative.
+pub ready_behind : (e : Expr) (known after : StateFacts) → HasForm known → IsNamed known.facts e → not_negative e known ≡ Some after → IsReadyFor after e
+ready_behind e known after form there is =
+    behind (subst (StaysThereIn known) is (comparison_follows comparisons.Le (vars.Number (constant (pos 0))) (vars.Number e) true known form (omega arith) there))
+  where
+    behind : StaysThere known after → IsReadyFor after e
+    behind stays = let more : length known.facts.ranges ≤ length after.facts.ranges = stays.symbols in record { form = stays.form; named = omega (arith, more, there) }
 
 amount_follows : (n : Expr) (known : StateFacts) → HasForm known → HasNumber known n → StaysThereIn known (amount n known)
 amount_follows n known form there =

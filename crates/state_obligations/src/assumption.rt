@@ -58,7 +58,7 @@ fn assume_not_negative(known: &mut Known, e: Expr) -> Result<bool, NoMemory>
 }
 
 /// Assumes that an amount to shift by is one of 0 to 31.
-#[tactic(auto, using(crate::proofs::Following::ready_for))]
+#[tactic(auto, using(crate::proofs::Following::ready_behind, crate::proofs::AssumptionLaws::formed_where_err))]
 fn assume_amount(known: &mut Known, n: Expr) -> Result<bool, NoMemory>
     requires form { HasForm known.old }
     requires there { IsNamed known.old.facts n }
@@ -111,7 +111,7 @@ pub fn assume(known: &mut Known, condition: Condition) -> Result<bool, NoMemory>
 }
 
 /// The same, by its rule.
-#[tactic(auto, unfolding(crate::specs::Assumed::assumed_by))]
+#[tactic(auto, unfolding(crate::specs::Assumed::assumed_by), using(crate::proofs::AssumptionLaws::formed_where_err))]
 fn assume_by_rule(known: &mut Known, condition: Condition) -> Result<bool, NoMemory>
     requires form { HasForm known.old }
     requires there { IsThere known.old condition }
