@@ -1,14 +1,11 @@
 -- What a call that assumes a condition keeps, where it says whether something is reached.
-use Rattle.std.proofs.Common.{◌≡◌, ℕ, ℤ, Bool, true, false, Option, Some, None, is_some, refl, sym, subst, ◌∙◌}
-use Rattle.std.specs.Prelude.{◌≤◌, length, Result, Ok, Err, IfOk, OnErr, if◌then◌else◌}
+use Rattle.std.proofs.Common.{◌≡◌, ℕ, Bool, true, false, Some, None, is_some, refl, sym, subst}
+use Rattle.std.specs.Prelude.{Result, Ok, Err, IfOk, OnErr, if◌then◌else◌}
 use Rattle.std.proofs.lemmas.Bool.{false≢true}
-use Rattle.cil_model.specs.Values.{Heap}
-use Rattle.cil_model.specs.declared.machine.Value.{Value}
 use Rattle.domain_api.specs.declared.expr.Expr.{Expr}
 use Rattle.number_facts.specs.Facts.{IsNamed}
 use Rattle.state_facts.proofs.AssumptionForms.{length_number}
 use Rattle.state_facts.specs.Forms.{HasForm, HasNumber, HasReference}
-use Rattle.state_facts.specs.Holds.{HoldsIn}
 use Rattle.state_facts.specs.StateFacts.{StateFacts, State, length_at}
 use Rattle.state_obligations.proofs.ConditionLaws.{met_is_kept}
 use Rattle.state_obligations.specs.Assumed.{assumed_by}

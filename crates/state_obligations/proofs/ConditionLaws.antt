@@ -1,8 +1,6 @@
 -- A condition that is entailed is met, and where one is met that is assumed, the state holds by the same choice.
-use Rattle.std.proofs.Common.{◌≡◌, ◌≢◌, ℕ, zero, suc, ◌<◌, ◌≤◌, ◌==◌, ℤ, pos, negsuc, ◌≤ℤ◌, ◌<ℤ◌, Bool, true, false, not, ◌&&◌, ◌||◌, int_eq, int_le, int_lt, List, [], ◌∷◌, Option, Some, None, length, FitsSigned, w32, ⊎_elim, refl, sym, ap, subst, ◌∙◌, arith}
-use Rattle.std.specs.Prelude.{slice_get, if◌then◌else◌}
-use Rattle.std.specs.List.{AllByRecursion}
-use Rattle.std.specs.Option.{ForSome, option_and_then, option_map_or}
+use Rattle.std.proofs.Common.{◌≡◌, ◌≢◌, ℕ, zero, suc, ◌≤◌, ◌==◌, ℤ, pos, negsuc, ◌≤ℤ◌, ◌<ℤ◌, true, not, int_eq, int_le, int_lt, List, [], ◌∷◌, Option, Some, None, FitsSigned, w32, ⊎_elim, refl, sym, ap, subst, ◌∙◌, arith}
+use Rattle.std.specs.Option.{ForSome, option_and_then}
 use Rattle.std.proofs.lemmas.Bool.{and_parts, cond_both, false_from_ne_true, false≢true, or_cases, true_from_ne_false}
 use Rattle.std.proofs.lemmas.Bool.Decides.{Decides-int_eq}
 use Rattle.std.proofs.lemmas.Int.{ints}
@@ -11,24 +9,20 @@ use Rattle.alias_facts.specs.NullnessOf.{Agrees}
 use Rattle.alias_facts.specs.declared.nullness.Nullness.{Nullness}
 use Rattle.alias_facts.specs.declared.nullness.Nullness.TheVariants.{May, NotNull, Null}
 use Rattle.cil_model.specs.Arithmetic.{GREATEST, LEAST, compares}
-use Rattle.cil_model.specs.Comparisons.{compares_values, number_of, reference_of}
-use Rattle.cil_model.specs.Values.{Heap, IsArray, IsHeap, IsValue}
+use Rattle.cil_model.specs.Values.{Heap, IsHeap}
 use Rattle.cil_model.specs.declared.instruction.BinOp.{BinOp}
 use Rattle.cil_model.specs.declared.instruction.CmpOp.{CmpOp}
 use Rattle.cil_model.specs.declared.instruction.CmpOp.TheVariants as comparisons
-use Rattle.cil_model.specs.declared.machine.ArrayCell.{ArrayCell}
 use Rattle.cil_model.specs.declared.machine.Value.{Value}
 use Rattle.cil_model.specs.declared.machine.Value.TheVariants as values
 use Rattle.domain_api.specs.declared.expr.Expr.{Expr}
 use Rattle.frame_names.specs.declared.reference.Reference.{Reference}
-use Rattle.frame_names.specs.declared.var.Var.{Var}
 use Rattle.frame_names.specs.declared.var.Var.TheVariants as vars
 use Rattle.interval_domain.specs.Arithmetic.{near}
 use Rattle.number_facts.proofs.Knowing.{at_most_holds, constant_worth, range_has}
 use Rattle.number_facts.proofs.ResultLaws.{exact_within}
 use Rattle.number_facts.specs.Arith.{exact}
 use Rattle.number_facts.specs.Ends.{range_of}
-use Rattle.number_facts.specs.Facts.{Facts}
 use Rattle.number_facts.specs.Gaps.{at_most}
 use Rattle.number_facts.specs.Results.{IsExact}
 use Rattle.number_spans.specs.Constants.{constant}
@@ -38,9 +32,9 @@ use Rattle.symbolic_values.specs.Worth.{worth}
 use Rattle.state_facts.proofs.ArraysHold.{below_heap, nullness_agrees, present_at}
 use Rattle.state_facts.proofs.AssumptionForms.{length_number}
 use Rattle.state_facts.proofs.AssumptionsHold.{assume_keeps}
-use Rattle.state_facts.specs.Comparing.{is_array, is_not_null}
+use Rattle.state_facts.specs.Comparing.{is_not_null}
 use Rattle.state_facts.specs.Forms.{HasForm, HasNumber, HasReference, HasVar}
-use Rattle.state_facts.specs.Holds.{HasValue, HoldsBy, HoldsIn, length_in, length_of_array}
+use Rattle.state_facts.specs.Holds.{HoldsBy, HoldsIn, length_in, length_of_array}
 use Rattle.state_facts.specs.StateFacts.{StateFacts, State, length_at, length_of, nullness_at, reference_at}
 use Rattle.state_facts.specs.declared.reference.Unknown.{Unknown}
 use Rattle.state_obligations.proofs.Following.{number_still, not_negative_follows}
@@ -144,11 +138,12 @@ result_fits op a b known vs heap number array n form first second holds one two 
     let r = exact op known.facts a b in
     let ends = and_parts (int_le LEAST (near r.lo)) _ (near_int32 r (near r.lo) (near r.hi) refl refl ∙ so) in
     let within = exact_within op known.facts a b (near r.lo) (near r.hi) first.there second.there refl refl number (λ q. is_no_array (array q)) n form.named holds.facts
-        (record { first = one; second = two }) is in
+    (record { first = one; second = two }) is in
     (from_least (near r.lo) ends.0 within.0, to_greatest (near r.hi) ends.1 within.1)
   where
     from_least : (lo : ℤ) → int_le LEAST lo ≡ true → lo ≤ℤ n → LEAST ≤ℤ n
     from_least lo e above = omega (arith, ints, e, above)
+
     to_greatest : (hi : ℤ) → int_le hi GREATEST ≡ true → n ≤ℤ hi → n ≤ℤ GREATEST
     to_greatest hi e below = omega (arith, ints, e, below)
 

@@ -1,15 +1,15 @@
 -- The machine's operations end in a fault exactly where one of their conditions is not met, and it is that of the first.
-use Rattle.std.proofs.Common.{◌≡◌, ◌≢◌, ℕ, zero, suc, ◌<◌, ◌≤◌, ◌==◌, ℤ, pos, negsuc, ◌+ℤ◌, ◌-ℤ◌, ◌*ℤ◌, ◌≤ℤ◌, ◌<ℤ◌, Bool, true, false, not, ◌&&◌, int_eq, int_le, int_lt, int_div, int_rem, List, [], ◌∷◌, Option, Some, None, length, FitsSigned, w32, ◌⊎◌, inl, inr, refl, sym, ap, subst, ◌∙◌, arith}
-use Rattle.std.specs.Prelude.{◌^◌, ◌/◌, ◌%◌, slice_get, Result, Ok, Err, if◌then◌else◌, unsigned_abs}
+use Rattle.std.proofs.Common.{◌≡◌, ◌≢◌, ℕ, ℤ, pos, negsuc, ◌+ℤ◌, ◌-ℤ◌, ◌*ℤ◌, ◌≤ℤ◌, ◌<ℤ◌, true, false, ◌&&◌, int_eq, int_le, int_lt, int_div, int_rem, List, [], ◌∷◌, Option, Some, None, length, inl, inr, refl, sym, ap, subst, ◌∙◌, arith}
+use Rattle.std.specs.Prelude.{◌^◌, ◌/◌, ◌%◌, slice_get, Result, Ok, Err, unsigned_abs}
 use Rattle.std.specs.Int.{int_shr}
-use Rattle.std.specs.Option.{option_map, option_map_or}
+use Rattle.std.specs.Option.{option_map_or}
 use Rattle.std.proofs.lemmas.Bool.{and_cases, and_parts, cond_both, false≢true}
 use Rattle.std.proofs.lemmas.Bool.Decides.{Decides-int_eq}
 use Rattle.std.proofs.lemmas.Int.{ints}
 use Rattle.cc_base.specs.Wrap.{wrap32}
 use Rattle.cil_model.specs.Arithmetic.{GREATEST, LEAST, divided, divided_unsigned, exact, operated, shifted, signed, unsigned}
 use Rattle.cil_model.specs.Comparisons.{number_of, reference_of}
-use Rattle.cil_model.specs.Effects.{Assumes, Effect, Faults, FindsNoRoom, GoesOn, HasEffect, arithmetic, array_length, at_index, gives, goes_on, item_of, item_value, loads, makes, makes_number, new_array, of_place, pushes, stores, tests_condition, with_item}
+use Rattle.cil_model.specs.Effects.{Effect, Faults, GoesOn, HasEffect, arithmetic, array_length, at_index, gives, goes_on, item_of, item_value, loads, new_array, of_place, pushes, stores, tests_condition, with_item}
 use Rattle.cil_model.specs.Values.{Heap, has_array, same_place}
 use Rattle.cil_model.specs.declared.instruction.BinOp.{BinOp}
 use Rattle.cil_model.specs.declared.instruction.BinOp.TheVariants as operators
@@ -24,10 +24,10 @@ use Rattle.cil_model.specs.declared.place.Place.{Place}
 use Rattle.domain_api.specs.declared.expr.Expr.{Expr}
 use Rattle.number_facts.specs.Results.{IsExact}
 use Rattle.symbolic_values.specs.Worth.{worth}
-use Rattle.state_facts.specs.Holds.{FitsArray, length_in, length_of_array}
-use Rattle.state_obligations.specs.Conditions.{conditions_of, fault_of, operator_conditions}
-use Rattle.state_obligations.specs.Faults.{EffectsFaultWhereUnmet, EndsInFault, FaultsWhereUnmet, HasNoFault, IsFirstUnmet}
-use Rattle.state_obligations.specs.Meaning.{AreMet, IsMet}
+use Rattle.state_facts.specs.Holds.{FitsArray, length_of_array}
+use Rattle.state_obligations.specs.Conditions.{conditions_of, operator_conditions}
+use Rattle.state_obligations.specs.Faults.{EffectsFaultWhereUnmet, FaultsWhereUnmet, HasNoFault, IsFirstUnmet}
+use Rattle.state_obligations.specs.Meaning.{AreMet}
 use Rattle.state_obligations.specs.declared.condition.Condition.{Condition}
 use Rattle.state_obligations.specs.declared.condition.Condition.TheVariants as conditions
 use Rattle.state_obligations.specs.declared.condition.Operation.TheVariants as operations
@@ -75,9 +75,10 @@ division_faults a b heap number array outcome =
     (λ f.
     let parts = and_parts (int_eq m LEAST) _ f in
     inr (not_eq n (pos 0) e, inl (λ met. met (eq_so m LEAST parts.0) (eq_so n (negsuc 0) parts.1), refl)))
-    (λ f.
-    (not_eq n (pos 0) e,
-    ((λ is other. elim (and_cases (int_eq m LEAST) _ f) [ inl one ↦ not_eq m LEAST one is | inr two ↦ not_eq n (negsuc 0) two other ]), tt))))
+    (λ f. (
+      not_eq n (pos 0) e,
+      ((λ is other. elim (and_cases (int_eq m LEAST) _ f) [ inl one ↦ not_eq m LEAST one is | inr two ↦ not_eq n (negsuc 0) two other ]), tt),
+    )))
 
 unsigned_faults : (b : Expr) (heap : Heap) (number : ℕ → ℤ) (array : ℕ → Option ℕ) (outcome : ℕ)
     → FaultsWhereUnmet (conditions.DivZero b ∷ []) heap number array (divided_unsigned (worth number b) outcome)
@@ -95,6 +96,7 @@ shift_faults b heap number array by =
   where
     below : (n : ℤ) → n <ℤ pos 32 → n ≤ℤ pos 31
     below n is = omega (arith, ints, is)
+
     above : (n : ℤ) → n ≤ℤ pos 31 → n <ℤ pos 32
     above n is = omega (arith, ints, is)
 
@@ -225,12 +227,16 @@ index_effects r e a cell done heap number array is long free =
   where
     some : array r ≢ None
     some none = none_some a (array r) none is
+
     not_negative : (n : ℤ) → int_lt n (pos 0) ≡ true → pos 0 ≤ℤ n → ⊥
     not_negative n e at_least = omega (arith, ints, e, at_least)
+
     above : (n : ℤ) → int_lt n (pos 0) ≡ false → pos 0 ≤ℤ n
     above n e = omega (arith, ints, e)
+
     not_below : (n m : ℤ) → int_le m n ≡ true → n <ℤ m → ⊥
     not_below n m e less = omega (arith, ints, e, less)
+
     below : (n m : ℤ) → int_le m n ≡ false → n <ℤ m
     below n m e = omega (arith, ints, e)
 
@@ -289,6 +295,7 @@ new_array_effects place e i f heap number array value rest is =
   where
     not_negative : (n : ℤ) → int_lt n (pos 0) ≡ true → pos 0 ≤ℤ n → ⊥
     not_negative n e at_least = omega (arith, ints, e, at_least)
+
     above : (n : ℤ) → int_lt n (pos 0) ≡ false → pos 0 ≤ℤ n
     above n e = omega (arith, ints, e)
 

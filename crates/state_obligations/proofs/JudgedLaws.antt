@@ -1,6 +1,6 @@
 -- Conditions one after another: where all are entailed all are met, and where all are met the state holds by the same
 -- choice.
-use Rattle.std.proofs.Common.{◌≡◌, ℕ, ℤ, Bool, true, ◌&&◌, List, [], ◌∷◌, Option, Some, None, refl}
+use Rattle.std.proofs.Common.{◌≡◌, ℕ, ℤ, true, List, [], ◌∷◌, Option, Some, None, refl}
 use Rattle.std.proofs.lemmas.Bool.{and_parts}
 use Rattle.cil_model.specs.Values.{Heap, IsHeap}
 use Rattle.cil_model.specs.declared.machine.Value.{Value}
@@ -50,11 +50,12 @@ pub judged_are_met : (cs : List Condition) (known : StateFacts) → HasForm know
 judged_are_met [] known form there so vs heap number array is_heap holds fits = tt
 judged_are_met (c ∷ cs) known form there so vs heap number array is_heap holds fits =
     let parts = and_parts (entailed_by c known) (judged cs (assumed_by c known)).entailed so in
-    let met = entailed_is_met c known form there.0 parts.0 vs heap number array holds fits.0 in
-    (met,
-    so_where_holds known (assumed_by c known) vs heap number array (λ (o : State). (judged cs o).entailed ≡ true → AreMet cs heap number array)
-    (assumed_follows c known form there.0) (met_is_kept c known form there.0 vs heap number array is_heap holds fits.0 met)
-    (λ x stays still all. judged_are_met cs x stays.form (conditions_still known x cs stays there.1) all vs heap number array is_heap still fits.1) parts.1)
+    let met = entailed_is_met c known form there.0 parts.0 vs heap number array holds fits.0 in (
+      met,
+      so_where_holds known (assumed_by c known) vs heap number array (λ (o : State). (judged cs o).entailed ≡ true → AreMet cs heap number array)
+          (assumed_follows c known form there.0) (met_is_kept c known form there.0 vs heap number array is_heap holds fits.0 met)
+          (λ x stays still all. judged_are_met cs x stays.form (conditions_still known x cs stays there.1) all vs heap number array is_heap still fits.1) parts.1,
+    )
 
 -- Where all are met, the state that assumes them holds by the same choice.
 pub met_are_kept : (cs : List Condition) (known : StateFacts) → HasForm known → AreThere known cs

@@ -1,5 +1,5 @@
 -- What stays where a condition is assumed.
-use Rattle.std.specs.Prelude.{◌≡◌, ◌≤◌, length, map, Option, Some, None}
+use Rattle.std.specs.Prelude.{◌≡◌, ◌≤◌, length, map, Some, None}
 use Rattle.cil_model.specs.declared.place.Place.{Place}
 use Rattle.domain_api.specs.declared.expr.Expr.{Expr}
 use Rattle.frame_names.specs.declared.reference.Reference.{Reference}

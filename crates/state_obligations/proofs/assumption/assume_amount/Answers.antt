@@ -1,6 +1,5 @@
 use Rattle.std.proofs.Common.{rules}
-use Rattle.state_facts.specs.StateFacts.{StateFacts}
-use Rattle.state_obligations.proofs.Following.{IsReadyFor, ready_behind}
+use Rattle.state_obligations.proofs.Following.{ready_behind}
 use Rattle.state_obligations.proofs.assumption.assume_amount.Goals as goal
 
 pub assume_numbers-requires-clause-form : goal.assume_numbers-requires-clause-form
