@@ -1,6 +1,7 @@
 -- The laws of conditions, of states in which something is reached or nothing is.
-use Rattle.std.proofs.Common.{◌≡◌, Bool, true, List, Option, Some, None, refl, subst}
+use Rattle.std.proofs.Common.{◌≡◌, Bool, true, List, Option, Some, None, refl, sym, subst, ◌∙◌}
 use Rattle.std.specs.Option.{ForSome}
+use Rattle.std.specs.Prelude.{Result, Ok, Err, IfOk}
 use Rattle.state_facts.specs.Forms.{HasForm}
 use Rattle.state_facts.specs.StateFacts.{StateFacts, State}
 use Rattle.state_obligations.proofs.ConditionLaws.{entailed_is_met, met_is_kept}
@@ -35,6 +36,12 @@ none_some : (P : StateFacts → Type 0) → ForSome None P
 none_some P = λ x is. absurd cc
 
 -- The form is kept.
+pub formed_behind : (c : Condition) (known after : StateFacts) → HasForm known → IsThere known c → assumed_by c known ≡ Some after → HasForm after
+formed_behind c known after form there is = behind (subst (StaysThereIn known) is (assumed_follows c known form there))
+  where
+    behind : StaysThereIn known (Some after) → HasForm after
+    behind stays = stays.form
+
 pub assumed_form : (c : Condition) (state : State) → ForSome state HasForm → ForSome state (λ known. IsThere known c) → ForSome (assume c state) HasForm
 assumed_form c None form there = none_some HasForm
 assumed_form c (Some known) form there =
@@ -63,3 +70,10 @@ pub assumes_them : (cs : List Condition) (state : State) → ForSome state HasFo
 assumes_them cs None form there = λ vs heap number array is_heap holds fits met. elim holds [ ]
 assumes_them cs (Some known) form there =
     λ vs heap number array is_heap holds fits met. met_are_kept cs known (form known refl) (there known refl) vs heap number array is_heap holds fits met
+
+-- A call that says whether all are entailed.
+pub sound_where_ok : {E : Type 0} (result : Result Bool E) (cs : List Condition) (state : State) → ForSome state HasForm
+    → ForSome state (λ known. AreThere known cs) → IfOk result (λ all. all ≡ (judged cs state).entailed)
+    → IfOk result (λ all. all ≡ true → EntailsThem cs state)
+sound_where_ok (Ok all) cs state form there is = λ so. entails_them cs state form there (sym is ∙ so)
+sound_where_ok (Err e) cs state form there is = is
