@@ -1,7 +1,6 @@
 -- Conditions are judged one after another: what was judged so far and then the rest is the whole.
-use Rattle.std.proofs.Common.{◌≡◌, ◌+◌, ℕ, suc, Bool, true, false, ◌&&◌, List, [], ◌∷◌, Option, Some, None, drop, length, ◌<◌, get_or, refl, sym, ap, subst, ◌∙◌, arith}
+use Rattle.std.proofs.Common.{◌≡◌, ◌+◌, ℕ, suc, Bool, true, false, ◌&&◌, List, [], ◌∷◌, Option, Some, None, drop, drop-cons, length, ◌<◌, get_or, refl, sym, ap, subst, ◌∙◌, arith}
 use Rattle.std.specs.Option.{ForSome}
-use Rattle.std.proofs.lemmas.List.{drop-cons}
 use Rattle.state_facts.specs.Forms.{HasForm}
 use Rattle.state_facts.specs.StateFacts.{StateFacts, State}
 use Rattle.state_obligations.proofs.StateLaws.{assumed_there}

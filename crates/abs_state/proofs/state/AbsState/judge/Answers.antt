@@ -8,10 +8,10 @@ use Rattle.abs_state.proofs.state.AbsState.judge.Goals as goal
 
 pub returns-clause-sound : goal.returns-clause-sound
 returns-clause-sound c =
-    sound_where_ok c.judge_operation.result (conditions_of c.args.operation) c.args.self.now c.judge_operation.ensures.form c.requires.there c.judge_operation.ensures.value
+    sound_where_ok c.judge_operation.result (conditions_of c.args.operation) c.args.self.now c.reached.ensures.form c.requires.there c.judge_operation.ensures.value
 
 pub returns-clause-keeps : goal.returns-clause-keeps
 returns-clause-keeps c =
     let cs = conditions_of c.args.operation in
     kept_where_ok c.judge_operation.result (λ (s : State). AssumesThem cs c.args.self.now s) (judged cs c.args.self.now).state c.judge_operation.new.self
-    (assumes_them cs c.args.self.now c.judge_operation.ensures.form c.requires.there) c.judge_operation.ensures.state
+    (assumes_them cs c.args.self.now c.reached.ensures.form c.requires.there) c.judge_operation.ensures.state
