@@ -7,6 +7,7 @@ mod likeness;
 mod parts;
 mod state;
 mod steps;
+mod unknown_values;
 
 pub use parts::Parts;
 pub use state::AbsState;
