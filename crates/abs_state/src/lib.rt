@@ -8,6 +8,7 @@ mod obligations;
 mod parts;
 mod state;
 mod steps;
+mod unknown_values;
 
 pub use parts::Parts;
 pub use state::AbsState;
