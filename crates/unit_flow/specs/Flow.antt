@@ -1,8 +1,8 @@
 -- A unit with its flow graph and the kinds of its code, and how points of runs go along the edges of the graph.
 use Rattle.std.specs.Prelude.{◌≡◌, ℕ, ◌+◌, Bool, true, nat_le, nat_lt, List, [], ◌∷◌, filter, get_or, slice_get, Option, Some, None}
-use Rattle.cil_model.specs.Calls.{FreeCall, entry_frame}
+use Rattle.cil_model.specs.Calls.{entry_frame}
 use Rattle.cil_model.specs.Passes.{KindsOf, stack_at}
-use Rattle.cil_model.specs.Runs.{MayBegin, Row}
+use Rattle.cil_model.specs.Runs.{LocalStep, MayBegin, instr_at}
 use Rattle.cil_model.specs.Shapes.{shape_of}
 use Rattle.cil_model.specs.Values.{Heap}
 use Rattle.cil_model.specs.WellFormed.{IsWellFormed}
@@ -55,12 +55,12 @@ edge_at code edge = get_or code.graph.edges edge no_edge
 
 -- ---- points that go along an edge
 
--- The unit's frame at the one point does the instruction there, and lives on at the other. A call of a method gives any result
--- and any heap that what the method ensures allows.
+-- The unit's frame at the one point is about to do this instruction, and by a step of its own it is at the other. A call of a
+-- method gives any result and any heap that what the method ensures allows.
 pub record Steps (unit : MethodUnit) (i : Instr) (p q : Point) : Type 0 where
-  pub here : p.frame.at ≡ i.at
   pub of : IsPointOf unit p
-  pub goes : Row (FreeCall unit) i.op [] unit i p.frame p.heap (lives_at q)
+  pub to : instr_at unit.instrs p.frame.at ≡ Some i
+  pub goes : LocalStep unit (lives_at p) (lives_at q)
 
 -- It goes on by each of these instructions in turn, and by the last on the way of this number.
 abbrev pub GoesThrough : MethodUnit → ℕ → List Instr → Point → Point → Type 0
