@@ -1,6 +1,8 @@
 //! Units with their flow graphs and the kinds of their code.
 
-ghost use Rattle.std.specs.Prelude.{◌≡◌, ◌×◌, ◌<◌, length, reverse, option_map, IfOk};
+ghost use Rattle.std.specs.Prelude.{◌≡◌, ◌<◌, length, reverse, option_map, IfOk};
+ghost use Rattle.cil_model.specs.Passes.{KindsOf};
+ghost use Rattle.cil_model.specs.Shapes.{shape_of};
 ghost use Rattle.cil_model.specs.WellFormed.{IsWellFormed};
 ghost use Rattle.machine_points.specs.Points.{RunsHaveValues};
 ghost use Rattle.unit_flow.specs.Flow as flow;
@@ -30,7 +32,8 @@ pub struct UnitFlow {
 fn with_kinds(alloc: Global, unit: Unit) -> Result<(Unit, Kinds), NoMemory>
     requires formed { IsWellFormed unit }
     ensures unit { IfOk result (λ typed. typed.0 ≡ unit) }
-    ensures kinds { IfOk result (λ typed. typed.1 ≡ kinds_of unit) }
+    ensures right { IfOk result (λ typed. KindsOf (shape_of unit) unit.instrs typed.1) }
+    ensures found { IfOk result (λ typed. typed.1 ≡ kinds_of unit) }
 {
     let shape = Shape {
         result: unit.result,
@@ -62,6 +65,7 @@ fn with_kinds(alloc: Global, unit: Unit) -> Result<(Unit, Kinds), NoMemory>
 /// The unit, with its graph and its kinds.
 fn make_flow(alloc: Global, unit: Unit) -> Result<UnitFlow, NoMemory>
     requires formed { IsWellFormed unit }
+    ensures lawful { IfOk result IsLawful }
     ensures value { IfOk result (λ code. code ≡ flow_of unit) }
 {
     let graph = Graph::of(alloc, &unit)?;
