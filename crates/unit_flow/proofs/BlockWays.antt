@@ -22,7 +22,7 @@ use Rattle.flow_graph.specs.declared.graph.Edge.{Edge}
 use Rattle.flow_graph.proofs.AlongEdges.{all_after, or_right, passing_all}
 use Rattle.flow_graph.proofs.EdgeOrder.{Starts, all_weaker, has_place, last_place_is, next_alone, place_within}
 use Rattle.flow_graph.proofs.Lying.{all_passing, blocks_increase}
-use Rattle.unit_flow.specs.Chains.{IsLeft, IsPassed, IsWay}
+use Rattle.unit_flow.specs.Chains.{IsLeft, IsWay}
 use Rattle.unit_flow.specs.Flow.{is_before, instrs_between}
 use Rattle.unit_flow.specs.Ways.{IsShortSwitch}
 use Rattle.unit_flow.proofs.Places.{both, item_there, there_is}

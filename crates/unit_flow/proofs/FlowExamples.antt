@@ -1,6 +1,6 @@
 -- Small units with their blocks and edges, and runs along them: a constant that is tested, an array that may be null, and a
 -- call of a method.
-use Rattle.std.proofs.Common.{◌≡◌, ℕ, ℤ, pos, FitsSigned, w32, List, [], ◌∷◌, Some, None, refl, inl, inr, codes, arith}
+use Rattle.std.proofs.Common.{◌≡◌, ℕ, ℤ, pos, FitsSigned, w32, List, [], ◌∷◌, Some, refl, inl, inr, codes, arith}
 use Rattle.std.proofs.lemmas.Int.{ints}
 use Rattle.cil_model.specs.UnitCalls.{unit_call}
 use Rattle.cil_model.specs.Values.{Heap, IsByte}

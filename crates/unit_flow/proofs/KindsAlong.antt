@@ -1,22 +1,20 @@
 -- What typing and the machine know along an instruction: the kinds where it goes on are those that it leaves, and so are the
 -- values of a point that goes on by it.
-use Rattle.std.proofs.Common.{◌≡◌, ℕ, suc, ◌+◌, List, [], ◌∷◌, length, slice_get, Option, Some, None, refl, sym, ap, subst, ◌∙◌}
+use Rattle.std.proofs.Common.{◌≡◌, ℕ, suc, ◌+◌, List, [], ◌∷◌, length, Option, Some, None, refl, sym, ap, subst, ◌∙◌}
 use Rattle.std.proofs.lemmas.Option.{none-some, same_Some}
-use Rattle.cil_model.specs.Calls.{entry_frame}
 use Rattle.cil_model.specs.FitKinds.{AreDecoded, OperandFits}
 use Rattle.cil_model.specs.Kinds as kinds
 use Rattle.cil_model.specs.Passes.{KindsOf, Stacks, merged, merged_kind, stack_at, successors, with_kind}
 use Rattle.cil_model.specs.Runs.{instr_at}
 use Rattle.cil_model.specs.Shapes.{shape_of}
 use Rattle.cil_model.specs.declared.instruction.Instr.{Instr}
-use Rattle.cil_model.specs.declared.instruction.Op.{Op}
 use Rattle.cil_model.specs.declared.place.Kind.{Kind}
 use Rattle.cil_model.specs.declared.unit.Unit.{Unit as MethodUnit}
 use Rattle.cil_model.proofs.KindsSettle.{Absorbs, Settled, settled}
 use Rattle.cil_model.proofs.Lists.{of_found}
 use Rattle.cil_model.proofs.StepsKeep.{MakesValues}
 use Rattle.machine_points.specs.MachineValues.{HasMachineValues}
-use Rattle.machine_points.specs.Points.{IsPointOf, point}
+use Rattle.machine_points.specs.Points.{IsPointOf}
 use Rattle.machine_points.specs.declared.point.Point.{Point}
 use Rattle.machine_points.proofs.PointsKeep.{entry_point, point_values, step_point}
 use Rattle.unit_flow.specs.Chains.{IsLeft, IsPassed}

@@ -1,5 +1,5 @@
 -- A point to which a run comes has come along edges to the start of a block, and from there by the block's instructions.
-use Rattle.std.proofs.Common.{◌≡◌, ◌⊎◌, ℕ, zero, suc, ◌+◌, ◌<◌, ◌≤◌, true, false, List, [], ◌∷◌, length, slice_get, Some, refl, sym, ap, subst, ◌∙◌, arith, inl, inr}
+use Rattle.std.proofs.Common.{◌≡◌, ◌⊎◌, ℕ, zero, suc, ◌+◌, ◌<◌, ◌≤◌, false, List, [], ◌∷◌, length, slice_get, Some, refl, sym, ap, subst, ◌∙◌, arith, inl, inr}
 use Rattle.std.specs.List.{AllByRecursion}
 use Rattle.std.proofs.lemmas.Bool.{false≢true}
 use Rattle.std.proofs.lemmas.Option.{none-some, same_Some}
@@ -21,7 +21,7 @@ use Rattle.cil_model.specs.declared.machine.Value.{Value}
 use Rattle.cil_model.specs.declared.unit.Unit.{Unit as MethodUnit}
 use Rattle.cil_model.proofs.KindsSettle.{found_at, reached_begins}
 use Rattle.cil_model.proofs.Lists.{all_append, of_found}
-use Rattle.cil_model.proofs.StepsKeep.{KeepsFrame, MakesValues, local_step_keeps}
+use Rattle.cil_model.proofs.StepsKeep.{KeepsFrame, local_step_keeps}
 use Rattle.cil_model.proofs.TypedCode.{typed_code_steps}
 use Rattle.flow_graph.proofs.StepsGo.{step_goes}
 use Rattle.machine_points.specs.Points.{IsReached, lives_at, point}
