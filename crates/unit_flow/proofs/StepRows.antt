@@ -13,12 +13,14 @@ use Rattle.cil_model.specs.declared.instruction.Op.{Op}
 use Rattle.cil_model.specs.declared.instruction.Op.TheVariants as ops
 use Rattle.cil_model.specs.declared.machine.Config.{Config}
 use Rattle.cil_model.specs.declared.machine.Config.TheVariants as configs
+use Rattle.cil_model.specs.declared.machine.FaultKind.{FaultKind}
 use Rattle.cil_model.specs.declared.machine.Frame.{Frame}
 use Rattle.cil_model.specs.declared.machine.Value.{Value}
 use Rattle.cil_model.specs.declared.unit.CalleeInfo.{CalleeInfo}
 use Rattle.cil_model.specs.declared.unit.Unit.{Unit as MethodUnit}
 use Rattle.cil_model.specs.declared.unit_numbers.UnitCall.{UnitCall}
 use Rattle.cil_model.specs.declared.unit_numbers.UnitCall.TheVariants as calls
+use Rattle.cil_model.proofs.Lists.{of_found}
 use Rattle.machine_points.specs.Points.{lives_at}
 use Rattle.machine_points.specs.declared.point.Point.{Point}
 use Rattle.unit_flow.specs.Flow.{Steps}
@@ -34,8 +36,8 @@ module _ (unit : MethodUnit) (i : Instr) (f : Frame) (heap : Heap) where
 
   -- One of its effects, or a return.
   pub row_kind : (op : Op) (new : Config) → called_by op ≡ None → Row (FreeCall unit) op [] unit i f heap new
-      → EffectRow [] unit i f heap new ⊎ ReturnRow [] unit i f heap new
-  row_kind ops.Return new calls_none row = inr row
+      → EffectRow [] unit i f heap new ⊎ ((op ≡ ops.Return) × ReturnRow [] unit i f heap new)
+  row_kind ops.Return new calls_none row = inr (refl, row)
   row_kind (ops.Call number) new calls_none row = inl (call_row (unit_call number) new calls_none row)
   row_kind _ new calls_none row = inl row
 
@@ -43,6 +45,8 @@ module _ (unit : MethodUnit) (i : Instr) (f : Frame) (heap : Heap) where
   no_return_on g after result (Some k) returned = cc
   no_return_on g after result None (inl ends) = let to = ends.1 in cc
   no_return_on g after result None (inr (outer, caller, are, to)) = no_caller outer caller are
+
+  -- ---- a step that goes on
 
   -- A frame that returns does not live on.
   pub no_return : (g : Frame) (after : Heap) → ReturnRow [] unit i f heap (configs.Live (g ∷ []) after) → ⊥
@@ -61,7 +65,25 @@ module _ (unit : MethodUnit) (i : Instr) (f : Frame) (heap : Heap) where
   goes_by : (g : Frame) (after : Heap) → called_by i.op ≡ None → Row (FreeCall unit) i.op [] unit i f heap (configs.Live (g ∷ []) after)
       → HasEffect (effects unit i f heap) (GoesOn g after)
   goes_by g after calls_none row =
-      elim (row_kind i.op (configs.Live (g ∷ []) after) calls_none row) [ inl by ↦ goes_on g after by | inr returns ↦ absurd (no_return g after returns) ]
+      elim (row_kind i.op (configs.Live (g ∷ []) after) calls_none row) [ inl by ↦ goes_on g after by | inr returns ↦ absurd (no_return g after returns.1) ]
+
+  -- ---- a step to a fault
+
+  fault_effect : (kind : FaultKind) (index at : ℕ) (effect : Effect) → configs.Fault kind index at ≡ config_after [] f i effect → effect ≡ Faults kind
+  fault_effect kind index at (GoesOn new heap) is = absurd cc
+  fault_effect kind index at (Faults other) is = cc
+  fault_effect kind index at Assumes is = absurd cc
+  fault_effect kind index at FindsNoRoom is = absurd cc
+
+  -- Where it ends in a fault by an effect, that one is of this kind.
+  pub faults : (kind : FaultKind) (index at : ℕ) → EffectRow [] unit i f heap (configs.Fault kind index at) → HasEffect (effects unit i f heap) (Faults kind)
+  faults kind index at (effect, has, is) = subst (HasEffect (effects unit i f heap)) (fault_effect kind index at effect is) has
+
+  -- One of the effects, or a return, of which an Ensures is false.
+  pub faults_by : (kind : FaultKind) (index at : ℕ) → called_by i.op ≡ None → Row (FreeCall unit) i.op [] unit i f heap (configs.Fault kind index at)
+      → HasEffect (effects unit i f heap) (Faults kind) ⊎ ((i.op ≡ ops.Return) × ReturnRow [] unit i f heap (configs.Fault kind index at))
+  faults_by kind index at calls_none row =
+      elim (row_kind i.op (configs.Fault kind index at) calls_none row) [ inl by ↦ inl (faults kind index at by) | inr returns ↦ inr returns ]
 
 -- The row of the instruction that is found.
 pub row_found : (unit : MethodUnit) (i : Instr) (f : Frame) (heap : Heap) (new : Config) → instr_at unit.instrs f.at ≡ Some i
@@ -103,3 +125,9 @@ pub calls_none : (unit : MethodUnit) → IsWellFormed unit → unit.callees ≡ 
 calls_none unit formed none =
     none_called unit.instrs (no_numbers (filter_map (λ i. called_by i.op) unit.instrs)
     (subst (λ (callees : List CalleeInfo). InOrderOfUse 0 (length callees) (filter_map (λ i. called_by i.op) unit.instrs)) none formed.order))
+
+-- So each of its steps that goes on is an effect.
+pub effect_alone : (unit : MethodUnit) (i : Instr) (p q : Point) → IsWellFormed unit → unit.callees ≡ [] → Steps unit i p q
+    → HasEffect (effects unit i p.frame p.heap) (GoesOn q.frame q.heap)
+effect_alone unit i p q formed none step =
+    effect_of unit i p q (of_found (λ j. called_by j.op ≡ None) unit.instrs p.frame.at i (calls_none unit formed none) step.to) step
