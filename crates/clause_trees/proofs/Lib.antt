@@ -1,3 +1,6 @@
 pub mod Stays
 pub mod PushedMoves
 pub mod Typing
+pub mod PushedValues
+pub mod PushedTrees
+pub mod ValueKinds
