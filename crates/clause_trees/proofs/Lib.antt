@@ -4,3 +4,5 @@ pub mod Typing
 pub mod PushedValues
 pub mod PushedTrees
 pub mod ValueKinds
+pub mod KeptSteps
+pub mod KeptNodes

@@ -79,11 +79,10 @@ below_pushed known between below first second w is lies = record {
   of_kind = kind_there between below first is.top lies.grown (pushed_there known between first is) is.of_kind;
 }
 
-pub record HasTwo (known : StateFacts) (first second : Kind) (v : Var) (after : StateFacts) : Type 0 where
-  pub upper : Var
+pub record HasTwo (known : StateFacts) (first second : Kind) (v w : Var) (after : StateFacts) : Type 0 where
   pub lower_is : from_top 1 after ≡ Some v
-  pub upper_is : from_top 0 after ≡ Some upper
-  pub below : AreBelow known first second v upper (popped (popped after))
+  pub upper_is : from_top 0 after ≡ Some w
+  pub below : AreBelow known first second v w (popped (popped after))
 
 kind_popped : (after : StateFacts) (kind : Kind) (v : Var) → IsOfKind after kind v → IsOfKind (popped after) kind v
 unfolding popped
@@ -97,14 +96,23 @@ var_popped : (after : StateFacts) (v : Var) → HasVar after v → HasVar (poppe
 unfolding popped
 var_popped after v there = there
 
-pub has_two : (known between after : StateFacts) (first second : Kind) (is : IsPushed known first between) → IsPushed between second after
-    → HasTwo known first second is.top after
+pub lower_pushed : (known between after : StateFacts) (first second : Kind) → IsPushed known first between → IsPushed between second after
+    → IsPushed known first (popped after)
+lower_pushed known between after first second is more =
+    below_pushed known between (popped after) first second more.top is (popped_below between after second more)
+
+pub lower_is_top : (known between after : StateFacts) (first second : Kind) (is : IsPushed known first between) (more : IsPushed between second after)
+    → (lower_pushed known between after first second is more).top ≡ is.top
+unfolding lower_pushed below_pushed
+lower_is_top known between after first second is more = refl
+
+pub has_two : (known between after : StateFacts) (first second : Kind) (is : IsPushed known first between) (more : IsPushed between second after)
+    → HasTwo known first second is.top more.top after
 unfolding below_pushed
 has_two known between after first second is more =
     let lies = popped_below between after second more in
     let again = below_pushed known between (popped after) first second more.top is lies in
     record {
-      upper = more.top;
       lower_is = ap (λ l. slice_get (reverse l) 1) (more.variables_are ∙ ap (λ l. l ++ more.top ∷ []) is.variables_are)
           ∙ second_of known.variables is.top more.top;
       upper_is = top_is between after second more;
@@ -130,8 +138,8 @@ two_pushed known first second kind (Some between) inside step is more each = by 
         let below = two.below in
         subst (λ (o : Option Var). IsPushedIn known kind (with_two step o (from_top 0 after) (popped (popped after))).state) (sym two.lower_is)
         (subst (λ (o : Option Var). IsPushedIn known kind (with_two step (Some is.top) o (popped (popped after))).state) (sym two.upper_is)
-        (pushed_over known (popped (popped after)) kind (step is.top two.upper (popped (popped after))).state below.lower.grown
-        below.lower.variables_are (each is.top two.upper (popped (popped after)) below)))
+        (pushed_over known (popped (popped after)) kind (step is.top upper.top (popped (popped after))).state below.lower.grown
+        below.lower.variables_are (each is.top upper.top (popped (popped after)) below)))
 
 -- ---- what is owed
 
