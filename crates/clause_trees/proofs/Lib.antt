@@ -6,3 +6,5 @@ pub mod PushedTrees
 pub mod ValueKinds
 pub mod KeptSteps
 pub mod KeptNodes
+pub mod KeptConditions
+pub mod KeptTrees

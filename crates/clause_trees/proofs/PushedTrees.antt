@@ -88,7 +88,7 @@ pushed_seen known after kind is =
 
 -- ---- both branches
 
-left_seen : (a b kind : Kind) (s : Seen) → merged_kind a b ≡ Some kind → IsSeen a s → IsSeen kind s
+pub left_seen : (a b kind : Kind) (s : Seen) → merged_kind a b ≡ Some kind → IsSeen a s → IsSeen kind s
 left_seen kinds.Int kinds.Int kind s is so = subst (λ k. IsSeen k s) (same_Some kinds.Int kind is) so
 left_seen kinds.Ints kinds.Ints kind s is so = subst (λ k. IsSeen k s) (same_Some kinds.Ints kind is) so
 left_seen kinds.Bools kinds.Bools kind s is so = subst (λ k. IsSeen k s) (same_Some kinds.Bools kind is) so
@@ -99,7 +99,7 @@ left_seen kinds.NullRef kinds.Ints kind seen.Null is so = subst (λ k. IsSeen k 
 left_seen kinds.NullRef kinds.Bools kind seen.Null is so = subst (λ k. IsSeen k seen.Null) (same_Some kinds.Bools kind is) tt
 left_seen _ _ kind s is so = absurd (first_of (cc, search))
 
-merged_swaps : (a b kind : Kind) → merged_kind a b ≡ Some kind → merged_kind b a ≡ Some kind
+pub merged_swaps : (a b kind : Kind) → merged_kind a b ≡ Some kind → merged_kind b a ≡ Some kind
 merged_swaps kinds.Int kinds.Int kind is = is
 merged_swaps kinds.Ints kinds.Ints kind is = is
 merged_swaps kinds.Bools kinds.Bools kind is = is
@@ -157,7 +157,7 @@ true_follows holds vars.Text known form there =
 abbrev pub PushesBehind : StateFacts → Kind → Step → Type 0
 PushesBehind known kind inside = (x : StateFacts) → StaysThere known x → IsPushedIn x kind (inside x).state
 
-branch_seen : (known : StateFacts) (kind : Kind) (inside : Step) (holds : Bool) (v : Var) → HasForm known → HasVar known v
+pub branch_seen : (known : StateFacts) (kind : Kind) (inside : Step) (holds : Bool) (v : Var) → HasForm known → HasVar known v
     → PushesBehind known kind inside → IsSeenIf kind (seen_in (branch inside holds v known))
 branch_seen known kind inside holds v form there pushes = by (true_known holds v known) (true_follows holds v known form there)
   where
@@ -200,11 +200,11 @@ int_pushed known kind o is pushed_int = subst (λ k. IsPushedIn known k o) is pu
 -- ---- trees
 
 module _ (env : TreeEnv) (args : List Place) (result : Place) where
-  stays_readable : (known x : StateFacts) → IsReadable env args result known → StaysThere known x → IsReadable env args result x
+  pub stays_readable : (known x : StateFacts) → IsReadable env args result known → StaysThere known x → IsReadable env args result x
   stays_readable known x readable stays =
       readable_on env args result known x (stays_grown known x stays) (subst (Extends known.variables) (sym stays.variables) (λ i v is. is)) readable
 
-  below_readable : (known x : StateFacts) (kind : Kind) (v : Var) → IsReadable env args result known → IsBelow known kind v x
+  pub below_readable : (known x : StateFacts) (kind : Kind) (v : Var) → IsReadable env args result known → IsBelow known kind v x
       → IsReadable env args result x
   below_readable known x kind v readable below =
       readable_on env args result known x below.grown (subst (Extends known.variables) (sym below.variables_are) (λ i w is. is)) readable
