@@ -76,7 +76,7 @@ pub length_of_cell : (heap : Heap) (a : ℕ) (cell : ArrayCell) → slice_get he
 length_of_cell heap a cell found = ap (λ o. option_map_or (λ (c : ArrayCell). length c.items) o 0) found
 
 module _ (over heap : Heap) (kept : KeepsForms over heap) (is_heap : IsHeap heap) where
-  same_length : (a : ℕ) (cell : ArrayCell) → slice_get over a ≡ Some cell → length_in heap a ≡ length cell.items
+  pub same_length : (a : ℕ) (cell : ArrayCell) → slice_get over a ≡ Some cell → length_in heap a ≡ length cell.items
   same_length a cell found = length_kept over heap a kept (slice_get_within over a cell found) ∙ length_of_cell over a cell found
 
   array_length : (known : StateFacts) (r a : ℕ) (is : Value) (vs : List Value) (number : ℕ → ℤ) (array : ℕ → Option ℕ)

@@ -8,3 +8,4 @@ pub mod KeptSteps
 pub mod KeptNodes
 pub mod KeptConditions
 pub mod KeptTrees
+pub mod EntailedValues
