@@ -9,3 +9,4 @@ pub mod KeptNodes
 pub mod KeptConditions
 pub mod KeptTrees
 pub mod EntailedValues
+pub mod SameForms
