@@ -10,3 +10,4 @@ pub mod KeptConditions
 pub mod KeptTrees
 pub mod EntailedValues
 pub mod SameForms
+pub mod AssumedTrees
