@@ -11,3 +11,4 @@ pub mod KeptTrees
 pub mod EntailedValues
 pub mod SameForms
 pub mod AssumedTrees
+pub mod AssumedKept
