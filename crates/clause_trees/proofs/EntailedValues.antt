@@ -108,7 +108,7 @@ two_entailed known k l o inside step vs x y heap number array P first second ent
 
 -- ---- nodes
 
-form_is : (heap : Heap) (kind : Kind) (x : Value) → FitsKind heap kind x → forms.HasForm heap kind x
+pub form_is : (heap : Heap) (kind : Kind) (x : Value) → FitsKind heap kind x → forms.HasForm heap kind x
 form_is heap kind x fits = (forms.forms_of heap (kind ∷ []) (x ∷ []) (fits, tt)).0
 
 some_cell : (heap : Heap) (place : Place) (a : ℕ) → has_array heap place a ≡ true

@@ -12,3 +12,4 @@ pub mod EntailedValues
 pub mod SameForms
 pub mod AssumedTrees
 pub mod AssumedKept
+pub mod ShownTrees
