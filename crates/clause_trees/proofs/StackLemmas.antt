@@ -13,7 +13,7 @@ use Rattle.state_facts.specs.StateFacts.{StateFacts, State}
 use Rattle.state_facts.specs.States.{pop}
 use Rattle.frame_names.specs.declared.var.Var.{Var}
 use Rattle.frame_names.specs.declared.var.Var.TheVariants as vars
-use Rattle.clause_trees.specs.TreeValues.{Finds, arithmetic, binary_value, comparison, in_state, numbers_by, references_by, refusing, top_in}
+use Rattle.clause_trees.specs.TreeValues.{Finds, arithmetic, binary_by, binary_value, comparison, in_state, refusing, top_in}
 
 -- ---- what is there
 
@@ -60,7 +60,7 @@ pub numbers_computed : (op : BinOp) (a b : Expr) (state : State) → is_some (co
     → in_state (binary_value op (vars.Number a) (vars.Number b)) state ≡ in_state (arithmetic op a b) state
 numbers_computed op a b state is = by (comparison_of op) is
   where
-    by : (o : Option CmpOp) → is_some o ≡ false → in_state (numbers_by o op a b) state ≡ in_state (arithmetic op a b) state
+    by : (o : Option CmpOp) → is_some o ≡ false → in_state (binary_by op o (vars.Number a) (vars.Number b)) state ≡ in_state (arithmetic op a b) state
     by None is = refl
     by (Some cmp) is = absurd (false≢true (sym is))
 
@@ -69,7 +69,7 @@ pub numbers_compared : (op : BinOp) (a b : Expr) (state : State) → is_some (co
 numbers_compared op a b state is = by (comparison_of op) is
   where
     by : (o : Option CmpOp) → is_some o ≡ true
-        → in_state (numbers_by o op a b) state ≡ in_state (comparison op (vars.Number a) (vars.Number b)) state
+        → in_state (binary_by op o (vars.Number a) (vars.Number b)) state ≡ in_state (comparison op (vars.Number a) (vars.Number b)) state
     by None is = absurd (false≢true is)
     by (Some cmp) is = refl
 
@@ -78,7 +78,7 @@ pub references_compared : (op : BinOp) (r q : ℕ) (state : State) → is_some (
 references_compared op r q state is = by (comparison_of op) is
   where
     by : (o : Option CmpOp) → is_some o ≡ true
-        → in_state (references_by o op r q) state ≡ in_state (comparison op (vars.Reference r) (vars.Reference q)) state
+        → in_state (binary_by op o (vars.Reference r) (vars.Reference q)) state ≡ in_state (comparison op (vars.Reference r) (vars.Reference q)) state
     by None is = absurd (false≢true is)
     by (Some cmp) is = refl
 
@@ -86,6 +86,29 @@ pub references_refused : (op : BinOp) (r q : ℕ) (state : State) → is_some (c
     → in_state (binary_value op (vars.Reference r) (vars.Reference q)) state ≡ in_state refusing state
 references_refused op r q state is = by (comparison_of op) is
   where
-    by : (o : Option CmpOp) → is_some o ≡ false → in_state (references_by o op r q) state ≡ in_state refusing state
+    by : (o : Option CmpOp) → is_some o ≡ false → in_state (binary_by op o (vars.Reference r) (vars.Reference q)) state ≡ in_state refusing state
     by None is = refl
     by (Some cmp) is = absurd (false≢true (sym is))
+
+-- A number and a reference, or a text.
+abbrev pub AreMixed : Var → Var → Type 0
+AreMixed (vars.Number a) (vars.Number b) = ⊥
+AreMixed (vars.Reference r) (vars.Reference q) = ⊥
+AreMixed v w = Unit {0}
+
+pub mixed_refused : (op : BinOp) (v w : Var) (state : State) → AreMixed v w → in_state (binary_value op v w) state ≡ in_state refusing state
+mixed_refused op v w state mixed = by (comparison_of op) v w mixed
+  where
+    by : (o : Option CmpOp) (v w : Var) → AreMixed v w → in_state (binary_by op o v w) state ≡ in_state refusing state
+    by None (vars.Number a) (vars.Number b) mixed = elim mixed [ ]
+    by None (vars.Number a) (vars.Reference q) mixed = refl
+    by None (vars.Number a) vars.Text mixed = refl
+    by None (vars.Reference r) w mixed = refl
+    by None vars.Text w mixed = refl
+    by (Some cmp) (vars.Number a) (vars.Number b) mixed = elim mixed [ ]
+    by (Some cmp) (vars.Number a) (vars.Reference q) mixed = refl
+    by (Some cmp) (vars.Number a) vars.Text mixed = refl
+    by (Some cmp) (vars.Reference r) (vars.Number b) mixed = refl
+    by (Some cmp) (vars.Reference r) (vars.Reference q) mixed = elim mixed [ ]
+    by (Some cmp) (vars.Reference r) vars.Text mixed = refl
+    by (Some cmp) vars.Text w mixed = refl

@@ -22,7 +22,7 @@ use Rattle.clause_trees.specs.declared.reader.TreeEnv.{TreeEnv}
 abbrev pub value_in : TreeEnv → Term → State → Judged
 value_in env t state = in_state (value env Now t) state
 
--- A comparison with this second side is true exactly where its first side is false: it tests that this is 0.
+-- A comparison with this second side is the negation of its first side: it is with the constant 0.
 abbrev pub is_negation : BinOp → Term → Bool
 is_negation operators.Ceq (terms.Const n) = int_eq n (pos 0)
 is_negation op b = false
@@ -41,9 +41,9 @@ assumed_value holds j = option_and_then (assumed_top holds) j.state
 unfoldable pub assumed : TreeEnv → Bool → Term → State → State
 assumed env holds (terms.Cond c a b) state =
     join (assumed env holds a (assumed env true c state)) (assumed env holds b (assumed env false c state))
-assumed env holds (terms.Bin op a b) state =
-    if is_negation op b then assumed env (not holds) a state
-    else assumed_value holds (value_in env (terms.Bin op a b) state)
+assumed env holds (terms.Bin operators.Ceq a (terms.Const n)) state =
+    if int_eq n (pos 0) then assumed env (not holds) a state
+    else assumed_value holds (value_in env (terms.Bin operators.Ceq a (terms.Const n)) state)
 assumed env holds t state = assumed_value holds (value_in env t state)
 
 -- ---- shown
@@ -71,7 +71,7 @@ unfoldable pub shown : TreeEnv → Bool → Term → State → Bool
 shown env holds (terms.Cond c a b) state =
     (value_in env c state).entailed
     && (shown env holds a (assumed env true c state) && shown env holds b (assumed env false c state))
-shown env holds (terms.Bin op a b) state =
-    if is_negation op b then shown env (not holds) a state
-    else shown_value holds (value_in env (terms.Bin op a b) state)
+shown env holds (terms.Bin operators.Ceq a (terms.Const n)) state =
+    if int_eq n (pos 0) then shown env (not holds) a state
+    else shown_value holds (value_in env (terms.Bin operators.Ceq a (terms.Const n)) state)
 shown env holds t state = shown_value holds (value_in env t state)

@@ -120,21 +120,14 @@ arithmetic op a b known = owing (operations.Binary op a b) (rule.arith op a b) k
 abbrev pub comparison : BinOp → Var → Var → Step
 comparison op v w known = owing_nothing (rule.compare op v w (Some known))
 
-abbrev pub numbers_by : Option CmpOp → BinOp → Expr → Expr → Step
-numbers_by None op a b known = arithmetic op a b known
-numbers_by (Some _) op a b known = comparison op (vars.Number a) (vars.Number b) known
-
--- References are compared alone.
-abbrev pub references_by : Option CmpOp → BinOp → ℕ → ℕ → Step
-references_by None op r q known = refused
-references_by (Some _) op r q known = comparison op (vars.Reference r) (vars.Reference q) known
-
 abbrev pub binary_by : BinOp → Option CmpOp → Var → Var → Step
-binary_by op cmp (vars.Number a) (vars.Number b) known = numbers_by cmp op a b known
-binary_by op cmp (vars.Reference r) (vars.Reference q) known = references_by cmp op r q known
-binary_by op cmp _ _ known = refused
+binary_by op None (vars.Number a) (vars.Number b) known = arithmetic op a b known
+binary_by op (Some _) (vars.Number a) (vars.Number b) known = comparison op (vars.Number a) (vars.Number b) known
+binary_by op (Some _) (vars.Reference r) (vars.Reference q) known =
+    comparison op (vars.Reference r) (vars.Reference q) known
+binary_by op _ _ _ known = refused
 
--- What an operator gives of two values.
+-- What an operator gives of two values. References are compared alone.
 abbrev pub binary_value : BinOp → Var → Var → Step
 binary_value op v w known = binary_by op (comparison_of op) v w known
 

@@ -230,16 +230,28 @@ fn binary_of_references(state: &mut AbsState, op: BinOp, r: u32, q: u32) -> Resu
     }
 }
 
+/// What an operator gives of two values.
+#[tactic(auto, using(crate::proofs::StackLemmas::mixed_refused))]
+fn binary_of(state: &mut AbsState, op: BinOp, v: Var, w: Var) -> Result<bool, NoMemory>
+    requires first { ForSome state.old (λ known. HasVar known v) }
+    requires second { ForSome state.old (λ known. HasVar known w) }
+    ensures { IfOk result (λ entailed.
+        rule.Finds entailed state.new (rule.in_state (rule.binary_value op v w) state.old)) }
+{
+    match (v, w) {
+        (Var::Number(a), Var::Number(b)) => binary_of_numbers(state, op, a, b),
+        (Var::Reference(r), Var::Reference(q)) => binary_of_references(state, op, r, q),
+        _ => Ok(refused(state)),
+    }
+}
+
 /// What an operator gives of the two uppermost values.
 pub(crate) fn binary(state: &mut AbsState, op: BinOp) -> Result<bool, NoMemory>
     ensures { IfOk result (λ entailed.
         rule.Finds entailed state.new (rule.in_state (rule.on_two (rule.binary_value op)) state.old)) }
 {
     match take_two(state)? {
-        (Some(Var::Number(a)), Some(Var::Number(b))) => binary_of_numbers(state, op, a, b),
-        (Some(Var::Reference(r)), Some(Var::Reference(q))) => {
-            binary_of_references(state, op, r, q)
-        }
+        (Some(v), Some(w)) => binary_of(state, op, v, w),
         _ => Ok(refused(state)),
     }
 }
