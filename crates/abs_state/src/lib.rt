@@ -4,6 +4,7 @@
 mod equality;
 mod lattice;
 mod likeness;
+mod obligations;
 mod parts;
 mod state;
 mod steps;
