@@ -16,3 +16,4 @@ pub mod ShownTrees
 pub mod StackLemmas
 pub mod Operands
 pub mod ValueLemmas
+pub mod ReadableCases

@@ -115,6 +115,14 @@ pub record IsTest (args : List Place) (result : Place) (t : Term) : Type 0 where
   pub typed : IsTyped args result Now t kind
   pub tested : is_tested kind ≡ true
 
+-- The tree may be a test in this state: the variables that the environment names are there, and of the kinds of some
+-- method's arguments and result, and over these the tree has a kind that may be tested.
+pub record CanTest (env : TreeEnv) (t : Term) (state : State) : Type 0 where
+  pub args : List Place
+  pub result : Place
+  pub readable : ForSome state (IsReadable env args result)
+  pub test : IsTest args result t
+
 -- Where a tree's value is true or false, the state in which it is assumed so holds, by some choice. The value may be a
 -- reference, as that of a test is.
 abbrev pub KeepsAssumedTree : TreeEnv → Bool → Term → State → Type 0

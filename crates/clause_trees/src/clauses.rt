@@ -8,6 +8,7 @@ ghost use Rattle.merged_states.specs.Alike.{AreLikeStates};
 ghost use Rattle.merged_states.specs.Merging.{join};
 ghost use Rattle.state_facts.specs.Forms.{HasNumber};
 ghost use Rattle.clause_trees.specs.ClauseStates as rule;
+ghost use Rattle.clause_trees.specs.Meaning.{CanTest};
 ghost use Rattle.clause_trees.specs.TreeValues.{Finds};
 
 use crate::conditions::{assume_true, span_of};
@@ -131,6 +132,7 @@ impl Clauses {
     }
 
     /// The same of a condition: each is what either branch leaves.
+    #[tactic(auto, unfolding(crate::specs::ClauseStates::assumed), using(crate::proofs::ReadableCases::test_of, crate::proofs::ReadableCases::first_of_cases, crate::proofs::ReadableCases::second_of_cases, crate::proofs::ReadableCases::cases_like))]
     #[cycle(casing)]
     fn cases_of_condition(
         self,
@@ -139,6 +141,7 @@ impl Clauses {
         a: &Tree,
         b: &Tree,
     ) -> Result<Cases, NoMemory>
+        requires readable { CanTest self.env (terms.Cond test.now a.now b.now) state }
         ensures holds { IfOk result (λ cases. cases.holds ≡
             rule.assumed self.env true (terms.Cond test.now a.now b.now) state) }
         ensures fails { IfOk result (λ cases. cases.fails ≡
@@ -154,8 +157,10 @@ impl Clauses {
     }
 
     /// What is known where a tree is true, and where it is false.
+    #[tactic(auto, unfolding(crate::specs::ClauseStates::assumed), using(crate::proofs::ReadableCases::negated_of, crate::proofs::ReadableCases::negated_assumed, crate::proofs::ReadableCases::value_assumed))]
     #[cycle(casing)]
     fn cases(self, state: AbsState, tree: &Tree) -> Result<Cases, NoMemory>
+        requires readable { CanTest self.env tree.now state }
         ensures holds { IfOk result (λ cases. cases.holds ≡ rule.assumed self.env true tree.now state) }
         ensures fails { IfOk result (λ cases. cases.fails ≡ rule.assumed self.env false tree.now state) }
     {
@@ -180,42 +185,42 @@ impl Clauses {
     }
 
     /// The same of a condition: what either branch leaves.
+    #[tactic(auto, unfolding(crate::specs::ClauseStates::assumed), using(crate::proofs::ReadableCases::test_of, crate::proofs::ReadableCases::first_of_cases, crate::proofs::ReadableCases::second_of_cases, crate::proofs::ReadableCases::cases_like))]
     #[cycle(assuming)]
     fn assumed_condition(
         self,
         state: AbsState,
         test: &Tree,
-        branches: (&Tree, &Tree),
+        a: &Tree,
+        b: &Tree,
         holds: bool,
     ) -> Result<AbsState, NoMemory>
+        requires readable { CanTest self.env (terms.Cond test.now a.now b.now) state }
         ensures { IfOk result (λ new. new ≡
-            rule.assumed self.env holds (terms.Cond test.now branches.0.now branches.1.now) state) }
+            rule.assumed self.env holds (terms.Cond test.now a.now b.now) state) }
     {
         let tested = self.cases(state, test)?;
-        let first = self.assumed(tested.holds, branches.0, holds)?;
-        let second = self.assumed(tested.fails, branches.1, holds)?;
+        let first = self.assumed(tested.holds, a, holds)?;
+        let second = self.assumed(tested.fails, b, holds)?;
         joined(self.alloc, first, second)
     }
 
     /// What is known where a tree is true, or is false.
+    #[tactic(auto, unfolding(crate::specs::ClauseStates::assumed), using(crate::proofs::ReadableCases::negated_of, crate::proofs::ReadableCases::negated_assumed, crate::proofs::ReadableCases::value_assumed))]
     #[cycle(assuming)]
     fn assumed(self, state: AbsState, tree: &Tree, holds: bool) -> Result<AbsState, NoMemory>
+        requires readable { CanTest self.env tree.now state }
         ensures { IfOk result (λ new. new ≡ rule.assumed self.env holds tree.now state) }
     {
         match &tree.node {
-            Node::Cond(test, a, b) => self.assumed_condition(state, test, (a, b), holds),
+            Node::Cond(test, a, b) => self.assumed_condition(state, test, a, b, holds),
             Node::Bin(op, a, b) if is_negation(*op, b) => self.assumed(state, a, !holds),
             _ => self.assumed_value(state, tree, holds),
         }
     }
 
     /// Returns whether a tree that is no condition is shown to be true, or to be false.
-    fn is_value_shown(
-        self,
-        mut state: AbsState,
-        tree: &Tree,
-        holds: bool,
-    ) -> Result<bool, NoMemory>
+    fn is_value_shown(self, mut state: AbsState, tree: &Tree, holds: bool) -> Result<bool, NoMemory>
         ensures { IfOk result (λ shown. shown ≡ rule.shown_value holds (rule.value_in self.env tree.now state)) }
     {
         let entailed = self.value(&mut state, tree)?;
@@ -231,34 +236,36 @@ impl Clauses {
     }
 
     /// The same of a condition: its test faults nowhere, and each branch is shown where it is reached.
+    #[tactic(auto, unfolding(crate::specs::ClauseStates::shown), using(crate::proofs::ReadableCases::test_of, crate::proofs::ReadableCases::first_of_cases, crate::proofs::ReadableCases::second_of_cases))]
     #[cycle(showing)]
     fn is_condition_shown(
         self,
         state: AbsState,
         test: &Tree,
-        branches: (&Tree, &Tree),
+        a: &Tree,
+        b: &Tree,
         holds: bool,
     ) -> Result<bool, NoMemory>
+        requires readable { CanTest self.env (terms.Cond test.now a.now b.now) state }
         ensures { IfOk result (λ shown. shown ≡
-            rule.shown self.env holds (terms.Cond test.now branches.0.now branches.1.now) state) }
+            rule.shown self.env holds (terms.Cond test.now a.now b.now) state) }
     {
         if !self.is_harmless(&state, test)? {
             return Ok(false);
         }
         let tested = self.cases(state, test)?;
-        Ok(
-            self.is_shown(tested.holds, branches.0, holds)?
-                && self.is_shown(tested.fails, branches.1, holds)?,
-        )
+        Ok(self.is_shown(tested.holds, a, holds)? && self.is_shown(tested.fails, b, holds)?)
     }
 
     /// Returns whether a tree is shown to be true, or to be false.
+    #[tactic(auto, unfolding(crate::specs::ClauseStates::shown), using(crate::proofs::ReadableCases::negated_of, crate::proofs::ReadableCases::negated_shown, crate::proofs::ReadableCases::value_shown))]
     #[cycle(showing)]
     fn is_shown(self, state: AbsState, tree: &Tree, holds: bool) -> Result<bool, NoMemory>
+        requires readable { CanTest self.env tree.now state }
         ensures { IfOk result (λ shown. shown ≡ rule.shown self.env holds tree.now state) }
     {
         match &tree.node {
-            Node::Cond(test, a, b) => self.is_condition_shown(state, test, (a, b), holds),
+            Node::Cond(test, a, b) => self.is_condition_shown(state, test, a, b, holds),
             Node::Bin(op, a, b) if is_negation(*op, b) => self.is_shown(state, a, !holds),
             _ => self.is_value_shown(state, tree, holds),
         }
@@ -276,6 +283,7 @@ pub fn tree_shown(
     tree: &Tree,
     env: &TreeEnv,
 ) -> Result<bool, NoMemory>
+    requires readable { CanTest env.now tree.now state.now }
     ensures value { IfOk result (λ shown. shown ≡ rule.shown env.now true tree.now state.now) }
 {
     Clauses { alloc, env: *env }.is_shown(state.copy(alloc)?, tree, true)
@@ -288,6 +296,7 @@ pub fn tree_shown_false(
     tree: &Tree,
     env: &TreeEnv,
 ) -> Result<bool, NoMemory>
+    requires readable { CanTest env.now tree.now state.now }
     ensures value { IfOk result (λ shown. shown ≡ rule.shown env.now false tree.now state.now) }
 {
     Clauses { alloc, env: *env }.is_shown(state.copy(alloc)?, tree, false)
@@ -303,6 +312,7 @@ pub fn assume_tree(
     tree: &Tree,
     env: &TreeEnv,
 ) -> Result<AbsState, NoMemory>
+    requires readable { CanTest env.now tree.now state.now }
     ensures value { IfOk result (λ new. new ≡ rule.assumed env.now true tree.now state.now) }
 {
     Clauses { alloc, env: *env }.assumed(state.copy(alloc)?, tree, true)
@@ -315,6 +325,7 @@ pub fn assume_tree_false(
     tree: &Tree,
     env: &TreeEnv,
 ) -> Result<AbsState, NoMemory>
+    requires readable { CanTest env.now tree.now state.now }
     ensures value { IfOk result (λ new. new ≡ rule.assumed env.now false tree.now state.now) }
 {
     Clauses { alloc, env: *env }.assumed(state.copy(alloc)?, tree, false)
