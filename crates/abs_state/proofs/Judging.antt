@@ -49,7 +49,7 @@ judged_on conditions before now new index d all next left inside form entailed a
     record {
       there = subst (λ (s : State). ForSome s (λ known. AreThere known cs)) (sym assumed) (assumed_there c cs now form there.0 there.1);
       entailed =
-        ap (λ (b : Bool). b && (judged cs new).entailed) entailed ∙ ap (λ (s : State). (all && is_entailed c now) && (judged cs s).entailed) assumed
-        ∙ both_and all (is_entailed c now) (judged cs (assume c now)).entailed ∙ whole;
+          ap (λ (b : Bool). b && (judged cs new).entailed) entailed ∙ ap (λ (s : State). (all && is_entailed c now) && (judged cs s).entailed) assumed
+          ∙ both_and all (is_entailed c now) (judged cs (assume c now)).entailed ∙ whole;
       state = ap (λ (s : State). (judged cs s).state) assumed ∙ last;
     }
