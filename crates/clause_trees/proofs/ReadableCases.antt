@@ -71,7 +71,7 @@ first_of_cases env holds c a b state can =
       args = can.args;
       result = can.result;
       readable = readable_assumed env can.args can.result c holds state can.readable tests.0;
-      test = tests.1.0;
+      test = tests.1;
     }
 
 pub second_of_cases : (env : TreeEnv) (holds : Bool) (c a b : Term) (state : State) → CanTest env (terms.Cond c a b) state
@@ -82,7 +82,7 @@ second_of_cases env holds c a b state can =
       args = can.args;
       result = can.result;
       readable = readable_assumed env can.args can.result c holds state can.readable tests.0;
-      test = tests.1.1;
+      test = tests.2;
     }
 
 like_in : (known : StateFacts) (o p : State) → HasSameFormsIn known o → HasSameFormsIn known p → AreLikeStates o p
@@ -101,9 +101,9 @@ cases_like env holds c a b (Some known) can =
     let same = same_itself env can.args can.result known so in
     like_in known (assumed env holds a (assumed env true c (Some known))) (assumed env holds b (assumed env false c (Some known)))
     (assumed_same env can.args can.result a holds known (assumed env true c (Some known)) so
-    (assumed_same env can.args can.result c true known (Some known) so same tests.0) tests.1.0)
+    (assumed_same env can.args can.result c true known (Some known) so same tests.0) tests.1)
     (assumed_same env can.args can.result b holds known (assumed env false c (Some known)) so
-    (assumed_same env can.args can.result c false known (Some known) so same tests.0) tests.1.1)
+    (assumed_same env can.args can.result c false known (Some known) so same tests.0) tests.2)
 
 -- ---- negations
 
