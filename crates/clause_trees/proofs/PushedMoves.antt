@@ -1,5 +1,5 @@
 -- What moves push: one variable more, and what was there is there still.
-use Rattle.std.proofs.Common.{◌≡◌, ℕ, zero, suc, ◌+◌, ◌≤◌, ◌<◌, ℤ, pos, Bool, int_eq, List, [], ◌∷◌, ◌++◌, length, slice_get, Option, Some, None, refl, ap, subst, sym, ◌∙◌, arith}
+use Rattle.std.proofs.Common.{◌≡◌, ℕ, zero, suc, ◌+◌, ◌≤◌, ◌<◌, ℤ, pos, Bool, int_eq, List, [], ◌∷◌, ◌++◌, length, slice_get, Option, Some, None, refl, ap, subst, ◌∙◌, arith}
 use Rattle.std.specs.Option.{option_map}
 use Rattle.std.proofs.lemmas.Bool.{cond_both}
 use Rattle.std.proofs.lemmas.Option.{same_Some}
@@ -33,12 +33,12 @@ use Rattle.state_facts.specs.Calls.{returned, with_returned}
 use Rattle.state_facts.specs.Comparing.{is_equality, null_known, null_tested, same_known, with_comparison, with_defined, with_known, with_null_known, with_null_test, with_same, with_same_known, with_tested, with_truth}
 use Rattle.state_facts.specs.Forms.{HasForm, HasNumber, HasReference}
 use Rattle.state_facts.specs.Moves.{on_top, with_item, with_number}
-use Rattle.state_facts.specs.StateFacts.{StateFacts, State, nullness_at, reference_at}
+use Rattle.state_facts.specs.StateFacts.{StateFacts, nullness_at, reference_at}
 use Rattle.state_facts.specs.UnknownValues.{with_unknown, with_within}
 use Rattle.state_facts.specs.declared.reference.Unknown.{Unknown}
 use Rattle.state_facts.proofs.ComparisonForms.{comparison_form}
 use Rattle.state_facts.proofs.Growing.{Formed, one_longer}
-use Rattle.state_facts.proofs.MoveForms.{item_form, number_form}
+use Rattle.state_facts.proofs.MoveForms.{number_form}
 use Rattle.state_facts.proofs.ResultForms.{with_result_form}
 use Rattle.state_facts.proofs.UnknownValues.{unknown_form, within_form}
 use Rattle.clause_trees.specs.VariableKinds.{IsOfKind, IsPushed, IsPushedIn, place_in}
@@ -67,15 +67,18 @@ noted_longer : (facts : Facts) (r : Interval) (rs : List Relation) → IsLonger 
 unfolding noted
 noted_longer facts r rs =
     let ranges = related_ranges (record facts { ranges = facts.ranges ++ r ∷ [] }) (length facts.ranges + 1) rs in
-    let more : length (related_so (record facts { ranges = facts.ranges ++ r ∷ [] }) (length facts.ranges + 1) rs).ranges ≡ length facts.ranges + 1 =
+    let more : length (related_so (record facts { ranges = facts.ranges ++ r ∷ [] }) (length facts.ranges + 1)
+    rs).ranges ≡ length facts.ranges + 1 =
     ap (λ (l : List Interval). length l) ranges ∙ one_longer facts.ranges r in
     cond_both (int_eq r.lo r.hi) _ _ (IsLonger facts) (λ e. omega arith) (λ e. omega (arith, more))
 
-each_longer : (facts : Facts) (o : Option Interval) (rs : List Relation) → EachLonger facts (option_map (λ r. noted facts r rs) o)
+each_longer : (facts : Facts) (o : Option Interval) (rs : List Relation)
+    → EachLonger facts (option_map (λ r. noted facts r rs) o)
 each_longer facts None rs = tt
 each_longer facts (Some r) rs = noted_longer facts r rs
 
-fresh_longer : (facts : Facts) (lo hi : ℤ) (hole : Option ℤ) (rs : List Relation) → EachLonger facts (fresh facts lo hi hole rs)
+fresh_longer : (facts : Facts) (lo hi : ℤ) (hole : Option ℤ) (rs : List Relation)
+    → EachLonger facts (fresh facts lo hi hole rs)
 unfolding fresh
 fresh_longer facts lo hi hole rs = each_longer facts _ rs
 
@@ -95,7 +98,8 @@ compared_longer op facts a b = by (of_constants op a b) (truth_known op facts a 
 
 -- ---- numbers
 
-made_pushed : (known : StateFacts) (made : Made) → HasForm (on_top known made) → IsLonger known.facts made → IsPushed known kinds.Int (on_top known made)
+made_pushed : (known : StateFacts) (made : Made) → HasForm (on_top known made) → IsLonger known.facts made
+    → IsPushed known kinds.Int (on_top known made)
 made_pushed known made form longer = record {
   grown = record { form = form; symbols = longer; references = omega arith; places = λ r there. refl };
   top = vars.Number made.expr;
@@ -108,13 +112,15 @@ each_pushed : (known : StateFacts) (o : Option Made) → Formed (option_map (on_
 each_pushed known None form longer = tt
 each_pushed known (Some made) form longer = made_pushed known made form longer
 
-pub result_pushed : (op : BinOp) (a b : Expr) (known : StateFacts) → HasForm known → HasNumber known a → HasNumber known b
+pub result_pushed : (op : BinOp) (a b : Expr) (known : StateFacts) → HasForm known → HasNumber known a
+    → HasNumber known b
     → IsPushedIn known kinds.Int (with_result op a b known)
 unfolding with_result
 result_pushed op a b known form first second = by (with_result_form op a b known form first second)
   where
     by : Formed (with_result op a b known) → IsPushedIn known kinds.Int (with_result op a b known)
-    by formed = each_pushed known _ formed (settled_longer known.facts (outcome op known.facts a b) (relations op known.facts a b))
+    by formed = each_pushed known _ formed
+        (settled_longer known.facts (outcome op known.facts a b) (relations op known.facts a b))
 
 number_pushed : (lo hi : ℤ) (known : StateFacts) → HasForm known → IsPushedIn known kinds.Int (with_number lo hi known)
 unfolding with_number
@@ -136,7 +142,8 @@ within_pushed r known form = by (within_form r known form)
 
 -- ---- comparisons
 
-known_pushed : (holds is : Bool) (known : StateFacts) → HasForm (with_known holds is known) → IsPushed known kinds.Int (with_known holds is known)
+known_pushed : (holds is : Bool) (known : StateFacts) → HasForm (with_known holds is known)
+    → IsPushed known kinds.Int (with_known holds is known)
 known_pushed holds is known form = record {
   grown = record { form = form; symbols = omega arith; references = omega arith; places = λ r there. refl };
   top = vars.Number _;
@@ -144,7 +151,8 @@ known_pushed holds is known form = record {
   of_kind = tt;
 }
 
-defined_pushed : (def : Def) (known : StateFacts) → HasForm (with_defined def known) → IsPushed known kinds.Int (with_defined def known)
+defined_pushed : (def : Def) (known : StateFacts) → HasForm (with_defined def known)
+    → IsPushed known kinds.Int (with_defined def known)
 unfolding with_defined
 defined_pushed def known form = made_pushed known _ form (noted_longer known.facts _ (Is def ∷ []))
 
@@ -153,19 +161,22 @@ null_known_pushed : (r : ℕ) (is : Bool) (known : StateFacts) (o : Option Bool)
 null_known_pushed r is known None form = defined_pushed _ known form
 null_known_pushed r is known (Some holds) form = known_pushed holds is known form
 
-same_known_pushed : (is : Bool) (known : StateFacts) (o : Option Bool) → HasForm known → Formed (with_same_known is known o)
+same_known_pushed : (is : Bool) (known : StateFacts) (o : Option Bool) → HasForm known
+    → Formed (with_same_known is known o)
     → IsPushedIn known kinds.Int (with_same_known is known o)
 same_known_pushed is known None form formed = number_pushed _ _ known form
 same_known_pushed is known (Some holds) form formed = known_pushed holds is known formed
 
-tested_pushed : (r q : ℕ) (is : Bool) (known : StateFacts) (o : Option ℕ) → HasForm known → Formed (with_tested r q is known o)
+tested_pushed : (r q : ℕ) (is : Bool) (known : StateFacts) (o : Option ℕ) → HasForm known
+    → Formed (with_tested r q is known o)
     → IsPushedIn known kinds.Int (with_tested r q is known o)
 unfolding with_null_test with_same
 tested_pushed r q is known None form formed = same_known_pushed is known (same_known known r q) form formed
 tested_pushed r q is known (Some tested) form formed =
     null_known_pushed tested is known (null_known (nullness_at known tested)) formed
 
-pub numbers_compared_pushed : (op : BinOp) (a b : Expr) (cmp : CmpOp) (known : StateFacts) → HasForm known → HasNumber known a
+pub numbers_compared_pushed : (op : BinOp) (a b : Expr) (cmp : CmpOp) (known : StateFacts) → HasForm known
+    → HasNumber known a
     → HasNumber known b → comparison_of op ≡ Some cmp
     → IsPushedIn known kinds.Int (with_comparison op (vars.Number a) (vars.Number b) known)
 unfolding with_comparison with_truth
@@ -176,7 +187,8 @@ numbers_compared_pushed op a b cmp known form first second is =
         → IsPushedIn known kinds.Int (with_comparison op (vars.Number a) (vars.Number b) known)
     by formed = made_pushed known (compared op known.facts a b) formed (compared_longer op known.facts a b)
 
-pub references_compared_pushed : (op : BinOp) (r q : ℕ) (cmp : CmpOp) (known : StateFacts) → HasForm known → HasReference known r
+pub references_compared_pushed : (op : BinOp) (r q : ℕ) (cmp : CmpOp) (known : StateFacts) → HasForm known
+    → HasReference known r
     → HasReference known q → comparison_of op ≡ Some cmp
     → IsPushedIn known kinds.Int (with_comparison op (vars.Reference r) (vars.Reference q) known)
 unfolding with_comparison
@@ -198,7 +210,8 @@ slice_last : {X : Type 0} (xs : List X) (x : X) → slice_get (xs ++ x ∷ []) (
 slice_last [] x = refl
 slice_last (y ∷ xs) x = slice_last xs x
 
-earlier_places : (known after : StateFacts) (x : Reference Unknown) → after.references ≡ known.references ++ x ∷ [] → (r : ℕ)
+earlier_places : (known after : StateFacts) (x : Reference Unknown) → after.references ≡ known.references ++ x ∷ []
+    → (r : ℕ)
     → r ≤ length known.references → place_in after r ≡ place_in known r
 unfolding reference_at
 earlier_places known after x are zero there = refl
@@ -214,7 +227,8 @@ last_place known after x are =
     rw next (ap (λ l. option_map (λ reference. reference.place) (slice_get l (length known.references))) are
     ∙ ap (option_map (λ reference. reference.place)) (slice_last known.references x))
 
-array_pushed : (place : Place) (known : StateFacts) (o : Option Made) → Formed (option_map (returned known.apart place known) o)
+array_pushed : (place : Place) (known : StateFacts) (o : Option Made)
+    → Formed (option_map (returned known.apart place known) o)
     → EachLonger known.facts o → (kind : Kind)
     → ((after : StateFacts) (r : ℕ) → place_in after r ≡ Some place → IsOfKind after kind (vars.Reference r))
     → IsPushedIn known kind (option_map (returned known.apart place known) o)
@@ -241,14 +255,18 @@ pub unknown_pushed : (place : Place) (kind : Kind) (known : StateFacts) → HasF
 unfolding with_unknown with_returned
 unknown_pushed places.Void kind known form is = absurd cc
 unknown_pushed places.Bool kind known form is =
-    subst (λ k. IsPushedIn known k (with_number (pos 0) (pos 255) known)) (same_Some kinds.Int kind is) (number_pushed _ _ known form)
+    subst (λ k. IsPushedIn known k (with_number (pos 0) (pos 255) known)) (same_Some kinds.Int kind is)
+    (number_pushed _ _ known form)
 unknown_pushed places.Int kind known form is =
-    subst (λ k. IsPushedIn known k (with_number LEAST GREATEST known)) (same_Some kinds.Int kind is) (number_pushed _ _ known form)
+    subst (λ k. IsPushedIn known k (with_number LEAST GREATEST known)) (same_Some kinds.Int kind is)
+    (number_pushed _ _ known form)
 unknown_pushed places.Bools kind known form is =
     subst (λ k. IsPushedIn known k (with_unknown places.Bools known)) (same_Some kinds.Bools kind is)
-    (array_pushed places.Bools known _ (unknown_form places.Bools known form) (fresh_longer known.facts (pos 0) (pos 2147483647) None [])
+    (array_pushed places.Bools known _ (unknown_form places.Bools known form)
+    (fresh_longer known.facts (pos 0) (pos 2147483647) None [])
     kinds.Bools (λ after r at. rw at refl))
 unknown_pushed places.Ints kind known form is =
     subst (λ k. IsPushedIn known k (with_unknown places.Ints known)) (same_Some kinds.Ints kind is)
-    (array_pushed places.Ints known _ (unknown_form places.Ints known form) (fresh_longer known.facts (pos 0) (pos 2147483647) None [])
+    (array_pushed places.Ints known _ (unknown_form places.Ints known form)
+    (fresh_longer known.facts (pos 0) (pos 2147483647) None [])
     kinds.Ints (λ after r at. rw at refl))

@@ -17,7 +17,7 @@ use Rattle.cil_model.specs.declared.instruction.UnOp.{UnOp}
 use Rattle.cil_model.specs.declared.place.Kind.{Kind}
 use Rattle.cil_model.specs.declared.place.Kind.TheVariants as kinds
 use Rattle.cil_model.specs.declared.place.Place.{Place}
-use Rattle.clause_trees.specs.Meaning.{HasIntsIn, IsTyped, is_now}
+use Rattle.clause_trees.specs.Meaning.{IsTyped, is_now}
 use Rattle.clause_trees.specs.declared.reader.Time.{Time}
 use Rattle.clause_trees.specs.declared.reader.Time.TheVariants.{Now, Entry}
 
@@ -34,6 +34,20 @@ number_tells false kind is = absurd cc
 int_is : (kind : Kind) → is_int kind ≡ true → kind ≡ kinds.Int
 int_is kinds.Int is = refl
 int_is _ is = absurd cc
+
+-- Branches may be exchanged.
+pub merged_swaps : (a b kind : Kind) → merged_kind a b ≡ Some kind → merged_kind b a ≡ Some kind
+merged_swaps kinds.Int kinds.Int kind is = is
+merged_swaps kinds.Ints kinds.Ints kind is = is
+merged_swaps kinds.Bools kinds.Bools kind is = is
+merged_swaps kinds.NullRef kinds.NullRef kind is = is
+merged_swaps kinds.Native kinds.Native kind is = is
+merged_swaps kinds.Text kinds.Text kind is = is
+merged_swaps kinds.Ints kinds.NullRef kind is = is
+merged_swaps kinds.Bools kinds.NullRef kind is = is
+merged_swaps kinds.NullRef kinds.Ints kind is = is
+merged_swaps kinds.NullRef kinds.Bools kind is = is
+merged_swaps _ _ kind is = absurd cc
 
 -- ---- constants
 
@@ -61,7 +75,13 @@ module _ (args : List Place) (result : Place) (time : Time) where
       by None found is = absurd cc
       by (Some array) found is =
           let tells = number_tells (is_reference array) kind is in
-          record { array = array; typed = record { kind_is = found; ints = typed.ints.1 }; reference = tells.so; int = tells.int }
+          record {
+            array = array;
+            typed = record { kind_is = found; ints = typed.ints.1 };
+            reference = tells.so;
+            int =
+                tells.int;
+          }
 
   pub record OfElement (place : Place) (a b : Term) (kind : Kind) : Type 0 where
     pub array : Kind
@@ -147,14 +167,19 @@ module _ (args : List Place) (result : Place) (time : Time) where
     pub typed : IsTyped args result time a kinds.Int
     pub int : kinds.Int ≡ kind
 
-  pub unary_typed : (op : UnOp) (a : Term) (kind : Kind) → IsTyped args result time (terms.Un op a) kind → OfNumber a kind
+  pub unary_typed : (op : UnOp) (a : Term) (kind : Kind) → IsTyped args result time (terms.Un op a) kind
+      → OfNumber a kind
   unary_typed op a kind typed = by (kind_in args result (is_now time) a) refl typed.kind_is
     where
       by : (o : Option Kind) → kind_in args result (is_now time) a ≡ o → unary_kind o ≡ Some kind → OfNumber a kind
       by None found is = absurd cc
       by (Some operand) found is =
           let tells = number_tells (is_int operand) kind is in
-          record { typed = record { kind_is = rw (int_is operand tells.so) at found; ints = typed.ints.1 }; int = tells.int }
+          record {
+            typed = record { kind_is = rw (int_is operand tells.so) at found; ints = typed.ints.1 };
+            int =
+                tells.int;
+          }
 
   pub record OfBranches (c a b : Term) (kind : Kind) : Type 0 where
     pub test : Kind
@@ -166,9 +191,11 @@ module _ (args : List Place) (result : Place) (time : Time) where
     pub tested : is_tested test ≡ true
     pub merged : merged_kind left right ≡ Some kind
 
-  pub branches_typed : (c a b : Term) (kind : Kind) → IsTyped args result time (terms.Cond c a b) kind → OfBranches c a b kind
+  pub branches_typed : (c a b : Term) (kind : Kind) → IsTyped args result time (terms.Cond c a b) kind
+      → OfBranches c a b kind
   branches_typed c a b kind typed =
-      by (kind_in args result (is_now time) c) (kind_in args result (is_now time) a) (kind_in args result (is_now time) b) refl refl refl
+      by (kind_in args result (is_now time) c) (kind_in args result (is_now time) a)
+      (kind_in args result (is_now time) b) refl refl refl
       typed.kind_is
     where
       if_tested : (so : Bool) (o : Option Kind) → (if so then o else None) ≡ Some kind → (so ≡ true) × (o ≡ Some kind)
@@ -187,7 +214,11 @@ module _ (args : List Place) (result : Place) (time : Time) where
             test = test;
             left = left;
             right = right;
-            test_typed = record { kind_is = found; ints = all_first IsIntRoot (preorder c) (preorder a ++ preorder b) typed.ints.1 };
+            test_typed = record {
+              kind_is = found;
+              ints = all_first IsIntRoot (preorder c) (preorder a ++ preorder b)
+                  typed.ints.1;
+            };
             first = record { kind_is = one; ints = all_first IsIntRoot (preorder a) (preorder b) below };
             second = record { kind_is = two; ints = all_second IsIntRoot (preorder a) (preorder b) below };
             tested = both.0;
