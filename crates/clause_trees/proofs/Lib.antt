@@ -18,3 +18,4 @@ pub mod StackLemmas
 pub mod Operands
 pub mod ValueLemmas
 pub mod ReadableCases
+pub mod PublicCalls

@@ -176,3 +176,5 @@ amount_left operators.Shl a b state after is = shifts b state after is
 amount_left operators.Shr a b state after is = shifts b state after is
 amount_left operators.ShrUn a b state after is = shifts b state after is
 amount_left _ a b state after is = anything after
+
+pub ruleset operands = (length_there, element_there, operator_there, judged_reference, judged_number, divisor_left, amount_left)

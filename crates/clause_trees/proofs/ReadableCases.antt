@@ -149,3 +149,10 @@ negated_of env op a b state is can = record {
   readable = can.readable;
   test = negated_test can.args can.result op a b can.test.kind (is_zero_comparison op b is) can.test.typed;
 }
+
+-- What the cases of a condition want, and what a negation is.
+pub ruleset condition_cases = (test_of, first_of_cases, second_of_cases, cases_like)
+
+pub ruleset assumed_operators = (negated_of, negated_assumed, value_assumed)
+
+pub ruleset shown_operators = (negated_of, negated_shown, value_shown)

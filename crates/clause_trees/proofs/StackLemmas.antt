@@ -112,3 +112,7 @@ mixed_refused op v w state mixed = by (comparison_of op) v w mixed
     by (Some cmp) (vars.Reference r) (vars.Reference q) mixed = elim mixed [ ]
     by (Some cmp) (vars.Reference r) vars.Text mixed = refl
     by (Some cmp) vars.Text w mixed = refl
+
+pub ruleset two_numbers = (numbers_computed, numbers_compared)
+
+pub ruleset two_references = (references_compared, references_refused)

@@ -8,7 +8,7 @@ ghost use Rattle.merged_states.specs.Alike.{AreLikeStates};
 ghost use Rattle.merged_states.specs.Merging.{join};
 ghost use Rattle.state_facts.specs.Forms.{HasNumber};
 ghost use Rattle.clause_trees.specs.ClauseStates as rule;
-ghost use Rattle.clause_trees.specs.Meaning.{CanTest};
+ghost use Rattle.clause_trees.specs.Meaning.{CanTest, IsSoWherever, KeepsWhereSo};
 ghost use Rattle.clause_trees.specs.TreeValues.{Finds};
 
 use crate::conditions::{assume_true, span_of};
@@ -132,7 +132,7 @@ impl Clauses {
     }
 
     /// The same of a condition: each is what either branch leaves.
-    #[tactic(auto, unfolding(crate::specs::ClauseStates::assumed), using(crate::proofs::ReadableCases::test_of, crate::proofs::ReadableCases::first_of_cases, crate::proofs::ReadableCases::second_of_cases, crate::proofs::ReadableCases::cases_like))]
+    #[tactic(auto, unfolding(crate::specs::ClauseStates::assumed), using(crate::proofs::ReadableCases::condition_cases))]
     #[cycle(casing)]
     fn cases_of_condition(
         self,
@@ -157,7 +157,7 @@ impl Clauses {
     }
 
     /// What is known where a tree is true, and where it is false.
-    #[tactic(auto, unfolding(crate::specs::ClauseStates::assumed), using(crate::proofs::ReadableCases::negated_of, crate::proofs::ReadableCases::negated_assumed, crate::proofs::ReadableCases::value_assumed))]
+    #[tactic(auto, unfolding(crate::specs::ClauseStates::assumed), using(crate::proofs::ReadableCases::assumed_operators))]
     #[cycle(casing)]
     fn cases(self, state: AbsState, tree: &Tree) -> Result<Cases, NoMemory>
         requires readable { CanTest self.env tree.now state }
@@ -185,7 +185,7 @@ impl Clauses {
     }
 
     /// The same of a condition: what either branch leaves.
-    #[tactic(auto, unfolding(crate::specs::ClauseStates::assumed), using(crate::proofs::ReadableCases::test_of, crate::proofs::ReadableCases::first_of_cases, crate::proofs::ReadableCases::second_of_cases, crate::proofs::ReadableCases::cases_like))]
+    #[tactic(auto, unfolding(crate::specs::ClauseStates::assumed), using(crate::proofs::ReadableCases::condition_cases))]
     #[cycle(assuming)]
     fn assumed_condition(
         self,
@@ -206,7 +206,7 @@ impl Clauses {
     }
 
     /// What is known where a tree is true, or is false.
-    #[tactic(auto, unfolding(crate::specs::ClauseStates::assumed), using(crate::proofs::ReadableCases::negated_of, crate::proofs::ReadableCases::negated_assumed, crate::proofs::ReadableCases::value_assumed))]
+    #[tactic(auto, unfolding(crate::specs::ClauseStates::assumed), using(crate::proofs::ReadableCases::assumed_operators))]
     #[cycle(assuming)]
     fn assumed(self, state: AbsState, tree: &Tree, holds: bool) -> Result<AbsState, NoMemory>
         requires readable { CanTest self.env tree.now state }
@@ -236,7 +236,7 @@ impl Clauses {
     }
 
     /// The same of a condition: its test faults nowhere, and each branch is shown where it is reached.
-    #[tactic(auto, unfolding(crate::specs::ClauseStates::shown), using(crate::proofs::ReadableCases::test_of, crate::proofs::ReadableCases::first_of_cases, crate::proofs::ReadableCases::second_of_cases))]
+    #[tactic(auto, unfolding(crate::specs::ClauseStates::shown), using(crate::proofs::ReadableCases::condition_cases))]
     #[cycle(showing)]
     fn is_condition_shown(
         self,
@@ -258,7 +258,7 @@ impl Clauses {
     }
 
     /// Returns whether a tree is shown to be true, or to be false.
-    #[tactic(auto, unfolding(crate::specs::ClauseStates::shown), using(crate::proofs::ReadableCases::negated_of, crate::proofs::ReadableCases::negated_shown, crate::proofs::ReadableCases::value_shown))]
+    #[tactic(auto, unfolding(crate::specs::ClauseStates::shown), using(crate::proofs::ReadableCases::shown_operators))]
     #[cycle(showing)]
     fn is_shown(self, state: AbsState, tree: &Tree, holds: bool) -> Result<bool, NoMemory>
         requires readable { CanTest self.env tree.now state }
@@ -275,6 +275,8 @@ impl Clauses {
 /// Returns whether a state shows a tree to be true: no obligation inside faults, and its value is a number other than
 /// 0. Where nothing is reached, all is shown.
 ///
+/// The caller owes that the tree may be a test in the state. Here as below the error is want of memory.
+///
 /// Cost: what the obligations and operators of its nodes cost, and some copies of the state for each condition. It goes
 /// as deep as the tree.
 pub fn tree_shown(
@@ -285,6 +287,7 @@ pub fn tree_shown(
 ) -> Result<bool, NoMemory>
     requires readable { CanTest env.now tree.now state.now }
     ensures value { IfOk result (λ shown. shown ≡ rule.shown env.now true tree.now state.now) }
+    ensures sound { IfOk result (λ shown. shown ≡ true → IsSoWherever env.now true tree.now state.now) }
 {
     Clauses { alloc, env: *env }.is_shown(state.copy(alloc)?, tree, true)
 }
@@ -298,6 +301,7 @@ pub fn tree_shown_false(
 ) -> Result<bool, NoMemory>
     requires readable { CanTest env.now tree.now state.now }
     ensures value { IfOk result (λ shown. shown ≡ rule.shown env.now false tree.now state.now) }
+    ensures sound { IfOk result (λ shown. shown ≡ true → IsSoWherever env.now false tree.now state.now) }
 {
     Clauses { alloc, env: *env }.is_shown(state.copy(alloc)?, tree, false)
 }
@@ -314,6 +318,7 @@ pub fn assume_tree(
 ) -> Result<AbsState, NoMemory>
     requires readable { CanTest env.now tree.now state.now }
     ensures value { IfOk result (λ new. new ≡ rule.assumed env.now true tree.now state.now) }
+    ensures keeps { IfOk result (λ new. KeepsWhereSo env.now true tree.now state.now new) }
 {
     Clauses { alloc, env: *env }.assumed(state.copy(alloc)?, tree, true)
 }
@@ -327,6 +332,7 @@ pub fn assume_tree_false(
 ) -> Result<AbsState, NoMemory>
     requires readable { CanTest env.now tree.now state.now }
     ensures value { IfOk result (λ new. new ≡ rule.assumed env.now false tree.now state.now) }
+    ensures keeps { IfOk result (λ new. KeepsWhereSo env.now false tree.now state.now new) }
 {
     Clauses { alloc, env: *env }.assumed(state.copy(alloc)?, tree, false)
 }

@@ -63,7 +63,7 @@ fn push_length(state: &mut AbsState, r: u32) -> Result<(), NoMemory>
 }
 
 /// The length of a reference, which owes that it is not null.
-#[tactic(auto, using(crate::proofs::Operands::length_there, crate::proofs::Operands::judged_reference))]
+#[tactic(auto, using(crate::proofs::Operands::operands))]
 fn length_of(state: &mut AbsState, r: u32) -> Result<bool, NoMemory>
     requires there { ForSome state.old (λ known. HasReference known r) }
     ensures { IfOk result (λ entailed.
@@ -116,7 +116,7 @@ fn push_item(
 }
 
 /// The item of a reference at an index, which owes that the reference is not null and that the index is one of it.
-#[tactic(auto, using(crate::proofs::Operands::element_there, crate::proofs::Operands::judged_reference))]
+#[tactic(auto, using(crate::proofs::Operands::operands))]
 fn element_of(
     state: &mut AbsState,
     time: Time,
@@ -163,7 +163,7 @@ fn push_result(state: &mut AbsState, op: BinOp, a: Expr, b: Expr) -> Result<(), 
 }
 
 /// The result of an operator of two numbers, which owes that the operator does not fault.
-#[tactic(auto, using(crate::proofs::Operands::operator_there, crate::proofs::Operands::judged_number, crate::proofs::Operands::divisor_left, crate::proofs::Operands::amount_left))]
+#[tactic(auto, using(crate::proofs::Operands::operands))]
 fn arithmetic(state: &mut AbsState, op: BinOp, a: Expr, b: Expr) -> Result<bool, NoMemory>
     requires first { ForSome state.old (λ known. HasNumber known a) }
     requires second { ForSome state.old (λ known. HasNumber known b) }
@@ -201,7 +201,7 @@ fn is_comparison(op: BinOp) -> bool
 }
 
 /// What an operator gives of two numbers.
-#[tactic(auto, using(crate::proofs::StackLemmas::numbers_computed, crate::proofs::StackLemmas::numbers_compared))]
+#[tactic(auto, using(crate::proofs::StackLemmas::two_numbers))]
 fn binary_of_numbers(state: &mut AbsState, op: BinOp, a: Expr, b: Expr) -> Result<bool, NoMemory>
     requires first { ForSome state.old (λ known. HasNumber known a) }
     requires second { ForSome state.old (λ known. HasNumber known b) }
@@ -216,7 +216,7 @@ fn binary_of_numbers(state: &mut AbsState, op: BinOp, a: Expr, b: Expr) -> Resul
 }
 
 /// What an operator gives of two references. They are compared alone.
-#[tactic(auto, using(crate::proofs::StackLemmas::references_compared, crate::proofs::StackLemmas::references_refused))]
+#[tactic(auto, using(crate::proofs::StackLemmas::two_references))]
 fn binary_of_references(state: &mut AbsState, op: BinOp, r: u32, q: u32) -> Result<bool, NoMemory>
     requires first { ForSome state.old (λ known. HasReference known r) }
     requires second { ForSome state.old (λ known. HasReference known q) }
