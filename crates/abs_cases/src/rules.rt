@@ -1,9 +1,8 @@
 //! The rules, by the keywords of cases.
 
 use crate::states::state;
-use crate::{state_answers, state_steps, tree_rules};
+use crate::{state_answers, state_steps};
 use abs_state::AbsState;
-use clause_trees::TreeEnv;
 use rule_text::{Failure, Line, Rules};
 use std::alloc::Global;
 
@@ -13,8 +12,6 @@ pub struct AbsRules {
     alloc: Global,
     /// What its steps made of the state before them.
     state: AbsState,
-    /// Where trees find arguments and the result.
-    env: TreeEnv,
 }
 
 impl AbsRules {
@@ -33,9 +30,6 @@ impl AbsRules {
             "nullness" => state_answers::nullness(alloc, state, argument),
             "length" => state_answers::length(alloc, state, argument),
             "variable" => state_answers::variable(alloc, state, argument),
-            "shown" => tree_rules::shown(alloc, state, &self.env, argument),
-            "shown-false" => tree_rules::shown_false(alloc, state, &self.env, argument),
-            "owes" => tree_rules::owes(alloc, state, argument),
             _ => Err(Failure::Unread("a keyword")),
         }
     }
@@ -58,11 +52,6 @@ impl AbsRules {
             "norm" => *state = state.norm(alloc)?,
             "join" => *state = state_steps::join(alloc, state, argument)?,
             "widen" => *state = state_steps::widen(alloc, state, argument)?,
-            "assume-tree" => *state = tree_rules::assumed(alloc, state, &self.env, argument)?,
-            "assume-tree-false" => {
-                *state = tree_rules::assumed_false(alloc, state, &self.env, argument)?;
-            }
-            "assume-no" => tree_rules::assume_no(alloc, state, argument)?,
             _ => return Ok(false),
         }
         Ok(true)
@@ -74,10 +63,6 @@ impl Rules for AbsRules {
         AbsRules {
             alloc,
             state: AbsState::nothing(),
-            env: TreeEnv {
-                args: 0,
-                result: None,
-            },
         }
     }
 
@@ -85,14 +70,6 @@ impl Rules for AbsRules {
         if keyword == "before" {
             self.state = state(self.alloc, argument)?;
             return Ok(Line::Begin);
-        }
-        if keyword == "arguments-at" || keyword == "result-at" {
-            tree_rules::place(&mut self.env, keyword, argument)?;
-            return Ok(Line::Setting);
-        }
-        if keyword == "judged" {
-            tree_rules::judged(self.alloc, &mut self.state, argument)?;
-            return Ok(Line::Answer);
         }
         if self.step(keyword, argument)? {
             return Ok(Line::Step);
