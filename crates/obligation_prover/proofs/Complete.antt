@@ -1,5 +1,5 @@
 -- Each fault in which an instruction may end is one of its operation, or that a clause is not true.
-use Rattle.std.proofs.Common.{◌≡◌, ◌==◌, ℕ, ◌≤◌, ℤ, pos, negsuc, Bool, true, false, ◌&&◌, int_le, int_lt, int_eq, nat_le, Option, Some, None, List, [], ◌∷◌, map, Contains, Ok, Err, refl, sym, ap, subst, ◌∙◌, inl, inr, ⊎_elim, arith, slice_get}
+use Rattle.std.proofs.Common.{◌≡◌, ◌==◌, ℕ, ◌≤◌, ℤ, pos, negsuc, true, false, ◌&&◌, int_le, int_lt, int_eq, nat_le, Option, Some, None, List, [], ◌∷◌, map, Contains, Ok, Err, refl, sym, ap, subst, ◌∙◌, inl, inr, ⊎_elim, arith, slice_get}
 use Rattle.std.specs.Prelude.{◌^◌, ◌/◌, ◌*ℤ◌, ◌+ℤ◌, ◌-ℤ◌, Result, length}
 use Rattle.std.specs.Int.{int_shr}
 use Rattle.std.specs.List.{flat_map}
@@ -8,10 +8,10 @@ use Rattle.std.proofs.lemmas.List.Elements.{Contains-append_left, Contains-appen
 use Rattle.std.proofs.lemmas.Option.{none-some, same_Some}
 use Rattle.cc_base.specs.Wrap.{wrap32}
 use Rattle.cil_model.specs.Arithmetic.{LEAST, GREATEST, signed, unsigned, exact, divided, divided_unsigned, shifted, operated}
-use Rattle.cil_model.specs.Calls.{FreeCall, FreelyCalled, ReturnRow, Returned, Returns, ensures_fault}
+use Rattle.cil_model.specs.Calls.{FreeCall, FreelyCalled, Returned, ensures_fault}
 use Rattle.cil_model.specs.Clauses.{false_requires}
-use Rattle.cil_model.specs.Comparisons.{comparison_of, comparison_value, number_of}
-use Rattle.cil_model.specs.Effects.{Effect, GoesOn, Faults, Assumes, FindsNoRoom, HasEffect, arithmetic, array_length, at_index, below_message, binary, comparison, contract_call, effects, effects_of, gives, goes_on, item_of, item_value, loads, makes, makes_number, new_array, of_place, pushes, stores, tests_condition, with_item}
+use Rattle.cil_model.specs.Comparisons.{comparison_of, number_of}
+use Rattle.cil_model.specs.Effects.{Effect, GoesOn, Faults, Assumes, FindsNoRoom, HasEffect, arithmetic, array_length, at_index, below_message, binary, comparison, contract_call, effects, effects_of, gives, goes_on, item_value, loads, makes_number, new_array, of_place, pushes, stores, tests_condition}
 use Rattle.cil_model.specs.Runs.{CallsBy, EffectRow, Row, config_after, instr_at}
 use Rattle.cil_model.specs.UnitCalls.{array_place, unit_call}
 use Rattle.cil_model.specs.Values.{Heap, same_place}

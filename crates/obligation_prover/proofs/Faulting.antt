@@ -1,9 +1,9 @@
 -- An instruction of the machine goes on where each of its conditions is met, and ends in the fault of the first that is not.
-use Rattle.std.proofs.Common.{◌≡◌, ℕ, ℤ, pos, true, false, Option, Some, None, List, [], ◌∷◌, ◌++◌, refl, sym, ap, subst, ◌∙◌, inl, inr, slice_get}
-use Rattle.std.specs.Prelude.{not, option_map, reverse, Bool}
+use Rattle.std.proofs.Common.{◌≡◌, ℕ, ℤ, true, false, Option, Some, None, List, [], ◌∷◌, ◌++◌, refl, sym, ap, subst, ◌∙◌, inl, slice_get}
+use Rattle.std.specs.Prelude.{reverse}
 use Rattle.std.specs.Option.{option_map_or}
 use Rattle.std.proofs.lemmas.Bool.{cond_both}
-use Rattle.cil_model.specs.Comparisons.{comparison_of, is_true, number_of, reference_of}
+use Rattle.cil_model.specs.Comparisons.{comparison_of, number_of, reference_of}
 use Rattle.cil_model.specs.Effects.{Effect, Faults, HasEffect, arithmetic, array_length, below_message, binary, comparison, contract_call, effects, effects_of, loads, makes_number, new_array, of_place, stores, tests_condition}
 use Rattle.cil_model.specs.UnitCalls.{array_place, unit_call}
 use Rattle.cil_model.specs.Values.{Heap, has_array, same_place}
@@ -27,7 +27,7 @@ use Rattle.cil_model.specs.declared.unit_numbers.UnitCall.TheVariants as calls
 use Rattle.domain_api.specs.declared.expr.Expr.{Expr}
 use Rattle.frame_names.specs.declared.var.Var.{Var}
 use Rattle.frame_names.specs.declared.var.Var.TheVariants as vars
-use Rattle.state_facts.specs.Holds.{FitsArray, HasValue, HaveValues, HoldsBy, variables_of}
+use Rattle.state_facts.specs.Holds.{FitsArray, HaveValues, variables_of}
 use Rattle.state_facts.specs.StateFacts.{StateFacts}
 use Rattle.symbolic_values.specs.Worth.{worth}
 use Rattle.state_obligations.proofs.FaultLaws.{assert_effects, length_effects, load_effects, new_array_effects, operator_effects, store_effects}
@@ -35,7 +35,7 @@ use Rattle.state_obligations.specs.Conditions.{conditions_of, operator_condition
 use Rattle.state_obligations.specs.Faults.{EffectsFaultWhereUnmet, HasNoFault}
 use Rattle.state_obligations.specs.declared.condition.Operation.{Operation}
 use Rattle.state_obligations.specs.declared.condition.Operation.TheVariants as operations
-use Rattle.obligation_prover.specs.Operations.{array_of, assertion_of, binary_of, call_operation, condition_depth, conditions_at, element_of, from_top, length_of, operation_of}
+use Rattle.obligation_prover.specs.Operations.{array_of, assertion_of, binary_of, call_operation, conditions_at, element_of, length_of, operation_of}
 use Rattle.obligation_prover.proofs.PointValues.{below_stack, have_reversed, stack_first}
 use Rattle.obligation_prover.proofs.Quiet as quiet
 

@@ -3,8 +3,7 @@
 use Rattle.std.proofs.Common.{◌≡◌, ℕ, ℤ, Bool, true, false, Option, Some, None, List, [], ◌∷◌, map, reverse, refl, sym, ap, subst, ◌∙◌}
 use Rattle.std.specs.Prelude.{if◌then◌else◌, slice_get}
 use Rattle.std.specs.List.{AllByRecursion}
-use Rattle.std.specs.Option.{ForSome, option_and_then, option_map_or}
-use Rattle.std.proofs.lemmas.Bool.{cond_both}
+use Rattle.std.specs.Option.{ForSome, option_map_or}
 use Rattle.cil_model.specs.Effects.{Faults, HasEffect, effects}
 use Rattle.cil_model.specs.UnitCalls.{unit_call}
 use Rattle.cil_model.specs.Values.{Heap, IsHeap}
@@ -29,7 +28,7 @@ use Rattle.state_facts.specs.Holds.{HoldsAt, HoldsBy, HoldsIn, variables_of}
 use Rattle.state_facts.specs.StateFacts.{StateFacts, State}
 use Rattle.state_obligations.proofs.ConditionLaws.{entailed_is_met, met_is_kept}
 use Rattle.state_obligations.proofs.FaultLaws.{no_fault_where_met}
-use Rattle.state_obligations.proofs.Following.{assumed_follows, condition_still, conditions_still}
+use Rattle.state_obligations.proofs.Following.{assumed_follows, conditions_still}
 use Rattle.state_obligations.specs.Assumed.{assumed_by}
 use Rattle.state_obligations.specs.Conditions.{AreThere, conditions_of, fault_of, is_of, operator_conditions, with_fault}
 use Rattle.state_obligations.specs.Entailed.{entailed_by}

@@ -1,6 +1,6 @@
 -- What is so of each variable is so of the operands of an operation, and what follows from that is so of its conditions.
-use Rattle.std.proofs.Common.{◌≡◌, ℕ, zero, suc, ℤ, Option, Some, None, List, [], ◌∷◌}
-use Rattle.std.specs.Prelude.{Bool, true, false, reverse, slice_get}
+use Rattle.std.proofs.Common.{ℕ, zero, suc, ℤ, Option, Some, None, List, [], ◌∷◌}
+use Rattle.std.specs.Prelude.{reverse, slice_get}
 use Rattle.std.specs.List.{AllByRecursion}
 use Rattle.std.specs.Option.{option_map_or}
 use Rattle.cil_model.proofs.Lists.{all_reverse}

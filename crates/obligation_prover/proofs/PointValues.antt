@@ -1,8 +1,8 @@
 -- The values of a point's variables: numbers are int32, and the stack lies on top.
-use Rattle.std.proofs.Common.{◌≡◌, ℕ, ℤ, Option, Some, List, [], ◌∷◌, ◌++◌, FitsSigned, w32, refl, sym, ap, subst, ◌∙◌, append_assoc}
+use Rattle.std.proofs.Common.{◌≡◌, ℕ, ℤ, Option, Some, List, [], ◌∷◌, ◌++◌, FitsSigned, w32, ap, ◌∙◌}
 use Rattle.std.specs.Prelude.{reverse}
 use Rattle.std.specs.List.{AllByRecursion}
-use Rattle.std.proofs.lemmas.List.{append-nil, reverse-append, reverse-reverse}
+use Rattle.std.proofs.lemmas.List.{reverse-append, reverse-reverse}
 use Rattle.cil_model.proofs.Lists.{all_reverse}
 use Rattle.cil_model.specs.Comparisons.{number_of}
 use Rattle.cil_model.specs.Values.{Heap, IsValue}

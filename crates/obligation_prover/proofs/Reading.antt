@@ -1,5 +1,5 @@
 -- What is read of a state's stack is what the rules speak of.
-use Rattle.std.proofs.Common.{◌≡◌, ℕ, Bool, true, false, Option, Some, None, List, [], refl, sym, ap, subst, ◌∙◌, slice_get}
+use Rattle.std.proofs.Common.{◌≡◌, ℕ, Option, Some, None, [], refl, sym, ap, subst, ◌∙◌, slice_get}
 use Rattle.std.specs.Prelude.{Result, Ok, Err, IfSome, OnOk, reverse}
 use Rattle.std.specs.Option.{ForSome, option_and_then, option_map_or}
 use Rattle.cil_model.specs.UnitCalls.{unit_call}
@@ -9,8 +9,6 @@ use Rattle.cil_model.specs.declared.instruction.Op.TheVariants as ops
 use Rattle.cil_model.specs.declared.machine.FaultKind.{FaultKind}
 use Rattle.cil_model.specs.declared.place.Place.{Place}
 use Rattle.cil_model.specs.declared.unit.Unit.{Unit as MethodUnit}
-use Rattle.cil_model.specs.declared.unit_numbers.UnitCall.{UnitCall}
-use Rattle.cil_model.specs.declared.unit_numbers.UnitCall.TheVariants as calls
 use Rattle.frame_names.specs.declared.var.Var.{Var}
 use Rattle.state_facts.specs.Forms.{HasForm}
 use Rattle.state_facts.specs.StateFacts.{StateFacts, State, variables_in}
@@ -19,7 +17,7 @@ use Rattle.state_obligations.specs.declared.condition.Condition.{Condition}
 use Rattle.state_obligations.specs.declared.condition.Operation.{Operation}
 use Rattle.obligation_prover.specs.Entailed.{condition_of}
 use Rattle.obligation_prover.specs.Meaning.{AssumesNoFault}
-use Rattle.obligation_prover.specs.Operations.{array_of, assertion_of, binary_of, call_operation, condition_depth, conditions_at, element_of, from_top, length_of, operation_of}
+use Rattle.obligation_prover.specs.Operations.{array_of, binary_of, call_operation, conditions_at, element_of, length_of, operation_of}
 use Rattle.obligation_prover.proofs.Operands.{conditions_there}
 use Rattle.obligation_prover.proofs.RuledOut.{found_is}
 

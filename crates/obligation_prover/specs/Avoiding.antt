@@ -1,5 +1,5 @@
 -- What is known where faults did not come: the conditions are met.
-use Rattle.std.specs.Prelude.{List, [], ◌∷◌, Option, Some, None}
+use Rattle.std.specs.Prelude.{List, [], ◌∷◌, Some, None}
 use Rattle.std.specs.Option.{option_and_then, option_map_or}
 use Rattle.cil_model.specs.declared.instruction.Op.{Op}
 use Rattle.cil_model.specs.declared.machine.FaultKind.{FaultKind}
