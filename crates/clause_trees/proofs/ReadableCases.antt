@@ -151,8 +151,8 @@ negated_of env op a b state is can = record {
 }
 
 -- What the cases of a condition want, and what a negation is.
-pub ruleset condition_cases = (test_of, first_of_cases, second_of_cases, cases_like)
+pub ruleset both_cases = (test_of, first_of_cases, second_of_cases, cases_like)
 
-pub ruleset assumed_operators = (negated_of, negated_assumed, value_assumed)
+pub ruleset assumed_roots = (negated_of, negated_assumed, value_assumed)
 
-pub ruleset shown_operators = (negated_of, negated_shown, value_shown)
+pub ruleset shown_roots = (negated_of, negated_shown, value_shown)

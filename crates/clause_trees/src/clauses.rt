@@ -132,7 +132,7 @@ impl Clauses {
     }
 
     /// The same of a condition: each is what either branch leaves.
-    #[tactic(auto, unfolding(crate::specs::ClauseStates::assumed), using(crate::proofs::ReadableCases::condition_cases))]
+    #[tactic(auto, unfolding(crate::specs::ClauseStates::assumed), using(crate::proofs::ReadableCases::both_cases))]
     #[cycle(casing)]
     fn cases_of_condition(
         self,
@@ -157,7 +157,7 @@ impl Clauses {
     }
 
     /// What is known where a tree is true, and where it is false.
-    #[tactic(auto, unfolding(crate::specs::ClauseStates::assumed), using(crate::proofs::ReadableCases::assumed_operators))]
+    #[tactic(auto, unfolding(crate::specs::ClauseStates::assumed), using(crate::proofs::ReadableCases::assumed_roots))]
     #[cycle(casing)]
     fn cases(self, state: AbsState, tree: &Tree) -> Result<Cases, NoMemory>
         requires readable { CanTest self.env tree.now state }
@@ -185,7 +185,7 @@ impl Clauses {
     }
 
     /// The same of a condition: what either branch leaves.
-    #[tactic(auto, unfolding(crate::specs::ClauseStates::assumed), using(crate::proofs::ReadableCases::condition_cases))]
+    #[tactic(auto, unfolding(crate::specs::ClauseStates::assumed), using(crate::proofs::ReadableCases::both_cases))]
     #[cycle(assuming)]
     fn assumed_condition(
         self,
@@ -206,7 +206,7 @@ impl Clauses {
     }
 
     /// What is known where a tree is true, or is false.
-    #[tactic(auto, unfolding(crate::specs::ClauseStates::assumed), using(crate::proofs::ReadableCases::assumed_operators))]
+    #[tactic(auto, unfolding(crate::specs::ClauseStates::assumed), using(crate::proofs::ReadableCases::assumed_roots))]
     #[cycle(assuming)]
     fn assumed(self, state: AbsState, tree: &Tree, holds: bool) -> Result<AbsState, NoMemory>
         requires readable { CanTest self.env tree.now state }
@@ -236,7 +236,7 @@ impl Clauses {
     }
 
     /// The same of a condition: its test faults nowhere, and each branch is shown where it is reached.
-    #[tactic(auto, unfolding(crate::specs::ClauseStates::shown), using(crate::proofs::ReadableCases::condition_cases))]
+    #[tactic(auto, unfolding(crate::specs::ClauseStates::shown), using(crate::proofs::ReadableCases::both_cases))]
     #[cycle(showing)]
     fn is_condition_shown(
         self,
@@ -258,7 +258,7 @@ impl Clauses {
     }
 
     /// Returns whether a tree is shown to be true, or to be false.
-    #[tactic(auto, unfolding(crate::specs::ClauseStates::shown), using(crate::proofs::ReadableCases::shown_operators))]
+    #[tactic(auto, unfolding(crate::specs::ClauseStates::shown), using(crate::proofs::ReadableCases::shown_roots))]
     #[cycle(showing)]
     fn is_shown(self, state: AbsState, tree: &Tree, holds: bool) -> Result<bool, NoMemory>
         requires readable { CanTest self.env tree.now state }
