@@ -4,9 +4,11 @@
 mod equality;
 mod lattice;
 mod likeness;
+mod obligations;
 mod parts;
 mod state;
 mod steps;
+mod unknown_values;
 
 pub use parts::Parts;
 pub use state::AbsState;

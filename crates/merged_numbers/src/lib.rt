@@ -17,4 +17,5 @@ pub use inclusion::includes;
 pub use merging::{joined, widened};
 pub use normal::normed;
 pub use outcome::Merged;
+pub use rule::hull;
 pub use side::Side;

@@ -28,7 +28,7 @@ fn kept_hole(hole: Option<i128>, other: Span) -> Option<i128>
 
 /// All from the lower of the lower ends to the higher of the higher ones, but for a hole that both exclude.
 #[tactic(auto, unfolding(crate::specs::Spans::hull))]
-fn hull(a: Span, b: Span) -> Span
+pub fn hull(a: Span, b: Span) -> Span
     ensures { result ≡ spans.hull a b }
 {
     Span {

@@ -8,3 +8,4 @@ pub mod Arithmetic
 pub mod States
 pub mod Holds
 pub mod Keeps
+pub mod UnknownValues

@@ -51,7 +51,7 @@ impl Known {
 
     /// Pushes an array that a call gives. False: nothing is reached.
     #[tactic(auto, unfolding(crate::specs::Calls::with_returned))]
-    fn push_returned(&mut self, apart: Apart, place: Place) -> Result<bool, NoMemory>
+    pub(crate) fn push_returned(&mut self, apart: Apart, place: Place) -> Result<bool, NoMemory>
         ensures reached { IfOk result (λ reached. reached ≡ is_some (rule.with_returned apart place self.old)) }
         ensures ok { IfOk result (λ reached. reached ≡ true → rule.with_returned apart place self.old ≡ Some self.new) }
         ensures err { OnErr result (self.new ≡ self.old) }

@@ -9,6 +9,7 @@ mod known;
 mod moves;
 mod reference;
 mod test;
+mod unknown_values;
 
 pub use assuming::definition_at;
 pub use frame_names::{Reference, Var};

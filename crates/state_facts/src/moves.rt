@@ -135,7 +135,7 @@ impl Known {
     }
 
     /// The type of a reference. That of reference 0 does not matter.
-    fn place(&self, r: u32) -> Place
+    pub fn place(&self, r: u32) -> Place
         ensures { result ≡ rule.place_at self.now r }
     {
         match self.reference_at(r) {

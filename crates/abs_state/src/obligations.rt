@@ -1,0 +1,106 @@
+//! The conditions of operations in a state.
+
+ghost use Rattle.std.specs.Prelude.{◌≡◌, IfOk, OnOk};
+ghost use Rattle.std.specs.Option.{ForSome};
+ghost use Rattle.state_facts.specs.Forms.{HasForm};
+ghost use Rattle.state_obligations.specs.Assumed as rule;
+ghost use Rattle.state_obligations.specs.Conditions.{AreThere, IsThere, conditions_of, operator_conditions};
+ghost use Rattle.state_obligations.specs.Entailed.{is_entailed};
+ghost use Rattle.state_obligations.specs.Judged.{judged};
+
+use crate::state::AbsState;
+use cil_model::BinOp;
+use domain_api::{Expr, NoMemory};
+use state_obligations::{Condition, Operation, assume, entails};
+
+impl AbsState {
+    /// Returns whether a condition of operands is entailed. Where nothing is reached, each is.
+    pub fn entails(&self, condition: Condition) -> bool
+        requires there { ForSome self.now (λ known. IsThere known condition) }
+        ensures { result ≡ is_entailed condition self.now }
+    {
+        match &self.known {
+            None => true,
+            Some(known) => entails(known, condition),
+        }
+    }
+
+    /// Assumes that a condition of operands is met. Where it cannot be, nothing is reached.
+    ///
+    /// # Errors
+    ///
+    /// Want of memory. What is assumed then is left open.
+    pub fn assume_met(&mut self, condition: Condition) -> Result<(), NoMemory>
+        requires there { ForSome self.old (λ known. IsThere known condition) }
+        ensures ok { OnOk result (self.new ≡ rule.assume condition self.old) }
+        ensures form { ForSome self.old HasForm }
+    {
+        let Some(known) = &mut self.known else {
+            return Ok(());
+        };
+        if !assume(known, condition)? {
+            self.known = None;
+        }
+        Ok(())
+    }
+
+    /// Returns whether each condition is entailed in the state that assumes those before it. The state then assumes all.
+    fn judge_each(&mut self, conditions: &[Condition]) -> Result<bool, NoMemory>
+        requires there { ForSome self.old (λ known. AreThere known conditions.now) }
+        ensures value { IfOk result (λ all. all ≡ (judged conditions.now self.old).entailed) }
+        ensures state { OnOk result (self.new ≡ (judged conditions.now self.old).state) }
+    {
+        let mut all = true;
+        for condition in conditions {
+            all = all && self.entails(*condition);
+            self.assume_met(*condition)?;
+        }
+        Ok(all)
+    }
+
+    /// The same of the conditions of an operator.
+    fn judge_operator(&mut self, op: BinOp, a: Expr, b: Expr) -> Result<bool, NoMemory>
+        requires there { ForSome self.old (λ known. AreThere known (operator_conditions op a b)) }
+        ensures value { IfOk result (λ all. all ≡ (judged (operator_conditions op a b) self.old).entailed) }
+        ensures state { OnOk result (self.new ≡ (judged (operator_conditions op a b) self.old).state) }
+    {
+        match op {
+            BinOp::Div | BinOp::Rem => self.judge_each(&[
+                Condition::DivZero(b),
+                Condition::DivOverflow(a, b),
+            ]),
+            BinOp::DivUn | BinOp::RemUn => self.judge_each(&[Condition::DivZero(b)]),
+            BinOp::Shl | BinOp::Shr | BinOp::ShrUn => self.judge_each(&[Condition::Shift(b)]),
+            BinOp::AddOvf | BinOp::MulOvf | BinOp::SubOvf => {
+                self.judge_each(&[Condition::Overflow(op, a, b)])
+            }
+            _ => Ok(true),
+        }
+    }
+
+    /// Returns whether each condition of an operation is entailed in the state that assumes those before it, in the
+    /// order in which the machine tests them. The state then assumes all.
+    ///
+    /// Cost: that of each condition.
+    ///
+    /// # Errors
+    ///
+    /// Want of memory. What is assumed then is left open.
+    pub fn judge(&mut self, operation: Operation) -> Result<bool, NoMemory>
+        requires there { ForSome self.old (λ known. AreThere known (conditions_of operation)) }
+        ensures value { IfOk result (λ all. all ≡ (judged (conditions_of operation) self.old).entailed) }
+        ensures state { OnOk result (self.new ≡ (judged (conditions_of operation) self.old).state) }
+    {
+        match operation {
+            Operation::Length(r) => self.judge_each(&[Condition::NullUse(r)]),
+            Operation::Element(r, i) => self.judge_each(&[
+                Condition::NullUse(r),
+                Condition::Lower(i),
+                Condition::Upper(r, i),
+            ]),
+            Operation::NewArray(n) => self.judge_each(&[Condition::ArraySize(n)]),
+            Operation::Binary(op, a, b) => self.judge_operator(op, a, b),
+            Operation::Assert(e) => self.judge_each(&[Condition::Assert(e)]),
+        }
+    }
+}

@@ -1,0 +1,3 @@
+pub mod TreeValues
+pub mod ClauseStates
+pub mod Meaning

@@ -1,0 +1,97 @@
+-- What it means that trees are shown and assumed.
+use Rattle.std.specs.Prelude.{◌≡◌, ℕ, ◌+◌, ℤ, pos, Bool, true, false, List, [], ◌∷◌, ◌++◌, slice_get, Option, Some, IsSome}
+use Rattle.std.specs.List.{AllByRecursion}
+use Rattle.std.specs.Option.{option_and_then}
+use Rattle.cil_model.specs.Clauses.{Reading, at_entry, is_number_true, value_of}
+use Rattle.cil_model.specs.Comparisons.{is_true}
+use Rattle.cil_model.specs.Terms.{Term}
+use Rattle.cil_model.specs.TreeKinds.{kind_in}
+use Rattle.cil_model.specs.Values.{FitPlaces, FitsPlace, Heap, IsHeap, IsValue, KeepsForms}
+use Rattle.cil_model.specs.declared.machine.Value.{Value}
+use Rattle.cil_model.specs.declared.machine.Value.TheVariants as values
+use Rattle.cil_model.specs.declared.place.Kind.{Kind}
+use Rattle.cil_model.specs.declared.place.Kind.TheVariants as kinds
+use Rattle.cil_model.specs.declared.place.Place.{Place}
+use Rattle.state_facts.specs.Forms.{HasForm}
+use Rattle.state_facts.specs.Holds.{HoldsBy, HoldsIn}
+use Rattle.state_facts.specs.Keeps.{HoldsOn}
+use Rattle.state_facts.specs.StateFacts.{StateFacts, State}
+use Rattle.clause_trees.specs.ClauseStates.{assumed, shown}
+use Rattle.clause_trees.specs.TreeValues.{value}
+use Rattle.clause_trees.specs.declared.reader.Time.{Time}
+use Rattle.clause_trees.specs.declared.reader.Time.TheVariants.{Now, Entry}
+use Rattle.clause_trees.specs.declared.reader.TreeEnv.{TreeEnv}
+
+-- ---- readings
+
+-- Of a method of these arguments and this result: trees read values where the environment says. The arguments are
+-- values of the heap at entry, of which each array kept its type and its length.
+pub record Reads (env : TreeEnv) (args : List Place) (result : Place) (vs : List Value) (heap : Heap) (r : Reading)
+    : Type 0 where
+  pub heap_is : r.heap ≡ heap
+  pub args_are : (n : ℕ) (v : Value) → slice_get r.args n ≡ Some v → slice_get vs (env.args + n) ≡ Some v
+  pub result_is : (v : Value) → r.result ≡ Some v → option_and_then (slice_get vs) env.result ≡ Some v
+  pub fit : FitPlaces r.entry_heap args r.args
+  pub result_fits : (v : Value) → r.result ≡ Some v → FitsPlace heap result v
+  pub is_heap : IsHeap heap
+  pub is_entry : IsHeap r.entry_heap
+  pub kept : KeepsForms r.entry_heap heap
+  pub are_values : AllByRecursion (IsValue heap) vs
+
+abbrev pub reading_at : Time → Reading → Reading
+reading_at Now r = r
+reading_at Entry r = at_entry r
+
+abbrev pub is_now : Time → Bool
+is_now Now = true
+is_now Entry = false
+
+-- ---- values
+
+-- Obligations that are assumed are harmless: where a tree has a value, the state behind it holds with that value on
+-- top, by a choice that is as before for each symbol and reference that was there.
+abbrev pub KeepsValue : TreeEnv → Time → Term → StateFacts → Type 0
+KeepsValue env time t known =
+    (args : List Place) (result : Place) (vs : List Value) (heap : Heap) (number : ℕ → ℤ) (array : ℕ → Option ℕ)
+    (r : Reading) (is : Value)
+    → HasForm known → Reads env args result vs heap r → HoldsBy known vs heap number array
+    → value_of t (reading_at time r) ≡ Some is
+    → HoldsOn (Some known) (value env time t known).state (vs ++ is ∷ []) heap number array
+
+-- Obligations that are entailed cannot fault: where all are, a tree that has a kind has a value.
+abbrev pub HasValueWhereEntailed : TreeEnv → Time → Term → StateFacts → Type 0
+HasValueWhereEntailed env time t known =
+    (args : List Place) (result : Place) (vs : List Value) (heap : Heap) (number : ℕ → ℤ) (array : ℕ → Option ℕ)
+    (r : Reading) (kind : Kind)
+    → HasForm known → Reads env args result vs heap r → HoldsBy known vs heap number array
+    → kind_in args result (is_now time) t ≡ Some kind → (value env time t known).entailed ≡ true
+    → IsSome (value_of t (reading_at time r))
+
+-- ---- clauses
+
+-- A tree is true, or false: its value is a number other than 0, or 0.
+abbrev pub IsSo : Bool → Term → Reading → Type 0
+IsSo true t r = is_number_true (value_of t r) ≡ true
+IsSo false t r = value_of t r ≡ Some (values.Int (pos 0))
+
+-- What is shown is so.
+abbrev pub ShowsIt : TreeEnv → Bool → Term → State → Type 0
+ShowsIt env holds t state =
+    (args : List Place) (result : Place) (vs : List Value) (heap : Heap) (number : ℕ → ℤ) (array : ℕ → Option ℕ)
+    (r : Reading)
+    → Reads env args result vs heap r → HoldsIn state vs heap number array
+    → kind_in args result true t ≡ Some kinds.Int → shown env holds t state ≡ true → IsSo holds t r
+
+-- The state holds of values over a heap, by some choice.
+pub record HoldsSomehow (state : State) (vs : List Value) (heap : Heap) : Type 0 where
+  pub number : ℕ → ℤ
+  pub array : ℕ → Option ℕ
+  pub holds : HoldsIn state vs heap number array
+
+-- Where a tree's value is true or false, the state in which it is assumed so holds. The value may be a reference, as
+-- that of a test is.
+abbrev pub KeepsAssumedTree : TreeEnv → Bool → Term → State → Type 0
+KeepsAssumedTree env holds t state =
+    (args : List Place) (result : Place) (vs : List Value) (heap : Heap) (r : Reading)
+    → Reads env args result vs heap r → HoldsSomehow state vs heap
+    → option_and_then is_true (value_of t r) ≡ Some holds → HoldsSomehow (assumed env holds t state) vs heap

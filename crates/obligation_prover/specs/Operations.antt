@@ -1,0 +1,68 @@
+-- What an instruction's operation does that may end in a fault, over its operands, which lie on top of the stack.
+use Rattle.std.specs.Prelude.{ℕ, Bool, true, false, List, [], reverse, slice_get, Option, Some, None}
+use Rattle.std.specs.Option.{option_map_or}
+use Rattle.cil_model.specs.UnitCalls.{unit_call}
+use Rattle.cil_model.specs.declared.instruction.BinOp.{BinOp}
+use Rattle.cil_model.specs.declared.instruction.Op.{Op}
+use Rattle.cil_model.specs.declared.instruction.Op.TheVariants as ops
+use Rattle.cil_model.specs.declared.unit_numbers.UnitCall.{UnitCall}
+use Rattle.cil_model.specs.declared.unit_numbers.UnitCall.TheVariants as calls
+use Rattle.frame_names.specs.declared.var.Var.{Var}
+use Rattle.frame_names.specs.declared.var.Var.TheVariants as vars
+use Rattle.state_facts.specs.StateFacts.{StateFacts}
+use Rattle.state_obligations.specs.Conditions.{conditions_of}
+use Rattle.state_obligations.specs.declared.condition.Condition.{Condition}
+use Rattle.state_obligations.specs.declared.condition.Operation.{Operation}
+use Rattle.state_obligations.specs.declared.condition.Operation.TheVariants as operations
+
+-- What the variable has on which so many others lie.
+abbrev pub from_top : ℕ → StateFacts → Option Var
+from_top above known = slice_get (reverse known.variables) above
+
+-- ---- operands of the forms that an operation takes
+
+abbrev pub length_of : Option Var → Option Operation
+length_of (Some (vars.Reference r)) = Some (operations.Length r)
+length_of _ = None
+
+abbrev pub element_of : Option Var → Option Var → Option Operation
+element_of (Some (vars.Reference r)) (Some (vars.Number i)) = Some (operations.Element r i)
+element_of _ _ = None
+
+abbrev pub array_of : Option Var → Option Operation
+array_of (Some (vars.Number n)) = Some (operations.NewArray n)
+array_of _ = None
+
+abbrev pub binary_of : BinOp → Option Var → Option Var → Option Operation
+binary_of op (Some (vars.Number a)) (Some (vars.Number b)) = Some (operations.Binary op a b)
+binary_of op _ _ = None
+
+abbrev pub assertion_of : Option Var → Option Operation
+assertion_of (Some (vars.Number e)) = Some (operations.Assert e)
+assertion_of _ = None
+
+-- The condition of an Assert or an Assume lies on top of the stack, or below its message: how many values lie on it.
+abbrev pub condition_depth : Bool → ℕ
+condition_depth false = 0
+condition_depth true = 1
+
+abbrev pub call_operation : Option UnitCall → StateFacts → Option Operation
+call_operation (Some (calls.Assert message)) known = assertion_of (from_top (condition_depth message) known)
+call_operation _ known = None
+
+-- ---- operations
+
+-- None where it is one that ends in no fault, and where its operands are not there. References are compared without a
+-- fault.
+unfoldable pub operation_of : Op → StateFacts → Option Operation
+operation_of ops.Length known = length_of (from_top 0 known)
+operation_of (ops.LoadElem place) known = element_of (from_top 1 known) (from_top 0 known)
+operation_of (ops.StoreElem place) known = element_of (from_top 2 known) (from_top 1 known)
+operation_of (ops.NewArray number) known = array_of (from_top 0 known)
+operation_of (ops.Bin op) known = binary_of op (from_top 1 known) (from_top 0 known)
+operation_of (ops.Call number) known = call_operation (unit_call number) known
+operation_of _ known = None
+
+-- Its conditions, in the order in which the machine tests them.
+abbrev pub conditions_at : Op → StateFacts → List Condition
+conditions_at op known = option_map_or conditions_of (operation_of op known) []

@@ -1,0 +1,106 @@
+//! What instructions do that may end in a fault.
+
+ghost use Rattle.std.specs.Prelude.{◌≡◌, IfSome};
+ghost use Rattle.std.specs.Option.{ForSome, option_and_then};
+ghost use Rattle.state_facts.specs.Forms.{HasVar};
+ghost use Rattle.state_facts.specs.StateFacts.{StateFacts};
+ghost use Rattle.state_obligations.specs.Conditions.{AreThere, IsThere, conditions_of};
+ghost use Rattle.obligation_prover.specs.Entailed as entailed;
+ghost use Rattle.obligation_prover.specs.Operations as rule;
+
+use abs_state::{AbsState, Var};
+use cil_model::{BinOp, FaultKind, Op, Unit, UnitCall, unit_call};
+use state_obligations::{Condition, Operation};
+
+/// The length of a reference.
+fn length_of(array: Option<Var>) -> Option<Operation>
+    ensures { result ≡ rule.length_of array }
+{
+    match array {
+        Some(Var::Reference(r)) => Some(Operation::Length(r)),
+        _ => None,
+    }
+}
+
+/// An item of a reference.
+fn element_of(array: Option<Var>, index: Option<Var>) -> Option<Operation>
+    ensures { result ≡ rule.element_of array index }
+{
+    match (array, index) {
+        (Some(Var::Reference(r)), Some(Var::Number(i))) => Some(Operation::Element(r, i)),
+        _ => None,
+    }
+}
+
+/// A new array of a length.
+fn array_of(length: Option<Var>) -> Option<Operation>
+    ensures { result ≡ rule.array_of length }
+{
+    match length {
+        Some(Var::Number(n)) => Some(Operation::NewArray(n)),
+        _ => None,
+    }
+}
+
+/// An operator of two numbers.
+fn binary_of(op: BinOp, first: Option<Var>, second: Option<Var>) -> Option<Operation>
+    ensures { result ≡ rule.binary_of op first second }
+{
+    match (first, second) {
+        (Some(Var::Number(a)), Some(Var::Number(b))) => Some(Operation::Binary(op, a, b)),
+        _ => None,
+    }
+}
+
+/// The assertion of a number.
+fn assertion_of(condition: Option<Var>) -> Option<Operation>
+    ensures { result ≡ rule.assertion_of condition }
+{
+    match condition {
+        Some(Var::Number(e)) => Some(Operation::Assert(e)),
+        _ => None,
+    }
+}
+
+/// What a call asserts.
+fn call_operation(call: Option<UnitCall>, state: &AbsState) -> Option<Operation>
+    ensures { result ≡ option_and_then (rule.call_operation call) state.now }
+{
+    match call {
+        Some(UnitCall::Assert(message)) => assertion_of(state.from_top(usize::from(message))),
+        _ => None,
+    }
+}
+
+/// What an instruction with this operation does that may end in a fault, over its operands, which lie on the stack.
+/// None where it does no such thing, where its operands are not there, and where nothing is reached.
+pub(crate) fn operation_of(op: &Op, state: &AbsState) -> Option<Operation>
+    ensures value { result ≡ option_and_then (rule.operation_of op.now) state.now }
+    ensures there { IfSome result (λ operation. ForSome state.now (λ known. AreThere known (conditions_of operation))) }
+{
+    match op {
+        Op::Length => length_of(state.from_top(0)),
+        Op::LoadElem(_) => element_of(state.from_top(1), state.from_top(0)),
+        Op::StoreElem(_) => element_of(state.from_top(2), state.from_top(1)),
+        Op::NewArray(_) => array_of(state.from_top(0)),
+        Op::Bin(op) => binary_of(*op, state.from_top(1), state.from_top(0)),
+        Op::Call(number) => call_operation(unit_call(*number), state),
+        _ => None,
+    }
+}
+
+/// The condition of an instruction of the unit that is of this fault.
+pub(crate) fn condition_of(
+    _unit: &Unit,
+    op: &Op,
+    kind: FaultKind,
+    state: &AbsState,
+) -> Option<Condition>
+    ensures value { result ≡ option_and_then (entailed.condition_of _unit.now op.now kind) state.now }
+    ensures there { IfSome result (λ condition. ForSome state.now (λ known. IsThere known condition)) }
+{
+    match operation_of(op, state) {
+        Some(operation) => operation.condition(kind),
+        None => None,
+    }
+}

@@ -1,0 +1,5 @@
+pub mod Conditions
+pub mod Entailed
+pub mod Assumed
+pub mod Judged
+pub mod Meaning

@@ -1,0 +1,21 @@
+-- The kinds of a unit's code are those that enough passes bring.
+use Rattle.std.proofs.Common.{◌≡◌, [], Result, Ok, Err, refl}
+use Rattle.std.specs.Result.{result_unwrap_or}
+use Rattle.cil_model.specs.Passes.{Stacks, after_passes, KindsOf}
+use Rattle.cil_model.specs.Shapes.{shape_of}
+use Rattle.cil_model.specs.declared.type_fault.TypeFault.{TypeFault}
+use Rattle.cil_model.specs.declared.unit.Unit.{Unit as MethodUnit}
+use Rattle.stack_typer.specs.FirstTypeFault.{most_passes}
+use Rattle.stack_typer.proofs.Unique.{kinds_once, not_both}
+use Rattle.unit_flow.specs.FlowOf.{kinds_of}
+use Rattle.unit_flow.proofs.Settled.{settles}
+
+pub found_kinds : (unit : MethodUnit) (stacks : Stacks) → KindsOf (shape_of unit) unit.instrs stacks → stacks ≡ kinds_of unit
+unfolding kinds_of
+found_kinds unit stacks are = by_answer (after_passes (shape_of unit) unit.instrs (most_passes (shape_of unit) unit.instrs)) refl
+  where
+    by_answer : (answer : Result Stacks TypeFault) → after_passes (shape_of unit) unit.instrs (most_passes (shape_of unit) unit.instrs) ≡ answer
+        → stacks ≡ result_unwrap_or answer []
+    by_answer (Ok others) e = kinds_once (shape_of unit) unit.instrs stacks others are (settles (shape_of unit) unit.instrs others e)
+    by_answer (Err fault) e =
+        absurd (not_both (shape_of unit) unit.instrs stacks fault are (record { passes = most_passes (shape_of unit) unit.instrs; met = e }))

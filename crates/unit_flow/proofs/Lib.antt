@@ -1,0 +1,13 @@
+pub mod Places
+pub mod BlockWays
+pub mod SwitchSizes
+pub mod LawfulCode
+pub mod BlockChains
+pub mod StepRows
+pub mod WayLaws
+pub mod KindsAlong
+pub mod OnTheWay
+pub mod Settled
+pub mod KindsFound
+pub mod Slicing
+pub mod Constructing

@@ -1,0 +1,105 @@
+-- What a step of a frame does by an instruction that calls no method: one of its effects, or a return.
+use Rattle.std.proofs.Common.{◌≡◌, ◌⊎◌, ℕ, zero, suc, ◌+◌, ◌<◌, List, [], ◌∷◌, ◌++◌, Option, Some, None, filter_map, length, refl, sym, subst, ◌∙◌, arith, inl, inr}
+use Rattle.std.specs.List.{AllByRecursion}
+use Rattle.std.proofs.lemmas.Option.{none-some, same_Some}
+use Rattle.cil_model.specs.Calls.{FreeCall, ReturnRow, Returned, ensures_fault}
+use Rattle.cil_model.specs.Effects.{Effect, GoesOn, Faults, Assumes, FindsNoRoom, HasEffect, effects}
+use Rattle.cil_model.specs.Runs.{CallsBy, EffectRow, LocalStep, Row, config_after, instr_at}
+use Rattle.cil_model.specs.UnitCalls.{callee_of, unit_call}
+use Rattle.cil_model.specs.Values.{Heap}
+use Rattle.cil_model.specs.WellFormed.{InOrderOfUse, IsWellFormed, called_by}
+use Rattle.cil_model.specs.declared.instruction.Instr.{Instr}
+use Rattle.cil_model.specs.declared.instruction.Op.{Op}
+use Rattle.cil_model.specs.declared.instruction.Op.TheVariants as ops
+use Rattle.cil_model.specs.declared.machine.Config.{Config}
+use Rattle.cil_model.specs.declared.machine.Config.TheVariants as configs
+use Rattle.cil_model.specs.declared.machine.Frame.{Frame}
+use Rattle.cil_model.specs.declared.machine.Value.{Value}
+use Rattle.cil_model.specs.declared.unit.CalleeInfo.{CalleeInfo}
+use Rattle.cil_model.specs.declared.unit.Unit.{Unit as MethodUnit}
+use Rattle.cil_model.specs.declared.unit_numbers.UnitCall.{UnitCall}
+use Rattle.cil_model.specs.declared.unit_numbers.UnitCall.TheVariants as calls
+use Rattle.machine_points.specs.Points.{lives_at}
+use Rattle.machine_points.specs.declared.point.Point.{Point}
+use Rattle.unit_flow.specs.Flow.{Steps}
+
+no_caller : (outer : List Frame) (caller : Frame) → [] ≡ outer ++ caller ∷ [] → ⊥
+no_caller [] caller e = cc
+no_caller (g ∷ outer) caller e = cc
+
+module _ (unit : MethodUnit) (i : Instr) (f : Frame) (heap : Heap) where
+  call_row : (call : Option UnitCall) (new : Config) → callee_of call ≡ None → CallsBy (FreeCall unit) call [] unit i f heap new → EffectRow [] unit i f heap new
+  call_row (Some (calls.Callee number)) new calls_none row = absurd (none-some number (sym calls_none))
+  call_row _ new calls_none row = row
+
+  -- One of its effects, or a return.
+  pub row_kind : (op : Op) (new : Config) → called_by op ≡ None → Row (FreeCall unit) op [] unit i f heap new
+      → EffectRow [] unit i f heap new ⊎ ReturnRow [] unit i f heap new
+  row_kind ops.Return new calls_none row = inr row
+  row_kind (ops.Call number) new calls_none row = inl (call_row (unit_call number) new calls_none row)
+  row_kind _ new calls_none row = inl row
+
+  no_return_on : (g : Frame) (after : Heap) (result : Option Value) (fault : Option ℕ) → Returned [] i f heap result fault (configs.Live (g ∷ []) after) → ⊥
+  no_return_on g after result (Some k) returned = cc
+  no_return_on g after result None (inl ends) = let to = ends.1 in cc
+  no_return_on g after result None (inr (outer, caller, are, to)) = no_caller outer caller are
+
+  -- A frame that returns does not live on.
+  pub no_return : (g : Frame) (after : Heap) → ReturnRow [] unit i f heap (configs.Live (g ∷ []) after) → ⊥
+  no_return g after (result, is, returned) = no_return_on g after result (ensures_fault unit f heap result) returned
+
+  on_effect : (g : Frame) (after : Heap) (effect : Effect) → configs.Live (g ∷ []) after ≡ config_after [] f i effect → effect ≡ GoesOn g after
+  on_effect g after (GoesOn new heap) is = cc
+  on_effect g after (Faults kind) is = absurd cc
+  on_effect g after Assumes is = absurd cc
+  on_effect g after FindsNoRoom is = absurd cc
+
+  -- Where it lives on by an effect, it goes on by it.
+  pub goes_on : (g : Frame) (after : Heap) → EffectRow [] unit i f heap (configs.Live (g ∷ []) after) → HasEffect (effects unit i f heap) (GoesOn g after)
+  goes_on g after (effect, has, is) = subst (HasEffect (effects unit i f heap)) (on_effect g after effect is) has
+
+  goes_by : (g : Frame) (after : Heap) → called_by i.op ≡ None → Row (FreeCall unit) i.op [] unit i f heap (configs.Live (g ∷ []) after)
+      → HasEffect (effects unit i f heap) (GoesOn g after)
+  goes_by g after calls_none row =
+      elim (row_kind i.op (configs.Live (g ∷ []) after) calls_none row) [ inl by ↦ goes_on g after by | inr returns ↦ absurd (no_return g after returns) ]
+
+-- The row of the instruction that is found.
+pub row_found : (unit : MethodUnit) (i : Instr) (f : Frame) (heap : Heap) (new : Config) → instr_at unit.instrs f.at ≡ Some i
+    → LocalStep unit (configs.Live (f ∷ []) heap) new → Row (FreeCall unit) i.op [] unit i f heap new
+row_found unit i f heap new found (j, found_j, row) =
+    let same : j ≡ i = same_Some j i (sym found_j ∙ found) in
+    subst (λ (k : Instr). Row (FreeCall unit) k.op [] unit k f heap new) same row
+
+-- A step by an instruction that calls no method is one of its effects.
+pub effect_of : (unit : MethodUnit) (i : Instr) (p q : Point) → called_by i.op ≡ None → Steps unit i p q → HasEffect (effects unit i p.frame p.heap) (GoesOn q.frame q.heap)
+effect_of unit i p q calls_none step = goes_by unit i p.frame p.heap q.frame q.heap calls_none (row_found unit i p.frame p.heap (lives_at q) step.to step.goes)
+
+-- ---- units without callees
+
+none_in_order : (first : ℕ) (numbers : List ℕ) → 0 < first → InOrderOfUse first 0 numbers → ⊥
+none_in_order first [] some is = omega (arith, some, is)
+none_in_order first (n ∷ ns) some (inl known) = none_in_order first ns some known.1
+none_in_order first (n ∷ ns) some (inr new) = none_in_order (first + 1) ns (omega arith) new.1
+
+no_numbers : (numbers : List ℕ) → InOrderOfUse 0 0 numbers → numbers ≡ []
+no_numbers [] order = refl
+no_numbers (n ∷ ns) (inl known) = absurd (omega (arith, known.0))
+no_numbers (n ∷ ns) (inr new) = absurd (none_in_order 1 ns (omega arith) new.1)
+
+none_first : (n : ℕ) (ns : List ℕ) → n ∷ ns ≡ [] → ⊥
+none_first n ns e = cc
+
+none_called : (is : List Instr) → filter_map (λ i. called_by i.op) is ≡ [] → AllByRecursion (λ i. called_by i.op ≡ None) is
+none_called [] none = tt
+none_called (i ∷ is) none = by (called_by i.op) refl none (λ rest. none_called is rest)
+  where
+    by : (number : Option ℕ) → called_by i.op ≡ number → filter_map (λ j. called_by j.op) (i ∷ is) ≡ []
+        → (filter_map (λ j. called_by j.op) is ≡ [] → AllByRecursion (λ j. called_by j.op ≡ None) is) → AllByRecursion (λ j. called_by j.op ≡ None) (i ∷ is)
+    by None is_none none rest = (is_none, rest (rw is_none at none))
+    by (Some n) is_some none rest = absurd (none_first n (filter_map (λ j. called_by j.op) is) (rw is_some at none))
+
+-- A well formed unit without callees calls no method.
+pub calls_none : (unit : MethodUnit) → IsWellFormed unit → unit.callees ≡ [] → AllByRecursion (λ i. called_by i.op ≡ None) unit.instrs
+calls_none unit formed none =
+    none_called unit.instrs (no_numbers (filter_map (λ i. called_by i.op) unit.instrs)
+    (subst (λ (callees : List CalleeInfo). InOrderOfUse 0 (length callees) (filter_map (λ i. called_by i.op) unit.instrs)) none formed.order))
