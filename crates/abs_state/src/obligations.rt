@@ -115,7 +115,6 @@ impl AbsState {
         requires there { ForSome self.old (λ known. AreThere known (conditions_of operation)) }
         ensures value { IfOk result (λ all. all ≡ (judged (conditions_of operation) self.old).entailed) }
         ensures state { OnOk result (self.new ≡ (judged (conditions_of operation) self.old).state) }
-        ensures form { ForSome self.old HasForm }
     {
         match operation {
             Operation::Length(r) => self.judge_each(&[Condition::NullUse(r)]),
@@ -146,6 +145,9 @@ impl AbsState {
         ensures sound { IfOk result (λ all. all ≡ true → EntailsThem (conditions_of operation) self.old) }
         ensures keeps { OnOk result (AssumesThem (conditions_of operation) self.old self.new) }
     {
+        if !self.reached() {
+            return Ok(true);
+        }
         self.judge_operation(operation)
     }
 }

@@ -1,6 +1,6 @@
 //! Units with their flow graphs and the kinds of their code.
 
-ghost use Rattle.std.specs.Prelude.{◌≡◌, ◌×◌, ◌<◌, length, reverse, option_map, IfOk};
+ghost use Rattle.std.specs.Prelude.{◌≡◌, ◌<◌, length, reverse, option_map, IfOk};
 ghost use Rattle.cil_model.specs.Passes.{KindsOf};
 ghost use Rattle.cil_model.specs.Shapes.{shape_of};
 ghost use Rattle.cil_model.specs.WellFormed.{IsWellFormed};
@@ -108,8 +108,8 @@ impl UnitFlow {
         }
     }
 
-    /// The kinds on the stack where a block starts, the bottom first. There are none where typing does not come. They are
-    /// found by halving.
+    /// The kinds on the stack where a block starts, the bottom first. There are none where typing does not come. They
+    /// are found by halving.
     pub fn kinds_at(&self, block: u32) -> Option<&[Kind]>
         requires lawful { IsLawful self.now }
         requires there { block < length self.now.graph.blocks }
