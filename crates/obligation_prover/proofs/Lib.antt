@@ -5,3 +5,4 @@ pub mod Faulting
 pub mod RuledOut
 pub mod Complete
 pub mod InTurn
+pub mod Reading
