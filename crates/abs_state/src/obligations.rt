@@ -77,7 +77,8 @@ impl AbsState {
         Ok(all && entailed)
     }
 
-    /// Returns whether each condition is entailed in the state that assumes those before it. The state then assumes all.
+    /// Returns whether each condition is entailed in the state that assumes those before it. The state then assumes
+    /// all.
     fn judge_each(&mut self, conditions: &[Condition]) -> Result<bool, NoMemory>
         requires there { ForSome self.old (λ known. AreThere known conditions.now) }
         ensures value { IfOk result (λ all. all ≡ (judged conditions.now self.old).entailed) }
