@@ -202,7 +202,7 @@ new_array_keeps place e (Some known) form = λ vs heap number array cell holds i
 
 -- ---- calls
 
-each_made_yields : (known : StateFacts) (o : Option Made) (number : ℕ → ℤ) (is_null : ℕ → Bool) (n : ℤ) (P : Option Made → Type 0) → EachMade known.facts o
+pub each_made_yields : (known : StateFacts) (o : Option Made) (number : ℕ → ℤ) (is_null : ℕ → Bool) (n : ℤ) (P : Option Made → Type 0) → EachMade known.facts o
     → YieldsSome known.facts (facts_made known.facts o) number is_null (expr_made o) n
     → ((made : Made) → IsMade known.facts made → HoldsWith known.facts made.facts number is_null made.expr n → P (Some made)) → P o
 each_made_yields known None number is_null n P each yields next = elim yields [ ]
@@ -323,7 +323,7 @@ call_differs known vs heap number array passed_vars xs a form holds are have pas
     result_differs known vs heap number array passed_vars xs n q holds are have (passed_or_new n a_is) there apart q_is)
 
 -- an array that a call gives, or null, with a length of its own
-result_so : (place : Place) (new : Heap) (later : ℕ → ℤ) (x : Reference Unknown) (a : Option ℕ) → x.place ≡ place → x.nullness ≡ May → FitsArray new place a
+pub result_so : (place : Place) (new : Heap) (later : ℕ → ℤ) (x : Reference Unknown) (a : Option ℕ) → x.place ≡ place → x.nullness ≡ May → FitsArray new place a
     → worth later x.length ≡ length_of_array new a → IsSo new later x a
 result_so place new later x a place_is nullness_is fits is = record {
   fits = subst (λ (p : Place). FitsArray new p a) (sym place_is) fits;
@@ -359,13 +359,13 @@ long_enough heap i is = each (slice_get heap i) (λ cell so. array_of_heap heap 
     each None are = (omega (arith, ints), omega (arith, ints))
     each (Some cell) are = let short = (are cell refl).1 in (omega (arith, ints), omega (arith, ints, short))
 
-array_long : (heap : Heap) (a : Option ℕ) → IsHeap heap → (pos 0 ≤ℤ length_of_array heap a) × (length_of_array heap a ≤ℤ pos 2147483647)
+pub array_long : (heap : Heap) (a : Option ℕ) → IsHeap heap → (pos 0 ≤ℤ length_of_array heap a) × (length_of_array heap a ≤ℤ pos 2147483647)
 array_long heap None is = (omega (arith, ints), omega (arith, ints))
 array_long heap (Some i) is = long_enough heap i is
 
 -- ---- what a call gives, by its type
 
-fitting_value : (new : Heap) (place : Place) (value : Value) → IsArrayPlace place → FitsPlace new place value
+pub fitting_value : (new : Heap) (place : Place) (value : Value) → IsArrayPlace place → FitsPlace new place value
     → (a : Option ℕ) × (reference_of value ≡ Some a) × FitsArray new place a
 fitting_value new places.Bools values.Null is fits = (None, refl, tt)
 fitting_value new places.Bools (values.Array i) is fits = (Some i, refl, fits)
@@ -415,14 +415,14 @@ array_result first args place known vs heap new number array value form fits_pla
     (array_of_value value j (found.1 ∙ ap (λ (o : Option ℕ). Some o) so)) passed_or_new)
     found.2 found.1 (array_long new found.0 is_heap)
 
-number_value : (new : Heap) (value : Value) → FitsPlace new places.Int value → (n : ℤ) × (number_of value ≡ Some n) × FitsSigned w32 n
+pub number_value : (new : Heap) (value : Value) → FitsPlace new places.Int value → (n : ℤ) × (number_of value ≡ Some n) × FitsSigned w32 n
 number_value new (values.Int n) fits = (n, refl, fits)
 number_value new (values.Native n) fits = elim fits [ ]
 number_value new values.Null fits = elim fits [ ]
 number_value new (values.Array i) fits = elim fits [ ]
 number_value new values.Text fits = elim fits [ ]
 
-byte_value : (new : Heap) (value : Value) → FitsPlace new places.Bool value → (n : ℤ) × (number_of value ≡ Some n) × IsByte n
+pub byte_value : (new : Heap) (value : Value) → FitsPlace new places.Bool value → (n : ℤ) × (number_of value ≡ Some n) × IsByte n
 byte_value new (values.Int n) fits = (n, refl, fits)
 byte_value new (values.Native n) fits = elim fits [ ]
 byte_value new values.Null fits = elim fits [ ]

@@ -12,3 +12,5 @@ pub mod ComparisonsHold
 pub mod AssumptionsHold
 pub mod ResultForms
 pub mod ResultsHold
+pub mod UnknownSpans
+pub mod UnknownValues

@@ -46,7 +46,7 @@ noted_so facts r narrow = cond_both (int_eq r.lo r.hi) _ _ (λ (m : Made). IsNot
       number = record { there = omega (arith, size); near = record { least = omega (arith, ints); greatest = omega (arith, ints) } };
     })
 
-each_noted : (facts : Facts) (o : Option Interval) → SomeNarrow o → KeepsForm facts (facts_made facts (option_map (λ r. noted facts r []) o))
+pub each_noted : (facts : Facts) (o : Option Interval) → SomeNarrow o → KeepsForm facts (facts_made facts (option_map (λ r. noted facts r []) o))
     → EachMade facts (option_map (λ r. noted facts r []) o)
 each_noted facts None narrow kept = tt
 each_noted facts (Some r) narrow kept =

@@ -98,7 +98,7 @@ before_ends : (n lower : ℕ) (pairs : List Pair) → lower ≤ n → AllByRecur
 before_ends n zero pairs there all = all
 before_ends n (suc lower) pairs there all = inserted_ends n (suc lower, n) _ (there, omega arith) (before_ends n lower pairs (omega (arith, there)) all)
 
-more_ends : (known : StateFacts) → HasForm known → AllByRecursion (EndsBy (length known.references + 1)) known.apart
+pub more_ends : (known : StateFacts) → HasForm known → AllByRecursion (EndsBy (length known.references + 1)) known.apart
 more_ends known form = all_weaker (EndsBy (length known.references)) (EndsBy (length known.references + 1)) known.apart (λ p is. (omega (arith, is.0), omega (arith, is.1))) form.pairs
 
 pub array_form : (place : Place) (e : Expr) (known : StateFacts) → HasForm known → IsArrayPlace place → IsNumber (length known.facts.ranges) e
@@ -125,7 +125,7 @@ apart_with_ends test n (suc q) pairs there all =
     (λ apart. cond_both (is_proper (ordered n (suc q))) _ _ (AllByRecursion (EndsBy n)) (λ proper. inserted_ends n (ordered n (suc q)) _ (ordered_ends n (suc q) there) rest) (λ not. rest))
     (λ not. rest)
 
-returned_form : (apart : List Pair) (place : Place) (known : StateFacts) → HasForm known → IsArrayPlace place
+pub returned_form : (apart : List Pair) (place : Place) (known : StateFacts) → HasForm known → IsArrayPlace place
     → AllByRecursion (EndsBy (length known.references + 1)) apart → Formed (with_returned apart place known)
 unfolding with_returned
 returned_form apart place known form fits ends =

@@ -1,14 +1,14 @@
 -- What is known where a value comes of which little is known. None: nothing is reached then.
-use Rattle.std.specs.Prelude.{◌≡◌, ℕ, ℤ, pos, List, [], ◌∷◌, ◌++◌, Option, Some, FitsSigned}
+use Rattle.std.specs.Prelude.{◌≡◌, ℕ, ℤ, pos, List, [], ◌∷◌, ◌++◌, Option, Some, None, FitsSigned, if◌then◌else◌}
 use Rattle.std.specs.Int.{w32}
 use Rattle.std.specs.Option.{option_and_then, option_map}
 use Rattle.cil_model.specs.Arithmetic.{LEAST, GREATEST}
-use Rattle.cil_model.specs.Values.{FitsPlace, Heap}
+use Rattle.cil_model.specs.Values.{FitsPlace, Heap, IsHeap}
 use Rattle.cil_model.specs.declared.machine.Value.{Value}
 use Rattle.cil_model.specs.declared.machine.Value.TheVariants as values
 use Rattle.cil_model.specs.declared.place.Place.{Place}
 use Rattle.cil_model.specs.declared.place.Place.TheVariants as places
-use Rattle.number_facts.specs.Fresh.{fresh}
+use Rattle.number_facts.specs.Fresh.{fresh, is_long}
 use Rattle.number_spans.specs.Spans.{Has}
 use Rattle.number_spans.specs.declared.span.Span.{Span}
 use Rattle.state_facts.specs.Calls.{with_returned}
@@ -16,6 +16,11 @@ use Rattle.state_facts.specs.Holds.{HoldsIn}
 use Rattle.state_facts.specs.Keeps.{HoldsOn}
 use Rattle.state_facts.specs.Moves.{on_top, with_number}
 use Rattle.state_facts.specs.StateFacts.{StateFacts, State}
+
+-- A hole of 64 bits. Another one lies in no range of int32.
+abbrev pub long_hole : Option ℤ → Option ℤ
+long_hole None = None
+long_hole (Some hole) = if is_long hole then Some hole else None
 
 -- A number of a span is on top.
 unfoldable pub with_within : Span → StateFacts → Option StateFacts
@@ -48,5 +53,5 @@ KeepsWithin r before after =
 abbrev pub KeepsUnknown : Place → State → State → Type 0
 KeepsUnknown place before after =
     (vs : List Value) (heap : Heap) (number : ℕ → ℤ) (array : ℕ → Option ℕ) (value : Value)
-    → HoldsIn before vs heap number array → FitsPlace heap place value
+    → HoldsIn before vs heap number array → IsHeap heap → FitsPlace heap place value
     → HoldsOn before after (vs ++ value ∷ []) heap number array

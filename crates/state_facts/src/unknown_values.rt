@@ -1,24 +1,41 @@
 //! Values of which little is known.
 
-ghost use Rattle.std.specs.Prelude.{◌≡◌, true, IfOk, OnErr, Some, is_some};
+ghost use Rattle.std.specs.Prelude.{◌≡◌, true, [], IfOk, OnErr, OnOk, Some, is_some};
+ghost use Rattle.number_facts.specs.Fresh.{expr_made, facts_made, fresh};
 ghost use Rattle.state_facts.specs.UnknownValues as rule;
 
 use crate::known::Known;
 use cil_model::Place;
-use domain_api::NoMemory;
+use domain_api::{Expr, NoMemory};
 use frame_names::Var;
+use number_facts::Numbers;
 use number_spans::{Span, nearest};
 
-/// A hole, where it has 64 bits. Another lies in no range of int32.
-fn short_hole(hole: Option<i128>) -> Option<i64> {
+/// A hole, where it has 64 bits.
+fn long_hole(hole: Option<i128>) -> Option<i64>
+    ensures { result ≡ rule.long_hole hole }
+{
     match hole {
         None => None,
         Some(hole) => i64::try_from(hole).ok(),
     }
 }
 
+/// A number of a span, of which no more is known. None exactly where none of it is an int32.
+fn number_within(numbers: &mut Numbers, span: Span) -> Result<Option<Expr>, NoMemory>
+    ensures value { IfOk result (λ e. e ≡ expr_made (fresh numbers.old span.lo span.hi span.hole [])) }
+    ensures facts { OnOk result (numbers.new ≡ facts_made numbers.old (fresh numbers.old span.lo span.hi span.hole [])) }
+    ensures err { OnErr result (numbers.new ≡ numbers.old) }
+{
+    numbers.fresh(nearest(span.lo), nearest(span.hi), long_hole(span.hole))
+}
+
 impl Known {
-    /// Pushes a number of a span, of which no more is known. False: none of it is an int32.
+    /// Pushes a number of a span, of which no more is known. False: none of it is an int32, and nothing is reached.
+    ///
+    /// # Errors
+    ///
+    /// Want of memory leaves what was known.
     #[tactic(auto, unfolding(crate::specs::UnknownValues::with_within))]
     pub fn push_within(&mut self, span: Span) -> Result<bool, NoMemory>
         ensures reached { IfOk result (λ reached. reached ≡ is_some (rule.with_within span self.old)) }
@@ -26,8 +43,7 @@ impl Known {
         ensures err { OnErr result (self.new ≡ self.old) }
     {
         self.variables.reserve(1)?;
-        let (lo, hi) = (nearest(span.lo), nearest(span.hi));
-        let Some(e) = self.numbers.fresh(lo, hi, short_hole(span.hole))? else {
+        let Some(e) = number_within(&mut self.numbers, span)? else {
             return Ok(false);
         };
         self.variables.push(Var::Number(e))?;
@@ -36,6 +52,10 @@ impl Known {
 
     /// Pushes a value of a type, of which no more is known, unless it is the type of no value. False: nothing is
     /// reached.
+    ///
+    /// # Errors
+    ///
+    /// Want of memory leaves what was known.
     #[tactic(auto, unfolding(crate::specs::UnknownValues::with_unknown))]
     pub fn push_unknown(&mut self, place: Place) -> Result<bool, NoMemory>
         ensures reached { IfOk result (λ reached. reached ≡ is_some (rule.with_unknown place self.old)) }

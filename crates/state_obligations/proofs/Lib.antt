@@ -1,1 +1,6 @@
 pub mod Nearest
+pub mod Following
+pub mod ConditionLaws
+pub mod AssumptionLaws
+pub mod JudgedLaws
+pub mod FaultLaws

@@ -1,5 +1,5 @@
 -- What is known where a condition was met. None: nothing is reached then.
-use Rattle.std.specs.Prelude.{ℤ, pos, negsuc, ◌==◌, Bool, true, ◌&&◌, Option, Some, if◌then◌else◌}
+use Rattle.std.specs.Prelude.{ℤ, pos, negsuc, ◌==◌, Bool, true, ◌&&◌, Some, if◌then◌else◌}
 use Rattle.std.specs.Option.{option_and_then}
 use Rattle.std.specs.Ordering.{int_eq}
 use Rattle.cil_model.specs.Arithmetic.{LEAST}

@@ -1,5 +1,5 @@
 -- When what is known entails a condition.
-use Rattle.std.specs.Prelude.{pos, negsuc, Bool, true, ◌&&◌, ◌||◌, int_le, Option, Some, None}
+use Rattle.std.specs.Prelude.{pos, negsuc, Bool, true, ◌&&◌, ◌||◌, int_le, Some, None}
 use Rattle.cil_model.specs.Arithmetic.{LEAST, GREATEST}
 use Rattle.domain_api.specs.declared.expr.Expr.{Expr}
 use Rattle.number_facts.specs.Arith.{exact}

@@ -44,6 +44,9 @@ IsOfInt32 (conditions.DivOverflow a b) number = FitsSigned w32 (worth number a) 
 IsOfInt32 (conditions.Overflow op a b) number = FitsSigned w32 (worth number a) × FitsSigned w32 (worth number b)
 IsOfInt32 (conditions.Assert e) number = FitsSigned w32 (worth number e)
 
+abbrev pub AreOfInt32 : List Condition → (ℕ → ℤ) → Type 0
+AreOfInt32 cs number = AllByRecursion (λ c. IsOfInt32 c number) cs
+
 -- Wherever the state holds of int32, the condition is met.
 abbrev pub EntailsIt : Condition → State → Type 0
 EntailsIt condition state =
@@ -56,3 +59,15 @@ AssumesIt condition before after =
     (vs : List Value) (heap : Heap) (number : ℕ → ℤ) (array : ℕ → Option ℕ)
     → IsHeap heap → HoldsIn before vs heap number array → IsOfInt32 condition number
     → IsMet condition heap number array → HoldsIn after vs heap number array
+
+-- The same of conditions one after another.
+abbrev pub EntailsThem : List Condition → State → Type 0
+EntailsThem cs state =
+    (vs : List Value) (heap : Heap) (number : ℕ → ℤ) (array : ℕ → Option ℕ)
+    → IsHeap heap → HoldsIn state vs heap number array → AreOfInt32 cs number → AreMet cs heap number array
+
+abbrev pub AssumesThem : List Condition → State → State → Type 0
+AssumesThem cs before after =
+    (vs : List Value) (heap : Heap) (number : ℕ → ℤ) (array : ℕ → Option ℕ)
+    → IsHeap heap → HoldsIn before vs heap number array → AreOfInt32 cs number
+    → AreMet cs heap number array → HoldsIn after vs heap number array

@@ -1,10 +1,11 @@
 //! What is known where a condition was met.
 
-ghost use Rattle.std.specs.Prelude.{◌≡◌, true, IfOk, OnErr, Some, is_some};
+ghost use Rattle.std.specs.Prelude.{◌≡◌, true, IfOk, OnErr, Some, None, is_some, if◌then◌else◌};
 ghost use Rattle.number_facts.specs.Facts.{IsNamed};
 ghost use Rattle.state_facts.specs.Forms.{HasForm};
 ghost use Rattle.state_obligations.specs.Assumed as rule;
 ghost use Rattle.state_obligations.specs.Conditions.{IsThere};
+ghost use Rattle.state_obligations.specs.Meaning.{AssumesIt};
 
 use crate::condition::Condition;
 use cil_model::CmpOp;
@@ -57,7 +58,7 @@ fn assume_not_negative(known: &mut Known, e: Expr) -> Result<bool, NoMemory>
 }
 
 /// Assumes that an amount to shift by is one of 0 to 31.
-#[tactic(auto, using(state_facts::proofs::Following::ready_behind_compared))]
+#[tactic(auto, using(crate::proofs::Following::ready_behind, crate::proofs::AssumptionLaws::formed_where_err))]
 fn assume_amount(known: &mut Known, n: Expr) -> Result<bool, NoMemory>
     requires form { HasForm known.old }
     requires there { IsNamed known.old.facts n }
@@ -97,8 +98,21 @@ fn assume_no_division_overflow(known: &mut Known, a: Expr, b: Expr) -> Result<bo
 /// # Errors
 ///
 /// Want of memory. What is assumed then is left open.
-#[tactic(auto, unfolding(crate::specs::Assumed::assumed_by))]
 pub fn assume(known: &mut Known, condition: Condition) -> Result<bool, NoMemory>
+    requires form { HasForm known.old }
+    requires there { IsThere known.old condition }
+    ensures reached { IfOk result (λ reached. reached ≡ is_some (rule.assumed_by condition known.old)) }
+    ensures ok { IfOk result (λ reached. reached ≡ true → rule.assumed_by condition known.old ≡ Some known.new) }
+    ensures keeps { IfOk result (λ reached.
+        AssumesIt condition (Some known.old) (if reached then Some known.new else None)) }
+    ensures form { OnErr result (HasForm known.new) }
+{
+    assume_by_rule(known, condition)
+}
+
+/// The same, by its rule.
+#[tactic(auto, unfolding(crate::specs::Assumed::assumed_by), using(crate::proofs::AssumptionLaws::formed_where_err))]
+fn assume_by_rule(known: &mut Known, condition: Condition) -> Result<bool, NoMemory>
     requires form { HasForm known.old }
     requires there { IsThere known.old condition }
     ensures reached { IfOk result (λ reached. reached ≡ is_some (rule.assumed_by condition known.old)) }

@@ -1,6 +1,6 @@
 //! When what is known entails a condition.
 
-ghost use Rattle.std.specs.Prelude.{◌≡◌, ◌&&◌, pos, int_le};
+ghost use Rattle.std.specs.Prelude.{◌≡◌, ◌&&◌, pos, int_le, true, Some};
 ghost use Rattle.cil_model.specs.Arithmetic.{LEAST, GREATEST};
 ghost use Rattle.number_facts.specs.Arith.{exact};
 ghost use Rattle.number_facts.specs.Ends.{range_of};
@@ -11,6 +11,7 @@ ghost use Rattle.number_spans.specs.Spans as spans;
 ghost use Rattle.state_facts.specs.Forms.{HasForm, HasNumber};
 ghost use Rattle.state_obligations.specs.Conditions.{IsThere};
 ghost use Rattle.state_obligations.specs.Entailed.{are_int32, entailed_by};
+ghost use Rattle.state_obligations.specs.Meaning.{EntailsIt};
 
 use crate::condition::Condition;
 use alias_facts::Nullness;
@@ -73,11 +74,21 @@ fn is_int32(known: &Known, op: BinOp, a: Expr, b: Expr) -> bool
 /// Returns whether what is known entails a condition of operands.
 ///
 /// Cost: that of a gap or two. It takes no memory.
-#[tactic(auto, unfolding(crate::specs::Entailed::entailed_by))]
 pub fn entails(known: &Known, condition: Condition) -> bool
     requires form { HasForm known.now }
     requires there { IsThere known.now condition }
     ensures value { result ≡ entailed_by condition known.now }
+    ensures sound { result ≡ true → EntailsIt condition (Some known.now) }
+{
+    is_entailed(known, condition)
+}
+
+/// The same, by its rule.
+#[tactic(auto, unfolding(crate::specs::Entailed::entailed_by))]
+fn is_entailed(known: &Known, condition: Condition) -> bool
+    requires form { HasForm known.now }
+    requires there { IsThere known.now condition }
+    ensures { result ≡ entailed_by condition known.now }
 {
     let numbers = &known.numbers;
     match condition {
