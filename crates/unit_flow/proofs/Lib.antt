@@ -5,9 +5,11 @@ pub mod LawfulCode
 pub mod BlockChains
 pub mod StepRows
 pub mod WayLaws
+pub mod FrameSizes
 pub mod KindsAlong
 pub mod OnTheWay
 pub mod Settled
 pub mod KindsFound
 pub mod Slicing
 pub mod Constructing
+pub mod FlowExamples

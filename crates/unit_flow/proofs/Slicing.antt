@@ -1,15 +1,19 @@
 -- Slices of instructions by their offsets.
-use Rattle.std.proofs.Common.{◌≡◌, ℕ, zero, suc, ◌+◌, ◌≤◌, Bool, true, false, nat_le, List, [], ◌∷◌, length, get_or, take, filter, Option, None, refl, sym, ap, ◌∙◌, arith}
+use Rattle.std.proofs.Common.{◌≡◌, ℕ, zero, suc, ◌+◌, ◌<◌, ◌≤◌, Bool, true, false, nat_le, nat_lt, List, [], ◌∷◌, length, get_or, take, filter, Option, None, refl, sym, ap, ◌∙◌, arith}
 use Rattle.std.specs.Prelude.{slice_get}
 use Rattle.std.specs.List.{AllWithin}
+use Rattle.std.specs.List.Sorted.{IsNonDecreasingBy}
 use Rattle.cil_model.specs.declared.instruction.Instr.{Instr}
 use Rattle.cil_model.specs.Code.{begins_at}
 use Rattle.cil_model.specs.Passes.{stack_at}
 use Rattle.cil_model.specs.declared.place.Kind.{Kind}
+use Rattle.cil_model.proofs.ShortCodes.{offsets_rise}
 use Rattle.stack_typer.specs.LaidOut.{AreLaidOut, BeginsAt}
 use Rattle.stack_typer.proofs.OffsetLemmas.{no_stack_there, stack_there}
-use Rattle.unit_flow.specs.Flow.{is_before, instrs_between, block_instrs, kinds_at}
+use Rattle.unit_flow.specs.Flow.{IsLawful, is_before, instrs_between, block_instrs, kinds_at}
 use Rattle.unit_flow.specs.declared.unit_flow.UnitFlow.{UnitFlow}
+use Rattle.unit_flow.proofs.LawfulCode.{short}
+use Rattle.unit_flow.proofs.Places.{there_is}
 
 -- Where those that pass come first, they are so many from the front.
 pub passing_front : {X : Type 0} (p : X → Bool) (xs : List X) (k : ℕ) → k ≤ length xs → AllWithin (λ x. p x ≡ true) xs 0 k → AllWithin (λ x. p x ≡ false) xs k (length xs)
@@ -35,9 +39,20 @@ none_at [] n le = refl
 none_at (x ∷ xs) zero le = absurd (omega (arith, le))
 none_at (x ∷ xs) (suc n) le = none_at xs n (omega (arith, le))
 
+-- The instructions of lawful code rise.
+pub instrs_rise : (code : UnitFlow) (is : List Instr) → is ≡ code.unit.instrs → IsLawful code → IsNonDecreasingBy (λ i. i.at) is
+instrs_rise code is same lawful = rw same (offsets_rise code.unit.instrs (short code lawful))
+
 module _ (code : UnitFlow) (block : ℕ) (blocks : List ℕ) (is : List Instr) (starts : blocks ≡ code.graph.blocks) (instrs : is ≡ code.unit.instrs) where
   abbrev rest : List Instr
   rest = filter (λ i. nat_le (get_or blocks block 0) i.at) is
+
+  -- a block before another
+  pub inner_block : block + 1 < length blocks → filter (λ i. nat_lt i.at (get_or blocks (block + 1) 0)) rest ≡ block_instrs code block
+  inner_block below = ap (λ (end : Option ℕ). filter (λ i. is_before end i.at) rest) (sym (there_is blocks (block + 1) 0 below)) ∙ same
+    where
+      same : instrs_between (get_or blocks block 0) (slice_get blocks (block + 1)) is ≡ block_instrs code block
+      same = cc
 
   -- the last block
   pub last_block : length blocks ≤ block + 1 → rest ≡ block_instrs code block

@@ -1,6 +1,6 @@
 //! Units with their flow graphs and the kinds of their code.
 
-ghost use Rattle.std.specs.Prelude.{◌≡◌, ◌×◌, ◌<◌, length, reverse, option_map, IfOk};
+ghost use Rattle.std.specs.Prelude.{◌≡◌, ◌<◌, length, reverse, option_map, IfOk};
 ghost use Rattle.cil_model.specs.Passes.{KindsOf};
 ghost use Rattle.cil_model.specs.Shapes.{shape_of};
 ghost use Rattle.cil_model.specs.WellFormed.{IsWellFormed};
