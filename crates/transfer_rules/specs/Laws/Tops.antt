@@ -4,20 +4,26 @@ use Rattle.std.specs.Prelude.{reverse, set, slice_get}
 use Rattle.std.specs.List.{AllByRecursion}
 use Rattle.std.proofs.lemmas.List.{reverse-append, set-append_left, take-append-le, take_all}
 use Rattle.std.proofs.lemmas.Option.{none-some, same_Some}
+use Rattle.cil_model.specs.Comparisons.{number_of, reference_of}
 use Rattle.cil_model.specs.Configs.{IsFrameOf}
 use Rattle.cil_model.specs.Values.{FitPlaces, Heap}
 use Rattle.cil_model.specs.declared.machine.Frame.{Frame}
 use Rattle.cil_model.specs.declared.machine.Value.{Value}
+use Rattle.cil_model.specs.declared.machine.Value.TheVariants as values
 use Rattle.cil_model.specs.declared.place.Place.{Place}
 use Rattle.cil_model.specs.declared.unit.Unit.{Unit as MethodUnit}
+use Rattle.domain_api.specs.declared.expr.Expr.{Expr}
 use Rattle.frame_names.specs.declared.var.Var.{Var}
+use Rattle.frame_names.specs.declared.var.Var.TheVariants as vars
 use Rattle.obligation_prover.specs.Operations.{from_top}
-use Rattle.state_facts.specs.Forms.{HasForm, HasVar, IsVar}
+use Rattle.state_facts.specs.Forms.{HasForm, HasNumber, HasReference, HasVar, IsVar}
 use Rattle.state_facts.specs.Holds.{HasValue, HaveValues, HoldsBy, variables_of}
 use Rattle.state_facts.specs.Moves.{popped}
 use Rattle.state_facts.specs.StateFacts.{StateFacts, State}
+use Rattle.state_facts.proofs.Agreeing.{have_pushed}
 use Rattle.state_facts.proofs.MoveForms.{popped_form}
 use Rattle.state_facts.proofs.MovesHold.{pop_keeps}
+use Rattle.symbolic_values.specs.Worth.{worth}
 use Rattle.transfer_rules.specs.Operands.{Rule, on_one, on_three, on_two}
 
 -- ---- lists
@@ -102,6 +108,92 @@ over f stack = f.entry_args ++ f.args ++ f.locals ++ reverse stack
 pub over_pushed : (f : Frame) (v : Value) (rest : List Value) → over f (v ∷ rest) ≡ over f rest ++ v ∷ []
 over_pushed f v rest =
     ap (λ vs. f.entry_args ++ f.args ++ f.locals ++ vs) (reverse-append (v ∷ []) rest) ∙ sym (append_assoc (f.entry_args ++ f.args ++ f.locals) (reverse rest) (v ∷ []))
+
+-- What is known holds over this stack, with the values of it.
+pub on_one_over : (P : State → Type 0) (rule : Var → Rule) (known : StateFacts) (f : Frame) (value : Value) (rest : List Value) (heap : Heap) (number : ℕ → ℤ) (array : ℕ → Option ℕ)
+    → HasForm known → HoldsBy known (over f (value ∷ rest)) heap number array
+    → ((top : HasTop known (over f rest) value heap number array) → P (rule top.var (popped known))) → P (on_one rule known)
+on_one_over P rule known f value rest heap number array form holds so =
+    on_one_so P rule known (over f rest) value heap number array form (subst (λ (vs : List Value). HoldsBy known vs heap number array) (over_pushed f value rest) holds) so
+
+pub on_two_over : (P : State → Type 0) (rule : Var → Var → Rule) (known : StateFacts) (f : Frame) (b a : Value) (rest : List Value) (heap : Heap) (number : ℕ → ℤ)
+    (array : ℕ → Option ℕ) → HasForm known → HoldsBy known (over f (b ∷ a ∷ rest)) heap number array
+    → ((upper : HasTop known (over f (a ∷ rest)) b heap number array) (lower : HasTop (popped known) (over f rest) a heap number array)
+    → P (rule lower.var upper.var (popped (popped known)))) → P (on_two rule known)
+on_two_over P rule known f b a rest heap number array form holds so =
+    on_one_over P (λ upper. on_one (λ lower. rule lower upper)) known f b (a ∷ rest) heap number array form holds
+    (λ upper. on_one_over P (λ lower. rule lower upper.var) (popped known) f a rest heap number array upper.form upper.rest (λ lower. so upper lower))
+
+pub on_three_over : (P : State → Type 0) (rule : Var → Var → Var → Rule) (known : StateFacts) (f : Frame) (c b a : Value) (rest : List Value) (heap : Heap) (number : ℕ → ℤ)
+    (array : ℕ → Option ℕ) → HasForm known → HoldsBy known (over f (c ∷ b ∷ a ∷ rest)) heap number array
+    → ((upper : HasTop known (over f (b ∷ a ∷ rest)) c heap number array) (middle : HasTop (popped known) (over f (a ∷ rest)) b heap number array)
+    (lower : HasTop (popped (popped known)) (over f rest) a heap number array)
+    → P (rule lower.var middle.var upper.var (popped (popped (popped known))))) → P (on_three rule known)
+on_three_over P rule known f c b a rest heap number array form holds so =
+    on_one_over P (λ upper. on_two (λ lowest lower. rule lowest lower upper)) known f c (b ∷ a ∷ rest) heap number array form holds
+    (λ upper. on_two_over P (λ lowest lower. rule lowest lower upper.var) (popped known) f b a rest heap number array upper.form upper.rest
+    (λ middle lower. so upper middle lower))
+
+-- The top may have another value, if what has the one has the other.
+pub top_as : (known : StateFacts) (f : Frame) (old new : Value) (rest : List Value) (heap : Heap) (number : ℕ → ℤ) (array : ℕ → Option ℕ)
+    → HoldsBy known (over f (old ∷ rest)) heap number array → ((v : Var) → HasValue number array v old → HasValue number array v new)
+    → HoldsBy known (over f (new ∷ rest)) heap number array
+top_as known f old new rest heap number array holds same =
+    let end = has_last number array known.variables (over f rest) old (subst (HaveValues number array known.variables) (over_pushed f old rest) holds.variables) in
+    record {
+      null = holds.null;
+      facts = holds.facts;
+      variables = subst (HaveValues number array known.variables) (sym (over_pushed f new rest))
+          (subst (λ (vs : List Var). HaveValues number array vs (over f rest ++ new ∷ [])) (sym end.are)
+          (have_pushed number array end.first (over f rest) end.last new end.have (same end.last end.has)));
+      references = holds.references;
+      apart = holds.apart;
+    }
+
+-- ---- operands by their forms
+
+-- The variable is a number, and it is this one.
+pub record IsNumberOf (known : StateFacts) (v : Var) (n : ℤ) (number : ℕ → ℤ) : Type 0 where
+  pub expr : Expr
+  pub is : v ≡ vars.Number expr
+  pub there : HasNumber known expr
+  pub worth_is : worth number expr ≡ n
+
+-- The variable is a reference, and it is null or this array.
+pub record IsReferenceOf (known : StateFacts) (v : Var) (a : Option ℕ) (array : ℕ → Option ℕ) : Type 0 where
+  pub reference : ℕ
+  pub is : v ≡ vars.Reference reference
+  pub there : HasReference known reference
+  pub array_is : array reference ≡ a
+
+-- A value is no number and a reference.
+not_both : (value : Value) (n : ℤ) (a : Option ℕ) → number_of value ≡ Some n → reference_of value ≡ Some a → ⊥
+not_both (values.Int m) n a first second = none-some a second
+not_both (values.Native m) n a first second = none-some a second
+not_both values.Null n a first second = none-some n first
+not_both (values.Array i) n a first second = none-some n first
+not_both values.Text n a first second = none-some n first
+
+-- What has a number as its value is a number.
+pub as_number : (known : StateFacts) (v : Var) (value : Value) (n : ℤ) (number : ℕ → ℤ) (array : ℕ → Option ℕ) → HasVar known v → HasValue number array v value
+    → number_of value ≡ Some n → IsNumberOf known v n number
+as_number known (vars.Number e) value n number array there has is =
+    record { expr = e; is = refl; there = there; worth_is = same_Some (worth number e) n (sym has ∙ is) }
+as_number known (vars.Reference r) value n number array there has is = absurd (not_both value n (array r) is has)
+as_number known vars.Text value n number array there has is = absurd (none-some n (ap number_of (sym has) ∙ is))
+
+-- What has a reference as its value is a reference.
+pub as_reference : (known : StateFacts) (v : Var) (value : Value) (a : Option ℕ) (number : ℕ → ℤ) (array : ℕ → Option ℕ) → HasVar known v → HasValue number array v value
+    → reference_of value ≡ Some a → IsReferenceOf known v a array
+as_reference known (vars.Number e) value a number array there has is = absurd (not_both value (worth number e) a has is)
+as_reference known (vars.Reference r) value a number array there has is =
+    record { reference = r; is = refl; there = there; array_is = same_Some (array r) a (sym has ∙ is) }
+as_reference known vars.Text value a number array there has is = absurd (none-some a (ap reference_of (sym has) ∙ is))
+
+-- What is there is there still where the top was taken.
+pub var_below : (known : StateFacts) (v : Var) → HasVar known v → HasVar (popped known) v
+unfolding popped
+var_below known v there = there
 
 -- ---- variables by their places
 
