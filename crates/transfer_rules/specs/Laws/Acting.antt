@@ -14,7 +14,7 @@ use Rattle.cil_model.specs.Arithmetic as machine
 use Rattle.cil_model.specs.Arithmetic.{truth, unsigned, operated_one}
 use Rattle.cil_model.specs.Comparisons.{comparison_of, comparison_value, compares_values, is_true, number_of, pushed_comparison, reference_of}
 use Rattle.cil_model.specs.Effects as rows
-use Rattle.cil_model.specs.Effects.{Effect, GoesOn, Faults, Assumes, FindsNoRoom, HasEffect, effects_of, goes_on, goes_to}
+use Rattle.cil_model.specs.Effects.{Effect, GoesOn, Faults, Assumes, FindsNoRoom, HasEffect, effects, effects_of, goes_on, goes_to}
 use Rattle.cil_model.specs.UnitCalls.{array_place, unit_call}
 use Rattle.cil_model.specs.Values.{Heap, IsHeap, IsValue, KeepsForms, put, same_place}
 use Rattle.cil_model.specs.declared.instruction.BinOp.{BinOp}
@@ -41,6 +41,8 @@ use Rattle.cil_model.proofs.HeapsKept.{keeps_others}
 use Rattle.frame_names.specs.declared.reference.Reference.{Reference}
 use Rattle.frame_names.specs.declared.var.Var.{Var}
 use Rattle.frame_names.specs.declared.var.Var.TheVariants as vars
+use Rattle.machine_points.specs.Points.{IsPointOf}
+use Rattle.machine_points.specs.declared.point.Point.{Point}
 use Rattle.number_facts.proofs.Knowing.{constant_worth}
 use Rattle.number_spans.specs.Constants.{constant}
 use Rattle.state_facts.specs.Forms.{HasForm, HasNumber, HasReference, HasVar}
@@ -60,7 +62,7 @@ use Rattle.state_obligations.specs.declared.condition.Condition.TheVariants as c
 use Rattle.symbolic_values.specs.Worth.{worth}
 use Rattle.transfer_rules.specs.Acts.{acted, arg_place, behind_call, behind_test, calculated, complemented, duplicated, left, loaded, local_place, negated, operated, put_into, stored, taken_from, type_of, with_condition, with_item_of, with_item_put, with_length, with_new}
 use Rattle.transfer_rules.specs.Operands.{on_condition, on_one, on_three, on_two}
-use Rattle.transfer_rules.specs.Laws.Tops.{HasAt, HasSizes, HasTop, IsNumberOf, IsReferenceOf, arg_at, arg_put, as_number, as_reference, has_at, has_top, local_at, local_put, on_one_over, on_three_over, on_two_over, over, over_pushed, place_below, top_as, var_below}
+use Rattle.transfer_rules.specs.Laws.Tops.{HasAt, HasSizes, HasTop, IsNumberOf, IsReferenceOf, arg_at, arg_put, as_number, as_reference, has_at, has_sizes, has_top, local_at, local_put, on_one_over, on_three_over, on_two_over, over, over_pushed, place_below, top_as, var_below}
 
 -- ---- choices
 
@@ -564,3 +566,128 @@ module _ (unit : MethodUnit) (known : StateFacts) (f : Frame) (form : HasForm kn
       (length-set cell.items (unsigned_abs n) (rows.item_of place v)))
       (at_index_so cell n (goes_on i f (rows.with_item heap a cell (unsigned_abs n) (rows.item_of place v)) rest) goes)) has
   item_stored place _ holds has = elim has [ ]
+
+  -- ---- Assert and Assume
+
+  -- What a rule makes of a condition that is not 0 holds.
+  abbrev IsSoOfCondition : (Var → StateFacts → State) → Type 0
+  IsSoOfCondition rule =
+      (below : StateFacts) (v : Var) (n : ℤ) (rest : List Value) → HasForm below → IsNumberOf below v n number → FitsSigned w32 n → int_eq n (pos 0) ≡ false
+      → HoldsBy below (over f rest) heap number array → HoldsIn (rule v below) (over f rest) heap number array
+
+  left_holds : IsSoOfCondition left
+  left_holds below v n rest formed is fits nonzero holds = holds
+
+  condition_holds : IsSoOfCondition with_condition
+  condition_holds below v n rest formed is fits nonzero holds =
+      rw is.is
+      (met_is_kept (conditions.Assert is.expr) below formed is.there (over f rest) heap number array is_heap holds (subst (FitsSigned w32) (sym is.worth_is) fits)
+      (λ none. false≢true (sym nonzero ∙ (Decides-int_eq n (pos 0)).1 (sym is.worth_is ∙ none))))
+
+  passed_so : (otherwise : Effect) (n : ℤ) (rest : List Value) → (otherwise ≡ GoesOn g after → ⊥)
+      → HasEffect (rows.tests_condition otherwise i f heap (Some (Int n ∷ rest))) (GoesOn g after)
+      → (int_eq n (pos 0) ≡ false) × HasEffect (goes_on i f heap rest) (GoesOn g after)
+  passed_so otherwise n rest other has =
+      cond_both (int_eq n (pos 0)) _ _
+      (λ (es : List Effect). HasEffect es (GoesOn g after) → (int_eq n (pos 0) ≡ false) × HasEffect (goes_on i f heap rest) (GoesOn g after))
+      (λ none goes. elim goes [ inl same ↦ absurd (other (sym same)) | inr none ↦ elim none [ ] ]) (λ some goes. (some, goes)) has
+
+  condition_so : (message : Bool) (rule : Var → StateFacts → State) (otherwise : Effect) (stack : List Value) → (otherwise ≡ GoesOn g after → ⊥) → IsSoOfCondition rule
+      → Over stack → AllByRecursion (IsValue heap) stack
+      → HasEffect (rows.tests_condition otherwise i f heap (rows.below_message message stack)) (GoesOn g after) → Behind (on_condition message rule known)
+  condition_so false rule otherwise (Int n ∷ rest) other so holds are has =
+      let goes = passed_so otherwise n rest other has in
+      goes_so f (on_one rule known) (i.at + i.size) rest heap
+      (on_one_over (λ (s : State). HoldsOn (Some known) s (over f rest) heap number array) rule known f (Int n) rest heap number array form holds
+      (λ top.
+      let below = popped known in
+      same_on known (rule top.var below) (over f rest) heap number array
+      (so below top.var n rest top.form (as_number below top.var (Int n) n number array top.there top.has refl) are.0 goes.0 top.rest))) goes.1
+  condition_so true rule otherwise (Text ∷ Int n ∷ rest) other so holds are has =
+      let goes = passed_so otherwise n rest other has in
+      goes_so f (on_two (λ condition text. rule condition) known) (i.at + i.size) rest heap
+      (on_two_over (λ (s : State). HoldsOn (Some known) s (over f rest) heap number array) (λ condition text. rule condition) known f Text (Int n) rest heap number array form holds
+      (λ upper lower.
+      let below = popped (popped known) in
+      same_on known (rule lower.var below) (over f rest) heap number array
+      (so below lower.var n rest lower.form (as_number below lower.var (Int n) n number array lower.there lower.has refl) are.1.0 goes.0 lower.rest))) goes.1
+  condition_so false rule otherwise _ other so holds are has = elim has [ ]
+  condition_so true rule otherwise _ other so holds are has = elim has [ ]
+
+  call_so : (call : Option UnitCall) → Over f.stack → AllByRecursion (IsValue heap) f.stack → HasEffect (rows.contract_call call i f heap) (GoesOn g after)
+      → Behind (behind_call call known)
+  unfolding behind_call
+  call_so (Some (calls.Assert message)) holds are has =
+      condition_so message left (Faults faults.Assert) f.stack (λ same. absurd cc) left_holds holds are has
+  call_so (Some (calls.Assume message)) holds are has = condition_so message with_condition Assumes f.stack (λ same. absurd cc) condition_holds holds are has
+  call_so _ holds are has = elim has [ ]
+
+  -- ---- branches
+
+  one_branch : (target : ℕ) (v : Value) (rest : List Value) (o : Option Bool) → Over (v ∷ rest) → HasEffect (rows.branches target i f heap rest o) (GoesOn g after)
+      → Behind (Some (popped known))
+  one_branch target v rest None holds has = elim has [ ]
+  one_branch target v rest (Some true) holds has = pop_so target v rest holds has
+  one_branch target v rest (Some false) holds has = pop_so (i.at + i.size) v rest holds has
+
+  two_branch : (target : ℕ) (b a : Value) (rest : List Value) (o : Option Bool) → Over (b ∷ a ∷ rest) → HasEffect (rows.branches target i f heap rest o) (GoesOn g after)
+      → Behind (Some (popped (popped known)))
+  two_branch target b a rest None holds has = elim has [ ]
+  two_branch target b a rest (Some true) holds has = pop_two_so target b a rest holds has
+  two_branch target b a rest (Some false) holds has = pop_two_so (i.at + i.size) b a rest holds has
+
+  test_so : (test : Test) (target : ℕ) (stack : List Value) → Over stack → HasEffect (rows.branches_by test target i f heap stack) (GoesOn g after)
+      → Behind (behind_test test known)
+  unfolding behind_test
+  test_so tests.Always target stack holds has = same_so (Some known) target stack holds has
+  test_so tests.True target (v ∷ rest) holds has = one_branch target v rest (is_true v) holds has
+  test_so tests.True target [] holds has = elim has [ ]
+  test_so tests.False target (v ∷ rest) holds has = one_branch target v rest _ holds has
+  test_so tests.False target [] holds has = elim has [ ]
+  test_so (tests.Cmp op) target (b ∷ a ∷ rest) holds has = two_branch target b a rest (compares_values op a b) holds has
+  test_so (tests.Cmp op) target (b ∷ []) holds has = elim has [ ]
+  test_so (tests.Cmp op) target [] holds has = elim has [ ]
+
+  case_so : (v : Value) (rest : List Value) (o : Option ℕ) → Over (v ∷ rest) → HasEffect (rows.switches_to i f heap rest o) (GoesOn g after) → Behind (Some (popped known))
+  case_so v rest None holds has = pop_so (i.at + i.size) v rest holds has
+  case_so v rest (Some target) holds has = pop_so target v rest holds has
+
+  switch_so : (targets : List ℕ) (stack : List Value) → Over stack → HasEffect (rows.switches targets i f heap stack) (GoesOn g after) → Behind (Some (popped known))
+  switch_so targets (Int n ∷ rest) holds has = case_so (Int n) rest (slice_get targets (unsigned n)) holds has
+  switch_so targets _ holds has = elim has [ ]
+
+  -- ---- each operation
+
+  acted_so : (op : Op) → Over f.stack → AllByRecursion (IsValue heap) f.stack → HasEffect (effects_of op unit i f heap) (GoesOn g after) → Behind (acted unit op known)
+  unfolding acted operated
+  acted_so ops.Nop holds are has = same_so (Some known) (i.at + i.size) f.stack holds has
+  acted_so (ops.LoadArg n) holds are has = load_arg n f.stack holds has
+  acted_so (ops.StoreArg n) holds are has = store_arg n f.stack holds has
+  acted_so (ops.LoadLocal n) holds are has = load_local n f.stack holds has
+  acted_so (ops.StoreLocal n) holds are has = store_local n f.stack holds has
+  acted_so ops.Null holds are has = push_so (vars.Reference 0) Null f.stack holds (ap (λ (a : Option ℕ). Some a) (sym holds.null)) has
+  acted_so (ops.Const n) holds are has =
+      push_so (vars.Number (constant n)) (Int n) f.stack holds
+      (ap (λ (m : ℤ). Some m) (sym (constant_is known (over f f.stack) heap number array n holds))) has
+  acted_so (ops.Text token) holds are has = push_so vars.Text Text f.stack holds refl has
+  acted_so ops.Dup holds are has = double_so f.stack holds has
+  acted_so ops.Pop holds are has = pops_so f.stack holds has
+  acted_so (ops.Call call) holds are has = call_so (unit_call call) holds are has
+  acted_so ops.Return holds are has = elim has [ ]
+  acted_so (ops.Branch test target) holds are has = test_so test target f.stack holds has
+  acted_so (ops.Switch targets) holds are has = switch_so targets f.stack holds has
+  acted_so (ops.Bin op) holds are has = operator_so op (comparison_of op) f.stack holds are refl has
+  acted_so ops.Neg holds are has = negated_so f.stack holds are has
+  acted_so ops.Not holds are has = complemented_so f.stack holds are has
+  acted_so ops.ConvI4 holds are has = converted_so f.stack holds has
+  acted_so (ops.NewArray type) holds are has = array_so (array_place type) f.stack holds has
+  acted_so ops.Length holds are has = length_so f.stack holds has
+  acted_so (ops.LoadElem place) holds are has = item_loaded place f.stack holds has
+  acted_so (ops.StoreElem place) holds are has = item_stored place f.stack holds has
+
+-- What is known behind an instruction holds where it goes on, by a choice that is as before for what was there.
+pub act_keeps : (unit : MethodUnit) (i : Instr) (p q : Point) (known : StateFacts) (number : ℕ → ℤ) (array : ℕ → Option ℕ) → HasForm known → IsPointOf unit p
+    → HoldsBy known (variables_of p.frame) p.heap number array → HasEffect (effects unit i p.frame p.heap) (GoesOn q.frame q.heap)
+    → HoldsOn (Some known) (acted unit i.op known) (variables_of q.frame) q.heap number array
+act_keeps unit i p q known number array form of holds goes =
+    acted_so unit known p.frame form (has_sizes unit p.heap p.frame of.frame) p.heap of.heap number array i q.frame q.heap i.op holds of.frame.stack goes
