@@ -1,2 +1,8 @@
 pub mod Tops
 pub mod Acting
+pub mod Choosing
+pub mod FormsBehind
+pub mod FormsMerged
+pub mod EntryLaws
+pub mod UnknownLaws
+pub mod FlowLaws

@@ -1,0 +1,5 @@
+pub mod PointValues
+pub mod Operands
+pub mod Quiet
+pub mod Faulting
+pub mod RuledOut
