@@ -66,7 +66,7 @@ use Rattle.transfer_rules.specs.Laws.Tops.{HasAt, HasSizes, HasTop, IsNumberOf, 
 
 -- ---- choices
 
-for_some : {X : Type 0} (P : X → Type 0) (x : X) → P x → ForSome (Some x) P
+pub for_some : {X : Type 0} (P : X → Type 0) (x : X) → P x → ForSome (Some x) P
 for_some P x is = λ y same. subst P (same_Some x y same) is
 
 -- The same choice serves.
@@ -82,7 +82,7 @@ unfolding popped
 from_popped known after vs heap number array on =
     record { later = on.later; later_array = on.later_array; agrees = on.agrees; agrees_arrays = on.agrees_arrays; holds = on.holds }
 
-constant_is : (known : StateFacts) (vs : List Value) (heap : Heap) (number : ℕ → ℤ) (array : ℕ → Option ℕ) (n : ℤ) → HoldsBy known vs heap number array
+pub constant_is : (known : StateFacts) (vs : List Value) (heap : Heap) (number : ℕ → ℤ) (array : ℕ → Option ℕ) (n : ℤ) → HoldsBy known vs heap number array
     → worth number (constant n) ≡ n
 constant_is known vs heap number array n holds = constant_worth known.facts number (constant n) holds.facts.allowed refl
 
@@ -158,12 +158,15 @@ result_holds op known v w a b c vs heap number array form first second a_fits b_
     }) is)
 
 -- A constant is a number of any state.
+pub constant_there : (known : StateFacts) (n : ℤ) → FitsSigned w32 n → HasNumber known (constant n)
+constant_there known n fits = record { there = omega arith; near = record { least = omega (arith, ints, fits); greatest = omega (arith, ints, fits) } }
+
 constant_of : (known : StateFacts) (vs : List Value) (heap : Heap) (number : ℕ → ℤ) (array : ℕ → Option ℕ) (n : ℤ) → FitsSigned w32 n
     → HoldsBy known vs heap number array → IsNumberOf known (vars.Number (constant n)) n number
 constant_of known vs heap number array n fits holds = record {
   expr = constant n;
   is = refl;
-  there = record { there = omega arith; near = record { least = omega (arith, ints, fits); greatest = omega (arith, ints, fits) } };
+  there = constant_there known n fits;
   worth_is = constant_is known vs heap number array n holds;
 }
 

@@ -195,6 +195,10 @@ pub var_below : (known : StateFacts) (v : Var) → HasVar known v → HasVar (po
 unfolding popped
 var_below known v there = there
 
+pub var_above : (known : StateFacts) (v : Var) → HasVar (popped known) v → HasVar known v
+unfolding popped
+var_above known v there = there
+
 -- ---- variables by their places
 
 pub place_below : {X : Type 0} (xs : List X) (n : ℕ) (x : X) → slice_get xs n ≡ Some x → n < length xs
