@@ -1,6 +1,7 @@
 pub mod Tops
 pub mod Acting
 pub mod Choosing
+pub mod PostLaws
 pub mod FormsBehind
 pub mod FormsMerged
 pub mod EntryLaws
