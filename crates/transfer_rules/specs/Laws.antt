@@ -2,6 +2,7 @@ pub mod Tops
 pub mod Acting
 pub mod Choosing
 pub mod PostLaws
+pub mod StepsHold
 pub mod FormsBehind
 pub mod FormsMerged
 pub mod EntryLaws
