@@ -4,6 +4,7 @@ pub mod Choosing
 pub mod PostLaws
 pub mod StepsHold
 pub mod FormsBehind
+pub mod FlowSteps
 pub mod FormsMerged
 pub mod EntryLaws
 pub mod UnknownLaws
