@@ -9,3 +9,4 @@ pub mod Forms
 pub mod Flow
 pub mod Unknown
 pub mod Inductive
+pub mod Laws
