@@ -241,6 +241,11 @@ unfolding popped
 operand_popped known k v is =
     record { there = is.there; fits = kind_stays known (popped known) k v (places_same known (popped known) refl) is.there is.fits }
 
+pub operand_before : (known : StateFacts) (k : Kind) (v : Var) → IsOperand (popped known) k v → IsOperand known k v
+unfolding popped
+operand_before known k v is =
+    record { there = is.there; fits = kind_stays (popped known) known k v (places_same (popped known) known refl) is.there is.fits }
+
 module _ (unit : MethodUnit) where
   pub over_pushed : (k : Kind) (stack : List Kind) (v : Var) (known : StateFacts) → HasKinds (kinds_over unit stack) known
       → IsOperand known k v → HasKinds (kinds_over unit (k ∷ stack)) (pushed known v)
