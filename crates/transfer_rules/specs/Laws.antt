@@ -3,6 +3,7 @@ pub mod Acting
 pub mod Choosing
 pub mod PostLaws
 pub mod StepsHold
+pub mod Fitting
 pub mod FormsBehind
 pub mod FlowSteps
 pub mod FormsMerged
