@@ -1,4 +1,5 @@
 pub mod Tops
+pub mod Moves
 pub mod Acting
 pub mod Choosing
 pub mod PostLaws

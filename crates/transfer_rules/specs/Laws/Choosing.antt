@@ -1,14 +1,13 @@
 -- What is assumed along the way that the machine takes is so.
-use Rattle.std.proofs.Common.{◌≡◌, ℕ, ◌<◌, ◌≤◌, ◌==◌, ℤ, pos, Bool, true, false, not, int_eq, nat_lt, Option, Some, None, List, [], ◌∷◌, ◌++◌, length, min, refl, sym, ap, subst, ◌∙◌, FitsSigned, w32, arith, ltb-true, ltb-false}
+use Rattle.std.proofs.Common.{◌≡◌, ℕ, ◌<◌, ◌≤◌, ◌==◌, ℤ, pos, Bool, true, false, not, int_eq, nat_lt, Option, Some, None, List, [], ◌∷◌, length, min, refl, sym, ap, subst, ◌∙◌, FitsSigned, w32, arith, ltb-true, ltb-false}
 use Rattle.std.specs.Prelude.{option_map, reverse}
 use Rattle.std.specs.List.{AllByRecursion}
-use Rattle.std.specs.Option.{ForSome}
 use Rattle.std.proofs.lemmas.Bool.{cond_both}
 use Rattle.std.proofs.lemmas.Bool.Decides.{Decides-int_eq}
 use Rattle.std.proofs.lemmas.Grind.{common_steps}
 use Rattle.std.proofs.lemmas.Int.{ints}
-use Rattle.std.proofs.lemmas.Option.{none-some, same_Some}
-use Rattle.cil_model.specs.Arithmetic.{compares, unsigned}
+use Rattle.std.proofs.lemmas.Option.{none-some}
+use Rattle.cil_model.specs.Arithmetic.{unsigned}
 use Rattle.cil_model.specs.Comparisons.{compares_values, is_true, number_of, reference_of}
 use Rattle.cil_model.specs.Effects as rows
 use Rattle.cil_model.specs.Effects.{Effect, GoesOn, HasEffect, effects, effects_of}
@@ -41,11 +40,11 @@ use Rattle.state_facts.specs.StateFacts.{StateFacts, State}
 use Rattle.state_facts.proofs.AssumptionForms.{named_var}
 use Rattle.state_facts.proofs.AssumptionsHold.{assume_keeps}
 use Rattle.state_obligations.proofs.Following.{comparison_follows, stays_itself}
-use Rattle.state_obligations.specs.Following.{StaysThere, StaysThereIn}
+use Rattle.state_obligations.specs.Following.{StaysThereIn}
 use Rattle.symbolic_values.specs.Worth.{worth}
 use Rattle.transfer_rules.specs.Choices.{chosen, compared, switched, tested, with_case}
 use Rattle.transfer_rules.specs.Operands.{with_one}
-use Rattle.transfer_rules.specs.Laws.Acting.{constant_is, constant_there, for_some}
+use Rattle.transfer_rules.specs.Laws.Moves.{constant_is, constant_there, for_some}
 use Rattle.transfer_rules.specs.Laws.Tops.{HasTop, as_number, has_top, over, over_pushed, var_above}
 use Rattle.unit_flow.specs.Ways.{IsShortSwitch, side, way_of, way_of_switch, way_of_test}
 

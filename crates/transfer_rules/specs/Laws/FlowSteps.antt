@@ -6,7 +6,6 @@ use Rattle.cil_model.specs.Bodies.{is_executed}
 use Rattle.cil_model.specs.FitKinds.{OperandFits}
 use Rattle.cil_model.specs.Kinds as kinds
 use Rattle.cil_model.specs.Passes.{stack_at, successors}
-use Rattle.cil_model.specs.Runs.{instr_at}
 use Rattle.cil_model.specs.Shapes.{shape_of}
 use Rattle.cil_model.specs.declared.instruction.Instr.{Instr}
 use Rattle.cil_model.specs.declared.instruction.Op.{Op}
@@ -28,9 +27,9 @@ use Rattle.transfer_rules.specs.Laws.FormsBehind.{absorbed_fits, acted_fits, sta
 use Rattle.transfer_rules.specs.Laws.PostLaws.{avoided_stays}
 use Rattle.transfer_rules.specs.Laws.StepsHold.{AreFormed, along_keeps}
 use Rattle.unit_flow.specs.Chains.{IsLeft, IsPassed, IsWay}
-use Rattle.unit_flow.specs.Flow.{GoesAlong, block_instrs, edge_at, kinds_at, start_of}
+use Rattle.unit_flow.specs.Flow.{GoesAlong, block_instrs, edge_at, start_of}
 use Rattle.unit_flow.specs.declared.unit_flow.UnitFlow.{UnitFlow}
-use Rattle.unit_flow.proofs.KindsAlong.{TypedAlong, left_along, operand, passed_along}
+use Rattle.unit_flow.proofs.KindsAlong.{left_along, operand, passed_along}
 use Rattle.unit_flow.proofs.LawfulCode.{decoded, way}
 
 -- ---- one instruction

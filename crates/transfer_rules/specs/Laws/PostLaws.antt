@@ -1,8 +1,8 @@
 -- The states after an instruction hold where it leads.
-use Rattle.std.proofs.Common.{◌≡◌, ℕ, ℤ, Option, Some, None, refl, sym, subst}
+use Rattle.std.proofs.Common.{ℕ, Some, None, refl, sym, subst}
 use Rattle.std.specs.Option.{ForSome, option_and_then}
 use Rattle.std.proofs.lemmas.Option.{none-some, same_Some}
-use Rattle.cil_model.specs.Effects.{Faults, GoesOn, HasEffect, effects}
+use Rattle.cil_model.specs.Effects.{GoesOn, HasEffect, effects}
 use Rattle.cil_model.specs.declared.instruction.Instr.{Instr}
 use Rattle.cil_model.specs.declared.instruction.Op.{Op}
 use Rattle.cil_model.specs.declared.unit.Unit.{Unit as MethodUnit}
@@ -14,14 +14,14 @@ use Rattle.obligation_prover.specs.Operations.{conditions_at}
 use Rattle.obligation_prover.proofs.Operands.{conditions_there}
 use Rattle.obligation_prover.proofs.RuledOut.{all_avoided}
 use Rattle.state_facts.specs.Forms.{HasForm}
-use Rattle.state_facts.specs.Holds.{HoldsAt, HoldsBy, HoldsIn, variables_of}
+use Rattle.state_facts.specs.Holds.{HoldsAt}
 use Rattle.state_facts.specs.StateFacts.{StateFacts, State}
 use Rattle.state_obligations.proofs.JudgedLaws.{judged_follow}
 use Rattle.state_obligations.specs.Following.{StaysThereIn}
 use Rattle.transfer_rules.specs.Acts.{acted}
 use Rattle.transfer_rules.specs.Choices.{chosen}
 use Rattle.transfer_rules.specs.Post.{along, post}
-use Rattle.transfer_rules.specs.Steps.{GoesBy, HoldsAlong, HoldsBehind}
+use Rattle.transfer_rules.specs.Steps.{HoldsAlong, HoldsBehind}
 use Rattle.transfer_rules.specs.Laws.Acting.{act_keeps}
 use Rattle.transfer_rules.specs.Laws.Choosing.{choose_keeps, chosen_stays}
 use Rattle.unit_flow.specs.Ways.{IsShortSwitch, way_of}

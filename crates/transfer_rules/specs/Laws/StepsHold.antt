@@ -1,7 +1,6 @@
 -- A state that holds of a point holds, carried along, wherever the point goes through a block and along an edge.
 use Rattle.std.proofs.Common.{◌≡◌, ℕ, List, [], ◌∷◌, None, refl}
 use Rattle.std.specs.Option.{ForSome}
-use Rattle.cil_model.specs.Runs.{instr_at}
 use Rattle.cil_model.specs.WellFormed.{called_by}
 use Rattle.cil_model.specs.declared.instruction.Instr.{Instr}
 use Rattle.cil_model.specs.declared.unit.Unit.{Unit as MethodUnit}

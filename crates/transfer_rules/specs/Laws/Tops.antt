@@ -1,5 +1,5 @@
 -- What lies on top of a stack is what the last variable has, and what a variable of a frame has is found by its place.
-use Rattle.std.proofs.Common.{◌≡◌, ℕ, zero, suc, ◌+◌, ◌-◌, ◌<◌, ℤ, Option, Some, None, List, [], ◌∷◌, ◌++◌, length, take, refl, sym, ap, subst, ◌∙◌, zero-add, arith, append_assoc, length-append}
+use Rattle.std.proofs.Common.{◌≡◌, ℕ, zero, suc, ◌+◌, ◌-◌, ◌<◌, ℤ, Option, Some, List, [], ◌∷◌, ◌++◌, length, take, refl, sym, ap, subst, ◌∙◌, zero-add, arith, append_assoc, length-append}
 use Rattle.std.specs.Prelude.{reverse, set, slice_get}
 use Rattle.std.specs.List.{AllByRecursion}
 use Rattle.std.proofs.lemmas.List.{reverse-append, set-append_left, take-append-le, take_all}
@@ -17,7 +17,7 @@ use Rattle.frame_names.specs.declared.var.Var.{Var}
 use Rattle.frame_names.specs.declared.var.Var.TheVariants as vars
 use Rattle.obligation_prover.specs.Operations.{from_top}
 use Rattle.state_facts.specs.Forms.{HasForm, HasNumber, HasReference, HasVar, IsVar}
-use Rattle.state_facts.specs.Holds.{HasValue, HaveValues, HoldsBy, variables_of}
+use Rattle.state_facts.specs.Holds.{HasValue, HaveValues, HoldsBy}
 use Rattle.state_facts.specs.Moves.{popped}
 use Rattle.state_facts.specs.StateFacts.{StateFacts, State}
 use Rattle.state_facts.proofs.Agreeing.{have_pushed}
