@@ -1,6 +1,12 @@
+pub mod Tops
+pub mod Moves
 pub mod Acting
 pub mod Choosing
+pub mod PostLaws
+pub mod StepsHold
+pub mod Fitting
 pub mod FormsBehind
+pub mod FlowSteps
 pub mod FormsMerged
 pub mod EntryLaws
 pub mod UnknownLaws
