@@ -1,6 +1,6 @@
 -- Operators and arrays of the code, of a state that may be reached or not.
 use Rattle.std.proofs.Common.{◌≡◌, ◌==◌, ℕ, ℤ, pos, negsuc, Bool, true, false, Option, Some, None, refl, sym, ap, subst, ◌∙◌}
-use Rattle.std.specs.Prelude.{is_some}
+use Rattle.std.specs.Prelude.{Result, Ok, Err, OnOk, is_some}
 use Rattle.std.specs.Option.{ForSome, option_and_then}
 use Rattle.std.proofs.lemmas.Bool.{cond_both}
 use Rattle.std.proofs.lemmas.Option.{none-some, same_Some}
@@ -17,10 +17,11 @@ use Rattle.frame_names.specs.declared.var.Var.TheVariants as vars
 use Rattle.number_spans.specs.Constants.{constant}
 use Rattle.obligation_prover.specs.Operations.{from_top}
 use Rattle.state_facts.specs.Forms.{HasNumber, HasReference, HasVar, IsArrayPlace}
+use Rattle.state_facts.specs.Moves.{popped}
 use Rattle.state_facts.specs.StateFacts.{StateFacts, State, length_at}
 use Rattle.state_facts.specs.States as states
 use Rattle.transfer_rules.specs.Acts.{calculated, complemented, negated, operated, taken_from, with_item_of, with_item_put, with_length, with_new}
-use Rattle.transfer_rules.specs.Operands.{IsTaken, Took, TookTwo, on_one, on_three, on_two, over_one, over_two}
+use Rattle.transfer_rules.specs.Operands.{IsTaken, Took, TookTwo, on_one, on_three, on_two, over_one, over_two, with_one}
 use Rattle.transfer_rules.specs.Owed.{IsReadyFor}
 
 -- ---- operators
@@ -193,3 +194,49 @@ pub stored_is : (r : ℕ) (i value : Expr) (state between after : State) → Too
 stored_is r i value state between after first rest =
     over_stored r i value after ∙ sym (rest (λ array index. with_item_put array index (vars.Number value)))
     ∙ sym (first (λ upper. on_two (λ lowest lower. with_item_put lowest lower upper)))
+
+no_rule : (f : Var → Var → StateFacts → State) (known : StateFacts) → ((v w : Var) (x : StateFacts) → f v w x ≡ None) → on_two f known ≡ None
+no_rule f known none = by (from_top 0 known)
+  where
+    inner : (o : Option Var) (upper : Var) (x : StateFacts) → with_one (λ lower. f lower upper) o x ≡ None
+    inner None upper x = refl
+    inner (Some lower) upper x = none lower upper x
+
+    by : (o : Option Var) → with_one (λ upper. on_one (λ lower. f lower upper)) o (popped known) ≡ None
+    by None = refl
+    by (Some upper) = inner (from_top 0 (popped known)) upper (popped (popped known))
+
+no_value : (v : Var) → ((e : Expr) → v ≡ vars.Number e → ⊥) → (a i : Var) (known : StateFacts) → with_item_put a i v known ≡ None
+no_value (vars.Number e) not a i known = absurd (not e refl)
+no_value (vars.Reference r) not (vars.Reference q) (vars.Number i) known = refl
+no_value (vars.Reference r) not (vars.Reference q) (vars.Reference i) known = refl
+no_value (vars.Reference r) not (vars.Reference q) vars.Text known = refl
+no_value (vars.Reference r) not (vars.Number q) i known = refl
+no_value (vars.Reference r) not vars.Text i known = refl
+no_value vars.Text not (vars.Reference q) (vars.Number i) known = refl
+no_value vars.Text not (vars.Reference q) (vars.Reference i) known = refl
+no_value vars.Text not (vars.Reference q) vars.Text known = refl
+no_value vars.Text not (vars.Number q) i known = refl
+no_value vars.Text not vars.Text i known = refl
+
+-- What is stored is no number.
+pub not_stored : (o : Option Var) (state between : State) → Took o state between → ((e : Expr) → o ≡ Some (vars.Number e) → ⊥)
+    → None ≡ option_and_then (on_three with_item_put) state
+not_stored o state between took not = sym (took rule ∙ over o between not)
+  where
+    rule : Var → StateFacts → State
+    rule upper = on_two (λ lowest lower. with_item_put lowest lower upper)
+
+    over : (o : Option Var) (s : State) → ((e : Expr) → o ≡ Some (vars.Number e) → ⊥) → over_one (λ upper. on_two (λ lowest lower. with_item_put lowest lower upper)) o s ≡ None
+    over None s not = refl
+    over (Some v) None not = refl
+    over (Some v) (Some known) not =
+        no_rule (λ lowest lower. with_item_put lowest lower v) known (λ a i x. no_value v (λ e is. not e (ap (λ (w : Var). Some w) is)) a i x)
+
+pub calculated_where_ok : {E : Type 0} (result : Result (Unit {0}) E) (new a b : State) → OnOk result (new ≡ a) → a ≡ b → OnOk result (new ≡ b)
+calculated_where_ok (Ok u) new a b is same = is ∙ same
+calculated_where_ok (Err e) new a b is same = is
+
+pub ruleset calculating = (compared_is, computed_is, refused_is, operated_is, not_operated, ready_here, negated_is, complemented_is, taken_is, no_number, array_type)
+
+pub ruleset storing = (stored_is, not_stored)

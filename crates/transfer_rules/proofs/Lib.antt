@@ -1,3 +1,4 @@
 pub mod Taking
 pub mod Moving
 pub mod Calculating
+pub mod Doing

@@ -45,6 +45,14 @@ pub still_taken : (state after : State) (top : Option Var) (v : Var) → IsTaken
 still_taken None after top v taken is left = absurd (false≢true taken.reached)
 still_taken (Some known) after top v taken is left = taken_of known after v (taken.there known refl) left
 
+pub still_there : (state : State) (v : Var) → ForSome state (λ known. HasVar known v) → ForSome (pop state) (λ known. HasVar known v)
+unfolding popped
+still_there None v there = λ x is. absurd cc
+still_there (Some known) v there = λ x is. subst (λ (k : StateFacts). HasVar k v) (same (popped known) x is) (there known refl)
+  where
+    same : (a b : StateFacts) → Some a ≡ Some b → a ≡ b
+    same a b e = cc
+
 -- ---- two
 
 pub took_both : (state between after : State) (lower upper : Var) → Took (Some upper) state between → Took (Some lower) between after

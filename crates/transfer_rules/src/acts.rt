@@ -86,6 +86,7 @@ fn pass_test(state: &mut AbsState, test: Test) -> Result<(), NoMemory>
 }
 
 /// Does to a state what an operation of the unit does to a point, where it ends in no fault. Calls of methods leave it.
+#[tactic(auto, using(crate::proofs::Doing::doing))]
 pub(crate) fn act(state: &mut AbsState, unit: &Unit, op: &Op) -> Result<(), NoMemory>
     requires few { length unit.now.args + length unit.now.locals + unit.now.max_stack ≤ MAX_VARIABLES }
     requires ready { ForSome state.old (IsReady op.now) }

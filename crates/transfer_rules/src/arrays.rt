@@ -47,16 +47,17 @@ pub(crate) fn load_item(state: &mut AbsState) -> Result<(), NoMemory>
 }
 
 /// Takes a reference, an index and a number, and stores the number.
+#[tactic(auto, using(crate::proofs::Calculating::storing))]
 pub(crate) fn store_item(state: &mut AbsState) -> Result<(), NoMemory>
     ensures { OnOk result (state.new ≡ option_and_then (on_three rule.with_item_put) state.old) }
 {
-    match (take(state)?, take_two(state)?) {
-        (Some(Var::Number(value)), Some((Var::Reference(r), Var::Number(i)))) => {
-            state.store(r, i, value)
-        }
-        _ => {
-            refuse(state);
-            Ok(())
-        }
-    }
+    let Some(Var::Number(value)) = take(state)? else {
+        refuse(state);
+        return Ok(());
+    };
+    let Some((Var::Reference(r), Var::Number(i))) = take_two(state)? else {
+        refuse(state);
+        return Ok(());
+    };
+    state.store(r, i, value)
 }

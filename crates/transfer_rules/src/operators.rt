@@ -5,6 +5,7 @@ ghost use Rattle.std.specs.Option.{ForSome, option_and_then};
 ghost use Rattle.cil_model.specs.Comparisons.{comparison_of};
 ghost use Rattle.state_facts.specs.Forms.{HasVar};
 ghost use Rattle.transfer_rules.specs.Acts as rule;
+ghost use Rattle.transfer_rules.specs.Operands.{on_one};
 ghost use Rattle.transfer_rules.specs.Owed.{IsReadyFor};
 ghost use Rattle.obligation_prover.specs.Operations.{from_top};
 
@@ -15,6 +16,7 @@ use domain_api::NoMemory;
 use number_spans::constant;
 
 /// Pushes what an operator gives of two values.
+#[tactic(auto, using(crate::proofs::Calculating::calculating))]
 fn calculate(state: &mut AbsState, op: BinOp, a: Var, b: Var) -> Result<(), NoMemory>
     requires first { ForSome state.old (λ known. HasVar known a) }
     requires second { ForSome state.old (λ known. HasVar known b) }
@@ -34,6 +36,7 @@ fn calculate(state: &mut AbsState, op: BinOp, a: Var, b: Var) -> Result<(), NoMe
 }
 
 /// Takes two operands, and pushes what the operator gives.
+#[tactic(auto, using(crate::proofs::Calculating::calculating))]
 pub(crate) fn operate(state: &mut AbsState, op: BinOp) -> Result<(), NoMemory>
     requires ready { ForSome state.old (λ known. ForSome (from_top 0 known) (IsReadyFor op)) }
     ensures { OnOk result (state.new ≡ option_and_then (rule.operated op) state.old) }
@@ -46,15 +49,19 @@ pub(crate) fn operate(state: &mut AbsState, op: BinOp) -> Result<(), NoMemory>
 }
 
 /// Takes the top from a number.
-fn take_from(state: &mut AbsState, n: i64) -> Result<(), NoMemory> {
+#[tactic(auto, using(crate::proofs::Calculating::calculating))]
+fn take_from(state: &mut AbsState, n: i32) -> Result<(), NoMemory>
+    ensures { OnOk result (state.new ≡ option_and_then (on_one (rule.taken_from n)) state.old) }
+{
     let Some(Var::Number(e)) = take(state)? else {
         refuse(state);
         return Ok(());
     };
-    state.arith(BinOp::Sub, constant(n), e)
+    state.arith(BinOp::Sub, constant(i64::from(n)), e)
 }
 
 /// Takes the top from 0.
+#[tactic(auto, using(crate::proofs::Calculating::calculating))]
 pub(crate) fn negate(state: &mut AbsState) -> Result<(), NoMemory>
     ensures { OnOk result (state.new ≡ option_and_then rule.negated state.old) }
 {
@@ -62,6 +69,7 @@ pub(crate) fn negate(state: &mut AbsState) -> Result<(), NoMemory>
 }
 
 /// Takes the top from -1, which turns each of its bits.
+#[tactic(auto, using(crate::proofs::Calculating::calculating))]
 pub(crate) fn complement(state: &mut AbsState) -> Result<(), NoMemory>
     ensures { OnOk result (state.new ≡ option_and_then rule.complemented state.old) }
 {
