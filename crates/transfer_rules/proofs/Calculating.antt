@@ -20,9 +20,10 @@ use Rattle.state_facts.specs.Forms.{HasNumber, HasReference, HasVar, IsArrayPlac
 use Rattle.state_facts.specs.Moves.{popped}
 use Rattle.state_facts.specs.StateFacts.{StateFacts, State, length_at}
 use Rattle.state_facts.specs.States as states
-use Rattle.transfer_rules.specs.Acts.{calculated, complemented, negated, operated, taken_from, with_item_of, with_item_put, with_length, with_new}
+use Rattle.transfer_rules.specs.Acts.{calculated, complemented, negated, operated, taken_from, with_item_of, with_item_put, with_length, with_new, with_number_put}
 use Rattle.transfer_rules.specs.Operands.{IsTaken, Took, TookTwo, on_one, on_three, on_two, over_one, over_two, with_one}
 use Rattle.transfer_rules.specs.Owed.{IsReadyFor}
+use Rattle.transfer_rules.proofs.Taking.{still_there}
 
 -- ---- operators
 
@@ -185,15 +186,23 @@ pub item_is : (r : ℕ) (i : Expr) (state after : State) → TookTwo (Some (vars
 item_is r i state after took = over_item r i after ∙ sym (took with_item_of)
 
 over_stored : (r : ℕ) (i value : Expr) (after : State)
-    → states.store r value after ≡ option_and_then (with_item_put (vars.Reference r) (vars.Number i) (vars.Number value)) after
+    → states.store r value after ≡ option_and_then (with_number_put value (vars.Reference r) (vars.Number i)) after
 over_stored r i value None = refl
 over_stored r i value (Some known) = refl
 
-pub stored_is : (r : ℕ) (i value : Expr) (state between after : State) → Took (Some (vars.Number value)) state between
-    → TookTwo (Some (vars.Reference r, vars.Number i)) between after → states.store r value after ≡ option_and_then (on_three with_item_put) state
-stored_is r i value state between after first rest =
-    over_stored r i value after ∙ sym (rest (λ array index. with_item_put array index (vars.Number value)))
-    ∙ sym (first (λ upper. on_two (λ lowest lower. with_item_put lowest lower upper)))
+pub number_stored : (r : ℕ) (i value : Expr) (state after : State) → TookTwo (Some (vars.Reference r, vars.Number i)) state after
+    → states.store r value after ≡ option_and_then (on_two (with_number_put value)) state
+number_stored r i value state after took = over_stored r i value after ∙ sym (took (with_number_put value))
+
+pub stored_over : (value : Expr) (state between : State) → Took (Some (vars.Number value)) state between
+    → option_and_then (on_two (with_number_put value)) between ≡ option_and_then (on_three with_item_put) state
+stored_over value state between took = sym (took (λ upper. on_two (λ lowest lower. with_item_put lowest lower upper)))
+
+-- What is there stays where two values are taken.
+pub there_twice : (state after : State) (v : Var) → ForSome state (λ known. HasVar known v) → after ≡ states.pop (states.pop state)
+    → ForSome after (λ known. HasVar known v)
+there_twice state after v there is =
+    subst (λ (s : State). ForSome s (λ known. HasVar known v)) (sym is) (still_there (states.pop state) v (still_there state v there))
 
 no_rule : (f : Var → Var → StateFacts → State) (known : StateFacts) → ((v w : Var) (x : StateFacts) → f v w x ≡ None) → on_two f known ≡ None
 no_rule f known none = by (from_top 0 known)
@@ -239,4 +248,4 @@ calculated_where_ok (Err e) new a b is same = is
 
 pub ruleset calculating = (compared_is, computed_is, refused_is, operated_is, not_operated, ready_here, negated_is, complemented_is, taken_is, no_number, array_type)
 
-pub ruleset storing = (stored_is, not_stored)
+pub ruleset storing = (number_stored, stored_over, not_stored, there_twice)

@@ -2,3 +2,5 @@ pub mod Taking
 pub mod Moving
 pub mod Calculating
 pub mod Doing
+pub mod Passing
+pub mod Ways

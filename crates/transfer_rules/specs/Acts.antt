@@ -16,6 +16,7 @@ use Rattle.cil_model.specs.declared.place.Place.TheVariants as places
 use Rattle.cil_model.specs.declared.unit.Unit.{Unit as MethodUnit}
 use Rattle.cil_model.specs.declared.unit_numbers.UnitCall.{UnitCall}
 use Rattle.cil_model.specs.declared.unit_numbers.UnitCall.TheVariants as calls
+use Rattle.domain_api.specs.declared.expr.Expr.{Expr}
 use Rattle.frame_names.specs.declared.var.Var.{Var}
 use Rattle.frame_names.specs.declared.var.Var.TheVariants as vars
 use Rattle.number_spans.specs.Constants.{constant}
@@ -103,6 +104,10 @@ with_item_of v w known = None
 abbrev pub with_item_put : Var → Var → Var → StateFacts → State
 with_item_put (vars.Reference r) (vars.Number i) (vars.Number value) known = with_stored r value known
 with_item_put v w value known = None
+
+-- The same of a number that is there.
+abbrev pub with_number_put : Expr → Var → Var → StateFacts → State
+with_number_put value v w known = with_item_put v w (vars.Number value) known
 
 -- ---- calls and branches
 

@@ -21,12 +21,20 @@ abbrev pub compared : CmpOp → Bool → Option Var → Option Var → StateFact
 compared op holds (Some v) (Some w) known = assumed op v w holds known
 compared op holds v w known = None
 
+-- So the two uppermost.
+abbrev pub with_compared : CmpOp → Bool → StateFacts → State
+with_compared op holds known = compared op holds (from_top 1 known) (from_top 0 known) known
+
+-- The top is taken for true, or is not.
+abbrev pub with_truth : Bool → StateFacts → State
+with_truth holds known = with_one (true_known holds) (from_top 0 known) known
+
 -- Whether the test holds is assumed. A reference is tested for null.
 unfoldable pub tested : Test → Bool → StateFacts → State
 tested tests.Always holds known = Some known
-tested tests.True holds known = with_one (true_known holds) (from_top 0 known) known
-tested tests.False holds known = with_one (true_known (not holds)) (from_top 0 known) known
-tested (tests.Cmp op) holds known = compared op holds (from_top 1 known) (from_top 0 known) known
+tested tests.True holds known = with_truth holds known
+tested tests.False holds known = with_truth (not holds) known
+tested (tests.Cmp op) holds known = with_compared op holds known
 
 -- The number of a switch is that of the way, or, after all targets, no less than their count where it is taken as
 -- unsigned.

@@ -1,9 +1,10 @@
 //! What an operation does to a state.
 
-ghost use Rattle.std.specs.Prelude.{◌≡◌, ◌+◌, ◌≤◌, length, OnOk};
+ghost use Rattle.std.specs.Prelude.{◌≡◌, ◌+◌, ◌≤◌, length, OnOk, Some};
 ghost use Rattle.std.specs.Option.{ForSome, option_and_then};
 ghost use Rattle.cil_model.specs.Limits.{MAX_VARIABLES};
 ghost use Rattle.transfer_rules.specs.Acts as rule;
+ghost use Rattle.transfer_rules.specs.Operands.{on_condition};
 ghost use Rattle.transfer_rules.specs.Owed.{IsReady};
 
 use crate::arrays::{load_item, make_array, push_length, store_item};
@@ -44,7 +45,10 @@ fn type_of(types: &[Place], n: u16) -> Place
 }
 
 /// Takes the condition of an Assume, which is assumed to be another number than 0.
-fn pass_assume(state: &mut AbsState, message: bool) -> Result<(), NoMemory> {
+#[tactic(auto, using(crate::proofs::Passing::passing))]
+fn pass_assume(state: &mut AbsState, message: bool) -> Result<(), NoMemory>
+    ensures { OnOk result (state.new ≡ option_and_then (on_condition message rule.with_condition) state.old) }
+{
     let Some(Var::Number(e)) = take_condition(state, message)? else {
         refuse(state);
         return Ok(());
@@ -53,35 +57,53 @@ fn pass_assume(state: &mut AbsState, message: bool) -> Result<(), NoMemory> {
 }
 
 /// Takes the condition of an Assert.
-fn pass_assert(state: &mut AbsState, message: bool) -> Result<(), NoMemory> {
-    if take_condition(state, message)?.is_none() {
+#[tactic(auto, using(crate::proofs::Passing::passing))]
+fn pass_assert(state: &mut AbsState, message: bool) -> Result<(), NoMemory>
+    ensures { OnOk result (state.new ≡ option_and_then (on_condition message rule.left) state.old) }
+{
+    let Some(_) = take_condition(state, message)? else {
         refuse(state);
-    }
+        return Ok(());
+    };
     Ok(())
 }
 
-/// Takes what a call of a contract takes.
-fn pass_call(state: &mut AbsState, call: Option<UnitCall>) -> Result<(), NoMemory>
-    ensures { OnOk result (state.new ≡ option_and_then (rule.behind_call call) state.old) }
+/// Takes what a call takes that names this.
+#[tactic(auto, using(crate::proofs::Passing::passing))]
+fn pass_named(state: &mut AbsState, call: UnitCall) -> Result<(), NoMemory>
+    ensures { OnOk result (state.new ≡ option_and_then (rule.behind_call (Some call)) state.old) }
 {
     match call {
-        Some(UnitCall::Assert(message)) => pass_assert(state, message),
-        Some(UnitCall::Assume(message)) => pass_assume(state, message),
+        UnitCall::Assert(message) => pass_assert(state, message),
+        UnitCall::Assume(message) => pass_assume(state, message),
         _ => Ok(()),
     }
 }
 
+/// Takes what a call of a contract takes.
+#[tactic(auto, using(crate::proofs::Passing::passing))]
+fn pass_call(state: &mut AbsState, call: Option<UnitCall>) -> Result<(), NoMemory>
+    ensures { OnOk result (state.new ≡ option_and_then (rule.behind_call call) state.old) }
+{
+    match call {
+        Some(call) => pass_named(state, call),
+        None => Ok(()),
+    }
+}
+
 /// Takes what a branch tests.
+#[tactic(auto, using(crate::proofs::Passing::passing))]
 fn pass_test(state: &mut AbsState, test: Test) -> Result<(), NoMemory>
     ensures { OnOk result (state.new ≡ option_and_then (rule.behind_test test) state.old) }
 {
     match test {
         Test::Always => Ok(()),
+        Test::True => state.pop(),
+        Test::False => state.pop(),
         Test::Cmp(_) => {
             state.pop()?;
             state.pop()
         }
-        Test::True | Test::False => state.pop(),
     }
 }
 

@@ -13,7 +13,10 @@ use domain_api::NoMemory;
 use number_spans::constant;
 
 /// Assumes that the top of the stack is taken for true, or is not.
-fn assume_top(state: &mut AbsState, holds: bool) -> Result<(), NoMemory> {
+#[tactic(auto, using(crate::proofs::Ways::ways))]
+fn assume_top(state: &mut AbsState, holds: bool) -> Result<(), NoMemory>
+    ensures { OnOk result (state.new ≡ option_and_then (rule.with_truth holds) state.old) }
+{
     let Some(top) = state.from_top(0) else {
         refuse(state);
         return Ok(());
@@ -22,15 +25,23 @@ fn assume_top(state: &mut AbsState, holds: bool) -> Result<(), NoMemory> {
 }
 
 /// Assumes that the two uppermost values compare so, or do not.
-fn assume_compared(state: &mut AbsState, op: CmpOp, holds: bool) -> Result<(), NoMemory> {
-    let (Some(a), Some(b)) = (state.from_top(1), state.from_top(0)) else {
+#[tactic(auto, using(crate::proofs::Ways::ways))]
+fn assume_compared(state: &mut AbsState, op: CmpOp, holds: bool) -> Result<(), NoMemory>
+    ensures { OnOk result (state.new ≡ option_and_then (rule.with_compared op holds) state.old) }
+{
+    let Some(second) = state.from_top(0) else {
         refuse(state);
         return Ok(());
     };
-    state.assume(op, a, b, holds)
+    let Some(first) = state.from_top(1) else {
+        refuse(state);
+        return Ok(());
+    };
+    state.assume(op, first, second, holds)
 }
 
 /// Assumes that the test of a branch holds, or that it does not.
+#[tactic(auto, using(crate::proofs::Ways::ways))]
 fn choose_side(state: &mut AbsState, test: Test, holds: bool) -> Result<(), NoMemory>
     ensures { OnOk result (state.new ≡ option_and_then (rule.tested test holds) state.old) }
 {
@@ -43,6 +54,7 @@ fn choose_side(state: &mut AbsState, test: Test, holds: bool) -> Result<(), NoMe
 }
 
 /// Assumes that a switch of so many targets takes the way of this number.
+#[tactic(auto, using(crate::proofs::Ways::ways))]
 fn choose_case(state: &mut AbsState, count: u32, way: u32) -> Result<(), NoMemory>
     requires short { count ≤ 2147483647 }
     ensures { OnOk result (state.new ≡ option_and_then (rule.switched count way) state.old) }
@@ -62,6 +74,7 @@ fn choose_case(state: &mut AbsState, count: u32, way: u32) -> Result<(), NoMemor
 }
 
 /// Assumes that the operation takes the way of this number.
+#[tactic(auto, using(crate::proofs::Ways::ways))]
 pub(crate) fn choose(state: &mut AbsState, op: &Op, way: u32) -> Result<(), NoMemory>
     requires short { IsShortSwitch op.now }
     ensures { OnOk result (state.new ≡ option_and_then (rule.chosen op.now way) state.old) }
