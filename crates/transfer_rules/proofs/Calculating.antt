@@ -9,12 +9,14 @@ use Rattle.cil_model.specs.UnitCalls.{array_place}
 use Rattle.cil_model.specs.declared.instruction.BinOp.{BinOp}
 use Rattle.cil_model.specs.declared.instruction.BinOp.TheVariants as operators
 use Rattle.cil_model.specs.declared.instruction.CmpOp.{CmpOp}
+use Rattle.cil_model.specs.declared.instruction.Op.TheVariants as ops
 use Rattle.cil_model.specs.declared.place.Place.{Place}
 use Rattle.cil_model.specs.declared.place.Place.TheVariants as places
 use Rattle.domain_api.specs.declared.expr.Expr.{Expr}
 use Rattle.frame_names.specs.declared.var.Var.{Var}
 use Rattle.frame_names.specs.declared.var.Var.TheVariants as vars
 use Rattle.number_spans.specs.Constants.{constant}
+use Rattle.number_spans.specs.Owed.{Divides, Shifts}
 use Rattle.obligation_prover.specs.Operations.{from_top}
 use Rattle.state_facts.specs.Forms.{HasNumber, HasReference, HasVar, IsArrayPlace}
 use Rattle.state_facts.specs.Moves.{popped}
@@ -22,7 +24,7 @@ use Rattle.state_facts.specs.StateFacts.{StateFacts, State, length_at}
 use Rattle.state_facts.specs.States as states
 use Rattle.transfer_rules.specs.Acts.{calculated, complemented, negated, operated, taken_from, with_item_of, with_item_put, with_length, with_new, with_number_put}
 use Rattle.transfer_rules.specs.Operands.{IsTaken, Took, TookTwo, on_one, on_three, on_two, over_one, over_two, with_one}
-use Rattle.transfer_rules.specs.Owed.{IsReadyFor}
+use Rattle.transfer_rules.specs.Owed.{AreReady, IsReady}
 use Rattle.transfer_rules.proofs.Taking.{still_there}
 
 -- ---- operators
@@ -76,14 +78,15 @@ operated_is op two vs state after some took =
 pub not_operated : (op : BinOp) (state after : State) → TookTwo None state after → None ≡ option_and_then (operated op) state
 not_operated op state after took = sym (took (calculated op (comparison_of op))) ∙ on_operated op state
 
--- What is owed of the second operand.
-pub ready_here : (op : BinOp) (state : State) (v : Var) → option_and_then (from_top 0) state ≡ Some v → ForSome state (λ known. ForSome (from_top 0 known) (IsReadyFor op))
-    → IsReadyFor op v
-ready_here op None v is ready = absurd cc
-ready_here op (Some known) v is ready = ready known refl v is
+-- What is owed of the operands.
+pub ready_here : (op : BinOp) (state : State) (v w : Var) → option_and_then (from_top 0) state ≡ Some w → option_and_then (from_top 0) (states.pop state) ≡ Some v
+    → ForSome state (IsReady (ops.Bin op)) → AreReady op v w
+ready_here op None v w is below ready = absurd cc
+ready_here op (Some known) v w is below ready = ready known refl w is v below
 
-pub divides_here : (op : BinOp) (v : Var) (e : Expr) → v ≡ vars.Number e → IsReadyFor op v → IsReadyFor op (vars.Number e)
-divides_here op v e is ready = subst (IsReadyFor op) is ready
+pub numbers_ready : (op : BinOp) (v w : Var) (a b : Expr) → v ≡ vars.Number a → w ≡ vars.Number b → AreReady op v w → Divides op b × Shifts op b
+numbers_ready op v w a b first second ready =
+    subst (λ (y : Var). AreReady op (vars.Number a) y) second (subst (λ (x : Var). AreReady op x w) first ready)
 
 -- ---- one operand
 
@@ -246,6 +249,6 @@ pub calculated_where_ok : {E : Type 0} (result : Result (Unit {0}) E) (new a b :
 calculated_where_ok (Ok u) new a b is same = is ∙ same
 calculated_where_ok (Err e) new a b is same = is
 
-pub ruleset calculating = (compared_is, computed_is, refused_is, operated_is, not_operated, ready_here, negated_is, complemented_is, taken_is, no_number, array_type)
+pub ruleset calculating = (compared_is, computed_is, refused_is, operated_is, not_operated, ready_here, numbers_ready, negated_is, complemented_is, taken_is, no_number, array_type)
 
 pub ruleset storing = (number_stored, stored_over, not_stored, there_twice)

@@ -36,6 +36,7 @@ pub(crate) fn take_two(state: &mut AbsState) -> Result<Option<(Var, Var)>, NoMem
     ensures lower { IfOk result (λ two. IfSome two (λ vs. IsTaken state.new vs.0)) }
     ensures upper { IfOk result (λ two. IfSome two (λ vs. IsTaken state.new vs.1)) }
     ensures top { IfOk result (λ two. IfSome two (λ vs. option_and_then (from_top 0) state.old ≡ Some vs.1)) }
+    ensures below { IfOk result (λ two. IfSome two (λ vs. option_and_then (from_top 0) (rule.pop state.old) ≡ Some vs.0)) }
     ensures pops { IfOk result (λ two. state.new ≡ rule.pop (rule.pop state.old)) }
 {
     let upper = take(state)?;

@@ -3,11 +3,11 @@
 ghost use Rattle.std.specs.Prelude.{◌≡◌, OnOk};
 ghost use Rattle.std.specs.Option.{ForSome, option_and_then};
 ghost use Rattle.cil_model.specs.Comparisons.{comparison_of};
+ghost use Rattle.cil_model.specs.declared.instruction.Op.TheVariants as ops;
 ghost use Rattle.state_facts.specs.Forms.{HasVar};
 ghost use Rattle.transfer_rules.specs.Acts as rule;
 ghost use Rattle.transfer_rules.specs.Operands.{on_one};
-ghost use Rattle.transfer_rules.specs.Owed.{IsReadyFor};
-ghost use Rattle.obligation_prover.specs.Operations.{from_top};
+ghost use Rattle.transfer_rules.specs.Owed.{AreReady, IsReady};
 
 use crate::operands::{refuse, take, take_two};
 use abs_state::{AbsState, Var};
@@ -20,7 +20,7 @@ use number_spans::constant;
 fn calculate(state: &mut AbsState, op: BinOp, a: Var, b: Var) -> Result<(), NoMemory>
     requires first { ForSome state.old (λ known. HasVar known a) }
     requires second { ForSome state.old (λ known. HasVar known b) }
-    requires ready { IsReadyFor op b }
+    requires ready { AreReady op a b }
     ensures { OnOk result (state.new ≡ option_and_then (rule.calculated op (comparison_of op) a b) state.old) }
 {
     if comparison_of(op).is_some() {
@@ -38,7 +38,7 @@ fn calculate(state: &mut AbsState, op: BinOp, a: Var, b: Var) -> Result<(), NoMe
 /// Takes two operands, and pushes what the operator gives.
 #[tactic(auto, using(crate::proofs::Calculating::calculating))]
 pub(crate) fn operate(state: &mut AbsState, op: BinOp) -> Result<(), NoMemory>
-    requires ready { ForSome state.old (λ known. ForSome (from_top 0 known) (IsReadyFor op)) }
+    requires ready { ForSome state.old (IsReady (ops.Bin op)) }
     ensures { OnOk result (state.new ≡ option_and_then (rule.operated op) state.old) }
 {
     let Some((a, b)) = take_two(state)? else {
