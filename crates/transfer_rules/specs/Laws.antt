@@ -1,4 +1,6 @@
 pub mod Fitting
+pub mod KindForms
+pub mod FittingResults
 pub mod Acting
 pub mod Choosing
 pub mod FormsBehind

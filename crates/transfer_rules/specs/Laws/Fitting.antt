@@ -178,6 +178,14 @@ top_of front top = ap (λ l. slice_get l 0) (reverse-append front (top ∷ []))
 
 -- ---- what is known
 
+abbrev pub AreKinds : List Kind → State → Type 0
+AreKinds ks None = Unit {0}
+AreKinds ks (Some known) = HasKinds ks known
+
+pub over_stack : (unit : MethodUnit) (stack : List Kind) (state : State) → AreKinds (kinds_over unit stack) state → FitsStack unit (Some stack) state
+over_stack unit stack None are = tt
+over_stack unit stack (Some known) are = are
+
 pub has_stayed : (ks : List Kind) (before after : StateFacts) → StaysThere before after → HasKinds ks before → HasKinds ks after
 has_stayed ks before after stays has = record {
   form = stays.form;

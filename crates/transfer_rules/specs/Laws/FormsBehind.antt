@@ -57,70 +57,10 @@ use Rattle.state_obligations.specs.Assumed.{assumed_by}
 use Rattle.state_obligations.specs.declared.condition.Condition.TheVariants as conditions
 use Rattle.transfer_rules.specs.Acts.{acted, arg_place, behind_call, behind_test, calculated, complemented, duplicated, given, left, loaded, local_place, negated, operated, put_into, stored, taken_from, type_of, with_condition, with_item_of, with_item_put, with_length, with_new}
 use Rattle.transfer_rules.specs.Forms.{FitKinds, FitsKind, FitsStack, HasKinds, is_of_place, kind_in, kinds_over}
-use Rattle.transfer_rules.specs.Laws.Fitting.{HasPopped, IsOperand, PlacesStay, fit_at, fit_last, fit_pushed, fit_set, fit_stays, has_stayed, kind_stays, one_taken, operand_before, over_more, over_popped, over_pushed, places_more, places_same, there_at, three_taken, two_taken}
+use Rattle.transfer_rules.specs.Laws.Fitting.{AreKinds, over_stack, HasPopped, IsOperand, PlacesStay, fit_at, fit_last, fit_pushed, fit_set, fit_stays, has_stayed, kind_stays, one_taken, operand_before, over_more, over_popped, over_pushed, places_more, places_same, there_at, three_taken, two_taken}
 use Rattle.transfer_rules.specs.Operands.{Rule, on_condition, on_one, on_three, on_two, with_one}
-
--- ---- kinds
-
-when_same : (test : Bool) (xs ys : List Kind) → when test xs ≡ Some ys → (test ≡ true) × (xs ≡ ys)
-when_same true xs ys is = (refl, same_Some xs ys is)
-when_same false xs ys is = absurd (none-some ys is)
-
--- Where both kinds are told of, what fits the one fits the other.
-number_fits : (known : StateFacts) (k : Kind) (v : Var) → is_number k ≡ true → FitsKind known k v → FitsKind known Int v
-number_fits known Int v is fits = fits
-number_fits known Native (vars.Number e) is fits = tt
-number_fits known Native (vars.Reference r) is fits = elim fits [ ]
-number_fits known Native vars.Text is fits = elim fits [ ]
-number_fits known _ v is fits = absurd (false≢true is)
-
-abbrev IsReferenceVar : Var → Type 0
-IsReferenceVar (vars.Reference r) = Unit {0}
-IsReferenceVar _ = ⊥
-
-reference_fits : (known : StateFacts) (k : Kind) (v : Var) → is_reference k ≡ true → FitsKind known k v → IsReferenceVar v
-reference_fits known Ints (vars.Reference r) is fits = tt
-reference_fits known Bools (vars.Reference r) is fits = tt
-reference_fits known NullRef (vars.Reference r) is fits = tt
-reference_fits known Int v is fits = absurd (false≢true is)
-reference_fits known Native v is fits = absurd (false≢true is)
-reference_fits known Text v is fits = absurd (false≢true is)
-reference_fits known _ _ is fits = elim fits [ ]
-
-pub zero_of_place : (known : StateFacts) (place : Place) (r : ℕ) → r ≡ 0 → is_of_place known place r ≡ true
-unfolding reference_at
-zero_of_place known place zero is = refl
-zero_of_place known place (suc r) is = absurd (omega (arith, is))
-
-taken_fits : (known : StateFacts) (place : Place) (k : Kind) (v : Var) → takes place k ≡ true → FitsKind known k v → FitsKind known (kind_in place) v
-taken_fits known places.Bool Int v is fits = fits
-taken_fits known places.Int Int v is fits = fits
-taken_fits known places.Bools Bools v is fits = fits
-taken_fits known places.Ints Ints v is fits = fits
-taken_fits known places.Bools NullRef (vars.Reference r) is fits = zero_of_place known places.Bools r fits
-taken_fits known places.Ints NullRef (vars.Reference r) is fits = zero_of_place known places.Ints r fits
-taken_fits known places.Bools NullRef (vars.Number e) is fits = elim fits [ ]
-taken_fits known places.Ints NullRef (vars.Number e) is fits = elim fits [ ]
-taken_fits known places.Bools NullRef vars.Text is fits = elim fits [ ]
-taken_fits known places.Ints NullRef vars.Text is fits = elim fits [ ]
-taken_fits known _ _ v is fits = absurd (false≢true is)
-
-merged_fits : (known : StateFacts) (to k : Kind) (v : Var) → merged_kind to k ≡ Some to → FitsKind known k v → FitsKind known to v
-merged_fits known Int Int v is fits = fits
-merged_fits known Native Native v is fits = fits
-merged_fits known Ints Ints v is fits = fits
-merged_fits known Bools Bools v is fits = fits
-merged_fits known NullRef NullRef v is fits = fits
-merged_fits known Text Text v is fits = fits
-merged_fits known Ints NullRef (vars.Reference r) is fits = zero_of_place known places.Ints r fits
-merged_fits known Bools NullRef (vars.Reference r) is fits = zero_of_place known places.Bools r fits
-merged_fits known Ints NullRef (vars.Number e) is fits = elim fits [ ]
-merged_fits known Bools NullRef (vars.Number e) is fits = elim fits [ ]
-merged_fits known Ints NullRef vars.Text is fits = elim fits [ ]
-merged_fits known Bools NullRef vars.Text is fits = elim fits [ ]
-merged_fits known NullRef Ints v is fits = absurd cc
-merged_fits known NullRef Bools v is fits = absurd cc
-merged_fits known to k v is fits = absurd (none-some to is)
+use Rattle.transfer_rules.specs.Laws.KindForms.{AreAlike, IsReferenceVar, alike_of, array_kind, merged_fits, number_fits, pushed_form, reference_fits, taken_fits, when_same}
+use Rattle.transfer_rules.specs.Laws.FittingResults.{GivesNumber, array_more, comparison_number, frame_kept, number_more, one_set, put_sets, result_number, some_number, stored_keeps}
 
 -- ---- states
 
@@ -167,60 +107,6 @@ absorbed_fits unit at stack (Some known) absorbed has =
           absorbed.merge has.fit;
     })
 
--- ---- numbers on top
-
--- One more variable, which is a number.
-pub record HasNumberMore (before after : StateFacts) : Type 0 where
-  pub expr : Expr
-  pub variables : after.variables ≡ before.variables ++ vars.Number expr ∷ []
-  pub references : after.references ≡ before.references
-
-abbrev pub GivesNumber : StateFacts → State → Type 0
-GivesNumber before None = Unit {0}
-GivesNumber before (Some after) = HasNumberMore before after
-
-pub made_number : (known : StateFacts) (o : Option Made) → GivesNumber known (option_map (on_top known) o)
-made_number known None = tt
-made_number known (Some made) = record { expr = made.expr; variables = refl; references = refl }
-
-pub some_number : (lo hi : ℤ) (known : StateFacts) → GivesNumber known (with_number lo hi known)
-unfolding with_number
-some_number lo hi known = made_number known _
-
-result_number : (op : BinOp) (a b : Expr) (known : StateFacts) → GivesNumber known (with_result op a b known)
-unfolding with_result
-result_number op a b known = made_number known _
-
-null_number : (r : ℕ) (is : Bool) (known : StateFacts) (o : Option Bool) → HasNumberMore known (with_null_known r is known o)
-unfolding with_defined
-null_number r is known None = record { expr = _; variables = refl; references = refl }
-null_number r is known (Some holds) = record { expr = _; variables = refl; references = refl }
-
-same_number : (is : Bool) (known : StateFacts) (o : Option Bool) → GivesNumber known (with_same_known is known o)
-same_number is known None = some_number (pos 0) (pos 1) known
-same_number is known (Some holds) = record { expr = _; variables = refl; references = refl }
-
-tested_number : (r q : ℕ) (is : Bool) (known : StateFacts) (o : Option ℕ) → GivesNumber known (with_tested r q is known o)
-unfolding with_null_test with_same
-tested_number r q is known (Some tested) = null_number tested is known (null_known (nullness_at known tested))
-tested_number r q is known None = same_number is known (same_known known r q)
-
--- Two numbers, or two references.
-abbrev AreAlike : Var → Var → Type 0
-AreAlike (vars.Number a) (vars.Number b) = Unit {0}
-AreAlike (vars.Reference r) (vars.Reference q) = Unit {0}
-AreAlike _ _ = ⊥
-
-comparison_number : (op : BinOp) (v w : Var) (known : StateFacts) → AreAlike v w → GivesNumber known (with_comparison op v w known)
-unfolding with_comparison with_truth
-comparison_number op (vars.Number a) (vars.Number b) known alike = record { expr = _; variables = refl; references = refl }
-comparison_number op (vars.Reference r) (vars.Reference q) known alike = tested_number r q (comparing.is_equality op) known (null_tested r q)
-comparison_number op (vars.Number a) (vars.Reference q) known alike = elim alike [ ]
-comparison_number op (vars.Number a) vars.Text known alike = elim alike [ ]
-comparison_number op (vars.Reference r) (vars.Number b) known alike = elim alike [ ]
-comparison_number op (vars.Reference r) vars.Text known alike = elim alike [ ]
-comparison_number op vars.Text w known alike = elim alike [ ]
-
 -- ---- variables in place
 
 front_at : (xs ys : List Kind) (i : ℕ) (k : Kind) → slice_get xs i ≡ Some k → slice_get (xs ++ ys) i ≡ Some k
@@ -252,85 +138,6 @@ local_kind unit stack n place is =
     (behind_at (args ++ args) (map kind_in unit.locals) n (local_place unit n) (omega (arith, length-map unit.args kind_in, length-append args args))
     ∙ type_kind unit.locals n place is)
 
--- One variable is another, of this kind.
-record HasSet (i : ℕ) (k : Kind) (before after : StateFacts) : Type 0 where
-  var : Var
-  variables : after.variables ≡ set before.variables i var
-  references : after.references ≡ before.references
-  fits : FitsKind after k var
-
-abbrev Sets : ℕ → Kind → StateFacts → State → Type 0
-Sets i k before None = Unit {0}
-Sets i k before (Some after) = HasSet i k before after
-
--- Each number fits what one does.
-pub any_number : (known after : StateFacts) (k : Kind) (e f : Expr) → FitsKind known k (vars.Number e) → FitsKind after k (vars.Number f)
-any_number known after Int e f fits = tt
-any_number known after Native e f fits = tt
-any_number known after Ints e f fits = elim fits [ ]
-any_number known after Bools e f fits = elim fits [ ]
-any_number known after NullRef e f fits = elim fits [ ]
-any_number known after Text e f fits = elim fits [ ]
-
-put_sets : (i : ℕ) (k : Kind) (v : Var) (place : Place) (known : StateFacts) → HasVar known v → FitsKind known k v → Sets i k known (with_put i v place known)
-unfolding with_put with_placed
-put_sets i k (vars.Number e) place known there fits = by (placed known.facts e place)
-  where
-    by : (o : Option Made) → Sets i k known (option_map (in_variable known i) o)
-    by None = tt
-    by (Some made) = record { var = vars.Number made.expr; variables = refl; references = refl; fits = any_number known (in_variable known i made) k e made.expr fits }
-put_sets i k (vars.Reference r) place known there fits =
-    let new = record known { variables = set known.variables i (vars.Reference r) } in
-    record { var = vars.Reference r; variables = refl; references = refl; fits = kind_stays known new k (vars.Reference r) (places_same known new refl) there fits }
-put_sets i k vars.Text place known there fits =
-    let new = record known { variables = set known.variables i vars.Text } in
-    record { var = vars.Text; variables = refl; references = refl; fits = kind_stays known new k vars.Text (places_same known new refl) there fits }
-
--- ---- operands of a comparison
-
-abbrev AreOneForm : Kind → Kind → Type 0
-AreOneForm a b = ((is_number a ≡ true) × (is_number b ≡ true)) ⊎ ((is_reference a ≡ true) × (is_reference b ≡ true))
-
-comparable_form : (a b : Kind) → kinds.are_comparable a b ≡ true → AreOneForm a b
-comparable_form Ints Ints is = inr (refl, refl)
-comparable_form Bools Bools is = inr (refl, refl)
-comparable_form NullRef b is = inr (refl, is)
-comparable_form Ints NullRef is = inr (refl, refl)
-comparable_form Bools NullRef is = inr (refl, refl)
-comparable_form Int NullRef is = absurd (false≢true is)
-comparable_form Native NullRef is = absurd (false≢true is)
-comparable_form Text NullRef is = absurd (false≢true is)
-comparable_form _ _ is = absurd (false≢true is)
-
-compared_form : (op : CmpOp) (a b : Kind) → kinds.compares_kinds op a b ≡ true → AreOneForm a b
-compared_form op a b is = by (is_number a && is_number b) refl is
-  where
-    by : (numbers : Bool) → (is_number a && is_number b) ≡ numbers → (numbers || (kinds.is_equality op && kinds.are_comparable a b)) ≡ true → AreOneForm a b
-    by true both is = inl (and_parts (is_number a) (is_number b) both)
-    by false both is = comparable_form a b (and_parts (kinds.is_equality op) (kinds.are_comparable a b) is).1
-
-pushed_form : (op : CmpOp) (a b : Kind) → kinds.pushes_comparison op a b ≡ true → AreOneForm a b
-pushed_form comparisons.GtUn a NullRef is = inr (is, refl)
-pushed_form op a b is = compared_form op a b is
-
-both_numbers : (known : StateFacts) (v w : Var) → FitsKind known Int v → FitsKind known Int w → AreAlike v w
-both_numbers known (vars.Number a) (vars.Number b) first second = tt
-both_numbers known (vars.Number a) (vars.Reference q) first second = elim second [ ]
-both_numbers known (vars.Number a) vars.Text first second = elim second [ ]
-both_numbers known (vars.Reference r) w first second = elim first [ ]
-both_numbers known vars.Text w first second = elim first [ ]
-
-both_references : (v w : Var) → IsReferenceVar v → IsReferenceVar w → AreAlike v w
-both_references (vars.Reference r) (vars.Reference q) first second = tt
-both_references (vars.Reference r) (vars.Number b) first second = elim second [ ]
-both_references (vars.Reference r) vars.Text first second = elim second [ ]
-both_references (vars.Number a) w first second = elim first [ ]
-both_references vars.Text w first second = elim first [ ]
-
-alike_of : (known : StateFacts) (a b : Kind) (v w : Var) → AreOneForm a b → FitsKind known a v → FitsKind known b w → AreAlike v w
-alike_of known a b v w (inl (one, other)) first second = both_numbers known v w (number_fits known a v one first) (number_fits known b w other second)
-alike_of known a b v w (inr (one, other)) first second = both_references v w (reference_fits known a v one first) (reference_fits known b w other second)
-
 -- ---- the rules
 
 constant_zero : (n : ℕ) → IsNumber n (constant (pos 0))
@@ -339,104 +146,12 @@ constant_zero n = record { there = omega arith; near = record { least = omega (a
 constant_minus : (n : ℕ) → IsNumber n (constant (negsuc 0))
 constant_minus n = record { there = omega arith; near = record { least = omega (arith, ints); greatest = omega (arith, ints) } }
 
--- What is known of the variables and the references is as before.
-abbrev KeepsFrame : StateFacts → State → Type 0
-KeepsFrame before None = Unit {0}
-KeepsFrame before (Some after) = (after.variables ≡ before.variables) × (after.references ≡ before.references)
-
-stored_keeps : (known : StateFacts) (o : Option Made) → KeepsFrame known (option_map (beside known) o)
-stored_keeps known None = tt
-stored_keeps known (Some made) = (refl, refl)
-
-new_last : (references : List (Reference Unknown)) (r : Reference Unknown) → slice_get (references ++ r ∷ []) (length references) ≡ Some r
-new_last [] r = refl
-new_last (x ∷ references) r = new_last references r
-
-new_there : (references : List (Reference Unknown)) (r : Reference Unknown) (n : ℕ) → n ≡ suc (length references)
-    → reference_at (references ++ r ∷ []) n ≡ Some r
-unfolding reference_at
-new_there references r zero is = absurd (omega (arith, is))
-new_there references r (suc n) is =
-    let same : n ≡ length references = omega (arith, is) in ap (slice_get (references ++ r ∷ [])) same ∙ new_last references r
-
-array_kind : (place : Place) → IsArrayPlace place → kind_of place ≡ Some (kind_in place)
-array_kind places.Bools is = refl
-array_kind places.Ints is = refl
-array_kind places.Void is = elim is [ ]
-array_kind places.Bool is = elim is [ ]
-array_kind places.Int is = elim is [ ]
-
-array_reference : (known : StateFacts) (place : Place) (r : ℕ) → IsArrayPlace place → is_of_place known place r ≡ true
-    → FitsKind known (kind_in place) (vars.Reference r)
-array_reference known places.Bools r is of = of
-array_reference known places.Ints r is of = of
-array_reference known places.Void r is of = elim is [ ]
-array_reference known places.Bool r is of = elim is [ ]
-array_reference known places.Int r is of = elim is [ ]
-
-own_place : (place : Place) → IsArrayPlace place → same_place place place ≡ true
-own_place places.Bools is = refl
-own_place places.Ints is = refl
-own_place places.Void is = elim is [ ]
-own_place places.Bool is = elim is [ ]
-own_place places.Int is = elim is [ ]
-
--- One more reference of an array's type, and it on top.
-pub record HasArrayMore (place : Place) (before after : StateFacts) : Type 0 where
-  pub reference : Reference Unknown
-  pub variables : after.variables ≡ before.variables ++ vars.Reference (length before.references + 1) ∷ []
-  pub references : after.references ≡ before.references ++ reference ∷ []
-  pub place_is : reference.place ≡ place
-
 module _ (unit : MethodUnit) where
-  pub gives_number : (stack : List Kind) (known : StateFacts) (state : State) → HasKinds (kinds_over unit stack) known → Formed state
+  gives_number : (stack : List Kind) (known : StateFacts) (state : State) → HasKinds (kinds_over unit stack) known → Formed state
       → GivesNumber known state → FitsStack unit (Some (Int ∷ stack)) state
-  gives_number stack known None has form more = tt
-  gives_number stack known (Some after) has form more = record {
-    form = form;
-    fit = subst (λ ks. FitKinds after ks after.variables) (sym (over_more unit Int stack))
-        (subst (FitKinds after (kinds_over unit stack ++ Int ∷ [])) (sym more.variables)
-        (fit_pushed after (kinds_over unit stack) known.variables Int (vars.Number more.expr)
-        (fit_stays known after (kinds_over unit stack) known.variables (places_same known after more.references) has.form.variables has.fit) tt));
-  }
-
-  pub gives_array : (place : Place) (stack : List Kind) (known after : StateFacts) → HasKinds (kinds_over unit stack) known → HasForm after
-      → IsArrayPlace place → HasArrayMore place known after → HasKinds (kinds_over unit (kind_in place ∷ stack)) after
-  gives_array place stack known after has form array more =
-      let r = length known.references + 1 in
-      let found : reference_at after.references r ≡ Some more.reference =
-      ap (λ rs. reference_at rs r) more.references ∙ new_there known.references more.reference r (omega arith) in
-      let of : is_of_place after place r ≡ true =
-      ap (λ o. option_map_or (λ (x : Reference Unknown). same_place x.place place) o true) found
-      ∙ ap (λ p. same_place p place) more.place_is ∙ own_place place array in
-      record {
-        form = form;
-        fit = subst (λ ks. FitKinds after ks after.variables) (sym (over_more unit (kind_in place) stack))
-            (subst (FitKinds after (kinds_over unit stack ++ kind_in place ∷ [])) (sym more.variables)
-            (fit_pushed after (kinds_over unit stack) known.variables (kind_in place) (vars.Reference r)
-            (fit_stays known after (kinds_over unit stack) known.variables (places_more known after (more.reference ∷ []) more.references)
-            has.form.variables has.fit)
-            (array_reference after place r array of)));
-      }
-
-  keeps_frame : (stack : List Kind) (known : StateFacts) (state : State) → HasKinds (kinds_over unit stack) known → Formed state
-      → KeepsFrame known state → FitsStack unit (Some stack) state
-  keeps_frame stack known None has form same = tt
-  keeps_frame stack known (Some after) has form same = record {
-    form = form;
-    fit = subst (FitKinds after (kinds_over unit stack)) (sym same.0)
-        (fit_stays known after (kinds_over unit stack) known.variables (places_same known after same.1) has.form.variables has.fit);
-  }
-
-  sets_one : (i : ℕ) (k : Kind) (stack : List Kind) (known : StateFacts) (state : State) → HasKinds (kinds_over unit stack) known
-      → slice_get (kinds_over unit stack) i ≡ Some k → Formed state → Sets i k known state → FitsStack unit (Some stack) state
-  sets_one i k stack known None has there form sets = tt
-  sets_one i k stack known (Some after) has there form sets = record {
-    form = form;
-    fit = subst (FitKinds after (kinds_over unit stack)) (sym sets.variables)
-        (fit_set after (kinds_over unit stack) known.variables i k sets.var
-        (fit_stays known after (kinds_over unit stack) known.variables (places_same known after sets.references) has.form.variables has.fit) there sets.fits);
-  }
+  gives_number stack known state has form more =
+      over_stack unit (Int ∷ stack) state (subst (λ ks. AreKinds ks state) (sym (over_more unit Int stack))
+      (number_more (kinds_over unit stack) Int known state refl has form more))
 
   -- ---- moves
 
@@ -452,8 +167,9 @@ module _ (unit : MethodUnit) where
       → slice_get (kinds_over unit stack) i ≡ Some (kind_in place) → HasVar known v → FitsKind known (kind_in place) v
       → FitsStack unit (Some stack) (put_into i place v known)
   put_fits i place v stack known has is there fits = cond_both (nat_lt i (length known.variables)) _ _ (FitsStack unit (Some stack))
-      (λ below. sets_one i (kind_in place) stack known (with_put i v place known) has is (put_form i v place known has.form there)
-      (put_sets i (kind_in place) v place known there fits))
+      (λ below. over_stack unit stack (with_put i v place known)
+      (one_set (kinds_over unit stack) i (kind_in place) known (with_put i v place known) has is (put_form i v place known has.form there)
+      (put_sets i (kind_in place) v place known there fits)))
       (λ above. tt)
 
   stored_fits : (i : ℕ) (place : Place) (k : Kind) (stack : List Kind) (known : StateFacts) → HasKinds (kinds_over unit (k ∷ stack)) known
@@ -543,8 +259,9 @@ module _ (unit : MethodUnit) where
       → HasKinds (kinds_over unit stack) x → FitsStack unit (Some (kind_in place ∷ stack)) (with_new (Some place) v x)
   unfolding with_array
   new_fits place (vars.Number n) stack x array there fits has =
-      gives_array place stack x (with_array place n x) has (array_form place n x has.form array there) array
-      (record { reference = _; variables = refl; references = refl; place_is = refl })
+      subst (λ ks. HasKinds ks (with_array place n x)) (sym (over_more unit (kind_in place) stack))
+      (array_more (kinds_over unit stack) place x (with_array place n x) has (array_form place n x has.form array there) array
+      (record { reference = _; variables = refl; references = refl; place_is = refl }))
   new_fits place (vars.Reference r) stack x array there fits has = elim fits [ ]
   new_fits place vars.Text stack x array there fits has = elim fits [ ]
 
@@ -607,7 +324,8 @@ module _ (unit : MethodUnit) where
       → HasKinds (kinds_over unit stack) x → FitsStack unit (Some stack) (with_item_put u v w x)
   unfolding with_stored
   write_fits (vars.Reference r) (vars.Number i) (vars.Number value) stack x is fits own has =
-      keeps_frame stack x (with_stored r value x) has (stored_form r value x has.form own.there) (stored_keeps x _)
+      over_stack unit stack (with_stored r value x)
+      (frame_kept (kinds_over unit stack) x (with_stored r value x) has (stored_form r value x has.form own.there) (stored_keeps x _))
   write_fits (vars.Reference r) (vars.Number i) (vars.Reference q) stack x is fits own has = elim own.fits [ ]
   write_fits (vars.Reference r) (vars.Number i) vars.Text stack x is fits own has = elim own.fits [ ]
   write_fits (vars.Reference r) (vars.Reference q) w stack x is fits own has = elim fits [ ]

@@ -39,7 +39,9 @@ use Rattle.symbolic_values.specs.declared.def.Def.{Def}
 use Rattle.symbolic_values.specs.declared.pairs.Key.{Key}
 use Rattle.alias_facts.specs.PairsOf.{Pair}
 use Rattle.transfer_rules.specs.Forms.{FitKinds, FitsKind, FitsStack, HasKinds, is_of_place, kinds_over}
-use Rattle.transfer_rules.specs.Laws.FormsBehind.{any_number, zero_of_place}
+use Rattle.transfer_rules.specs.Laws.Fitting.{AreKinds, over_stack}
+use Rattle.transfer_rules.specs.Laws.FittingResults.{any_number}
+use Rattle.transfer_rules.specs.Laws.KindForms.{zero_of_place}
 
 -- ---- states that are like each other
 
@@ -283,10 +285,6 @@ module _ (ks : List Kind) (a b : StateFacts) (first : HasKinds ks a) (second : H
             (says true (λ s. pos 0) Some) (says false (λ s. pos 0) Some) form.variables first.fit second.fit;
       }
 
-abbrev AreKinds : List Kind → State → Type 0
-AreKinds ks None = Unit {0}
-AreKinds ks (Some known) = HasKinds ks known
-
 each_fits : (ks : List Kind) (make : Outcome → StateFacts) (o : Option Outcome) → ForSome (option_map make o) HasForm
     → ((outcome : Outcome) → HasForm (make outcome) → HasKinds ks (make outcome)) → AreKinds ks (option_map make o)
 each_fits ks make None form fits = tt
@@ -310,10 +308,6 @@ normal_fit ks a has = by (paired_frames a.variables a.references a.variables a.r
     by None is form = tt
     by (Some f) is form = each_fits ks (normal_as a f) (numbers.normed f.numbers.keys (numbers_known a.facts)) form
         (λ outcome own. known_fits ks a a has has f outcome _ _ is own)
-
-over_stack : (unit : MethodUnit) (stack : List Kind) (state : State) → AreKinds (kinds_over unit stack) state → FitsStack unit (Some stack) state
-over_stack unit stack None are = tt
-over_stack unit stack (Some known) are = are
 
 pub join_fits : (unit : MethodUnit) (at : Option (List Kind)) (a b : State) → FitsStack unit at a → FitsStack unit at b
     → FitsStack unit at (join a b)
