@@ -6,5 +6,6 @@ pub mod Choosing
 pub mod FormsBehind
 pub mod FormsMerged
 pub mod EntryLaws
+pub mod BegunLaws
 pub mod UnknownLaws
 pub mod FlowLaws
