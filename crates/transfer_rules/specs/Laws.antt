@@ -5,7 +5,8 @@ pub mod Acting
 pub mod Choosing
 pub mod FormsBehind
 pub mod FormsMerged
-pub mod EntryLaws
-pub mod BegunLaws
 pub mod UnknownLaws
+pub mod BegunLaws
+pub mod OwnInts
+pub mod EntryLaws
 pub mod FlowLaws

@@ -91,14 +91,21 @@ begun_from args locals types (Some known) same has =
     more_kinds (args ++ args) locals (twice known) (map zero_in types) double (zeros_there (twice known) types)
     (subst (λ ks. FitKinds (twice known) ks (map zero_in types)) (sym same) (zeros_fit (twice known) types))
 
+-- The kinds of the variables where a method begins.
+abbrev pub entry_kinds : MethodUnit → List Kind
+entry_kinds unit = map kind_in unit.args ++ map kind_in unit.args ++ map kind_in unit.locals
+
+pub begun_kinds : (unit : MethodUnit) → IsWellFormed unit → AreKinds (entry_kinds unit) (begun unit)
+begun_kinds unit formed =
+    begun_from (map kind_in unit.args) (map kind_in unit.locals) unit.locals (with_unknown unit.args (Some no_variables)) refl
+    (types_kept unit.args [] (Some no_variables) formed.args no_kinds)
+
+-- Nothing is on the stack there.
+pub on_no_stack : (unit : MethodUnit) (state : State) → AreKinds (entry_kinds unit) state → FitsStack unit (Some []) state
+on_no_stack unit state are = over_stack unit [] state (subst (λ ks. AreKinds ks state) (sym (append-nil (entry_kinds unit))) are)
+
 pub begun_fits : (unit : MethodUnit) → IsWellFormed unit → FitsStack unit (Some []) (begun unit)
-begun_fits unit formed =
-    let args = map kind_in unit.args in
-    let locals = map kind_in unit.locals in
-    over_stack unit [] (begun unit)
-    (subst (λ ks. AreKinds ks (begun unit)) (sym (append-nil (args ++ args ++ locals)))
-    (begun_from args locals unit.locals (with_unknown unit.args (Some no_variables)) refl
-    (types_kept unit.args [] (Some no_variables) formed.args no_kinds)))
+begun_fits unit formed = on_no_stack unit (begun unit) (begun_kinds unit formed)
 
 -- ---- what holds
 
