@@ -1,35 +1,31 @@
 -- What is known of the arguments and the locals alone, where a method begins.
-use Rattle.std.proofs.Common.{◌≡◌, ℕ, zero, suc, ◌≤◌, ℤ, pos, ◌+ℤ◌, List, [], ◌∷◌, ◌++◌, length, map, slice_get, Option, Some, None, refl, sym, ap, subst, append-nil, append_assoc, arith}
+use Rattle.std.proofs.Common.{◌≡◌, ℕ, zero, suc, ◌≤◌, ℤ, pos, ◌+ℤ◌, List, [], ◌∷◌, ◌++◌, map, Option, Some, None, refl, sym, ap, subst, append-nil, append_assoc, arith}
 use Rattle.std.specs.List.{AllByRecursion}
 use Rattle.std.specs.Option.{ForSome, option_map}
 use Rattle.std.proofs.lemmas.Int.{ints}
 use Rattle.std.proofs.lemmas.Option.{none-some, same_Some}
-use Rattle.cil_model.specs.Calls.{entry_frame}
 use Rattle.cil_model.specs.Values.{FitPlaces, Heap, IsHeap, zero_of}
 use Rattle.cil_model.specs.WellFormed.{HoldValues, IsWellFormed}
 use Rattle.cil_model.specs.declared.machine.Value.{Value}
-use Rattle.cil_model.specs.declared.machine.Value.TheVariants as values
 use Rattle.cil_model.specs.declared.place.Kind.{Kind}
 use Rattle.cil_model.specs.declared.place.Place.{Place}
 use Rattle.cil_model.specs.declared.place.Place.TheVariants as places
 use Rattle.cil_model.specs.declared.unit.Unit.{Unit as MethodUnit}
 use Rattle.frame_names.specs.declared.reference.Reference.{Reference}
 use Rattle.frame_names.specs.declared.var.Var.{Var}
-use Rattle.frame_names.specs.declared.var.Var.TheVariants as vars
 use Rattle.merged_states.specs.Following.{HoldsOver}
 use Rattle.merged_states.specs.Laws.Numbers.{zero_is}
 use Rattle.number_facts.specs.Facts.{range_at}
-use Rattle.number_spans.specs.Constants.{constant}
 use Rattle.number_spans.specs.Stored.{Allows}
 use Rattle.state_facts.proofs.Growing.{grown, same_facts}
 use Rattle.state_facts.proofs.UnknownValues.{unknown_is_kept}
 use Rattle.state_facts.specs.Forms.{HasForm, HasVar}
-use Rattle.state_facts.specs.Holds.{HaveValues, HoldsBy, HoldsIn}
+use Rattle.state_facts.specs.Holds.{HaveValues}
 use Rattle.state_facts.specs.StateFacts.{StateFacts, State, reference_at}
 use Rattle.state_facts.specs.UnknownValues.{push_unknown}
 use Rattle.state_facts.specs.declared.reference.Unknown.{Unknown}
 use Rattle.transfer_rules.specs.Entry.{begun, no_variables, twice, with_more, with_unknown, zero_in}
-use Rattle.transfer_rules.specs.Forms.{FitKinds, FitsKind, FitsStack, HasKinds, kind_in, kinds_over}
+use Rattle.transfer_rules.specs.Forms.{FitKinds, FitsKind, FitsStack, HasKinds, kind_in}
 use Rattle.transfer_rules.specs.Laws.Fitting.{AreKinds, fit_both, fit_stays, over_stack, places_same}
 use Rattle.transfer_rules.specs.Laws.KindForms.{zero_of_place}
 use Rattle.transfer_rules.specs.Laws.UnknownLaws.{no_kinds, types_kept, unknown_kept}

@@ -1,6 +1,6 @@
 -- The state where a method begins holds of each point with which a call may begin, and its variables fit.
-use Rattle.std.proofs.Common.{◌≡◌, ℕ, zero, suc, ◌+◌, ◌<◌, ◌≤◌, Bool, true, false, not, List, [], ◌∷◌, ◌++◌, length, map, slice_get, Option, Some, None, if◌then◌else◌, int_eq, pos, refl, sym, ap, subst, ◌∙◌, append-nil, arith}
-use Rattle.std.specs.List.{AllByRecursion, filter}
+use Rattle.std.proofs.Common.{◌≡◌, ℕ, zero, suc, ◌+◌, ◌<◌, ◌≤◌, Bool, true, false, not, List, [], ◌∷◌, ◌++◌, length, map, slice_get, Option, Some, None, int_eq, pos, refl, sym, ap, subst, ◌∙◌, append-nil, arith}
+use Rattle.std.specs.List.{AllByRecursion}
 use Rattle.std.specs.Option.{ForSome, option_and_then, option_map, option_map_or}
 use Rattle.std.proofs.lemmas.Bool.{cond_both, false≢true}
 use Rattle.std.proofs.lemmas.Option.{none-some, same_Some, slice_get-map}
@@ -13,7 +13,7 @@ use Rattle.cil_model.specs.Runs.{MayBegin}
 use Rattle.cil_model.specs.Terms as terms
 use Rattle.cil_model.specs.Terms.{Term}
 use Rattle.cil_model.specs.TreeKinds.{IsNumberClause, branch_kind, element_kind, kind_in, length_kind, operator_kind, unary_kind}
-use Rattle.cil_model.specs.Values.{Heap, IsHeap, IsValue, same_place, zero_of}
+use Rattle.cil_model.specs.Values.{Heap, IsValue, same_place, zero_of}
 use Rattle.cil_model.specs.WellFormed.{HasInts, IsWellFormed}
 use Rattle.cil_model.specs.declared.clause.Clause.{Clause}
 use Rattle.cil_model.specs.declared.clause.ClauseKind.{ClauseKind}
@@ -31,7 +31,7 @@ use Rattle.clause_trees.proofs.AssumedKept.{assumed_is_kept, assumed_keeps_forms
 use Rattle.clause_trees.specs.ClauseStates.{assumed}
 use Rattle.clause_trees.specs.Meaning.{IsTest, Reads}
 use Rattle.clause_trees.specs.declared.reader.TreeEnv.{TreeEnv}
-use Rattle.clause_trees.specs.VariableKinds.{AreSameForms, HasSameForms, HasSameFormsIn, IsOfKind, IsOfPlace, IsOneOfKind, IsReadable, IsSameForm, place_in}
+use Rattle.clause_trees.specs.VariableKinds.{AreSameForms, HasSameFormsIn, IsOfKind, IsOfPlace, IsOneOfKind, IsReadable, IsSameForm, place_in}
 use Rattle.frame_names.specs.declared.reference.Reference.{Reference}
 use Rattle.frame_names.specs.declared.var.Var.{Var}
 use Rattle.frame_names.specs.declared.var.Var.TheVariants as vars
@@ -41,17 +41,15 @@ use Rattle.machine_points.specs.Points.{point}
 use Rattle.merged_states.specs.Following.{HoldsOver}
 use Rattle.merged_states.specs.Merging.{join}
 use Rattle.merged_states.specs.Laws.StatesHold.{normal_at}
-use Rattle.state_facts.specs.Forms.{HasForm, HasVar}
+use Rattle.state_facts.specs.Forms.{HasVar}
 use Rattle.state_facts.specs.Holds.{HoldsAt, HoldsIn}
 use Rattle.state_facts.specs.StateFacts.{StateFacts, State, reference_at}
 use Rattle.state_facts.specs.declared.reference.Unknown.{Unknown}
-use Rattle.transfer_rules.specs.Entry as entry_rules
 use Rattle.transfer_rules.specs.Entry.{HoldsAtEntry, at_entry, begun, entry, required}
 use Rattle.transfer_rules.specs.Forms as forms
 use Rattle.transfer_rules.specs.Forms.{FitKinds, FitsKind, FitsStack, HasKinds, is_of_place, kinds_over}
-use Rattle.transfer_rules.specs.Laws.BegunLaws as begun_laws
 use Rattle.transfer_rules.specs.Laws.BegunLaws.{begun_kinds, begun_over, both_all, entry_kinds, forms_of, on_no_stack}
-use Rattle.transfer_rules.specs.Laws.Fitting.{AreKinds, fit_at, over_stack}
+use Rattle.transfer_rules.specs.Laws.Fitting.{AreKinds, fit_at}
 use Rattle.transfer_rules.specs.Laws.FormsMerged.{normal_fits}
 use Rattle.transfer_rules.specs.Laws.OwnInts.{own_ints}
 

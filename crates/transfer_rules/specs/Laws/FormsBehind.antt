@@ -1,8 +1,7 @@
 -- The forms of variables behind an operation are those of the kinds that typing finds there.
-use Rattle.std.proofs.Common.{◌≡◌, ◌≢◌, ℕ, zero, suc, ◌+◌, ◌-◌, ◌<◌, ◌==◌, ℤ, pos, negsuc, Bool, true, false, ◌&&◌, ◌||◌, nat_lt, List, [], ◌∷◌, ◌++◌, length, map, slice_get, Option, Some, None, if◌then◌else◌, refl, sym, ap, subst, ◌∙◌, append_assoc, ◌⊎◌, inl, inr, arith}
-use Rattle.std.specs.Prelude.{reverse, set}
-use Rattle.std.specs.List.{AllByRecursion}
-use Rattle.std.specs.Option.{option_and_then, option_map, option_map_or}
+use Rattle.std.proofs.Common.{◌≡◌, ◌≢◌, ℕ, zero, suc, ◌+◌, ◌==◌, ℤ, pos, negsuc, Bool, true, false, nat_lt, List, [], ◌∷◌, ◌++◌, length, map, slice_get, Option, Some, None, refl, sym, ap, subst, ◌∙◌, append_assoc, arith}
+use Rattle.std.specs.Prelude.{reverse}
+use Rattle.std.specs.Option.{option_map}
 use Rattle.std.proofs.lemmas.Bool.{and_parts, cond_both, false≢true}
 use Rattle.std.proofs.lemmas.Int.{ints}
 use Rattle.std.proofs.lemmas.List.{length-append, length-map, reverse-append}
@@ -14,12 +13,10 @@ use Rattle.cil_model.specs.Kinds as kinds
 use Rattle.cil_model.specs.Kinds.{is_array_of, is_number, is_reference, is_tested, kind_of, takes, when}
 use Rattle.cil_model.specs.Passes.{merged, merged_kind, with_kind}
 use Rattle.cil_model.specs.Shapes.{shape_of}
-use Rattle.cil_model.specs.Values.{same_place}
 use Rattle.cil_model.specs.UnitCalls.{array_place, unit_call}
 use Rattle.cil_model.specs.declared.instruction.BinOp.{BinOp}
 use Rattle.cil_model.specs.declared.instruction.BinOp.TheVariants as operators
 use Rattle.cil_model.specs.declared.instruction.CmpOp.{CmpOp}
-use Rattle.cil_model.specs.declared.instruction.CmpOp.TheVariants as comparisons
 use Rattle.cil_model.specs.declared.instruction.Op.{Op}
 use Rattle.cil_model.specs.declared.instruction.Op.TheVariants as ops
 use Rattle.cil_model.specs.declared.instruction.Test.{Test}
@@ -33,33 +30,28 @@ use Rattle.cil_model.specs.declared.unit.Unit.{Unit as MethodUnit}
 use Rattle.cil_model.specs.declared.unit_numbers.UnitCall.{UnitCall}
 use Rattle.cil_model.specs.declared.unit_numbers.UnitCall.TheVariants as calls
 use Rattle.cil_model.proofs.KindsSettle.{Absorbs}
-use Rattle.domain_api.specs.declared.expr.Expr.{Expr}
-use Rattle.frame_names.specs.declared.reference.Reference.{Reference}
 use Rattle.frame_names.specs.declared.var.Var.{Var}
 use Rattle.frame_names.specs.declared.var.Var.TheVariants as vars
-use Rattle.number_facts.specs.Fresh.{Made}
 use Rattle.number_spans.specs.Constants.{constant}
 use Rattle.state_facts.proofs.AssumptionForms.{length_number}
 use Rattle.state_facts.proofs.ComparisonForms.{comparison_form}
 use Rattle.state_facts.proofs.Growing.{Formed}
-use Rattle.state_facts.proofs.MoveForms.{array_form, item_form, number_form, put_form, stored_form}
+use Rattle.state_facts.proofs.MoveForms.{array_form, item_form, put_form, stored_form}
 use Rattle.state_facts.proofs.ResultForms.{with_result_form}
 use Rattle.state_facts.specs.Arithmetic.{with_result}
-use Rattle.state_facts.specs.Comparing.{null_known, null_tested, same_known, with_comparison, with_defined, with_known, with_null_known, with_null_test, with_same, with_same_known, with_tested, with_truth}
-use Rattle.state_facts.specs.Comparing as comparing
-use Rattle.state_facts.specs.Forms.{HasForm, HasNumber, HasReference, HasVar, IsArrayPlace, IsNumber}
-use Rattle.state_facts.specs.Moves.{beside, in_variable, on_top, placed, popped, pushed, with_array, with_item, with_number, with_placed, with_put, with_stored}
-use Rattle.state_facts.specs.StateFacts.{StateFacts, State, length_at, nullness_at, reference_at}
-use Rattle.state_facts.specs.declared.reference.Unknown.{Unknown}
+use Rattle.state_facts.specs.Comparing.{with_comparison}
+use Rattle.state_facts.specs.Forms.{HasVar, IsArrayPlace, IsNumber}
+use Rattle.state_facts.specs.Moves.{popped, pushed, with_array, with_item, with_put, with_stored}
+use Rattle.state_facts.specs.StateFacts.{StateFacts, State, length_at}
 use Rattle.state_obligations.proofs.Following.{assumed_follows}
-use Rattle.state_obligations.specs.Following.{StaysThere, StaysThereIn}
+use Rattle.state_obligations.specs.Following.{StaysThereIn}
 use Rattle.state_obligations.specs.Assumed.{assumed_by}
 use Rattle.state_obligations.specs.declared.condition.Condition.TheVariants as conditions
 use Rattle.transfer_rules.specs.Acts.{acted, arg_place, behind_call, behind_test, calculated, complemented, duplicated, given, left, loaded, local_place, negated, operated, put_into, stored, taken_from, type_of, with_condition, with_item_of, with_item_put, with_length, with_new}
-use Rattle.transfer_rules.specs.Forms.{FitKinds, FitsKind, FitsStack, HasKinds, is_of_place, kind_in, kinds_over}
-use Rattle.transfer_rules.specs.Laws.Fitting.{AreKinds, over_stack, HasPopped, IsOperand, PlacesStay, fit_at, fit_last, fit_pushed, fit_set, fit_stays, has_stayed, kind_stays, one_taken, operand_before, over_more, over_popped, over_pushed, places_more, places_same, there_at, three_taken, two_taken}
+use Rattle.transfer_rules.specs.Forms.{FitKinds, FitsKind, FitsStack, HasKinds, kind_in, kinds_over}
+use Rattle.transfer_rules.specs.Laws.Fitting.{AreKinds, over_stack, IsOperand, fit_at, fit_last, fit_pushed, has_stayed, one_taken, operand_before, over_more, over_popped, over_pushed, there_at, three_taken, two_taken}
 use Rattle.transfer_rules.specs.Operands.{Rule, on_condition, on_one, on_three, on_two, with_one}
-use Rattle.transfer_rules.specs.Laws.KindForms.{AreAlike, IsReferenceVar, alike_of, array_kind, merged_fits, number_fits, pushed_form, reference_fits, taken_fits, when_same}
+use Rattle.transfer_rules.specs.Laws.KindForms.{IsReferenceVar, alike_of, array_kind, merged_fits, number_fits, pushed_form, reference_fits, taken_fits, when_same}
 use Rattle.transfer_rules.specs.Laws.FittingResults.{GivesNumber, array_more, comparison_number, frame_kept, number_more, one_set, put_sets, result_number, some_number, stored_keeps}
 
 -- ---- states

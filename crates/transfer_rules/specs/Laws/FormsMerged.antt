@@ -1,10 +1,9 @@
 -- States that fit the same kinds may be joined, and fit them when they are joined, widened or named anew.
 use Rattle.std.proofs.Common.{◌≡◌, ℕ, zero, suc, ◌<◌, ◌≤◌, ◌==◌, ℤ, pos, Bool, true, false, List, [], ◌∷◌, length, get_or, map, slice_get, Option, Some, None, refl, sym, ap, subst, ◌∙◌, arith}
-use Rattle.std.specs.Prelude.{IfSome, if◌then◌else◌}
+use Rattle.std.specs.Prelude.{if◌then◌else◌}
 use Rattle.std.specs.List.{AllByRecursion, list_all}
 use Rattle.std.specs.Option.{ForSome, option_and_then, option_map, option_map_or}
 use Rattle.std.proofs.lemmas.Bool.Decides.{Decides-eqb}
-use Rattle.std.proofs.lemmas.List.{length-map}
 use Rattle.std.proofs.lemmas.Option.{same_Some}
 use Rattle.cil_model.specs.Places.{place_number}
 use Rattle.cil_model.specs.Values.{same_place}
@@ -16,16 +15,16 @@ use Rattle.cil_model.specs.declared.unit.Unit.{Unit as MethodUnit}
 use Rattle.domain_api.specs.declared.expr.Expr.{Expr}
 use Rattle.frame_names.proofs.SaidLaws.{frames_say}
 use Rattle.frame_names.specs.Frames as frames
-use Rattle.frame_names.specs.Meaning.{Said, SaysBoth, a_number, a_text, an_array, arrays_behind, numbers_behind, said}
-use Rattle.frame_names.specs.MergedReferences.{merged_reference, merged_references, one_place}
-use Rattle.frame_names.specs.PairedFrames.{FramePairing, behind, first_expr, if_near, is_near, named_frame, old_at, paired_frames, pairing_by, pairs_of}
+use Rattle.frame_names.specs.Meaning.{Said, SaysBoth, an_array, numbers_behind, said}
+use Rattle.frame_names.specs.MergedReferences.{merged_references, one_place}
+use Rattle.frame_names.specs.PairedFrames.{FramePairing, behind, if_near, is_near, named_frame, old_at, paired_frames, pairing_by, pairs_of}
 use Rattle.frame_names.specs.declared.reference.Reference.{Reference}
 use Rattle.frame_names.specs.declared.var.Var.{Var}
 use Rattle.frame_names.specs.declared.var.Var.TheVariants as vars
 use Rattle.merged_numbers.specs.Merging as numbers
 use Rattle.merged_numbers.specs.Merging.{Outcome}
 use Rattle.merged_states.proofs.Formed.{HasArrayPlace, merged_form, normal_form, pairs_have}
-use Rattle.merged_states.specs.Alike.{AreComparable, AreLike, AreLikeStates, IsLike}
+use Rattle.merged_states.specs.Alike.{AreLike, AreLikeStates, IsLike}
 use Rattle.merged_states.specs.Laws.Frames.{alike_of, same_entry}
 use Rattle.merged_states.specs.Merging.{NumberRule, join, known_as, merged_as, merged_by, merged_known, normal, normal_as, normal_by, normal_known, widen}
 use Rattle.merged_states.specs.Parts.{numbers_known, unknown_items}

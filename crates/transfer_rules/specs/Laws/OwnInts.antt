@@ -1,10 +1,9 @@
 -- The constants of a unit's own clauses are int32, since those of its code are.
-use Rattle.std.proofs.Common.{◌≡◌, ℕ, zero, suc, ◌+◌, Bool, true, false, nat_lt, List, [], ◌∷◌, ◌++◌, length, map, Option, Some, None, if◌then◌else◌, refl, sym, ap, subst, ◌∙◌}
+use Rattle.std.proofs.Common.{◌≡◌, ℕ, zero, suc, ◌+◌, Bool, true, false, nat_lt, List, [], ◌∷◌, ◌++◌, length, map, Option, Some, None, if◌then◌else◌, refl, subst}
 use Rattle.std.specs.List.{AllByRecursion}
 use Rattle.std.specs.Option.{option_and_then}
 use Rattle.std.proofs.lemmas.Bool.{cond_both}
-use Rattle.std.proofs.lemmas.Option.{none-some, same_Some}
-use Rattle.cil_model.specs.ClauseTrees.{Item, Message, Tree, branch_operator, branch_tree, clause_before, clauses_from, clauses_in, closed_tree, closing, condition, items_behind, tree_at, tree_from, tree_of, with_call, with_element, with_length, with_operator, with_unary}
+use Rattle.cil_model.specs.ClauseTrees.{Item, Message, Tree, branch_operator, branch_tree, clause_before, clauses_from, closed_tree, closing, condition, items_behind, tree_at, tree_from, with_call, with_element, with_length, with_operator, with_unary}
 use Rattle.cil_model.specs.FitKinds.{OperandFits}
 use Rattle.cil_model.specs.Runs.{instr_at}
 use Rattle.cil_model.specs.TermCodes.{Root, preorder}
@@ -16,7 +15,6 @@ use Rattle.cil_model.specs.WellFormed.{HasInts, IsIntRoot, IsWellFormed, told_by
 use Rattle.cil_model.specs.declared.clause.Clause.{Clause}
 use Rattle.cil_model.specs.declared.clause.ClauseKind.{ClauseKind}
 use Rattle.cil_model.specs.declared.instruction.BinOp.{BinOp}
-use Rattle.cil_model.specs.declared.instruction.CmpOp.{CmpOp}
 use Rattle.cil_model.specs.declared.instruction.Instr.{Instr}
 use Rattle.cil_model.specs.declared.instruction.Op.{Op}
 use Rattle.cil_model.specs.declared.instruction.Op.TheVariants as ops

@@ -1,8 +1,7 @@
 -- The state of a block about which nothing is known fits the block.
-use Rattle.std.proofs.Common.{◌≡◌, ◌≢◌, ℕ, pos, true, List, [], ◌∷◌, ◌++◌, map, Option, Some, None, refl, sym, ap, subst, ◌∙◌, append-nil, append_assoc, arith}
+use Rattle.std.proofs.Common.{◌≢◌, ℕ, pos, List, [], ◌∷◌, ◌++◌, map, Option, Some, None, refl, sym, subst, append-nil, append_assoc, arith}
 use Rattle.std.specs.Prelude.{reverse}
-use Rattle.std.specs.List.{AllByRecursion}
-use Rattle.std.specs.Option.{option_and_then, option_map}
+use Rattle.std.specs.Option.{option_map}
 use Rattle.cil_model.specs.WellFormed.{HoldValues}
 use Rattle.cil_model.specs.declared.place.Kind.{Kind}
 use Rattle.cil_model.specs.declared.place.Kind.TheVariants as kinds
@@ -16,17 +15,14 @@ use Rattle.state_facts.proofs.Growing.{Formed}
 use Rattle.state_facts.proofs.UnknownValues.{unknown_form, within_form}
 use Rattle.state_facts.specs.Calls.{returned, with_returned}
 use Rattle.state_facts.specs.Forms.{HasForm, IsArrayPlace}
-use Rattle.state_facts.specs.Moves.{pushed, with_number}
-use Rattle.state_facts.specs.States.{push}
 use Rattle.state_facts.specs.StateFacts.{StateFacts, State}
 use Rattle.state_facts.specs.UnknownValues as rule
 use Rattle.state_facts.specs.UnknownValues.{push_unknown, push_within, with_within}
 use Rattle.transfer_rules.specs.Entry.{no_variables, with_unknown}
 use Rattle.transfer_rules.specs.Flow.{Fits, IsToldOf}
-use Rattle.transfer_rules.specs.Forms.{FitsStack, HasKinds, kind_in, kinds_over}
+use Rattle.transfer_rules.specs.Forms.{FitsStack, HasKinds, kind_in}
 use Rattle.transfer_rules.specs.Laws.Fitting.{AreKinds, has_pushed, over_stack}
-use Rattle.transfer_rules.specs.Laws.FittingResults.{GivesNumber, HasArrayMore, array_more, made_number, number_more, some_number}
-use Rattle.transfer_rules.specs.Laws.KindForms.{zero_of_place}
+use Rattle.transfer_rules.specs.Laws.FittingResults.{GivesNumber, array_more, made_number, number_more, some_number}
 use Rattle.transfer_rules.specs.Unknown.{lengths, push_of_kind, unknown, unknown_over, with_stack}
 use Rattle.unit_flow.specs.Flow.{kinds_at}
 use Rattle.unit_flow.specs.declared.unit_flow.UnitFlow.{UnitFlow}
