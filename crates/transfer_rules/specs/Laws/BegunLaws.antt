@@ -32,20 +32,24 @@ use Rattle.transfer_rules.specs.Laws.UnknownLaws.{no_kinds, types_kept, unknown_
 
 -- ---- lists
 
-pub both_all : {X : Type 0} (P : X → Type 0) (xs ys : List X) → AllByRecursion P xs → AllByRecursion P ys → AllByRecursion P (xs ++ ys)
+pub both_all : {X : Type 0} (P : X → Type 0) (xs ys : List X) → AllByRecursion P xs → AllByRecursion P ys
+    → AllByRecursion P (xs ++ ys)
 both_all P [] ys first second = second
 both_all P (x ∷ xs) ys first second = (first.0, both_all P xs ys first.1 second)
 
-both_have : (number : ℕ → ℤ) (array : ℕ → Option ℕ) (vs ws : List Var) (xs ys : List Value) → HaveValues number array vs xs
+both_have : (number : ℕ → ℤ) (array : ℕ → Option ℕ) (vs ws : List Var) (xs ys : List Value)
+    → HaveValues number array vs xs
     → HaveValues number array ws ys → HaveValues number array (vs ++ ws) (xs ++ ys)
 both_have number array [] ws [] ys first second = second
 both_have number array [] ws (x ∷ xs) ys first second = elim first [ ]
 both_have number array (v ∷ vs) ws [] ys first second = elim first [ ]
-both_have number array (v ∷ vs) ws (x ∷ xs) ys first second = (first.0, both_have number array vs ws xs ys first.1 second)
+both_have number array (v ∷ vs) ws (x ∷ xs) ys first second =
+    (first.0, both_have number array vs ws xs ys first.1 second)
 
 -- ---- variables that come on top
 
-more_kinds : (ks js : List Kind) (known : StateFacts) (vs : List Var) → HasKinds ks known → AllByRecursion (HasVar known) vs
+more_kinds : (ks js : List Kind) (known : StateFacts) (vs : List Var) → HasKinds ks known
+    → AllByRecursion (HasVar known) vs
     → FitKinds known js vs → HasKinds (ks ++ js) (with_more vs known)
 more_kinds ks js known vs has there fits =
     let new = with_more vs known in
@@ -53,7 +57,8 @@ more_kinds ks js known vs has there fits =
     record {
       form = grown known known.facts (known.variables ++ vs) has.form (same_facts known has.form)
           (both_all (HasVar known) known.variables vs has.form.variables there);
-      fit = fit_both new ks js known.variables vs (fit_stays known new ks known.variables same has.form.variables has.fit)
+      fit =
+          fit_both new ks js known.variables vs (fit_stays known new ks known.variables same has.form.variables has.fit)
           (fit_stays known new js vs same there fits);
     }
 
@@ -67,9 +72,18 @@ zero_kind known places.Int = tt
 zero_there : (known : StateFacts) (place : Place) → HasVar known (zero_in place)
 zero_there known places.Bools = omega arith
 zero_there known places.Ints = omega arith
-zero_there known places.Void = record { there = omega arith; near = record { least = omega (arith, ints); greatest = omega (arith, ints) } }
-zero_there known places.Bool = record { there = omega arith; near = record { least = omega (arith, ints); greatest = omega (arith, ints) } }
-zero_there known places.Int = record { there = omega arith; near = record { least = omega (arith, ints); greatest = omega (arith, ints) } }
+zero_there known places.Void = record {
+  there = omega arith;
+  near = record { least = omega (arith, ints); greatest = omega (arith, ints) };
+}
+zero_there known places.Bool = record {
+  there = omega arith;
+  near = record { least = omega (arith, ints); greatest = omega (arith, ints) };
+}
+zero_there known places.Int = record {
+  there = omega arith;
+  near = record { least = omega (arith, ints); greatest = omega (arith, ints) };
+}
 
 zeros_fit : (known : StateFacts) (types : List Place) → FitKinds known (map kind_in types) (map zero_in types)
 zeros_fit known [] = tt
@@ -79,7 +93,8 @@ zeros_there : (known : StateFacts) (types : List Place) → AllByRecursion (HasV
 zeros_there known [] = tt
 zeros_there known (place ∷ types) = (zero_there known place, zeros_there known types)
 
-begun_from : (args locals : List Kind) (types : List Place) (state : State) → locals ≡ map kind_in types → AreKinds args state
+begun_from : (args locals : List Kind) (types : List Place) (state : State) → locals ≡ map kind_in types
+    → AreKinds args state
     → AreKinds (args ++ args ++ locals) (option_map (with_more (map zero_in types)) (option_map twice state))
 begun_from args locals types None same are = tt
 begun_from args locals types (Some known) same has =
@@ -93,12 +108,15 @@ entry_kinds unit = map kind_in unit.args ++ map kind_in unit.args ++ map kind_in
 
 pub begun_kinds : (unit : MethodUnit) → IsWellFormed unit → AreKinds (entry_kinds unit) (begun unit)
 begun_kinds unit formed =
-    begun_from (map kind_in unit.args) (map kind_in unit.locals) unit.locals (with_unknown unit.args (Some no_variables)) refl
+    begun_from (map kind_in unit.args) (map kind_in unit.locals) unit.locals
+    (with_unknown unit.args (Some no_variables)) refl
     (types_kept unit.args [] (Some no_variables) formed.args no_kinds)
 
 -- Nothing is on the stack there.
-pub on_no_stack : (unit : MethodUnit) (state : State) → AreKinds (entry_kinds unit) state → FitsStack unit (Some []) state
-on_no_stack unit state are = over_stack unit [] state (subst (λ ks. AreKinds ks state) (sym (append-nil (entry_kinds unit))) are)
+pub on_no_stack : (unit : MethodUnit) (state : State) → AreKinds (entry_kinds unit) state
+    → FitsStack unit (Some []) state
+on_no_stack unit state are =
+    over_stack unit [] state (subst (λ ks. AreKinds ks state) (sym (append-nil (entry_kinds unit))) are)
 
 pub begun_fits : (unit : MethodUnit) → IsWellFormed unit → FitsStack unit (Some []) (begun unit)
 begun_fits unit formed = on_no_stack unit (begun unit) (begun_kinds unit formed)
@@ -132,13 +150,16 @@ nothing_over heap = record {
   };
 }
 
-types_over : (types : List Place) (ks : List Kind) (state : State) (vs xs : List Value) (heap : Heap) → HoldValues types → AreKinds ks state
-    → HoldsOver state vs heap → IsHeap heap → FitPlaces heap types xs → HoldsOver (with_unknown types state) (vs ++ xs) heap
+types_over : (types : List Place) (ks : List Kind) (state : State) (vs xs : List Value) (heap : Heap) → HoldValues types
+    → AreKinds ks state
+    → HoldsOver state vs heap → IsHeap heap → FitPlaces heap types xs
+    → HoldsOver (with_unknown types state) (vs ++ xs) heap
 types_over [] ks state vs [] heap hold are over is fit = subst (λ l. HoldsOver state l heap) (sym (append-nil vs)) over
 types_over [] ks state vs (x ∷ xs) heap hold are over is fit = elim fit [ ]
 types_over (place ∷ types) ks state vs [] heap hold are over is fit = elim fit [ ]
 types_over (place ∷ types) ks state vs (x ∷ xs) heap hold are over is fit =
-    let step = unknown_is_kept place state (forms_of ks state are) vs heap over.number over.array x over.holds is fit.0 in
+    let step =
+    unknown_is_kept place state (forms_of ks state are) vs heap over.number over.array x over.holds is fit.0 in
     let next : HoldsOver (push_unknown place state) (vs ++ x ∷ []) heap =
     record { number = step.later; array = step.later_array; holds = step.holds } in
     subst (λ l. HoldsOver (with_unknown types (push_unknown place state)) l heap) (append_assoc vs (x ∷ []) xs)
@@ -151,14 +172,20 @@ zero_number n is = omega (arith, ints, is)
 zeros_have : (number : ℕ → ℤ) (array : ℕ → Option ℕ) (types : List Place) → number 0 ≡ pos 0 → array 0 ≡ None
     → HaveValues number array (map zero_in types) (map zero_of types)
 zeros_have number array [] origin null = tt
-zeros_have number array (places.Bools ∷ types) origin null = (ap Some (sym null), zeros_have number array types origin null)
-zeros_have number array (places.Ints ∷ types) origin null = (ap Some (sym null), zeros_have number array types origin null)
-zeros_have number array (places.Void ∷ types) origin null = (ap Some (zero_number (number 0) origin), zeros_have number array types origin null)
-zeros_have number array (places.Bool ∷ types) origin null = (ap Some (zero_number (number 0) origin), zeros_have number array types origin null)
-zeros_have number array (places.Int ∷ types) origin null = (ap Some (zero_number (number 0) origin), zeros_have number array types origin null)
+zeros_have number array (places.Bools ∷ types) origin null =
+    (ap Some (sym null), zeros_have number array types origin null)
+zeros_have number array (places.Ints ∷ types) origin null =
+    (ap Some (sym null), zeros_have number array types origin null)
+zeros_have number array (places.Void ∷ types) origin null =
+    (ap Some (zero_number (number 0) origin), zeros_have number array types origin null)
+zeros_have number array (places.Bool ∷ types) origin null =
+    (ap Some (zero_number (number 0) origin), zeros_have number array types origin null)
+zeros_have number array (places.Int ∷ types) origin null =
+    (ap Some (zero_number (number 0) origin), zeros_have number array types origin null)
 
 both_over : (types : List Place) (state : State) (xs : List Value) (heap : Heap) → HoldsOver state xs heap
-    → HoldsOver (option_map (with_more (map zero_in types)) (option_map twice state)) (xs ++ xs ++ map zero_of types) heap
+    → HoldsOver (option_map (with_more (map zero_in types)) (option_map twice state))
+    (xs ++ xs ++ map zero_of types) heap
 both_over types None xs heap over = elim over.holds [ ]
 both_over types (Some known) xs heap over =
     let so = over.holds in
@@ -170,7 +197,9 @@ both_over types (Some known) xs heap over =
       holds = record {
         null = so.null;
         facts = so.facts;
-        variables = both_have number array (known.variables ++ known.variables) (map zero_in types) (xs ++ xs) (map zero_of types)
+        variables =
+            both_have number array (known.variables ++ known.variables) (map zero_in types) (xs ++ xs)
+            (map zero_of types)
             (both_have number array known.variables known.variables xs xs so.variables so.variables)
             (zeros_have number array types (zero_is known.facts number so.facts.allowed) so.null);
         references = so.references;
@@ -178,7 +207,8 @@ both_over types (Some known) xs heap over =
       };
     }
 
-pub begun_over : (unit : MethodUnit) (args : List Value) (heap : Heap) → IsWellFormed unit → IsHeap heap → FitPlaces heap unit.args args
+pub begun_over : (unit : MethodUnit) (args : List Value) (heap : Heap) → IsWellFormed unit → IsHeap heap
+    → FitPlaces heap unit.args args
     → HoldsOver (begun unit) (args ++ args ++ map zero_of unit.locals) heap
 begun_over unit args heap formed is fit =
     both_over unit.locals (with_unknown unit.args (Some no_variables)) args heap

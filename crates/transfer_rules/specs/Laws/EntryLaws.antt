@@ -59,11 +59,13 @@ of_place : Place → Option Place → Bool
 of_place place found = option_map_or (λ p. same_place p place) found true
 
 read_place : (place : Place) (o : Option (Reference Unknown))
-    → option_map_or (λ r. same_place r.place place) o true ≡ option_map_or (λ p. same_place p place) (option_map (λ r. r.place) o) true
+    → option_map_or (λ r. same_place r.place place) o true ≡ option_map_or (λ p. same_place p place)
+    (option_map (λ r. r.place) o) true
 read_place place None = refl
 read_place place (Some r) = refl
 
-same_reference : (before after : StateFacts) (place : Place) (r q : ℕ) → place_in after q ≡ place_in before r → is_of_place before place r ≡ true
+same_reference : (before after : StateFacts) (place : Place) (r q : ℕ) → place_in after q ≡ place_in before r
+    → is_of_place before place r ≡ true
     → is_of_place after place q ≡ true
 same_reference before after place r q same is =
     read_place place (reference_at after.references q) ∙ ap (λ o. option_map_or (λ p. same_place p place) o true) same
@@ -74,7 +76,8 @@ unfolding reference_at
 null_only known zero none there = refl
 null_only known (suc q) none there = absurd (by known.references q none (omega (arith, there)))
   where
-    by : (references : List (Reference Unknown)) (i : ℕ) → option_map (λ (r : Reference Unknown). r.place) (slice_get references i) ≡ None
+    by : (references : List (Reference Unknown)) (i : ℕ)
+        → option_map (λ (r : Reference Unknown). r.place) (slice_get references i) ≡ None
         → i < length references → ⊥
     by [] i none below = omega (arith, below)
     by (x ∷ references) zero none below = none-some x.place (sym none)
@@ -85,13 +88,17 @@ unfolding reference_at
 null_in known zero is = refl
 null_in known (suc r) is = absurd (omega (arith, is))
 
-form_fits : (before after : StateFacts) (k : Kind) (v w : Var) → IsSameForm before after v w → HasVar after w → FitsKind before k v
+form_fits : (before after : StateFacts) (k : Kind) (v w : Var) → IsSameForm before after v w → HasVar after w
+    → FitsKind before k v
     → FitsKind after k w
 form_fits before after kinds.Int (vars.Number e) (vars.Number f) same there fits = tt
 form_fits before after kinds.Native (vars.Number e) (vars.Number f) same there fits = tt
-form_fits before after kinds.Ints (vars.Reference r) (vars.Reference q) same there fits = same_reference before after places.Ints r q same fits
-form_fits before after kinds.Bools (vars.Reference r) (vars.Reference q) same there fits = same_reference before after places.Bools r q same fits
-form_fits before after kinds.NullRef (vars.Reference r) (vars.Reference q) same there fits = null_only after q (same ∙ null_in before r fits) there
+form_fits before after kinds.Ints (vars.Reference r) (vars.Reference q) same there fits =
+    same_reference before after places.Ints r q same fits
+form_fits before after kinds.Bools (vars.Reference r) (vars.Reference q) same there fits =
+    same_reference before after places.Bools r q same fits
+form_fits before after kinds.NullRef (vars.Reference r) (vars.Reference q) same there fits =
+    null_only after q (same ∙ null_in before r fits) there
 form_fits before after kinds.Text vars.Text vars.Text same there fits = tt
 form_fits before after k (vars.Number e) (vars.Reference q) same there fits = elim same [ ]
 form_fits before after k (vars.Number e) vars.Text same there fits = elim same [ ]
@@ -101,7 +108,8 @@ form_fits before after k vars.Text (vars.Number f) same there fits = elim same [
 form_fits before after k vars.Text (vars.Reference q) same there fits = elim same [ ]
 form_fits before after _ _ _ same there fits = elim fits [ ]
 
-forms_fit : (before after : StateFacts) (ks : List Kind) (vs ws : List Var) → AreSameForms before after vs ws → AllByRecursion (HasVar after) ws
+forms_fit : (before after : StateFacts) (ks : List Kind) (vs ws : List Var) → AreSameForms before after vs ws
+    → AllByRecursion (HasVar after) ws
     → FitKinds before ks vs → FitKinds after ks ws
 forms_fit before after [] [] [] same there fits = tt
 forms_fit before after [] [] (w ∷ ws) same there fits = elim same [ ]
@@ -111,10 +119,14 @@ forms_fit before after (k ∷ ks) (v ∷ vs) [] same there fits = elim same [ ]
 forms_fit before after (k ∷ ks) (v ∷ vs) (w ∷ ws) same there fits =
     (form_fits before after k v w same.0 there.0 fits.0, forms_fit before after ks vs ws same.1 there.1 fits.1)
 
-same_forms : (ks : List Kind) (known : StateFacts) (state : State) → HasSameFormsIn known state → HasKinds ks known → AreKinds ks state
+same_forms : (ks : List Kind) (known : StateFacts) (state : State) → HasSameFormsIn known state → HasKinds ks known
+    → AreKinds ks state
 same_forms ks known None same has = tt
 same_forms ks known (Some after) same has =
-    record { form = same.form; fit = forms_fit known after ks known.variables after.variables same.variables same.form.variables has.fit }
+    record {
+      form = same.form;
+      fit = forms_fit known after ks known.variables after.variables same.variables same.form.variables has.fit;
+    }
 
 -- ---- what a Requires reads
 
@@ -136,27 +148,32 @@ bools_in : (o : Option (Reference Unknown)) → option_map_or (λ r. same_place 
 bools_in None is = tt
 bools_in (Some r) is = bools_place r.place is
 
-read_kind : (known : StateFacts) (place : Place) (kind : Kind) (v : Var) → kind_of place ≡ Some kind → FitsKind known (forms.kind_in place) v
+read_kind : (known : StateFacts) (place : Place) (kind : Kind) (v : Var) → kind_of place ≡ Some kind
+    → FitsKind known (forms.kind_in place) v
     → IsOfKind known kind v
-read_kind known places.Bool kind v is fits = subst (λ k. IsOfKind known k v) (same_Some kinds.Int kind is) (number v fits)
+read_kind known places.Bool kind v is fits =
+    subst (λ k. IsOfKind known k v) (same_Some kinds.Int kind is) (number v fits)
   where
     number : (v : Var) → FitsKind known kinds.Int v → IsOfKind known kinds.Int v
     number (vars.Number e) fits = tt
     number (vars.Reference r) fits = elim fits [ ]
     number vars.Text fits = elim fits [ ]
-read_kind known places.Int kind v is fits = subst (λ k. IsOfKind known k v) (same_Some kinds.Int kind is) (number v fits)
+read_kind known places.Int kind v is fits =
+    subst (λ k. IsOfKind known k v) (same_Some kinds.Int kind is) (number v fits)
   where
     number : (v : Var) → FitsKind known kinds.Int v → IsOfKind known kinds.Int v
     number (vars.Number e) fits = tt
     number (vars.Reference r) fits = elim fits [ ]
     number vars.Text fits = elim fits [ ]
-read_kind known places.Ints kind v is fits = subst (λ k. IsOfKind known k v) (same_Some kinds.Ints kind is) (array v fits)
+read_kind known places.Ints kind v is fits =
+    subst (λ k. IsOfKind known k v) (same_Some kinds.Ints kind is) (array v fits)
   where
     array : (v : Var) → FitsKind known kinds.Ints v → IsOfKind known kinds.Ints v
     array (vars.Reference r) fits = ints_in (reference_at known.references r) fits
     array (vars.Number e) fits = elim fits [ ]
     array vars.Text fits = elim fits [ ]
-read_kind known places.Bools kind v is fits = subst (λ k. IsOfKind known k v) (same_Some kinds.Bools kind is) (array v fits)
+read_kind known places.Bools kind v is fits =
+    subst (λ k. IsOfKind known k v) (same_Some kinds.Bools kind is) (array v fits)
   where
     array : (v : Var) → FitsKind known kinds.Bools v → IsOfKind known kinds.Bools v
     array (vars.Reference r) fits = bools_in (reference_at known.references r) fits
@@ -169,24 +186,28 @@ front_at [] ys i x is = absurd (none-some x is)
 front_at (y ∷ xs) ys zero x is = is
 front_at (y ∷ xs) ys (suc i) x is = front_at xs ys i x is
 
-readable : (unit : MethodUnit) (known : StateFacts) → HasKinds (entry_kinds unit) known → IsReadable at_entry unit.args unit.result known
+readable : (unit : MethodUnit) (known : StateFacts) → HasKinds (entry_kinds unit) known
+    → IsReadable at_entry unit.args unit.result known
 readable unit known has = record {
   form = has.form;
   args_fit = λ n kind is. by n kind (slice_get unit.args n) refl is;
   result_fits = λ i kind none is. absurd (none-some i none);
 }
   where
-    found : (n : ℕ) (place : Place) → slice_get unit.args n ≡ Some place → slice_get (entry_kinds unit) n ≡ Some (forms.kind_in place)
+    found : (n : ℕ) (place : Place) → slice_get unit.args n ≡ Some place
+        → slice_get (entry_kinds unit) n ≡ Some (forms.kind_in place)
     found n place is =
         let args = map forms.kind_in unit.args in
         front_at (args ++ args) (map forms.kind_in unit.locals) n (forms.kind_in place)
-        (front_at args args n (forms.kind_in place) (slice_get-map forms.kind_in unit.args n ∙ ap (option_map forms.kind_in) is))
+        (front_at args args n (forms.kind_in place)
+        (slice_get-map forms.kind_in unit.args n ∙ ap (option_map forms.kind_in) is))
 
     by : (n : ℕ) (kind : Kind) (o : Option Place) → slice_get unit.args n ≡ o → option_and_then kind_of o ≡ Some kind
         → IsOneOfKind known kind (slice_get known.variables (0 + n))
     by n kind None there is = absurd (none-some kind is)
     by n kind (Some place) there is =
-        let at = fit_at known (entry_kinds unit) known.variables n (forms.kind_in place) has.fit (found n place there) in
+        let at =
+        fit_at known (entry_kinds unit) known.variables n (forms.kind_in place) has.fit (found n place there) in
         let plain : n ≡ 0 + n = omega arith in
         subst (λ m. IsOneOfKind known kind (slice_get known.variables m)) plain
         (subst (IsOneOfKind known kind) (sym at.is) (read_kind known place kind at.var is at.fits))
@@ -233,7 +254,8 @@ no_third None a = refl
 no_third (Some t) None = refl
 no_third (Some t) (Some a) = refl
 
-kind_stays : (args : List Place) (result : Place) (t : Term) → Stays (kind_in args result false t) (kind_in args result true t)
+kind_stays : (args : List Place) (result : Place) (t : Term)
+    → Stays (kind_in args result false t) (kind_in args result true t)
 kind_stays args result (terms.Const n) = refl
 kind_stays args result (terms.Arg n) = stays_itself (option_and_then kind_of (slice_get args n))
 kind_stays args result terms.Null = refl
@@ -241,15 +263,19 @@ kind_stays args result terms.Result = tt
 kind_stays args result (terms.Len a) = stays_under length_kind _ _ refl (kind_stays args result a)
 kind_stays args result (terms.Elem place a b) =
     let k : Bool → Term → Option Kind = λ ensured t. kind_in args result ensured t in
-    stays_on (element_kind place (k false a) (k false b)) (element_kind place (k true a) (k false b)) (element_kind place (k true a) (k true b))
+    stays_on (element_kind place (k false a) (k false b)) (element_kind place (k true a) (k false b))
+    (element_kind place (k true a) (k true b))
     (stays_under (λ x. element_kind place x (k false b)) (k false a) (k true a) refl (kind_stays args result a))
-    (stays_under (element_kind place (k true a)) (k false b) (k true b) (no_element place (k true a)) (kind_stays args result b))
+    (stays_under (element_kind place (k true a)) (k false b) (k true b) (no_element place (k true a))
+    (kind_stays args result b))
 kind_stays args result (terms.Bin op a b) =
     let k : Bool → Term → Option Kind = λ ensured t. kind_in args result ensured t in
     let by = operator_kind (comparison_of op) in
     stays_on (by (k false a) (k false b)) (by (k true a) (k false b)) (by (k true a) (k true b))
-    (stays_under (λ x. by x (k false b)) (k false a) (k true a) (no_left (comparison_of op) (k false b)) (kind_stays args result a))
-    (stays_under (by (k true a)) (k false b) (k true b) (no_right (comparison_of op) (k true a)) (kind_stays args result b))
+    (stays_under (λ x. by x (k false b)) (k false a) (k true a) (no_left (comparison_of op) (k false b))
+    (kind_stays args result a))
+    (stays_under (by (k true a)) (k false b) (k true b) (no_right (comparison_of op) (k true a))
+    (kind_stays args result b))
 kind_stays args result (terms.Un op a) = stays_under unary_kind _ _ refl (kind_stays args result a)
 kind_stays args result (terms.Old a) = tt
 kind_stays args result (terms.Cond c a b) =
@@ -259,8 +285,10 @@ kind_stays args result (terms.Cond c a b) =
     (stays_under (λ x. branch_kind x (k false a) (k false b)) (k false c) (k true c) refl (kind_stays args result c))
     (stays_on (branch_kind (k true c) (k false a) (k false b)) (branch_kind (k true c) (k true a) (k false b))
     (branch_kind (k true c) (k true a) (k true b))
-    (stays_under (λ x. branch_kind (k true c) x (k false b)) (k false a) (k true a) (no_second (k true c) (k false b)) (kind_stays args result a))
-    (stays_under (branch_kind (k true c) (k true a)) (k false b) (k true b) (no_third (k true c) (k true a)) (kind_stays args result b)))
+    (stays_under (λ x. branch_kind (k true c) x (k false b)) (k false a) (k true a) (no_second (k true c) (k false b))
+    (kind_stays args result a))
+    (stays_under (branch_kind (k true c) (k true a)) (k false b) (k true b) (no_third (k true c) (k true a))
+    (kind_stays args result b)))
 
 -- ---- each Requires
 
@@ -275,14 +303,18 @@ no_ensures : (kind : ClauseKind) → is_kind clause_kinds.Requires kind ≡ true
 no_ensures clause_kinds.Requires is = refl
 no_ensures clause_kinds.Ensures is = absurd (false≢true is)
 
-is_test : (unit : MethodUnit) (clause : Clause) → is_kind clause_kinds.Requires clause.kind ≡ true → IsNumberClause unit.args unit.result clause
+is_test : (unit : MethodUnit) (clause : Clause) → is_kind clause_kinds.Requires clause.kind ≡ true
+    → IsNumberClause unit.args unit.result clause
     → HasInts clause → IsTestOf unit clause
 is_test unit clause requires number ints = record {
   kind = kinds.Int;
   typed = record {
-    kind_is = same_kind (kind_in unit.args unit.result false clause.tree) (kind_in unit.args unit.result true clause.tree) kinds.Int
+    kind_is =
+        same_kind (kind_in unit.args unit.result false clause.tree)
+        (kind_in unit.args unit.result true clause.tree) kinds.Int
         (kind_stays unit.args unit.result clause.tree)
-        (subst (λ ensured. kind_in unit.args unit.result ensured clause.tree ≡ Some kinds.Int) (no_ensures clause.kind requires) number);
+        (subst (λ ensured. kind_in unit.args unit.result ensured clause.tree ≡ Some kinds.Int)
+        (no_ensures clause.kind requires) number);
     ints = ints;
   };
   tested = refl;
@@ -291,7 +323,8 @@ is_test unit clause requires number ints = record {
 all_tests : (unit : MethodUnit) (clauses : List Clause) → AllByRecursion (IsNumberClause unit.args unit.result) clauses
     → AllByRecursion HasInts clauses → AllByRecursion (IsTestOf unit) (clauses_of clause_kinds.Requires clauses)
 all_tests unit [] numbers ints = tt
-all_tests unit (clause ∷ clauses) numbers ints = cond_both (is_kind clause_kinds.Requires clause.kind) _ _ (AllByRecursion (IsTestOf unit))
+all_tests unit (clause ∷ clauses) numbers ints =
+    cond_both (is_kind clause_kinds.Requires clause.kind) _ _ (AllByRecursion (IsTestOf unit))
     (λ requires. (is_test unit clause requires numbers.0 ints.0, all_tests unit clauses numbers.1 ints.1))
     (λ other. all_tests unit clauses numbers.1 ints.1)
 
@@ -306,7 +339,8 @@ none_assumed env holds (terms.Bin operators.Ceq a (terms.Const n)) =
     cond_both (int_eq n (pos 0)) _ _ (λ (o : State). o ≡ None) (λ zero. none_assumed env (not holds) a) (λ other. refl)
 none_assumed env holds _ = refl
 
-assumed_kinds : (unit : MethodUnit) (t : Term) (state : State) → IsTest unit.args unit.result t → AreKinds (entry_kinds unit) state
+assumed_kinds : (unit : MethodUnit) (t : Term) (state : State) → IsTest unit.args unit.result t
+    → AreKinds (entry_kinds unit) state
     → AreKinds (entry_kinds unit) (assumed at_entry true t state)
 assumed_kinds unit t None test are = subst (AreKinds (entry_kinds unit)) (sym (none_assumed at_entry true t)) tt
 assumed_kinds unit t (Some known) test has =
@@ -317,7 +351,8 @@ required_kinds : (unit : MethodUnit) (clauses : List Clause) (state : State) →
     → AreKinds (entry_kinds unit) state → AreKinds (entry_kinds unit) (required clauses state)
 required_kinds unit [] state tests are = are
 required_kinds unit (clause ∷ clauses) state tests are =
-    required_kinds unit clauses (assumed at_entry true clause.tree state) tests.1 (assumed_kinds unit clause.tree state tests.0 are)
+    required_kinds unit clauses (assumed at_entry true clause.tree state) tests.1
+    (assumed_kinds unit clause.tree state tests.0 are)
 
 all_readable : (unit : MethodUnit) (state : State) → AreKinds (entry_kinds unit) state
     → ForSome state (IsReadable at_entry unit.args unit.result)
@@ -333,16 +368,22 @@ all_true : (n : ℕ) (r : Reading) (clauses : List Clause) → first_false n r c
     → AllByRecursion (λ clause. clause_holds r clause ≡ true) clauses
 all_true n r [] none = tt
 all_true n r (clause ∷ clauses) none = cond_both (clause_holds r clause) _ _
-    (λ (o : Option ℕ). o ≡ None → (clause_holds r clause ≡ true) × AllByRecursion (λ c. clause_holds r c ≡ true) clauses)
+    (λ (o : Option ℕ). o ≡ None
+    → (clause_holds r clause ≡ true) × AllByRecursion (λ c. clause_holds r c ≡ true) clauses)
     (λ so rest. (so, all_true (n + 1) r clauses rest)) (λ not is. absurd (none-some n (sym is))) none
 
-required_over : (unit : MethodUnit) (clauses : List Clause) (state : State) (vs : List Value) (heap : Heap) (r : Reading)
-    → AllByRecursion (IsTestOf unit) clauses → AreKinds (entry_kinds unit) state → Reads at_entry unit.args unit.result vs heap r
-    → AllByRecursion (λ clause. clause_holds r clause ≡ true) clauses → HoldsOver state vs heap → HoldsOver (required clauses state) vs heap
+required_over : (unit : MethodUnit) (clauses : List Clause) (state : State) (vs : List Value) (heap : Heap)
+    (r : Reading)
+    → AllByRecursion (IsTestOf unit) clauses → AreKinds (entry_kinds unit) state
+    → Reads at_entry unit.args unit.result vs heap r
+    → AllByRecursion (λ clause. clause_holds r clause ≡ true) clauses → HoldsOver state vs heap
+    → HoldsOver (required clauses state) vs heap
 required_over unit [] state vs heap r tests are reads so over = over
 required_over unit (clause ∷ clauses) state vs heap r tests are reads so over =
-    required_over unit clauses (assumed at_entry true clause.tree state) vs heap r tests.1 (assumed_kinds unit clause.tree state tests.0 are) reads so.1
-    (assumed_is_kept at_entry true clause.tree state unit.args unit.result vs heap r (all_readable unit state are) tests.0 reads over
+    required_over unit clauses (assumed at_entry true clause.tree state) vs heap r tests.1
+    (assumed_kinds unit clause.tree state tests.0 are) reads so.1
+    (assumed_is_kept at_entry true clause.tree state unit.args unit.result vs heap r
+    (all_readable unit state are) tests.0 reads over
     (true_value (value_of clause.tree r) so.0))
 
 -- ---- the whole
@@ -353,8 +394,10 @@ requires unit = clauses_of clause_kinds.Requires (clauses_in_force unit)
 unit_tests : (unit : MethodUnit) → IsWellFormed unit → AllByRecursion (IsTestOf unit) (requires unit)
 unit_tests unit formed = all_tests unit unit.clauses formed.numbers (own_ints unit formed)
 
-kinds_required : (unit : MethodUnit) → IsWellFormed unit → AreKinds (entry_kinds unit) (required (requires unit) (begun unit))
-kinds_required unit formed = required_kinds unit (requires unit) (begun unit) (unit_tests unit formed) (begun_kinds unit formed)
+kinds_required : (unit : MethodUnit) → IsWellFormed unit
+    → AreKinds (entry_kinds unit) (required (requires unit) (begun unit))
+kinds_required unit formed =
+    required_kinds unit (requires unit) (begun unit) (unit_tests unit formed) (begun_kinds unit formed)
 
 pub entry_fits : (unit : MethodUnit) → IsWellFormed unit → FitsStack unit (Some []) (entry unit)
 unfolding entry
@@ -362,7 +405,8 @@ entry_fits unit formed =
     normal_fits unit (Some []) (required (requires unit) (begun unit))
     (on_no_stack unit (required (requires unit) (begun unit)) (kinds_required unit formed))
 
-entry_reads : (unit : MethodUnit) (index : ℕ) (args : List Value) (heap : Heap) → IsWellFormed unit → MayBegin unit args heap
+entry_reads : (unit : MethodUnit) (index : ℕ) (args : List Value) (heap : Heap) → IsWellFormed unit
+    → MayBegin unit args heap
     → Reads at_entry unit.args unit.result (args ++ args ++ map zero_of unit.locals) heap
     (record { args = args; entry_heap = heap; heap = heap; result = None })
 entry_reads unit index args heap formed begins =
@@ -378,15 +422,21 @@ entry_reads unit index args heap formed begins =
       is_heap = begins.heap_is;
       is_entry = begins.heap_is;
       kept = keeps_itself heap;
-      are_values = both_all (IsValue heap) (args ++ args) zeros (both_all (IsValue heap) args args machine.args machine.args) machine.locals;
+      are_values =
+          both_all (IsValue heap) (args ++ args) zeros
+          (both_all (IsValue heap) args args machine.args machine.args) machine.locals;
     }
   where
     from_first : (n : ℕ) (v : Value) → slice_get (args ++ args ++ map zero_of unit.locals) n ≡ Some v
         → slice_get (args ++ args ++ map zero_of unit.locals) (0 + n) ≡ Some v
-    from_first n v is = let plain : n ≡ 0 + n = omega arith in subst (λ m. slice_get (args ++ args ++ map zero_of unit.locals) m ≡ Some v) plain is
+    from_first n v is =
+        let plain : n ≡ 0 + n =
+        omega arith in subst (λ m. slice_get (args ++ args ++ map zero_of unit.locals) m ≡ Some v) plain is
 
-at_begin : (unit : MethodUnit) (state : State) (index : ℕ) (args : List Value) (heap : Heap) → IsWellFormed unit → MayBegin unit args heap
-    → HoldsOver state (args ++ args ++ map zero_of unit.locals) heap → HoldsAt state (point (entry_frame unit index args heap) heap)
+at_begin : (unit : MethodUnit) (state : State) (index : ℕ) (args : List Value) (heap : Heap) → IsWellFormed unit
+    → MayBegin unit args heap
+    → HoldsOver state (args ++ args ++ map zero_of unit.locals) heap
+    → HoldsAt state (point (entry_frame unit index args heap) heap)
 at_begin unit state index args heap formed begins over =
     let p = point (entry_frame unit index args heap) heap in
     record {
@@ -394,13 +444,16 @@ at_begin unit state index args heap formed begins over =
       frame = record {
         number = over.number;
         array = over.array;
-        holds = subst (λ vs. HoldsIn state vs heap over.number over.array) (sym (append-nil (args ++ args ++ map zero_of unit.locals))) over.holds;
+        holds =
+            subst (λ vs. HoldsIn state vs heap over.number over.array)
+            (sym (append-nil (args ++ args ++ map zero_of unit.locals))) over.holds;
       };
     }
 
 pub begun_holds : (unit : MethodUnit) → IsWellFormed unit → HoldsAtEntry unit (begun unit)
 begun_holds unit formed = λ index args heap begins.
-    at_begin unit (begun unit) index args heap formed begins (begun_over unit args heap formed begins.heap_is begins.fit)
+    at_begin unit (begun unit) index args heap formed begins
+    (begun_over unit args heap formed begins.heap_is begins.fit)
 
 pub entry_holds : (unit : MethodUnit) → IsWellFormed unit → HoldsAtEntry unit (entry unit)
 unfolding entry
@@ -408,7 +461,8 @@ entry_holds unit formed = λ index args heap begins.
     let state = required (requires unit) (begun unit) in
     let vs = args ++ args ++ map zero_of unit.locals in
     let r : Reading = record { args = args; entry_heap = heap; heap = heap; result = None } in
-    normal_at state (point (entry_frame unit index args heap) heap) (forms_of (entry_kinds unit) state (kinds_required unit formed))
+    normal_at state (point (entry_frame unit index args heap) heap)
+    (forms_of (entry_kinds unit) state (kinds_required unit formed))
     (at_begin unit state index args heap formed begins
     (required_over unit (requires unit) (begun unit) vs heap r (unit_tests unit formed) (begun_kinds unit formed)
     (entry_reads unit index args heap formed begins) (all_true 1 r (requires unit) begins.required)

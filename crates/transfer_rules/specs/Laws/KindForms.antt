@@ -25,7 +25,8 @@ when_same true xs ys is = (refl, same_Some xs ys is)
 when_same false xs ys is = absurd (none-some ys is)
 
 -- Where both kinds are told of, what fits the one fits the other.
-pub number_fits : (known : StateFacts) (k : Kind) (v : Var) → is_number k ≡ true → FitsKind known k v → FitsKind known Int v
+pub number_fits : (known : StateFacts) (k : Kind) (v : Var) → is_number k ≡ true → FitsKind known k v
+    → FitsKind known Int v
 number_fits known Int v is fits = fits
 number_fits known Native (vars.Number e) is fits = tt
 number_fits known Native (vars.Reference r) is fits = elim fits [ ]
@@ -36,7 +37,8 @@ abbrev pub IsReferenceVar : Var → Type 0
 IsReferenceVar (vars.Reference r) = Unit {0}
 IsReferenceVar _ = ⊥
 
-pub reference_fits : (known : StateFacts) (k : Kind) (v : Var) → is_reference k ≡ true → FitsKind known k v → IsReferenceVar v
+pub reference_fits : (known : StateFacts) (k : Kind) (v : Var) → is_reference k ≡ true → FitsKind known k v
+    → IsReferenceVar v
 reference_fits known Ints (vars.Reference r) is fits = tt
 reference_fits known Bools (vars.Reference r) is fits = tt
 reference_fits known NullRef (vars.Reference r) is fits = tt
@@ -50,7 +52,8 @@ unfolding reference_at
 zero_of_place known place zero is = refl
 zero_of_place known place (suc r) is = absurd (omega (arith, is))
 
-pub taken_fits : (known : StateFacts) (place : Place) (k : Kind) (v : Var) → takes place k ≡ true → FitsKind known k v → FitsKind known (kind_in place) v
+pub taken_fits : (known : StateFacts) (place : Place) (k : Kind) (v : Var) → takes place k ≡ true → FitsKind known k v
+    → FitsKind known (kind_in place) v
 taken_fits known places.Bool Int v is fits = fits
 taken_fits known places.Int Int v is fits = fits
 taken_fits known places.Bools Bools v is fits = fits
@@ -63,7 +66,8 @@ taken_fits known places.Bools NullRef vars.Text is fits = elim fits [ ]
 taken_fits known places.Ints NullRef vars.Text is fits = elim fits [ ]
 taken_fits known _ _ v is fits = absurd (false≢true is)
 
-pub merged_fits : (known : StateFacts) (to k : Kind) (v : Var) → merged_kind to k ≡ Some to → FitsKind known k v → FitsKind known to v
+pub merged_fits : (known : StateFacts) (to k : Kind) (v : Var) → merged_kind to k ≡ Some to → FitsKind known k v
+    → FitsKind known to v
 merged_fits known Int Int v is fits = fits
 merged_fits known Native Native v is fits = fits
 merged_fits known Ints Ints v is fits = fits
@@ -105,7 +109,8 @@ comparable_form _ _ is = absurd (false≢true is)
 compared_form : (op : CmpOp) (a b : Kind) → kinds.compares_kinds op a b ≡ true → AreOneForm a b
 compared_form op a b is = by (is_number a && is_number b) refl is
   where
-    by : (numbers : Bool) → (is_number a && is_number b) ≡ numbers → (numbers || (kinds.is_equality op && kinds.are_comparable a b)) ≡ true → AreOneForm a b
+    by : (numbers : Bool) → (is_number a && is_number b) ≡ numbers
+        → (numbers || (kinds.is_equality op && kinds.are_comparable a b)) ≡ true → AreOneForm a b
     by true both is = inl (and_parts (is_number a) (is_number b) both)
     by false both is = comparable_form a b (and_parts (kinds.is_equality op) (kinds.are_comparable a b) is).1
 
@@ -127,9 +132,12 @@ both_references (vars.Reference r) vars.Text first second = elim second [ ]
 both_references (vars.Number a) w first second = elim first [ ]
 both_references vars.Text w first second = elim first [ ]
 
-pub alike_of : (known : StateFacts) (a b : Kind) (v w : Var) → AreOneForm a b → FitsKind known a v → FitsKind known b w → AreAlike v w
-alike_of known a b v w (inl (one, other)) first second = both_numbers known v w (number_fits known a v one first) (number_fits known b w other second)
-alike_of known a b v w (inr (one, other)) first second = both_references v w (reference_fits known a v one first) (reference_fits known b w other second)
+pub alike_of : (known : StateFacts) (a b : Kind) (v w : Var) → AreOneForm a b → FitsKind known a v → FitsKind known b w
+    → AreAlike v w
+alike_of known a b v w (inl (one, other)) first second =
+    both_numbers known v w (number_fits known a v one first) (number_fits known b w other second)
+alike_of known a b v w (inr (one, other)) first second =
+    both_references v w (reference_fits known a v one first) (reference_fits known b w other second)
 
 pub array_kind : (place : Place) → IsArrayPlace place → kind_of place ≡ Some (kind_in place)
 array_kind places.Bools is = refl
@@ -138,7 +146,8 @@ array_kind places.Void is = elim is [ ]
 array_kind places.Bool is = elim is [ ]
 array_kind places.Int is = elim is [ ]
 
-pub array_reference : (known : StateFacts) (place : Place) (r : ℕ) → IsArrayPlace place → is_of_place known place r ≡ true
+pub array_reference : (known : StateFacts) (place : Place) (r : ℕ) → IsArrayPlace place
+    → is_of_place known place r ≡ true
     → FitsKind known (kind_in place) (vars.Reference r)
 array_reference known places.Bools r is of = of
 array_reference known places.Ints r is of = of

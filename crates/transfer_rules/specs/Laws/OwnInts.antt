@@ -44,7 +44,8 @@ abbrev HasIntItems : Option (List Item) → Type 0
 HasIntItems None = Unit {0}
 HasIntItems (Some items) = AreIntItems items
 
-both : (xs ys : List Root) → AllByRecursion IsIntRoot xs → AllByRecursion IsIntRoot ys → AllByRecursion IsIntRoot (xs ++ ys)
+both : (xs ys : List Root) → AllByRecursion IsIntRoot xs → AllByRecursion IsIntRoot ys
+    → AllByRecursion IsIntRoot (xs ++ ys)
 both [] ys first second = second
 both (x ∷ xs) ys first second = (first.0, both xs ys first.1 second)
 
@@ -56,7 +57,8 @@ length_ints (Tree a ∷ rest) all = ((tt, all.0), all.1)
 length_ints (Message ∷ rest) all = tt
 
 element_ints : (op : Op) (items : List Item) → AreIntItems items → HasIntItems (with_element op items)
-element_ints (ops.LoadElem place) (Tree index ∷ Tree array ∷ rest) all = ((tt, both (preorder array) (preorder index) all.1.0 all.0), all.1.1)
+element_ints (ops.LoadElem place) (Tree index ∷ Tree array ∷ rest) all =
+    ((tt, both (preorder array) (preorder index) all.1.0 all.0), all.1.1)
 element_ints _ _ all = tt
 
 operator_ints : (op : BinOp) (items : List Item) → AreIntItems items → HasIntItems (with_operator op items)
@@ -91,7 +93,8 @@ behind_ints _ items fits all = tt
 
 -- ---- branches and whole clauses
 
-condition_ints : (turned : Bool) (test : Term) (a b : Option Term) → AreInts test → IsIntTree a → IsIntTree b → IsIntTree (condition turned test a b)
+condition_ints : (turned : Bool) (test : Term) (a b : Option Term) → AreInts test → IsIntTree a → IsIntTree b
+    → IsIntTree (condition turned test a b)
 condition_ints false test (Some a) (Some b) own first second =
     (tt, both (preorder test) (preorder a ++ preorder b) own (both (preorder a) (preorder b) first second))
 condition_ints true test (Some a) (Some b) own first second =
@@ -105,7 +108,8 @@ condition_ints false test (Some a) None own first second = tt
 abbrev GivesInts : (ℕ → List Item → Option Term) → Type 0
 GivesInts from = (at : ℕ) (items : List Item) → AreIntItems items → IsIntTree (from at items)
 
-branch_ints : (from : ℕ → List Item → Option Term) (test : Test) (target next : ℕ) (items : List Item) → GivesInts from → AreIntItems items
+branch_ints : (from : ℕ → List Item → Option Term) (test : Test) (target next : ℕ) (items : List Item) → GivesInts from
+    → AreIntItems items
     → IsIntTree (branch_tree from test target next items)
 branch_ints from tests.Always target next items gives all = gives target items all
 branch_ints from tests.True target next (Tree a ∷ rest) gives all =
@@ -128,21 +132,27 @@ then_ints : (from : ℕ → List Item → Option Term) (at : ℕ) (o : Option (L
 then_ints from at None gives has = tt
 then_ints from at (Some items) gives has = gives at items has
 
-at_ints : (from : ℕ → List Item → Option Term) (closed : Option (ClauseKind × Bool)) (i : Instr) (op : Op) (items : List Item) → OperandFits op
+at_ints : (from : ℕ → List Item → Option Term) (closed : Option (ClauseKind × Bool)) (i : Instr) (op : Op)
+    (items : List Item) → OperandFits op
     → GivesInts from → AreIntItems items → IsIntTree (tree_at from closed i op items)
 at_ints from (Some (kind, message)) i op items fits gives all = closed_ints message items all
-at_ints from None i (ops.Branch test target) items fits gives all = branch_ints from test target (i.at + i.size) items gives all
-at_ints from None i op items fits gives all = then_ints from (i.at + i.size) (items_behind op items) gives (behind_ints op items fits all)
+at_ints from None i (ops.Branch test target) items fits gives all =
+    branch_ints from test target (i.at + i.size) items gives all
+at_ints from None i op items fits gives all =
+    then_ints from (i.at + i.size) (items_behind op items) gives (behind_ints op items fits all)
 
 from_ints : (most : ℕ) (is : List Instr) → AllByRecursion (λ i. OperandFits i.op) is → GivesInts (tree_from most is)
 from_ints zero is fits at items all = tt
 from_ints (suc most) is fits at items all = by (instr_at is at) refl (from_ints most is fits)
   where
     by : (o : Option Instr) → instr_at is at ≡ o → GivesInts (tree_from most is)
-        → IsIntTree (option_and_then (λ i. tree_at (λ later rest. if nat_lt at later then tree_from most is later rest else None) (closing i.op) i i.op items) o)
+        → IsIntTree (option_and_then
+        (λ i. tree_at (λ later rest. if nat_lt at later then tree_from most is later rest else None)
+        (closing i.op) i i.op items) o)
     by None found gives = tt
     by (Some i) found gives =
-        at_ints (λ later rest. if nat_lt at later then tree_from most is later rest else None) (closing i.op) i i.op items
+        at_ints (λ later rest. if nat_lt at later then tree_from most is later rest else None)
+        (closing i.op) i i.op items
         (of_found (λ j. OperandFits j.op) is at i fits found)
         (λ later rest own. cond_both (nat_lt at later) _ _ IsIntTree (λ e. gives later rest own) (λ e. tt)) all
 
@@ -151,11 +161,13 @@ from_ints (suc most) is fits at items all = by (instr_at is at) refl (from_ints 
 abbrev IsIntClause : ClauseKind × Option Term → Type 0
 IsIntClause told = IsIntTree told.1
 
-both_told : (xs ys : List (ClauseKind × Option Term)) → AllByRecursion IsIntClause xs → AllByRecursion IsIntClause ys → AllByRecursion IsIntClause (xs ++ ys)
+both_told : (xs ys : List (ClauseKind × Option Term)) → AllByRecursion IsIntClause xs → AllByRecursion IsIntClause ys
+    → AllByRecursion IsIntClause (xs ++ ys)
 both_told [] ys first second = second
 both_told (x ∷ xs) ys first second = (first.0, both_told xs ys first.1 second)
 
-before_ints : (is : List Instr) (start : ℕ) (closed : Option (ClauseKind × Bool)) → AllByRecursion (λ i. OperandFits i.op) is
+before_ints : (is : List Instr) (start : ℕ) (closed : Option (ClauseKind × Bool))
+    → AllByRecursion (λ i. OperandFits i.op) is
     → AllByRecursion IsIntClause (clause_before is start closed)
 before_ints is start None fits = tt
 before_ints is start (Some (kind, message)) fits = (from_ints (length is) is fits start [] tt, tt)
@@ -164,11 +176,13 @@ all_ints : (is : List Instr) (start : ℕ) (rest : List Instr) → AllByRecursio
     → AllByRecursion IsIntClause (clauses_from is start rest)
 all_ints is start [] fits = tt
 all_ints is start (i ∷ rest) fits = cond_both (closes i.op) _ _ (AllByRecursion IsIntClause)
-    (λ e. both_told (clause_before is start (closing i.op)) (clauses_from is (i.at + i.size) rest) (before_ints is start (closing i.op) fits)
+    (λ e. both_told (clause_before is start (closing i.op)) (clauses_from is (i.at + i.size) rest)
+    (before_ints is start (closing i.op) fits)
     (all_ints is (i.at + i.size) rest fits))
     (λ e. all_ints is start rest fits)
 
-of_told : (clauses : List Clause) → AllByRecursion IsIntClause (map told_by_code clauses) → AllByRecursion HasInts clauses
+of_told : (clauses : List Clause) → AllByRecursion IsIntClause (map told_by_code clauses)
+    → AllByRecursion HasInts clauses
 of_told [] all = tt
 of_told (clause ∷ clauses) all = (all.0, of_told clauses all.1)
 

@@ -29,19 +29,24 @@ use Rattle.unit_flow.specs.declared.unit_flow.UnitFlow.{UnitFlow}
 
 -- ---- one value
 
-each_array : (ks : List Kind) (apart : List Pair) (place : Place) (known : StateFacts) (o : Option Made) → HasKinds ks known → IsArrayPlace place
-    → Formed (option_map (returned apart place known) o) → AreKinds (ks ++ kind_in place ∷ []) (option_map (returned apart place known) o)
+each_array : (ks : List Kind) (apart : List Pair) (place : Place) (known : StateFacts) (o : Option Made)
+    → HasKinds ks known → IsArrayPlace place
+    → Formed (option_map (returned apart place known) o)
+    → AreKinds (ks ++ kind_in place ∷ []) (option_map (returned apart place known) o)
 each_array ks apart place known None has array form = tt
 each_array ks apart place known (Some made) has array form =
     array_more ks place known (returned apart place known made) has form array
     (record { reference = _; variables = refl; references = refl; place_is = refl })
 
 array_unknown : (ks : List Kind) (place : Place) (known : StateFacts) → HasKinds ks known → IsArrayPlace place
-    → Formed (with_returned known.apart place known) → AreKinds (ks ++ kind_in place ∷ []) (with_returned known.apart place known)
+    → Formed (with_returned known.apart place known)
+    → AreKinds (ks ++ kind_in place ∷ []) (with_returned known.apart place known)
 unfolding with_returned
-array_unknown ks place known has array form = each_array ks known.apart place known (fresh known.facts (pos 0) (pos 2147483647) None []) has array form
+array_unknown ks place known has array form =
+    each_array ks known.apart place known (fresh known.facts (pos 0) (pos 2147483647) None []) has array form
 
-one_unknown : (ks : List Kind) (place : Place) (known : StateFacts) → place ≢ places.Void → HasKinds ks known → Formed (rule.with_unknown place known)
+one_unknown : (ks : List Kind) (place : Place) (known : StateFacts) → place ≢ places.Void → HasKinds ks known
+    → Formed (rule.with_unknown place known)
     → AreKinds (ks ++ kind_in place ∷ []) (rule.with_unknown place known)
 unfolding rule.with_unknown
 one_unknown ks places.Void known is has form = absurd (is refl)
@@ -59,10 +64,12 @@ within_number : (known : StateFacts) → GivesNumber known (with_within lengths 
 unfolding with_within
 within_number known = made_number known _
 
-within_kept : (ks : List Kind) (state : State) → AreKinds ks state → AreKinds (ks ++ kinds.Native ∷ []) (push_within lengths state)
+within_kept : (ks : List Kind) (state : State) → AreKinds ks state
+    → AreKinds (ks ++ kinds.Native ∷ []) (push_within lengths state)
 within_kept ks None are = tt
 within_kept ks (Some known) has =
-    number_more ks kinds.Native known (with_within lengths known) refl has (within_form lengths known has.form) (within_number known)
+    number_more ks kinds.Native known (with_within lengths known) refl has (within_form lengths known has.form)
+    (within_number known)
 
 -- ---- values of types, and a stack
 
@@ -70,20 +77,25 @@ pub types_kept : (types : List Place) (ks : List Kind) (state : State) → HoldV
     → AreKinds (ks ++ map kind_in types) (with_unknown types state)
 types_kept [] ks state hold are = subst (λ l. AreKinds l state) (sym (append-nil ks)) are
 types_kept (place ∷ types) ks state hold are =
-    subst (λ l. AreKinds l (with_unknown types (push_unknown place state))) (append_assoc ks (kind_in place ∷ []) (map kind_in types))
-    (types_kept types (ks ++ kind_in place ∷ []) (push_unknown place state) hold.1 (unknown_kept ks place state hold.0 are))
+    subst (λ l. AreKinds l (with_unknown types (push_unknown place state)))
+    (append_assoc ks (kind_in place ∷ []) (map kind_in types))
+    (types_kept types (ks ++ kind_in place ∷ []) (push_unknown place state) hold.1
+    (unknown_kept ks place state hold.0 are))
 
-kind_kept : (kind : Kind) (ks : List Kind) (state : State) → AreKinds ks state → AreKinds (ks ++ kind ∷ []) (push_of_kind kind state)
+kind_kept : (kind : Kind) (ks : List Kind) (state : State) → AreKinds ks state
+    → AreKinds (ks ++ kind ∷ []) (push_of_kind kind state)
 kind_kept kinds.Int ks state are = unknown_kept ks places.Int state (λ is. cc) are
 kind_kept kinds.Native ks state are = within_kept ks state are
 kind_kept kinds.Ints ks state are = unknown_kept ks places.Ints state (λ is. cc) are
 kind_kept kinds.Bools ks state are = unknown_kept ks places.Bools state (λ is. cc) are
 kind_kept kinds.NullRef ks None are = tt
-kind_kept kinds.NullRef ks (Some known) has = has_pushed ks kinds.NullRef (vars.Reference 0) known has (omega arith) refl
+kind_kept kinds.NullRef ks (Some known) has =
+    has_pushed ks kinds.NullRef (vars.Reference 0) known has (omega arith) refl
 kind_kept kinds.Text ks None are = tt
 kind_kept kinds.Text ks (Some known) has = has_pushed ks kinds.Text vars.Text known has tt tt
 
-stack_kept : (stack : List Kind) (ks : List Kind) (state : State) → AreKinds ks state → AreKinds (ks ++ stack) (with_stack stack state)
+stack_kept : (stack : List Kind) (ks : List Kind) (state : State) → AreKinds ks state
+    → AreKinds (ks ++ stack) (with_stack stack state)
 stack_kept [] ks state are = subst (λ l. AreKinds l state) (sym (append-nil ks)) are
 stack_kept (kind ∷ stack) ks state are =
     subst (λ l. AreKinds l (with_stack stack (push_of_kind kind state))) (append_assoc ks (kind ∷ []) stack)
@@ -111,7 +123,9 @@ unknown_over_fits unit None args locals = tt
 unknown_over_fits unit (Some stack) args locals =
     let first = types_kept unit.args [] (Some no_variables) args no_kinds in
     let second = types_kept unit.args (map kind_in unit.args) (with_unknown unit.args (Some no_variables)) args first in
-    let third = types_kept unit.locals (map kind_in unit.args ++ map kind_in unit.args) (with_unknown unit.args (with_unknown unit.args (Some no_variables)))
+    let third =
+    types_kept unit.locals (map kind_in unit.args ++ map kind_in unit.args)
+    (with_unknown unit.args (with_unknown unit.args (Some no_variables)))
     locals second in
     over_stack unit stack (unknown_over unit (Some stack))
     (stack_kept (reverse stack) (map kind_in unit.args ++ map kind_in unit.args ++ map kind_in unit.locals)
@@ -119,4 +133,5 @@ unknown_over_fits unit (Some stack) args locals =
 
 pub unknown_fits : (code : UnitFlow) (block : ℕ) → IsToldOf code → Fits code block (unknown code block)
 unfolding unknown
-unknown_fits code block told = unknown_over_fits code.unit (kinds_at code block) told.lawful.formed.args told.lawful.formed.locals
+unknown_fits code block told =
+    unknown_over_fits code.unit (kinds_at code block) told.lawful.formed.args told.lawful.formed.locals
