@@ -1,12 +1,13 @@
 //! The conditions of operations in a state.
 
-ghost use Rattle.std.specs.Prelude.{◌≡◌, IfOk, OnOk};
+ghost use Rattle.std.specs.Prelude.{◌≡◌, ◌&&◌, true, IfOk, OnOk};
 ghost use Rattle.std.specs.Option.{ForSome};
 ghost use Rattle.state_facts.specs.Forms.{HasForm};
 ghost use Rattle.state_obligations.specs.Assumed as rule;
 ghost use Rattle.state_obligations.specs.Conditions.{AreThere, IsThere, conditions_of, operator_conditions};
 ghost use Rattle.state_obligations.specs.Entailed.{is_entailed};
 ghost use Rattle.state_obligations.specs.Judged.{judged};
+ghost use Rattle.state_obligations.specs.Meaning.{AssumesIt, AssumesThem, EntailsIt, EntailsThem};
 
 use crate::state::AbsState;
 use cil_model::BinOp;
@@ -14,10 +15,21 @@ use domain_api::{Expr, NoMemory};
 use state_obligations::{Condition, Operation, assume, entails};
 
 impl AbsState {
-    /// Returns whether a condition of operands is entailed. Where nothing is reached, each is.
+    /// Returns whether a condition of operands is entailed: then it is met wherever the state holds. Where nothing is
+    /// reached, each is.
     pub fn entails(&self, condition: Condition) -> bool
         requires there { ForSome self.now (λ known. IsThere known condition) }
-        ensures { result ≡ is_entailed condition self.now }
+        ensures value { result ≡ is_entailed condition self.now }
+        ensures sound { result ≡ true → EntailsIt condition self.now }
+    {
+        self.is_entailed(condition)
+    }
+
+    /// The same, by its rule.
+    fn is_entailed(&self, condition: Condition) -> bool
+        requires there { ForSome self.now (λ known. IsThere known condition) }
+        ensures value { result ≡ is_entailed condition self.now }
+        ensures form { ForSome self.now HasForm }
     {
         match &self.known {
             None => true,
@@ -33,6 +45,15 @@ impl AbsState {
     pub fn assume_met(&mut self, condition: Condition) -> Result<(), NoMemory>
         requires there { ForSome self.old (λ known. IsThere known condition) }
         ensures ok { OnOk result (self.new ≡ rule.assume condition self.old) }
+        ensures keeps { OnOk result (AssumesIt condition self.old self.new) }
+    {
+        self.assume_condition(condition)
+    }
+
+    /// The same, by its rule.
+    fn assume_condition(&mut self, condition: Condition) -> Result<(), NoMemory>
+        requires there { ForSome self.old (λ known. IsThere known condition) }
+        ensures ok { OnOk result (self.new ≡ rule.assume condition self.old) }
         ensures form { ForSome self.old HasForm }
     {
         let Some(known) = &mut self.known else {
@@ -44,7 +65,20 @@ impl AbsState {
         Ok(())
     }
 
-    /// Returns whether each condition is entailed in the state that assumes those before it. The state then assumes all.
+    /// Returns whether all was entailed and a condition is too. The state then assumes it.
+    fn judge_next(&mut self, all: bool, condition: Condition) -> Result<bool, NoMemory>
+        requires there { ForSome self.old (λ known. IsThere known condition) }
+        ensures value { IfOk result (λ now. now ≡ (all && is_entailed condition self.old)) }
+        ensures state { OnOk result (self.new ≡ rule.assume condition self.old) }
+        ensures form { ForSome self.old HasForm }
+    {
+        let entailed = self.is_entailed(condition);
+        self.assume_condition(condition)?;
+        Ok(all && entailed)
+    }
+
+    /// Returns whether each condition is entailed in the state that assumes those before it. The state then assumes
+    /// all.
     fn judge_each(&mut self, conditions: &[Condition]) -> Result<bool, NoMemory>
         requires there { ForSome self.old (λ known. AreThere known conditions.now) }
         ensures value { IfOk result (λ all. all ≡ (judged conditions.now self.old).entailed) }
@@ -52,8 +86,7 @@ impl AbsState {
     {
         let mut all = true;
         for condition in conditions {
-            all = all && self.entails(*condition);
-            self.assume_met(*condition)?;
+            all = self.judge_next(all, *condition)?;
         }
         Ok(all)
     }
@@ -78,15 +111,8 @@ impl AbsState {
         }
     }
 
-    /// Returns whether each condition of an operation is entailed in the state that assumes those before it, in the
-    /// order in which the machine tests them. The state then assumes all.
-    ///
-    /// Cost: that of each condition.
-    ///
-    /// # Errors
-    ///
-    /// Want of memory. What is assumed then is left open.
-    pub fn judge(&mut self, operation: Operation) -> Result<bool, NoMemory>
+    /// The same of the conditions of an operation.
+    fn judge_operation(&mut self, operation: Operation) -> Result<bool, NoMemory>
         requires there { ForSome self.old (λ known. AreThere known (conditions_of operation)) }
         ensures value { IfOk result (λ all. all ≡ (judged (conditions_of operation) self.old).entailed) }
         ensures state { OnOk result (self.new ≡ (judged (conditions_of operation) self.old).state) }
@@ -102,5 +128,27 @@ impl AbsState {
             Operation::Binary(op, a, b) => self.judge_operator(op, a, b),
             Operation::Assert(e) => self.judge_each(&[Condition::Assert(e)]),
         }
+    }
+
+    /// Returns whether each condition of an operation is entailed in the state that assumes those before it, in the
+    /// order in which the machine tests them: then it does not fault wherever the state held. The state then assumes
+    /// all.
+    ///
+    /// Cost: that of each condition.
+    ///
+    /// # Errors
+    ///
+    /// Want of memory. What is assumed then is left open.
+    pub fn judge(&mut self, operation: Operation) -> Result<bool, NoMemory>
+        requires there { ForSome self.old (λ known. AreThere known (conditions_of operation)) }
+        ensures value { IfOk result (λ all. all ≡ (judged (conditions_of operation) self.old).entailed) }
+        ensures state { OnOk result (self.new ≡ (judged (conditions_of operation) self.old).state) }
+        ensures sound { IfOk result (λ all. all ≡ true → EntailsThem (conditions_of operation) self.old) }
+        ensures keeps { OnOk result (AssumesThem (conditions_of operation) self.old self.new) }
+    {
+        if !self.reached() {
+            return Ok(true);
+        }
+        self.judge_operation(operation)
     }
 }

@@ -3,4 +3,5 @@ pub mod Following
 pub mod ConditionLaws
 pub mod AssumptionLaws
 pub mod JudgedLaws
+pub mod StateLaws
 pub mod FaultLaws

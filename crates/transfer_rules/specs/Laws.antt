@@ -1,9 +1,14 @@
+pub mod Tops
+pub mod Moves
+pub mod Acting
+pub mod Choosing
+pub mod PostLaws
+pub mod StepsHold
 pub mod Fitting
 pub mod KindForms
 pub mod FittingResults
-pub mod Acting
-pub mod Choosing
 pub mod FormsBehind
+pub mod FlowSteps
 pub mod FormsMerged
 pub mod UnknownLaws
 pub mod BegunLaws
