@@ -1,4 +1,5 @@
 pub mod Rising
 pub mod PartForms
 pub mod KeptWhereOk
+pub mod Judging
 pub mod AlikeVariables

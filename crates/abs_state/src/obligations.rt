@@ -77,7 +77,8 @@ impl AbsState {
         Ok(all && entailed)
     }
 
-    /// Returns whether each condition is entailed in the state that assumes those before it. The state then assumes all.
+    /// Returns whether each condition is entailed in the state that assumes those before it. The state then assumes
+    /// all.
     fn judge_each(&mut self, conditions: &[Condition]) -> Result<bool, NoMemory>
         requires there { ForSome self.old (λ known. AreThere known conditions.now) }
         ensures value { IfOk result (λ all. all ≡ (judged conditions.now self.old).entailed) }
@@ -115,7 +116,6 @@ impl AbsState {
         requires there { ForSome self.old (λ known. AreThere known (conditions_of operation)) }
         ensures value { IfOk result (λ all. all ≡ (judged (conditions_of operation) self.old).entailed) }
         ensures state { OnOk result (self.new ≡ (judged (conditions_of operation) self.old).state) }
-        ensures form { ForSome self.old HasForm }
     {
         match operation {
             Operation::Length(r) => self.judge_each(&[Condition::NullUse(r)]),
@@ -146,6 +146,9 @@ impl AbsState {
         ensures sound { IfOk result (λ all. all ≡ true → EntailsThem (conditions_of operation) self.old) }
         ensures keeps { OnOk result (AssumesThem (conditions_of operation) self.old self.new) }
     {
+        if !self.reached() {
+            return Ok(true);
+        }
         self.judge_operation(operation)
     }
 }

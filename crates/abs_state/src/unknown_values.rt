@@ -27,6 +27,17 @@ impl AbsState {
         known.variables.get(below.checked_sub(1)?).copied()
     }
 
+    /// What the variable of a list index has. None where there is no such variable, and where nothing is reached.
+    pub fn var_at(&self, i: u64) -> Option<Var>
+        ensures value { result ≡ slice_get (variables_in self.now) i }
+        ensures form { IfSome result (λ v. ForSome self.now (λ known. HasVar known v)) }
+    {
+        let Some(known) = &self.known else {
+            return None;
+        };
+        known.variables.get(i as usize).copied()
+    }
+
     /// The type of the arrays that a reference may be. That of reference 0 does not matter.
     pub fn place(&self, r: u32) -> Place
         requires reached { IsSome self.now }

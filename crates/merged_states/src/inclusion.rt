@@ -113,10 +113,10 @@ fn definitions_follow(
     let symbols = symbol_names(alloc, binding)?;
     let references = reference_names(alloc, binding)?;
     Ok(all_follow(
-        a.numbers.definitions.as_slice(),
+        a.numbers.definitions.rows(),
         symbols.as_slice(),
         references.as_slice(),
-        b.numbers.definitions.as_slice(),
+        b.numbers.definitions.rows(),
     ))
 }
 

@@ -23,10 +23,10 @@ use frame_names::{
     name_frame, pair_frames,
 };
 use merged_numbers::{Merged, Side, joined, normed, widened};
-use number_facts::Numbers;
+use number_facts::{Definitions, Numbers};
 use state_facts::{Known, Unknown};
 use std::alloc::Global;
-use symbolic_values::{Def, Key};
+use symbolic_values::Key;
 
 /// How two states become one.
 #[derive(Clone, Copy)]
@@ -87,13 +87,13 @@ fn references_of(
 fn known_of(
     frames: PairedFrames,
     numbers: Merged,
-    definitions: Vec<(u32, Def)>,
+    definitions: Definitions,
     references: Vec<Reference<Unknown>>,
     apart: Apart,
 ) -> Known
     ensures { result ≡ record {
       variables = frames.vars;
-      facts = record { ranges = numbers.ranges; definitions = definitions.items; bounds = numbers.bounds };
+      facts = record { ranges = numbers.ranges; definitions = definitions; bounds = numbers.bounds };
       references = references.items;
       apart = apart;
     } }
@@ -145,13 +145,14 @@ fn merged_as(
     let definitions = definitions_of_both(
         alloc,
         &frames,
-        a.numbers.definitions.as_slice(),
-        b.numbers.definitions.as_slice(),
+        a.numbers.definitions.rows(),
+        b.numbers.definitions.rows(),
     )?;
     let (first, second) = (a.references.as_slice(), b.references.as_slice());
     let references = references_of(alloc, &frames, first, second)?;
     let keys = frames.references.pairs.keys.as_slice();
     let apart = joined_apart(alloc, keys, first, &a.apart, second, &b.apart)?;
+    let definitions = Definitions::of_rows(alloc, definitions)?;
     Ok(known_of(frames, numbers, definitions, references, apart))
 }
 
@@ -218,12 +219,13 @@ fn named_as(
         &frames,
         a.numbers.ranges.len() + 1,
         a.references.len() + 1,
-        a.numbers.definitions.as_slice(),
+        a.numbers.definitions.rows(),
     )?;
     let known = a.references.as_slice();
     let references = references_of(alloc, &frames, known, known)?;
     let keys = frames.references.pairs.keys.as_slice();
     let apart = kept_apart(alloc, keys, &a.apart)?;
+    let definitions = Definitions::of_rows(alloc, definitions)?;
     Ok(known_of(frames, numbers, definitions, references, apart))
 }
 

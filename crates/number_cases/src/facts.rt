@@ -1,7 +1,7 @@
 //! The text of what is known of numbers.
 
 use fact_text::{Fact, add_range, append_bounds, append_definitions, append_ranges, read_fact};
-use number_facts::Numbers;
+use number_facts::{Definitions, Numbers};
 use pentagon_domain::Bounds;
 use rule_text::Failure;
 use std::alloc::{AllocError, Global};
@@ -10,7 +10,7 @@ use std::alloc::{AllocError, Global};
 pub fn nothing(alloc: Global) -> Numbers {
     Numbers {
         ranges: Vec::new(alloc),
-        definitions: Vec::new(alloc),
+        definitions: Definitions::new(alloc),
         bounds: Bounds::new(alloc),
     }
 }
@@ -20,7 +20,7 @@ fn add_fact(numbers: &mut Numbers, text: &str) -> Result<(), Failure> {
     match read_fact(text)? {
         Fact::Range(s, range) => add_range(&mut numbers.ranges, s, range)?,
         Fact::Bound(row) => numbers.bounds.add_bound(row.s, row.t, row.k)?,
-        Fact::Definition(s, def) => numbers.definitions.push((s, def))?,
+        Fact::Definition(s, def) => numbers.definitions.push(s, def)?,
     }
     Ok(())
 }
@@ -42,7 +42,7 @@ pub fn facts_text(alloc: Global, numbers: &Numbers) -> Result<String, AllocError
     let mut text = String::new(alloc);
     append_ranges(&mut text, numbers.ranges.as_slice())?;
     append_bounds(&mut text, numbers.bounds.rows())?;
-    append_definitions(&mut text, numbers.definitions.as_slice())?;
+    append_definitions(&mut text, numbers.definitions.rows())?;
     if text.is_empty() {
         text.push_str("none")?;
     }

@@ -10,7 +10,7 @@ use domain_api::Expr;
 use fact_text::{expr, symbol};
 use frame_names::Bound;
 use merged_numbers::{Merged, Side, includes, joined, normed, widened};
-use number_facts::Numbers;
+use number_facts::{Definitions, Numbers};
 use number_spans::Span;
 use rule_text::{Failure, asked, check, check_yes, two_words};
 use std::alloc::{AllocError, Global};
@@ -105,7 +105,7 @@ fn merged_text(alloc: Global, merged: Option<Merged>) -> Result<String, AllocErr
         alloc,
         &Numbers {
             ranges,
-            definitions: Vec::new(alloc),
+            definitions: Definitions::new(alloc),
             bounds,
         },
     )

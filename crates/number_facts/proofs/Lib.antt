@@ -3,6 +3,7 @@ pub mod Sums
 pub mod Cutting
 pub mod Small
 pub mod SameSymbols
+pub mod DifferenceLists
 pub mod Uppers
 pub mod Relating
 pub mod Orders

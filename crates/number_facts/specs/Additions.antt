@@ -14,6 +14,7 @@ use Rattle.number_spans.specs.declared.span.Span.{Span}
 use Rattle.number_facts.specs.Facts.{Facts}
 use Rattle.number_facts.specs.Ends.{range_of}
 use Rattle.number_facts.specs.Gaps.{gap}
+use Rattle.number_facts.specs.declared.differences.Difference.{Difference}
 use Rattle.number_facts.specs.declared.outcome.Outcome.{Outcome}
 use Rattle.number_facts.specs.declared.outcome.Outcome.TheVariants.{Is, Within}
 use Rattle.number_facts.specs.declared.relation.Relation.{Relation}
@@ -37,6 +38,14 @@ with_some (Some e) es = e ∷ es
 abbrev pub all_above : Facts → Expr → Expr → List (ℕ × Def) → List Expr
 all_above facts a b [] = []
 all_above facts a b (d ∷ ds) = with_some (above_by facts a b d.0 d.1) (all_above facts a b ds)
+
+-- The same of differences of which each subtracts the symbol of a.
+abbrev pub above_difference : Facts → Expr → Expr → Difference → Option Expr
+above_difference facts a b d = above a b d.minuend d.subtrahend (gap facts b.sym d.symbol)
+
+abbrev pub above_each : Facts → Expr → Expr → List Difference → List Expr
+above_each facts a b [] = []
+above_each facts a b (d ∷ ds) = with_some (above_difference facts a b d) (above_each facts a b ds)
 
 -- By the differences of either order.
 unfoldable pub uppers : Facts → Expr → Expr → List Expr

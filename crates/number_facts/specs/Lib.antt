@@ -1,5 +1,6 @@
 pub mod Sizes
 pub mod Facts
+pub mod Differences
 pub mod Ends
 pub mod Gaps
 pub mod Fresh

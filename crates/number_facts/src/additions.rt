@@ -11,6 +11,7 @@ ghost use Rattle.number_facts.specs.Facts.{AreNarrow, IsThere};
 ghost use Rattle.number_facts.specs.declared.relation.Relation.TheVariants as relations;
 
 use crate::assume::and_more;
+use crate::differences::Difference;
 use crate::gap::far;
 use crate::numbers::Numbers;
 use crate::outcome::Outcome;
@@ -111,59 +112,56 @@ fn note_below(known: &mut Vec<Relation>, e: Expr, r: Span) -> Result<(), NoMemor
 }
 
 impl Numbers {
-    /// What a definition of a symbol says that no sum is above: a symbol and an exact constant.
-    fn above_by(&self, a: Expr, b: Expr, defined: &(u32, Def)) -> Option<(u32, i128)>
-        ensures value { result ≡
-            option_map (λ u. (u.sym, u.k)) (rule.above_by self.now a b defined.now.0 defined.now.1) }
+    /// What a difference says that no sum of its subtrahend's symbol is above: a symbol and an exact constant.
+    fn above_by(&self, a: Expr, b: Expr, difference: &Difference) -> Option<(u32, i128)>
+        ensures value { result ≡ option_map (λ u. (u.sym, u.k)) (rule.above_difference self.now a b difference.now) }
         ensures bound { IfSome result (λ u. IsBounded u.1) }
     {
-        let Def::Sub(x, y) = defined.1 else {
-            return None;
-        };
-        if y.sym != a.sym {
-            return None;
-        }
-        let gap = self.gap(b.sym, defined.0)?;
-        Some((x.sym, constant_above(a, b, x, y, gap)))
+        let gap = self.gap(b.sym, difference.symbol)?;
+        Some((
+            difference.minuend.sym,
+            constant_above(a, b, difference.minuend, difference.subtrahend, gap),
+        ))
     }
 
-    /// An upper end of a sum, cut by what a definition says.
+    /// An upper end of a sum, cut by what a difference says.
     #[tactic(auto, unfolding(crate::specs::Ends::range_of, number_spans::specs::Spans::shifted))]
-    fn cut_once(&self, a: Expr, b: Expr, defined: &(u32, Def), hi: i128) -> i128
-        ensures { result ≡
-            rule.cut_by self.now (rule.with_some (rule.above_by self.now a b defined.now.0 defined.now.1) []) hi }
+    fn cut_once(&self, a: Expr, b: Expr, difference: &Difference, hi: i128) -> i128
+        ensures { result ≡ rule.cut_by self.now (rule.with_some (rule.above_difference self.now a b difference.now) []) hi }
     {
-        match self.above_by(a, b, defined) {
+        match self.above_by(a, b, difference) {
             None => hi,
             Some((sym, k)) => hi.min(end_of(self.left_to(sym).hi, k)),
         }
     }
 
     /// An upper end of a sum, cut by what the definitions of one order say.
+    ///
+    /// Cost: a search, and the gap and the range of each difference that subtracts the symbol of the first expression.
     #[tactic(auto, using(crate::proofs::Uppers::cuts))]
     fn cut_by(&self, a: Expr, b: Expr, hi: i128) -> i128
         ensures { result ≡ rule.cut_by self.now (rule.all_above self.now a b self.now.definitions) hi }
     {
         let mut cut = hi;
-        let definitions = self.definitions.as_slice();
-        for defined in definitions {
-            cut = self.cut_once(a, b, defined, cut);
+        let differences = self.definitions.subtracting(a.sym);
+        for difference in differences {
+            cut = self.cut_once(a, b, difference, cut);
         }
         cut
     }
 
-    /// Notes what a definition says that a sum is at most.
+    /// Notes what a difference says that a sum is at most.
     fn note_once(
         &self,
         a: Expr,
         b: Expr,
-        defined: &(u32, Def),
+        difference: &Difference,
         known: &mut Vec<Relation>,
     ) -> Result<(), NoMemory>
         ensures { OnOk result (known.new.items ≡ known.old.items
-            ++ rule.at_most (rule.with_some (rule.above_by self.now a b defined.now.0 defined.now.1) [])) }
+            ++ rule.at_most (rule.with_some (rule.above_difference self.now a b difference.now) [])) }
     {
-        match self.above_by(a, b, defined) {
+        match self.above_by(a, b, difference) {
             None => Ok(()),
             Some((sym, k)) => {
                 known.push(Relation::AtMost(sym, k))?;
@@ -173,14 +171,16 @@ impl Numbers {
     }
 
     /// Notes what the definitions of one order say that a sum is at most.
+    ///
+    /// Cost: as of `cut_by`.
     #[tactic(auto, using(crate::proofs::Uppers::notes))]
     fn note_above(&self, a: Expr, b: Expr, known: &mut Vec<Relation>) -> Result<(), NoMemory>
         ensures { OnOk result (known.new.items ≡
             known.old.items ++ rule.at_most (rule.all_above self.now a b self.now.definitions)) }
     {
-        let definitions = self.definitions.as_slice();
-        for defined in definitions {
-            self.note_once(a, b, defined, known)?;
+        let differences = self.definitions.subtracting(a.sym);
+        for difference in differences {
+            self.note_once(a, b, difference, known)?;
         }
         Ok(())
     }

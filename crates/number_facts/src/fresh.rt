@@ -88,7 +88,7 @@ impl Numbers {
     }
 
     /// A number of a range: the constant where it has one alone, else a new symbol of which this is known. It costs
-    /// what is known of it, and the places of its bounds among the others.
+    /// what is known of it, and the places of its bounds and of its difference among the others.
     #[tactic(auto, using(crate::proofs::Relating::stored_so), unfolding(crate::specs::Fresh::noted))]
     pub(crate) fn noted_with(&mut self, range: Range, known: &[Relation]) -> Result<Expr, NoMemory>
         ensures value { IfOk result (λ e. e ≡ (noted self.old range known.now).expr) }
@@ -103,10 +103,9 @@ impl Numbers {
         let mut definitions = Vec::new(*self.ranges.allocator());
         note_all(&mut bounds, &mut definitions, sym, known)?;
         self.ranges.reserve(1)?;
-        self.definitions.reserve(definitions.len())?;
-        self.bounds.add_all(&bounds)?;
+        self.definitions
+            .extend_with(&definitions, &mut self.bounds, &bounds)?;
         self.ranges.push(range)?;
-        self.definitions.extend_from_slice(&definitions)?;
         Ok(Expr { sym, k: 0 })
     }
 

@@ -6,6 +6,8 @@ mod additions;
 mod arith;
 mod assume;
 mod comparisons;
+mod definitions;
+mod differences;
 mod ends;
 mod fresh;
 mod gap;
@@ -15,5 +17,6 @@ mod outcome;
 mod relation;
 mod spans;
 
+pub use definitions::Definitions;
 pub use numbers::Numbers;
 pub use relation::Relation;

@@ -3,12 +3,12 @@
 ghost use Rattle.std.specs.Prelude.{◌≡◌, ◌≤◌, length, IfOk};
 ghost use Rattle.number_facts.specs.Facts.{has, range_at};
 
+use crate::definitions::Definitions;
 use domain_api::{NoMemory, Values};
 use interval_domain::Range;
 use pentagon_domain::Bounds;
 use std::alloc::Global;
 use std::marker::Model;
-use symbolic_values::Def;
 
 /// What is known of the symbols of a state's numbers. The facts are public, and each call says what it does to them.
 ///
@@ -18,7 +18,7 @@ pub struct Numbers {
     /// The range of each symbol, that of symbol s at place s - 1. All are ranges of int32.
     pub ranges: Vec<Range>,
     /// What some symbols are, one definition for each at most, rising by the symbol.
-    pub definitions: Vec<(u32, Def)>,
+    pub definitions: Definitions,
     /// How symbols lie to each other.
     pub bounds: Bounds,
 }
@@ -28,7 +28,7 @@ impl Model for Numbers {
 
     ghost Value = { Facts };
 
-    ghost view = { λ n. record { ranges = n.ranges.items; definitions = n.definitions.items; bounds = n.bounds } };
+    ghost view = { λ n. record { ranges = n.ranges.items; definitions = n.definitions; bounds = n.bounds } };
 }
 
 impl Numbers {
@@ -38,7 +38,7 @@ impl Numbers {
     {
         Ok(Numbers {
             ranges: Vec::from_slice(alloc, self.ranges.as_slice())?,
-            definitions: Vec::from_slice(alloc, self.definitions.as_slice())?,
+            definitions: self.definitions.copy(alloc)?,
             bounds: self.bounds.copy(alloc)?,
         })
     }

@@ -1,6 +1,8 @@
 //! What a state says where a fault did not come.
 
 ghost use Rattle.std.specs.Prelude.{◌≡◌, OnOk};
+ghost use Rattle.std.specs.Option.{ForSome};
+ghost use Rattle.state_facts.specs.Forms.{HasForm};
 ghost use Rattle.obligation_prover.specs.Avoiding as rule;
 ghost use Rattle.obligation_prover.specs.Meaning.{AssumesNoFault};
 
@@ -16,7 +18,8 @@ fn assume_met(
     op: &Op,
     kind: FaultKind,
 ) -> Result<(), NoMemory>
-    ensures { OnOk result (state.new ≡ rule.avoid unit.now op.now kind state.old) }
+    ensures value { OnOk result (state.new ≡ rule.avoid unit.now op.now kind state.old) }
+    ensures form { ForSome state.old HasForm }
 {
     match condition_of(unit, op, kind, state) {
         Some(condition) => state.assume_met(condition),
@@ -38,7 +41,8 @@ pub fn avoid(state: &mut AbsState, unit: &Unit, op: &Op, kind: FaultKind) -> Res
 
 /// Assumes that each condition of an operation is met.
 fn assume_all_met(state: &mut AbsState, op: &Op) -> Result<(), NoMemory>
-    ensures { OnOk result (state.new ≡ rule.avoid_all op.now state.old) }
+    ensures value { OnOk result (state.new ≡ rule.avoid_all op.now state.old) }
+    ensures form { ForSome state.old HasForm }
 {
     match operation_of(op, state) {
         Some(operation) => {

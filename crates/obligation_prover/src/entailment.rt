@@ -1,6 +1,8 @@
 //! When a state rules a fault out.
 
 ghost use Rattle.std.specs.Prelude.{◌≡◌, true};
+ghost use Rattle.std.specs.Option.{ForSome};
+ghost use Rattle.state_facts.specs.Forms.{HasForm};
 ghost use Rattle.obligation_prover.specs.Entailed as rule;
 ghost use Rattle.obligation_prover.specs.Meaning.{RulesOut};
 
@@ -10,7 +12,8 @@ use cil_model::{FaultKind, Op, Unit};
 
 /// Returns whether the condition is entailed that the fault is the want of.
 fn is_ruled_out(state: &AbsState, unit: &Unit, op: &Op, kind: FaultKind) -> bool
-    ensures { result ≡ rule.rules_out unit.now op.now kind state.now }
+    ensures value { result ≡ rule.rules_out unit.now op.now kind state.now }
+    ensures form { ForSome state.now HasForm }
 {
     match condition_of(unit, op, kind, state) {
         Some(condition) => state.entails(condition),

@@ -2,8 +2,7 @@
 
 ghost use Rattle.std.specs.Prelude.{◌≡◌, IfSome};
 ghost use Rattle.std.specs.Option.{ForSome, option_and_then};
-ghost use Rattle.state_facts.specs.Forms.{HasVar};
-ghost use Rattle.state_facts.specs.StateFacts.{StateFacts};
+ghost use Rattle.state_facts.specs.Forms.{HasForm};
 ghost use Rattle.state_obligations.specs.Conditions.{AreThere, IsThere, conditions_of};
 ghost use Rattle.obligation_prover.specs.Entailed as entailed;
 ghost use Rattle.obligation_prover.specs.Operations as rule;
@@ -72,11 +71,9 @@ fn call_operation(call: Option<UnitCall>, state: &AbsState) -> Option<Operation>
     }
 }
 
-/// What an instruction with this operation does that may end in a fault, over its operands, which lie on the stack.
-/// None where it does no such thing, where its operands are not there, and where nothing is reached.
-pub(crate) fn operation_of(op: &Op, state: &AbsState) -> Option<Operation>
-    ensures value { result ≡ option_and_then (rule.operation_of op.now) state.now }
-    ensures there { IfSome result (λ operation. ForSome state.now (λ known. AreThere known (conditions_of operation))) }
+/// What an instruction with this operation does that may end in a fault, by its rule.
+fn found_operation(op: &Op, state: &AbsState) -> Option<Operation>
+    ensures { result ≡ option_and_then (rule.operation_of op.now) state.now }
 {
     match op {
         Op::Length => length_of(state.from_top(0)),
@@ -89,6 +86,19 @@ pub(crate) fn operation_of(op: &Op, state: &AbsState) -> Option<Operation>
     }
 }
 
+/// What an instruction with this operation does that may end in a fault, over its operands, which lie on the stack.
+/// None where it does no such thing, where its operands are not there, and where nothing is reached.
+pub(crate) fn operation_of(op: &Op, state: &AbsState) -> Option<Operation>
+    ensures value { result ≡ option_and_then (rule.operation_of op.now) state.now }
+    ensures there { IfSome result (λ operation. ForSome state.now (λ known. AreThere known (conditions_of operation))) }
+    ensures form { ForSome state.now HasForm }
+{
+    if !state.reached() {
+        return None;
+    }
+    found_operation(op, state)
+}
+
 /// The condition of an instruction of the unit that is of this fault.
 pub(crate) fn condition_of(
     _unit: &Unit,
@@ -98,6 +108,7 @@ pub(crate) fn condition_of(
 ) -> Option<Condition>
     ensures value { result ≡ option_and_then (entailed.condition_of _unit.now op.now kind) state.now }
     ensures there { IfSome result (λ condition. ForSome state.now (λ known. IsThere known condition)) }
+    ensures form { ForSome state.now HasForm }
 {
     match operation_of(op, state) {
         Some(operation) => operation.condition(kind),

@@ -126,7 +126,7 @@ impl Known {
             return None;
         };
         let (symbol, so) = symbol_told(&self.numbers, op, a, b, holds)?;
-        let def = definition_at(self.numbers.definitions.as_slice(), symbol)?;
+        let def = definition_at(self.numbers.definitions.rows(), symbol)?;
         told(def, so)
     }
 

@@ -109,9 +109,9 @@ impl Known {
     {
         let sym = next_symbol(&self.numbers)?;
         self.variables.reserve(1)?;
-        self.numbers.definitions.reserve(1)?;
+        self.numbers.ranges.reserve(1)?;
+        self.numbers.definitions.push(sym, def)?;
         self.numbers.ranges.push(bit())?;
-        self.numbers.definitions.push((sym, def))?;
         self.variables.push(Var::Number(Expr { sym, k: 0 }))?;
         Ok(())
     }

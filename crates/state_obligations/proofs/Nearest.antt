@@ -14,6 +14,7 @@ high_end : (n : ℤ) → int_le (near n) GREATEST ≡ int_le n GREATEST
 unfolding near
 high_end n = grind (arith, ints, clamps)
 
-pub near_int32 : (r : Span) (lo hi : ℤ) → lo ≡ near r.lo → hi ≡ near r.hi → (int_le LEAST lo && int_le hi GREATEST) ≡ are_int32 r
+pub near_int32 : (r : Span) (lo hi : ℤ) → lo ≡ near r.lo → hi ≡ near r.hi
+    → (int_le LEAST lo && int_le hi GREATEST) ≡ are_int32 r
 unfolding are_int32
 near_int32 r lo hi low high = rw (low, high, low_end r.lo, high_end r.hi) refl

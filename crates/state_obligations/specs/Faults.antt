@@ -23,7 +23,8 @@ abbrev pub HasNoFault : List Effect → Type 0
 HasNoFault effects = (fault : FaultKind) → HasEffect effects (Faults fault) → ⊥
 
 -- One of the conditions is not met, and the fault of the first such is all that may come.
-pub record EndsInFault (cs : List Condition) (heap : Heap) (number : ℕ → ℤ) (array : ℕ → Option ℕ) (effects : List Effect) : Type 0 where
+pub record EndsInFault (cs : List Condition) (heap : Heap) (number : ℕ → ℤ) (array : ℕ → Option ℕ) (effects : List Effect)
+    : Type 0 where
   pub fault : FaultKind
   pub first : IsFirstUnmet fault cs heap number array
   pub alone : effects ≡ Faults fault ∷ []

@@ -22,7 +22,7 @@ use Rattle.flow_graph.specs.declared.graph.Edge.{Edge}
 use Rattle.flow_graph.proofs.AlongEdges.{all_after, or_right, passing_all}
 use Rattle.flow_graph.proofs.EdgeOrder.{Starts, all_weaker, has_place, last_place_is, next_alone, place_within}
 use Rattle.flow_graph.proofs.Lying.{all_passing, blocks_increase}
-use Rattle.unit_flow.specs.Chains.{IsLeft, IsPassed, IsWay}
+use Rattle.unit_flow.specs.Chains.{IsLeft, IsWay}
 use Rattle.unit_flow.specs.Flow.{is_before, instrs_between}
 use Rattle.unit_flow.specs.Ways.{IsShortSwitch}
 use Rattle.unit_flow.proofs.Places.{both, item_there, there_is}
@@ -35,7 +35,8 @@ Rising (x ∷ xs) = AllByRecursion (λ y. x < y) xs × Rising xs
 
 all_by_place : (P : ℕ → Type 0) (xs : List ℕ) → ((k : ℕ) → k < length xs → P (get_or xs k 0)) → AllByRecursion P xs
 all_by_place P [] holds = tt
-all_by_place P (x ∷ xs) holds = (holds zero (omega arith), all_by_place P xs (λ k below. holds (suc k) (omega (arith, below))))
+all_by_place P (x ∷ xs) holds =
+    (holds zero (omega arith), all_by_place P xs (λ k below. holds (suc k) (omega (arith, below))))
 
 rising : (xs : List ℕ) → AllPairs (λ a b. a < b) xs → Rising xs
 rising [] pairs = tt
@@ -60,10 +61,12 @@ record IsLastAt (xs : List ℕ) (at b : ℕ) : Type 0 where
 first_above : (ys : List ℕ) (at : ℕ) → Starts ys at ≡ 0 → is_before (slice_get ys 0) at ≡ true
 first_above [] at none = refl
 first_above (y ∷ ys) at none =
-    cond_both (nat_le y at) (y ∷ filter (λ s. nat_le s at) ys) (filter (λ s. nat_le s at) ys) (λ (zs : List ℕ). length zs ≡ 0 → nat_lt at y ≡ true)
+    cond_both (nat_le y at) (y ∷ filter (λ s. nat_le s at) ys) (filter (λ s. nat_le s at) ys)
+    (λ (zs : List ℕ). length zs ≡ 0 → nat_lt at y ≡ true)
     (λ e f. absurd (omega (arith, f))) (λ e f. grind (arith, nat_tests, e)) none
 
-last_more : (x : ℕ) (xs : List ℕ) (at b : ℕ) → x ≤ at → ((k : ℕ) → Starts xs at ≡ suc k → IsLastAt xs at k) → Starts xs at ≡ b → IsLastAt (x ∷ xs) at b
+last_more : (x : ℕ) (xs : List ℕ) (at b : ℕ) → x ≤ at → ((k : ℕ) → Starts xs at ≡ suc k → IsLastAt xs at k)
+    → Starts xs at ≡ b → IsLastAt (x ∷ xs) at b
 last_more x xs at zero le last is = record { here = le; there = omega arith; next = first_above xs at is }
 last_more x xs at (suc b) le last is =
     let rest = last b is in
@@ -80,7 +83,13 @@ last_at (x ∷ xs) at b rise is =
       | inr e ↦
           let high : at < x = grind (arith, nat_tests, e) in
           let more : Starts xs at ≡ suc b = rw e at is in
-          absurd (omega (arith, more, none_yet xs at (all_weaker (λ y. x < y) (λ y. at < y) (λ y h. omega (arith, h, high)) xs rise.0)))
+          absurd
+          (omega (
+            arith,
+            more,
+            none_yet xs at (all_weaker (λ y. x < y) (λ y. at < y)
+                (λ y h. omega (arith, h, high)) xs rise.0),
+          ))
     ]
 
 -- ---- where an edge comes from
@@ -94,13 +103,15 @@ pub record LeavesBy (unit : MethodUnit) (edge : Edge) (i : Instr) : Type 0 where
   pub placed : place_of (blocks_of unit) at ≡ Some edge.to
 
 module _ (blocks : List ℕ) (from : ℕ) (P : Edge → Type 0) where
-  one_edge : (number : ℕ) (place : Option ℕ) → ((to : ℕ) → place ≡ Some to → P (record { from = from; to = to; number = number }))
+  one_edge : (number : ℕ) (place : Option ℕ) →
+      ((to : ℕ) → place ≡ Some to → P (record { from = from; to = to; number = number }))
       → AllByRecursion P (option_to_list (option_map (λ to. record { from = from; to = to; number = number }) place))
   one_edge number None holds = tt
   one_edge number (Some to) holds = (holds to refl, tt)
 
   edges_goto : (number : ℕ) (ats : List ℕ)
-      → ((n at to : ℕ) → slice_get ats n ≡ Some at → place_of blocks at ≡ Some to → P (record { from = from; to = to; number = number + n }))
+      → ((n at to : ℕ) → slice_get ats n ≡ Some at → place_of blocks at ≡ Some to
+      → P (record { from = from; to = to; number = number + n }))
       → AllByRecursion P (edges_to blocks from number ats)
   edges_goto number [] holds = tt
   edges_goto number (at ∷ ats) holds =
@@ -114,15 +125,25 @@ module _ (unit : MethodUnit) where
   abbrev pub Leaves : Edge → Type 0
   Leaves edge = (i : Instr) × LeavesBy unit edge i
 
-  edges_leave : (i : Instr) (place : Option ℕ) → instr_at unit.instrs i.at ≡ Some i → block_at (blocks_of unit) i.at ≡ place
+  edges_leave : (i : Instr) (place : Option ℕ) → instr_at unit.instrs i.at ≡ Some i
+      → block_at (blocks_of unit) i.at ≡ place
       → AllByRecursion Leaves (edges_out (blocks_of unit) place i)
   edges_leave i None found is = tt
   edges_leave i (Some from) found is =
       edges_goto (blocks_of unit) from Leaves 0 (successors i.op (i.at + i.size))
-      (λ n at to there placed. let same : 0 + n ≡ n = omega arith in
-      (i, record { at = at; found = found; block = is; goes = subst (λ (k : ℕ). slice_get (successors i.op (i.at + i.size)) k ≡ Some at) (sym same) there; placed = placed }))
+      (λ n at to there placed. let same : 0 + n ≡ n = omega arith in (
+        i,
+        record {
+          at = at;
+          found = found;
+          block = is;
+          goes = subst (λ (k : ℕ). slice_get (successors i.op (i.at + i.size)) k ≡ Some at) (sym same) there;
+          placed = placed;
+        },
+      ))
 
-  all_leave : (is : List Instr) → AllByRecursion (λ i. instr_at unit.instrs i.at ≡ Some i) is → AllByRecursion Leaves (flat_map (edges_from (blocks_of unit)) is)
+  all_leave : (is : List Instr) → AllByRecursion (λ i. instr_at unit.instrs i.at ≡ Some i) is
+      → AllByRecursion Leaves (flat_map (edges_from (blocks_of unit)) is)
   all_leave [] found = tt
   all_leave (i ∷ is) found =
       all_append Leaves (edges_from (blocks_of unit) i) (flat_map (edges_from (blocks_of unit)) is)
@@ -138,11 +159,13 @@ found_more i is (j ∷ js) low less high found =
     let e : (i.at == j.at) ≡ false = grind (arith, nat_tests, less, above) in
     (rw e found.0, found_more i is js low less high.1 found.1)
 
-pub each_found : (at : ℕ) (is : List Instr) → LieFrom at is → AllByRecursion IsOfShortCode is → AllByRecursion (λ i. instr_at is i.at ≡ Some i) is
+pub each_found : (at : ℕ) (is : List Instr) → LieFrom at is → AllByRecursion IsOfShortCode is
+    → AllByRecursion (λ i. instr_at is i.at ≡ Some i) is
 each_found at [] lie each = tt
 each_found at (i ∷ is) lie each = (
   rw (eq-eqb i.at i.at refl) refl,
-  found_more i is is (at + i.size) (omega (arith, lie.0, each.0.some)) (all_after (at + i.size) (at + i.size) is (omega arith) lie.1) (each_found (at + i.size) is lie.1 each.1),
+  found_more i is is (at + i.size) (omega (arith, lie.0, each.0.some))
+      (all_after (at + i.size) (at + i.size) is (omega arith) lie.1) (each_found (at + i.size) is lie.1 each.1),
 )
 
 pub all_kept : (start at : ℕ) (is : List Instr) → start ≤ at → LieFrom at is → filter (λ i. nat_le start i.at) is ≡ is
@@ -158,7 +181,8 @@ none_behind at start (i ∷ is) lie less begins =
     none_behind (at + i.size) start is lie.1 (omega arith) (rw e at begins)
 
 -- The instructions from the start of one on.
-pub rest_lies : (start at : ℕ) (is : List Instr) → LieFrom at is → begins_at is start ≡ true → LieFrom start (filter (λ i. nat_le start i.at) is)
+pub rest_lies : (start at : ℕ) (is : List Instr) → LieFrom at is → begins_at is start ≡ true
+    → LieFrom start (filter (λ i. nat_le start i.at) is)
 rest_lies start at [] lie begins = tt
 rest_lies start at (i ∷ is) lie begins =
     elim (cases_Bool (i.at == start)) [
@@ -166,7 +190,8 @@ rest_lies start at (i ∷ is) lie begins =
           let same : i.at ≡ start = eqb-true i.at start here in
           let le : start ≤ at = omega (arith, same, lie.0) in
           let from : at ≡ start = omega (arith, same, lie.0) in
-          subst (LieFrom start) (sym (all_kept start at (i ∷ is) le lie)) (subst (λ (n : ℕ). LieFrom n (i ∷ is)) from lie)
+          subst (LieFrom start) (sym (all_kept start at (i ∷ is) le lie))
+          (subst (λ (n : ℕ). LieFrom n (i ∷ is)) from lie)
       | inr other ↦
           let rest : begins_at is start ≡ true = rw other at begins in
           elim (cases_Bool (nat_le start i.at)) [
@@ -177,17 +202,21 @@ rest_lies start at (i ∷ is) lie begins =
           ]
     ]
 
-pub found_in_rest : (start : ℕ) (is : List Instr) (at : ℕ) → start ≤ at → instr_at (filter (λ i. nat_le start i.at) is) at ≡ instr_at is at
+pub found_in_rest : (start : ℕ) (is : List Instr) (at : ℕ) → start ≤ at
+    → instr_at (filter (λ i. nat_le start i.at) is) at ≡ instr_at is at
 found_in_rest start [] at le = refl
 found_in_rest start (i ∷ is) at le =
     elim (cases_Bool (nat_le start i.at)) [
-      | inl kept ↦ rw kept (elim (cases_Bool (i.at == at)) [ inl e ↦ rw e refl | inr e ↦ rw e (found_in_rest start is at le) ])
-      | inr dropped ↦ (let e : (i.at == at) ≡ false = grind (arith, nat_tests) in rw (dropped, e) (found_in_rest start is at le))
+      | inl kept ↦ rw kept (elim
+          (cases_Bool (i.at == at)) [ inl e ↦ rw e refl | inr e ↦ rw e (found_in_rest start is at le) ])
+      | inr dropped ↦ (let e : (i.at == at) ≡ false = grind (arith, nat_tests) in rw (dropped, e)
+          (found_in_rest start is at le))
     ]
 
 -- ---- where blocks start
 
-pub start_there : (q : ℕ → Bool) (is : List Instr) (at : ℕ) → q at ≡ true → begins_at is at ≡ true → list_any (λ n. n == at) (map (λ i. i.at) (filter (λ i. q i.at) is)) ≡ true
+pub start_there : (q : ℕ → Bool) (is : List Instr) (at : ℕ) → q at ≡ true → begins_at is at ≡ true
+    → list_any (λ n. n == at) (map (λ i. i.at) (filter (λ i. q i.at) is)) ≡ true
 start_there q [] at passes begins = absurd (false≢true begins)
 start_there q (i ∷ is) at passes begins =
     elim (cases_Bool (i.at == at)) [
@@ -196,14 +225,17 @@ start_there q (i ∷ is) at passes begins =
           let rest = start_there q is at passes (rw other at begins) in
           cond_both (q i.at) (i ∷ filter (λ j. q j.at) is) (filter (λ j. q j.at) is)
           (λ (js : List Instr). list_any (λ n. n == at) (map (λ (j : Instr). j.at) js) ≡ true)
-          (λ e. or_right (i.at == at) (list_any (λ n. n == at) (map (λ (j : Instr). j.at) (filter (λ j. q j.at) is))) rest) (λ e. rest)
+          (λ e. or_right (i.at == at) (list_any (λ n. n == at)
+          (map (λ (j : Instr). j.at) (filter (λ j. q j.at) is))) rest) (λ e. rest)
     ]
 
-starts_all : (P : ℕ → Type 0) (q : ℕ → Bool) (is : List Instr) → AllByRecursion (λ i. P i.at) is → AllByRecursion P (map (λ i. i.at) (filter (λ i. q i.at) is))
+starts_all : (P : ℕ → Type 0) (q : ℕ → Bool) (is : List Instr) → AllByRecursion (λ i. P i.at) is
+    → AllByRecursion P (map (λ i. i.at) (filter (λ i. q i.at) is))
 starts_all P q [] all = tt
 starts_all P q (i ∷ is) all =
     cond_both (q i.at) (i ∷ filter (λ j. q j.at) is) (filter (λ j. q j.at) is)
-    (λ (js : List Instr). AllByRecursion P (map (λ (j : Instr). j.at) js)) (λ e. (all.0, starts_all P q is all.1)) (λ e. starts_all P q is all.1)
+    (λ (js : List Instr). AllByRecursion P (map (λ (j : Instr). j.at) js)) (λ e. (all.0, starts_all P q is all.1))
+    (λ e. starts_all P q is all.1)
 
 at_place : (P : ℕ → Type 0) (xs : List ℕ) (n : ℕ) → AllByRecursion P xs → n < length xs → P (get_or xs n 0)
 at_place P xs n all below = All-from_recursion P xs all n 0 below
@@ -211,13 +243,18 @@ at_place P xs n all below = All-from_recursion P xs all n 0 below
 pub found_begins : (is : List Instr) (at : ℕ) (i : Instr) → instr_at is at ≡ Some i → begins_at is at ≡ true
 found_begins [] at i found = absurd (none-some i found)
 found_begins (j ∷ is) at i found =
-    elim (cases_Bool (j.at == at)) [ inl e ↦ rw e refl | inr e ↦ or_right (j.at == at) (begins_at is at) (found_begins is at i (rw e at found)) ]
+    elim (cases_Bool (j.at == at)) [
+      | inl e ↦ rw e refl
+      | inr e ↦ or_right (j.at == at) (begins_at is at) (found_begins is at i (rw e at found))
+    ]
 
-pub found_passes : (q : Instr → Bool) (is : List Instr) (at : ℕ) (i : Instr) → instr_at is at ≡ Some i → q i ≡ true → list_any q is ≡ true
+pub found_passes : (q : Instr → Bool) (is : List Instr) (at : ℕ) (i : Instr) → instr_at is at ≡ Some i → q i ≡ true
+    → list_any q is ≡ true
 found_passes q [] at i found e = absurd (none-some i found)
 found_passes q (j ∷ is) at i found e =
     cond_both (j.at == at) _ _ (λ (other : Option Instr). other ≡ Some i → (q j || list_any q is) ≡ true)
-    (λ f here. rw (ap q (same_Some j i here) ∙ e) refl) (λ f later. or_right (q j) (list_any q is) (found_passes q is at i later e)) found
+    (λ f here. rw (ap q (same_Some j i here) ∙ e) refl)
+    (λ f later. or_right (q j) (list_any q is) (found_passes q is at i later e)) found
 
 -- ---- the way to an edge
 
@@ -229,7 +266,8 @@ record IsGood (unit : MethodUnit) (i : Instr) : Type 0 where
   some : 0 < i.size
 
 -- What lies after an offset that is not before the end is not before it either.
-pub none_before : (end : Option ℕ) (at : ℕ) (is : List Instr) → is_before end at ≡ false → AllByRecursion (λ i. at ≤ i.at) is → filter (λ i. is_before end i.at) is ≡ []
+pub none_before : (end : Option ℕ) (at : ℕ) (is : List Instr) → is_before end at ≡ false
+    → AllByRecursion (λ i. at ≤ i.at) is → filter (λ i. is_before end i.at) is ≡ []
 none_before end at [] late all = refl
 none_before None at (i ∷ is) late all = absurd (false≢true (sym late))
 none_before (Some end) at (i ∷ is) late all =
@@ -241,7 +279,8 @@ late_too : (end : Option ℕ) (at other : ℕ) → is_before end at ≡ false �
 late_too None at other late le before = false≢true (sym late)
 late_too (Some end) at other late le before = absurd (grind (arith, nat_tests, late, le, before))
 
-module _ (unit : MethodUnit) (short : AreOfShortCode unit.instrs) (edge : Edge) (k : Instr) (leaves : LeavesBy unit edge k) where
+module _ (unit : MethodUnit) (short : AreOfShortCode unit.instrs) (edge : Edge) (k : Instr)
+    (leaves : LeavesBy unit edge k) where
   abbrev Blocks : List ℕ
   Blocks = blocks_of unit
 
@@ -264,18 +303,23 @@ module _ (unit : MethodUnit) (short : AreOfShortCode unit.instrs) (edge : Edge) 
         | inl first ↦ absurd (omega (arith, pairs n edge.from 0 first last.there, is, less))
         | inr other ↦
             elim (cases_lt edge.from n) [
-              | inl behind ↦ absurd (past (suc edge.from) behind (there_is Blocks (suc edge.from) 0 (omega (arith, behind, below))) before)
-              | inr same ↦ (let e : n ≡ edge.from = omega (arith, other, same) in absurd (omega (arith, ap (λ (m : ℕ). get_or Blocks m 0) e, is, less)))
+              | inl behind ↦ absurd (past (suc edge.from) behind
+                  (there_is Blocks (suc edge.from) 0 (omega (arith, behind, below))) before)
+              | inr same ↦ (let e : n ≡ edge.from = omega (arith, other, same) in absurd
+                  (omega (arith, ap (λ (m : ℕ). get_or Blocks m 0) e, is, less)))
             ]
       ]
     where
-      past : (m : ℕ) → m ≤ n → slice_get Blocks m ≡ Some (get_or Blocks m 0) → is_before (slice_get Blocks m) at ≡ true → ⊥
+      past : (m : ℕ) → m ≤ n → slice_get Blocks m ≡ Some (get_or Blocks m 0) → is_before (slice_get Blocks m) at ≡ true
+          → ⊥
       past m le there early =
-          let f : nat_lt at (get_or Blocks m 0) ≡ true = subst (λ (end : Option ℕ). is_before end at ≡ true) there early in
+          let f : nat_lt at (get_or Blocks m 0) ≡ true =
+          subst (λ (end : Option ℕ). is_before end at ≡ true) there early in
           let lower : at < get_or Blocks m 0 = grind (arith, nat_tests, f) in
           elim (cases_lt m n) [
             | inl before_it ↦ absurd (omega (arith, pairs m n 0 before_it below, is, lower))
-            | inr not ↦ (let e : m ≡ n = omega (arith, le, not) in absurd (omega (arith, ap (λ (l : ℕ). get_or Blocks l 0) e, is, lower)))
+            | inr not ↦ (let e : m ≡ n = omega (arith, le, not) in absurd
+                (omega (arith, ap (λ (l : ℕ). get_or Blocks l 0) e, is, lower)))
           ]
 
   no_start : (at : ℕ) → Start < at → is_before End at ≡ true → place_of Blocks at ≡ None
@@ -291,44 +335,58 @@ module _ (unit : MethodUnit) (short : AreOfShortCode unit.instrs) (edge : Edge) 
   starts = at_place (λ s. (unit.body_start ≤ s) × (begins_at unit.instrs s ≡ true)) Blocks edge.from
       (starts_all (λ s. (unit.body_start ≤ s) × (begins_at unit.instrs s ≡ true)) (is_block_start unit) (body_of unit)
       (both (λ i. unit.body_start ≤ i.at) (λ i. begins_at unit.instrs i.at ≡ true) (body_of unit)
-      (all_weaker _ (λ i. unit.body_start ≤ i.at) (λ i e. grind (arith, nat_tests, e)) (body_of unit) (passing_all (λ i. nat_le unit.body_start i.at) unit.instrs))
+      (all_weaker _ (λ i. unit.body_start ≤ i.at) (λ i e. grind (arith, nat_tests, e)) (body_of unit)
+      (passing_all (λ i. nat_le unit.body_start i.at) unit.instrs))
       (all_passing (λ i. begins_at unit.instrs i.at ≡ true) (λ i. nat_le unit.body_start i.at) unit.instrs
-      (all_weaker _ (λ i. begins_at unit.instrs i.at ≡ true) (λ i f. found_begins unit.instrs i.at i f) unit.instrs (each_found 0 unit.instrs short.lie short.each)))))
+      (all_weaker _ (λ i. begins_at unit.instrs i.at ≡ true) (λ i f. found_begins unit.instrs i.at i f) unit.instrs
+      (each_found 0 unit.instrs short.lie short.each)))))
       last.there
 
   in_body : (i : Instr) → Start ≤ i.at → IsGood unit i → instr_at (body_of unit) i.at ≡ Some i
   in_body i high good = found_in_rest unit.body_start unit.instrs i.at (omega (arith, starts.0, high)) ∙ good.found
 
-  ends_none : (i j : Instr) → Start ≤ i.at → IsGood unit i → Start ≤ j.at → IsGood unit j → j.at ≡ i.at + i.size → place_of Blocks j.at ≡ None
+  ends_none : (i j : Instr) → Start ≤ i.at → IsGood unit i → Start ≤ j.at → IsGood unit j → j.at ≡ i.at + i.size
+      → place_of Blocks j.at ≡ None
       → ends_block i.op ≡ false
   ends_none i j high good after next is none =
       elim (cases_Bool (ends_block i.op)) [ inr e ↦ e | inl e ↦ absurd (started e) ]
     where
       started : ends_block i.op ≡ true → ⊥
       started e =
-          let mark : starts_at j.at i ≡ true = or_right (list_any (λ target. target == j.at) (branch_targets i.op)) _ (rw (e, eq-eqb (i.at + i.size) j.at (sym is)) refl) in
-          let block : is_block_start unit j.at ≡ true = or_right (j.at == unit.body_start) (list_any (starts_at j.at) (body_of unit))
+          let mark : starts_at j.at i ≡ true =
+          or_right (list_any (λ target. target == j.at) (branch_targets i.op)) _
+          (rw (e, eq-eqb (i.at + i.size) j.at (sym is)) refl) in
+          let block : is_block_start unit j.at ≡ true =
+          or_right (j.at == unit.body_start) (list_any (starts_at j.at) (body_of unit))
           (found_passes (starts_at j.at) (body_of unit) i.at i (in_body i high good) mark) in
-          let placed = has_place Blocks j.at (start_there (is_block_start unit) (body_of unit) j.at block (found_begins (body_of unit) j.at j (in_body j after next))) in
+          let placed =
+          has_place Blocks j.at (start_there (is_block_start unit) (body_of unit) j.at block
+          (found_begins (body_of unit) j.at j (in_body j after next))) in
           none-some placed.0 (sym none ∙ placed.1)
 
-  left : (i : Instr) (from : ℕ) → i.at ≡ from → Start ≤ from → IsGood unit i → i ≡ k → IsLeft unit from edge.number leaves.at i
+  left : (i : Instr) (from : ℕ) → i.at ≡ from → Start ≤ from → IsGood unit i → i ≡ k
+      → IsLeft unit from edge.number leaves.at i
   left i from here high good same = record {
     here = here;
     executed = good.executed (omega (arith, starts.0, high, here));
     short = good.switch;
     found = good.found;
-    goes = subst (λ (l : Instr). slice_get (successors l.op (l.at + l.size)) edge.number ≡ Some leaves.at) (sym same) leaves.goes;
+    goes =
+        subst (λ (l : Instr). slice_get (successors l.op (l.at + l.size)) edge.number ≡ Some leaves.at)
+        (sym same) leaves.goes;
   }
 
   alone : (i : Instr) → instr_at (i ∷ []) k.at ≡ Some k → i ≡ k
-  alone i found = cond_both (i.at == k.at) _ _ (λ (o : Option Instr). o ≡ Some k → i ≡ k) (λ e here. same_Some i k here) (λ e later. absurd (none-some k later)) found
+  alone i found =
+      cond_both (i.at == k.at) _ _ (λ (o : Option Instr). o ≡ Some k → i ≡ k) (λ e here. same_Some i k here)
+      (λ e later. absurd (none-some k later)) found
 
   only : (next m at : ℕ) → slice_get (next ∷ []) m ≡ Some at → at ≡ next
   only next zero at e = sym (same_Some next at e)
   only next (suc m) at e = absurd (none-some at e)
 
-  passed : (i j : Instr) (is : List Instr) → j.at ≡ i.at + i.size → place_of Blocks j.at ≡ None → successors i.op (i.at + i.size) ≡ (i.at + i.size) ∷ []
+  passed : (i j : Instr) (is : List Instr) → j.at ≡ i.at + i.size → place_of Blocks j.at ≡ None
+      → successors i.op (i.at + i.size) ≡ (i.at + i.size) ∷ []
       → instr_at (i ∷ j ∷ is) k.at ≡ Some k → instr_at (j ∷ is) k.at ≡ Some k
   passed i j is next none on found =
       cond_both (i.at == k.at) _ _ (λ (o : Option Instr). o ≡ Some k → instr_at (j ∷ is) k.at ≡ Some k)
@@ -337,18 +395,23 @@ module _ (unit : MethodUnit) (short : AreOfShortCode unit.instrs) (edge : Edge) 
       no_edge : i ≡ k → ⊥
       no_edge same =
           let goes : slice_get (successors i.op (i.at + i.size)) edge.number ≡ Some leaves.at =
-          subst (λ (l : Instr). slice_get (successors l.op (l.at + l.size)) edge.number ≡ Some leaves.at) (sym same) leaves.goes in
+          subst (λ (l : Instr). slice_get (successors l.op (l.at + l.size)) edge.number ≡ Some leaves.at)
+          (sym same) leaves.goes in
           let at_next : leaves.at ≡ i.at + i.size = only (i.at + i.size) edge.number leaves.at
           (subst (λ (ats : List ℕ). slice_get ats edge.number ≡ Some leaves.at) on goes) in
           none-some edge.to (sym none ∙ ap (place_of Blocks) (next ∙ sym at_next) ∙ leaves.placed)
 
-  now : (i j : Instr) (is : List Instr) → LieFrom j.at (j ∷ is) → is_before End j.at ≡ false → instr_at (i ∷ j ∷ is) k.at ≡ Some k → i ≡ k
+  now : (i j : Instr) (is : List Instr) → LieFrom j.at (j ∷ is) → is_before End j.at ≡ false
+      → instr_at (i ∷ j ∷ is) k.at ≡ Some k → i ≡ k
   now i j is lie late found =
       cond_both (i.at == k.at) _ _ (λ (o : Option Instr). o ≡ Some k → i ≡ k) (λ e here. same_Some i k here)
-      (λ e later. absurd (late_too End j.at k.at late (of_found (λ x. j.at ≤ x.at) (j ∷ is) k.at k (all_after j.at j.at (j ∷ is) (omega arith) lie) later) last.next)) found
+      (λ e later. absurd (late_too End j.at k.at late
+      (of_found (λ x. j.at ≤ x.at) (j ∷ is) k.at k
+      (all_after j.at j.at (j ∷ is) (omega arith) lie) later) last.next)) found
 
   -- The first instruction is the last of the block, or the next one is of the block too.
-  way : (from : ℕ) (is : List Instr) → LieFrom from is → AllByRecursion (IsGood unit) is → Start ≤ from → is_before End from ≡ true → instr_at is k.at ≡ Some k
+  way : (from : ℕ) (is : List Instr) → LieFrom from is → AllByRecursion (IsGood unit) is → Start ≤ from
+      → is_before End from ≡ true → instr_at is k.at ≡ Some k
       → IsWay unit from edge.number leaves.at (filter (λ i. is_before End i.at) is)
   way from [] lie good high early found = absurd (none-some k found)
   way from (i ∷ []) lie good high early found =
@@ -360,13 +423,23 @@ module _ (unit : MethodUnit) (short : AreOfShortCode unit.instrs) (edge : Edge) 
       elim (cases_Bool (is_before End j.at)) [
         | inl more ↦
             let none = no_start j.at (omega (arith, lie.0, lie.1.0, good.0.some, high)) more in
-            let on = next_alone i.op (i.at + i.size) (ends_none i j (omega (arith, lie.0, high)) good.0 (omega (arith, lie.0, lie.1.0, high)) good.1.0 next none) in
+            let on =
+            next_alone i.op (i.at + i.size) (ends_none i j (omega (arith, lie.0, high)) good.0
+            (omega (arith, lie.0, lie.1.0, high)) good.1.0 next none) in
             let later = passed i j is next none on found in
-            let rest = way (from + i.size) (j ∷ is) lie.1 good.1 (omega (arith, high)) (ap (is_before End) (sym lie.1.0) ∙ more) later in
-            let kept : filter (λ x. is_before End x.at) (j ∷ is) ≡ j ∷ filter (λ x. is_before End x.at) is = rw more refl in
+            let rest =
+            way (from + i.size) (j ∷ is) lie.1 good.1 (omega (arith, high))
+            (ap (is_before End) (sym lie.1.0) ∙ more) later in
+            let kept : filter (λ x. is_before End x.at) (j ∷ is) ≡ j ∷ filter (λ x. is_before End x.at) is =
+            rw more refl in
             let behind : from + i.size ≡ i.at + i.size = omega (arith, lie.0) in
             rw (first, more) (
-              record { here = lie.0; executed = good.0.executed (omega (arith, starts.0, high, lie.0)); found = good.0.found; next = on },
+              record {
+                here = lie.0;
+                executed = good.0.executed (omega (arith, starts.0, high, lie.0));
+                found = good.0.found;
+                next = on;
+              },
               subst (λ (n : ℕ). IsWay unit n edge.number leaves.at (j ∷ filter (λ x. is_before End x.at) is)) behind
                   (subst (IsWay unit (from + i.size) edge.number leaves.at) kept rest),
             )
@@ -375,11 +448,13 @@ module _ (unit : MethodUnit) (short : AreOfShortCode unit.instrs) (edge : Edge) 
             let none : filter (λ x. is_before End x.at) (j ∷ is) ≡ [] = none_before End j.at (j ∷ is) late
             (all_after j.at j.at (j ∷ is) (omega arith) behind) in
             let same : i ≡ k = now i j is behind late found in
-            rw first (subst (λ (js : List Instr). IsWay unit from edge.number leaves.at (i ∷ js)) (sym none) (left i from lie.0 high good.0 same))
+            rw first (subst (λ (js : List Instr). IsWay unit from edge.number leaves.at (i ∷ js)) (sym none)
+            (left i from lie.0 high good.0 same))
       ]
 
   -- the whole block
-  pub block_way : AllByRecursion (λ i. unit.body_start ≤ i.at → is_executed i.op ≡ true) unit.instrs → AllByRecursion (λ i. IsShortSwitch i.op) unit.instrs
+  pub block_way : AllByRecursion (λ i. unit.body_start ≤ i.at → is_executed i.op ≡ true) unit.instrs
+      → AllByRecursion (λ i. IsShortSwitch i.op) unit.instrs
       → IsWay unit Start edge.number leaves.at (instrs_between Start End unit.instrs)
   block_way executed switches =
       way Start (filter (λ i. nat_le Start i.at) unit.instrs) (rest_lies Start 0 unit.instrs short.lie starts.1)
@@ -387,8 +462,10 @@ module _ (unit : MethodUnit) (short : AreOfShortCode unit.instrs) (edge : Edge) 
       (goods unit.instrs executed switches (each_found 0 unit.instrs short.lie short.each) short.each))
       (omega arith) start_early (found_in_rest Start unit.instrs k.at last.here ∙ leaves.found)
     where
-      goods : (is : List Instr) → AllByRecursion (λ i. unit.body_start ≤ i.at → is_executed i.op ≡ true) is → AllByRecursion (λ i. IsShortSwitch i.op) is
-          → AllByRecursion (λ i. instr_at unit.instrs i.at ≡ Some i) is → AllByRecursion IsOfShortCode is → AllByRecursion (IsGood unit) is
+      goods : (is : List Instr) → AllByRecursion (λ i. unit.body_start ≤ i.at → is_executed i.op ≡ true) is
+          → AllByRecursion (λ i. IsShortSwitch i.op) is
+          → AllByRecursion (λ i. instr_at unit.instrs i.at ≡ Some i) is → AllByRecursion IsOfShortCode is
+          → AllByRecursion (IsGood unit) is
       goods [] executed switches founds sizes = tt
       goods (i ∷ is) executed switches founds sizes = (
         record { executed = executed.0; switch = switches.0; found = founds.0; some = sizes.0.some },
@@ -405,4 +482,5 @@ module _ (unit : MethodUnit) (short : AreOfShortCode unit.instrs) (edge : Edge) 
 -- each edge leaves a block by an instruction
 pub edges_leave_blocks : (unit : MethodUnit) → AreOfShortCode unit.instrs → AllByRecursion (Leaves unit) (edges_of unit)
 edges_leave_blocks unit short =
-    all_leave unit (body_of unit) (all_passing (λ i. instr_at unit.instrs i.at ≡ Some i) (λ i. nat_le unit.body_start i.at) unit.instrs (each_found 0 unit.instrs short.lie short.each))
+    all_leave unit (body_of unit) (all_passing (λ i. instr_at unit.instrs i.at ≡ Some i)
+    (λ i. nat_le unit.body_start i.at) unit.instrs (each_found 0 unit.instrs short.lie short.each))

@@ -1,6 +1,6 @@
--- Small units with their blocks and edges, and runs along them: a constant that is tested, an array that may be null, and a
--- call of a method.
-use Rattle.std.proofs.Common.{◌≡◌, ℕ, ℤ, pos, FitsSigned, w32, List, [], ◌∷◌, Some, None, refl, inl, inr, codes, arith}
+-- Small units with their blocks and edges, and runs along them: a constant that is tested, an array that may be null,
+-- and a call of a method.
+use Rattle.std.proofs.Common.{◌≡◌, ℕ, ℤ, pos, FitsSigned, w32, List, [], ◌∷◌, Some, refl, inl, inr, codes, arith}
 use Rattle.std.proofs.lemmas.Int.{ints}
 use Rattle.cil_model.specs.UnitCalls.{unit_call}
 use Rattle.cil_model.specs.Values.{Heap, IsByte}
@@ -29,7 +29,15 @@ instr at size op = record { at = at; size = size; op = op }
 -- A point of a method without locals, with this argument.
 abbrev at_offset : ℕ → List Value → Value → Heap → Point
 at_offset at stack arg heap = record {
-  frame = record { unit = 0; at = at; stack = stack; locals = []; args = arg ∷ []; entry_args = arg ∷ []; entry_heap = heap };
+  frame = record {
+    unit = 0;
+    at = at;
+    stack = stack;
+    locals = [];
+    args = arg ∷ [];
+    entry_args = arg ∷ [];
+    entry_heap = heap;
+  };
   heap = heap;
 }
 
@@ -37,10 +45,13 @@ at_offset at stack arg heap = record {
 
 -- 1 goes to 4, where the constant is not 0, and else on to 3.
 abbrev tested : MethodUnit
-tested = method [] places.Void (places.Bool ∷ []) [] [] 0 [] ((1, ops.Const (pos 1)) ∷ (2, ops.Branch tests.True 4) ∷ (1, ops.Return) ∷ (1, ops.Return) ∷ [])
+tested =
+    method [] places.Void (places.Bool ∷ []) [] [] 0 []
+    ((1, ops.Const (pos 1)) ∷ (2, ops.Branch tests.True 4) ∷ (1, ops.Return) ∷ (1, ops.Return) ∷ [])
 
 abbrev tested_code : UnitFlow
-tested_code = record { unit = tested; graph = graph_of tested; kinds = Some [] ∷ Some (Int ∷ []) ∷ Some [] ∷ Some [] ∷ [] }
+tested_code =
+    record { unit = tested; graph = graph_of tested; kinds = Some [] ∷ Some (Int ∷ []) ∷ Some [] ∷ Some [] ∷ [] }
 
 -- the passes bring these kinds
 kinds_found : flow_of tested ≡ tested_code
@@ -60,13 +71,21 @@ target_first = refl
 one_byte : IsByte (pos 1)
 one_byte = (omega (arith, ints), omega (arith, ints))
 
-goes_to_target : GoesAlong tested_code 0 (at_offset 0 [] (values.Int (pos 1)) []) (at_offset 4 [] (values.Int (pos 1)) [])
+goes_to_target : GoesAlong tested_code 0 (at_offset 0 [] (values.Int (pos 1)) [])
+    (at_offset 4 [] (values.Int (pos 1)) [])
 goes_to_target = (
   at_offset 1 (values.Int (pos 1) ∷ []) (values.Int (pos 1)) [],
   record {
     of = record {
       heap = tt;
-      frame = record { args = (one_byte, tt); locals = tt; stack = tt; entry_heap_is = tt; entry_args = (one_byte, tt); kept = tt };
+      frame = record {
+        args = (one_byte, tt);
+        locals = tt;
+        stack = tt;
+        entry_heap_is = tt;
+        entry_args = (one_byte, tt);
+        kept = tt;
+      };
     };
     to = refl;
     goes = (instr 0 1 (ops.Const (pos 1)), refl, (_, inl refl, refl));
@@ -75,7 +94,14 @@ goes_to_target = (
     record {
       of = record {
         heap = tt;
-        frame = record { args = (one_byte, tt); locals = tt; stack = (omega (arith, ints), tt); entry_heap_is = tt; entry_args = (one_byte, tt); kept = tt };
+        frame = record {
+          args = (one_byte, tt);
+          locals = tt;
+          stack = (omega (arith, ints), tt);
+          entry_heap_is = tt;
+          entry_args = (one_byte, tt);
+          kept = tt;
+        };
       };
       to = refl;
       goes = (instr 1 2 (ops.Branch tests.True 4), refl, (_, inl refl, refl));
@@ -88,10 +114,13 @@ goes_to_target = (
 
 -- 1 goes to 4, where the array is not null, and else on to 3.
 abbrev given : MethodUnit
-given = method [] places.Void (places.Ints ∷ []) [] [] 0 [] ((1, ops.LoadArg 0) ∷ (2, ops.Branch tests.True 4) ∷ (1, ops.Return) ∷ (1, ops.Return) ∷ [])
+given =
+    method [] places.Void (places.Ints ∷ []) [] [] 0 []
+    ((1, ops.LoadArg 0) ∷ (2, ops.Branch tests.True 4) ∷ (1, ops.Return) ∷ (1, ops.Return) ∷ [])
 
 abbrev given_code : UnitFlow
-given_code = record { unit = given; graph = graph_of given; kinds = Some [] ∷ Some (Ints ∷ []) ∷ Some [] ∷ Some [] ∷ [] }
+given_code =
+    record { unit = given; graph = graph_of given; kinds = Some [] ∷ Some (Ints ∷ []) ∷ Some [] ∷ Some [] ∷ [] }
 
 array_kinds : flow_of given ≡ given_code
 unfolding kinds_of
@@ -105,13 +134,26 @@ null_goes_on : GoesAlong given_code 1 (at_offset 0 [] values.Null []) (at_offset
 null_goes_on = (
   at_offset 1 (values.Null ∷ []) values.Null [],
   record {
-    of = record { heap = tt; frame = record { args = (tt, tt); locals = tt; stack = tt; entry_heap_is = tt; entry_args = (tt, tt); kept = tt } };
+    of = record {
+      heap = tt;
+      frame = record { args = (tt, tt); locals = tt; stack = tt; entry_heap_is = tt; entry_args = (tt, tt); kept = tt };
+    };
     to = refl;
     goes = (instr 0 1 (ops.LoadArg 0), refl, (_, inl refl, refl));
   },
   (
     record {
-      of = record { heap = tt; frame = record { args = (tt, tt); locals = tt; stack = (tt, tt); entry_heap_is = tt; entry_args = (tt, tt); kept = tt } };
+      of = record {
+        heap = tt;
+        frame = record {
+          args = (tt, tt);
+          locals = tt;
+          stack = (tt, tt);
+          entry_heap_is = tt;
+          entry_args = (tt, tt);
+          kept = tt;
+        };
+      };
       to = refl;
       goes = (instr 1 2 (ops.Branch tests.True 4), refl, (_, inl refl, refl));
     },
@@ -151,12 +193,20 @@ call_is_in_block = refl
 
 -- it may give any int32
 any_is_given : (n : ℤ) → FitsSigned w32 n
-    → Steps calling (instr 0 5 (ops.Call 100)) (at_offset 0 [] (values.Int (pos 1)) []) (at_offset 5 (values.Int n ∷ []) (values.Int (pos 1)) [])
+    → Steps calling (instr 0 5 (ops.Call 100)) (at_offset 0 [] (values.Int (pos 1)) [])
+    (at_offset 5 (values.Int n ∷ []) (values.Int (pos 1)) [])
 unfolding unit_call
 any_is_given n fits = record {
   of = record {
     heap = tt;
-    frame = record { args = (one_byte, tt); locals = tt; stack = tt; entry_heap_is = tt; entry_args = (one_byte, tt); kept = tt };
+    frame = record {
+      args = (one_byte, tt);
+      locals = tt;
+      stack = tt;
+      entry_heap_is = tt;
+      entry_args = (one_byte, tt);
+      kept = tt;
+    };
   };
   to = refl;
   goes = (
@@ -170,7 +220,16 @@ any_is_given n fits = record {
       freely = inr (
         [],
         Some (values.Int n),
-        record { heap_is = tt; keeps = record { forms = tt; items = λ a below apart. refl }; fits = fits; passed_or_new = tt; ensured = refl },
+        record {
+          heap_is = tt;
+          keeps = record {
+            forms = tt;
+            items = λ a below apart. refl;
+          };
+          fits = fits;
+          passed_or_new = tt;
+          ensured = refl;
+        },
         refl,
       );
     },

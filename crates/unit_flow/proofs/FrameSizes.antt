@@ -8,7 +8,8 @@ use Rattle.cil_model.specs.declared.machine.Value.{Value}
 use Rattle.cil_model.specs.declared.place.Place.{Place}
 use Rattle.cil_model.specs.declared.unit.Unit.{Unit as MethodUnit}
 
-pub fit_length : (heap : Heap) (places : List Place) (vs : List Value) → FitPlaces heap places vs → length vs ≡ length places
+pub fit_length : (heap : Heap) (places : List Place) (vs : List Value) → FitPlaces heap places vs
+    → length vs ≡ length places
 fit_length heap [] [] fit = refl
 fit_length heap [] (v ∷ vs) fit = absurd fit
 fit_length heap (p ∷ ps) [] fit = absurd fit

@@ -10,12 +10,17 @@ use Rattle.stack_typer.proofs.Unique.{kinds_once, not_both}
 use Rattle.unit_flow.specs.FlowOf.{kinds_of}
 use Rattle.unit_flow.proofs.Settled.{settles}
 
-pub found_kinds : (unit : MethodUnit) (stacks : Stacks) → KindsOf (shape_of unit) unit.instrs stacks → stacks ≡ kinds_of unit
+pub found_kinds : (unit : MethodUnit) (stacks : Stacks) → KindsOf (shape_of unit) unit.instrs stacks
+    → stacks ≡ kinds_of unit
 unfolding kinds_of
-found_kinds unit stacks are = by_answer (after_passes (shape_of unit) unit.instrs (most_passes (shape_of unit) unit.instrs)) refl
+found_kinds unit stacks are =
+    by_answer (after_passes (shape_of unit) unit.instrs (most_passes (shape_of unit) unit.instrs)) refl
   where
-    by_answer : (answer : Result Stacks TypeFault) → after_passes (shape_of unit) unit.instrs (most_passes (shape_of unit) unit.instrs) ≡ answer
+    by_answer : (answer : Result Stacks TypeFault)
+        → after_passes (shape_of unit) unit.instrs (most_passes (shape_of unit) unit.instrs) ≡ answer
         → stacks ≡ result_unwrap_or answer []
-    by_answer (Ok others) e = kinds_once (shape_of unit) unit.instrs stacks others are (settles (shape_of unit) unit.instrs others e)
+    by_answer (Ok others) e =
+        kinds_once (shape_of unit) unit.instrs stacks others are (settles (shape_of unit) unit.instrs others e)
     by_answer (Err fault) e =
-        absurd (not_both (shape_of unit) unit.instrs stacks fault are (record { passes = most_passes (shape_of unit) unit.instrs; met = e }))
+        absurd (not_both (shape_of unit) unit.instrs stacks fault are
+        (record { passes = most_passes (shape_of unit) unit.instrs; met = e }))

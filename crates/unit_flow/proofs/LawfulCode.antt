@@ -1,5 +1,5 @@
 -- What lawful code is: short, decoded, with a first block and edges that join blocks.
-use Rattle.std.proofs.Common.{◌≡◌, ℕ, ◌+◌, ◌<◌, ◌≤◌, true, List, [], ◌∷◌, length, get_or, slice_get, Option, Some, sym, ap, subst, ◌∙◌, add-one, arith}
+use Rattle.std.proofs.Common.{◌≡◌, ℕ, ◌+◌, ◌<◌, true, List, [], ◌∷◌, length, get_or, slice_get, Some, sym, ap, subst, ◌∙◌, add-one, arith}
 use Rattle.std.specs.List.{AllByRecursion}
 use Rattle.std.proofs.lemmas.List.Elements.{All-from_recursion}
 use Rattle.std.proofs.lemmas.Option.{none-some}
@@ -51,7 +51,8 @@ module _ (code : UnitFlow) (lawful : IsLawful code) where
   pub lawful_body : HasBody unit.instrs code.kinds unit.body_start
   lawful_body =
       let runs = lawful.formed.runs in
-      subst (λ (stacks : Stacks). HasBody unit.instrs stacks unit.body_start) (kinds_once (shape_of unit) unit.instrs runs.stacks code.kinds runs.kinds lawful.kinds) runs.body
+      subst (λ (stacks : Stacks). HasBody unit.instrs stacks unit.body_start)
+      (kinds_once (shape_of unit) unit.instrs runs.stacks code.kinds runs.kinds lawful.kinds) runs.body
 
   -- ---- the first block
 
@@ -60,7 +61,8 @@ module _ (code : UnitFlow) (lawful : IsLawful code) where
       subst (λ (g : Graph). slice_get g.blocks 0 ≡ Some unit.body_start) (sym lawful.graph)
       (first_block unit short (found (reached_begins unit.instrs code.kinds unit.body_start [] lawful_body.empty)))
     where
-      found : (i : Instr) × (instr_at unit.instrs unit.body_start ≡ Some i) → begins_at unit.instrs unit.body_start ≡ true
+      found : (i : Instr) × (instr_at unit.instrs unit.body_start ≡ Some i)
+          → begins_at unit.instrs unit.body_start ≡ true
       found (i, there) = found_begins unit.instrs unit.body_start i there
 
   pub has_block : 0 < length code.graph.blocks
@@ -84,22 +86,26 @@ module _ (code : UnitFlow) (lawful : IsLawful code) where
     edge = edge_at code k
 
     pub joins : JoinsBlocks code.graph.blocks edge
-    joins = subst (λ (g : Graph). k < length g.edges → JoinsBlocks g.blocks (get_or g.edges k no_edge)) (sym lawful.graph)
+    joins =
+        subst (λ (g : Graph). k < length g.edges → JoinsBlocks g.blocks (get_or g.edges k no_edge)) (sym lawful.graph)
         (λ inside. edges_join unit k no_edge inside) below
 
     leaves : Leaves unit edge
     leaves = subst (λ (g : Graph). k < length g.edges → Leaves unit (get_or g.edges k no_edge)) (sym lawful.graph)
-        (λ inside. All-from_recursion (Leaves unit) (edges_of unit) (edges_leave_blocks unit short) k no_edge inside) below
+        (λ inside. All-from_recursion (Leaves unit) (edges_of unit)
+        (edges_leave_blocks unit short) k no_edge inside) below
 
     -- The target of the edge, as its way ends.
     target_is : leaves.1.at ≡ start_of code edge.to
     target_is = subst (λ (g : Graph). leaves.1.at ≡ get_or g.blocks edge.to 0) (sym lawful.graph)
-        (sym (item_there (blocks_of unit) edge.to leaves.1.at 0 (place_within (blocks_of unit) leaves.1.at edge.to leaves.1.placed).1))
+        (sym (item_there (blocks_of unit) edge.to leaves.1.at 0
+        (place_within (blocks_of unit) leaves.1.at edge.to leaves.1.placed).1))
 
     -- The instructions of the block that an edge leaves are the way to its target.
     pub way : IsWay unit (start_of code edge.from) edge.number (start_of code edge.to) (block_instrs code edge.from)
     way =
         subst (λ (at : ℕ). IsWay unit (start_of code edge.from) edge.number at (block_instrs code edge.from)) target_is
-        (subst (λ (g : Graph). IsWay unit (get_or g.blocks edge.from 0) edge.number leaves.1.at (instrs_between (get_or g.blocks edge.from 0) (slice_get g.blocks (edge.from + 1)) unit.instrs))
+        (subst (λ (g : Graph). IsWay unit (get_or g.blocks edge.from 0) edge.number leaves.1.at
+        (instrs_between (get_or g.blocks edge.from 0) (slice_get g.blocks (edge.from + 1)) unit.instrs))
         (sym lawful.graph)
         (rw (add-one edge.from) (block_way unit short edge leaves.0 leaves.1 lawful_body.executed short_switches)))

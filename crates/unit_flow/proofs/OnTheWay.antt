@@ -1,5 +1,6 @@
--- A point to which a run comes has come along edges to the start of a block, and from there by the block's instructions.
-use Rattle.std.proofs.Common.{◌≡◌, ◌⊎◌, ℕ, zero, suc, ◌+◌, ◌<◌, ◌≤◌, true, false, List, [], ◌∷◌, length, slice_get, Some, refl, sym, ap, subst, ◌∙◌, arith, inl, inr}
+-- A point to which a run comes has come along edges to the start of a block, and from there by the instructions of the
+-- block.
+use Rattle.std.proofs.Common.{◌≡◌, ◌⊎◌, ℕ, zero, suc, ◌+◌, ◌<◌, ◌≤◌, false, List, [], ◌∷◌, length, slice_get, Some, refl, sym, ap, subst, ◌∙◌, arith, inl, inr}
 use Rattle.std.specs.List.{AllByRecursion}
 use Rattle.std.proofs.lemmas.Bool.{false≢true}
 use Rattle.std.proofs.lemmas.Option.{none-some, same_Some}
@@ -21,7 +22,7 @@ use Rattle.cil_model.specs.declared.machine.Value.{Value}
 use Rattle.cil_model.specs.declared.unit.Unit.{Unit as MethodUnit}
 use Rattle.cil_model.proofs.KindsSettle.{found_at, reached_begins}
 use Rattle.cil_model.proofs.Lists.{all_append, of_found}
-use Rattle.cil_model.proofs.StepsKeep.{KeepsFrame, MakesValues, local_step_keeps}
+use Rattle.cil_model.proofs.StepsKeep.{KeepsFrame, local_step_keeps}
 use Rattle.cil_model.proofs.TypedCode.{typed_code_steps}
 use Rattle.flow_graph.proofs.StepsGo.{step_goes}
 use Rattle.machine_points.specs.Points.{IsReached, lives_at, point}
@@ -48,7 +49,8 @@ pub record IsThere (is rest : List Instr) (p q : Point) : Type 0 where
 -- From before these instructions a point goes on by the first of them, to before the rest.
 abbrev pub Passes : MethodUnit → List Instr → Point → List Instr → Point → Type 0
 Passes unit [] p rest q = IsThere [] rest p q
-Passes unit (i ∷ is) p rest q = IsThere (i ∷ is) rest p q ⊎ ((mid : Point) × Steps unit i p mid × Passes unit is mid rest q)
+Passes unit (i ∷ is) p rest q =
+    IsThere (i ∷ is) rest p q ⊎ ((mid : Point) × Steps unit i p mid × Passes unit is mid rest q)
 
 there : (is : List Instr) (p : Point) → IsThere is is p p
 there is p = record { rest_is = refl; point_is = refl }
@@ -66,8 +68,10 @@ same_rest i j is js same = cc
 none_first : (i : Instr) (is : List Instr) → i ∷ is ≡ [] → ⊥
 none_first i is same = cc
 
-steps_from : (unit : MethodUnit) (i k : Instr) (p q new : Point) → i ≡ k → q ≡ p → Steps unit i q new → Steps unit k p new
-steps_from unit i k p q new same is step = subst (λ (x : Instr). Steps unit x p new) same (subst (λ (x : Point). Steps unit i x new) is step)
+steps_from : (unit : MethodUnit) (i k : Instr) (p q new : Point) → i ≡ k → q ≡ p → Steps unit i q new
+    → Steps unit k p new
+steps_from unit i k p q new same is step =
+    subst (λ (x : Instr). Steps unit x p new) same (subst (λ (x : Point). Steps unit i x new) is step)
 
 passes_more : (unit : MethodUnit) (is : List Instr) (p : Point) (i j : Instr) (rest : List Instr) (q new : Point)
     → Passes unit is p (i ∷ j ∷ rest) q → Steps unit i q new → Passes unit is p (j ∷ rest) new
@@ -75,30 +79,39 @@ passes_more unit [] p i j rest q new is_there step = absurd (none_first i (j ∷
 passes_more unit (k ∷ is) p i j rest q new (inl is_there) step = inr (
   new,
   steps_from unit i k p q new (same_first i k (j ∷ rest) is is_there.rest_is) is_there.point_is step,
-  subst (λ (js : List Instr). Passes unit js new (j ∷ rest) new) (same_rest i k (j ∷ rest) is is_there.rest_is) (passes_none unit (j ∷ rest) new),
+  subst (λ (js : List Instr). Passes unit js new (j ∷ rest) new) (same_rest i k (j ∷ rest) is is_there.rest_is)
+      (passes_none unit (j ∷ rest) new),
 )
-passes_more unit (k ∷ is) p i j rest q new (inr (mid, first, more)) step = inr (mid, first, passes_more unit is mid i j rest q new more step)
+passes_more unit (k ∷ is) p i j rest q new (inr (mid, first, more)) step =
+    inr (mid, first, passes_more unit is mid i j rest q new more step)
 
 passes_all : (unit : MethodUnit) (number : ℕ) (is : List Instr) (p : Point) (i : Instr) (q new : Point)
-    → Passes unit is p (i ∷ []) q → Steps unit i q new → way_of i.op q.frame.stack ≡ number → GoesThrough unit number is p new
+    → Passes unit is p (i ∷ []) q → Steps unit i q new → way_of i.op q.frame.stack ≡ number
+    → GoesThrough unit number is p new
 passes_all unit number [] p i q new is_there step way = absurd (none_first i [] is_there.rest_is)
 passes_all unit number (k ∷ []) p i q new (inl is_there) step way =
     let same : i ≡ k = same_first i k [] [] is_there.rest_is in (
       steps_from unit i k p q new same is_there.point_is step,
-      subst (λ (x : Instr). way_of x.op p.frame.stack ≡ number) same (subst (λ (x : Point). way_of i.op x.frame.stack ≡ number) is_there.point_is way),
+      subst (λ (x : Instr). way_of x.op p.frame.stack ≡ number) same
+          (subst (λ (x : Point). way_of i.op x.frame.stack ≡ number) is_there.point_is way),
     )
-passes_all unit number (k ∷ []) p i q new (inr (mid, first, is_there)) step way = absurd (none_first i [] is_there.rest_is)
-passes_all unit number (k ∷ l ∷ is) p i q new (inl is_there) step way = absurd (none_first l is (sym (same_rest i k [] (l ∷ is) is_there.rest_is)))
-passes_all unit number (k ∷ l ∷ is) p i q new (inr (mid, first, more)) step way = (mid, first, passes_all unit number (l ∷ is) mid i q new more step way)
+passes_all unit number (k ∷ []) p i q new (inr (mid, first, is_there)) step way =
+    absurd (none_first i [] is_there.rest_is)
+passes_all unit number (k ∷ l ∷ is) p i q new (inl is_there) step way =
+    absurd (none_first l is (sym (same_rest i k [] (l ∷ is) is_there.rest_is)))
+passes_all unit number (k ∷ l ∷ is) p i q new (inr (mid, first, more)) step way =
+    (mid, first, passes_all unit number (l ∷ is) mid i q new more step way)
 
 -- ---- steps stay in the body
 
-successors_inside : (start : ℕ) (op : Op) (next : ℕ) → start ≤ next → AllByRecursion (λ at. start ≤ at) (branch_targets op)
+successors_inside : (start : ℕ) (op : Op) (next : ℕ) → start ≤ next
+    → AllByRecursion (λ at. start ≤ at) (branch_targets op)
     → AllByRecursion (λ at. start ≤ at) (successors op next)
 successors_inside start ops.Return next behind inside = tt
 successors_inside start (ops.Branch tests.Always target) next behind inside = inside
 successors_inside start (ops.Branch test target) next behind inside = (inside.0, (behind, tt))
-successors_inside start (ops.Switch targets) next behind inside = all_append (λ at. start ≤ at) targets (next ∷ []) inside (behind, tt)
+successors_inside start (ops.Switch targets) next behind inside =
+    all_append (λ at. start ≤ at) targets (next ∷ []) inside (behind, tt)
 successors_inside start _ next behind inside = (behind, tt)
 
 only : (next n at : ℕ) → slice_get (next ∷ []) n ≡ Some at → at ≡ next
@@ -110,8 +123,8 @@ pub record IsInBody (code : UnitFlow) (p : Point) : Type 0 where
   pub fits : FrameFits code.unit code.kinds p.heap p.frame
   pub inside : code.unit.body_start ≤ p.frame.at
 
--- The point came along so many edges to the start of a block, and from there to before the rest of the block. It is there
--- still, or where no block starts.
+-- The point came along so many edges to the start of a block, and from there to before the rest of the block. It is
+-- there still, or where no block starts.
 pub record IsOnItsWay (code : UnitFlow) (p : Point) : Type 0 where
   pub block : ℕ
   pub below : block < length code.graph.blocks
@@ -135,7 +148,8 @@ module _ (code : UnitFlow) (lawful : IsLawful code) where
   itself = record { shape_is = refl; instrs_are = refl }
 
   -- At the start of a block.
-  starts : (block count : ℕ) (p : Point) → block < length code.graph.blocks → p.frame.at ≡ start_of code block → ComesTo code count block p → IsOnItsWay code p
+  starts : (block count : ℕ) (p : Point) → block < length code.graph.blocks → p.frame.at ≡ start_of code block
+      → ComesTo code count block p → IsOnItsWay code p
   starts block count p below here came = record {
     block = block;
     below = below;
@@ -145,17 +159,21 @@ module _ (code : UnitFlow) (lawful : IsLawful code) where
     came = came;
     rest = block_instrs code block;
     passes = passes_none unit (block_instrs code block) p;
-    chain = subst (λ (at : ℕ). IsChain unit code.graph block at (block_instrs code block)) (sym here) (block_chain code lawful block below);
+    chain =
+        subst (λ (at : ℕ). IsChain unit code.graph block at (block_instrs code block)) (sym here)
+        (block_chain code lawful block below);
     still = inl refl;
   }
 
-  enters : (index : ℕ) (args : List Value) (heap : Heap) → MayBegin unit args heap → IsOnItsWay code (point (entry_frame unit index args heap) heap)
+  enters : (index : ℕ) (args : List Value) (heap : Heap) → MayBegin unit args heap
+      → IsOnItsWay code (point (entry_frame unit index args heap) heap)
   enters index args heap begins =
       starts 0 0 (point (entry_frame unit index args heap) heap) (laws.has_block code lawful)
       (sym (laws.first_start code lawful))
       (record { index = index; args = args; heap = heap; may = begins; is = refl }, refl)
 
-  module _ (p q : Point) (in_body : IsInBody code p) (on : IsInBody code q) (step : LocalStep unit (lives_at p) (lives_at q)) where
+  module _ (p q : Point) (in_body : IsInBody code p) (on : IsInBody code q)
+      (step : LocalStep unit (lives_at p) (lives_at q)) where
     by_it : (i : Instr) → i.at ≡ p.frame.at → instr_at unit.instrs i.at ≡ Some i → Steps unit i p q
     by_it i here found = record {
       of = record { heap = in_body.fits.heap_is; frame = in_body.fits.frame };
@@ -178,11 +196,14 @@ module _ (code : UnitFlow) (lawful : IsLawful code) where
         let along : GoesAlong code k way.first q =
         subst (λ (b : ℕ). GoesThrough unit (edge_at code k).number (block_instrs code b) way.first q) (sym edge.from)
         (subst (λ (m : ℕ). GoesThrough unit m (block_instrs code way.block) way.first q) (sym edge.number) through) in
-        let before : ComesTo code way.count (edge_at code k).from way.first = subst (λ (b : ℕ). ComesTo code way.count b way.first) (sym edge.from) way.came in
-        starts (edge_at code k).to (suc way.count) q (laws.joins code lawful k edge.below).to (sym edge.to) (k, edge.below, refl, (way.first, before, along))
+        let before : ComesTo code way.count (edge_at code k).from way.first =
+        subst (λ (b : ℕ). ComesTo code way.count b way.first) (sym edge.from) way.came in
+        starts (edge_at code k).to (suc way.count) q (laws.joins code lawful k edge.below).to (sym edge.to)
+        (k, edge.below, refl, (way.first, before, along))
 
     -- From another it goes to the next one.
-    goes_within : (way : IsOnItsWay code p) (i j : Instr) (is : List Instr) → Passes unit (block_instrs code way.block) way.first (i ∷ j ∷ is) p
+    goes_within : (way : IsOnItsWay code p) (i j : Instr) (is : List Instr)
+        → Passes unit (block_instrs code way.block) way.first (i ∷ j ∷ is) p
         → IsChain unit code.graph way.block p.frame.at (i ∷ j ∷ is) → IsOnItsWay code q
     unfolding by_it
     goes_within way i j is passes chain =
@@ -207,7 +228,8 @@ module _ (code : UnitFlow) (lawful : IsLawful code) where
     goes_on : IsOnItsWay code p → IsOnItsWay code q
     goes_on way = by way.rest way.passes way.chain
       where
-        by : (rest : List Instr) → Passes unit (block_instrs code way.block) way.first rest p → IsChain unit code.graph way.block p.frame.at rest → IsOnItsWay code q
+        by : (rest : List Instr) → Passes unit (block_instrs code way.block) way.first rest p
+            → IsChain unit code.graph way.block p.frame.at rest → IsOnItsWay code q
         by [] passes chain = elim chain [ ]
         by (i ∷ []) passes chain = leaves way i passes chain
         by (i ∷ j ∷ is) passes chain = goes_within way i j is passes chain
@@ -218,7 +240,9 @@ module _ (code : UnitFlow) (lawful : IsLawful code) where
       let i = step.0 in
       let here = found_at unit.instrs f.at i step.1 in
       let inside = in_body.inside in
-      let targets = of_found (λ j. unit.body_start ≤ j.at → AllByRecursion (λ at. unit.body_start ≤ at) (branch_targets j.op)) unit.instrs f.at i (laws.lawful_body code lawful).inside step.1
+      let targets =
+      of_found (λ j. unit.body_start ≤ j.at → AllByRecursion (λ at. unit.body_start ≤ at)
+      (branch_targets j.op)) unit.instrs f.at i (laws.lawful_body code lawful).inside step.1
       (omega (arith, here, inside)) in
       let goes = step_goes unit i f q.frame p.heap q.heap step step.1 in
       record {
@@ -235,7 +259,8 @@ module _ (code : UnitFlow) (lawful : IsLawful code) where
   IsFine (configs.Live _ heap) = ⊥
   IsFine _ = Unit {0}
 
-  steps_on : (p : Point) (new : Config) → IsInBody code p → IsOnItsWay code p → LocalStep unit (lives_at p) new → KeepsFrame unit p.frame p.heap new → IsFine new
+  steps_on : (p : Point) (new : Config) → IsInBody code p → IsOnItsWay code p → LocalStep unit (lives_at p) new
+      → KeepsFrame unit p.frame p.heap new → IsFine new
   steps_on p (configs.Live (g ∷ []) after) in_body way step kept =
       let on = stays p (point g after) in_body step in (on, goes_on p (point g after) in_body on step way)
   steps_on p (configs.Live [] after) in_body way step kept = absurd kept
@@ -244,7 +269,8 @@ module _ (code : UnitFlow) (lawful : IsLawful code) where
 
   fine_step : (c new : Config) → IsFine c → LocalStep unit c new → IsFine new
   fine_step (configs.Live (f ∷ []) heap) new (in_body, way) step =
-      steps_on (point f heap) new in_body way step (local_step_keeps unit f heap in_body.fits.heap_is in_body.fits.frame new (makes code lawful) step)
+      steps_on (point f heap) new in_body way step
+      (local_step_keeps unit f heap in_body.fits.heap_is in_body.fits.frame new (makes code lawful) step)
   fine_step (configs.Live [] heap) new fine step = absurd fine
   fine_step (configs.Live (f ∷ g ∷ frames) heap) new fine step = absurd fine
   fine_step _ new fine step = absurd step
@@ -253,10 +279,20 @@ module _ (code : UnitFlow) (lawful : IsLawful code) where
   fine_steps start zero c fine same = subst IsFine (sym same) fine
   fine_steps start (suc n) c fine (mid, steps, step) = fine_step mid c (fine_steps start n mid fine steps) step
 
-  fine_entry : (index : ℕ) (args : List Value) (heap : Heap) → MayBegin unit args heap → IsFine (entry_config unit index args heap)
+  fine_entry : (index : ℕ) (args : List Value) (heap : Heap) → MayBegin unit args heap
+      → IsFine (entry_config unit index args heap)
   fine_entry index args heap begins =
       let of = entry_point unit index args heap lawful.formed.locals begins in (
-        record { fits = record { heap_is = of.heap; frame = of.frame; kinds = []; before = (laws.lawful_body code lawful).empty; fit = tt }; inside = omega arith },
+        record {
+          fits = record {
+            heap_is = of.heap;
+            frame = of.frame;
+            kinds = [];
+            before = (laws.lawful_body code lawful).empty;
+            fit = tt;
+          };
+          inside = omega arith;
+        },
         enters index args heap begins,
       )
 
@@ -273,36 +309,45 @@ module _ (code : UnitFlow) (lawful : IsLawful code) where
     pub way : IsOnItsWay code before
     pub step : LocalStep unit (lives_at before) (configs.Fault kind index at)
 
-  fault_step : (c : Config) (kind : FaultKind) (index at : ℕ) → IsFine c → LocalStep unit c (configs.Fault kind index at) → StepsToFault kind index at
-  fault_step (configs.Live (f ∷ []) heap) kind index at (in_body, way) step = record { before = point f heap; in_body = in_body; way = way; step = step }
+  fault_step : (c : Config) (kind : FaultKind) (index at : ℕ) → IsFine c
+      → LocalStep unit c (configs.Fault kind index at) → StepsToFault kind index at
+  fault_step (configs.Live (f ∷ []) heap) kind index at (in_body, way) step =
+      record { before = point f heap; in_body = in_body; way = way; step = step }
   fault_step (configs.Live [] heap) kind index at fine step = absurd fine
   fault_step (configs.Live (f ∷ g ∷ frames) heap) kind index at fine step = absurd fine
   fault_step _ kind index at fine step = absurd step
 
   -- A run that ends in a fault.
-  pub run_faults : (start : ℕ) (args : List Value) (heap : Heap) (n : ℕ) (kind : FaultKind) (index at : ℕ) → LocalRuns unit start args heap n (configs.Fault kind index at)
+  pub run_faults : (start : ℕ) (args : List Value) (heap : Heap) (n : ℕ) (kind : FaultKind) (index at : ℕ)
+      → LocalRuns unit start args heap n (configs.Fault kind index at)
       → StepsToFault kind index at
   run_faults start args heap n kind index at runs = by n runs.steps
     where
-      by : (m : ℕ) → StepsTo (LocalStep unit) (entry_config unit start args heap) m (configs.Fault kind index at) → StepsToFault kind index at
+      by : (m : ℕ) → StepsTo (LocalStep unit) (entry_config unit start args heap) m (configs.Fault kind index at)
+          → StepsToFault kind index at
       by zero same = absurd (cc)
       by (suc m) (mid, steps, step) =
-          fault_step mid kind index at (fine_steps (entry_config unit start args heap) m mid (fine_entry start args heap runs.begins) steps) step
+          fault_step mid kind index at (fine_steps (entry_config unit start args heap) m mid
+          (fine_entry start args heap runs.begins) steps) step
 
   -- ---- starts of blocks
 
-  comes_there : (block : ℕ) (p : Point) → block < length code.graph.blocks → p.frame.at ≡ start_of code block → IsOnItsWay code p → (n : ℕ) × ComesTo code n block p
+  comes_there : (block : ℕ) (p : Point) → block < length code.graph.blocks → p.frame.at ≡ start_of code block
+      → IsOnItsWay code p → (n : ℕ) × ComesTo code n block p
   comes_there block p below here way =
       let start : IsStartOf code block (start_of code block) = block_starts_there code lawful block below in
       elim way.still [
         | inl same ↦
-            let at_start : start_of code way.block ≡ start_of code block = sym way.here ∙ (ap (λ (r : Point). r.frame.at) (sym same) ∙ here) in
+            let at_start : start_of code way.block ≡ start_of code block =
+            sym way.here ∙ (ap (λ (r : Point). r.frame.at) (sym same) ∙ here) in
             let block_is : way.block ≡ block = start.alone way.block way.below at_start in (
               way.count,
-              subst (λ (b : ℕ). ComesTo code way.count b p) block_is (subst (λ (r : Point). ComesTo code way.count way.block r) (sym same) way.came),
+              subst (λ (b : ℕ). ComesTo code way.count b p) block_is
+                  (subst (λ (r : Point). ComesTo code way.count way.block r) (sym same) way.came),
             )
         | inr inner ↦ absurd (false≢true (sym inner ∙ (ap (is_block_start unit) here ∙ start.marked)))
       ]
 
 pub runs_go_along : (code : UnitFlow) → IsLawful code → RunsGoAlong code
-runs_go_along code lawful = λ block p comes. comes_there code lawful block p comes.below comes.here (run_comes code lawful p comes.reached).1
+runs_go_along code lawful =
+    λ block p comes. comes_there code lawful block p comes.below comes.here (run_comes code lawful p comes.reached).1

@@ -29,6 +29,7 @@ module _ {X : Type 0} where
   of_place P (y ∷ xs) zero x all there = subst P (same_Some y x there) all.0
   of_place P (y ∷ xs) (suc n) x all there = of_place P xs n x all.1 there
 
-  pub both : (P Q : X → Type 0) (xs : List X) → AllByRecursion P xs → AllByRecursion Q xs → AllByRecursion (λ x. P x × Q x) xs
+  pub both : (P Q : X → Type 0) (xs : List X) → AllByRecursion P xs → AllByRecursion Q xs
+      → AllByRecursion (λ x. P x × Q x) xs
   both P Q [] first second = tt
   both P Q (x ∷ xs) first second = ((first.0, second.0), both P Q xs first.1 second.1)

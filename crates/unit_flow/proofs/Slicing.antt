@@ -16,16 +16,19 @@ use Rattle.unit_flow.proofs.LawfulCode.{short}
 use Rattle.unit_flow.proofs.Places.{there_is}
 
 -- Where those that pass come first, they are so many from the front.
-pub passing_front : {X : Type 0} (p : X → Bool) (xs : List X) (k : ℕ) → k ≤ length xs → AllWithin (λ x. p x ≡ true) xs 0 k → AllWithin (λ x. p x ≡ false) xs k (length xs)
+pub passing_front : {X : Type 0} (p : X → Bool) (xs : List X) (k : ℕ) → k ≤ length xs
+    → AllWithin (λ x. p x ≡ true) xs 0 k → AllWithin (λ x. p x ≡ false) xs k (length xs)
     → take k xs ≡ filter p xs
 passing_front p [] zero le front behind = refl
 passing_front p [] (suc k) le front behind = refl
 passing_front p (x ∷ xs) zero le front behind =
     rw (behind zero x (omega arith) (omega arith))
-    (passing_front p xs zero (omega arith) (λ j d low high. absurd (omega (arith, low, high))) (λ j d low high. behind (suc j) d (omega arith) (omega (arith, high))))
+    (passing_front p xs zero (omega arith) (λ j d low high. absurd (omega (arith, low, high)))
+    (λ j d low high. behind (suc j) d (omega arith) (omega (arith, high))))
 passing_front p (x ∷ xs) (suc k) le front behind =
     rw (front zero x (omega arith) (omega arith))
-    (ap (λ ys. x ∷ ys) (passing_front p xs k (omega (arith, le)) (λ j d low high. front (suc j) d (omega arith) (omega (arith, high)))
+    (ap (λ ys. x ∷ ys) (passing_front p xs k (omega (arith, le))
+    (λ j d low high. front (suc j) d (omega arith) (omega (arith, high)))
     (λ j d low high. behind (suc j) d (omega (arith, low)) (omega (arith, high)))))
 
 -- ---- the instructions of a block
@@ -40,16 +43,20 @@ none_at (x ∷ xs) zero le = absurd (omega (arith, le))
 none_at (x ∷ xs) (suc n) le = none_at xs n (omega (arith, le))
 
 -- The instructions of lawful code rise.
-pub instrs_rise : (code : UnitFlow) (is : List Instr) → is ≡ code.unit.instrs → IsLawful code → IsNonDecreasingBy (λ i. i.at) is
+pub instrs_rise : (code : UnitFlow) (is : List Instr) → is ≡ code.unit.instrs → IsLawful code
+    → IsNonDecreasingBy (λ i. i.at) is
 instrs_rise code is same lawful = rw same (offsets_rise code.unit.instrs (short code lawful))
 
-module _ (code : UnitFlow) (block : ℕ) (blocks : List ℕ) (is : List Instr) (starts : blocks ≡ code.graph.blocks) (instrs : is ≡ code.unit.instrs) where
+module _ (code : UnitFlow) (block : ℕ) (blocks : List ℕ) (is : List Instr) (starts : blocks ≡ code.graph.blocks)
+    (instrs : is ≡ code.unit.instrs) where
   abbrev rest : List Instr
   rest = filter (λ i. nat_le (get_or blocks block 0) i.at) is
 
   -- a block before another
-  pub inner_block : block + 1 < length blocks → filter (λ i. nat_lt i.at (get_or blocks (block + 1) 0)) rest ≡ block_instrs code block
-  inner_block below = ap (λ (end : Option ℕ). filter (λ i. is_before end i.at) rest) (sym (there_is blocks (block + 1) 0 below)) ∙ same
+  pub inner_block : block + 1 < length blocks
+      → filter (λ i. nat_lt i.at (get_or blocks (block + 1) 0)) rest ≡ block_instrs code block
+  inner_block below =
+      ap (λ (end : Option ℕ). filter (λ i. is_before end i.at) rest) (sym (there_is blocks (block + 1) 0 below)) ∙ same
     where
       same : instrs_between (get_or blocks block 0) (slice_get blocks (block + 1)) is ≡ block_instrs code block
       same = cc
@@ -72,8 +79,10 @@ module _ (code : UnitFlow) (block : ℕ) (blocks : List ℕ) (is : List Instr) (
       same : stack_at is code.kinds (get_or blocks block 0) ≡ kinds_at code block
       same = cc
 
-  pub some_kinds : (index : ℕ) (kinds : Option (List Kind)) → AreLaidOut is → BeginsAt is (get_or blocks block 0) index → kinds ≡ get_or code.kinds index None → kinds ≡ kinds_at code block
-  some_kinds index kinds laid begins there = there ∙ sym (stack_there is code.kinds (get_or blocks block 0) index laid begins) ∙ same
+  pub some_kinds : (index : ℕ) (kinds : Option (List Kind)) → AreLaidOut is → BeginsAt is (get_or blocks block 0) index
+      → kinds ≡ get_or code.kinds index None → kinds ≡ kinds_at code block
+  some_kinds index kinds laid begins there =
+      there ∙ sym (stack_there is code.kinds (get_or blocks block 0) index laid begins) ∙ same
     where
       same : stack_at is code.kinds (get_or blocks block 0) ≡ kinds_at code block
       same = cc

@@ -1,5 +1,5 @@
 -- What a step of a frame does by an instruction that calls no method: one of its effects, or a return.
-use Rattle.std.proofs.Common.{◌≡◌, ◌⊎◌, ℕ, zero, suc, ◌+◌, ◌<◌, List, [], ◌∷◌, ◌++◌, Option, Some, None, filter_map, length, refl, sym, subst, ◌∙◌, arith, inl, inr}
+use Rattle.std.proofs.Common.{◌≡◌, ◌⊎◌, ℕ, ◌+◌, ◌<◌, List, [], ◌∷◌, ◌++◌, Option, Some, None, filter_map, length, refl, sym, subst, ◌∙◌, arith, inl, inr}
 use Rattle.std.specs.List.{AllByRecursion}
 use Rattle.std.proofs.lemmas.Option.{none-some, same_Some}
 use Rattle.cil_model.specs.Calls.{FreeCall, ReturnRow, Returned, ensures_fault}
@@ -13,12 +13,14 @@ use Rattle.cil_model.specs.declared.instruction.Op.{Op}
 use Rattle.cil_model.specs.declared.instruction.Op.TheVariants as ops
 use Rattle.cil_model.specs.declared.machine.Config.{Config}
 use Rattle.cil_model.specs.declared.machine.Config.TheVariants as configs
+use Rattle.cil_model.specs.declared.machine.FaultKind.{FaultKind}
 use Rattle.cil_model.specs.declared.machine.Frame.{Frame}
 use Rattle.cil_model.specs.declared.machine.Value.{Value}
 use Rattle.cil_model.specs.declared.unit.CalleeInfo.{CalleeInfo}
 use Rattle.cil_model.specs.declared.unit.Unit.{Unit as MethodUnit}
 use Rattle.cil_model.specs.declared.unit_numbers.UnitCall.{UnitCall}
 use Rattle.cil_model.specs.declared.unit_numbers.UnitCall.TheVariants as calls
+use Rattle.cil_model.proofs.Lists.{of_found}
 use Rattle.machine_points.specs.Points.{lives_at}
 use Rattle.machine_points.specs.declared.point.Point.{Point}
 use Rattle.unit_flow.specs.Flow.{Steps}
@@ -28,51 +30,91 @@ no_caller [] caller e = cc
 no_caller (g ∷ outer) caller e = cc
 
 module _ (unit : MethodUnit) (i : Instr) (f : Frame) (heap : Heap) where
-  call_row : (call : Option UnitCall) (new : Config) → callee_of call ≡ None → CallsBy (FreeCall unit) call [] unit i f heap new → EffectRow [] unit i f heap new
+  call_row : (call : Option UnitCall) (new : Config) → callee_of call ≡ None
+      → CallsBy (FreeCall unit) call [] unit i f heap new → EffectRow [] unit i f heap new
   call_row (Some (calls.Callee number)) new calls_none row = absurd (none-some number (sym calls_none))
   call_row _ new calls_none row = row
 
   -- One of its effects, or a return.
   pub row_kind : (op : Op) (new : Config) → called_by op ≡ None → Row (FreeCall unit) op [] unit i f heap new
-      → EffectRow [] unit i f heap new ⊎ ReturnRow [] unit i f heap new
-  row_kind ops.Return new calls_none row = inr row
+      → EffectRow [] unit i f heap new ⊎ ((op ≡ ops.Return) × ReturnRow [] unit i f heap new)
+  row_kind ops.Return new calls_none row = inr (refl, row)
   row_kind (ops.Call number) new calls_none row = inl (call_row (unit_call number) new calls_none row)
   row_kind _ new calls_none row = inl row
 
-  no_return_on : (g : Frame) (after : Heap) (result : Option Value) (fault : Option ℕ) → Returned [] i f heap result fault (configs.Live (g ∷ []) after) → ⊥
+  no_return_on : (g : Frame) (after : Heap) (result : Option Value) (fault : Option ℕ)
+      → Returned [] i f heap result fault (configs.Live (g ∷ []) after) → ⊥
   no_return_on g after result (Some k) returned = cc
   no_return_on g after result None (inl ends) = let to = ends.1 in cc
   no_return_on g after result None (inr (outer, caller, are, to)) = no_caller outer caller are
+
+  -- ---- a step that goes on
 
   -- A frame that returns does not live on.
   pub no_return : (g : Frame) (after : Heap) → ReturnRow [] unit i f heap (configs.Live (g ∷ []) after) → ⊥
   no_return g after (result, is, returned) = no_return_on g after result (ensures_fault unit f heap result) returned
 
-  on_effect : (g : Frame) (after : Heap) (effect : Effect) → configs.Live (g ∷ []) after ≡ config_after [] f i effect → effect ≡ GoesOn g after
+  on_effect : (g : Frame) (after : Heap) (effect : Effect) → configs.Live (g ∷ []) after ≡ config_after [] f i effect
+      → effect ≡ GoesOn g after
   on_effect g after (GoesOn new heap) is = cc
   on_effect g after (Faults kind) is = absurd cc
   on_effect g after Assumes is = absurd cc
   on_effect g after FindsNoRoom is = absurd cc
 
   -- Where it lives on by an effect, it goes on by it.
-  pub goes_on : (g : Frame) (after : Heap) → EffectRow [] unit i f heap (configs.Live (g ∷ []) after) → HasEffect (effects unit i f heap) (GoesOn g after)
+  pub goes_on : (g : Frame) (after : Heap) → EffectRow [] unit i f heap (configs.Live (g ∷ []) after)
+      → HasEffect (effects unit i f heap) (GoesOn g after)
   goes_on g after (effect, has, is) = subst (HasEffect (effects unit i f heap)) (on_effect g after effect is) has
 
-  goes_by : (g : Frame) (after : Heap) → called_by i.op ≡ None → Row (FreeCall unit) i.op [] unit i f heap (configs.Live (g ∷ []) after)
+  goes_by : (g : Frame) (after : Heap) → called_by i.op ≡ None
+      → Row (FreeCall unit) i.op [] unit i f heap (configs.Live (g ∷ []) after)
       → HasEffect (effects unit i f heap) (GoesOn g after)
   goes_by g after calls_none row =
-      elim (row_kind i.op (configs.Live (g ∷ []) after) calls_none row) [ inl by ↦ goes_on g after by | inr returns ↦ absurd (no_return g after returns) ]
+      elim (row_kind i.op (configs.Live (g ∷ []) after) calls_none row) [
+        | inl by ↦ goes_on g after by
+        | inr returns ↦ absurd (no_return g after returns.1)
+      ]
+
+  -- ---- a step to a fault
+
+  fault_effect : (kind : FaultKind) (index at : ℕ) (effect : Effect)
+      → configs.Fault kind index at ≡ config_after [] f i effect → effect ≡ Faults kind
+  fault_effect kind index at (GoesOn new heap) is = absurd cc
+  fault_effect kind index at (Faults other) is = cc
+  fault_effect kind index at Assumes is = absurd cc
+  fault_effect kind index at FindsNoRoom is = absurd cc
+
+  -- Where it ends in a fault by an effect, that one is of this kind.
+  pub faults : (kind : FaultKind) (index at : ℕ) → EffectRow [] unit i f heap (configs.Fault kind index at)
+      → HasEffect (effects unit i f heap) (Faults kind)
+  faults kind index at (effect, has, is) =
+      subst (HasEffect (effects unit i f heap)) (fault_effect kind index at effect is) has
+
+  -- One of the effects, or a return, of which an Ensures is false.
+  pub faults_by : (kind : FaultKind) (index at : ℕ) → called_by i.op ≡ None
+      → Row (FreeCall unit) i.op [] unit i f heap (configs.Fault kind index at)
+      → HasEffect (effects unit i f heap) (Faults kind)
+      ⊎ ((i.op ≡ ops.Return) × ReturnRow [] unit i f heap (configs.Fault kind index at))
+  faults_by kind index at calls_none row =
+      elim (row_kind i.op (configs.Fault kind index at) calls_none row) [
+        | inl by ↦ inl (faults kind index at by)
+        | inr returns ↦ inr returns
+      ]
 
 -- The row of the instruction that is found.
-pub row_found : (unit : MethodUnit) (i : Instr) (f : Frame) (heap : Heap) (new : Config) → instr_at unit.instrs f.at ≡ Some i
+pub row_found : (unit : MethodUnit) (i : Instr) (f : Frame) (heap : Heap) (new : Config)
+    → instr_at unit.instrs f.at ≡ Some i
     → LocalStep unit (configs.Live (f ∷ []) heap) new → Row (FreeCall unit) i.op [] unit i f heap new
 row_found unit i f heap new found (j, found_j, row) =
     let same : j ≡ i = same_Some j i (sym found_j ∙ found) in
     subst (λ (k : Instr). Row (FreeCall unit) k.op [] unit k f heap new) same row
 
 -- A step by an instruction that calls no method is one of its effects.
-pub effect_of : (unit : MethodUnit) (i : Instr) (p q : Point) → called_by i.op ≡ None → Steps unit i p q → HasEffect (effects unit i p.frame p.heap) (GoesOn q.frame q.heap)
-effect_of unit i p q calls_none step = goes_by unit i p.frame p.heap q.frame q.heap calls_none (row_found unit i p.frame p.heap (lives_at q) step.to step.goes)
+pub effect_of : (unit : MethodUnit) (i : Instr) (p q : Point) → called_by i.op ≡ None → Steps unit i p q
+    → HasEffect (effects unit i p.frame p.heap) (GoesOn q.frame q.heap)
+effect_of unit i p q calls_none step =
+    goes_by unit i p.frame p.heap q.frame q.heap calls_none
+    (row_found unit i p.frame p.heap (lives_at q) step.to step.goes)
 
 -- ---- units without callees
 
@@ -89,17 +131,29 @@ no_numbers (n ∷ ns) (inr new) = absurd (none_in_order 1 ns (omega arith) new.1
 none_first : (n : ℕ) (ns : List ℕ) → n ∷ ns ≡ [] → ⊥
 none_first n ns e = cc
 
-none_called : (is : List Instr) → filter_map (λ i. called_by i.op) is ≡ [] → AllByRecursion (λ i. called_by i.op ≡ None) is
+none_called : (is : List Instr) → filter_map (λ i. called_by i.op) is ≡ []
+    → AllByRecursion (λ i. called_by i.op ≡ None) is
 none_called [] none = tt
 none_called (i ∷ is) none = by (called_by i.op) refl none (λ rest. none_called is rest)
   where
     by : (number : Option ℕ) → called_by i.op ≡ number → filter_map (λ j. called_by j.op) (i ∷ is) ≡ []
-        → (filter_map (λ j. called_by j.op) is ≡ [] → AllByRecursion (λ j. called_by j.op ≡ None) is) → AllByRecursion (λ j. called_by j.op ≡ None) (i ∷ is)
+        → (filter_map (λ j. called_by j.op) is ≡ [] → AllByRecursion (λ j. called_by j.op ≡ None) is)
+        → AllByRecursion (λ j. called_by j.op ≡ None) (i ∷ is)
     by None is_none none rest = (is_none, rest (rw is_none at none))
     by (Some n) is_some none rest = absurd (none_first n (filter_map (λ j. called_by j.op) is) (rw is_some at none))
 
 -- A well formed unit without callees calls no method.
-pub calls_none : (unit : MethodUnit) → IsWellFormed unit → unit.callees ≡ [] → AllByRecursion (λ i. called_by i.op ≡ None) unit.instrs
+pub calls_none : (unit : MethodUnit) → IsWellFormed unit → unit.callees ≡ []
+    → AllByRecursion (λ i. called_by i.op ≡ None) unit.instrs
 calls_none unit formed none =
     none_called unit.instrs (no_numbers (filter_map (λ i. called_by i.op) unit.instrs)
-    (subst (λ (callees : List CalleeInfo). InOrderOfUse 0 (length callees) (filter_map (λ i. called_by i.op) unit.instrs)) none formed.order))
+    (subst (λ (callees : List CalleeInfo). InOrderOfUse 0 (length callees)
+    (filter_map (λ i. called_by i.op) unit.instrs)) none formed.order))
+
+-- So each of its steps that goes on is an effect.
+pub effect_alone : (unit : MethodUnit) (i : Instr) (p q : Point) → IsWellFormed unit → unit.callees ≡ []
+    → Steps unit i p q
+    → HasEffect (effects unit i p.frame p.heap) (GoesOn q.frame q.heap)
+effect_alone unit i p q formed none step =
+    effect_of unit i p q (of_found (λ j. called_by j.op ≡ None) unit.instrs p.frame.at i
+    (calls_none unit formed none) step.to) step

@@ -33,14 +33,17 @@ one width next n h = omega arith
 few_variable : (b : ℕ) → Few (variable_form b)
 unfolding variable_form
 few_variable b =
-    row Few b 0x00 _ _ (λ e. none 0) (rows Few b 0x02 0x05 _ _ (λ l h. none 0) (rows Few b 0x06 0x09 _ _ (λ l h. none 0) (rows Few b 0x0a 0x0d _ _ (λ l h. none 0)
-    (row Few b 0x0e _ _ (λ e. none 1) (row Few b 0x10 _ _ (λ e. none 1) (row Few b 0x11 _ _ (λ e. none 1) (row Few b 0x13 _ _ (λ e. none 1) (row Few b 0x14 _ _ (λ e. none 0) tt))))))))
+    row Few b 0x00 _ _ (λ e. none 0) (rows Few b 0x02 0x05 _ _ (λ l h. none 0)
+    (rows Few b 0x06 0x09 _ _ (λ l h. none 0) (rows Few b 0x0a 0x0d _ _ (λ l h. none 0)
+    (row Few b 0x0e _ _ (λ e. none 1) (row Few b 0x10 _ _ (λ e. none 1)
+    (row Few b 0x11 _ _ (λ e. none 1) (row Few b 0x13 _ _ (λ e. none 1) (row Few b 0x14 _ _ (λ e. none 0) tt))))))))
 
 few_constant : (b : ℕ) → Few (constant_form b)
 unfolding constant_form
 few_constant b =
     rows Few b 0x15 0x1e _ _ (λ l h. none 0) (row Few b 0x1f _ _ (λ e. none 1) (row Few b 0x20 _ _ (λ e. none 4)
-    (row Few b 0x25 _ _ (λ e. none 0) (row Few b 0x26 _ _ (λ e. none 0) (row Few b 0x28 _ _ (λ e. none 4) (row Few b 0x2a _ _ (λ e. none 0) tt))))))
+    (row Few b 0x25 _ _ (λ e. none 0) (row Few b 0x26 _ _ (λ e. none 0)
+    (row Few b 0x28 _ _ (λ e. none 4) (row Few b 0x2a _ _ (λ e. none 0) tt))))))
 
 few_tests : (form : Test → Form) (test : Option Test) → ((t : Test) → Few (Some (form t))) → Few (option_map form test)
 few_tests form None few = tt
@@ -48,13 +51,17 @@ few_tests form (Some t) few = few t
 
 few_branch : (b : ℕ) → Few (branch_form b)
 unfolding branch_form
-few_branch b = rows_up_to Few b 0x37 _ _ (λ h. few_tests near (test_of (b - 0x2b)) (λ t. one 1)) (λ h. few_tests far (test_of (b - 0x38)) (λ t. one 4))
+few_branch b =
+    rows_up_to Few b 0x37 _ _ (λ h. few_tests near (test_of (b - 0x2b)) (λ t. one 1))
+    (λ h. few_tests far (test_of (b - 0x38)) (λ t. one 4))
 
 few_object : (b : ℕ) → Few (object_form b)
 unfolding object_form
 few_object b =
-    row Few b 0x65 _ _ (λ e. none 0) (row Few b 0x66 _ _ (λ e. none 0) (row Few b 0x69 _ _ (λ e. none 0) (row Few b 0x72 _ _ (λ e. none 4) (row Few b 0x8d _ _ (λ e. none 4)
-    (row Few b 0x8e _ _ (λ e. none 0) (row Few b 0x91 _ _ (λ e. none 0) (row Few b 0x94 _ _ (λ e. none 0) (row Few b 0x9c _ _ (λ e. none 0) (row Few b 0x9e _ _ (λ e. none 0) tt)))))))))
+    row Few b 0x65 _ _ (λ e. none 0) (row Few b 0x66 _ _ (λ e. none 0)
+    (row Few b 0x69 _ _ (λ e. none 0) (row Few b 0x72 _ _ (λ e. none 4) (row Few b 0x8d _ _ (λ e. none 4)
+    (row Few b 0x8e _ _ (λ e. none 0) (row Few b 0x91 _ _ (λ e. none 0)
+    (row Few b 0x94 _ _ (λ e. none 0) (row Few b 0x9c _ _ (λ e. none 0) (row Few b 0x9e _ _ (λ e. none 0) tt)))))))))
 
 few_operator : (operator : Option BinOp) → Few (option_map operator_form operator)
 few_operator None = tt
@@ -63,18 +70,23 @@ few_operator (Some operator) = none 0
 few_short : (b : ℕ) → Few (short_form b)
 unfolding short_form
 few_short b =
-    rows_up_to Few b 0x14 _ _ (λ h. few_variable b) (λ h. rows_up_to Few b 0x2a _ _ (λ h. few_constant b) (λ h. rows_up_to Few b 0x44 _ _ (λ h. few_branch b)
+    rows_up_to Few b 0x14 _ _ (λ h. few_variable b)
+    (λ h. rows_up_to Few b 0x2a _ _ (λ h. few_constant b) (λ h. rows_up_to Few b 0x44 _ _ (λ h. few_branch b)
     (λ h. rows Few b 0x65 0x9e _ _ (λ l h. few_object b) (few_operator (operator_of b)))))
 
 few_long : (b : ℕ) → Few (long_form b)
 unfolding long_form
 few_long b =
-    row Few b 0x01 _ _ (λ e. none 0) (row Few b 0x02 _ _ (λ e. none 0) (row Few b 0x03 _ _ (λ e. none 0) (row Few b 0x04 _ _ (λ e. none 0) (row Few b 0x05 _ _ (λ e. none 0)
-    (row Few b 0x09 _ _ (λ e. none 2) (row Few b 0x0b _ _ (λ e. none 2) (row Few b 0x0c _ _ (λ e. none 2) (row Few b 0x0e _ _ (λ e. none 2) tt))))))))
+    row Few b 0x01 _ _ (λ e. none 0) (row Few b 0x02 _ _ (λ e. none 0)
+    (row Few b 0x03 _ _ (λ e. none 0) (row Few b 0x04 _ _ (λ e. none 0) (row Few b 0x05 _ _ (λ e. none 0)
+    (row Few b 0x09 _ _ (λ e. none 2) (row Few b 0x0b _ _ (λ e. none 2)
+    (row Few b 0x0c _ _ (λ e. none 2) (row Few b 0x0e _ _ (λ e. none 2) tt))))))))
 
-made : (form : Option Form) (opcode : List ℕ) (i : Instr) (bytes : List ℕ) → Few form → SpellsForm form opcode i bytes → HasOneTarget i.op
+made : (form : Option Form) (opcode : List ℕ) (i : Instr) (bytes : List ℕ) → Few form → SpellsForm form opcode i bytes
+    → HasOneTarget i.op
 made None opcode i bytes few spells = absurd spells
-made (Some (width, meaning)) opcode i bytes few (operand, small, op, are) = subst HasOneTarget (sym op) (few (i.at + i.size) operand small)
+made (Some (width, meaning)) opcode i bytes few (operand, small, op, are) =
+    subst HasOneTarget (sym op) (few (i.at + i.size) operand small)
 
 -- ---- a switch
 
@@ -91,7 +103,9 @@ short_targets i bytes spells short =
       | inl (b, below, form) ↦ omega (arith, made (short_form b) (b ∷ []) i bytes (few_short b) form)
       | inr (inl (b, below, form)) ↦ omega (arith, made (long_form b) (0xfe ∷ b ∷ []) i bytes (few_long b) form)
       | inr (inr switch) ↦
-          let whole : length bytes ≡ length ((0x45 ∷ little_bytes 4 (length switch.offsets)) ++ offset_bytes switch.offsets) = ap length switch.spelled in
+          let whole : length bytes ≡ length
+          ((0x45 ∷ little_bytes 4
+          (length switch.offsets)) ++ offset_bytes switch.offsets) = ap length switch.spelled in
           subst HasShortTargets (sym switch.op) (omega (
             arith,
             length-map switch.offsets (target (i.at + i.size)),
@@ -106,7 +120,8 @@ is_short : (op : Op) → HasShortTargets op → IsShortSwitch op
 is_short (ops.Switch targets) few = few
 is_short _ few = tt
 
-switches_short : (at : ℕ) (is : List Instr) (code : List ℕ) → CodeFrom at is code → length code ≤ 2147483647 → AllByRecursion (λ i. IsShortSwitch i.op) is
+switches_short : (at : ℕ) (is : List Instr) (code : List ℕ) → CodeFrom at is code → length code ≤ 2147483647
+    → AllByRecursion (λ i. IsShortSwitch i.op) is
 switches_short at [] code spelled short = tt
 switches_short at (i ∷ is) code (begins, (bytes, rest, spells, parts, others)) short =
     let whole : length code ≡ length bytes + length rest = ap length parts ∙ length-append bytes rest in (
@@ -114,5 +129,6 @@ switches_short at (i ∷ is) code (begins, (bytes, rest, spells, parts, others))
       switches_short (at + i.size) is rest others (omega (arith, whole, short)),
     )
 
-pub all_short : (is : List Instr) (code : List ℕ) → CodeOf is code → IsShort code → AllByRecursion (λ i. IsShortSwitch i.op) is
+pub all_short : (is : List Instr) (code : List ℕ) → CodeOf is code → IsShort code
+    → AllByRecursion (λ i. IsShortSwitch i.op) is
 all_short is code spelled short = switches_short 0 is code spelled.spelled (omega (arith, short))

@@ -1,5 +1,5 @@
--- The instructions of a block: each but the last goes on to the next alone. The last goes along the edges that leave the block,
--- and wherever it goes on in the body, an edge leads.
+-- The instructions of a block: each but the last goes on to the next alone, each edge that leaves the block goes on from
+-- the last, and wherever the last goes on in the body, an edge leads.
 use Rattle.std.specs.Prelude.{◌≡◌, ℕ, ◌+◌, ◌<◌, ◌≤◌, true, false, List, [], ◌∷◌, length, get_or, Some, slice_get}
 use Rattle.cil_model.specs.Blocks.{is_block_start}
 use Rattle.cil_model.specs.Bodies.{is_executed}
@@ -57,8 +57,8 @@ pub record IsLast (unit : MethodUnit) (graph : Graph) (block at : ℕ) (i : Inst
   pub executed : is_executed i.op ≡ true
   pub short : IsShortSwitch i.op
   pub found : instr_at unit.instrs i.at ≡ Some i
-  pub leads : (n target : ℕ) (j : Instr) → slice_get (successors i.op (i.at + i.size)) n ≡ Some target → unit.body_start ≤ target
-      → instr_at unit.instrs target ≡ Some j → Leads graph block n target
+  pub leads : (n target : ℕ) (j : Instr) → slice_get (successors i.op (i.at + i.size)) n ≡ Some target
+      → unit.body_start ≤ target → instr_at unit.instrs target ≡ Some j → Leads graph block n target
 
 -- These are the instructions of a block from an IL offset on.
 abbrev pub IsChain : MethodUnit → Graph → ℕ → ℕ → List Instr → Type 0

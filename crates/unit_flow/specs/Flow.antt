@@ -40,7 +40,8 @@ start_of code block = get_or code.graph.blocks block 0
 
 -- The instructions of a block: from its start to that of the next one.
 abbrev pub block_instrs : UnitFlow → ℕ → List Instr
-block_instrs code block = instrs_between (start_of code block) (slice_get code.graph.blocks (block + 1)) code.unit.instrs
+block_instrs code block =
+    instrs_between (start_of code block) (slice_get code.graph.blocks (block + 1)) code.unit.instrs
 
 -- The kinds at the start of a block, the top first. There are none where typing does not come.
 abbrev pub kinds_at : UnitFlow → ℕ → Option (List Kind)
@@ -55,8 +56,8 @@ edge_at code edge = get_or code.graph.edges edge no_edge
 
 -- ---- points that go along an edge
 
--- The unit's frame at the one point is about to do this instruction, and by a step of its own it is at the other. A call of a
--- method gives any result and any heap that what the method ensures allows.
+-- The unit's frame at the one point is about to do this instruction, and by a step of its own it is at the other. A call
+-- of a method gives any result and any heap that what the method ensures allows.
 pub record Steps (unit : MethodUnit) (i : Instr) (p q : Point) : Type 0 where
   pub of : IsPointOf unit p
   pub to : instr_at unit.instrs p.frame.at ≡ Some i
@@ -70,7 +71,8 @@ GoesThrough unit number (i ∷ j ∷ is) p q = (mid : Point) × Steps unit i p m
 
 -- A point goes from the start of an edge's source through that block, and along the edge.
 abbrev pub GoesAlong : UnitFlow → ℕ → Point → Point → Type 0
-GoesAlong code edge p q = GoesThrough code.unit (edge_at code edge).number (block_instrs code (edge_at code edge).from) p q
+GoesAlong code edge p q =
+    GoesThrough code.unit (edge_at code edge).number (block_instrs code (edge_at code edge).from) p q
 
 -- The point is one with which a call of the unit may begin.
 pub record Begins (unit : MethodUnit) (p : Point) : Type 0 where

@@ -12,7 +12,8 @@ use Rattle.unit_flow.specs.declared.unit_flow.UnitFlow.{UnitFlow}
 
 -- Of the IL offsets to which an instruction goes on, each step goes to the one of the way that the machine takes.
 abbrev pub TakesWay : MethodUnit → Instr → Type 0
-TakesWay unit i = (p q : Point) → Steps unit i p q → slice_get (successors i.op (i.at + i.size)) (way_of i.op p.frame.stack) ≡ Some q.frame.at
+TakesWay unit i = (p q : Point) → Steps unit i p q
+    → slice_get (successors i.op (i.at + i.size)) (way_of i.op p.frame.stack) ≡ Some q.frame.at
 
 -- The edges of the graph, as points go along them.
 abbrev pub edges_in : UnitFlow → Edges

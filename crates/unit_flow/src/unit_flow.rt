@@ -108,8 +108,8 @@ impl UnitFlow {
         }
     }
 
-    /// The kinds on the stack where a block starts, the bottom first. There are none where typing does not come. They are
-    /// found by halving.
+    /// The kinds on the stack where a block starts, the bottom first. There are none where typing does not come. They
+    /// are found by halving.
     pub fn kinds_at(&self, block: u32) -> Option<&[Kind]>
         requires lawful { IsLawful self.now }
         requires there { block < length self.now.graph.blocks }

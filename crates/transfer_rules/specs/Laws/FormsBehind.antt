@@ -87,7 +87,7 @@ reference_fits known Native v is fits = absurd (false≢true is)
 reference_fits known Text v is fits = absurd (false≢true is)
 reference_fits known _ _ is fits = elim fits [ ]
 
-zero_of_place : (known : StateFacts) (place : Place) (r : ℕ) → r ≡ 0 → is_of_place known place r ≡ true
+pub zero_of_place : (known : StateFacts) (place : Place) (r : ℕ) → r ≡ 0 → is_of_place known place r ≡ true
 unfolding reference_at
 zero_of_place known place zero is = refl
 zero_of_place known place (suc r) is = absurd (omega (arith, is))
@@ -264,7 +264,7 @@ Sets i k before None = Unit {0}
 Sets i k before (Some after) = HasSet i k before after
 
 -- Each number fits what one does.
-any_number : (known after : StateFacts) (k : Kind) (e f : Expr) → FitsKind known k (vars.Number e) → FitsKind after k (vars.Number f)
+pub any_number : (known after : StateFacts) (k : Kind) (e f : Expr) → FitsKind known k (vars.Number e) → FitsKind after k (vars.Number f)
 any_number known after Int e f fits = tt
 any_number known after Native e f fits = tt
 any_number known after Ints e f fits = elim fits [ ]

@@ -9,5 +9,6 @@ type_code-requires c = rw c.as_slice.ensures (code_lies c.args.unit.instrs c.arg
 pub unreachable-requires : goal.unreachable-requires
 unreachable-requires c =
     let runs = c.requires.formed.runs in
-    never_bad c.type_code.result c.in-Err-Bad.field-0-0 _ (c.type_code.ensures.only runs.stacks (rw (c.as_slice.ensures, c.from.ensures) runs.kinds))
+    never_bad c.type_code.result c.in-Err-Bad.field-0-0 _
+    (c.type_code.ensures.only runs.stacks (rw (c.as_slice.ensures, c.from.ensures) runs.kinds))
     (c.in-Err-Bad.is ∙ ap Err c.in-Err-Bad.field-0-is)

@@ -3,13 +3,13 @@ use Rattle.std.specs.Int.{w128}
 use Rattle.std.specs.Option.{option_map}
 use Rattle.std.proofs.lemmas.Int.{to_z-of_z}
 use Rattle.domain_api.specs.declared.expr.Expr.{Expr}
-use Rattle.number_facts.specs.Additions.{above_by}
+use Rattle.number_facts.specs.Additions.{above_difference}
 use Rattle.number_facts.proofs.Uppers.{cut_some}
 use Rattle.number_facts.proofs.numbers.Numbers.cut_once.Goals as goal
 
 pub returns-in-Some : goal.returns-in-Some
 returns-in-Some c =
-    let some = above_by c.args.self.now c.args.a c.args.b c.args.defined.now.0 c.args.defined.now.1 in
+    let some = above_difference c.args.self.now c.args.a c.args.b c.args.difference.now in
     let is : option_map {U = ℕ × ℤ} (λ (u : Expr). (u.sym, u.k)) some ≡ Some (c.in-Some.sym, c.in-Some.k) = search rules in
     let end : to_z w128 (of_z w128 c.args.hi) ≡ c.args.hi = to_z-of_z w128 c.args.hi c.ranges.hi in
     let low : to_z w128 (of_z w128 c.min.result) ≡ c.min.result = search rules in

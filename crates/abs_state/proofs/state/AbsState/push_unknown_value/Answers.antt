@@ -1,0 +1,13 @@
+use Rattle.std.proofs.Common.{rules, ◌∙◌}
+use Rattle.state_facts.proofs.Growing.{same_form, formed_new}
+use Rattle.state_facts.proofs.UnknownValues.{unknown_form}
+use Rattle.abs_state.proofs.state.AbsState.push_unknown_value.Goals as goal
+
+pub invariant_of-self-else-not-branch : goal.invariant_of-self-else-not-branch
+invariant_of-self-else-not-branch c = λ x is. same_form _ x is (formed_new _ _ (unknown_form c.args.place c.in-Some.known (c.self.invariant _ c.in-Some.is)) (c.in_ok-push_unknown.ensures.ok (search rules)))
+
+pub returns-then-not-branch-clause-form : goal.returns-then-not-branch-clause-form
+returns-then-not-branch-clause-form c = λ x is. c.self.invariant x (c.self.view_is ∙ is)
+
+pub returns-else-not-branch-clause-form : goal.returns-else-not-branch-clause-form
+returns-else-not-branch-clause-form c = λ x is. c.self.invariant x (c.self.view_is ∙ is)
