@@ -3,11 +3,12 @@ pub mod Moves
 pub mod Acting
 pub mod Choosing
 pub mod PostLaws
+pub mod Ready
 pub mod StepsHold
 pub mod Fitting
 pub mod FormsBehind
-pub mod FlowSteps
 pub mod FormsMerged
+pub mod FlowSteps
 pub mod EntryLaws
 pub mod UnknownLaws
 pub mod FlowLaws

@@ -24,10 +24,11 @@ use Rattle.transfer_rules.specs.Forms.{FitsStack, HasKinds, kinds_over}
 use Rattle.transfer_rules.specs.Post.{along, post}
 use Rattle.transfer_rules.specs.Laws.Choosing.{chosen_stays}
 use Rattle.transfer_rules.specs.Laws.FormsBehind.{absorbed_fits, acted_fits, stays_fitting}
+use Rattle.transfer_rules.specs.Laws.FormsMerged.{normal_fits}
 use Rattle.transfer_rules.specs.Laws.PostLaws.{avoided_stays}
 use Rattle.transfer_rules.specs.Laws.StepsHold.{AreFormed, along_keeps}
 use Rattle.unit_flow.specs.Chains.{IsLeft, IsPassed, IsWay}
-use Rattle.unit_flow.specs.Flow.{GoesAlong, block_instrs, edge_at, start_of}
+use Rattle.unit_flow.specs.Flow.{GoesAlong, block_instrs, edge_at, kinds_at, start_of}
 use Rattle.unit_flow.specs.declared.unit_flow.UnitFlow.{UnitFlow}
 use Rattle.unit_flow.proofs.KindsAlong.{left_along, operand, passed_along}
 use Rattle.unit_flow.proofs.LawfulCode.{decoded, way}
@@ -158,6 +159,16 @@ block_fits code edge state told below fits =
     (edge_at code edge).number (start_of code (edge_at code edge).to) state
     (way code told.lawful edge below) fits
 
+-- A state that fits the start of an edge's source fits, carried along, the start of its target.
+pub along_fits : (code : UnitFlow) (edge : ℕ) (state : State) → IsToldOf code → edge < length code.graph.edges
+    → Fits code (edge_at code edge).from state → Fits code (edge_at code edge).to (along_edge state code edge)
+unfolding along_edge
+along_fits code edge state told below fits =
+    normal_fits code.unit (kinds_at code (edge_at code edge).to)
+    (through code.unit (edge_at code edge).number (block_instrs code (edge_at code edge).from) state)
+    (block_fits code edge state told below fits)
+
+-- What holds of a point holds, carried along, where the point comes along the edge.
 pub along_holds : (code : UnitFlow) (edge : ℕ) (state : State) (p q : Point) → IsToldOf code
     → edge < length code.graph.edges → Fits code (edge_at code edge).from state → HoldsAt state p
     → GoesAlong code edge p q → HoldsAt (along_edge state code edge) q
