@@ -1,4 +1,4 @@
--- What an operator's operands have to be, where the faults of the operator were assumed away.
+-- What an operator's second operand has to be, where the faults of the operator were assumed away.
 use Rattle.std.specs.Prelude.{Option, Some}
 use Rattle.cil_model.specs.declared.instruction.BinOp.{BinOp}
 use Rattle.cil_model.specs.declared.instruction.Op.{Op}
@@ -9,9 +9,14 @@ use Rattle.number_spans.specs.Owed.{Divides, Shifts}
 use Rattle.obligation_prover.specs.Operations.{from_top}
 use Rattle.state_facts.specs.StateFacts.{StateFacts}
 
--- A constant that divides is not 0, and a constant to shift by is an amount. Only of two numbers is anything asked.
+-- A constant that divides is not 0, and a constant to shift by is an amount.
+abbrev pub IsReadyFor : BinOp → Var → Type 0
+IsReadyFor op (vars.Number e) = Divides op e × Shifts op e
+IsReadyFor op v = Unit {0}
+
+-- Nothing is asked of a second operand where the first is no number.
 abbrev pub AreReadyFor : BinOp → Option Var → Option Var → Type 0
-AreReadyFor op (Some (vars.Number a)) (Some (vars.Number b)) = Divides op b × Shifts op b
+AreReadyFor op (Some (vars.Number e)) (Some w) = IsReadyFor op w
 AreReadyFor op v w = Unit {0}
 
 abbrev pub IsReady : Op → StateFacts → Type 0
