@@ -1,5 +1,5 @@
 -- What is known behind an operation holds where the machine goes on by it.
-use Rattle.std.proofs.Common.{◌≡◌, ℕ, zero, suc, ◌+◌, ◌<◌, ℤ, pos, negsuc, ◌-ℤ◌, neg_ℤ, Bool, true, false, int_eq, int_le, int_lt, Option, Some, None, List, [], ◌∷◌, ◌++◌, length, replicate, get_or, Ok, Err, refl, sym, ap, subst, ◌∙◌, FitsSigned, w32, arith, length-append, inl, inr}
+use Rattle.std.proofs.Common.{◌≡◌, ℕ, zero, suc, ◌+◌, ◌<◌, ℤ, pos, negsuc, ◌-ℤ◌, neg_ℤ, Bool, true, false, int_eq, int_le, int_lt, Option, Some, None, List, [], ◌∷◌, ◌++◌, length, get_or, Ok, Err, refl, sym, ap, subst, ◌∙◌, FitsSigned, w32, arith, length-append, inl, inr}
 use Rattle.std.specs.Prelude.{Result, reverse, set, slice_get, slice_set, unsigned_abs}
 use Rattle.std.specs.List.{AllByRecursion}
 use Rattle.std.specs.Option.{option_map}

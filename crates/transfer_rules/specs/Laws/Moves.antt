@@ -1,5 +1,5 @@
 -- What single moves keep of values, apart from the frame that they are in.
-use Rattle.std.proofs.Common.{◌≡◌, ℕ, zero, suc, ◌+◌, ◌<◌, ℤ, pos, true, Option, Some, None, List, [], ◌∷◌, ◌++◌, length, Ok, refl, sym, ap, subst, ◌∙◌, FitsSigned, w32, arith, lt-ltb}
+use Rattle.std.proofs.Common.{◌≡◌, ℕ, zero, suc, ◌<◌, ℤ, pos, true, Option, Some, None, List, [], ◌∷◌, ◌++◌, length, Ok, refl, sym, ap, subst, ◌∙◌, FitsSigned, w32, arith, lt-ltb}
 use Rattle.std.specs.Prelude.{nat_lt, set, slice_get, slice_set}
 use Rattle.std.specs.Option.{ForSome, option_and_then, option_map}
 use Rattle.std.proofs.lemmas.Int.{ints}
@@ -28,7 +28,7 @@ use Rattle.state_facts.proofs.ArraysHold.{present_at}
 use Rattle.state_facts.proofs.MovesHold.{put_keeps}
 use Rattle.state_facts.proofs.ResultsHold.{arith_keeps}
 use Rattle.symbolic_values.specs.Worth.{worth}
-use Rattle.transfer_rules.specs.Acts.{calculated, put_into, stored, taken_from, type_of}
+use Rattle.transfer_rules.specs.Acts.{calculated, put_into, taken_from, type_of}
 use Rattle.transfer_rules.specs.Laws.Tops.{IsNumberOf}
 
 -- ---- choices

@@ -19,16 +19,15 @@ use Rattle.number_facts.specs.Facts.{Facts, has}
 use Rattle.number_facts.specs.Gaps.{at_most, equal, gap}
 use Rattle.number_spans.specs.Constants.{constant}
 use Rattle.number_spans.specs.Owed.{Divides, IsPlaces, NotZero, Shifts}
-use Rattle.number_spans.specs.Shifts.{IsAmount}
 use Rattle.obligation_prover.specs.Avoiding.{avoid_all}
-use Rattle.obligation_prover.specs.Operations.{binary_of, conditions_at, from_top, operation_of}
+use Rattle.obligation_prover.specs.Operations.{binary_of, from_top, operation_of}
 use Rattle.pentagon_domain.specs.Gaps as by_bounds
 use Rattle.state_facts.specs.Assuming.{assumed, with_facts, with_steps, with_test}
 use Rattle.state_facts.specs.Forms.{HasForm}
 use Rattle.state_facts.specs.StateFacts.{StateFacts, State}
-use Rattle.state_obligations.specs.Assumed.{amount, assumed_by, compared, not_negative}
+use Rattle.state_obligations.specs.Assumed.{assumed_by, compared, not_negative}
 use Rattle.state_obligations.specs.Conditions.{conditions_of, operator_conditions}
-use Rattle.state_obligations.specs.Following.{StaysThere, StaysThereIn}
+use Rattle.state_obligations.specs.Following.{StaysThereIn}
 use Rattle.state_obligations.specs.Judged.{judged}
 use Rattle.state_obligations.specs.declared.condition.Condition.{Condition}
 use Rattle.state_obligations.specs.declared.condition.Condition.TheVariants as conditions
