@@ -3,13 +3,14 @@ pub mod Moves
 pub mod Acting
 pub mod Choosing
 pub mod PostLaws
+pub mod Ready
 pub mod StepsHold
 pub mod Fitting
 pub mod KindForms
 pub mod FittingResults
 pub mod FormsBehind
-pub mod FlowSteps
 pub mod FormsMerged
+pub mod FlowSteps
 pub mod UnknownLaws
 pub mod BegunLaws
 pub mod OwnInts
