@@ -7,19 +7,18 @@ use Rattle.std.proofs.lemmas.Option.{none-some, same_Some, slice_get-map}
 use Rattle.cil_model.proofs.HeapsKept.{keeps_itself}
 use Rattle.cil_model.specs.Calls.{clauses_in_force, entry_frame}
 use Rattle.cil_model.specs.Clauses.{Reading, clause_holds, clauses_of, first_false, is_kind, is_number_true, value_of}
-use Rattle.cil_model.specs.Comparisons.{comparison_of, is_true}
+use Rattle.cil_model.specs.Comparisons.{is_true}
 use Rattle.cil_model.specs.Kinds.{kind_of}
 use Rattle.cil_model.specs.Runs.{MayBegin}
 use Rattle.cil_model.specs.Terms as terms
 use Rattle.cil_model.specs.Terms.{Term}
-use Rattle.cil_model.specs.TreeKinds.{IsNumberClause, branch_kind, element_kind, kind_in, length_kind, operator_kind, unary_kind}
+use Rattle.cil_model.specs.TreeKinds.{IsNumberClause, kind_in}
 use Rattle.cil_model.specs.Values.{Heap, IsValue, same_place, zero_of}
 use Rattle.cil_model.specs.WellFormed.{HasInts, IsWellFormed}
 use Rattle.cil_model.specs.declared.clause.Clause.{Clause}
 use Rattle.cil_model.specs.declared.clause.ClauseKind.{ClauseKind}
 use Rattle.cil_model.specs.declared.clause.ClauseKind.TheVariants as clause_kinds
 use Rattle.cil_model.specs.declared.instruction.BinOp.TheVariants as operators
-use Rattle.cil_model.specs.declared.instruction.CmpOp.{CmpOp}
 use Rattle.cil_model.specs.declared.machine.Value.{Value}
 use Rattle.cil_model.specs.declared.machine.Value.TheVariants as values
 use Rattle.cil_model.specs.declared.place.Kind.{Kind}
@@ -28,6 +27,7 @@ use Rattle.cil_model.specs.declared.place.Place.{Place}
 use Rattle.cil_model.specs.declared.place.Place.TheVariants as places
 use Rattle.cil_model.specs.declared.unit.Unit.{Unit as MethodUnit}
 use Rattle.clause_trees.proofs.AssumedKept.{assumed_is_kept, assumed_keeps_forms}
+use Rattle.clause_trees.proofs.EntryKinds.{kind_everywhere}
 use Rattle.clause_trees.specs.ClauseStates.{assumed}
 use Rattle.clause_trees.specs.Meaning.{IsTest, Reads}
 use Rattle.clause_trees.specs.declared.reader.TreeEnv.{TreeEnv}
@@ -212,92 +212,10 @@ readable unit known has = record {
         subst (λ m. IsOneOfKind known kind (slice_get known.variables m)) plain
         (subst (IsOneOfKind known kind) (sym at.is) (read_kind known place kind at.var is at.fits))
 
--- ---- a Requires is a number also where a result could be read
-
--- Where the first is a kind, the second is the same.
-abbrev Stays : Option Kind → Option Kind → Type 0
-Stays None p = Unit {0}
-Stays (Some k) p = p ≡ Some k
-
-stays_itself : (o : Option Kind) → Stays o o
-stays_itself None = tt
-stays_itself (Some k) = refl
-
-stays_under : (f : Option Kind → Option Kind) (o p : Option Kind) → f None ≡ None → Stays o p → Stays (f o) (f p)
-stays_under f None p none stays = subst (λ x. Stays x (f p)) (sym none) tt
-stays_under f (Some k) p none stays = subst (λ x. Stays (f (Some k)) (f x)) (sym stays) (stays_itself (f (Some k)))
-
-stays_on : (o p q : Option Kind) → Stays o p → Stays p q → Stays o q
-stays_on None p q first second = tt
-stays_on (Some k) p q first second = subst (λ x. Stays x q) first second
-
-no_element : (place : Place) (a : Option Kind) → element_kind place a None ≡ None
-no_element place None = refl
-no_element place (Some k) = refl
-
-no_left : (op : Option CmpOp) (b : Option Kind) → operator_kind op None b ≡ None
-no_left None b = refl
-no_left (Some cmp) b = refl
-
-no_right : (op : Option CmpOp) (a : Option Kind) → operator_kind op a None ≡ None
-no_right None None = refl
-no_right None (Some a) = refl
-no_right (Some cmp) None = refl
-no_right (Some cmp) (Some a) = refl
-
-no_second : (t b : Option Kind) → branch_kind t None b ≡ None
-no_second None b = refl
-no_second (Some t) b = refl
-
-no_third : (t a : Option Kind) → branch_kind t a None ≡ None
-no_third None a = refl
-no_third (Some t) None = refl
-no_third (Some t) (Some a) = refl
-
-kind_stays : (args : List Place) (result : Place) (t : Term)
-    → Stays (kind_in args result false t) (kind_in args result true t)
-kind_stays args result (terms.Const n) = refl
-kind_stays args result (terms.Arg n) = stays_itself (option_and_then kind_of (slice_get args n))
-kind_stays args result terms.Null = refl
-kind_stays args result terms.Result = tt
-kind_stays args result (terms.Len a) = stays_under length_kind _ _ refl (kind_stays args result a)
-kind_stays args result (terms.Elem place a b) =
-    let k : Bool → Term → Option Kind = λ ensured t. kind_in args result ensured t in
-    stays_on (element_kind place (k false a) (k false b)) (element_kind place (k true a) (k false b))
-    (element_kind place (k true a) (k true b))
-    (stays_under (λ x. element_kind place x (k false b)) (k false a) (k true a) refl (kind_stays args result a))
-    (stays_under (element_kind place (k true a)) (k false b) (k true b) (no_element place (k true a))
-    (kind_stays args result b))
-kind_stays args result (terms.Bin op a b) =
-    let k : Bool → Term → Option Kind = λ ensured t. kind_in args result ensured t in
-    let by = operator_kind (comparison_of op) in
-    stays_on (by (k false a) (k false b)) (by (k true a) (k false b)) (by (k true a) (k true b))
-    (stays_under (λ x. by x (k false b)) (k false a) (k true a) (no_left (comparison_of op) (k false b))
-    (kind_stays args result a))
-    (stays_under (by (k true a)) (k false b) (k true b) (no_right (comparison_of op) (k true a))
-    (kind_stays args result b))
-kind_stays args result (terms.Un op a) = stays_under unary_kind _ _ refl (kind_stays args result a)
-kind_stays args result (terms.Old a) = tt
-kind_stays args result (terms.Cond c a b) =
-    let k : Bool → Term → Option Kind = λ ensured t. kind_in args result ensured t in
-    stays_on (branch_kind (k false c) (k false a) (k false b)) (branch_kind (k true c) (k false a) (k false b))
-    (branch_kind (k true c) (k true a) (k true b))
-    (stays_under (λ x. branch_kind x (k false a) (k false b)) (k false c) (k true c) refl (kind_stays args result c))
-    (stays_on (branch_kind (k true c) (k false a) (k false b)) (branch_kind (k true c) (k true a) (k false b))
-    (branch_kind (k true c) (k true a) (k true b))
-    (stays_under (λ x. branch_kind (k true c) x (k false b)) (k false a) (k true a) (no_second (k true c) (k false b))
-    (kind_stays args result a))
-    (stays_under (branch_kind (k true c) (k true a)) (k false b) (k true b) (no_third (k true c) (k true a))
-    (kind_stays args result b)))
-
 -- ---- each Requires
 
 abbrev IsTestOf : MethodUnit → Clause → Type 0
 IsTestOf unit clause = IsTest unit.args unit.result clause.tree
-
-same_kind : (o p : Option Kind) (k : Kind) → Stays o p → o ≡ Some k → p ≡ Some k
-same_kind None p k stays is = absurd (none-some k is)
-same_kind (Some j) p k stays is = stays ∙ is
 
 no_ensures : (kind : ClauseKind) → is_kind clause_kinds.Requires kind ≡ true → is_kind clause_kinds.Ensures kind ≡ false
 no_ensures clause_kinds.Requires is = refl
@@ -309,10 +227,7 @@ is_test : (unit : MethodUnit) (clause : Clause) → is_kind clause_kinds.Require
 is_test unit clause requires number ints = record {
   kind = kinds.Int;
   typed = record {
-    kind_is =
-        same_kind (kind_in unit.args unit.result false clause.tree)
-        (kind_in unit.args unit.result true clause.tree) kinds.Int
-        (kind_stays unit.args unit.result clause.tree)
+    kind_is = kind_everywhere unit.args unit.result clause.tree kinds.Int
         (subst (λ ensured. kind_in unit.args unit.result ensured clause.tree ≡ Some kinds.Int)
         (no_ensures clause.kind requires) number);
     ints = ints;
