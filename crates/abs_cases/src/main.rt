@@ -8,6 +8,8 @@ mod rules;
 mod state_answers;
 mod state_steps;
 mod states;
+mod tree_rules;
+mod tree_text;
 
 use rule_text::run_files;
 use rules::AbsRules;

@@ -1,8 +1,9 @@
 //! The rules, by the keywords of cases.
 
 use crate::states::state;
-use crate::{state_answers, state_steps};
+use crate::{state_answers, state_steps, tree_rules};
 use abs_state::AbsState;
+use clause_trees::TreeEnv;
 use rule_text::{Failure, Line, Rules};
 use std::alloc::Global;
 
@@ -12,6 +13,8 @@ pub struct AbsRules {
     alloc: Global,
     /// What its steps made of the state before them.
     state: AbsState,
+    /// Where trees find arguments and the result.
+    env: TreeEnv,
 }
 
 impl AbsRules {
@@ -30,6 +33,9 @@ impl AbsRules {
             "nullness" => state_answers::nullness(alloc, state, argument),
             "length" => state_answers::length(alloc, state, argument),
             "variable" => state_answers::variable(alloc, state, argument),
+            "shown" => tree_rules::shown(alloc, state, &self.env, argument),
+            "shown-false" => tree_rules::shown_false(alloc, state, &self.env, argument),
+            "owes" => tree_rules::owes(alloc, state, argument),
             _ => Err(Failure::Unread("a keyword")),
         }
     }
@@ -52,6 +58,11 @@ impl AbsRules {
             "norm" => *state = state.norm(alloc)?,
             "join" => *state = state_steps::join(alloc, state, argument)?,
             "widen" => *state = state_steps::widen(alloc, state, argument)?,
+            "assume-tree" => *state = tree_rules::assumed(alloc, state, &self.env, argument)?,
+            "assume-tree-false" => {
+                *state = tree_rules::assumed_false(alloc, state, &self.env, argument)?;
+            }
+            "assume-no" => tree_rules::assume_no(alloc, state, argument)?,
             _ => return Ok(false),
         }
         Ok(true)
@@ -63,6 +74,10 @@ impl Rules for AbsRules {
         AbsRules {
             alloc,
             state: AbsState::nothing(),
+            env: TreeEnv {
+                args: 0,
+                result: None,
+            },
         }
     }
 
@@ -70,6 +85,14 @@ impl Rules for AbsRules {
         if keyword == "before" {
             self.state = state(self.alloc, argument)?;
             return Ok(Line::Begin);
+        }
+        if keyword == "arguments-at" || keyword == "result-at" {
+            tree_rules::place(&mut self.env, keyword, argument)?;
+            return Ok(Line::Setting);
+        }
+        if keyword == "judged" {
+            tree_rules::judged(self.alloc, &mut self.state, argument)?;
+            return Ok(Line::Answer);
         }
         if self.step(keyword, argument)? {
             return Ok(Line::Step);

@@ -2,7 +2,7 @@
 
 use fact_text::{Fact, add_range, append_bounds, append_definitions, append_ranges, read_fact};
 use number_facts::{Definitions, Numbers};
-use pentagon_domain::Bounds;
+use pentagon_domain::{BoundRow, Bounds};
 use rule_text::Failure;
 use std::alloc::{AllocError, Global};
 
@@ -15,11 +15,11 @@ pub fn nothing(alloc: Global) -> Numbers {
     }
 }
 
-/// Adds the fact of a text.
-fn add_fact(numbers: &mut Numbers, text: &str) -> Result<(), Failure> {
-    match read_fact(text)? {
+/// Adds a fact.
+fn add_fact(numbers: &mut Numbers, fact: Fact) -> Result<(), Failure> {
+    match fact {
         Fact::Range(s, range) => add_range(&mut numbers.ranges, s, range)?,
-        Fact::Bound(row) => numbers.bounds.add_bound(row.s, row.t, row.k)?,
+        Fact::Bound(BoundRow { s, t, k }) => numbers.bounds.add_bound(s, t, k)?,
         Fact::Definition(s, def) => numbers.definitions.push(s, def)?,
     }
     Ok(())
@@ -32,7 +32,7 @@ pub fn facts(alloc: Global, text: &str) -> Result<Numbers, Failure> {
         return Ok(numbers);
     }
     for text in text.split(';') {
-        add_fact(&mut numbers, text.trim())?;
+        add_fact(&mut numbers, read_fact(text.trim())?)?;
     }
     Ok(numbers)
 }
