@@ -1,8 +1,9 @@
 -- Operators and arrays of the code, of a state that may be reached or not.
-use Rattle.std.proofs.Common.{◌≡◌, ◌==◌, ℕ, ℤ, pos, negsuc, Bool, true, false, Option, Some, None, refl, sym, ap, subst, ◌∙◌}
-use Rattle.std.specs.Prelude.{Result, Ok, Err, OnOk, is_some}
+use Rattle.std.proofs.Common.{◌≡◌, ◌==◌, ℕ, ◌-◌, ℤ, pos, negsuc, Bool, true, false, List, [], ◌∷◌, ◌++◌, length, take, Option, Some, None, refl, sym, ap, subst, ◌∙◌}
+use Rattle.std.specs.Prelude.{Result, Ok, Err, OnOk, is_some, reverse, slice_get}
 use Rattle.std.specs.Option.{ForSome, option_and_then}
 use Rattle.std.proofs.lemmas.Bool.{cond_both}
+use Rattle.std.proofs.lemmas.List.{reverse-append, reverse-reverse}
 use Rattle.std.proofs.lemmas.Option.{none-some, same_Some}
 use Rattle.cil_model.specs.Comparisons.{comparison_of}
 use Rattle.cil_model.specs.UnitCalls.{array_place}
@@ -24,7 +25,8 @@ use Rattle.state_facts.specs.StateFacts.{StateFacts, State, length_at}
 use Rattle.state_facts.specs.States as states
 use Rattle.transfer_rules.specs.Acts.{calculated, complemented, negated, operated, taken_from, with_item_of, with_item_put, with_length, with_new, with_number_put}
 use Rattle.transfer_rules.specs.Operands.{IsTaken, Took, TookTwo, on_one, on_three, on_two, over_one, over_two, with_one}
-use Rattle.transfer_rules.specs.Owed.{AreReady, IsReady}
+use Rattle.transfer_rules.specs.Owed.{AreReadyFor, IsReady}
+use Rattle.transfer_rules.specs.Laws.Tops.{front}
 use Rattle.transfer_rules.proofs.Taking.{still_there}
 
 -- ---- operators
@@ -78,15 +80,32 @@ operated_is op two vs state after some took =
 pub not_operated : (op : BinOp) (state after : State) → TookTwo None state after → None ≡ option_and_then (operated op) state
 not_operated op state after took = sym (took (calculated op (comparison_of op))) ∙ on_operated op state
 
+-- What lies under the top is on top where the top is taken.
+under_top : (xs : List Var) → slice_get (reverse (reverse xs)) 1 ≡ slice_get (reverse (take (length (reverse xs) - 1) (reverse xs))) 0
+under_top [] = refl
+under_top (x ∷ xs) =
+    let turned : reverse (x ∷ xs) ≡ reverse xs ++ x ∷ [] = reverse-append (x ∷ []) xs in
+    ap (λ (ys : List Var). slice_get ys 1) (reverse-reverse (x ∷ xs))
+    ∙ ap (λ (ys : List Var). slice_get ys 0) (sym (reverse-reverse xs))
+    ∙ ap (λ (ys : List Var). slice_get (reverse ys) 0) (sym (ap (λ (ys : List Var). take (length ys - 1) ys) turned ∙ front (reverse xs) x))
+
+second_is : (known : StateFacts) → from_top 1 known ≡ from_top 0 (popped known)
+unfolding popped
+second_is known =
+    subst (λ (vs : List Var). slice_get (reverse vs) 1 ≡ slice_get (reverse (take (length vs - 1) vs)) 0)
+    (reverse-reverse known.variables) (under_top (reverse known.variables))
+
 -- What is owed of the operands.
 pub ready_here : (op : BinOp) (state : State) (v w : Var) → option_and_then (from_top 0) state ≡ Some w → option_and_then (from_top 0) (states.pop state) ≡ Some v
-    → ForSome state (IsReady (ops.Bin op)) → AreReady op v w
+    → ForSome state (IsReady (ops.Bin op)) → AreReadyFor op (Some v) (Some w)
 ready_here op None v w is below ready = absurd cc
-ready_here op (Some known) v w is below ready = ready known refl w is v below
+ready_here op (Some known) v w is below ready =
+    subst (λ (o : Option Var). AreReadyFor op o (Some w)) (second_is known ∙ below)
+    (subst (λ (o : Option Var). AreReadyFor op (from_top 1 known) o) is (ready known refl))
 
-pub numbers_ready : (op : BinOp) (v w : Var) (a b : Expr) → v ≡ vars.Number a → w ≡ vars.Number b → AreReady op v w → Divides op b × Shifts op b
+pub numbers_ready : (op : BinOp) (v w : Var) (a b : Expr) → v ≡ vars.Number a → w ≡ vars.Number b → AreReadyFor op (Some v) (Some w) → Divides op b × Shifts op b
 numbers_ready op v w a b first second ready =
-    subst (λ (y : Var). AreReady op (vars.Number a) y) second (subst (λ (x : Var). AreReady op x w) first ready)
+    subst (λ (y : Var). AreReadyFor op (Some (vars.Number a)) (Some y)) second (subst (λ (x : Var). AreReadyFor op (Some x) (Some w)) first ready)
 
 -- ---- one operand
 

@@ -4,3 +4,5 @@ pub mod Calculating
 pub mod Doing
 pub mod Passing
 pub mod Ways
+pub mod GoingOn
+pub mod Walking

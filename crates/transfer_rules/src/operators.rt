@@ -1,13 +1,13 @@
 //! Operators, of a state that may be reached or not.
 
-ghost use Rattle.std.specs.Prelude.{◌≡◌, OnOk};
+ghost use Rattle.std.specs.Prelude.{◌≡◌, OnOk, Some};
 ghost use Rattle.std.specs.Option.{ForSome, option_and_then};
 ghost use Rattle.cil_model.specs.Comparisons.{comparison_of};
 ghost use Rattle.cil_model.specs.declared.instruction.Op.TheVariants as ops;
 ghost use Rattle.state_facts.specs.Forms.{HasVar};
 ghost use Rattle.transfer_rules.specs.Acts as rule;
 ghost use Rattle.transfer_rules.specs.Operands.{on_one};
-ghost use Rattle.transfer_rules.specs.Owed.{AreReady, IsReady};
+ghost use Rattle.transfer_rules.specs.Owed.{AreReadyFor, IsReady};
 
 use crate::operands::{refuse, take, take_two};
 use abs_state::{AbsState, Var};
@@ -20,7 +20,7 @@ use number_spans::constant;
 fn calculate(state: &mut AbsState, op: BinOp, a: Var, b: Var) -> Result<(), NoMemory>
     requires first { ForSome state.old (λ known. HasVar known a) }
     requires second { ForSome state.old (λ known. HasVar known b) }
-    requires ready { AreReady op a b }
+    requires ready { AreReadyFor op (Some a) (Some b) }
     ensures { OnOk result (state.new ≡ option_and_then (rule.calculated op (comparison_of op) a b) state.old) }
 {
     if comparison_of(op).is_some() {

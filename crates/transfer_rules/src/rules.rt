@@ -1,7 +1,9 @@
 //! The state after an instruction, and along each way on from it.
 
 ghost use Rattle.std.specs.Prelude.{◌≡◌, ◌+◌, ◌≤◌, length, OnOk};
+ghost use Rattle.std.specs.Option.{ForSome};
 ghost use Rattle.cil_model.specs.Limits.{MAX_VARIABLES};
+ghost use Rattle.state_facts.specs.Forms.{HasForm};
 ghost use Rattle.transfer_rules.specs.Post as rule;
 ghost use Rattle.transfer_rules.specs.Steps.{HoldsAlong, HoldsBehind};
 ghost use Rattle.unit_flow.specs.Ways.{IsShortSwitch};
@@ -14,11 +16,15 @@ use domain_api::NoMemory;
 use obligation_prover::avoid_all;
 
 /// Makes a state that of after an instruction.
-#[tactic(auto, unfolding(crate::specs::Post::post))]
+#[tactic(auto, unfolding(crate::specs::Post::post), using(crate::proofs::GoingOn::going_on))]
 fn go_on(state: &mut AbsState, unit: &Unit, op: &Op) -> Result<(), NoMemory>
     requires few { length unit.now.args + length unit.now.locals + unit.now.max_stack ≤ MAX_VARIABLES }
-    ensures { OnOk result (state.new ≡ rule.post unit.now op.now state.old) }
+    ensures value { OnOk result (state.new ≡ rule.post unit.now op.now state.old) }
+    ensures form { ForSome state.old HasForm }
 {
+    if !state.reached() {
+        return Ok(());
+    }
     avoid_all(state, unit, op)?;
     act(state, unit, op)
 }
@@ -27,6 +33,7 @@ fn go_on(state: &mut AbsState, unit: &Unit, op: &Op) -> Result<(), NoMemory>
 /// nothing is assumed, and calls of methods leave the state.
 ///
 /// Cost: that of the operation's conditions and of its rule. After want of memory the state is to be given up.
+#[tactic(auto, using(crate::proofs::GoingOn::holding))]
 pub fn post(state: &mut AbsState, unit: &Unit, op: &Op) -> Result<(), NoMemory>
     requires few { length unit.now.args + length unit.now.locals + unit.now.max_stack ≤ MAX_VARIABLES }
     ensures value { OnOk result (state.new ≡ rule.post unit.now op.now state.old) }
@@ -37,12 +44,16 @@ pub fn post(state: &mut AbsState, unit: &Unit, op: &Op) -> Result<(), NoMemory>
 }
 
 /// Makes a state that along the way of this number on from an instruction.
-#[tactic(auto, unfolding(crate::specs::Post::along))]
+#[tactic(auto, unfolding(crate::specs::Post::along), using(crate::proofs::GoingOn::going_on))]
 fn go_along(state: &mut AbsState, unit: &Unit, op: &Op, way: u32) -> Result<(), NoMemory>
     requires few { length unit.now.args + length unit.now.locals + unit.now.max_stack ≤ MAX_VARIABLES }
     requires short { IsShortSwitch op.now }
-    ensures { OnOk result (state.new ≡ rule.along unit.now op.now way state.old) }
+    ensures value { OnOk result (state.new ≡ rule.along unit.now op.now way state.old) }
+    ensures form { ForSome state.old HasForm }
 {
+    if !state.reached() {
+        return Ok(());
+    }
     avoid_all(state, unit, op)?;
     choose(state, op, way)?;
     act(state, unit, op)
@@ -53,6 +64,7 @@ fn go_along(state: &mut AbsState, unit: &Unit, op: &Op, way: u32) -> Result<(), 
 /// it. Each other instruction has one way.
 ///
 /// Cost: as of `post`, and that of a comparison. After want of memory the state is to be given up.
+#[tactic(auto, using(crate::proofs::GoingOn::holding))]
 pub fn along(state: &mut AbsState, unit: &Unit, op: &Op, way: u32) -> Result<(), NoMemory>
     requires few { length unit.now.args + length unit.now.locals + unit.now.max_stack ≤ MAX_VARIABLES }
     requires short { IsShortSwitch op.now }
