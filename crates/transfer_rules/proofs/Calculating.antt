@@ -81,13 +81,15 @@ pub not_operated : (op : BinOp) (state after : State) → TookTwo None state aft
 not_operated op state after took = sym (took (calculated op (comparison_of op))) ∙ on_operated op state
 
 -- What lies under the top is on top where the top is taken.
-under_top : (xs : List Var) → slice_get (reverse (reverse xs)) 1 ≡ slice_get (reverse (take (length (reverse xs) - 1) (reverse xs))) 0
+under_top : (xs : List Var) → slice_get (reverse (reverse xs)) 1
+    ≡ slice_get (reverse (take (length (reverse xs) - 1) (reverse xs))) 0
 under_top [] = refl
 under_top (x ∷ xs) =
     let turned : reverse (x ∷ xs) ≡ reverse xs ++ x ∷ [] = reverse-append (x ∷ []) xs in
     ap (λ (ys : List Var). slice_get ys 1) (reverse-reverse (x ∷ xs))
     ∙ ap (λ (ys : List Var). slice_get ys 0) (sym (reverse-reverse xs))
-    ∙ ap (λ (ys : List Var). slice_get (reverse ys) 0) (sym (ap (λ (ys : List Var). take (length ys - 1) ys) turned ∙ front (reverse xs) x))
+    ∙ ap (λ (ys : List Var). slice_get (reverse ys) 0)
+    (sym (ap (λ (ys : List Var). take (length ys - 1) ys) turned ∙ front (reverse xs) x))
 
 second_is : (known : StateFacts) → from_top 1 known ≡ from_top 0 (popped known)
 unfolding popped
@@ -96,16 +98,19 @@ second_is known =
     (reverse-reverse known.variables) (under_top (reverse known.variables))
 
 -- What is owed of the operands.
-pub ready_here : (op : BinOp) (state : State) (v w : Var) → option_and_then (from_top 0) state ≡ Some w → option_and_then (from_top 0) (states.pop state) ≡ Some v
-    → ForSome state (IsReady (ops.Bin op)) → AreReadyFor op (Some v) (Some w)
+pub ready_here : (op : BinOp) (state : State) (v w : Var) → option_and_then (from_top 0) state ≡ Some w
+    → option_and_then (from_top 0) (states.pop state) ≡ Some v → ForSome state (IsReady (ops.Bin op))
+    → AreReadyFor op (Some v) (Some w)
 ready_here op None v w is below ready = absurd cc
 ready_here op (Some known) v w is below ready =
     subst (λ (o : Option Var). AreReadyFor op o (Some w)) (second_is known ∙ below)
     (subst (λ (o : Option Var). AreReadyFor op (from_top 1 known) o) is (ready known refl))
 
-pub numbers_ready : (op : BinOp) (v w : Var) (a b : Expr) → v ≡ vars.Number a → w ≡ vars.Number b → AreReadyFor op (Some v) (Some w) → Divides op b × Shifts op b
+pub numbers_ready : (op : BinOp) (v w : Var) (a b : Expr) → v ≡ vars.Number a → w ≡ vars.Number b
+    → AreReadyFor op (Some v) (Some w) → Divides op b × Shifts op b
 numbers_ready op v w a b first second ready =
-    subst (λ (y : Var). AreReadyFor op (Some (vars.Number a)) (Some y)) second (subst (λ (x : Var). AreReadyFor op (Some x) (Some w)) first ready)
+    subst (λ (y : Var). AreReadyFor op (Some (vars.Number a)) (Some y)) second
+    (subst (λ (x : Var). AreReadyFor op (Some x) (Some w)) first ready)
 
 -- ---- one operand
 

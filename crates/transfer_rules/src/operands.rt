@@ -48,10 +48,7 @@ pub(crate) fn take_two(state: &mut AbsState) -> Result<Option<(Var, Var)>, NoMem
 }
 
 /// Takes the condition of an Assert or an Assume, and a message on it. None where one is missing.
-pub(crate) fn take_condition(
-    state: &mut AbsState,
-    message: bool,
-) -> Result<Option<Var>, NoMemory>
+pub(crate) fn take_condition(state: &mut AbsState, message: bool) -> Result<Option<Var>, NoMemory>
     ensures took { IfOk result (λ condition. TookCondition message condition state.old state.new) }
     ensures taken { IfOk result (λ condition. IfSome condition (IsTaken state.new)) }
 {

@@ -60,8 +60,8 @@ fn go_along(state: &mut AbsState, unit: &Unit, op: &Op, way: u32) -> Result<(), 
 }
 
 /// Makes a state that along the way of this number on from an instruction. The way of a branch to its target has the
-/// number 0 and the one after it the number 1, and the ways of a switch are numbered as its targets, before the one after
-/// it. Each other instruction has one way.
+/// number 0 and the one after it the number 1, and the ways of a switch are numbered as its targets, before the one
+/// after it. Each other instruction has one way.
 ///
 /// Cost: as of `post`, and that of a comparison. After want of memory the state is to be given up.
 #[tactic(auto, using(crate::proofs::GoingOn::holding))]

@@ -1,5 +1,5 @@
-use Rattle.std.proofs.Common.{◌∙◌, sym}
-use Rattle.transfer_rules.proofs.Walking.{last_short, walk_ends, walk_goes_on}
+use Rattle.std.proofs.Common.{◌∙◌}
+use Rattle.transfer_rules.proofs.Walking.{last_short, walk_goes_on}
 use Rattle.transfer_rules.proofs.walks.walk.Goals as goal
 
 pub loop-instr-preserved : goal.loop-instr-preserved
@@ -11,4 +11,3 @@ loop-instr-preserved c =
 pub along-requires-clause-short : goal.along-requires-clause-short
 along-requires-clause-short c =
     last_short c.args.instrs.now c.last-item.result c.in-len1-up.len_at_least c.last-item.is c.requires.short
-
