@@ -70,32 +70,39 @@ unsigned_count k below = omega (arith, ints, below)
 
 -- ---- what is assumed of values
 
-module _ (known : StateFacts) (form : HasForm known) (vs : List Value) (heap : Heap) (number : ℕ → ℤ) (array : ℕ → Option ℕ) (holds : HoldsBy known vs heap number array) where
+module _ (known : StateFacts) (form : HasForm known) (vs : List Value) (heap : Heap) (number : ℕ → ℤ)
+    (array : ℕ → Option ℕ) (holds : HoldsBy known vs heap number array) where
   abbrev Stands : State → Type 0
   Stands state = HoldsIn state vs heap number array
 
   -- A comparison of two values.
-  comparison_stands : (op : CmpOp) (v w : Var) (so : Bool) (first second : Value) → HasVar known v → HasVar known w → HasValue number array v first
-      → HasValue number array w second → IsValue heap first → IsValue heap second → compares_values op first second ≡ Some so → Stands (assumed op v w so known)
+  comparison_stands : (op : CmpOp) (v w : Var) (so : Bool) (first second : Value) → HasVar known v → HasVar known w
+      → HasValue number array v first → HasValue number array w second → IsValue heap first → IsValue heap second
+      → compares_values op first second ≡ Some so → Stands (assumed op v w so known)
   comparison_stands op v w so first second v_there w_there v_has w_has one two is =
-      assume_keeps op v w so (Some known) (for_some HasForm known form) (for_some (λ (x : StateFacts). HasVar x v) known v_there)
-      (for_some (λ (x : StateFacts). HasVar x w) known w_there) vs heap number array first second holds v_has w_has one two is
+      assume_keeps op v w so (Some known) (for_some HasForm known form)
+      (for_some (λ (x : StateFacts). HasVar x v) known v_there)
+      (for_some (λ (x : StateFacts). HasVar x w) known w_there) vs heap number array first second holds v_has w_has one
+      two is
 
   -- A comparison of a number with a constant.
-  with_constant : (op : CmpOp) (v : Var) (n : ℤ) (so : Bool) (value : Value) → FitsSigned w32 n → HasVar known v → HasValue number array v value → IsValue heap value
-      → compares_values op value (Int n) ≡ Some so → Stands (assumed op v (vars.Number (constant n)) so known)
+  with_constant : (op : CmpOp) (v : Var) (n : ℤ) (so : Bool) (value : Value) → FitsSigned w32 n → HasVar known v
+      → HasValue number array v value → IsValue heap value → compares_values op value (Int n) ≡ Some so
+      → Stands (assumed op v (vars.Number (constant n)) so known)
   with_constant op v n so value fits there has is compare =
       comparison_stands op v (vars.Number (constant n)) so value (Int n) there (constant_there known n fits) has
       (ap (λ (m : ℤ). Some m) (sym (constant_is known vs heap number array n holds))) is fits compare
 
-  true_number : (value : Value) (n : ℤ) (so : Bool) → number_of value ≡ Some n → is_true value ≡ Some so → compares_values comparisons.NeUn value (Int (pos 0)) ≡ Some so
+  true_number : (value : Value) (n : ℤ) (so : Bool) → number_of value ≡ Some n → is_true value ≡ Some so
+      → compares_values comparisons.NeUn value (Int (pos 0)) ≡ Some so
   true_number (Int m) n so is holds = holds
   true_number (Native m) n so is holds = ap (λ (b : Bool). Some (not b)) (none_same m) ∙ holds
   true_number Null n so is holds = absurd (none-some n is)
   true_number (Array i) n so is holds = absurd (none-some n is)
   true_number Text n so is holds = absurd (none-some n is)
 
-  true_reference : (value : Value) (a : Option ℕ) (so : Bool) → reference_of value ≡ Some a → is_true value ≡ Some so → compares_values comparisons.NeUn value Null ≡ Some so
+  true_reference : (value : Value) (a : Option ℕ) (so : Bool) → reference_of value ≡ Some a → is_true value ≡ Some so
+      → compares_values comparisons.NeUn value Null ≡ Some so
   true_reference Null a so is holds = holds
   true_reference (Array i) a so is holds = holds
   true_reference (Int m) a so is holds = absurd (none-some a is)
@@ -103,10 +110,11 @@ module _ (known : StateFacts) (form : HasForm known) (vs : List Value) (heap : H
   true_reference Text a so is holds = absurd (none-some a is)
 
   -- Whether a value is true.
-  truth_stands : (v : Var) (so : Bool) (value : Value) → HasVar known v → HasValue number array v value → IsValue heap value → is_true value ≡ Some so
-      → Stands (true_known so v known)
+  truth_stands : (v : Var) (so : Bool) (value : Value) → HasVar known v → HasValue number array v value
+      → IsValue heap value → is_true value ≡ Some so → Stands (true_known so v known)
   truth_stands (vars.Number e) so value there has is true_is =
-      with_constant comparisons.NeUn (vars.Number e) (pos 0) so value (omega (arith, ints)) there has is (true_number value (worth number e) so has true_is)
+      with_constant comparisons.NeUn (vars.Number e) (pos 0) so value (omega (arith, ints)) there has is
+      (true_number value (worth number e) so has true_is)
   truth_stands (vars.Reference r) so value there has is true_is =
       comparison_stands comparisons.NeUn (vars.Reference r) (vars.Reference 0) so value Null there (omega arith) has
       (ap (λ (a : Option ℕ). Some a) (sym holds.null)) is tt (true_reference value (array r) so has true_is)
@@ -114,7 +122,8 @@ module _ (known : StateFacts) (form : HasForm known) (vs : List Value) (heap : H
 
 -- ---- one instruction
 
-module _ (known : StateFacts) (f : Frame) (form : HasForm known) (heap : Heap) (number : ℕ → ℤ) (array : ℕ → Option ℕ) (i : Instr) (effect : Effect) where
+module _ (known : StateFacts) (f : Frame) (form : HasForm known) (heap : Heap) (number : ℕ → ℤ) (array : ℕ → Option ℕ)
+    (i : Instr) (effect : Effect) where
   abbrev Over : List Value → Type 0
   Over stack = HoldsBy known (over f stack) heap number array
 
@@ -122,31 +131,38 @@ module _ (known : StateFacts) (f : Frame) (form : HasForm known) (heap : Heap) (
   There stack state = HoldsIn state (over f stack) heap number array
 
   top_of : (v : Value) (rest : List Value) → Over (v ∷ rest) → HasTop known (over f rest) v heap number array
-  top_of v rest holds = has_top known (over f rest) v heap number array form (subst (λ (vs : List Value). HoldsBy known vs heap number array) (over_pushed f v rest) holds)
+  top_of v rest holds =
+      has_top known (over f rest) v heap number array form
+      (subst (λ (vs : List Value). HoldsBy known vs heap number array) (over_pushed f v rest) holds)
 
-  one_tested : (target : ℕ) (so : Bool) (v : Value) (rest : List Value) → Over (v ∷ rest) → IsValue heap v → is_true v ≡ Some so
-      → There (v ∷ rest) (with_one (true_known so) (from_top 0 known) known)
+  one_tested : (target : ℕ) (so : Bool) (v : Value) (rest : List Value) → Over (v ∷ rest) → IsValue heap v
+      → is_true v ≡ Some so → There (v ∷ rest) (with_one (true_known so) (from_top 0 known) known)
   one_tested target so v rest holds is true_is =
       let top = top_of v rest holds in
-      rw top.is (truth_stands known form (over f (v ∷ rest)) heap number array holds top.var so v (var_above known top.var top.there) top.has is true_is)
+      rw top.is (truth_stands known form (over f (v ∷ rest)) heap number array holds top.var so v
+      (var_above known top.var top.there) top.has is true_is)
 
   -- A value is tested, and the branch is taken or not.
-  true_branch : (target : ℕ) (v : Value) (rest : List Value) (o : Option Bool) → Over (v ∷ rest) → IsValue heap v → is_true v ≡ o
-      → HasEffect (rows.branches target i f heap rest o) effect → There (v ∷ rest) (with_one (true_known (side o == 0)) (from_top 0 known) known)
+  true_branch : (target : ℕ) (v : Value) (rest : List Value) (o : Option Bool) → Over (v ∷ rest) → IsValue heap v
+      → is_true v ≡ o → HasEffect (rows.branches target i f heap rest o) effect
+      → There (v ∷ rest) (with_one (true_known (side o == 0)) (from_top 0 known) known)
   true_branch target v rest None holds is true_is has = elim has [ ]
   true_branch target v rest (Some so) holds is true_is has =
-      subst (λ (b : Bool). There (v ∷ rest) (with_one (true_known b) (from_top 0 known) known)) (sym (side_is so)) (one_tested target so v rest holds is true_is)
+      subst (λ (b : Bool). There (v ∷ rest) (with_one (true_known b) (from_top 0 known) known)) (sym (side_is so))
+      (one_tested target so v rest holds is true_is)
 
-  false_branch : (target : ℕ) (v : Value) (rest : List Value) (o : Option Bool) → Over (v ∷ rest) → IsValue heap v → is_true v ≡ o
-      → HasEffect (rows.branches target i f heap rest (option_map not o)) effect
+  false_branch : (target : ℕ) (v : Value) (rest : List Value) (o : Option Bool) → Over (v ∷ rest) → IsValue heap v
+      → is_true v ≡ o → HasEffect (rows.branches target i f heap rest (option_map not o)) effect
       → There (v ∷ rest) (with_one (true_known (not (side (option_map not o) == 0))) (from_top 0 known) known)
   false_branch target v rest None holds is true_is has = elim has [ ]
   false_branch target v rest (Some so) holds is true_is has =
-      subst (λ (b : Bool). There (v ∷ rest) (with_one (true_known b) (from_top 0 known) known)) (sym (ap not (side_is (not so)) ∙ not_not so))
+      subst (λ (b : Bool). There (v ∷ rest) (with_one (true_known b) (from_top 0 known) known))
+      (sym (ap not (side_is (not so)) ∙ not_not so))
       (one_tested target so v rest holds is true_is)
 
-  compared_branch : (op : CmpOp) (target : ℕ) (b a : Value) (rest : List Value) (o : Option Bool) → Over (b ∷ a ∷ rest) → IsValue heap b → IsValue heap a
-      → compares_values op a b ≡ o → HasEffect (rows.branches target i f heap rest o) effect
+  compared_branch : (op : CmpOp) (target : ℕ) (b a : Value) (rest : List Value) (o : Option Bool) → Over (b ∷ a ∷ rest)
+      → IsValue heap b → IsValue heap a → compares_values op a b ≡ o
+      → HasEffect (rows.branches target i f heap rest o) effect
       → There (b ∷ a ∷ rest) (compared op (side o == 0) (from_top 1 known) (from_top 0 known) known)
   compared_branch op target b a rest None holds b_is a_is compare has = elim has [ ]
   compared_branch op target b a rest (Some so) holds b_is a_is compare has =
@@ -156,17 +172,20 @@ module _ (known : StateFacts) (f : Frame) (form : HasForm known) (heap : Heap) (
       let next : from_top 1 known ≡ Some lower.var = upper.below 0 ∙ lower.is in
       rw (next, upper.is, side_is so)
       (comparison_stands known form (over f (b ∷ a ∷ rest)) heap number array holds op lower.var upper.var so a b
-      (var_above known lower.var (var_above (popped known) lower.var lower.there)) (var_above known upper.var upper.there) lower.has upper.has a_is b_is compare)
+      (var_above known lower.var (var_above (popped known) lower.var lower.there))
+      (var_above known upper.var upper.there) lower.has upper.has a_is b_is compare)
 
   test_stands : (test : Test) (target : ℕ) (stack : List Value) → Over stack → AllByRecursion (IsValue heap) stack
-      → HasEffect (rows.branches_by test target i f heap stack) effect → There stack (tested test (way_of_test test stack == 0) known)
+      → HasEffect (rows.branches_by test target i f heap stack) effect
+      → There stack (tested test (way_of_test test stack == 0) known)
   unfolding tested
   test_stands tests.Always target stack holds are has = holds
   test_stands tests.True target (v ∷ rest) holds are has = true_branch target v rest (is_true v) holds are.0 refl has
   test_stands tests.True target [] holds are has = elim has [ ]
   test_stands tests.False target (v ∷ rest) holds are has = false_branch target v rest (is_true v) holds are.0 refl has
   test_stands tests.False target [] holds are has = elim has [ ]
-  test_stands (tests.Cmp op) target (b ∷ a ∷ rest) holds are has = compared_branch op target b a rest (compares_values op a b) holds are.0 are.1.0 refl has
+  test_stands (tests.Cmp op) target (b ∷ a ∷ rest) holds are has =
+      compared_branch op target b a rest (compares_values op a b) holds are.0 are.1.0 refl has
   test_stands (tests.Cmp op) target (b ∷ []) holds are has = elim has [ ]
   test_stands (tests.Cmp op) target [] holds are has = elim has [ ]
 
@@ -180,11 +199,14 @@ module _ (known : StateFacts) (f : Frame) (form : HasForm known) (heap : Heap) (
       (cond_both (nat_lt way count) _ _ (There (Int n ∷ rest))
       (λ here.
       let below = ltb-true way count here in
-      with_constant known form (over f (Int n ∷ rest)) heap number array holds comparisons.Eq (vars.Number one.expr) (pos way) true (Int n) (omega (arith, ints, below, short)) one.there
-      (ap (λ (m : ℤ). Some m) (sym one.worth_is)) fits (ap (λ (b : Bool). Some b) ((Decides-int_eq n (pos way)).1 (taken below))))
+      with_constant known form (over f (Int n ∷ rest)) heap number array holds comparisons.Eq (vars.Number one.expr)
+      (pos way) true (Int n) (omega (arith, ints, below, short)) one.there
+      (ap (λ (m : ℤ). Some m) (sym one.worth_is)) fits
+      (ap (λ (b : Bool). Some b) ((Decides-int_eq n (pos way)).1 (taken below))))
       (λ behind.
       let above = ltb-false way count behind in
-      with_constant known form (over f (Int n ∷ rest)) heap number array holds comparisons.LtUn (vars.Number one.expr) (pos count) false (Int n) (omega (arith, ints, short)) one.there
+      with_constant known form (over f (Int n ∷ rest)) heap number array holds comparisons.LtUn (vars.Number one.expr)
+      (pos count) false (Int n) (omega (arith, ints, short)) one.there
       (ap (λ (m : ℤ). Some m) (sym one.worth_is)) fits (ap (λ (b : Bool). Some b) (passed above))))
     where
       taken : min (unsigned n) count < count → n ≡ pos (min (unsigned n) count)
@@ -199,13 +221,15 @@ module _ (known : StateFacts) (f : Frame) (form : HasForm known) (heap : Heap) (
       passed : count ≤ min (unsigned n) count → nat_lt (unsigned n) (unsigned (pos count)) ≡ false
       passed above = rw (unsigned_count count short) (below_false (unsigned n) count (omega (arith, above)))
 
-  switch_stands : (targets : List ℕ) (stack : List Value) → length targets ≤ 2147483647 → Over stack → AllByRecursion (IsValue heap) stack
-      → HasEffect (rows.switches targets i f heap stack) effect → There stack (switched (length targets) (way_of_switch (length targets) stack) known)
+  switch_stands : (targets : List ℕ) (stack : List Value) → length targets ≤ 2147483647 → Over stack
+      → AllByRecursion (IsValue heap) stack → HasEffect (rows.switches targets i f heap stack) effect
+      → There stack (switched (length targets) (way_of_switch (length targets) stack) known)
   unfolding switched
   switch_stands targets (Int n ∷ rest) short holds are has = case_stands (length targets) n rest short holds are.0
   switch_stands targets _ short holds are has = elim has [ ]
 
-  chosen_stands : (unit : MethodUnit) (op : Op) → IsShortSwitch op → Over f.stack → AllByRecursion (IsValue heap) f.stack → HasEffect (effects_of op unit i f heap) effect
+  chosen_stands : (unit : MethodUnit) (op : Op) → IsShortSwitch op → Over f.stack
+      → AllByRecursion (IsValue heap) f.stack → HasEffect (effects_of op unit i f heap) effect
       → There f.stack (chosen op (way_of op f.stack) known)
   unfolding chosen
   chosen_stands unit (ops.Branch test target) short holds are has = test_stands test target f.stack holds are has
@@ -213,48 +237,61 @@ module _ (known : StateFacts) (f : Frame) (form : HasForm known) (heap : Heap) (
   chosen_stands unit _ short holds are has = holds
 
 -- What is assumed along the way that the machine takes is so by the same choice.
-pub choose_keeps : (unit : MethodUnit) (i : Instr) (p q : Point) (known : StateFacts) (number : ℕ → ℤ) (array : ℕ → Option ℕ)
-    → HasForm known → IsShortSwitch i.op → IsPointOf unit p → HoldsBy known (variables_of p.frame) p.heap number array
+pub choose_keeps : (unit : MethodUnit) (i : Instr) (p q : Point) (known : StateFacts) (number : ℕ → ℤ)
+    (array : ℕ → Option ℕ) → HasForm known → IsShortSwitch i.op → IsPointOf unit p
+    → HoldsBy known (variables_of p.frame) p.heap number array
     → HasEffect (effects unit i p.frame p.heap) (GoesOn q.frame q.heap)
     → HoldsIn (chosen i.op (way_of i.op p.frame.stack) known) (variables_of p.frame) p.heap number array
 choose_keeps unit i p q known number array form short of holds goes =
-    chosen_stands known p.frame form p.heap number array i (GoesOn q.frame q.heap) unit i.op short holds of.frame.stack goes
+    chosen_stands known p.frame form p.heap number array i (GoesOn q.frame q.heap) unit i.op short holds of.frame.stack
+    goes
 
 -- ---- what stays
 
 module _ (known : StateFacts) (form : HasForm known) where
   truth_follows : (so : Bool) (v : Var) → HasVar known v → StaysThereIn known (true_known so v known)
   truth_follows so (vars.Number e) there =
-      comparison_follows comparisons.NeUn (vars.Number e) (vars.Number (constant (pos 0))) so known form there.there (omega arith)
-  truth_follows so (vars.Reference r) there = comparison_follows comparisons.NeUn (vars.Reference r) (vars.Reference 0) so known form tt tt
+      comparison_follows comparisons.NeUn (vars.Number e) (vars.Number (constant (pos 0))) so known form there.there
+      (omega arith)
+  truth_follows so (vars.Reference r) there =
+      comparison_follows comparisons.NeUn (vars.Reference r) (vars.Reference 0) so known form tt tt
   truth_follows so vars.Text there = stays_itself known form
 
-  one_follows : (rule : Var → StateFacts → State) (o : Option Var) → ((v : Var) → HasVar known v → StaysThereIn known (rule v known)) → IfThere (HasVar known) o
+  one_follows : (rule : Var → StateFacts → State) (o : Option Var)
+      → ((v : Var) → HasVar known v → StaysThereIn known (rule v known)) → IfThere (HasVar known) o
       → StaysThereIn known (with_one rule o known)
   one_follows rule None follows there = tt
   one_follows rule (Some v) follows there = follows v there
 
-  two_follow : (op : CmpOp) (so : Bool) (o p : Option Var) → IfThere (HasVar known) o → IfThere (HasVar known) p → StaysThereIn known (compared op so o p known)
+  two_follow : (op : CmpOp) (so : Bool) (o p : Option Var) → IfThere (HasVar known) o → IfThere (HasVar known) p
+      → StaysThereIn known (compared op so o p known)
   two_follow op so None p first second = tt
   two_follow op so (Some v) None first second = tt
-  two_follow op so (Some v) (Some w) first second = comparison_follows op v w so known form (named_var known v first) (named_var known w second)
+  two_follow op so (Some v) (Some w) first second =
+      comparison_follows op v w so known form (named_var known v first) (named_var known w second)
 
   case_follows : (count way : ℕ) (v : Var) → HasVar known v → StaysThereIn known (with_case count way v known)
   case_follows count way (vars.Number e) there =
       cond_both (nat_lt way count) _ _ (StaysThereIn known)
-      (λ here. comparison_follows comparisons.Eq (vars.Number e) (vars.Number (constant (pos way))) true known form there.there (omega arith))
-      (λ behind. comparison_follows comparisons.LtUn (vars.Number e) (vars.Number (constant (pos count))) false known form there.there (omega arith))
+      (λ here. comparison_follows comparisons.Eq (vars.Number e) (vars.Number (constant (pos way))) true known form
+      there.there (omega arith))
+      (λ behind. comparison_follows comparisons.LtUn (vars.Number e) (vars.Number (constant (pos count))) false known
+      form there.there (omega arith))
   case_follows count way (vars.Reference r) there = tt
   case_follows count way vars.Text there = tt
 
   top_there : (above : ℕ) → IfThere (HasVar known) (from_top above known)
-  top_there above = at_depth (HasVar known) (reverse known.variables) above (all_reverse (HasVar known) known.variables form.variables)
+  top_there above =
+      at_depth (HasVar known) (reverse known.variables) above
+      (all_reverse (HasVar known) known.variables form.variables)
 
   test_follows : (test : Test) (so : Bool) → StaysThereIn known (tested test so known)
   unfolding tested
   test_follows tests.Always so = stays_itself known form
-  test_follows tests.True so = one_follows (true_known so) (from_top 0 known) (λ v there. truth_follows so v there) (top_there 0)
-  test_follows tests.False so = one_follows (true_known (not so)) (from_top 0 known) (λ v there. truth_follows (not so) v there) (top_there 0)
+  test_follows tests.True so =
+      one_follows (true_known so) (from_top 0 known) (λ v there. truth_follows so v there) (top_there 0)
+  test_follows tests.False so =
+      one_follows (true_known (not so)) (from_top 0 known) (λ v there. truth_follows (not so) v there) (top_there 0)
   test_follows (tests.Cmp op) so = two_follow op so (from_top 1 known) (from_top 0 known) (top_there 1) (top_there 0)
 
 -- Variables stay, and so do the types and lengths of references.
@@ -262,5 +299,6 @@ pub chosen_stays : (op : Op) (way : ℕ) (known : StateFacts) → HasForm known 
 unfolding chosen switched
 chosen_stays (ops.Branch test target) way known form = test_follows known form test (way == 0)
 chosen_stays (ops.Switch targets) way known form =
-    one_follows known form (with_case (length targets) way) (from_top 0 known) (λ v there. case_follows known form (length targets) way v there) (top_there known form 0)
+    one_follows known form (with_case (length targets) way) (from_top 0 known)
+    (λ v there. case_follows known form (length targets) way v there) (top_there known form 0)
 chosen_stays _ way known form = stays_itself known form

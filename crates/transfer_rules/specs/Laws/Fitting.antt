@@ -31,7 +31,8 @@ use Rattle.transfer_rules.specs.Operands.{Rule, on_one, on_two, on_three, with_o
 -- Each reference that was there is of its type still.
 abbrev pub PlacesStay : StateFacts → StateFacts → Type 0
 PlacesStay before after =
-    (place : Place) (r : ℕ) → r ≤ length before.references → is_of_place before place r ≡ true → is_of_place after place r ≡ true
+    (place : Place) (r : ℕ) → r ≤ length before.references → is_of_place before place r ≡ true
+    → is_of_place after place r ≡ true
 
 abbrev of_place : Place → Option (Reference Unknown) → Bool
 of_place place found = option_map_or (λ reference. same_place reference.place place) found true
@@ -73,7 +74,8 @@ longer [] more (suc r) there = absurd (omega (arith, there))
 longer (x ∷ xs) more (suc zero) there = refl
 longer (x ∷ xs) more (suc (suc r)) there = longer xs more (suc r) (omega (arith, there))
 
-pub places_more : (before after : StateFacts) (more : List (Reference Unknown)) → after.references ≡ before.references ++ more
+pub places_more : (before after : StateFacts) (more : List (Reference Unknown))
+    → after.references ≡ before.references ++ more
     → PlacesStay before after
 places_more before after more same = λ place r there is.
     subst (λ references. of_place place (reference_at references r) ≡ true) (sym same)
@@ -81,7 +83,8 @@ places_more before after more same = λ place r there is.
 
 -- ---- variables that stay
 
-pub kind_stays : (before after : StateFacts) (kind : Kind) (v : Var) → PlacesStay before after → HasVar before v → FitsKind before kind v
+pub kind_stays : (before after : StateFacts) (kind : Kind) (v : Var) → PlacesStay before after → HasVar before v
+    → FitsKind before kind v
     → FitsKind after kind v
 kind_stays before after kinds.Int (vars.Number e) stay there fits = tt
 kind_stays before after kinds.Native (vars.Number e) stay there fits = tt
@@ -91,7 +94,8 @@ kind_stays before after kinds.NullRef (vars.Reference r) stay there fits = fits
 kind_stays before after kinds.Text vars.Text stay there fits = tt
 kind_stays before after _ _ stay there fits = elim fits [ ]
 
-pub fit_stays : (before after : StateFacts) (ks : List Kind) (vs : List Var) → PlacesStay before after → AllByRecursion (HasVar before) vs
+pub fit_stays : (before after : StateFacts) (ks : List Kind) (vs : List Var) → PlacesStay before after
+    → AllByRecursion (HasVar before) vs
     → FitKinds before ks vs → FitKinds after ks vs
 fit_stays before after [] [] stay there fits = tt
 fit_stays before after (k ∷ ks) (v ∷ vs) stay there fits =
@@ -101,7 +105,8 @@ fit_stays before after (k ∷ ks) [] stay there fits = elim fits [ ]
 
 -- ---- lists of variables
 
-pub fit_pushed : (known : StateFacts) (ks : List Kind) (vs : List Var) (k : Kind) (v : Var) → FitKinds known ks vs → FitsKind known k v
+pub fit_pushed : (known : StateFacts) (ks : List Kind) (vs : List Var) (k : Kind) (v : Var) → FitKinds known ks vs
+    → FitsKind known k v
     → FitKinds known (ks ++ k ∷ []) (vs ++ v ∷ [])
 fit_pushed known [] [] k v fits last = (last, tt)
 fit_pushed known [] (w ∷ vs) k v fits last = elim fits [ ]
@@ -123,14 +128,21 @@ pub record FitLast (known : StateFacts) (ks : List Kind) (k : Kind) (vs : List V
   pub fit : FitKinds known ks front
   pub last : FitsKind known k top
 
-pub fit_last : (known : StateFacts) (ks : List Kind) (k : Kind) (vs : List Var) → FitKinds known (ks ++ k ∷ []) vs → FitLast known ks k vs
+pub fit_last : (known : StateFacts) (ks : List Kind) (k : Kind) (vs : List Var) → FitKinds known (ks ++ k ∷ []) vs
+    → FitLast known ks k vs
 fit_last known [] k [] fits = elim fits [ ]
 fit_last known [] k (v ∷ []) fits = record { front = []; top = v; are = refl; fit = tt; last = fits.0 }
 fit_last known [] k (v ∷ w ∷ vs) fits = elim fits.1 [ ]
 fit_last known (j ∷ ks) k [] fits = elim fits [ ]
 fit_last known (j ∷ ks) k (v ∷ vs) fits =
     let rest = fit_last known ks k vs fits.1 in
-    record { front = v ∷ rest.front; top = rest.top; are = ap (λ l. v ∷ l) rest.are; fit = (fits.0, rest.fit); last = rest.last }
+    record {
+      front = v ∷ rest.front;
+      top = rest.top;
+      are = ap (λ l. v ∷ l) rest.are;
+      fit = (fits.0, rest.fit);
+      last = rest.last;
+    }
 
 -- The variable at an index.
 pub record FitAt (known : StateFacts) (k : Kind) (vs : List Var) (i : ℕ) : Type 0 where
@@ -138,7 +150,8 @@ pub record FitAt (known : StateFacts) (k : Kind) (vs : List Var) (i : ℕ) : Typ
   pub is : slice_get vs i ≡ Some var
   pub fits : FitsKind known k var
 
-pub fit_at : (known : StateFacts) (ks : List Kind) (vs : List Var) (i : ℕ) (k : Kind) → FitKinds known ks vs → slice_get ks i ≡ Some k
+pub fit_at : (known : StateFacts) (ks : List Kind) (vs : List Var) (i : ℕ) (k : Kind) → FitKinds known ks vs
+    → slice_get ks i ≡ Some k
     → FitAt known k vs i
 fit_at known [] vs i k fits is = absurd (none-some k is)
 fit_at known (j ∷ ks) [] i k fits is = elim fits [ ]
@@ -151,10 +164,12 @@ pub fit_set : (known : StateFacts) (ks : List Kind) (vs : List Var) (i : ℕ) (k
     → slice_get ks i ≡ Some k → FitsKind known k v → FitKinds known ks (set vs i v)
 fit_set known [] vs i k v fits is one = absurd (none-some k is)
 fit_set known (j ∷ ks) [] i k v fits is one = elim fits [ ]
-fit_set known (j ∷ ks) (w ∷ vs) zero k v fits is one = (subst (λ x. FitsKind known x v) (sym (same_Some j k is)) one, fits.1)
+fit_set known (j ∷ ks) (w ∷ vs) zero k v fits is one =
+    (subst (λ x. FitsKind known x v) (sym (same_Some j k is)) one, fits.1)
 fit_set known (j ∷ ks) (w ∷ vs) (suc i) k v fits is one = (fits.0, fit_set known ks vs i k v fits.1 is one)
 
-pub there_at : (P : Var → Type 0) (vs : List Var) (i : ℕ) (v : Var) → AllByRecursion P vs → slice_get vs i ≡ Some v → P v
+pub there_at : (P : Var → Type 0) (vs : List Var) (i : ℕ) (v : Var) → AllByRecursion P vs → slice_get vs i ≡ Some v
+    → P v
 there_at P [] i v all is = absurd (none-some v is)
 there_at P (w ∷ vs) zero v all is = subst P (same_Some w v is) all.0
 there_at P (w ∷ vs) (suc i) v all is = there_at P vs i v all.1 is
@@ -163,14 +178,16 @@ last_there : (P : Var → Type 0) (front : List Var) (top : Var) → AllByRecurs
 last_there P [] top all = all.0
 last_there P (v ∷ front) top all = last_there P front top all.1
 
-front_there : (P : Var → Type 0) (front : List Var) (top : Var) → AllByRecursion P (front ++ top ∷ []) → AllByRecursion P front
+front_there : (P : Var → Type 0) (front : List Var) (top : Var) → AllByRecursion P (front ++ top ∷ [])
+    → AllByRecursion P front
 front_there P [] top all = tt
 front_there P (v ∷ front) top all = (all.0, front_there P front top all.1)
 
 all_but_last : (front : List Var) (top : Var) → take (length (front ++ top ∷ []) - 1) (front ++ top ∷ []) ≡ front
 all_but_last [] top = refl
 all_but_last (v ∷ front) top =
-    let size : length ((v ∷ front) ++ top ∷ []) - 1 ≡ suc (length (front ++ top ∷ []) - 1) = let many = one_longer front top in omega (arith, many) in
+    let size : length ((v ∷ front) ++ top ∷ []) - 1 ≡ suc (length (front ++ top ∷ []) - 1) =
+    let many = one_longer front top in omega (arith, many) in
     ap (λ n. take n ((v ∷ front) ++ top ∷ [])) size ∙ ap (λ l. v ∷ l) (all_but_last front top)
 
 top_of : (front : List Var) (top : Var) → slice_get (reverse (front ++ top ∷ [])) 0 ≡ Some top
@@ -178,20 +195,34 @@ top_of front top = ap (λ l. slice_get l 0) (reverse-append front (top ∷ []))
 
 -- ---- what is known
 
-pub has_stayed : (ks : List Kind) (before after : StateFacts) → StaysThere before after → HasKinds ks before → HasKinds ks after
+abbrev pub AreKinds : List Kind → State → Type 0
+AreKinds ks None = Unit {0}
+AreKinds ks (Some known) = HasKinds ks known
+
+pub over_stack : (unit : MethodUnit) (stack : List Kind) (state : State) → AreKinds (kinds_over unit stack) state
+    → FitsStack unit (Some stack) state
+over_stack unit stack None are = tt
+over_stack unit stack (Some known) are = are
+
+pub has_stayed : (ks : List Kind) (before after : StateFacts) → StaysThere before after → HasKinds ks before
+    → HasKinds ks after
 has_stayed ks before after stays has = record {
   form = stays.form;
   fit = subst (FitKinds after ks) (sym stays.variables)
-      (fit_stays before after ks before.variables (places_shaped before after stays.references) has.form.variables has.fit);
+      (fit_stays before after ks before.variables
+      (places_shaped before after stays.references) has.form.variables has.fit);
 }
 
-pub has_pushed : (ks : List Kind) (k : Kind) (v : Var) (known : StateFacts) → HasKinds ks known → HasVar known v → FitsKind known k v
+pub has_pushed : (ks : List Kind) (k : Kind) (v : Var) (known : StateFacts) → HasKinds ks known → HasVar known v
+    → FitsKind known k v
     → HasKinds (ks ++ k ∷ []) (pushed known v)
 has_pushed ks k v known has there fits =
     let same = places_same known (pushed known v) refl in
     record {
       form = pushed_form known v has.form there;
-      fit = fit_pushed (pushed known v) ks known.variables k v (fit_stays known (pushed known v) ks known.variables same has.form.variables has.fit)
+      fit =
+          fit_pushed (pushed known v) ks known.variables k v
+          (fit_stays known (pushed known v) ks known.variables same has.form.variables has.fit)
           (kind_stays known (pushed known v) k v same there fits);
     }
 
@@ -220,13 +251,15 @@ has_popped ks k known has =
       rest = record {
         form = popped_form known has.form;
         fit = subst (FitKinds (popped known) ks) (sym left)
-            (fit_stays known (popped known) ks ends.front same (front_there (HasVar known) ends.front ends.top all) ends.fit);
+            (fit_stays known (popped known) ks ends.front same
+            (front_there (HasVar known) ends.front ends.top all) ends.fit);
       };
     }
 
 -- ---- stacks
 
-pub over_more : (unit : MethodUnit) (k : Kind) (stack : List Kind) → kinds_over unit (k ∷ stack) ≡ kinds_over unit stack ++ k ∷ []
+pub over_more : (unit : MethodUnit) (k : Kind) (stack : List Kind)
+    → kinds_over unit (k ∷ stack) ≡ kinds_over unit stack ++ k ∷ []
 over_more unit k stack =
     let base = map kind_in unit.args ++ map kind_in unit.args ++ map kind_in unit.locals in
     ap (λ l. base ++ l) (reverse-append (k ∷ []) stack) ∙ sym (append_assoc base (reverse stack) (k ∷ []))
@@ -239,18 +272,26 @@ pub record IsOperand (known : StateFacts) (k : Kind) (v : Var) : Type 0 where
 pub operand_popped : (known : StateFacts) (k : Kind) (v : Var) → IsOperand known k v → IsOperand (popped known) k v
 unfolding popped
 operand_popped known k v is =
-    record { there = is.there; fits = kind_stays known (popped known) k v (places_same known (popped known) refl) is.there is.fits }
+    record {
+      there = is.there;
+      fits = kind_stays known (popped known) k v (places_same known (popped known) refl) is.there is.fits;
+    }
 
 pub operand_before : (known : StateFacts) (k : Kind) (v : Var) → IsOperand (popped known) k v → IsOperand known k v
 unfolding popped
 operand_before known k v is =
-    record { there = is.there; fits = kind_stays (popped known) known k v (places_same (popped known) known refl) is.there is.fits }
+    record {
+      there = is.there;
+      fits = kind_stays (popped known) known k v (places_same (popped known) known refl) is.there is.fits;
+    }
 
 module _ (unit : MethodUnit) where
-  pub over_pushed : (k : Kind) (stack : List Kind) (v : Var) (known : StateFacts) → HasKinds (kinds_over unit stack) known
+  pub over_pushed : (k : Kind) (stack : List Kind) (v : Var) (known : StateFacts)
+      → HasKinds (kinds_over unit stack) known
       → IsOperand known k v → HasKinds (kinds_over unit (k ∷ stack)) (pushed known v)
   over_pushed k stack v known has is =
-      subst (λ ks. HasKinds ks (pushed known v)) (sym (over_more unit k stack)) (has_pushed (kinds_over unit stack) k v known has is.there is.fits)
+      subst (λ ks. HasKinds ks (pushed known v)) (sym (over_more unit k stack))
+      (has_pushed (kinds_over unit stack) k v known has is.there is.fits)
 
   pub over_popped : (k : Kind) (stack : List Kind) (known : StateFacts) → HasKinds (kinds_over unit (k ∷ stack)) known
       → HasPopped (kinds_over unit stack) k known
@@ -259,16 +300,19 @@ module _ (unit : MethodUnit) where
 
   pub one_taken : (k : Kind) (stack : List Kind) (to : Option (List Kind)) (rule : Var → Rule) (known : StateFacts)
       → HasKinds (kinds_over unit (k ∷ stack)) known
-      → ((v : Var) → IsOperand (popped known) k v → HasKinds (kinds_over unit stack) (popped known) → FitsStack unit to (rule v (popped known)))
+      → ((v : Var) → IsOperand (popped known) k v → HasKinds (kinds_over unit stack) (popped known)
+      → FitsStack unit to (rule v (popped known)))
       → FitsStack unit to (on_one rule known)
   one_taken k stack to rule known has next =
       let top = over_popped k stack known has in
       subst (λ o. FitsStack unit to (with_one rule o (popped known))) (sym top.is)
       (next top.top (record { there = top.there; fits = top.fits }) top.rest)
 
-  pub two_taken : (k j : Kind) (stack : List Kind) (to : Option (List Kind)) (rule : Var → Var → Rule) (known : StateFacts)
+  pub two_taken : (k j : Kind) (stack : List Kind) (to : Option (List Kind)) (rule : Var → Var → Rule)
+      (known : StateFacts)
       → HasKinds (kinds_over unit (k ∷ j ∷ stack)) known
-      → ((lower upper : Var) (x : StateFacts) → IsOperand x j lower → IsOperand x k upper → HasKinds (kinds_over unit stack) x
+      → ((lower upper : Var) (x : StateFacts) → IsOperand x j lower → IsOperand x k upper
+      → HasKinds (kinds_over unit stack) x
       → FitsStack unit to (rule lower upper x))
       → FitsStack unit to (on_two rule known)
   two_taken k j stack to rule known has next =
@@ -276,14 +320,16 @@ module _ (unit : MethodUnit) where
       (λ upper is rest. one_taken j stack to (λ lower. rule lower upper) (popped known) rest
       (λ lower own last. next lower upper (popped (popped known)) own (operand_popped (popped known) k upper is) last))
 
-  pub three_taken : (k j h : Kind) (stack : List Kind) (to : Option (List Kind)) (rule : Var → Var → Var → Rule) (known : StateFacts)
+  pub three_taken : (k j h : Kind) (stack : List Kind) (to : Option (List Kind)) (rule : Var → Var → Var → Rule)
+      (known : StateFacts)
       → HasKinds (kinds_over unit (k ∷ j ∷ h ∷ stack)) known
       → ((lowest lower upper : Var) (x : StateFacts) → IsOperand x h lowest → IsOperand x j lower → IsOperand x k upper
       → HasKinds (kinds_over unit stack) x → FitsStack unit to (rule lowest lower upper x))
       → FitsStack unit to (on_three rule known)
   three_taken k j h stack to rule known has next =
       one_taken k (j ∷ h ∷ stack) to (λ upper. on_two (λ lowest lower. rule lowest lower upper)) known has
-      (λ upper is rest. one_taken j (h ∷ stack) to (λ lower. on_one (λ lowest. rule lowest lower upper)) (popped known) rest
+      (λ upper is rest. one_taken j (h ∷ stack) to (λ lower. on_one (λ lowest. rule lowest lower upper))
+      (popped known) rest
       (λ lower own more. one_taken h stack to (λ lowest. rule lowest lower upper) (popped (popped known)) more
       (λ lowest first last. next lowest lower upper (popped (popped (popped known))) first
       (operand_popped (popped (popped known)) j lower own)

@@ -38,18 +38,23 @@ stays_formed known (Some after) stays = λ x is. subst HasForm (same_Some after 
 
 pub avoided_formed : (op : Op) (state : State) → ForSome state HasForm → ForSome (avoid_all op state) HasForm
 avoided_formed op None form = λ x is. absurd (none-some x is)
-avoided_formed op (Some known) form = stays_formed known (avoid_all op (Some known)) (avoided_stays op known (form known refl))
+avoided_formed op (Some known) form =
+    stays_formed known (avoid_all op (Some known)) (avoided_stays op known (form known refl))
 
-pub chosen_formed : (op : Op) (way : ℕ) (state : State) → ForSome state HasForm → ForSome (option_and_then (chosen op way) state) HasForm
+pub chosen_formed : (op : Op) (way : ℕ) (state : State) → ForSome state HasForm
+    → ForSome (option_and_then (chosen op way) state) HasForm
 chosen_formed op way None form = λ x is. absurd (none-some x is)
-chosen_formed op way (Some known) form = stays_formed known (chosen op way known) (chosen_stays op way known (form known refl))
+chosen_formed op way (Some known) form =
+    stays_formed known (chosen op way known) (chosen_stays op way known (form known refl))
 
 -- ---- one instruction
 
-module _ (unit : MethodUnit) (i : Instr) (p q : Point) (of : IsPointOf unit p) (goes : HasEffect (effects unit i p.frame p.heap) (GoesOn q.frame q.heap))
+module _ (unit : MethodUnit) (i : Instr) (p q : Point) (of : IsPointOf unit p)
+    (goes : HasEffect (effects unit i p.frame p.heap) (GoesOn q.frame q.heap))
     (values : HasMachineValues q) where
   avoided_there : (state : State) → ForSome state HasForm → HoldsAt state p → HoldsAt (avoid_all i.op state) p
-  avoided_there state form at = all_avoided unit i.op state form i p (GoesOn q.frame q.heap) refl at goes (λ kind same. absurd cc)
+  avoided_there state form at =
+      all_avoided unit i.op state form i p (GoesOn q.frame q.heap) refl at goes (λ kind same. absurd cc)
 
   chosen_there : (state : State) → ForSome state HasForm → IsShortSwitch i.op → HoldsAt state p
       → HoldsAt (option_and_then (chosen i.op (way_of i.op p.frame.stack)) state) p
@@ -59,11 +64,13 @@ module _ (unit : MethodUnit) (i : Instr) (p q : Point) (of : IsPointOf unit p) (
     frame = record {
       number = at.frame.number;
       array = at.frame.array;
-      holds = choose_keeps unit i p q known at.frame.number at.frame.array (form known refl) short of at.frame.holds goes;
+      holds = choose_keeps unit i p q known at.frame.number at.frame.array (form known refl) short of at.frame.holds
+          goes;
     };
   }
 
-  acted_there : (state : State) → ForSome state HasForm → HoldsAt state p → HoldsAt (option_and_then (acted unit i.op) state) q
+  acted_there : (state : State) → ForSome state HasForm → HoldsAt state p
+      → HoldsAt (option_and_then (acted unit i.op) state) q
   acted_there None form at = absurd at.frame.holds
   acted_there (Some known) form at =
       let on = act_keeps unit i p q known at.frame.number at.frame.array (form known refl) of at.frame.holds goes in
@@ -71,9 +78,11 @@ module _ (unit : MethodUnit) (i : Instr) (p q : Point) (of : IsPointOf unit p) (
 
   post_there : (state : State) → ForSome state HasForm → HoldsAt state p → HoldsAt (post unit i.op state) q
   unfolding post
-  post_there state form at = acted_there (avoid_all i.op state) (avoided_formed i.op state form) (avoided_there state form at)
+  post_there state form at =
+      acted_there (avoid_all i.op state) (avoided_formed i.op state form) (avoided_there state form at)
 
-  along_there : (state : State) → ForSome state HasForm → IsShortSwitch i.op → HoldsAt state p → HoldsAt (along unit i.op (way_of i.op p.frame.stack) state) q
+  along_there : (state : State) → ForSome state HasForm → IsShortSwitch i.op → HoldsAt state p
+      → HoldsAt (along unit i.op (way_of i.op p.frame.stack) state) q
   unfolding along
   along_there state form short at =
       let way = way_of i.op p.frame.stack in
@@ -83,14 +92,17 @@ module _ (unit : MethodUnit) (i : Instr) (p q : Point) (of : IsPointOf unit p) (
       (chosen_there avoided formed short (avoided_there state form at))
 
 -- The state after an instruction holds of the points to which it leads.
-pub post_holds : (unit : MethodUnit) (op : Op) (state : State) → ForSome state HasForm → HoldsBehind unit op state (post unit op state)
+pub post_holds : (unit : MethodUnit) (op : Op) (state : State) → ForSome state HasForm
+    → HoldsBehind unit op state (post unit op state)
 post_holds unit op state form = λ p q goes.
     subst (λ (o : Op). HoldsAt (post unit o state) q) goes.does
     (post_there unit goes.instr p q goes.of goes.goes goes.values state form goes.holds)
 
 -- So along the way that the machine takes.
-pub along_holds : (unit : MethodUnit) (op : Op) (way : ℕ) (state : State) → IsShortSwitch op → ForSome state HasForm → HoldsAlong unit op way state (along unit op way state)
+pub along_holds : (unit : MethodUnit) (op : Op) (way : ℕ) (state : State) → IsShortSwitch op → ForSome state HasForm
+    → HoldsAlong unit op way state (along unit op way state)
 along_holds unit op way state short form = λ p q goes taken.
     subst (λ (n : ℕ). HoldsAt (along unit op n state) q) taken
     (subst (λ (o : Op). HoldsAt (along unit o (way_of o p.frame.stack) state) q) goes.does
-    (along_there unit goes.instr p q goes.of goes.goes goes.values state form (subst IsShortSwitch (sym goes.does) short) goes.holds))
+    (along_there unit goes.instr p q goes.of goes.goes goes.values state form
+    (subst IsShortSwitch (sym goes.does) short) goes.holds))
