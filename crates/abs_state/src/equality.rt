@@ -136,7 +136,7 @@ fn are_same_numbers(a: &Numbers, b: &Numbers) -> bool
     ensures { IsTrue result ↔ (a.now ≡ b.now) }
 {
     are_same_ranges(&a.ranges, &b.ranges)
-        && are_same_definitions(&a.definitions, &b.definitions)
+        && are_same_definitions(a.definitions.rows(), b.definitions.rows())
         && a.bounds.same(&b.bounds)
 }
 

@@ -11,7 +11,7 @@ use cil_model::Place;
 use domain_api::{Expr, NoMemory};
 use frame_names::{Reference, Var};
 use interval_domain::Range;
-use number_facts::Numbers;
+use number_facts::{Definitions, Numbers};
 use pentagon_domain::{BoundRow, Bounds};
 use state_facts::{Known, Unknown};
 use std::alloc::Global;
@@ -266,11 +266,13 @@ impl Parts {
         let Some(apart) = Apart::of_pairs(alloc, self.apart.as_slice())? else {
             return Ok(None);
         };
+        let rows = Vec::from_slice(alloc, self.definitions.as_slice())?;
+        let definitions = Definitions::of_rows(alloc, rows)?;
         Ok(Some(Known {
             variables: Vec::from_slice(alloc, self.variables.as_slice())?,
             numbers: Numbers {
                 ranges: Vec::from_slice(alloc, self.ranges.as_slice())?,
-                definitions: Vec::from_slice(alloc, self.definitions.as_slice())?,
+                definitions,
                 bounds,
             },
             references: Vec::from_slice(alloc, self.references.as_slice())?,
@@ -288,7 +290,7 @@ fn listed(alloc: Global, known: &Known) -> Result<Parts, NoMemory>
         reached: true,
         variables: Vec::from_slice(alloc, known.variables.as_slice())?,
         ranges: Vec::from_slice(alloc, known.numbers.ranges.as_slice())?,
-        definitions: Vec::from_slice(alloc, known.numbers.definitions.as_slice())?,
+        definitions: Vec::from_slice(alloc, known.numbers.definitions.rows())?,
         bounds: Vec::from_slice(alloc, known.numbers.bounds.rows())?,
         references: Vec::from_slice(alloc, known.references.as_slice())?,
         apart: known.apart.pairs(alloc)?,

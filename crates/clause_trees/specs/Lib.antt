@@ -1,3 +1,4 @@
 pub mod TreeValues
 pub mod ClauseStates
+pub mod VariableKinds
 pub mod Meaning

@@ -33,7 +33,7 @@ struct Branch {
 }
 
 /// Assumes that a value is true: a number other than 0, or a reference other than null. Or that it is not.
-pub fn assume_true(state: &mut AbsState, value: Var, holds: bool) -> Result<(), NoMemory>
+pub(crate) fn assume_true(state: &mut AbsState, value: Var, holds: bool) -> Result<(), NoMemory>
     ensures { OnOk result (state.new ≡ option_and_then (rule.true_known holds value) state.old) }
 {
     let zero = match value {

@@ -1,0 +1,407 @@
+-- What nodes keep: where operands have values of which the machine makes a value, what is pushed has it.
+use Rattle.std.proofs.Common.{◌≡◌, ◌≢◌, ℕ, zero, suc, ◌+◌, ◌<◌, ◌≤◌, ◌==◌, ℤ, pos, negsuc, ◌≤ℤ◌, ◌<ℤ◌, ◌-ℤ◌, neg_ℤ, int_le, unsigned_abs, Bool, true, false, ◌&&◌, List, [], ◌∷◌, ◌++◌, length, slice_get, get_or, Option, Some, None, FitsSigned, w32, Result, Ok, Err, refl, ap, subst, sym, ◌∙◌, arith}
+use Rattle.std.specs.Prelude.{Contains, option_map}
+use Rattle.std.specs.List.{AllByRecursion}
+use Rattle.std.specs.Option.{ForSome, option_and_then, option_map_or}
+use Rattle.std.proofs.lemmas.Int.{int_wrap_fits, ints}
+use Rattle.std.proofs.lemmas.List.Elements.{Contains-get_or}
+use Rattle.std.proofs.lemmas.Option.{get_or_from_slice_get, none-some, same_Some, slice_get_within}
+use Rattle.cc_base.specs.Wrap.{wrap32}
+use Rattle.cil_model.specs.Arithmetic.{operated, operated_one, truth}
+use Rattle.cil_model.specs.Clauses.{Reading, arithmetic_value, binary_by, faultless}
+use Rattle.cil_model.specs.Clauses as clauses
+use Rattle.cil_model.specs.Comparisons.{comparison_of, number_of, pushed_comparison, reference_of}
+use Rattle.cil_model.specs.Places.{place_number}
+use Rattle.cil_model.specs.Values.{FitItems, FitsPlace, Heap, IsArray, IsHeap, IsValue, KeepsForms, same_place}
+use Rattle.cil_model.specs.declared.instruction.BinOp.{BinOp}
+use Rattle.cil_model.specs.declared.instruction.BinOp.TheVariants as operators
+use Rattle.cil_model.specs.declared.instruction.CmpOp.{CmpOp}
+use Rattle.cil_model.specs.declared.instruction.UnOp.{UnOp}
+use Rattle.cil_model.specs.declared.instruction.UnOp.TheVariants as unary
+use Rattle.cil_model.specs.declared.machine.ArrayCell.{ArrayCell}
+use Rattle.cil_model.specs.declared.machine.FaultKind.{FaultKind}
+use Rattle.cil_model.specs.declared.machine.Value.{Value}
+use Rattle.cil_model.specs.declared.machine.Value.TheVariants as values
+use Rattle.cil_model.specs.declared.place.Place.{Place}
+use Rattle.cil_model.specs.declared.place.Place.TheVariants as places
+use Rattle.cil_model.proofs.ArithmeticFits.{operated_one_fits}
+use Rattle.cil_model.proofs.HeapsKept.{array_of_heap}
+use Rattle.domain_api.specs.declared.expr.Expr.{Expr}
+use Rattle.frame_names.specs.declared.var.Var.{Var}
+use Rattle.frame_names.specs.declared.var.Var.TheVariants as vars
+use Rattle.number_spans.specs.Constants.{constant}
+use Rattle.number_facts.proofs.Knowing.{constant_worth}
+use Rattle.symbolic_values.specs.Worth.{worth}
+use Rattle.state_facts.specs.Arithmetic.{HaveInts}
+use Rattle.state_facts.specs.Forms.{HasForm, HasNumber, HasReference, HasVar}
+use Rattle.state_facts.specs.Holds.{HasValue, HoldsBy, HoldsIn, length_in, length_of_array}
+use Rattle.state_facts.specs.Keeps.{HoldsOn}
+use Rattle.state_facts.specs.Moves.{item_place, pushed}
+use Rattle.state_facts.specs.StateFacts.{StateFacts, State, length_at, length_of, reference_at}
+use Rattle.state_facts.specs.States as rule
+use Rattle.state_facts.specs.UnknownValues as unknown
+use Rattle.state_facts.proofs.Agreeing.{length_kept}
+use Rattle.state_facts.proofs.ComparisonsHold.{IsLike, compare_keeps, like_number, like_reference, like_text, unlike}
+use Rattle.state_facts.proofs.MovesHold.{load_keeps, push_keeps}
+use Rattle.state_facts.proofs.ResultsHold.{arith_keeps}
+use Rattle.state_facts.proofs.UnknownValues.{unknown_is_kept}
+use Rattle.state_obligations.specs.Conditions.{conditions_of, operator_conditions}
+use Rattle.state_obligations.specs.Following.{StaysThere}
+use Rattle.state_obligations.specs.Meaning.{AreMet, AreOfInt32}
+use Rattle.state_obligations.specs.declared.condition.Operation.{Operation}
+use Rattle.state_obligations.specs.declared.condition.Operation.TheVariants as operations
+use Rattle.state_obligations.proofs.FaultLaws.{met_where_operated}
+use Rattle.clause_trees.specs.Meaning.{is_now}
+use Rattle.clause_trees.specs.TreeValues.{arithmetic, binary_value, element_value, length_value, minuend, push_item, push_length, unary_value}
+use Rattle.clause_trees.specs.TreeValues as trees
+use Rattle.clause_trees.specs.declared.reader.Time.{Time}
+use Rattle.clause_trees.specs.declared.reader.Time.TheVariants.{Now, Entry}
+use Rattle.clause_trees.proofs.KeptSteps.{for_known, held_so, owed_kept}
+use Rattle.clause_trees.proofs.PushedTrees.{reference_found}
+use Rattle.clause_trees.proofs.PushedValues.{constant_there, minuend_fits, operands_there}
+use Rattle.clause_trees.proofs.Stays.{stays_grown, var_there}
+use Rattle.clause_trees.proofs.ValueKinds.{IsItem, found_item}
+
+-- ---- lengths
+
+pub length_worth : (known : StateFacts) (vs : List Value) (heap : Heap) (number : ℕ → ℤ) (array : ℕ → Option ℕ)
+    (r a : ℕ)
+    → HoldsBy known vs heap number array → HasReference known r → array r ≡ Some a
+    → worth number (length_at known r) ≡ pos (length_in heap a)
+length_worth known vs heap number array zero a holds there is = absurd (none-some a (sym holds.null ∙ is))
+length_worth known vs heap number array (suc r) a holds there is =
+    let (x, found) = reference_found known r there in
+    ap (λ o. worth number (length_of o)) found
+    ∙ (holds.references (suc r) x found).length_is ∙ ap (length_of_array heap) is
+
+pub length_of_cell : (heap : Heap) (a : ℕ) (cell : ArrayCell) → slice_get heap a ≡ Some cell
+    → length_in heap a ≡ length cell.items
+length_of_cell heap a cell found = ap (λ o. option_map_or (λ (c : ArrayCell). length c.items) o 0) found
+
+module _ (over heap : Heap) (kept : KeepsForms over heap) (is_heap : IsHeap heap) where
+  pub same_length : (a : ℕ) (cell : ArrayCell) → slice_get over a ≡ Some cell → length_in heap a ≡ length cell.items
+  same_length a cell found =
+      length_kept over heap a kept (slice_get_within over a cell found) ∙ length_of_cell over a cell found
+
+  array_length : (known : StateFacts) (r a : ℕ) (is : Value) (vs : List Value) (number : ℕ → ℤ) (array : ℕ → Option ℕ)
+      → HasForm known → HasReference known r → HoldsBy known vs heap number array → array r ≡ Some a
+      → clauses.length_value over (values.Array a) ≡ Some is
+      → HoldsOn (Some known) (length_value (vars.Reference r) known).state (vs ++ is ∷ []) heap number array
+  array_length known r a is vs number array form there holds at gives = by (slice_get over a) refl gives
+    where
+      some : array r ≢ None
+      some none = none-some a (sym none ∙ at)
+
+      by : (o : Option ArrayCell) → slice_get over a ≡ o
+          → option_map (λ cell. values.Int (pos (length cell.items))) o ≡ Some is
+          → HoldsOn (Some known) (length_value (vars.Reference r) known).state (vs ++ is ∷ []) heap number array
+      by None found gives = absurd (none-some is gives)
+      by (Some cell) found gives =
+          owed_kept known (operations.Length r) (push_length r) vs (vs ++ is ∷ []) heap number array form (there, tt)
+          is_heap holds (tt, tt)
+          (some, tt)
+          (λ x stays still.
+          held_so x _ (vs ++ is ∷ []) heap number array
+          (push_keeps (vars.Number (length_at x r)) (Some x) vs heap number array is still
+          (ap number_of (sym (same_Some (values.Int (pos (length cell.items))) is gives))
+          ∙ ap (λ n. Some (pos n)) (sym (same_length a cell found))
+          ∙ ap Some (sym (length_worth x vs heap number array r a still
+          (var_there known x (vars.Reference r) (stays_grown known x stays) there) at)))))
+
+  pub length_node : (known : StateFacts) (v : Var) (x is : Value) (vs : List Value) (number : ℕ → ℤ)
+      (array : ℕ → Option ℕ)
+      → HasForm known → HasVar known v → HoldsBy known vs heap number array → HasValue number array v x
+      → clauses.length_value over x ≡ Some is
+      → HoldsOn (Some known) (length_value v known).state (vs ++ is ∷ []) heap number array
+  length_node known (vars.Reference r) (values.Array a) is vs number array form there holds has gives =
+      array_length known r a is vs number array form there holds (sym (same_Some (Some a) (array r) has)) gives
+  length_node known (vars.Number e) (values.Array a) is vs number array form there holds has gives =
+      absurd (none-some _ has)
+  length_node known vars.Text (values.Array a) is vs number array form there holds has gives = absurd cc
+  length_node known v (values.Int n) is vs number array form there holds has gives = absurd (none-some is gives)
+  length_node known v (values.Native n) is vs number array form there holds has gives = absurd (none-some is gives)
+  length_node known v values.Null is vs number array form there holds has gives = absurd (none-some is gives)
+  length_node known v values.Text is vs number array form there holds has gives = absurd (none-some is gives)
+
+-- ---- items
+
+contains_item : (items : List ℤ) (k : ℕ) (n : ℤ) → slice_get items k ≡ Some n → Contains items n
+contains_item items k n is =
+    subst (Contains items) (get_or_from_slice_get items k n (pos 0) is)
+    (Contains-get_or items k (pos 0) (slice_get_within items k n is))
+
+same_by_number : (p q : Place) → same_place p q ≡ true → p ≡ q
+same_by_number places.Void places.Void is = refl
+same_by_number places.Bool places.Bool is = refl
+same_by_number places.Int places.Int is = refl
+same_by_number places.Bools places.Bools is = refl
+same_by_number places.Ints places.Ints is = refl
+same_by_number _ _ is = absurd cc
+
+item_fits_place : (heap : Heap) (place : Place) (items : List ℤ) (k : ℕ) (n : ℤ) → FitItems place items
+    → slice_get items k ≡ Some n
+    → FitsPlace heap (item_place place) (values.Int n)
+item_fits_place heap places.Bools items k n fit is = found_item _ items k n fit is
+item_fits_place heap places.Ints items k n fit is = found_item _ items k n fit is
+item_fits_place heap _ items k n fit is = absurd fit
+
+-- What an item's conditions ask of its operands.
+index_within : (items : List ℤ) (n item : ℤ) → int_le (pos 0) n ≡ true → slice_get items (unsigned_abs n) ≡ Some item
+    → (pos 0 ≤ℤ n) × (n <ℤ pos (length items))
+index_within items n item above is =
+    let inside : unsigned_abs n < length items = slice_get_within items (unsigned_abs n) item is in
+    (omega (arith, ints, above), omega (arith, ints, above, inside))
+
+module _ (over heap : Heap) (kept : KeepsForms over heap) (is_heap : IsHeap heap) (is_over : IsHeap over) (time : Time)
+    (now : time ≡ Now → over ≡ heap) where
+  -- what is pushed, behind the conditions
+  item_pushed : (x : StateFacts) (place : Place) (r : ℕ) (y z is : Value) (vs : List Value) (number : ℕ → ℤ)
+      (array : ℕ → Option ℕ)
+      (item : IsItem over place y z is) → HasForm x → HoldsBy x vs heap number array → array r ≡ Some item.array
+      → (t : Time) → t ≡ time → HoldsOn (Some x) (push_item t place r (Some x))
+      (vs ++ values.Int item.item ∷ []) heap number array
+  item_pushed x place r y z is vs number array item form holds at Now same =
+      load_keeps r (Some x) (for_known x HasForm form) vs heap number array item.array item.cell item.item holds is_heap
+      at
+      (subst (λ h. slice_get h item.array ≡ Some item.cell) (now (sym same)) item.cell_is)
+      (contains_item item.cell.items (unsigned_abs item.index) item.item item.item_is)
+  item_pushed x place r y z is vs number array item form holds at Entry same =
+      unknown_is_kept (item_place place) (Some x) (for_known x HasForm form) vs heap number array (values.Int item.item)
+      holds is_heap
+      (subst (λ p. FitsPlace heap (item_place p) (values.Int item.item))
+      (same_by_number item.cell.place place item.of_place)
+      (item_fits_place heap item.cell.place item.cell.items (unsigned_abs item.index) item.item
+      (array_of_heap over item.array item.cell is_over item.cell_is).0 item.item_is))
+
+  array_item : (known : StateFacts) (place : Place) (r : ℕ) (i : Expr) (y z is : Value) (vs : List Value)
+      (number : ℕ → ℤ)
+      (array : ℕ → Option ℕ) (item : IsItem over place y z is) → HasForm known → HasReference known r
+      → HasNumber known i
+      → HoldsBy known vs heap number array → array r ≡ Some item.array → item.index ≡ worth number i
+      → FitsSigned w32 item.index
+      → HoldsOn (Some known) (element_value time place (vars.Reference r) (vars.Number i) known).state
+      (vs ++ is ∷ []) heap number array
+  array_item known place r i y z is vs number array item form first second holds at index fits =
+      let within = index_within item.cell.items item.index item.item item.not_negative item.item_is in
+      let there : length_of_array heap (array r) ≡ pos (length item.cell.items) =
+      ap (length_of_array heap) at ∙ ap (λ n. pos n)
+      (same_length over heap kept is_heap item.array item.cell item.cell_is) in
+      let int32 = subst (FitsSigned w32) index fits in
+      owed_kept known (operations.Element r i) (push_item time place r) vs (vs ++ is ∷ []) heap number array form
+      (first, (second, ((first, second), tt))) is_heap holds (tt, (int32, (int32, tt)))
+      ((λ none. none-some item.array (sym none ∙ at)),
+      (subst (λ n. pos 0 ≤ℤ n) index within.0,
+      (subst (λ n. n <ℤ length_of_array heap (array r)) index (subst (λ l. item.index <ℤ l) (sym there) within.1), tt)))
+      (λ x stays still.
+      subst (λ v. HoldsOn (Some x) (push_item time place r (Some x)) (vs ++ v ∷ []) heap number array) item.value_is
+      (item_pushed x place r y z is vs number array item stays.form still at time refl))
+
+  pub element_node : (known : StateFacts) (place : Place) (v w : Var) (y z is : Value) (vs : List Value)
+      (number : ℕ → ℤ)
+      (array : ℕ → Option ℕ) → IsItem over place y z is → HasForm known → HasVar known v → HasVar known w
+      → IsValue heap z
+      → HoldsBy known vs heap number array → HasValue number array v y → HasValue number array w z
+      → HoldsOn (Some known) (element_value time place v w known).state (vs ++ is ∷ []) heap number array
+  element_node known place v w y z is vs number array item form first second value holds has other =
+      by v w first second (subst (HasValue number array v) item.array_is has)
+      (subst (HasValue number array w) item.index_is other)
+      (subst (IsValue heap) item.index_is value)
+    where
+      by : (v w : Var) → HasVar known v → HasVar known w → HasValue number array v (values.Array item.array)
+          → HasValue number array w (values.Int item.index) → IsValue heap (values.Int item.index)
+          → HoldsOn (Some known) (element_value time place v w known).state (vs ++ is ∷ []) heap number array
+      by (vars.Reference r) (vars.Number i) first second has other fits =
+          array_item known place r i y z is vs number array item form first second holds
+          (sym (same_Some (Some item.array) (array r) has))
+          (same_Some item.index (worth number i) other) fits
+      by (vars.Reference r) (vars.Reference q) first second has other fits = absurd (none-some _ other)
+      by (vars.Reference r) vars.Text first second has other fits = absurd cc
+      by (vars.Number e) w first second has other fits = absurd (none-some _ has)
+      by vars.Text w first second has other fits = absurd cc
+
+-- ---- operators
+
+pub operands_fit : (op : BinOp) (a b : Expr) (number : ℕ → ℤ) → FitsSigned w32 (worth number a)
+    → FitsSigned w32 (worth number b)
+    → AreOfInt32 (operator_conditions op a b) number
+operands_fit operators.Div a b number first second = (second, ((first, second), tt))
+operands_fit operators.Rem a b number first second = (second, ((first, second), tt))
+operands_fit operators.DivUn a b number first second = (second, tt)
+operands_fit operators.RemUn a b number first second = (second, tt)
+operands_fit operators.Shl a b number first second = (second, tt)
+operands_fit operators.Shr a b number first second = (second, tt)
+operands_fit operators.ShrUn a b number first second = (second, tt)
+operands_fit operators.AddOvf a b number first second = ((first, second), tt)
+operands_fit operators.MulOvf a b number first second = ((first, second), tt)
+operands_fit operators.SubOvf a b number first second = ((first, second), tt)
+operands_fit _ a b number first second = tt
+
+module _ (heap : Heap) (is_heap : IsHeap heap) where
+  pub arithmetic_node : (known : StateFacts) (op : BinOp) (a b : Expr) (m n result : ℤ) (vs : List Value)
+      (number : ℕ → ℤ)
+      (array : ℕ → Option ℕ) → HasForm known → HasNumber known a → HasNumber known b
+      → HoldsBy known vs heap number array
+      → HaveInts heap number array a b m n → operated op m n ≡ Ok result
+      → HoldsOn (Some known) (arithmetic op a b known).state (vs ++ values.Int result ∷ []) heap number array
+  arithmetic_node known op a b m n result vs number array form first second holds have gives =
+      let one = same_Some m (worth number a) have.first_is in
+      let two = same_Some n (worth number b) have.second_is in
+      owed_kept known (operations.Binary op a b) (rule.arith op a b) vs (vs ++ values.Int result ∷ []) heap number array
+      form
+      (operands_there op a b known first second) is_heap holds
+      (operands_fit op a b number (subst (FitsSigned w32) one have.first_fits)
+      (subst (FitsSigned w32) two have.second_fits))
+      (met_where_operated op a b heap number array result
+      (subst (λ k. operated op k (worth number b) ≡ Ok result) one
+      (subst (λ k. operated op m k ≡ Ok result) two gives)))
+      (λ x stays still.
+      let grown = stays_grown known x stays in
+      arith_keeps op a b (Some x) (for_known x HasForm stays.form)
+      (for_known x (λ known. HasNumber known a) (var_there known x (vars.Number a) grown first))
+      (for_known x (λ known. HasNumber known b) (var_there known x (vars.Number b) grown second))
+      vs heap number array m n result still have gives)
+
+  compared_node : (known : StateFacts) (op : BinOp) (cmp : CmpOp) (v w : Var) (x y is : Value) (vs : List Value)
+      (number : ℕ → ℤ)
+      (array : ℕ → Option ℕ) → HasForm known → HasVar known v → HasVar known w → IsValue heap x → IsValue heap y
+      → HoldsBy known vs heap number array → HasValue number array v x → HasValue number array w y
+      → comparison_of op ≡ Some cmp
+      → (o : Option Bool) → pushed_comparison cmp x y ≡ o → option_map (λ holds. values.Int (truth holds)) o ≡ Some is
+      → HoldsOn (Some known) (rule.compare op v w (Some known)) (vs ++ is ∷ []) heap number array
+  compared_node known op cmp v w x y is vs number array form first second one two holds has other comparison None
+      compared gives =
+      absurd (none-some is gives)
+  compared_node known op cmp v w x y is vs number array form first second one two holds has other comparison (Some so)
+      compared gives =
+      subst (λ z. HoldsOn (Some known) (rule.compare op v w (Some known)) (vs ++ z ∷ []) heap number array)
+      (same_Some (values.Int (truth so)) is gives)
+      (compare_keeps op v w (Some known) (for_known known HasForm form) (for_known known (λ k. HasVar k v) first)
+      (for_known known (λ k. HasVar k w) second) vs heap number array x y cmp so holds has other one two comparison
+      compared)
+
+  faultless_tells : (outcome : Result ℤ FaultKind) (is : Value) → faultless outcome ≡ Some is
+      → (n : ℤ) × (outcome ≡ Ok n) × (values.Int n ≡ is)
+  faultless_tells (Ok n) is gives = (n, refl, same_Some (values.Int n) is gives)
+  faultless_tells (Err fault) is gives = absurd (none-some is gives)
+
+  numbers_node : (known : StateFacts) (op : BinOp) (a b : Expr) (m n : ℤ) (is : Value) (vs : List Value)
+      (number : ℕ → ℤ)
+      (array : ℕ → Option ℕ) → HasForm known → HasNumber known a → HasNumber known b
+      → HoldsBy known vs heap number array
+      → HaveInts heap number array a b m n → arithmetic_value op (values.Int m) (values.Int n) ≡ Some is
+      → HoldsOn (Some known) (arithmetic op a b known).state (vs ++ is ∷ []) heap number array
+  numbers_node known op a b m n is vs number array form first second holds have gives =
+      let (result, outcome, same) = faultless_tells (operated op m n) is gives in
+      subst (λ v. HoldsOn (Some known) (arithmetic op a b known).state (vs ++ v ∷ []) heap number array) same
+      (arithmetic_node known op a b m n result vs number array form first second holds have outcome)
+
+  arithmetic_known : (known : StateFacts) (op : BinOp) (v w : Var) (m n : ℤ) (is : Value) (vs : List Value)
+      (number : ℕ → ℤ)
+      (array : ℕ → Option ℕ) → HasForm known → HasVar known v → HasVar known w → FitsSigned w32 m → FitsSigned w32 n
+      → HoldsBy known vs heap number array → HasValue number array v (values.Int m)
+      → HasValue number array w (values.Int n)
+      → arithmetic_value op (values.Int m) (values.Int n) ≡ Some is
+      → HoldsOn (Some known) (trees.binary_by op None v w known).state (vs ++ is ∷ []) heap number array
+  arithmetic_known known op (vars.Number a) (vars.Number b) m n is vs number array form first second one two holds has
+      other gives =
+      numbers_node known op a b m n is vs number array form first second holds
+      (record { first_is = has; second_is = other; first_fits = one; second_fits = two }) gives
+  arithmetic_known known op (vars.Number a) (vars.Reference q) m n is vs number array form first second one two holds
+      has other gives =
+      absurd (none-some _ other)
+  arithmetic_known known op (vars.Number a) vars.Text m n is vs number array form first second one two holds has other
+      gives = absurd cc
+  arithmetic_known known op (vars.Reference r) w m n is vs number array form first second one two holds has other
+      gives =
+      absurd (none-some _ has)
+  arithmetic_known known op vars.Text w m n is vs number array form first second one two holds has other gives =
+      absurd cc
+
+  no_comparison : (op : BinOp) (cmp : CmpOp) (x y is : Value) (p q r t : Bool) → IsLike x p q → IsLike y r t
+      → (p && r) ≡ false
+      → (q && t) ≡ false → clauses.binary_by op (Some cmp) x y ≡ Some is → ⊥
+  no_comparison op cmp x y is p q r t first second numbers references gives = by (pushed_comparison cmp x y) refl gives
+    where
+      by : (o : Option Bool) → pushed_comparison cmp x y ≡ o
+          → option_map (λ holds. values.Int (truth holds)) o ≡ Some is → ⊥
+      by None found gives = none-some is gives
+      by (Some so) found gives = unlike cmp x y so p q r t first second numbers references found
+
+  pub binary_node : (known : StateFacts) (op : BinOp) (v w : Var) (x y is : Value) (vs : List Value) (number : ℕ → ℤ)
+      (array : ℕ → Option ℕ) → HasForm known → HasVar known v → HasVar known w → IsValue heap x → IsValue heap y
+      → HoldsBy known vs heap number array → HasValue number array v x → HasValue number array w y
+      → clauses.binary_value op x y ≡ Some is
+      → HoldsOn (Some known) (binary_value op v w known).state (vs ++ is ∷ []) heap number array
+  binary_node known op v w x y is vs number array form first second one two holds has other gives =
+      by (comparison_of op) refl v w x y first second one two has other gives
+    where
+      by : (o : Option CmpOp) → comparison_of op ≡ o → (v w : Var) (x y : Value) → HasVar known v → HasVar known w
+          → IsValue heap x
+          → IsValue heap y → HasValue number array v x → HasValue number array w y
+          → clauses.binary_by op o x y ≡ Some is
+          → HoldsOn (Some known) (trees.binary_by op o v w known).state (vs ++ is ∷ []) heap number array
+      by None found v w (values.Int m) (values.Int n) first second one two has other gives =
+          arithmetic_known known op v w m n is vs number array form first second one two holds has other gives
+      by None found v w _ _ first second one two has other gives = absurd (first_of (cc, search))
+      by (Some cmp) found (vars.Number a) (vars.Number b) x y first second one two has other gives =
+          compared_node known op cmp (vars.Number a) (vars.Number b) x y is vs number array form first second one two
+          holds has other found
+          (pushed_comparison cmp x y) refl gives
+      by (Some cmp) found (vars.Reference r) (vars.Reference q) x y first second one two has other gives =
+          compared_node known op cmp (vars.Reference r) (vars.Reference q) x y is vs number array form first second one
+          two holds has other found
+          (pushed_comparison cmp x y) refl gives
+      by (Some cmp) found (vars.Number a) (vars.Reference q) x y first second one two has other gives =
+          absurd (no_comparison op cmp x y is true false false true (like_number x _ has) (like_reference y _ other)
+          refl refl gives)
+      by (Some cmp) found (vars.Number a) vars.Text x y first second one two has other gives =
+          absurd (no_comparison op cmp x y is true false false false (like_number x _ has) (like_text y other) refl refl
+          gives)
+      by (Some cmp) found (vars.Reference r) (vars.Number b) x y first second one two has other gives =
+          absurd (no_comparison op cmp x y is false true true false (like_reference x _ has) (like_number y _ other)
+          refl refl gives)
+      by (Some cmp) found (vars.Reference r) vars.Text x y first second one two has other gives =
+          absurd (no_comparison op cmp x y is false true false false (like_reference x _ has) (like_text y other) refl
+          refl gives)
+      by (Some cmp) found vars.Text (vars.Number b) x y first second one two has other gives =
+          absurd (no_comparison op cmp x y is false false true false (like_text x has) (like_number y _ other) refl refl
+          gives)
+      by (Some cmp) found vars.Text (vars.Reference q) x y first second one two has other gives =
+          absurd (no_comparison op cmp x y is false false false true (like_text x has) (like_reference y _ other) refl
+          refl gives)
+      by (Some cmp) found vars.Text vars.Text x y first second one two has other gives =
+          absurd (no_comparison op cmp x y is false false false false (like_text x has) (like_text y other) refl refl
+          gives)
+
+  subtracted : (op : UnOp) (n : ℤ) → FitsSigned w32 n → operated operators.Sub (minuend op) n ≡ Ok (operated_one op n)
+  subtracted unary.Neg n fits = let same : pos 0 -ℤ n ≡ neg_ℤ n = omega (arith, ints) in ap (λ k. Ok (wrap32 k)) same
+  subtracted unary.Not n fits =
+      let small : FitsSigned w32 (negsuc 0 -ℤ n) =
+      omega (arith, ints, fits) in ap Ok (int_wrap_fits w32 (negsuc 0 -ℤ n) small)
+
+  pub unary_node : (known : StateFacts) (op : UnOp) (v : Var) (x is : Value) (vs : List Value) (number : ℕ → ℤ)
+      (array : ℕ → Option ℕ)
+      → HasForm known → HasVar known v → IsValue heap x → HoldsBy known vs heap number array → HasValue number array v x
+      → clauses.unary_value op x ≡ Some is → HoldsOn (Some known) (unary_value op v known).state
+      (vs ++ is ∷ []) heap number array
+  unary_node known op (vars.Number e) (values.Int n) is vs number array form there value holds has gives =
+      subst (λ v. HoldsOn (Some known) (unary_value op (vars.Number e) known).state (vs ++ v ∷ []) heap number array)
+      (same_Some (values.Int (operated_one op n)) is gives)
+      (arithmetic_node known operators.Sub (constant (minuend op)) e (minuend op) n (operated_one op n) vs number array
+      form
+      (constant_there known (minuend op) (minuend_fits op)) there holds
+      (record {
+        first_is = ap Some (sym (constant_worth known.facts number (constant (minuend op)) holds.facts.allowed refl));
+        second_is = has;
+        first_fits = minuend_fits op;
+        second_fits = value;
+      }) (subtracted op n value))
+  unary_node known op (vars.Reference r) (values.Int n) is vs number array form there value holds has gives =
+      absurd (none-some _ has)
+  unary_node known op vars.Text (values.Int n) is vs number array form there value holds has gives = absurd cc
+  unary_node known op v (values.Native n) is vs number array form there value holds has gives =
+      absurd (none-some is gives)
+  unary_node known op v values.Null is vs number array form there value holds has gives = absurd (none-some is gives)
+  unary_node known op v (values.Array i) is vs number array form there value holds has gives =
+      absurd (none-some is gives)
+  unary_node known op v values.Text is vs number array form there value holds has gives = absurd (none-some is gives)

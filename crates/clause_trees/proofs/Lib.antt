@@ -1,0 +1,15 @@
+pub mod Stays
+pub mod PushedMoves
+pub mod Typing
+pub mod PushedValues
+pub mod PushedTrees
+pub mod ValueKinds
+pub mod KeptSteps
+pub mod KeptNodes
+pub mod KeptConditions
+pub mod KeptTrees
+pub mod EntailedValues
+pub mod SameForms
+pub mod AssumedTrees
+pub mod AssumedKept
+pub mod ShownTrees
