@@ -1,25 +1,22 @@
 -- Where a tree is true, the state in which it is assumed holds, by some choice.
-use Rattle.std.proofs.Common.{◌≡◌, ◌⊎◌, inl, inr, ℕ, zero, suc, ◌^◌, ◌<◌, ◌==◌, ℤ, pos, int_eq, Bool, true, false, not, List, [], ◌∷◌, ◌++◌, length, Option, Some, None, if◌then◌else◌, FitsSigned, w32, refl, ap, subst, sym, ◌∙◌, arith}
-use Rattle.std.specs.Prelude.{option_map}
+use Rattle.std.proofs.Common.{◌≡◌, inl, inr, ℕ, ◌<◌, ◌==◌, ℤ, pos, int_eq, Bool, true, false, not, List, [], ◌∷◌, ◌++◌, Option, Some, None, FitsSigned, w32, refl, ap, subst, sym, ◌∙◌, arith}
 use Rattle.std.specs.List.{AllByRecursion}
-use Rattle.std.specs.Option.{ForSome, option_and_then}
-use Rattle.std.proofs.lemmas.Bool.{false≢true}
+use Rattle.std.specs.Option.{option_and_then}
 use Rattle.std.proofs.lemmas.Grind.{common_steps}
 use Rattle.std.proofs.lemmas.Int.{ints}
 use Rattle.std.proofs.lemmas.Option.{none-some, same_Some}
 use Rattle.cil_model.specs.Arithmetic.{truth}
 use Rattle.cil_model.specs.Clauses.{Reading, binary_value, both, chosen, value_of}
-use Rattle.cil_model.specs.Comparisons.{is_true, number_of}
+use Rattle.cil_model.specs.Comparisons.{is_true}
 use Rattle.cil_model.specs.Terms as terms
 use Rattle.cil_model.specs.Terms.{Term}
-use Rattle.cil_model.specs.Values.{Heap, IsHeap, IsValue}
+use Rattle.cil_model.specs.Values.{Heap, IsValue}
 use Rattle.cil_model.specs.declared.instruction.BinOp.{BinOp}
 use Rattle.cil_model.specs.declared.instruction.BinOp.TheVariants as operators
 use Rattle.cil_model.specs.declared.machine.Value.{Value}
 use Rattle.cil_model.specs.declared.machine.Value.TheVariants as values
 use Rattle.cil_model.specs.declared.place.Kind.{Kind}
 use Rattle.cil_model.specs.declared.place.Place.{Place}
-use Rattle.frame_names.specs.declared.var.Var.{Var}
 use Rattle.merged_numbers.specs.Merging as numbers
 use Rattle.merged_states.specs.Alike.{AreLikeStates}
 use Rattle.merged_states.specs.Following.{AreOfMachine, HoldsOver, IsMachineNumber}
@@ -27,16 +24,16 @@ use Rattle.merged_states.specs.Merging.{join}
 use Rattle.merged_states.specs.Laws.BothHold.{joined_keeps}
 use Rattle.merged_states.specs.Laws.StatesHold.{merged_over}
 use Rattle.state_facts.specs.Forms.{HasForm}
-use Rattle.state_facts.specs.Holds.{HoldsBy, HoldsIn}
+use Rattle.state_facts.specs.Holds.{HoldsIn}
 use Rattle.state_facts.specs.Moves.{popped}
 use Rattle.state_facts.specs.StateFacts.{StateFacts, State}
 use Rattle.clause_trees.specs.ClauseStates.{assumed, assumed_top, assumed_value, value_in}
-use Rattle.clause_trees.specs.Meaning.{IsTest, KeepsAssumedTree, KeepsFormsOfVariables, Reads, reading_at}
+use Rattle.clause_trees.specs.Meaning.{IsTest, KeepsAssumedTree, KeepsFormsOfVariables, Reads}
 use Rattle.clause_trees.specs.TreeValues.{true_known, value}
-use Rattle.clause_trees.specs.VariableKinds.{HasSameForms, HasSameFormsIn, IsPushed, IsReadable}
+use Rattle.clause_trees.specs.VariableKinds.{HasSameForms, HasSameFormsIn, IsReadable}
 use Rattle.clause_trees.specs.declared.reader.Time.TheVariants.{Now}
 use Rattle.clause_trees.specs.declared.reader.TreeEnv.{TreeEnv}
-use Rattle.clause_trees.proofs.AssumedTrees.{IsNegation, IsReadByValue, assumed_same, branch_test, negated_test, negation_assumed, negation_or_value}
+use Rattle.clause_trees.proofs.AssumedTrees.{IsNegation, assumed_same, branch_test, negated_test, negation_assumed, negation_or_value}
 use Rattle.clause_trees.proofs.KeptConditions.{true_kept}
 use Rattle.clause_trees.proofs.KeptSteps.{Comes, comes, popped_holds, top_value}
 use Rattle.clause_trees.proofs.KeptTrees.{fits_now, value_kept}
@@ -100,7 +97,7 @@ negation_value op a b r holds is so =
     by so =
         let (y, gives, truth_is) =
         truth_tells (both (value_of a r) (Some (values.Int (pos 0))) (binary_value operators.Ceq)) holds so in let two =
-            both_tells (value_of a r) (Some (values.Int (pos 0))) (binary_value operators.Ceq) y gives in
+        both_tells (value_of a r) (Some (values.Int (pos 0))) (binary_value operators.Ceq) y gives in
         ap (option_and_then is_true) two.first_is
         ∙ negated_truth two.first y holds
         (subst (λ v. binary_value operators.Ceq two.first v ≡ Some y)

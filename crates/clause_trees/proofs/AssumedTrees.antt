@@ -1,55 +1,33 @@
 -- Where a tree is assumed, variables keep their forms, and what holds is kept.
-use Rattle.std.proofs.Common.{◌≡◌, ◌⊎◌, inl, inr, ℕ, zero, suc, ◌-◌, ◌≤◌, ℤ, pos, int_eq, Bool, true, false, not, ◌&&◌, List, [], ◌∷◌, ◌++◌, length, take, slice_get, Option, Some, None, if◌then◌else◌, FitsSigned, w32, refl, ap, subst, sym, ◌∙◌, arith}
-use Rattle.std.specs.Prelude.{IsSome, option_map}
-use Rattle.std.specs.List.{AllByRecursion}
-use Rattle.std.specs.Option.{ForSome, option_and_then}
-use Rattle.std.proofs.lemmas.Bool.{and_parts, cases_Bool, false≢true}
+use Rattle.std.proofs.Common.{◌≡◌, ◌⊎◌, inl, inr, ℤ, pos, int_eq, Bool, true, false, not, List, Some, None, if◌then◌else◌, refl, ap, subst, sym, ◌∙◌, arith}
+use Rattle.std.specs.Option.{option_and_then}
+use Rattle.std.proofs.lemmas.Bool.{false≢true}
 use Rattle.std.proofs.lemmas.Int.{ints}
-use Rattle.std.proofs.lemmas.Option.{none-some, same_Some}
-use Rattle.cil_model.specs.Arithmetic.{truth}
-use Rattle.cil_model.specs.Clauses.{Reading, binary_value, both, chosen, is_number_true, value_of}
-use Rattle.cil_model.specs.Comparisons.{is_true, number_of, reference_of}
-use Rattle.cil_model.specs.FitKinds.{FitsKind}
+use Rattle.std.proofs.lemmas.Option.{same_Some}
 use Rattle.cil_model.specs.Kinds.{is_tested, pushes_comparison}
 use Rattle.cil_model.specs.Passes.{merged_kind}
 use Rattle.cil_model.specs.Terms as terms
 use Rattle.cil_model.specs.Terms.{Term}
-use Rattle.cil_model.specs.Values.{Heap, IsHeap, IsValue}
 use Rattle.cil_model.specs.declared.instruction.BinOp.{BinOp}
 use Rattle.cil_model.specs.declared.instruction.BinOp.TheVariants as operators
 use Rattle.cil_model.specs.declared.instruction.CmpOp.TheVariants as comparisons
-use Rattle.cil_model.specs.declared.machine.Value.{Value}
-use Rattle.cil_model.specs.declared.machine.Value.TheVariants as values
 use Rattle.cil_model.specs.declared.place.Kind.{Kind}
 use Rattle.cil_model.specs.declared.place.Kind.TheVariants as kinds
 use Rattle.cil_model.specs.declared.place.Place.{Place}
-use Rattle.frame_names.specs.declared.var.Var.{Var}
-use Rattle.merged_numbers.specs.Merging as numbers
-use Rattle.merged_states.specs.Alike.{AreLikeStates}
-use Rattle.merged_states.specs.Following.{AreOfMachine, HoldsOver, IsMachineNumber}
-use Rattle.merged_states.specs.Merging.{join}
-use Rattle.merged_states.specs.Laws.BothHold.{joined_keeps}
-use Rattle.merged_states.specs.Laws.StatesHold.{merged_over}
-use Rattle.state_facts.specs.Forms.{HasForm, HasVar}
-use Rattle.state_facts.specs.Holds.{HasValue, HoldsBy, HoldsIn}
+use Rattle.state_facts.specs.Forms.{HasForm}
 use Rattle.state_facts.specs.Moves.{popped}
 use Rattle.state_facts.specs.StateFacts.{StateFacts, State}
-use Rattle.state_obligations.specs.Following.{StaysThere, StaysThereIn}
-use Rattle.state_obligations.specs.Judged.{Judged}
+use Rattle.state_obligations.specs.Following.{StaysThereIn}
 use Rattle.clause_trees.specs.ClauseStates.{assumed, assumed_top, assumed_value, shown, shown_value, value_in}
-use Rattle.clause_trees.specs.Meaning.{IsTest, IsTyped, KeepsAssumedTree, KeepsFormsOfVariables, Reads}
-use Rattle.clause_trees.specs.TreeValues.{from_top, in_state, true_known, value}
-use Rattle.clause_trees.specs.VariableKinds.{HasSameForms, HasSameFormsIn, IsPushed, IsPushedIn, IsReadable}
-use Rattle.clause_trees.specs.declared.reader.Time.TheVariants.{Now, Entry}
+use Rattle.clause_trees.specs.Meaning.{IsTest, IsTyped}
+use Rattle.clause_trees.specs.TreeValues.{true_known, value}
+use Rattle.clause_trees.specs.VariableKinds.{HasSameFormsIn, IsPushed, IsPushedIn, IsReadable}
+use Rattle.clause_trees.specs.declared.reader.Time.TheVariants.{Now}
 use Rattle.clause_trees.specs.declared.reader.TreeEnv.{TreeEnv}
-use Rattle.clause_trees.proofs.KeptConditions.{true_kept}
-use Rattle.clause_trees.proofs.KeptSteps.{Comes, comes, popped_holds, top_value}
-use Rattle.clause_trees.proofs.KeptTrees.{fits_now, value_kept}
 use Rattle.clause_trees.proofs.PushedTrees.{true_follows, value_pushed}
-use Rattle.clause_trees.proofs.SameForms.{comparable, grown_same, join_same, readable_same, same_forms_on}
-use Rattle.clause_trees.proofs.Stays.{grown_itself, grown_on, popped_below, stays_grown, top_is}
+use Rattle.clause_trees.proofs.SameForms.{grown_same, join_same, readable_same, same_forms_on}
+use Rattle.clause_trees.proofs.Stays.{grown_on, popped_below, stays_grown, top_is}
 use Rattle.clause_trees.proofs.Typing.{branches_typed, operator_typed}
-use Rattle.clause_trees.proofs.ValueKinds.{both_tells, kind_is_value}
 
 -- ---- comparisons with 0
 
@@ -172,12 +150,21 @@ module _ (env : TreeEnv) (args : List Place) (result : Place) where
   pub branch_test : (c a b : Term) → IsTest args result (terms.Cond c a b)
       → IsTest args result c × IsTest args result a × IsTest args result b
   branch_test c a b test =
-      let below = branches_typed args result Now c a b test.kind test.typed in
-      (record { kind = below.test; typed = below.test_typed; tested = below.tested },
-      record { kind = below.left; typed = below.first; tested = left_tested below.left below.right test.kind
-      below.merged test.tested },
-      record { kind = below.right; typed = below.second; tested = right_tested below.left below.right test.kind
-      below.merged test.tested })
+      let below = branches_typed args result Now c a b test.kind test.typed in (
+        record { kind = below.test; typed = below.test_typed; tested = below.tested },
+        record {
+          kind = below.left;
+          typed = below.first;
+          tested = left_tested below.left below.right test.kind
+              below.merged test.tested;
+        },
+        record {
+          kind = below.right;
+          typed = below.second;
+          tested = right_tested below.left below.right test.kind
+              below.merged test.tested;
+        },
+      )
     where
       left_tested : (l r k : Kind) → merged_kind l r ≡ Some k → is_tested k ≡ true → is_tested l ≡ true
       left_tested kinds.Text kinds.Text k is so = absurd (false≢true (ap is_tested (same_Some kinds.Text k is) ∙ so))

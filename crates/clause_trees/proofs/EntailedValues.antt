@@ -1,5 +1,5 @@
 -- Where all obligations inside a tree are entailed, it has a value.
-use Rattle.std.proofs.Common.{◌≡◌, ◌≢◌, ℕ, zero, suc, ◌+◌, ℤ, pos, ◌≤ℤ◌, ◌<ℤ◌, int_le, int_lt, unsigned_abs, Bool, true, false, ◌&&◌, List, [], ◌∷◌, ◌++◌, length, slice_get, Option, Some, None, if◌then◌else◌, FitsSigned, w32, Result, Ok, Err, refl, ap, subst, sym, ◌∙◌, arith}
+use Rattle.std.proofs.Common.{◌≡◌, ℕ, zero, suc, ℤ, pos, ◌≤ℤ◌, ◌<ℤ◌, int_le, int_lt, unsigned_abs, Bool, true, false, ◌&&◌, List, [], ◌∷◌, ◌++◌, length, slice_get, Option, Some, None, if◌then◌else◌, FitsSigned, w32, Result, Ok, refl, ap, subst, sym, ◌∙◌, arith}
 use Rattle.std.specs.Prelude.{IsSome, option_map}
 use Rattle.std.specs.Option.{option_and_then, option_map_or}
 use Rattle.std.proofs.lemmas.Bool.{and_parts, false≢true}
@@ -8,12 +8,12 @@ use Rattle.std.proofs.lemmas.Option.{none-some, same_Some}
 use Rattle.cil_model.specs.Arithmetic.{operated, truth}
 use Rattle.cil_model.specs.Clauses.{Reading, at_entry, both, chosen, faultless, item_in, value_of}
 use Rattle.cil_model.specs.Clauses as clauses
-use Rattle.cil_model.specs.Comparisons.{comparison_of, is_true, number_of, pushed_comparison, reference_of}
+use Rattle.cil_model.specs.Comparisons.{comparison_of, is_true}
 use Rattle.cil_model.specs.FitKinds.{FitsKind}
-use Rattle.cil_model.specs.Kinds.{is_array_of, is_reference, is_tested, kind_of}
+use Rattle.cil_model.specs.Kinds.{is_array_of, is_reference, kind_of}
 use Rattle.cil_model.specs.Terms as terms
 use Rattle.cil_model.specs.Terms.{Term}
-use Rattle.cil_model.specs.Values.{FitPlaces, Heap, IsHeap, IsValue, KeepsForms, has_array, same_place}
+use Rattle.cil_model.specs.Values.{FitPlaces, Heap, IsHeap, KeepsForms, has_array, same_place}
 use Rattle.cil_model.specs.declared.instruction.BinOp.{BinOp}
 use Rattle.cil_model.specs.declared.instruction.CmpOp.{CmpOp}
 use Rattle.cil_model.specs.declared.instruction.UnOp.{UnOp}
@@ -32,12 +32,11 @@ use Rattle.frame_names.specs.declared.var.Var.{Var}
 use Rattle.frame_names.specs.declared.var.Var.TheVariants as vars
 use Rattle.symbolic_values.specs.Worth.{worth}
 use Rattle.state_facts.specs.Forms.{HasForm, HasVar}
-use Rattle.state_facts.specs.Holds.{HasValue, HoldsBy, HoldsIn, length_in, length_of_array}
+use Rattle.state_facts.specs.Holds.{HasValue, HoldsBy, HoldsIn, length_of_array}
 use Rattle.state_facts.specs.Moves.{popped}
 use Rattle.state_facts.specs.StateFacts.{StateFacts, State}
-use Rattle.state_obligations.specs.Conditions.{conditions_of, operator_conditions}
+use Rattle.state_obligations.specs.Conditions.{conditions_of}
 use Rattle.state_obligations.specs.Following.{StaysThere, StaysThereIn}
-use Rattle.state_obligations.specs.Judged.{Judged, judged}
 use Rattle.state_obligations.specs.declared.condition.Operation.TheVariants as operations
 use Rattle.state_obligations.proofs.FaultLaws.{operated_where_met}
 use Rattle.state_obligations.proofs.JudgedLaws.{judged_are_met}
@@ -46,7 +45,7 @@ use Rattle.clause_trees.specs.TreeValues.{Step, binary_value, branch, condition_
 use Rattle.clause_trees.specs.TreeValues as trees
 use Rattle.clause_trees.specs.VariableKinds.{IsReadable}
 use Rattle.clause_trees.specs.declared.reader.Time.{Time}
-use Rattle.clause_trees.specs.declared.reader.Time.TheVariants.{Now, Entry}
+use Rattle.clause_trees.specs.declared.reader.Time.TheVariants.{Entry}
 use Rattle.clause_trees.specs.declared.reader.TreeEnv.{TreeEnv}
 use Rattle.clause_trees.proofs.KeptConditions.{true_kept}
 use Rattle.clause_trees.proofs.KeptNodes.{operands_fit, same_length}
@@ -56,7 +55,7 @@ use Rattle.clause_trees.proofs.PushedTrees.{below_readable, stays_readable, true
 use Rattle.clause_trees.proofs.PushedValues.{AreBelow, has_two, lower_is_top, lower_pushed, operands_there}
 use Rattle.clause_trees.proofs.Stays.{IsBelow, popped_below, pushed_readable, top_is}
 use Rattle.clause_trees.proofs.Typing.{Takes, branches_typed, element_typed, length_typed, old_typed, operator_typed, unary_typed}
-use Rattle.clause_trees.proofs.ValueKinds.{args_at, heap_at, kept_from, kind_is_value, kind_kept, old_at, place_of_kind, result_at, value_fits}
+use Rattle.clause_trees.proofs.ValueKinds.{args_at, kept_from, kind_is_value, old_at, result_at, value_fits}
 
 abbrev pub HasOne : Option Value → Type 0
 HasOne o = (is : Value) × (o ≡ Some is)
@@ -175,13 +174,15 @@ item_has over place a n cell found same above below =
     let not_below : int_lt n (pos 0) ≡ false = grind (arith, ints, above) in
     let not_above : int_le (pos (length cell.items)) n ≡ false = grind (arith, ints, below) in
     let (item, at) = item_there cell.items n not_below not_above in
-    let low : int_le (pos 0) n ≡ true = grind (arith, ints, above) in
-    (values.Int item,
-    ap (option_and_then (item_in place n)) found
-    ∙ ap (λ b. if b && int_le (pos 0) n then option_map values.Int (slice_get cell.items (unsigned_abs n)) else None)
-    same
-    ∙ ap (λ b. if b then option_map values.Int (slice_get cell.items (unsigned_abs n)) else None) low
-    ∙ ap (option_map values.Int) at)
+    let low : int_le (pos 0) n ≡ true = grind (arith, ints, above) in (
+      values.Int item,
+      ap (option_and_then (item_in place n)) found
+          ∙ ap
+          (λ b. if b && int_le (pos 0) n then option_map values.Int (slice_get cell.items (unsigned_abs n)) else None)
+          same
+          ∙ ap (λ b. if b then option_map values.Int (slice_get cell.items (unsigned_abs n)) else None) low
+          ∙ ap (option_map values.Int) at,
+    )
 
 module _ (over heap : Heap) (kept : KeepsForms over heap) (is_heap : IsHeap heap) where
   array_has : (known : StateFacts) (place : Place) (kind : Kind) (r : ℕ) (i : Expr) (x : Value) (n : ℤ) (time : Time)
@@ -307,9 +308,11 @@ module _ (heap : Heap) (is_heap : IsHeap heap) where
           let (m, left, low) = int_of over x (subst (λ kind. FitsKind over kind x) takes.0 one) in
           let (n, right, high) = int_of over y (subst (λ kind. FitsKind over kind y) takes.1 two) in
           let (is, found) = numbers_have known op v w m n vs number array form first second low high holds
-          (subst (HasValue number array v) left has) (subst (HasValue number array w) right other) entailed in
-          (is, ap (λ a. clauses.arithmetic_value op a y) left ∙ ap (clauses.arithmetic_value op (values.Int m)) right ∙
-          found)
+          (subst (HasValue number array v) left has) (subst (HasValue number array w) right other) entailed in (
+            is,
+            ap (λ a. clauses.arithmetic_value op a y) left ∙ ap (clauses.arithmetic_value op (values.Int m)) right ∙
+                found,
+          )
       by (Some cmp) takes entailed =
           let (so, found) = pushed_defined over cmp k l x y takes (form_is over k x one) (form_is over l y two) in
           (values.Int (truth so), ap (option_map (λ holds. values.Int (truth holds))) found)
@@ -420,9 +423,11 @@ module _ (env : TreeEnv) (args : List Place) (result : Place) (heap : Heap) (r :
       time vs later later_array
       lies.lower.grown.form lies.lower.there lies.there still has also below.of_place
       (value_fits env args result vs heap r reads a time below.array x below.first found)
-      (value_fits env args result vs heap r reads b time kinds.Int y below.second other) so) in
-      (is, ap (λ o. both o (value_of b (reading_at time r)) (clauses.element_value over place)) found
-      ∙ ap (λ o. both (Some x) o (clauses.element_value over place)) other ∙ gives)
+      (value_fits env args result vs heap r reads b time kinds.Int y below.second other) so) in (
+        is,
+        ap (λ o. both o (value_of b (reading_at time r)) (clauses.element_value over place)) found
+            ∙ ap (λ o. both (Some x) o (clauses.element_value over place)) other ∙ gives,
+      )
   value_there (terms.Bin op a b) time kind known vs number array readable typed reads holds entailed =
       let below = operator_typed args result time op a b kind typed in
       let over = (reading_at time r).heap in
@@ -454,9 +459,11 @@ module _ (env : TreeEnv) (args : List Place) (result : Place) (heap : Heap) (r :
       binary_has heap reads.is_heap z args result time op below.left below.right v w x y vs later later_array over
       lies.lower.grown.form lies.lower.there lies.there still has also below.takes
       (value_fits env args result vs heap r reads a time below.left x below.first found)
-      (value_fits env args result vs heap r reads b time below.right y below.second other) so) in
-      (is, ap (λ o. both o (value_of b (reading_at time r)) (clauses.binary_value op)) found
-      ∙ ap (λ o. both (Some x) o (clauses.binary_value op)) other ∙ gives)
+      (value_fits env args result vs heap r reads b time below.right y below.second other) so) in (
+        is,
+        ap (λ o. both o (value_of b (reading_at time r)) (clauses.binary_value op)) found
+            ∙ ap (λ o. both (Some x) o (clauses.binary_value op)) other ∙ gives,
+      )
   value_there (terms.Un op a) time kind known vs number array readable typed reads holds entailed =
       let below = unary_typed args result time op a kind typed in
       let parts = and_parts (value env time a known).entailed _ entailed in
@@ -505,10 +512,12 @@ module _ (env : TreeEnv) (args : List Place) (result : Place) (heap : Heap) (r :
       (truth_is ∙ ap Some same)) each.1
       (λ z stays holding inner.
       value_there b time below.right z vs later later_array (stays_readable env args result y z here stays) below.second
-      reads holding inner))) in
-      (is, ap (λ o. chosen (option_and_then is_true o) (value_of a (reading_at time r))
-      (value_of b (reading_at time r))) found
-      ∙ ap (λ o. chosen o (value_of a (reading_at time r)) (value_of b (reading_at time r))) truth_is ∙ gives)
+      reads holding inner))) in (
+        is,
+        ap (λ o. chosen (option_and_then is_true o) (value_of a (reading_at time r))
+            (value_of b (reading_at time r))) found
+            ∙ ap (λ o. chosen o (value_of a (reading_at time r)) (value_of b (reading_at time r))) truth_is ∙ gives,
+      )
 
 -- ---- what is said of them
 

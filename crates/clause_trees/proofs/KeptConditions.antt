@@ -1,6 +1,6 @@
 -- What conditions keep: the value of the branch that is taken is one of what is seen.
-use Rattle.std.proofs.Common.{◌≡◌, ◌≢◌, ℕ, zero, suc, ◌≤◌, ◌==◌, ℤ, pos, ◌≤ℤ◌, int_eq, Bool, true, false, not, List, [], ◌∷◌, ◌++◌, length, slice_get, Option, Some, None, FitsSigned, w32, refl, ap, subst, sym, ◌∙◌, arith}
-use Rattle.std.specs.Option.{ForSome, option_and_then, option_map, option_or}
+use Rattle.std.proofs.Common.{◌≡◌, ◌≢◌, ℕ, zero, suc, ◌==◌, ℤ, pos, int_eq, Bool, true, false, not, List, [], ◌∷◌, ◌++◌, length, Option, Some, None, FitsSigned, w32, refl, ap, subst, sym, ◌∙◌, arith}
+use Rattle.std.specs.Option.{option_and_then, option_or}
 use Rattle.std.proofs.lemmas.Bool.{cond_both}
 use Rattle.std.proofs.lemmas.Grind.{common_steps}
 use Rattle.std.proofs.lemmas.Int.{clamps, ints}
@@ -16,7 +16,6 @@ use Rattle.cil_model.specs.declared.place.Kind.{Kind}
 use Rattle.cil_model.specs.declared.place.Kind.TheVariants as kinds
 use Rattle.cil_model.specs.declared.place.Place.{Place}
 use Rattle.cil_model.specs.declared.place.Place.TheVariants as places
-use Rattle.frame_names.specs.declared.reference.Reference.{Reference}
 use Rattle.frame_names.specs.declared.var.Var.{Var}
 use Rattle.frame_names.specs.declared.var.Var.TheVariants as vars
 use Rattle.merged_numbers.specs.Spans.{hull, kept_hole}
@@ -30,20 +29,19 @@ use Rattle.symbolic_values.specs.Worth.{worth}
 use Rattle.state_facts.specs.Forms.{HasForm, HasVar, IsArrayPlace}
 use Rattle.state_facts.specs.Holds.{FitsArray, HasValue, HoldsBy, HoldsIn}
 use Rattle.state_facts.specs.Keeps.{HoldsOn}
-use Rattle.state_facts.specs.Moves.{place_at, place_of, pushed}
-use Rattle.state_facts.specs.StateFacts.{StateFacts, State, reference_at}
-use Rattle.state_facts.specs.declared.reference.Unknown.{Unknown}
+use Rattle.state_facts.specs.Moves.{place_of}
+use Rattle.state_facts.specs.StateFacts.{StateFacts, State}
 use Rattle.state_facts.proofs.Agreeing.{reference_of_form}
 use Rattle.state_facts.proofs.AssumptionsHold.{assume_keeps}
 use Rattle.state_facts.proofs.MovesHold.{push_keeps}
 use Rattle.state_facts.proofs.UnknownValues.{unknown_is_kept, within_is_kept}
 use Rattle.state_obligations.specs.Following.{StaysThere, StaysThereIn}
-use Rattle.clause_trees.specs.TreeValues.{Step, branch, condition_value, from_top, in_state, push_seen, seen_in, seen_of, seen_of_both, seen_of_reached, seen_on_top, true_known}
-use Rattle.clause_trees.specs.VariableKinds.{IsOfKind, IsPushed, IsPushedIn}
+use Rattle.clause_trees.specs.TreeValues.{Step, branch, condition_value, in_state, push_seen, seen_in, seen_of, seen_of_both, seen_of_reached, seen_on_top, true_known}
+use Rattle.clause_trees.specs.VariableKinds.{IsOfKind}
 use Rattle.clause_trees.specs.declared.conditions.Seen.{Seen}
 use Rattle.clause_trees.specs.declared.conditions.Seen.TheVariants as seen
-use Rattle.clause_trees.proofs.KeptSteps.{Comes, comes, for_known, held_so, top_value}
-use Rattle.clause_trees.proofs.PushedTrees.{IsSeen, IsSeenIf, PushesBehind, branch_seen, left_seen, pushed_seen, reference_found, true_follows}
+use Rattle.clause_trees.proofs.KeptSteps.{comes, for_known, held_so, top_value}
+use Rattle.clause_trees.proofs.PushedTrees.{IsSeen, IsSeenIf, PushesBehind, branch_seen, left_seen, reference_found, true_follows}
 use Rattle.clause_trees.proofs.PushedValues.{constant_there}
 use Rattle.clause_trees.proofs.Stays.{pushed_there, top_is}
 use Rattle.clause_trees.proofs.Typing.{merged_swaps}

@@ -1,8 +1,7 @@
 -- What nodes keep: where operands have values of which the machine makes a value, what is pushed has it.
-use Rattle.std.proofs.Common.{◌≡◌, ◌≢◌, ℕ, zero, suc, ◌+◌, ◌<◌, ◌≤◌, ◌==◌, ℤ, pos, negsuc, ◌≤ℤ◌, ◌<ℤ◌, ◌-ℤ◌, neg_ℤ, int_le, unsigned_abs, Bool, true, false, ◌&&◌, List, [], ◌∷◌, ◌++◌, length, slice_get, get_or, Option, Some, None, FitsSigned, w32, Result, Ok, Err, refl, ap, subst, sym, ◌∙◌, arith}
+use Rattle.std.proofs.Common.{◌≡◌, ◌≢◌, ℕ, zero, suc, ◌<◌, ℤ, pos, negsuc, ◌≤ℤ◌, ◌<ℤ◌, ◌-ℤ◌, neg_ℤ, int_le, unsigned_abs, Bool, true, false, ◌&&◌, List, [], ◌∷◌, ◌++◌, length, slice_get, Option, Some, None, FitsSigned, w32, Result, Ok, Err, refl, ap, subst, sym, ◌∙◌, arith}
 use Rattle.std.specs.Prelude.{Contains, option_map}
-use Rattle.std.specs.List.{AllByRecursion}
-use Rattle.std.specs.Option.{ForSome, option_and_then, option_map_or}
+use Rattle.std.specs.Option.{option_map_or}
 use Rattle.std.proofs.lemmas.Int.{int_wrap_fits, ints}
 use Rattle.std.proofs.lemmas.List.Elements.{Contains-get_or}
 use Rattle.std.proofs.lemmas.Option.{get_or_from_slice_get, none-some, same_Some, slice_get_within}
@@ -10,9 +9,8 @@ use Rattle.cc_base.specs.Wrap.{wrap32}
 use Rattle.cil_model.specs.Arithmetic.{operated, operated_one, truth}
 use Rattle.cil_model.specs.Clauses.{Reading, arithmetic_value, binary_by, faultless}
 use Rattle.cil_model.specs.Clauses as clauses
-use Rattle.cil_model.specs.Comparisons.{comparison_of, number_of, pushed_comparison, reference_of}
-use Rattle.cil_model.specs.Places.{place_number}
-use Rattle.cil_model.specs.Values.{FitItems, FitsPlace, Heap, IsArray, IsHeap, IsValue, KeepsForms, same_place}
+use Rattle.cil_model.specs.Comparisons.{comparison_of, number_of, pushed_comparison}
+use Rattle.cil_model.specs.Values.{FitItems, FitsPlace, Heap, IsHeap, IsValue, KeepsForms, same_place}
 use Rattle.cil_model.specs.declared.instruction.BinOp.{BinOp}
 use Rattle.cil_model.specs.declared.instruction.BinOp.TheVariants as operators
 use Rattle.cil_model.specs.declared.instruction.CmpOp.{CmpOp}
@@ -24,7 +22,6 @@ use Rattle.cil_model.specs.declared.machine.Value.{Value}
 use Rattle.cil_model.specs.declared.machine.Value.TheVariants as values
 use Rattle.cil_model.specs.declared.place.Place.{Place}
 use Rattle.cil_model.specs.declared.place.Place.TheVariants as places
-use Rattle.cil_model.proofs.ArithmeticFits.{operated_one_fits}
 use Rattle.cil_model.proofs.HeapsKept.{array_of_heap}
 use Rattle.domain_api.specs.declared.expr.Expr.{Expr}
 use Rattle.frame_names.specs.declared.var.Var.{Var}
@@ -34,24 +31,20 @@ use Rattle.number_facts.proofs.Knowing.{constant_worth}
 use Rattle.symbolic_values.specs.Worth.{worth}
 use Rattle.state_facts.specs.Arithmetic.{HaveInts}
 use Rattle.state_facts.specs.Forms.{HasForm, HasNumber, HasReference, HasVar}
-use Rattle.state_facts.specs.Holds.{HasValue, HoldsBy, HoldsIn, length_in, length_of_array}
+use Rattle.state_facts.specs.Holds.{HasValue, HoldsBy, length_in, length_of_array}
 use Rattle.state_facts.specs.Keeps.{HoldsOn}
-use Rattle.state_facts.specs.Moves.{item_place, pushed}
-use Rattle.state_facts.specs.StateFacts.{StateFacts, State, length_at, length_of, reference_at}
+use Rattle.state_facts.specs.Moves.{item_place}
+use Rattle.state_facts.specs.StateFacts.{StateFacts, length_at, length_of}
 use Rattle.state_facts.specs.States as rule
-use Rattle.state_facts.specs.UnknownValues as unknown
 use Rattle.state_facts.proofs.Agreeing.{length_kept}
 use Rattle.state_facts.proofs.ComparisonsHold.{IsLike, compare_keeps, like_number, like_reference, like_text, unlike}
 use Rattle.state_facts.proofs.MovesHold.{load_keeps, push_keeps}
 use Rattle.state_facts.proofs.ResultsHold.{arith_keeps}
 use Rattle.state_facts.proofs.UnknownValues.{unknown_is_kept}
-use Rattle.state_obligations.specs.Conditions.{conditions_of, operator_conditions}
-use Rattle.state_obligations.specs.Following.{StaysThere}
-use Rattle.state_obligations.specs.Meaning.{AreMet, AreOfInt32}
-use Rattle.state_obligations.specs.declared.condition.Operation.{Operation}
+use Rattle.state_obligations.specs.Conditions.{operator_conditions}
+use Rattle.state_obligations.specs.Meaning.{AreOfInt32}
 use Rattle.state_obligations.specs.declared.condition.Operation.TheVariants as operations
 use Rattle.state_obligations.proofs.FaultLaws.{met_where_operated}
-use Rattle.clause_trees.specs.Meaning.{is_now}
 use Rattle.clause_trees.specs.TreeValues.{arithmetic, binary_value, element_value, length_value, minuend, push_item, push_length, unary_value}
 use Rattle.clause_trees.specs.TreeValues as trees
 use Rattle.clause_trees.specs.declared.reader.Time.{Time}
@@ -188,10 +181,14 @@ module _ (over heap : Heap) (kept : KeepsForms over heap) (is_heap : IsHeap heap
       (same_length over heap kept is_heap item.array item.cell item.cell_is) in
       let int32 = subst (FitsSigned w32) index fits in
       owed_kept known (operations.Element r i) (push_item time place r) vs (vs ++ is ∷ []) heap number array form
-      (first, (second, ((first, second), tt))) is_heap holds (tt, (int32, (int32, tt)))
-      ((λ none. none-some item.array (sym none ∙ at)),
-      (subst (λ n. pos 0 ≤ℤ n) index within.0,
-      (subst (λ n. n <ℤ length_of_array heap (array r)) index (subst (λ l. item.index <ℤ l) (sym there) within.1), tt)))
+      (first, (second, ((first, second), tt))) is_heap holds (tt, (int32, (int32, tt))) (
+        (λ none. none-some item.array (sym none ∙ at)),
+        (
+          subst (λ n. pos 0 ≤ℤ n) index within.0,
+          (subst (λ n. n <ℤ length_of_array heap (array r)) index
+          (subst (λ l. item.index <ℤ l) (sym there) within.1), tt),
+        ),
+      )
       (λ x stays still.
       subst (λ v. HoldsOn (Some x) (push_item time place r (Some x)) (vs ++ v ∷ []) heap number array) item.value_is
       (item_pushed x place r y z is vs number array item stays.form still at time refl))

@@ -1,6 +1,5 @@
 -- One step after another keeps what holds: by a choice that is as before for what was there.
-use Rattle.std.proofs.Common.{◌≡◌, ℕ, zero, suc, ◌+◌, ◌-◌, ◌≤◌, ℤ, List, [], ◌∷◌, ◌++◌, length, take, Option, Some, None, refl, ap, subst, sym, ◌∙◌, arith}
-use Rattle.std.specs.List.{AllByRecursion}
+use Rattle.std.proofs.Common.{◌≡◌, ℕ, ◌≤◌, ℤ, List, [], ◌∷◌, ◌++◌, length, Option, Some, None, refl, subst, sym, ◌∙◌, arith}
 use Rattle.std.specs.Option.{ForSome}
 use Rattle.std.proofs.lemmas.Option.{same_Some}
 use Rattle.cil_model.specs.Values.{Heap, IsHeap}
@@ -22,7 +21,7 @@ use Rattle.state_obligations.proofs.JudgedLaws.{judged_follow, met_are_kept}
 use Rattle.clause_trees.specs.TreeValues.{Step, from_top, in_state, on_one, on_two, owing, with_one, with_two}
 use Rattle.clause_trees.specs.VariableKinds.{IsGrown, IsPushed, IsPushedIn}
 use Rattle.clause_trees.proofs.PushedValues.{AreBelow, has_two, lower_is_top, lower_pushed}
-use Rattle.clause_trees.proofs.Stays.{IsBelow, all_but_top, grown_itself, popped_below, stays_grown, top_is}
+use Rattle.clause_trees.proofs.Stays.{IsBelow, all_but_top, popped_below, stays_grown, top_is}
 
 pub for_known : (known : StateFacts) (P : StateFacts → Type 0) → P known → ForSome (Some known) P
 for_known known P is = λ x same. subst P (same_Some known x same) is

@@ -1,16 +1,15 @@
 -- Where a tree has a value, the state behind it holds with that value on top, by a choice that is as before for what
 -- was there.
-use Rattle.std.proofs.Common.{◌≡◌, ℕ, zero, suc, ◌+◌, ℤ, pos, Bool, true, false, List, [], ◌∷◌, ◌++◌, length, slice_get, Option, Some, None, refl, ap, subst, sym, ◌∙◌, arith}
+use Rattle.std.proofs.Common.{◌≡◌, ℕ, zero, suc, ◌+◌, ℤ, Bool, true, false, List, [], ◌∷◌, ◌++◌, slice_get, Option, Some, None, refl, ap, subst, sym, ◌∙◌}
 use Rattle.std.specs.List.{AllByRecursion}
 use Rattle.std.specs.Option.{option_and_then}
-use Rattle.std.proofs.lemmas.Int.{ints}
 use Rattle.std.proofs.lemmas.Option.{none-some, same_Some}
-use Rattle.cil_model.specs.Clauses.{Reading, at_entry, binary_value, chosen, element_value, length_value, unary_value, value_of}
+use Rattle.cil_model.specs.Clauses.{Reading, binary_value, chosen, element_value, length_value, unary_value, value_of}
 use Rattle.cil_model.specs.Comparisons.{is_true}
 use Rattle.cil_model.specs.FitKinds.{FitsKind}
 use Rattle.cil_model.specs.Terms as terms
 use Rattle.cil_model.specs.Terms.{Term}
-use Rattle.cil_model.specs.Values.{Heap, IsHeap, IsValue, KeepsForms}
+use Rattle.cil_model.specs.Values.{Heap, IsValue}
 use Rattle.cil_model.specs.declared.machine.Value.{Value}
 use Rattle.cil_model.specs.declared.machine.Value.TheVariants as values
 use Rattle.cil_model.specs.declared.place.Kind.{Kind}
@@ -20,24 +19,21 @@ use Rattle.frame_names.specs.declared.var.Var.{Var}
 use Rattle.frame_names.specs.declared.var.Var.TheVariants as vars
 use Rattle.number_spans.specs.Constants.{constant}
 use Rattle.number_facts.proofs.Knowing.{constant_worth}
-use Rattle.symbolic_values.specs.Worth.{worth}
-use Rattle.state_facts.specs.Holds.{HasValue, HaveValues, HoldsBy, HoldsIn}
+use Rattle.state_facts.specs.Holds.{HasValue, HaveValues, HoldsBy}
 use Rattle.state_facts.specs.Keeps.{HoldsOn}
-use Rattle.state_facts.specs.StateFacts.{StateFacts, State}
+use Rattle.state_facts.specs.StateFacts.{StateFacts}
 use Rattle.state_facts.proofs.MovesHold.{push_keeps}
-use Rattle.state_obligations.specs.Following.{StaysThere}
 use Rattle.clause_trees.specs.Meaning.{IsTyped, KeepsValue, PushesOne, Reads, ReadsResult, reading_at}
-use Rattle.clause_trees.specs.TreeValues.{Step, given, value, variable, with_one}
-use Rattle.clause_trees.specs.TreeValues as trees
-use Rattle.clause_trees.specs.VariableKinds.{IsPushed, IsReadable}
+use Rattle.clause_trees.specs.TreeValues.{given, value, variable, with_one}
+use Rattle.clause_trees.specs.VariableKinds.{IsReadable}
 use Rattle.clause_trees.specs.declared.reader.Time.{Time}
 use Rattle.clause_trees.specs.declared.reader.Time.TheVariants.{Now, Entry}
 use Rattle.clause_trees.specs.declared.reader.TreeEnv.{TreeEnv}
 use Rattle.clause_trees.proofs.KeptConditions.{condition_kept}
 use Rattle.clause_trees.proofs.KeptNodes.{binary_node, element_node, length_node, unary_node}
-use Rattle.clause_trees.proofs.KeptSteps.{Comes, comes, held_so, one_kept, two_kept}
+use Rattle.clause_trees.proofs.KeptSteps.{comes, held_so, one_kept, two_kept}
 use Rattle.clause_trees.proofs.PushedTrees.{below_readable, stays_readable, value_pushed}
-use Rattle.clause_trees.proofs.Stays.{IsBelow, pushed_readable}
+use Rattle.clause_trees.proofs.Stays.{pushed_readable}
 use Rattle.clause_trees.proofs.Typing.{branches_typed, element_typed, length_typed, old_typed, operator_typed, unary_typed}
 use Rattle.clause_trees.proofs.ValueKinds.{args_at, both_tells, element_tells, heap_at, kept_from, kind_is_value, kind_kept, old_at, one_tells, result_at, value_fits}
 
@@ -264,14 +260,18 @@ module _ (env : TreeEnv) (args : List Place) (result : Place) (heap : Heap) (r :
       below.first)
       (λ z stays. value_pushed env args result b time below.right z (stays_readable env args result y z here stays)
       below.second)
-      (λ same. (fits_now vs reads a time below.left is below.first (one same),
-      λ z stays holding. value_kept a time below.left z vs later later_array is
-      (stays_readable env args result y z here stays) below.first reads
-      holding (one same)))
-      (λ same. (fits_now vs reads b time below.right is below.second (two same),
-      λ z stays holding. value_kept b time below.right z vs later later_array is
-      (stays_readable env args result y z here stays) below.second reads
-      holding (two same))))
+      (λ same. (
+        fits_now vs reads a time below.left is below.first (one same),
+        λ z stays holding. value_kept a time below.left z vs later later_array is
+            (stays_readable env args result y z here stays) below.first reads
+            holding (one same),
+      ))
+      (λ same. (
+        fits_now vs reads b time below.right is below.second (two same),
+        λ z stays holding. value_kept b time below.right z vs later later_array is
+            (stays_readable env args result y z here stays) below.second reads
+            holding (two same),
+      )))
 
 -- ---- what is said of them
 

@@ -13,3 +13,9 @@ pub mod SameForms
 pub mod AssumedTrees
 pub mod AssumedKept
 pub mod ShownTrees
+pub mod EntryKinds
+pub mod StackLemmas
+pub mod Operands
+pub mod ValueLemmas
+pub mod ReadableCases
+pub mod PublicCalls

@@ -1,5 +1,5 @@
 -- What moves push: one variable more, and what was there is there still.
-use Rattle.std.proofs.Common.{◌≡◌, ℕ, zero, suc, ◌+◌, ◌≤◌, ◌<◌, ℤ, pos, Bool, int_eq, List, [], ◌∷◌, ◌++◌, length, slice_get, Option, Some, None, refl, ap, subst, sym, ◌∙◌, arith}
+use Rattle.std.proofs.Common.{◌≡◌, ℕ, zero, suc, ◌+◌, ◌≤◌, ◌<◌, ℤ, pos, Bool, int_eq, List, [], ◌∷◌, ◌++◌, length, slice_get, Option, Some, None, refl, ap, subst, ◌∙◌, arith}
 use Rattle.std.specs.Option.{option_map}
 use Rattle.std.proofs.lemmas.Bool.{cond_both}
 use Rattle.std.proofs.lemmas.Option.{same_Some}
@@ -33,12 +33,12 @@ use Rattle.state_facts.specs.Calls.{returned, with_returned}
 use Rattle.state_facts.specs.Comparing.{is_equality, null_known, null_tested, same_known, with_comparison, with_defined, with_known, with_null_known, with_null_test, with_same, with_same_known, with_tested, with_truth}
 use Rattle.state_facts.specs.Forms.{HasForm, HasNumber, HasReference}
 use Rattle.state_facts.specs.Moves.{on_top, with_item, with_number}
-use Rattle.state_facts.specs.StateFacts.{StateFacts, State, nullness_at, reference_at}
+use Rattle.state_facts.specs.StateFacts.{StateFacts, nullness_at, reference_at}
 use Rattle.state_facts.specs.UnknownValues.{with_unknown, with_within}
 use Rattle.state_facts.specs.declared.reference.Unknown.{Unknown}
 use Rattle.state_facts.proofs.ComparisonForms.{comparison_form}
 use Rattle.state_facts.proofs.Growing.{Formed, one_longer}
-use Rattle.state_facts.proofs.MoveForms.{item_form, number_form}
+use Rattle.state_facts.proofs.MoveForms.{number_form}
 use Rattle.state_facts.proofs.ResultForms.{with_result_form}
 use Rattle.state_facts.proofs.UnknownValues.{unknown_form, within_form}
 use Rattle.clause_trees.specs.VariableKinds.{IsOfKind, IsPushed, IsPushedIn, place_in}

@@ -1,5 +1,5 @@
 -- What conditions push, and what whole trees do.
-use Rattle.std.proofs.Common.{◌≡◌, ℕ, zero, suc, ◌+◌, ◌≤◌, ℤ, pos, Bool, true, false, List, [], ◌∷◌, length, slice_get, Option, Some, None, refl, ap, subst, sym, ◌∙◌, arith}
+use Rattle.std.proofs.Common.{◌≡◌, ℕ, zero, suc, ◌+◌, ◌≤◌, pos, Bool, true, false, List, [], ◌∷◌, length, slice_get, Option, Some, None, refl, ap, subst, sym, ◌∙◌, arith}
 use Rattle.std.specs.Option.{option_and_then, option_map}
 use Rattle.std.proofs.lemmas.Option.{same_Some}
 use Rattle.cil_model.specs.Kinds.{kind_of}
@@ -15,27 +15,25 @@ use Rattle.frame_names.specs.declared.reference.Reference.{Reference}
 use Rattle.frame_names.specs.declared.var.Var.{Var}
 use Rattle.frame_names.specs.declared.var.Var.TheVariants as vars
 use Rattle.number_spans.specs.Constants.{constant}
-use Rattle.number_spans.specs.declared.span.Span.{Span}
-use Rattle.state_facts.specs.Forms.{HasForm, HasNumber, HasVar}
+use Rattle.state_facts.specs.Forms.{HasForm, HasVar}
 use Rattle.state_facts.specs.Moves.{place_at, place_of, pushed}
 use Rattle.state_facts.specs.StateFacts.{StateFacts, State, reference_at}
 use Rattle.state_facts.specs.declared.reference.Unknown.{Unknown}
 use Rattle.state_facts.specs.UnknownValues as unknown
 use Rattle.state_facts.proofs.AssumptionForms.{named_var}
 use Rattle.state_obligations.specs.Following.{StaysThere, StaysThereIn}
-use Rattle.state_obligations.specs.Judged.{Judged}
 use Rattle.state_obligations.proofs.Following.{comparison_follows}
 use Rattle.clause_trees.specs.Meaning.{IsTyped}
-use Rattle.clause_trees.specs.TreeValues.{Step, branch, chosen, condition_value, from_top, given, in_state, push_seen, seen_in, seen_of, seen_of_both, seen_of_reached, seen_on_top, seen_reference, true_known, value, variable, with_one}
-use Rattle.clause_trees.specs.VariableKinds.{IsGrown, IsOfKind, IsOfPlace, IsOneOfKind, IsPushed, IsPushedIn, IsReadable, place_in}
+use Rattle.clause_trees.specs.TreeValues.{Step, branch, condition_value, given, in_state, push_seen, seen_in, seen_of, seen_of_both, seen_of_reached, seen_on_top, true_known, value, variable, with_one}
+use Rattle.clause_trees.specs.VariableKinds.{IsOfKind, IsOfPlace, IsOneOfKind, IsPushed, IsPushedIn, IsReadable, place_in}
 use Rattle.clause_trees.specs.declared.conditions.Seen.{Seen}
 use Rattle.clause_trees.specs.declared.conditions.Seen.TheVariants as seen
 use Rattle.clause_trees.specs.declared.reader.Time.{Time}
 use Rattle.clause_trees.specs.declared.reader.Time.TheVariants.{Now, Entry}
 use Rattle.clause_trees.specs.declared.reader.TreeEnv.{TreeEnv}
 use Rattle.clause_trees.proofs.PushedMoves.{unknown_pushed, within_pushed}
-use Rattle.clause_trees.proofs.PushedValues.{AreBelow, binary_pushed, constant_there, element_pushed, length_pushed, one_pushed, two_pushed, unary_pushed}
-use Rattle.clause_trees.proofs.Stays.{IsBelow, Extends, found_var, grown_itself, push_is_pushed, pushed_readable, pushed_there, readable_on, stays_grown, top_is}
+use Rattle.clause_trees.proofs.PushedValues.{binary_pushed, constant_there, element_pushed, length_pushed, one_pushed, two_pushed, unary_pushed}
+use Rattle.clause_trees.proofs.Stays.{IsBelow, Extends, found_var, push_is_pushed, pushed_readable, pushed_there, readable_on, stays_grown, top_is}
 use Rattle.clause_trees.proofs.Typing.{branches_typed, element_typed, length_typed, merged_swaps, old_typed, operator_typed, unary_typed}
 
 -- ---- what is seen of a branch

@@ -1,17 +1,11 @@
 -- What trees push: one variable more, of the tree's kind, and what was there is there still.
-use Rattle.std.proofs.Common.{◌≡◌, ℕ, zero, suc, ◌+◌, ◌≤◌, ℤ, pos, negsuc, Bool, true, false, List, [], ◌∷◌, ◌++◌, length, reverse, slice_get, Option, Some, None, FitsSigned, w32, refl, ap, subst, sym, ◌∙◌, arith}
-use Rattle.std.specs.Option.{option_and_then, option_map}
+use Rattle.std.proofs.Common.{◌≡◌, ℕ, ℤ, [], ◌∷◌, ◌++◌, reverse, slice_get, Option, Some, None, FitsSigned, w32, refl, ap, subst, sym, ◌∙◌, arith}
 use Rattle.std.proofs.lemmas.Int.{ints}
-use Rattle.std.proofs.lemmas.Option.{same_Some}
 use Rattle.cil_model.specs.Comparisons.{comparison_of}
 use Rattle.cil_model.specs.Kinds.{kind_of}
-use Rattle.cil_model.specs.Passes.{merged_kind}
-use Rattle.cil_model.specs.Terms as terms
-use Rattle.cil_model.specs.Terms.{Term}
 use Rattle.cil_model.specs.declared.instruction.BinOp.{BinOp}
 use Rattle.cil_model.specs.declared.instruction.BinOp.TheVariants as operators
 use Rattle.cil_model.specs.declared.instruction.CmpOp.{CmpOp}
-use Rattle.cil_model.specs.declared.instruction.CmpOp.TheVariants as comparisons
 use Rattle.cil_model.specs.declared.instruction.UnOp.{UnOp}
 use Rattle.cil_model.specs.declared.instruction.UnOp.TheVariants as unary
 use Rattle.cil_model.specs.declared.place.Kind.{Kind}
@@ -19,38 +13,26 @@ use Rattle.cil_model.specs.declared.place.Kind.TheVariants as kinds
 use Rattle.cil_model.specs.declared.place.Place.{Place}
 use Rattle.cil_model.specs.declared.place.Place.TheVariants as places
 use Rattle.domain_api.specs.declared.expr.Expr.{Expr}
-use Rattle.frame_names.specs.declared.reference.Reference.{Reference}
 use Rattle.frame_names.specs.declared.var.Var.{Var}
 use Rattle.frame_names.specs.declared.var.Var.TheVariants as vars
 use Rattle.number_spans.specs.Constants.{constant}
-use Rattle.number_spans.specs.declared.span.Span.{Span}
-use Rattle.state_facts.specs.Arithmetic.{with_result}
-use Rattle.state_facts.specs.Assuming.{assumed}
-use Rattle.state_facts.specs.Forms.{HasForm, HasNumber, HasVar, IsNumber}
-use Rattle.state_facts.specs.Moves.{IsNamedNumber, item_place, place_at, place_of, popped, pushed, with_item}
-use Rattle.state_facts.specs.StateFacts.{StateFacts, State, length_at, reference_at}
-use Rattle.state_facts.specs.declared.reference.Unknown.{Unknown}
+use Rattle.state_facts.specs.Forms.{HasForm, HasNumber, HasVar}
+use Rattle.state_facts.specs.Moves.{item_place, popped}
+use Rattle.state_facts.specs.StateFacts.{StateFacts, State, length_at}
 use Rattle.state_facts.specs.States as rule
-use Rattle.state_facts.specs.UnknownValues as unknown
-use Rattle.state_facts.proofs.AssumptionForms.{length_number, named_var}
+use Rattle.state_facts.proofs.AssumptionForms.{length_number}
 use Rattle.state_obligations.specs.Conditions.{AreThere, conditions_of, operator_conditions}
 use Rattle.state_obligations.specs.Following.{StaysThere, StaysThereIn}
-use Rattle.state_obligations.specs.Judged.{Judged, judged}
+use Rattle.state_obligations.specs.Judged.{judged}
 use Rattle.state_obligations.specs.declared.condition.Operation.{Operation}
 use Rattle.state_obligations.specs.declared.condition.Operation.TheVariants as operations
-use Rattle.state_obligations.proofs.Following.{comparison_follows}
 use Rattle.state_obligations.proofs.JudgedLaws.{judged_follow}
-use Rattle.clause_trees.specs.Meaning.{IsTyped}
-use Rattle.clause_trees.specs.TreeValues.{Step, arithmetic, binary_by, binary_value, branch, chosen, condition_value, element_value, from_top, given, in_state, length_value, minuend, on_one, on_two, owing, push_item, push_length, push_seen, seen_in, seen_of, seen_of_both, seen_of_reached, seen_on_top, seen_reference, true_known, unary_value, value, variable, with_one, with_two}
-use Rattle.clause_trees.specs.VariableKinds.{IsGrown, IsOfKind, IsOfPlace, IsOneOfKind, IsPushed, IsPushedIn, IsReadable, place_in}
-use Rattle.clause_trees.specs.declared.conditions.Seen.{Seen}
-use Rattle.clause_trees.specs.declared.conditions.Seen.TheVariants as seen
+use Rattle.clause_trees.specs.TreeValues.{Step, arithmetic, binary_by, binary_value, element_value, from_top, in_state, length_value, minuend, on_one, on_two, owing, push_item, push_length, unary_value, with_one, with_two}
+use Rattle.clause_trees.specs.VariableKinds.{IsOfKind, IsPushed, IsPushedIn}
 use Rattle.clause_trees.specs.declared.reader.Time.{Time}
 use Rattle.clause_trees.specs.declared.reader.Time.TheVariants.{Now, Entry}
-use Rattle.clause_trees.specs.declared.reader.TreeEnv.{TreeEnv}
-use Rattle.clause_trees.proofs.PushedMoves.{item_pushed, numbers_compared_pushed, references_compared_pushed, result_pushed, unknown_pushed, within_pushed}
-use Rattle.clause_trees.proofs.Stays.{IsBelow, found_var, grown_itself, grown_on, kind_there, popped_below, popped_kind, push_is_pushed, pushed_over, pushed_readable, pushed_there, readable_on, second_of, stays_grown, top_is, var_there}
-use Rattle.clause_trees.proofs.Typing.{branches_typed, element_typed, length_typed, old_typed, operator_typed, unary_typed}
+use Rattle.clause_trees.proofs.PushedMoves.{item_pushed, numbers_compared_pushed, references_compared_pushed, result_pushed, unknown_pushed}
+use Rattle.clause_trees.proofs.Stays.{IsBelow, grown_on, kind_there, popped_below, popped_kind, push_is_pushed, pushed_over, pushed_there, second_of, stays_grown, top_is, var_there}
 
 -- ---- operands
 
@@ -242,8 +224,11 @@ binary_pushed op known v w form first second = by (comparison_of op) v w refl fi
 
 pub constant_there : (known : StateFacts) (n : ℤ) → FitsSigned w32 n → HasNumber known (constant n)
 constant_there known n fits =
-    record { there = omega arith; near = record
-    { least = omega (arith, ints, fits); greatest = omega (arith, ints, fits) } }
+    record {
+      there = omega arith;
+      near = record
+          { least = omega (arith, ints, fits); greatest = omega (arith, ints, fits) };
+    }
 
 pub minuend_fits : (op : UnOp) → FitsSigned w32 (minuend op)
 minuend_fits unary.Neg = omega (arith, ints)

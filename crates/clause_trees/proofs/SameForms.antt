@@ -1,11 +1,10 @@
 -- Variables of the same forms, and that two states of such are joined to one.
-use Rattle.std.proofs.Common.{◌≡◌, ℕ, zero, suc, ◌+◌, ◌≤◌, ◌==◌, ℤ, pos, Bool, true, false, List, [], ◌∷◌, ◌++◌, length, slice_get, get_or, Option, Some, None, refl, ap, subst, sym, ◌∙◌, arith}
+use Rattle.std.proofs.Common.{◌≡◌, ℕ, zero, suc, ◌+◌, ◌≤◌, ℤ, pos, Bool, true, false, List, [], ◌∷◌, length, slice_get, get_or, Option, Some, None, refl, ap, subst, sym, ◌∙◌, arith}
 use Rattle.std.specs.Prelude.{IfSome, map}
 use Rattle.std.specs.List.{AllByRecursion}
 use Rattle.std.specs.Option.{ForSome, option_and_then, option_map}
 use Rattle.std.proofs.lemmas.Bool.{eq-eqb}
 use Rattle.std.proofs.lemmas.Option.{get_or_from_slice_get, none-some, same_Some}
-use Rattle.cil_model.specs.Kinds.{kind_of}
 use Rattle.cil_model.specs.Places.{place_number}
 use Rattle.cil_model.specs.declared.place.Kind.{Kind}
 use Rattle.cil_model.specs.declared.place.Kind.TheVariants as kinds
@@ -13,7 +12,7 @@ use Rattle.cil_model.specs.declared.place.Place.{Place}
 use Rattle.cil_model.specs.declared.place.Place.TheVariants as places
 use Rattle.domain_api.specs.declared.expr.Expr.{Expr}
 use Rattle.frame_names.specs.Frames as frames
-use Rattle.frame_names.specs.Meaning.{SaysBoth, Said, a_number, a_text, an_array, said}
+use Rattle.frame_names.specs.Meaning.{SaysBoth, Said, an_array, said}
 use Rattle.frame_names.specs.MergedReferences.{merged_references, one_place}
 use Rattle.frame_names.specs.PairedFrames.{FramePairing, behind, old_at, paired_frames}
 use Rattle.frame_names.specs.declared.reference.Reference.{Reference}
@@ -24,10 +23,9 @@ use Rattle.symbolic_values.specs.Pairing.{origin}
 use Rattle.symbolic_values.specs.declared.pairs.Key.{Key}
 use Rattle.merged_numbers.specs.Merging as numbers
 use Rattle.merged_numbers.specs.Merging.{Outcome}
-use Rattle.merged_states.specs.Alike.{AreComparable, AreLike, IsLike}
+use Rattle.merged_states.specs.Alike.{AreComparable, AreLike}
 use Rattle.merged_states.specs.Merging.{join, merged_as, merged_by, merged_known}
 use Rattle.merged_states.specs.Parts.{numbers_known, unknown_items}
-use Rattle.merged_states.specs.Rules.{number_rule}
 use Rattle.merged_states.specs.declared.merging.Merging.TheVariants as rules
 use Rattle.merged_states.specs.Laws.Frames.{alike_of, same_entry}
 use Rattle.merged_states.proofs.Formed.{merged_form}
@@ -267,9 +265,11 @@ module _ (a b c : StateFacts) (keys : List Key) (lengths : List Expr) (form : Ha
   all_say [] [] [] same first second = tt
   all_say [] [] (u ∷ us) same first second = absurd cc
   all_say (v ∷ vs) (w ∷ ws) [] same first second = absurd cc
-  all_say (v ∷ vs) (w ∷ ws) (u ∷ us) same first second =
-      (one_says v w u same.0 (head _ _ _ _ first) (head _ _ _ _ second), all_say vs ws us same.1 (tail _ _ _ _ first)
-      (tail _ _ _ _ second))
+  all_say (v ∷ vs) (w ∷ ws) (u ∷ us) same first second = (
+    one_says v w u same.0 (head _ _ _ _ first) (head _ _ _ _ second),
+    all_say vs ws us same.1 (tail _ _ _ _ first)
+        (tail _ _ _ _ second),
+  )
     where
       head : (x y : Said) (xs ys : List Said) → x ∷ xs ≡ y ∷ ys → x ≡ y
       head x y xs ys is = cc

@@ -1,11 +1,11 @@
 -- What is shown is so.
-use Rattle.std.proofs.Common.{◌≡◌, ◌⊎◌, inl, inr, ℕ, zero, suc, ℤ, pos, ◌≤ℤ◌, int_eq, Bool, true, false, not, ◌&&◌, List, [], ◌∷◌, ◌++◌, slice_get, Option, Some, None, if◌then◌else◌, FitsSigned, w32, refl, ap, subst, sym, ◌∙◌, arith}
-use Rattle.std.specs.Option.{ForSome, option_and_then}
+use Rattle.std.proofs.Common.{◌≡◌, inl, inr, ℕ, ℤ, pos, ◌≤ℤ◌, int_eq, Bool, true, false, not, ◌&&◌, List, [], ◌∷◌, ◌++◌, slice_get, Option, Some, None, if◌then◌else◌, refl, ap, subst, sym, ◌∙◌, arith}
+use Rattle.std.specs.Option.{option_and_then}
 use Rattle.std.proofs.lemmas.Bool.{and_parts, false≢true}
 use Rattle.std.proofs.lemmas.Int.{ints}
 use Rattle.std.proofs.lemmas.Option.{none-some, same_Some}
 use Rattle.cil_model.specs.Clauses.{Reading, binary_value, both, chosen, is_number_true, value_of}
-use Rattle.cil_model.specs.Comparisons.{is_true, number_of, pushed_comparison}
+use Rattle.cil_model.specs.Comparisons.{is_true}
 use Rattle.cil_model.specs.FitKinds.{FitsKind}
 use Rattle.cil_model.specs.Kinds.{is_tested, kind_of, pushes_comparison}
 use Rattle.cil_model.specs.Passes.{merged_kind}
@@ -21,7 +21,6 @@ use Rattle.cil_model.specs.declared.place.Kind.{Kind}
 use Rattle.cil_model.specs.declared.place.Kind.TheVariants as kinds
 use Rattle.cil_model.specs.declared.place.Place.{Place}
 use Rattle.cil_model.specs.declared.place.Place.TheVariants as places
-use Rattle.cil_model.proofs.KindForms as forms
 use Rattle.cil_model.proofs.KindValues.{tested}
 use Rattle.domain_api.specs.declared.expr.Expr.{Expr}
 use Rattle.frame_names.specs.declared.var.Var.{Var}
@@ -29,24 +28,23 @@ use Rattle.frame_names.specs.declared.var.Var.TheVariants as vars
 use Rattle.merged_states.specs.Following.{HoldsOver}
 use Rattle.number_facts.specs.Ends.{range_of}
 use Rattle.number_facts.proofs.Knowing.{range_has}
-use Rattle.number_spans.specs.Spans.{Has, excludes}
-use Rattle.number_spans.specs.declared.span.Span.{Span}
+use Rattle.number_spans.specs.Spans.{Has}
 use Rattle.number_spans.proofs.ComparingLaws.{excluded_apart}
 use Rattle.symbolic_values.specs.Worth.{worth}
-use Rattle.state_facts.specs.Forms.{HasForm, HasVar}
-use Rattle.state_facts.specs.Holds.{HasValue, HoldsBy, HoldsIn}
+use Rattle.state_facts.specs.Forms.{HasVar}
+use Rattle.state_facts.specs.Holds.{HasValue, HoldsBy}
 use Rattle.state_facts.specs.StateFacts.{StateFacts, State}
-use Rattle.clause_trees.specs.ClauseStates.{assumed, is_known, is_top_known, is_zero, shown, shown_value, value_in}
+use Rattle.clause_trees.specs.ClauseStates.{assumed, is_known, is_top_known, shown, shown_value, value_in}
 use Rattle.clause_trees.specs.Meaning.{IsSo, IsTest, IsTyped, Reads, ShowsIt}
-use Rattle.clause_trees.specs.TreeValues.{from_top, value}
-use Rattle.clause_trees.specs.VariableKinds.{HasSameForms, HasSameFormsIn, IsOfKind, IsPushed, IsReadable}
+use Rattle.clause_trees.specs.TreeValues.{value}
+use Rattle.clause_trees.specs.VariableKinds.{HasSameFormsIn, IsOfKind, IsReadable}
 use Rattle.clause_trees.specs.declared.reader.Time.{Time}
 use Rattle.clause_trees.specs.declared.reader.Time.TheVariants.{Now, Entry}
 use Rattle.clause_trees.specs.declared.reader.TreeEnv.{TreeEnv}
 use Rattle.clause_trees.proofs.AssumedKept.{assumed_kept, itself_same}
-use Rattle.clause_trees.proofs.AssumedTrees.{IsNegation, IsReadByValue, assumed_same, negated_test, negation_or_value, negation_shown}
+use Rattle.clause_trees.proofs.AssumedTrees.{IsNegation, assumed_same, negation_or_value, negation_shown}
 use Rattle.clause_trees.proofs.EntailedValues.{form_is, value_there}
-use Rattle.clause_trees.proofs.KeptSteps.{Comes, comes, top_value}
+use Rattle.clause_trees.proofs.KeptSteps.{comes, top_value}
 use Rattle.clause_trees.proofs.KeptTrees.{fits_now, value_kept}
 use Rattle.clause_trees.proofs.PushedTrees.{value_pushed}
 use Rattle.clause_trees.proofs.SameForms.{readable_same}

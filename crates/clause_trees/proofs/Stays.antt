@@ -226,8 +226,13 @@ pub push_is_pushed : (known : StateFacts) (kind : Kind) (v : Var) → HasForm kn
     → IsOfKind known kind v
     → IsPushed known kind (pushed known v)
 push_is_pushed known kind v form there of_kind = record {
-  grown = record { form = pushed_form known v form there; symbols = omega arith; references = omega arith; places =
-      λ r at. refl };
+  grown = record {
+    form = pushed_form known v form there;
+    symbols = omega arith;
+    references = omega arith;
+    places =
+        λ r at. refl;
+  };
   top = v;
   variables_are = refl;
   of_kind = same kind v of_kind;

@@ -17,7 +17,7 @@ use Rattle.cil_model.specs.declared.instruction.UnOp.{UnOp}
 use Rattle.cil_model.specs.declared.place.Kind.{Kind}
 use Rattle.cil_model.specs.declared.place.Kind.TheVariants as kinds
 use Rattle.cil_model.specs.declared.place.Place.{Place}
-use Rattle.clause_trees.specs.Meaning.{HasIntsIn, IsTyped, is_now}
+use Rattle.clause_trees.specs.Meaning.{IsTyped, is_now}
 use Rattle.clause_trees.specs.declared.reader.Time.{Time}
 use Rattle.clause_trees.specs.declared.reader.Time.TheVariants.{Now, Entry}
 
@@ -75,8 +75,13 @@ module _ (args : List Place) (result : Place) (time : Time) where
       by None found is = absurd cc
       by (Some array) found is =
           let tells = number_tells (is_reference array) kind is in
-          record { array = array; typed = record { kind_is = found; ints = typed.ints.1 }; reference = tells.so; int =
-          tells.int }
+          record {
+            array = array;
+            typed = record { kind_is = found; ints = typed.ints.1 };
+            reference = tells.so;
+            int =
+                tells.int;
+          }
 
   pub record OfElement (place : Place) (a b : Term) (kind : Kind) : Type 0 where
     pub array : Kind
@@ -170,8 +175,11 @@ module _ (args : List Place) (result : Place) (time : Time) where
       by None found is = absurd cc
       by (Some operand) found is =
           let tells = number_tells (is_int operand) kind is in
-          record { typed = record { kind_is = rw (int_is operand tells.so) at found; ints = typed.ints.1 }; int =
-          tells.int }
+          record {
+            typed = record { kind_is = rw (int_is operand tells.so) at found; ints = typed.ints.1 };
+            int =
+                tells.int;
+          }
 
   pub record OfBranches (c a b : Term) (kind : Kind) : Type 0 where
     pub test : Kind
@@ -206,8 +214,11 @@ module _ (args : List Place) (result : Place) (time : Time) where
             test = test;
             left = left;
             right = right;
-            test_typed = record { kind_is = found; ints = all_first IsIntRoot (preorder c) (preorder a ++ preorder b)
-                typed.ints.1 };
+            test_typed = record {
+              kind_is = found;
+              ints = all_first IsIntRoot (preorder c) (preorder a ++ preorder b)
+                  typed.ints.1;
+            };
             first = record { kind_is = one; ints = all_first IsIntRoot (preorder a) (preorder b) below };
             second = record { kind_is = two; ints = all_second IsIntRoot (preorder a) (preorder b) below };
             tested = both.0;

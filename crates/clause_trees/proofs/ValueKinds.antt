@@ -2,19 +2,19 @@
 use Rattle.std.proofs.Common.{◌≡◌, ℕ, zero, suc, ◌<◌, ℤ, pos, int_le, unsigned_abs, Bool, true, false, ◌&&◌, List, [], ◌∷◌, length, slice_get, Option, Some, None, if◌then◌else◌, FitsSigned, w32, Result, Ok, Err, IfOk, refl, ap, subst, sym, ◌∙◌, arith}
 use Rattle.std.specs.Prelude.{option_map}
 use Rattle.std.specs.List.{AllByRecursion}
-use Rattle.std.specs.Option.{option_and_then, option_map_or}
+use Rattle.std.specs.Option.{option_and_then}
 use Rattle.std.proofs.lemmas.Bool.{and_parts, false≢true}
 use Rattle.std.proofs.lemmas.Int.{ints}
 use Rattle.std.proofs.lemmas.Option.{none-some, same_Some}
 use Rattle.cil_model.specs.Arithmetic.{operated, operated_one, truth}
 use Rattle.cil_model.specs.Clauses.{Reading, arithmetic_value, at_entry, binary_by, binary_value, both, chosen, element_value, faultless, item_in, length_value, unary_value, value_of}
-use Rattle.cil_model.specs.Comparisons.{comparison_of, comparison_value, is_true, pushed_comparison}
+use Rattle.cil_model.specs.Comparisons.{comparison_of, is_true, pushed_comparison}
 use Rattle.cil_model.specs.FitKinds.{FitsKind}
 use Rattle.cil_model.specs.Kinds.{kind_of}
 use Rattle.cil_model.specs.Passes.{merged_kind}
 use Rattle.cil_model.specs.Terms as terms
 use Rattle.cil_model.specs.Terms.{Term}
-use Rattle.cil_model.specs.Values.{FitItems, FitPlaces, FitsPlace, Heap, IsArray, IsByte, IsHeap, IsValue, KeepsForms, has_array, same_place}
+use Rattle.cil_model.specs.Values.{FitItems, FitPlaces, FitsPlace, Heap, IsByte, IsHeap, IsValue, KeepsForms, has_array, same_place}
 use Rattle.cil_model.specs.declared.instruction.BinOp.{BinOp}
 use Rattle.cil_model.specs.declared.instruction.CmpOp.{CmpOp}
 use Rattle.cil_model.specs.declared.instruction.UnOp.{UnOp}

@@ -4,6 +4,7 @@ use Rattle.std.specs.Option.{option_and_then}
 use Rattle.std.specs.Ordering.{int_eq}
 use Rattle.cil_model.specs.Terms as terms
 use Rattle.cil_model.specs.Terms.{Term}
+use Rattle.cil_model.specs.declared.instruction.BinOp.{BinOp}
 use Rattle.cil_model.specs.declared.instruction.BinOp.TheVariants as operators
 use Rattle.frame_names.specs.declared.var.Var.{Var}
 use Rattle.frame_names.specs.declared.var.Var.TheVariants as vars
@@ -20,6 +21,11 @@ use Rattle.clause_trees.specs.declared.reader.TreeEnv.{TreeEnv}
 
 abbrev pub value_in : TreeEnv → Term → State → Judged
 value_in env t state = in_state (value env Now t) state
+
+-- A comparison with this second side is the negation of its first side: it is with the constant 0.
+abbrev pub is_negation : BinOp → Term → Bool
+is_negation operators.Ceq (terms.Const n) = int_eq n (pos 0)
+is_negation op b = false
 
 -- ---- assumed
 

@@ -109,20 +109,39 @@ ShowsIt env holds t state =
     → ForSome state (IsReadable env args result) → IsTyped args result Now t kinds.Int
     → Reads env args result vs heap r → HoldsOver state vs heap → shown env holds t state ≡ true → IsSo holds t r
 
+-- The tree is so, wherever the state holds of what is read.
+abbrev pub IsSoWherever : TreeEnv → Bool → Term → State → Type 0
+IsSoWherever env holds t state =
+    (args : List Place) (result : Place) (vs : List Value) (heap : Heap) (r : Reading)
+    → ForSome state (IsReadable env args result) → IsTyped args result Now t kinds.Int
+    → Reads env args result vs heap r → HoldsOver state vs heap → IsSo holds t r
+
 -- A value of the kind may be tested.
 pub record IsTest (args : List Place) (result : Place) (t : Term) : Type 0 where
   pub kind : Kind
   pub typed : IsTyped args result Now t kind
   pub tested : is_tested kind ≡ true
 
--- Where a tree's value is true or false, the state in which it is assumed so holds, by some choice. The value may be a
--- reference, as that of a test is.
-abbrev pub KeepsAssumedTree : TreeEnv → Bool → Term → State → Type 0
-KeepsAssumedTree env holds t state =
+-- The tree may be a test in this state: the variables that the environment names are there, and of the kinds of some
+-- method's arguments and result, and over these the tree has a kind that may be tested.
+pub record CanTest (env : TreeEnv) (t : Term) (state : State) : Type 0 where
+  pub args : List Place
+  pub result : Place
+  pub readable : ForSome state (IsReadable env args result)
+  pub test : IsTest args result t
+
+-- Where a tree's value is true or false, and the state before holds, the state after holds of the same values, by some
+-- choice. The value may be a reference, as that of a test is.
+abbrev pub KeepsWhereSo : TreeEnv → Bool → Term → State → State → Type 0
+KeepsWhereSo env holds t before after =
     (args : List Place) (result : Place) (vs : List Value) (heap : Heap) (r : Reading)
-    → ForSome state (IsReadable env args result) → IsTest args result t
-    → Reads env args result vs heap r → HoldsOver state vs heap
-    → option_and_then is_true (value_of t r) ≡ Some holds → HoldsOver (assumed env holds t state) vs heap
+    → ForSome before (IsReadable env args result) → IsTest args result t
+    → Reads env args result vs heap r → HoldsOver before vs heap
+    → option_and_then is_true (value_of t r) ≡ Some holds → HoldsOver after vs heap
+
+-- So does the state in which it is assumed.
+abbrev pub KeepsAssumedTree : TreeEnv → Bool → Term → State → Type 0
+KeepsAssumedTree env holds t state = KeepsWhereSo env holds t state (assumed env holds t state)
 
 -- Where a tree is assumed, what is known has its form, and as many variables of the same forms.
 abbrev pub KeepsFormsOfVariables : TreeEnv → Bool → Term → StateFacts → Type 0

@@ -19,7 +19,7 @@ use Rattle.number_facts.specs.Ends.{range_of}
 use Rattle.number_spans.specs.Constants.{constant}
 use Rattle.state_facts.specs.Assuming.{assumed}
 use Rattle.state_facts.specs.Moves.{item_place, place_at, popped, pushed}
-use Rattle.state_facts.specs.StateFacts.{StateFacts, State, length_at}
+use Rattle.state_facts.specs.StateFacts.{StateFacts, State, length_at, variables_in}
 use Rattle.state_facts.specs.States as rule
 use Rattle.state_facts.specs.UnknownValues as unknown
 use Rattle.state_obligations.specs.Conditions.{conditions_of}
@@ -60,11 +60,17 @@ owing operation result known =
 abbrev pub refused : Judged
 refused = record { entailed = false; state = None }
 
+abbrev pub refusing : Step
+refusing known = refused
+
 -- ---- operands
 
 -- What the variable has on which so many others lie.
 abbrev pub from_top : ℕ → StateFacts → Option Var
 from_top above known = slice_get (reverse known.variables) above
+
+abbrev pub top_in : ℕ → State → Option Var
+top_in above state = slice_get (reverse (variables_in state)) above
 
 abbrev pub with_one : (Var → Step) → Option Var → Step
 with_one step None known = refused
@@ -180,6 +186,9 @@ push_seen (Some (seen.Array place)) known = unknown.push_unknown place (Some kno
 abbrev pub branch : Step → Bool → Var → StateFacts → Judged
 branch inside holds test known = in_state inside (true_known holds test known)
 
+abbrev pub branch_in : Step → Bool → Var → State → Judged
+branch_in inside holds test state = in_state inside (option_and_then (true_known holds test) state)
+
 abbrev pub seen_in : Judged → Option Seen
 seen_in j = option_and_then seen_on_top j.state
 
@@ -211,7 +220,11 @@ value env time (terms.Old a) known = value env Entry a known
 value env time (terms.Cond c a b) known =
     and_then (value env time c known) (on_one (condition_value (value env time a) (value env time b)))
 
--- What the code finds.
+-- What the code finds: of a tree, and of a branch.
 pub record Finds (entailed : Bool) (state : State) (j : Judged) : Type 0 where
   pub entailed_is : entailed ≡ j.entailed
   pub state_is : state ≡ j.state
+
+pub record Sees (entailed : Bool) (seen : Option Seen) (j : Judged) : Type 0 where
+  pub entailed_is : entailed ≡ j.entailed
+  pub seen_is : seen ≡ seen_in j

@@ -5,10 +5,10 @@
 //! were, and no expression is kept beside a state that changes. specs/ClauseStates has shown and assumed trees: the
 //! value is taken from the stack and known, or assumed, to be true or false.
 //!
-//! What is to be proved of it (specs/Meaning). A *reading* of a tree goes with a state that holds of values over the
-//! heap at the end, by a choice, where the reading's arguments and result are the values of the variables that the
-//! environment names, each array of the heap at entry kept its type and its length, and the arguments' arrays were
-//! there. Then, for every such reading and choice:
+//! What it means is said in specs/Meaning. A *reading* of a tree goes with a state that holds of values over the heap at
+//! the end, by a choice, where the reading's arguments and result are the values of the variables that the environment
+//! names, each array of the heap at entry kept its type and its length, and the arguments' arrays were there. Then, for
+//! every such reading and choice:
 //!
 //! - **Assumed obligations are harmless** (`KeepsValue`). Where the tree has a value in the machine's sense (`value_of`),
 //!   the state behind the tree holds of the same values and that value on top, by a choice that is as before for each
@@ -21,9 +21,8 @@
 //!   values over the same heap, by some choice, and where it is false, so does the state in which it is assumed false.
 //!   The choice may be another one, since cases are joined in new names.
 //!
-//! The first two are inductions over the tree, with the values, the state and the choice general: a node's operands lie
-//! on the stack, so its law is a chain of those of the calls, and its entailed obligations are met since the first law
-//! gives the state behind its operands. The last two go over conditions and negations alone and rest on these.
+//! The first two are inductions over the tree, with the values, the state and the choice general. The last two go over
+//! conditions and negations alone and rest on these.
 #![tactic(auto)]
 
 mod clauses;

@@ -2,8 +2,16 @@
 //! are entailed, each in the state that assumes those before it. The state then assumes them, and the node's value lies
 //! on the stack in place of its operands.
 
-ghost use Rattle.std.specs.Prelude.{◌≡◌, IfOk, OnOk};
+ghost use Rattle.std.specs.Prelude.{◌≡◌, IfOk, IsSome, OnOk, Some, is_some};
+ghost use Rattle.std.specs.Option.{ForSome};
+ghost use Rattle.cil_model.specs.Comparisons.{comparison_of};
+ghost use Rattle.frame_names.specs.declared.var.Var.TheVariants as vars;
+ghost use Rattle.state_facts.specs.Forms.{HasNumber, HasReference, HasVar};
+ghost use Rattle.state_facts.specs.Moves as moves;
+ghost use Rattle.state_facts.specs.States as states;
 ghost use Rattle.clause_trees.specs.TreeValues as rule;
+ghost use Rattle.number_spans.specs.Constants as numbers;
+ghost use Rattle.number_spans.specs.Owed.{Divides, Shifts};
 
 use crate::reader::Time;
 use crate::stack::{refused, take, take_two};
@@ -15,6 +23,7 @@ use state_obligations::Operation;
 
 /// A value that owes nothing.
 pub(crate) fn given(state: &mut AbsState, value: Var) -> Result<bool, NoMemory>
+    requires there { ForSome state.old (λ known. HasVar known value) }
     ensures { IfOk result (λ entailed. rule.Finds entailed state.new (rule.in_state (rule.given value) state.old)) }
 {
     state.push(value)?;
@@ -22,32 +31,67 @@ pub(crate) fn given(state: &mut AbsState, value: Var) -> Result<bool, NoMemory>
 }
 
 /// What the variable of a list index has.
-pub(crate) fn variable(state: &mut AbsState, index: Option<u32>) -> Result<bool, NoMemory>
-    ensures { IfOk result (λ entailed. rule.Finds entailed state.new (rule.in_state (rule.variable index) state.old)) }
+pub(crate) fn variable(state: &mut AbsState, index: u64) -> Result<bool, NoMemory>
+    ensures { IfOk result (λ entailed.
+        rule.Finds entailed state.new (rule.in_state (rule.variable (Some index)) state.old)) }
 {
-    match index {
-        Some(index) if u64::from(index) < state.var_count() => given(state, state.var(index)),
-        _ => Ok(refused(state)),
+    match state.var_at(index) {
+        Some(value) => given(state, value),
+        None => Ok(refused(state)),
     }
 }
 
+/// What the variable of a list index has, if there is one.
+pub(crate) fn variable_if(state: &mut AbsState, index: Option<u32>) -> Result<bool, NoMemory>
+    ensures { IfOk result (λ entailed. rule.Finds entailed state.new (rule.in_state (rule.variable index) state.old)) }
+{
+    match index {
+        Some(index) => variable(state, u64::from(index)),
+        None => Ok(refused(state)),
+    }
+}
+
+/// Pushes the length of a reference.
+fn push_length(state: &mut AbsState, r: u32) -> Result<(), NoMemory>
+    requires there { ForSome state.old (λ known. HasReference known r) }
+    ensures { OnOk result (state.new ≡ rule.push_length r state.old) }
+{
+    if !state.reached() {
+        return Ok(());
+    }
+    state.push(Var::Number(state.length(r)))
+}
+
 /// The length of a reference, which owes that it is not null.
+#[tactic(auto, using(crate::proofs::Operands::operands))]
+fn length_of(state: &mut AbsState, r: u32) -> Result<bool, NoMemory>
+    requires there { ForSome state.old (λ known. HasReference known r) }
+    ensures { IfOk result (λ entailed.
+        rule.Finds entailed state.new (rule.in_state (rule.length_value (vars.Reference r)) state.old)) }
+{
+    if !state.reached() {
+        return Ok(true);
+    }
+    let entailed = state.judge(Operation::Length(r))?;
+    push_length(state, r)?;
+    Ok(entailed)
+}
+
+/// The length of the value on top, where it is a reference.
 pub(crate) fn length(state: &mut AbsState) -> Result<bool, NoMemory>
     ensures { IfOk result (λ entailed.
         rule.Finds entailed state.new (rule.in_state (rule.on_one rule.length_value) state.old)) }
 {
-    let Some(Var::Reference(r)) = take(state)? else {
-        return Ok(refused(state));
-    };
-    let entailed = state.judge(Operation::Length(r))?;
-    if state.reached() {
-        state.push(Var::Number(state.length(r)))?;
+    match take(state)? {
+        Some(Var::Reference(r)) => length_of(state, r),
+        _ => Ok(refused(state)),
     }
-    Ok(entailed)
 }
 
 /// The type of the items of an array of this type.
-fn item_place(place: Place) -> Place {
+fn item_place(place: Place) -> Place
+    ensures { result ≡ moves.item_place place }
+{
     match place {
         Place::Bools => Place::Bool,
         _ => Place::Int,
@@ -61,7 +105,10 @@ fn push_item(
     place: Place,
     r: u32,
     i: Expr,
-) -> Result<(), NoMemory> {
+) -> Result<(), NoMemory>
+    requires there { ForSome state.old (λ known. HasReference known r) }
+    ensures { OnOk result (state.new ≡ rule.push_item time place r state.old) }
+{
     match time {
         Time::Now => state.load(r, i),
         Time::Entry => state.push_unknown(item_place(place)),
@@ -69,32 +116,73 @@ fn push_item(
 }
 
 /// The item of a reference at an index, which owes that the reference is not null and that the index is one of it.
-pub(crate) fn element(state: &mut AbsState, time: Time, place: Place) -> Result<bool, NoMemory>
-    ensures { IfOk result (λ entailed.
-        rule.Finds entailed state.new (rule.in_state (rule.on_two (rule.element_value time place)) state.old)) }
+#[tactic(auto, using(crate::proofs::Operands::operands))]
+fn element_of(
+    state: &mut AbsState,
+    time: Time,
+    place: Place,
+    r: u32,
+    i: Expr,
+) -> Result<bool, NoMemory>
+    requires reference { ForSome state.old (λ known. HasReference known r) }
+    requires index { ForSome state.old (λ known. HasNumber known i) }
+    ensures { IfOk result (λ entailed. rule.Finds entailed state.new
+        (rule.in_state (rule.element_value time place (vars.Reference r) (vars.Number i)) state.old)) }
 {
-    let Some((Var::Reference(r), Var::Number(i))) = take_two(state)? else {
-        return Ok(refused(state));
-    };
+    if !state.reached() {
+        return Ok(true);
+    }
     let entailed = state.judge(Operation::Element(r, i))?;
     push_item(state, time, place, r, i)?;
     Ok(entailed)
 }
 
+/// The item of the lower value at the upper one, where these are a reference and a number.
+pub(crate) fn element(state: &mut AbsState, time: Time, place: Place) -> Result<bool, NoMemory>
+    ensures { IfOk result (λ entailed.
+        rule.Finds entailed state.new (rule.in_state (rule.on_two (rule.element_value time place)) state.old)) }
+{
+    match take_two(state)? {
+        (Some(Var::Reference(r)), Some(Var::Number(i))) => element_of(state, time, place, r, i),
+        _ => Ok(refused(state)),
+    }
+}
+
+/// Pushes the result of an operator whose conditions are assumed.
+fn push_result(state: &mut AbsState, op: BinOp, a: Expr, b: Expr) -> Result<(), NoMemory>
+    requires first { ForSome state.old (λ known. HasNumber known a) }
+    requires second { ForSome state.old (λ known. HasNumber known b) }
+    requires divisor { ForSome state.old (λ _. Divides op b) }
+    requires amount { ForSome state.old (λ _. Shifts op b) }
+    ensures { OnOk result (state.new ≡ states.arith op a b state.old) }
+{
+    if !state.reached() {
+        return Ok(());
+    }
+    state.arith(op, a, b)
+}
+
 /// The result of an operator of two numbers, which owes that the operator does not fault.
+#[tactic(auto, using(crate::proofs::Operands::operands))]
 fn arithmetic(state: &mut AbsState, op: BinOp, a: Expr, b: Expr) -> Result<bool, NoMemory>
+    requires first { ForSome state.old (λ known. HasNumber known a) }
+    requires second { ForSome state.old (λ known. HasNumber known b) }
     ensures { IfOk result (λ entailed.
         rule.Finds entailed state.new (rule.in_state (rule.arithmetic op a b) state.old)) }
 {
-    let entailed = state.judge(Operation::Binary(op, a, b))?;
-    if state.reached() {
-        state.arith(op, a, b)?;
+    if !state.reached() {
+        return Ok(true);
     }
+    let entailed = state.judge(Operation::Binary(op, a, b))?;
+    push_result(state, op, a, b)?;
     Ok(entailed)
 }
 
 /// The truth of a comparison, which owes nothing.
 fn comparison(state: &mut AbsState, op: BinOp, a: Var, b: Var) -> Result<bool, NoMemory>
+    requires comparison { IsSome (comparison_of op) }
+    requires first { ForSome state.old (λ known. HasVar known a) }
+    requires second { ForSome state.old (λ known. HasVar known b) }
     ensures { IfOk result (λ entailed.
         rule.Finds entailed state.new (rule.in_state (rule.comparison op a b) state.old)) }
 {
@@ -103,45 +191,88 @@ fn comparison(state: &mut AbsState, op: BinOp, a: Var, b: Var) -> Result<bool, N
 }
 
 /// Returns whether the operator is a comparison.
-fn is_comparison(op: BinOp) -> bool {
+fn is_comparison(op: BinOp) -> bool
+    ensures { result ≡ is_some (comparison_of op) }
+{
     matches!(
         op,
         BinOp::Ceq | BinOp::Cgt | BinOp::CgtUn | BinOp::Clt | BinOp::CltUn
     )
 }
 
-/// What an operator gives of two values. References are compared alone.
+/// What an operator gives of two numbers.
+#[tactic(auto, using(crate::proofs::StackLemmas::two_numbers))]
+fn binary_of_numbers(state: &mut AbsState, op: BinOp, a: Expr, b: Expr) -> Result<bool, NoMemory>
+    requires first { ForSome state.old (λ known. HasNumber known a) }
+    requires second { ForSome state.old (λ known. HasNumber known b) }
+    ensures { IfOk result (λ entailed. rule.Finds entailed state.new
+        (rule.in_state (rule.binary_value op (vars.Number a) (vars.Number b)) state.old)) }
+{
+    if is_comparison(op) {
+        comparison(state, op, Var::Number(a), Var::Number(b))
+    } else {
+        arithmetic(state, op, a, b)
+    }
+}
+
+/// What an operator gives of two references. They are compared alone.
+#[tactic(auto, using(crate::proofs::StackLemmas::two_references))]
+fn binary_of_references(state: &mut AbsState, op: BinOp, r: u32, q: u32) -> Result<bool, NoMemory>
+    requires first { ForSome state.old (λ known. HasReference known r) }
+    requires second { ForSome state.old (λ known. HasReference known q) }
+    ensures { IfOk result (λ entailed. rule.Finds entailed state.new
+        (rule.in_state (rule.binary_value op (vars.Reference r) (vars.Reference q)) state.old)) }
+{
+    if is_comparison(op) {
+        comparison(state, op, Var::Reference(r), Var::Reference(q))
+    } else {
+        Ok(refused(state))
+    }
+}
+
+/// What an operator gives of two values.
+#[tactic(auto, using(crate::proofs::StackLemmas::mixed_refused))]
+fn binary_of(state: &mut AbsState, op: BinOp, v: Var, w: Var) -> Result<bool, NoMemory>
+    requires first { ForSome state.old (λ known. HasVar known v) }
+    requires second { ForSome state.old (λ known. HasVar known w) }
+    ensures { IfOk result (λ entailed.
+        rule.Finds entailed state.new (rule.in_state (rule.binary_value op v w) state.old)) }
+{
+    match (v, w) {
+        (Var::Number(a), Var::Number(b)) => binary_of_numbers(state, op, a, b),
+        (Var::Reference(r), Var::Reference(q)) => binary_of_references(state, op, r, q),
+        _ => Ok(refused(state)),
+    }
+}
+
+/// What an operator gives of the two uppermost values.
 pub(crate) fn binary(state: &mut AbsState, op: BinOp) -> Result<bool, NoMemory>
     ensures { IfOk result (λ entailed.
         rule.Finds entailed state.new (rule.in_state (rule.on_two (rule.binary_value op)) state.old)) }
 {
-    match (is_comparison(op), take_two(state)?) {
-        (false, Some((Var::Number(a), Var::Number(b)))) => arithmetic(state, op, a, b),
-        (true, Some((Var::Number(a), Var::Number(b)))) => {
-            comparison(state, op, Var::Number(a), Var::Number(b))
-        }
-        (true, Some((Var::Reference(r), Var::Reference(q)))) => {
-            comparison(state, op, Var::Reference(r), Var::Reference(q))
-        }
+    match take_two(state)? {
+        (Some(v), Some(w)) => binary_of(state, op, v, w),
         _ => Ok(refused(state)),
     }
 }
 
 /// What an operator of one number is subtracted from: `neg` is 0 - e, and `not` is -1 - e.
-fn minuend(op: UnOp) -> Expr {
+fn minuend(op: UnOp) -> Expr
+    ensures { result ≡ numbers.constant (rule.minuend op) }
+{
     match op {
         UnOp::Neg => constant(0),
         UnOp::Not => constant(-1),
     }
 }
 
-/// What an operator gives of one number.
+/// What an operator gives of the value on top, where it is a number.
 pub(crate) fn unary(state: &mut AbsState, op: UnOp) -> Result<bool, NoMemory>
     ensures { IfOk result (λ entailed.
         rule.Finds entailed state.new (rule.in_state (rule.on_one (rule.unary_value op)) state.old)) }
 {
-    let Some(Var::Number(e)) = take(state)? else {
-        return Ok(refused(state));
-    };
-    arithmetic(state, BinOp::Sub, minuend(op), e)
+    match take(state)? {
+        Some(Var::Number(e)) => arithmetic(state, BinOp::Sub, minuend(op), e),
+        _ => Ok(refused(state)),
+    }
 }

@@ -1,5 +1,8 @@
 //! What a tree is read by.
 
+ghost use Rattle.std.specs.Prelude.{◌≡◌};
+ghost use Rattle.clause_trees.specs.declared.reader.Time.TheVariants as times;
+
 use std::alloc::Global;
 
 /// Where the variables are that a tree reads.
@@ -22,15 +25,18 @@ pub(crate) enum Time {
 
 /// What a tree is read by.
 #[derive(Clone, Copy)]
-pub(crate) struct Reader<'a> {
+pub(crate) struct Reader {
     pub alloc: Global,
-    pub env: &'a TreeEnv,
+    pub env: TreeEnv,
     pub time: Time,
 }
 
-impl Reader<'_> {
+impl Reader {
     /// The reader of an old value.
-    pub fn at_entry(self) -> Self {
+    pub fn at_entry(self) -> Reader
+        ensures env { result.env ≡ self.env }
+        ensures time { result.time ≡ times.Entry }
+    {
         Reader {
             time: Time::Entry,
             ..self
