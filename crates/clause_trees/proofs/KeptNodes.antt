@@ -185,8 +185,11 @@ module _ (over heap : Heap) (kept : KeepsForms over heap) (is_heap : IsHeap heap
         (λ none. none-some item.array (sym none ∙ at)),
         (
           subst (λ n. pos 0 ≤ℤ n) index within.0,
-          (subst (λ n. n <ℤ length_of_array heap (array r)) index
-          (subst (λ l. item.index <ℤ l) (sym there) within.1), tt),
+          (
+            subst (λ n. n <ℤ length_of_array heap (array r)) index
+                (subst (λ l. item.index <ℤ l) (sym there) within.1),
+            tt,
+          ),
         ),
       )
       (λ x stays still.

@@ -26,7 +26,7 @@ pub(crate) enum Seen {
 }
 
 /// Assumes that a value is true: a number other than 0, or a reference other than null. Or that it is not.
-pub(crate) fn assume_true(state: &mut AbsState, value: Var, holds: bool) -> Result<(), NoMemory>
+pub fn assume_true(state: &mut AbsState, value: Var, holds: bool) -> Result<(), NoMemory>
     requires there { ForSome state.old (λ known. HasVar known value) }
     ensures { OnOk result (state.new ≡ option_and_then (rule.true_known holds value) state.old) }
 {

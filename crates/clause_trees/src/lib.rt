@@ -33,4 +33,5 @@ mod stack;
 mod values;
 
 pub use clauses::{assume_tree, assume_tree_false, tree_shown, tree_shown_false};
+pub use conditions::assume_true;
 pub use reader::TreeEnv;

@@ -203,8 +203,7 @@ module _ (unit : MethodUnit) (op : Op) (all : List Condition) where
   met_in_turn [] known form there same found ruled vs heap number array is_heap holds fits = tt
   met_in_turn (c ∷ cs) known form there same found ruled vs heap number array is_heap holds fits =
       let entailed = ruled_is_entailed c known same found.0 ruled.0 in
-      let met : IsMet c heap number array = entailed_is_met c known form there.0 entailed vs heap number array holds fits.0 in
-      (
+      let met : IsMet c heap number array = entailed_is_met c known form there.0 entailed vs heap number array holds fits.0 in (
         met,
         later (assumed_by c known) (assumed_follows c known form there.0) (met_is_kept c known form there.0 vs heap number array is_heap holds fits.0 met)
             (subst (λ (o : State). AreRuledOutInTurn unit op (map fault_of cs) o) (avoids_by c known same found.0) ruled.1)

@@ -12,12 +12,7 @@ use cil_model::{FaultKind, Op, Unit};
 use domain_api::NoMemory;
 
 /// Assumes that the condition is met that the fault is the want of.
-fn assume_met(
-    state: &mut AbsState,
-    unit: &Unit,
-    op: &Op,
-    kind: FaultKind,
-) -> Result<(), NoMemory>
+fn assume_met(state: &mut AbsState, unit: &Unit, op: &Op, kind: FaultKind) -> Result<(), NoMemory>
     ensures value { OnOk result (state.new ≡ rule.avoid unit.now op.now kind state.old) }
     ensures form { ForSome state.old HasForm }
 {
