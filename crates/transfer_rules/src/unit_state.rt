@@ -9,6 +9,7 @@ ghost use Rattle.state_facts.specs.Holds.{HoldsAt};
 ghost use Rattle.transfer_rules.specs.Entry.{entry};
 ghost use Rattle.transfer_rules.specs.Flow.{Fits, IsToldOf, along_edge};
 ghost use Rattle.transfer_rules.specs.Laws.FlowLaws as flow;
+ghost use Rattle.transfer_rules.specs.Laws.FormsMerged as merged;
 ghost use Rattle.transfer_rules.specs.Laws.UnknownLaws as unknowns;
 ghost use Rattle.transfer_rules.specs.Unknown.{unknown};
 ghost use Rattle.unit_flow.specs.Flow.{Begins, GoesAlong, edge_at, kinds_at};
@@ -144,21 +145,21 @@ impl FlowState for UnitState {
 
     ghost target_below = { λ code edge lawful below. flow.target_below code edge lawful below };
 
-    ghost fitting_like = { λ code block a b lawful first second. flow.alike code.unit (kinds_at code block) a.state b.state first second };
+    ghost fitting_like = { λ code block a b lawful first second. merged.fitting_like code.unit (kinds_at code block) a.state b.state first second };
 
-    ghost join_fits = { λ code block a b lawful first second. flow.join_fits code.unit (kinds_at code block) a.state b.state first second };
+    ghost join_fits = { λ code block a b lawful first second. merged.join_fits code.unit (kinds_at code block) a.state b.state first second };
 
-    ghost widen_fits = { λ code block a b lawful first second. flow.widen_fits code.unit (kinds_at code block) a.state b.state first second };
+    ghost widen_fits = { λ code block a b lawful first second. merged.widen_fits code.unit (kinds_at code block) a.state b.state first second };
 
     ghost along_fits = { λ code edge a lawful below fits. flow.along_fits code edge a.state lawful below fits };
 
-    ghost along_holds = { λ code edge a p q lawful below fits holds goes. flow.along_holds code edge a.state p q lawful below holds goes };
+    ghost along_holds = { λ code edge a p q lawful below fits holds goes. flow.along_holds code edge a.state p q lawful below fits holds goes };
 
     ghost entry_fits = { λ code lawful. flow.entry_fits code lawful };
 
     ghost entry_holds = { λ code p lawful begins. flow.entry_holds code p lawful begins };
 
-    ghost unknown_fits = { λ code block lawful below. unknowns.unknown_fits code block lawful below };
+    ghost unknown_fits = { λ code block lawful below. unknowns.unknown_fits code block lawful };
 
     ghost nothing_fits = { λ code block lawful below. tt };
 

@@ -214,7 +214,7 @@ readable unit known has = record {
 
 -- ---- each Requires
 
-abbrev IsTestOf : MethodUnit → Clause → Type 0
+abbrev pub IsTestOf : MethodUnit → Clause → Type 0
 IsTestOf unit clause = IsTest unit.args unit.result clause.tree
 
 no_ensures : (kind : ClauseKind) → is_kind clause_kinds.Requires kind ≡ true → is_kind clause_kinds.Ensures kind ≡ false
@@ -254,7 +254,7 @@ none_assumed env holds (terms.Bin operators.Ceq a (terms.Const n)) =
     cond_both (int_eq n (pos 0)) _ _ (λ (o : State). o ≡ None) (λ zero. none_assumed env (not holds) a) (λ other. refl)
 none_assumed env holds _ = refl
 
-assumed_kinds : (unit : MethodUnit) (t : Term) (state : State) → IsTest unit.args unit.result t
+pub assumed_kinds : (unit : MethodUnit) (t : Term) (state : State) → IsTest unit.args unit.result t
     → AreKinds (entry_kinds unit) state
     → AreKinds (entry_kinds unit) (assumed at_entry true t state)
 assumed_kinds unit t None test are = subst (AreKinds (entry_kinds unit)) (sym (none_assumed at_entry true t)) tt
@@ -269,7 +269,7 @@ required_kinds unit (clause ∷ clauses) state tests are =
     required_kinds unit clauses (assumed at_entry true clause.tree state) tests.1
     (assumed_kinds unit clause.tree state tests.0 are)
 
-all_readable : (unit : MethodUnit) (state : State) → AreKinds (entry_kinds unit) state
+pub all_readable : (unit : MethodUnit) (state : State) → AreKinds (entry_kinds unit) state
     → ForSome state (IsReadable at_entry unit.args unit.result)
 all_readable unit None are = λ x is. absurd (none-some x is)
 all_readable unit (Some known) has = λ x is.
@@ -306,7 +306,7 @@ required_over unit (clause ∷ clauses) state vs heap r tests are reads so over 
 abbrev requires : MethodUnit → List Clause
 requires unit = clauses_of clause_kinds.Requires (clauses_in_force unit)
 
-unit_tests : (unit : MethodUnit) → IsWellFormed unit → AllByRecursion (IsTestOf unit) (requires unit)
+pub unit_tests : (unit : MethodUnit) → IsWellFormed unit → AllByRecursion (IsTestOf unit) (requires unit)
 unit_tests unit formed = all_tests unit unit.clauses formed.numbers (own_ints unit formed)
 
 kinds_required : (unit : MethodUnit) → IsWellFormed unit
