@@ -4,3 +4,4 @@ pub mod Calculating
 pub mod Doing
 pub mod Passing
 pub mod Ways
+pub mod Inducing

@@ -13,6 +13,7 @@ use std::alloc::Global;
 use unit_flow::UnitFlow;
 
 /// Returns whether each state fits the block of its place.
+#[tactic(auto, using(crate::proofs::Inducing::few_blocks))]
 fn all_fit(code: &UnitFlow, states: &[AbsState]) -> bool
     requires lawful { IsToldOf code.now }
     requires count { length states.now ≡ length code.now.graph.blocks }
