@@ -5,3 +5,4 @@ pub mod Doing
 pub mod Passing
 pub mod Ways
 pub mod Inducing
+pub mod Beginning

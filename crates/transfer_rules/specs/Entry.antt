@@ -1,5 +1,5 @@
 -- The state where a method begins.
-use Rattle.std.specs.Prelude.{ℕ, pos, true, List, [], ◌∷◌, ◌++◌, map, Some, None}
+use Rattle.std.specs.Prelude.{ℕ, pos, true, List, [], ◌∷◌, ◌++◌, map, take, Some, None}
 use Rattle.std.specs.Option.{option_map}
 use Rattle.cil_model.specs.Calls.{clauses_in_force, entry_frame}
 use Rattle.cil_model.specs.Clauses.{clauses_of}
@@ -20,6 +20,7 @@ use Rattle.merged_states.specs.Merging.{normal}
 use Rattle.number_spans.specs.Constants.{constant}
 use Rattle.state_facts.specs.Holds.{HoldsAt}
 use Rattle.state_facts.specs.StateFacts.{StateFacts, State}
+use Rattle.state_facts.specs.States.{push}
 use Rattle.state_facts.specs.UnknownValues.{push_unknown}
 
 -- Of a point without variables nothing is known.
@@ -49,6 +50,15 @@ abbrev pub zero_in : Place → Var
 zero_in places.Bools = vars.Reference 0
 zero_in places.Ints = vars.Reference 0
 zero_in place = vars.Number (constant (pos 0))
+
+-- The zeros of these types come on top, in order.
+abbrev pub with_zeros : List Place → State → State
+with_zeros [] state = state
+with_zeros (place ∷ places) state = with_zeros places (push (zero_in place) state)
+
+-- So many of the first variables come on top once more.
+abbrev pub with_first : ℕ → State → State
+with_first n state = option_map (λ known. with_more (take n known.variables) known) state
 
 -- Nothing is known of arguments but their types, and locals have their zeros.
 abbrev pub begun : MethodUnit → State

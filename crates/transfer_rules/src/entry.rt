@@ -2,15 +2,16 @@
 
 ghost use Rattle.std.specs.Prelude.{◌≡◌, Some, IfOk, OnOk};
 ghost use Rattle.std.specs.Option.{option_map};
-ghost use Rattle.cil_model.specs.Calls.{clauses_in_force};
 ghost use Rattle.cil_model.specs.Clauses.{clauses_of};
 ghost use Rattle.cil_model.specs.WellFormed.{IsWellFormed};
 ghost use Rattle.cil_model.specs.declared.clause.ClauseKind.TheVariants as kinds;
 ghost use Rattle.transfer_rules.specs.Entry as rule;
 ghost use Rattle.transfer_rules.specs.Entry.{HoldsAtEntry};
+ghost use Rattle.transfer_rules.specs.Laws.BegunLaws.{entry_kinds};
+ghost use Rattle.transfer_rules.specs.Laws.Fitting.{AreKinds};
 
 use abs_state::{AbsState, Parts, Var};
-use cil_model::{Clause, ClauseKind, Place, Unit};
+use cil_model::{ClauseKind, Place, Unit};
 use clause_trees::{TreeEnv, assume_tree};
 use domain_api::NoMemory;
 use number_spans::constant;
@@ -49,9 +50,11 @@ pub(crate) fn push_unknown(state: &mut AbsState, places: &[Place]) -> Result<(),
 fn push_twice(state: &mut AbsState) -> Result<(), NoMemory>
     ensures { OnOk result (state.new ≡ option_map rule.twice state.old) }
 {
-    let count = state.var_count() as u32;
-    for i in 0..count {
-        state.push(state.var(i))?;
+    for i in 0..state.var_count() {
+        let Some(value) = state.var_at(i) else {
+            break;
+        };
+        state.push(value)?;
     }
     Ok(())
 }
@@ -67,7 +70,9 @@ fn zero_in(place: Place) -> Var
 }
 
 /// Pushes the zero of each of these types.
-fn push_zeros(state: &mut AbsState, places: &[Place]) -> Result<(), NoMemory> {
+fn push_zeros(state: &mut AbsState, places: &[Place]) -> Result<(), NoMemory>
+    ensures { OnOk result (state.new ≡ rule.with_zeros places.now state.old) }
+{
     for place in places {
         state.push(zero_in(*place))?;
     }
@@ -85,16 +90,18 @@ fn begun(alloc: Global, unit: &Unit) -> Result<AbsState, NoMemory>
     Ok(state)
 }
 
-/// The state in which each Requires among these clauses is assumed to be true, one after another.
-fn required(alloc: Global, state: AbsState, clauses: &[Clause]) -> Result<AbsState, NoMemory>
-    ensures { IfOk result (λ new. new ≡ rule.required (clauses_of kinds.Requires clauses.now) state) }
+/// The state in which each Requires of the unit is assumed to be true, one after another.
+fn required(alloc: Global, state: AbsState, unit: &Unit) -> Result<AbsState, NoMemory>
+    requires formed { IsWellFormed unit.now }
+    requires begun { AreKinds (entry_kinds unit.now) state }
+    ensures { IfOk result (λ new. new ≡ rule.required (clauses_of kinds.Requires unit.now.clauses) state) }
 {
     let env = TreeEnv {
         args: 0,
         result: None,
     };
     let mut known = state;
-    for clause in clauses {
+    for clause in unit.clauses.as_slice() {
         if clause.kind == ClauseKind::Requires {
             known = assume_tree(alloc, &known, &clause.tree, &env)?;
         }
@@ -103,11 +110,13 @@ fn required(alloc: Global, state: AbsState, clauses: &[Clause]) -> Result<AbsSta
 }
 
 /// The state where a method begins.
+#[tactic(auto, unfolding(crate::specs::Entry::entry), using(crate::specs::Laws::BegunLaws::begun_kinds))]
 fn entry(alloc: Global, unit: &Unit) -> Result<AbsState, NoMemory>
+    requires formed { IsWellFormed unit.now }
     ensures { IfOk result (λ state. state ≡ rule.entry unit.now) }
 {
     let begun = begun(alloc, unit)?;
-    required(alloc, begun, unit.clauses.as_slice())?.norm(alloc)
+    required(alloc, begun, unit)?.norm(alloc)
 }
 
 /// The state where a method begins: arguments have the values of those at the entry, of which their types are known and
@@ -115,6 +124,7 @@ fn entry(alloc: Global, unit: &Unit) -> Result<AbsState, NoMemory>
 /// reached.
 ///
 /// Cost: that of assuming the trees of what is required.
+#[tactic(auto, using(crate::specs::Laws::EntryLaws::entry_holds))]
 pub fn entry_state(alloc: Global, unit: &Unit) -> Result<AbsState, NoMemory>
     requires formed { IsWellFormed unit.now }
     ensures value { IfOk result (λ state. state ≡ rule.entry unit.now) }

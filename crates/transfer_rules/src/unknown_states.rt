@@ -1,6 +1,6 @@
 //! States that know nothing.
 
-ghost use Rattle.std.specs.Prelude.{◌≡◌, ◌<◌, length, IfOk, OnOk};
+ghost use Rattle.std.specs.Prelude.{◌≡◌, ◌<◌, length, reverse, Some, IfOk, OnOk};
 ghost use Rattle.transfer_rules.specs.Flow.{Fits, IsToldOf};
 ghost use Rattle.transfer_rules.specs.Unknown as rule;
 
@@ -44,7 +44,9 @@ fn push_stack(state: &mut AbsState, kinds: &[Kind]) -> Result<(), NoMemory>
 }
 
 /// The state of a frame over a stack of these kinds, the bottom first, that knows nothing but types.
-fn unknown_over(alloc: Global, unit: &Unit, kinds: &[Kind]) -> Result<AbsState, NoMemory> {
+fn unknown_over(alloc: Global, unit: &Unit, kinds: &[Kind]) -> Result<AbsState, NoMemory>
+    ensures { IfOk result (λ state. state ≡ rule.unknown_over unit.now (Some (reverse kinds.now))) }
+{
     let mut state = no_variables(alloc)?;
     push_unknown(&mut state, unit.args.as_slice())?;
     push_unknown(&mut state, unit.args.as_slice())?;
