@@ -31,12 +31,6 @@ left_there : (conditions : List Condition) (before now : State) (index : ℕ) (d
 left_there conditions before now index d all left inside =
     subst (λ (cs : List Condition). ForSome now (λ known. AreThere known cs)) (one_more conditions index d inside) left.there
 
--- The next condition is there.
-pub next_there : (conditions : List Condition) (before now : State) (index : ℕ) (d : Condition) (all : Bool) → AreLeft conditions before index all now
-    → index < length conditions → ForSome now (λ known. IsThere known (get_or conditions index d))
-next_there conditions before now index d all left inside =
-    (each_there now (get_or conditions index d) (drop (index + 1) conditions) (left_there conditions before now index d all left inside)).0
-
 both_and : (a b c : Bool) → ((a && b) && c) ≡ (a && (b && c))
 both_and true b c = refl
 both_and false b c = refl
@@ -59,14 +53,3 @@ judged_on conditions before now new index d all next left inside form entailed a
         ∙ both_and all (is_entailed c now) (judged cs (assume c now)).entailed ∙ whole;
       state = ap (λ (s : State). (judged cs s).state) assumed ∙ last;
     }
-
--- All is judged where none is left.
-pub judged_all : (conditions : List Condition) (before now : State) (index : ℕ) (all : Bool) → AreLeft conditions before index all now
-    → drop index conditions ≡ [] → (all ≡ (judged conditions before).entailed) × (now ≡ (judged conditions before).state)
-judged_all conditions before now index all left none =
-    (sym (no_more all) ∙ subst (λ (l : List Condition). (all && (judged l now).entailed) ≡ (judged conditions before).entailed) none left.entailed,
-    subst (λ (l : List Condition). (judged l now).state ≡ (judged conditions before).state) none left.state)
-  where
-    no_more : (b : Bool) → (b && true) ≡ b
-    no_more true = refl
-    no_more false = refl

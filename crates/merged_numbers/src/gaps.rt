@@ -12,7 +12,7 @@ use crate::side::Side;
 use crate::term::Term;
 use domain_api::{NoMemory, Order};
 use interval_domain::Range;
-use pentagon_domain::{Bounds, raised_gap};
+use pentagon_domain::{BoundsBuilder, raised_gap};
 use std::alloc::AllocError;
 
 /// A gap with a constant more, which may leave 64 bits.
@@ -93,7 +93,7 @@ fn apart(from: Range, to: Range) -> i128
 
 /// Adds the bound of the symbols at two places, where it says more than their ranges and has 64 bits.
 pub(crate) fn add_gap(
-    bounds: &mut Bounds,
+    bounds: &mut BoundsBuilder,
     ranges: &[Range],
     i: usize,
     j: usize,

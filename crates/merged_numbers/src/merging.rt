@@ -17,7 +17,7 @@ use crate::term::Term;
 use domain_api::NoMemory;
 use interval_domain::Range;
 use number_spans::Span;
-use pentagon_domain::Bounds;
+use pentagon_domain::BoundsBuilder;
 use std::alloc::Global;
 use symbolic_values::Key;
 
@@ -96,7 +96,7 @@ impl Sides<'_> {
     #[tactic(auto, using(crate::proofs::RowLaws::rows))]
     fn add_row(
         &self,
-        bounds: &mut Bounds,
+        bounds: &mut BoundsBuilder,
         ranges: &[Range],
         first: &[Option<i64>],
         second: &[Option<i64>],
@@ -120,7 +120,12 @@ impl Sides<'_> {
 
     /// Adds the bounds from each key to each other.
     #[tactic(auto, using(crate::proofs::RowLaws::rows))]
-    fn add_rows(&self, alloc: Global, bounds: &mut Bounds, ranges: &[Range]) -> Result<(), NoMemory>
+    fn add_rows(
+        &self,
+        alloc: Global,
+        bounds: &mut BoundsBuilder,
+        ranges: &[Range],
+    ) -> Result<(), NoMemory>
         requires one { AreMeasured self.now.a.spans.now }
         requires other { AreMeasured self.now.b.spans.now }
         requires ranges { length ranges.now ≡ length self.now.keys.now }
@@ -152,9 +157,12 @@ impl Sides<'_> {
         let Some(ranges) = self.ranges(alloc)? else {
             return Ok(None);
         };
-        let mut bounds = Bounds::new(alloc);
+        let mut bounds = BoundsBuilder::new(alloc);
         self.add_rows(alloc, &mut bounds, ranges.as_slice())?;
-        Ok(Some(Merged { ranges, bounds }))
+        Ok(Some(Merged {
+            ranges,
+            bounds: bounds.build()?,
+        }))
     }
 }
 

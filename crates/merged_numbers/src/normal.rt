@@ -17,7 +17,7 @@ use crate::term::Term;
 use domain_api::NoMemory;
 use interval_domain::Range;
 use number_spans::Span;
-use pentagon_domain::Bounds;
+use pentagon_domain::BoundsBuilder;
 use std::alloc::Global;
 use symbolic_values::Key;
 
@@ -77,7 +77,7 @@ impl Own<'_> {
     /// Adds the bound of the keys at two places. Where bounds say nothing of both symbols, the new ranges say all.
     fn add_pair(
         &self,
-        bounds: &mut Bounds,
+        bounds: &mut BoundsBuilder,
         row: &[Option<i64>],
         i: usize,
         j: usize,
@@ -105,7 +105,12 @@ impl Own<'_> {
 
     /// Adds the bounds from the key at a place to each key, where the gaps from it were written.
     #[tactic(auto, using(crate::proofs::RowLaws::own_rows))]
-    fn add_row(&self, bounds: &mut Bounds, row: &[Option<i64>], i: usize) -> Result<(), NoMemory>
+    fn add_row(
+        &self,
+        bounds: &mut BoundsBuilder,
+        row: &[Option<i64>],
+        i: usize,
+    ) -> Result<(), NoMemory>
         requires measured { AreMeasured self.now.a.spans.now }
         requires ranges { Some self.now.ranges.now ≡ rule.ranges_of (own_span (known self.now.a)) self.now.keys.now }
         requires as_many { length self.now.ranges.now ≡ length self.now.keys.now }
@@ -122,7 +127,7 @@ impl Own<'_> {
 
     /// Adds the bounds from each key to each other.
     #[tactic(auto, using(crate::proofs::RowLaws::rows))]
-    fn add_rows(&self, alloc: Global, bounds: &mut Bounds) -> Result<(), NoMemory>
+    fn add_rows(&self, alloc: Global, bounds: &mut BoundsBuilder) -> Result<(), NoMemory>
         requires measured { AreMeasured self.now.a.spans.now }
         requires ranges { Some self.now.ranges.now ≡ rule.ranges_of (own_span (known self.now.a)) self.now.keys.now }
         requires as_many { length self.now.ranges.now ≡ length self.now.keys.now }
@@ -147,14 +152,17 @@ fn in_own_names(alloc: Global, keys: &[Key], a: &Side) -> Result<Option<Merged>,
     let Some(ranges) = ranges_of(alloc, keys, a)? else {
         return Ok(None);
     };
-    let mut bounds = Bounds::new(alloc);
+    let mut bounds = BoundsBuilder::new(alloc);
     let state = Own {
         keys,
         a: *a,
         ranges: ranges.as_slice(),
     };
     state.add_rows(alloc, &mut bounds)?;
-    Ok(Some(Merged { ranges, bounds }))
+    Ok(Some(Merged {
+        ranges,
+        bounds: bounds.build()?,
+    }))
 }
 
 /// What one state knows of the new symbols that stand for its own keys: of each the int32 that its first use may be,

@@ -67,8 +67,16 @@ impl Bounds {
         if !are_bounds(&rows) {
             return Ok(None);
         }
+        Ok(Some(Bounds::in_both_orders(alloc, rows)?))
+    }
+
+    /// The bounds of rows in order. Costs a copy, and a sort of that.
+    pub(crate) fn in_both_orders(alloc: Global, rows: Vec<BoundRow>) -> Result<Bounds, NoMemory>
+        requires { AreBounds rows.items }
+        ensures { IfOk result (λ bounds. bounds ≡ rows.items) }
+    {
         let targets = by_target(alloc, &rows)?;
-        Ok(Some(Bounds { rows, targets }))
+        Ok(Bounds { rows, targets })
     }
 
     /// The rows, rising by the first symbol, then by the second. Takes no memory.

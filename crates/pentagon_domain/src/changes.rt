@@ -28,6 +28,21 @@ fn put_at(rows: &mut Vec<BoundRow>, place: usize, row: BoundRow) -> Result<(), N
     Ok(())
 }
 
+/// Adds a bound to rows, where such a bound is stored.
+#[tactic(auto, using(crate::proofs::Puts::in_order))]
+pub(crate) fn put(rows: &mut Vec<BoundRow>, row: BoundRow) -> Result<(), NoMemory>
+    requires form { AreBounds rows.old.items }
+    ensures form { AreBounds rows.new.items }
+    ensures value { OnOk result (rows.new.items ≡ with_bound rows.old.items row.s row.t row.k) }
+    ensures unchanged { OnErr result (rows.new.items ≡ rows.old.items) }
+{
+    if !row.is_pair() {
+        return Ok(());
+    }
+    let place = place_of(rows, row.s, row.t);
+    put_at(rows, place, row)
+}
+
 /// Adds a bound to rows and to the same rows by the second symbol, where such a bound is stored.
 #[tactic(auto, using(crate::proofs::TargetLists::both_kept, crate::proofs::Puts::in_order))]
 pub(crate) fn add(

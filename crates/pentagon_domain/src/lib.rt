@@ -3,6 +3,7 @@
 
 mod bound_row;
 mod bounds;
+mod builder;
 mod changes;
 mod forms;
 mod gaps;
@@ -12,6 +13,7 @@ mod targets;
 
 pub use bound_row::BoundRow;
 pub use bounds::Bounds;
+pub use builder::BoundsBuilder;
 pub use gaps::raised_gap;
 
 #[cfg(test)]
