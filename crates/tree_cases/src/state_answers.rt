@@ -1,0 +1,128 @@
+//! The rules that tell something of a state.
+
+use crate::premises::{are_alike, has_number, has_reference, has_symbol, reached};
+use crate::state_steps::{read_count, read_operator};
+use crate::states::{append_value, parts, state, state_text};
+use abs_state::AbsState;
+use domain_api::Lattice;
+use fact_text::{expr, nullness_name, reference, symbol};
+use rule_text::{
+    Failure, append_number, append_wide_range, asked, check, check_yes, three_words, two_words,
+};
+use std::alloc::Global;
+
+/// `after STATE`: the state is this one, and each is the other.
+pub fn after(alloc: Global, found: &AbsState, argument: &str) -> Result<(), Failure> {
+    let told = state(alloc, argument)?;
+    if found.same(&told) && told.same(found) {
+        Ok(())
+    } else {
+        Err(Failure::Found(state_text(alloc, found)?))
+    }
+}
+
+/// `differs STATE`: the state is another one.
+pub fn differs(alloc: Global, found: &AbsState, argument: &str) -> Result<(), Failure> {
+    let told = state(alloc, argument)?;
+    if found.same(&told) || told.same(found) {
+        Err(Failure::Found(state_text(alloc, found)?))
+    } else {
+        Ok(())
+    }
+}
+
+/// `made STATE`: the lists are those of a state, and come again, also of a copy.
+pub fn made(alloc: Global, argument: &str) -> Result<(), Failure> {
+    let first = state(alloc, argument)?;
+    let lists = first.copy(alloc)?.parts(alloc)?;
+    match AbsState::of_parts(alloc, &lists)? {
+        Some(again) if again.same(&first) => check(state_text(alloc, &again)?, argument),
+        Some(again) => Err(Failure::Found(state_text(alloc, &again)?)),
+        None => Err(Failure::Found(String::from_str(alloc, "none")?)),
+    }
+}
+
+/// `refused STATE`: the lists are not those of a state.
+pub fn refused(alloc: Global, argument: &str) -> Result<(), Failure> {
+    let lists = parts(alloc, argument)?;
+    match AbsState::of_parts(alloc, &lists)? {
+        Some(state) => Err(Failure::Found(state_text(alloc, &state)?)),
+        None => Ok(()),
+    }
+}
+
+/// `leq yes STATE`: whether the state says at least as much as this one.
+pub fn leq(alloc: Global, found: &AbsState, argument: &str) -> Result<(), Failure> {
+    let Some((told, other)) = argument.split_once(' ') else {
+        return Err(Failure::Unread("yes or no, and a state"));
+    };
+    let other = state(alloc, other)?;
+    are_alike(found, &other)?;
+    check_yes(alloc, found.leq(alloc, &other)?, told)
+}
+
+/// `ends s1+3 = 3..12!8`: the least and the greatest of a number, and the one that it is not.
+pub fn ends(alloc: Global, state: &AbsState, argument: &str) -> Result<(), Failure> {
+    let (e, told) = asked(argument)?;
+    let e = expr(e)?;
+    reached(state)?;
+    has_symbol(alloc, state, e)?;
+    let mut text = String::new(alloc);
+    append_wide_range(&mut text, state.ends(e))?;
+    check(text, told)
+}
+
+/// `exact add.ovf s1 s2 = 5..17`: the ends that are judged for overflow.
+pub fn exact(alloc: Global, state: &AbsState, argument: &str) -> Result<(), Failure> {
+    let (question, told) = asked(argument)?;
+    let (op, a, b) = three_words(question)?;
+    let (op, a, b) = (read_operator(op)?, expr(a)?, expr(b)?);
+    reached(state)?;
+    has_number(alloc, state, a)?;
+    has_number(alloc, state, b)?;
+    let (lo, hi) = state.exact_ends(op, a, b);
+    check(format!(in alloc; "{lo}..{hi}")?, told)
+}
+
+/// `gap s1 s2 = 3`: how far the second symbol is known to lie above the first.
+pub fn gap(alloc: Global, state: &AbsState, argument: &str) -> Result<(), Failure> {
+    let (question, told) = asked(argument)?;
+    let (s, t) = two_words(question)?;
+    reached(state)?;
+    let found = match state.gap(symbol(s)?, symbol(t)?) {
+        None => String::from_str(alloc, "none")?,
+        Some(far) => format!(in alloc; "{far}")?,
+    };
+    check(found, told)
+}
+
+/// `nullness r1 = not-null`: what is known of whether a reference is null.
+pub fn nullness(alloc: Global, state: &AbsState, argument: &str) -> Result<(), Failure> {
+    let (r, told) = asked(argument)?;
+    reached(state)?;
+    let found = nullness_name(state.nullness(reference(r)?));
+    check(String::from_str(alloc, found)?, told)
+}
+
+/// `length r1 = s1+2`: the length of a reference.
+pub fn length(alloc: Global, state: &AbsState, argument: &str) -> Result<(), Failure> {
+    let (r, told) = asked(argument)?;
+    let r = reference(r)?;
+    reached(state)?;
+    has_reference(alloc, state, r)?;
+    let mut text = String::new(alloc);
+    append_number(&mut text, state.length(r))?;
+    check(text, told)
+}
+
+/// `variable 0 = s1+2`: what a variable has.
+pub fn variable(alloc: Global, state: &AbsState, argument: &str) -> Result<(), Failure> {
+    let (i, told) = asked(argument)?;
+    let i = read_count(i)?;
+    if u64::from(i) >= state.var_count() {
+        return Err(Failure::Unmet("the variable is there"));
+    }
+    let mut text = String::new(alloc);
+    append_value(&mut text, state.var(i))?;
+    check(text, told)
+}

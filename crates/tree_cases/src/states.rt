@@ -1,0 +1,216 @@
+//! The text of states.
+
+use abs_state::{AbsState, Parts, Reference, Unknown, Var};
+use cil_model::Place;
+use fact_text::{
+    Fact, add_range, append_bounds, append_definitions, append_ranges, append_reference, expr,
+    nullness, nullness_name, read_fact, reference, separate_fact,
+};
+use rule_text::{Failure, append_number, operand, place};
+use std::alloc::{AllocError, Global};
+
+/// Whether a word is one of a reference.
+fn is_reference(word: &str) -> bool {
+    word == "null" || word.starts_with('r')
+}
+
+/// The value of a word: a number, a reference, or `text`.
+pub fn value(word: &str) -> Result<Var, Failure> {
+    if word == "text" {
+        return Ok(Var::Text);
+    }
+    if is_reference(word) {
+        return Ok(Var::Reference(reference(word)?));
+    }
+    Ok(Var::Number(expr(word)?))
+}
+
+/// What the word of a variable stands for. A range is a new symbol.
+fn variable(parts: &mut Parts, word: &str) -> Result<Var, Failure> {
+    if word == "text" || is_reference(word) {
+        return value(word);
+    }
+    match operand(&mut parts.ranges, word)? {
+        Some(e) => Ok(Var::Number(e)),
+        None => Err(Failure::Unread("a variable")),
+    }
+}
+
+/// Reads the variables of a state.
+fn read_variables(parts: &mut Parts, text: &str) -> Result<(), Failure> {
+    if text.trim().is_empty() {
+        return Err(Failure::Unread("a state"));
+    }
+    for word in text.split_whitespace() {
+        match word {
+            "unreachable" => parts.reached = false,
+            "empty" => {}
+            _ => {
+                let v = variable(parts, word)?;
+                parts.variables.push(v)?;
+            }
+        }
+    }
+    Ok(())
+}
+
+/// What is known of the next reference: `r1 is int32[] not-null length s1`.
+fn next_reference(count: usize, text: &str) -> Result<Reference<Unknown>, Failure> {
+    let mut words = text.split_whitespace();
+    let (Some(r), Some("is"), Some(of), Some(known), Some("length"), Some(length), None) = (
+        words.next(),
+        words.next(),
+        words.next(),
+        words.next(),
+        words.next(),
+        words.next(),
+        words.next(),
+    ) else {
+        return Err(Failure::Unread("what is known of a reference"));
+    };
+    let r = reference(r)?;
+    if r == 0 || r as usize - 1 != count {
+        return Err(Failure::Unread("the next reference"));
+    }
+    Ok(Reference {
+        place: place(of).ok_or(Failure::Unread("a type"))?,
+        nullness: nullness(known)?,
+        length: expr(length)?,
+        contents: Unknown,
+    })
+}
+
+/// Adds a fact: one of symbols, `r1 is int32[] not-null length s1`, or `r1 apart r2`.
+fn add_fact(parts: &mut Parts, text: &str) -> Result<(), Failure> {
+    if let Some((r, q)) = text.split_once(" apart ") {
+        parts.apart.push((reference(r)?, reference(q)?))?;
+        return Ok(());
+    }
+    if text.starts_with('r') {
+        let next = next_reference(parts.references.len(), text)?;
+        parts.references.push(next)?;
+        return Ok(());
+    }
+    match read_fact(text)? {
+        Fact::Range(s, range) => add_range(&mut parts.ranges, s, range)?,
+        Fact::Bound(row) => parts.bounds.push(row)?,
+        Fact::Definition(s, def) => parts.definitions.push((s, def))?,
+    }
+    Ok(())
+}
+
+/// No list has anything.
+fn nothing_listed(alloc: Global) -> Parts {
+    Parts {
+        reached: true,
+        variables: Vec::new(alloc),
+        ranges: Vec::new(alloc),
+        definitions: Vec::new(alloc),
+        bounds: Vec::new(alloc),
+        references: Vec::new(alloc),
+        apart: Vec::new(alloc),
+    }
+}
+
+/// The lists that a text tells: variables, then facts, each behind a `;`. They may be those of no state.
+pub fn parts(alloc: Global, text: &str) -> Result<Parts, Failure> {
+    let mut parts = nothing_listed(alloc);
+    let (variables, facts) = match text.split_once(';') {
+        None => (text, None),
+        Some((variables, facts)) => (variables, Some(facts)),
+    };
+    read_variables(&mut parts, variables)?;
+    if let Some(facts) = facts {
+        for fact in facts.split(';') {
+            add_fact(&mut parts, fact.trim())?;
+        }
+    }
+    Ok(parts)
+}
+
+/// The state of a text.
+pub fn state(alloc: Global, text: &str) -> Result<AbsState, Failure> {
+    let parts = parts(alloc, text)?;
+    match AbsState::of_parts(alloc, &parts)? {
+        Some(state) => Ok(state),
+        None => Err(Failure::Unread("a state")),
+    }
+}
+
+/// Appends what a variable has.
+pub fn append_value(text: &mut String, v: Var) -> Result<(), AllocError> {
+    match v {
+        Var::Number(e) => append_number(text, e),
+        Var::Reference(r) => append_reference(text, r),
+        Var::Text => text.push_str("text"),
+    }
+}
+
+/// Appends what each variable has.
+fn append_variables(text: &mut String, variables: &[Var]) -> Result<(), AllocError> {
+    if variables.is_empty() {
+        text.push_str("empty")?;
+    }
+    for (index, v) in variables.iter().enumerate() {
+        if index > 0 {
+            text.push(' ')?;
+        }
+        append_value(text, *v)?;
+    }
+    Ok(())
+}
+
+/// The name of a type.
+fn place_name(place: Place) -> &'static str {
+    match place {
+        Place::Void => "void",
+        Place::Bool => "bool",
+        Place::Int => "int32",
+        Place::Bools => "bool[]",
+        Place::Ints => "int32[]",
+    }
+}
+
+/// Appends what is known of each reference.
+fn append_references(
+    text: &mut String,
+    references: &[Reference<Unknown>],
+) -> Result<(), AllocError> {
+    for (index, known) in references.iter().enumerate() {
+        separate_fact(text)?;
+        write!(text, "r{} is ", index.saturating_add(1))?;
+        text.push_str(place_name(known.place))?;
+        text.push(' ')?;
+        text.push_str(nullness_name(known.nullness))?;
+        text.push_str(" length ")?;
+        append_number(text, known.length)?;
+    }
+    Ok(())
+}
+
+/// Appends which references are apart.
+fn append_apart(text: &mut String, pairs: &[(u32, u32)]) -> Result<(), AllocError> {
+    for (r, q) in pairs {
+        separate_fact(text)?;
+        append_reference(text, *r)?;
+        text.push_str(" apart ")?;
+        append_reference(text, *q)?;
+    }
+    Ok(())
+}
+
+/// The text of a state.
+pub fn state_text(alloc: Global, state: &AbsState) -> Result<String, AllocError> {
+    let parts = state.parts(alloc)?;
+    if !parts.reached {
+        return String::from_str(alloc, "unreachable");
+    }
+    let mut text = String::new(alloc);
+    append_variables(&mut text, parts.variables.as_slice())?;
+    append_ranges(&mut text, parts.ranges.as_slice())?;
+    append_bounds(&mut text, parts.bounds.as_slice())?;
+    append_definitions(&mut text, parts.definitions.as_slice())?;
+    append_references(&mut text, parts.references.as_slice())?;
+    append_apart(&mut text, parts.apart.as_slice())?;
+    Ok(text)
+}
