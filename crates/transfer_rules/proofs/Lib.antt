@@ -1,0 +1,10 @@
+pub mod Taking
+pub mod Moving
+pub mod Calculating
+pub mod Doing
+pub mod Passing
+pub mod Ways
+pub mod GoingOn
+pub mod Walking
+pub mod Inducing
+pub mod Beginning

@@ -1,0 +1,384 @@
+-- The state where a method begins holds of each point with which a call may begin, and its variables fit.
+use Rattle.std.proofs.Common.{◌≡◌, ℕ, zero, suc, ◌+◌, ◌<◌, ◌≤◌, Bool, true, false, not, List, [], ◌∷◌, ◌++◌, length, map, slice_get, Option, Some, None, int_eq, pos, refl, sym, ap, subst, ◌∙◌, append-nil, arith}
+use Rattle.std.specs.List.{AllByRecursion}
+use Rattle.std.specs.Option.{ForSome, option_and_then, option_map, option_map_or}
+use Rattle.std.proofs.lemmas.Bool.{cond_both, false≢true}
+use Rattle.std.proofs.lemmas.Option.{none-some, same_Some, slice_get-map}
+use Rattle.cil_model.proofs.HeapsKept.{keeps_itself}
+use Rattle.cil_model.specs.Calls.{clauses_in_force, entry_frame}
+use Rattle.cil_model.specs.Clauses.{Reading, clause_holds, clauses_of, first_false, is_kind, is_number_true, value_of}
+use Rattle.cil_model.specs.Comparisons.{is_true}
+use Rattle.cil_model.specs.Kinds.{kind_of}
+use Rattle.cil_model.specs.Runs.{MayBegin}
+use Rattle.cil_model.specs.Terms as terms
+use Rattle.cil_model.specs.Terms.{Term}
+use Rattle.cil_model.specs.TreeKinds.{IsNumberClause, kind_in}
+use Rattle.cil_model.specs.Values.{Heap, IsValue, same_place, zero_of}
+use Rattle.cil_model.specs.WellFormed.{HasInts, IsWellFormed}
+use Rattle.cil_model.specs.declared.clause.Clause.{Clause}
+use Rattle.cil_model.specs.declared.clause.ClauseKind.{ClauseKind}
+use Rattle.cil_model.specs.declared.clause.ClauseKind.TheVariants as clause_kinds
+use Rattle.cil_model.specs.declared.instruction.BinOp.TheVariants as operators
+use Rattle.cil_model.specs.declared.machine.Value.{Value}
+use Rattle.cil_model.specs.declared.machine.Value.TheVariants as values
+use Rattle.cil_model.specs.declared.place.Kind.{Kind}
+use Rattle.cil_model.specs.declared.place.Kind.TheVariants as kinds
+use Rattle.cil_model.specs.declared.place.Place.{Place}
+use Rattle.cil_model.specs.declared.place.Place.TheVariants as places
+use Rattle.cil_model.specs.declared.unit.Unit.{Unit as MethodUnit}
+use Rattle.clause_trees.proofs.AssumedKept.{assumed_is_kept, assumed_keeps_forms}
+use Rattle.clause_trees.proofs.EntryKinds.{kind_everywhere}
+use Rattle.clause_trees.specs.ClauseStates.{assumed}
+use Rattle.clause_trees.specs.Meaning.{IsTest, Reads}
+use Rattle.clause_trees.specs.declared.reader.TreeEnv.{TreeEnv}
+use Rattle.clause_trees.specs.VariableKinds.{AreSameForms, HasSameFormsIn, IsOfKind, IsOfPlace, IsOneOfKind, IsReadable, IsSameForm, place_in}
+use Rattle.frame_names.specs.declared.reference.Reference.{Reference}
+use Rattle.frame_names.specs.declared.var.Var.{Var}
+use Rattle.frame_names.specs.declared.var.Var.TheVariants as vars
+use Rattle.machine_points.proofs.PointsKeep.{entry_point, point_values}
+use Rattle.machine_points.specs.MachineValues.{HasMachineValues}
+use Rattle.machine_points.specs.Points.{point}
+use Rattle.merged_states.specs.Following.{HoldsOver}
+use Rattle.merged_states.specs.Merging.{join}
+use Rattle.merged_states.specs.Laws.StatesHold.{normal_at}
+use Rattle.state_facts.specs.Forms.{HasVar}
+use Rattle.state_facts.specs.Holds.{HoldsAt, HoldsIn}
+use Rattle.state_facts.specs.StateFacts.{StateFacts, State, reference_at}
+use Rattle.state_facts.specs.declared.reference.Unknown.{Unknown}
+use Rattle.transfer_rules.specs.Entry.{HoldsAtEntry, at_entry, begun, entry, required}
+use Rattle.transfer_rules.specs.Forms as forms
+use Rattle.transfer_rules.specs.Forms.{FitKinds, FitsKind, FitsStack, HasKinds, is_of_place, kinds_over}
+use Rattle.transfer_rules.specs.Laws.BegunLaws.{begun_kinds, begun_over, both_all, entry_kinds, forms_of, on_no_stack}
+use Rattle.transfer_rules.specs.Laws.Fitting.{AreKinds, fit_at}
+use Rattle.transfer_rules.specs.Laws.FormsMerged.{normal_fits}
+use Rattle.transfer_rules.specs.Laws.OwnInts.{own_ints}
+
+-- ---- variables of the same forms
+
+of_place : Place → Option Place → Bool
+of_place place found = option_map_or (λ p. same_place p place) found true
+
+read_place : (place : Place) (o : Option (Reference Unknown))
+    → option_map_or (λ r. same_place r.place place) o true ≡ option_map_or (λ p. same_place p place)
+    (option_map (λ r. r.place) o) true
+read_place place None = refl
+read_place place (Some r) = refl
+
+same_reference : (before after : StateFacts) (place : Place) (r q : ℕ) → place_in after q ≡ place_in before r
+    → is_of_place before place r ≡ true
+    → is_of_place after place q ≡ true
+same_reference before after place r q same is =
+    read_place place (reference_at after.references q) ∙ ap (λ o. option_map_or (λ p. same_place p place) o true) same
+    ∙ sym (read_place place (reference_at before.references r)) ∙ is
+
+null_only : (known : StateFacts) (q : ℕ) → place_in known q ≡ None → q ≤ length known.references → q ≡ 0
+unfolding reference_at
+null_only known zero none there = refl
+null_only known (suc q) none there = absurd (by known.references q none (omega (arith, there)))
+  where
+    by : (references : List (Reference Unknown)) (i : ℕ)
+        → option_map (λ (r : Reference Unknown). r.place) (slice_get references i) ≡ None
+        → i < length references → ⊥
+    by [] i none below = omega (arith, below)
+    by (x ∷ references) zero none below = none-some x.place (sym none)
+    by (x ∷ references) (suc i) none below = by references i none (omega (arith, below))
+
+null_in : (known : StateFacts) (r : ℕ) → r ≡ 0 → place_in known r ≡ None
+unfolding reference_at
+null_in known zero is = refl
+null_in known (suc r) is = absurd (omega (arith, is))
+
+form_fits : (before after : StateFacts) (k : Kind) (v w : Var) → IsSameForm before after v w → HasVar after w
+    → FitsKind before k v
+    → FitsKind after k w
+form_fits before after kinds.Int (vars.Number e) (vars.Number f) same there fits = tt
+form_fits before after kinds.Native (vars.Number e) (vars.Number f) same there fits = tt
+form_fits before after kinds.Ints (vars.Reference r) (vars.Reference q) same there fits =
+    same_reference before after places.Ints r q same fits
+form_fits before after kinds.Bools (vars.Reference r) (vars.Reference q) same there fits =
+    same_reference before after places.Bools r q same fits
+form_fits before after kinds.NullRef (vars.Reference r) (vars.Reference q) same there fits =
+    null_only after q (same ∙ null_in before r fits) there
+form_fits before after kinds.Text vars.Text vars.Text same there fits = tt
+form_fits before after k (vars.Number e) (vars.Reference q) same there fits = elim same [ ]
+form_fits before after k (vars.Number e) vars.Text same there fits = elim same [ ]
+form_fits before after k (vars.Reference r) (vars.Number f) same there fits = elim same [ ]
+form_fits before after k (vars.Reference r) vars.Text same there fits = elim same [ ]
+form_fits before after k vars.Text (vars.Number f) same there fits = elim same [ ]
+form_fits before after k vars.Text (vars.Reference q) same there fits = elim same [ ]
+form_fits before after _ _ _ same there fits = elim fits [ ]
+
+forms_fit : (before after : StateFacts) (ks : List Kind) (vs ws : List Var) → AreSameForms before after vs ws
+    → AllByRecursion (HasVar after) ws
+    → FitKinds before ks vs → FitKinds after ks ws
+forms_fit before after [] [] [] same there fits = tt
+forms_fit before after [] [] (w ∷ ws) same there fits = elim same [ ]
+forms_fit before after [] (v ∷ vs) ws same there fits = elim fits [ ]
+forms_fit before after (k ∷ ks) [] ws same there fits = elim fits [ ]
+forms_fit before after (k ∷ ks) (v ∷ vs) [] same there fits = elim same [ ]
+forms_fit before after (k ∷ ks) (v ∷ vs) (w ∷ ws) same there fits =
+    (form_fits before after k v w same.0 there.0 fits.0, forms_fit before after ks vs ws same.1 there.1 fits.1)
+
+same_forms : (ks : List Kind) (known : StateFacts) (state : State) → HasSameFormsIn known state → HasKinds ks known
+    → AreKinds ks state
+same_forms ks known None same has = tt
+same_forms ks known (Some after) same has =
+    record {
+      form = same.form;
+      fit = forms_fit known after ks known.variables after.variables same.variables same.form.variables has.fit;
+    }
+
+-- ---- what a Requires reads
+
+ints_place : (place : Place) → same_place place places.Ints ≡ true → place ≡ places.Ints
+ints_place places.Ints is = refl
+ints_place _ is = absurd (false≢true is)
+
+bools_place : (place : Place) → same_place place places.Bools ≡ true → place ≡ places.Bools
+bools_place places.Bools is = refl
+bools_place _ is = absurd (false≢true is)
+
+ints_in : (o : Option (Reference Unknown)) → option_map_or (λ r. same_place r.place places.Ints) o true ≡ true
+    → IsOfPlace places.Ints (option_map (λ r. r.place) o)
+ints_in None is = tt
+ints_in (Some r) is = ints_place r.place is
+
+bools_in : (o : Option (Reference Unknown)) → option_map_or (λ r. same_place r.place places.Bools) o true ≡ true
+    → IsOfPlace places.Bools (option_map (λ r. r.place) o)
+bools_in None is = tt
+bools_in (Some r) is = bools_place r.place is
+
+read_kind : (known : StateFacts) (place : Place) (kind : Kind) (v : Var) → kind_of place ≡ Some kind
+    → FitsKind known (forms.kind_in place) v
+    → IsOfKind known kind v
+read_kind known places.Bool kind v is fits =
+    subst (λ k. IsOfKind known k v) (same_Some kinds.Int kind is) (number v fits)
+  where
+    number : (v : Var) → FitsKind known kinds.Int v → IsOfKind known kinds.Int v
+    number (vars.Number e) fits = tt
+    number (vars.Reference r) fits = elim fits [ ]
+    number vars.Text fits = elim fits [ ]
+read_kind known places.Int kind v is fits =
+    subst (λ k. IsOfKind known k v) (same_Some kinds.Int kind is) (number v fits)
+  where
+    number : (v : Var) → FitsKind known kinds.Int v → IsOfKind known kinds.Int v
+    number (vars.Number e) fits = tt
+    number (vars.Reference r) fits = elim fits [ ]
+    number vars.Text fits = elim fits [ ]
+read_kind known places.Ints kind v is fits =
+    subst (λ k. IsOfKind known k v) (same_Some kinds.Ints kind is) (array v fits)
+  where
+    array : (v : Var) → FitsKind known kinds.Ints v → IsOfKind known kinds.Ints v
+    array (vars.Reference r) fits = ints_in (reference_at known.references r) fits
+    array (vars.Number e) fits = elim fits [ ]
+    array vars.Text fits = elim fits [ ]
+read_kind known places.Bools kind v is fits =
+    subst (λ k. IsOfKind known k v) (same_Some kinds.Bools kind is) (array v fits)
+  where
+    array : (v : Var) → FitsKind known kinds.Bools v → IsOfKind known kinds.Bools v
+    array (vars.Reference r) fits = bools_in (reference_at known.references r) fits
+    array (vars.Number e) fits = elim fits [ ]
+    array vars.Text fits = elim fits [ ]
+read_kind known places.Void kind v is fits = absurd (none-some kind is)
+
+front_at : {X : Type 0} (xs ys : List X) (i : ℕ) (x : X) → slice_get xs i ≡ Some x → slice_get (xs ++ ys) i ≡ Some x
+front_at [] ys i x is = absurd (none-some x is)
+front_at (y ∷ xs) ys zero x is = is
+front_at (y ∷ xs) ys (suc i) x is = front_at xs ys i x is
+
+readable : (unit : MethodUnit) (known : StateFacts) → HasKinds (entry_kinds unit) known
+    → IsReadable at_entry unit.args unit.result known
+readable unit known has = record {
+  form = has.form;
+  args_fit = λ n kind is. by n kind (slice_get unit.args n) refl is;
+  result_fits = λ i kind none is. absurd (none-some i none);
+}
+  where
+    found : (n : ℕ) (place : Place) → slice_get unit.args n ≡ Some place
+        → slice_get (entry_kinds unit) n ≡ Some (forms.kind_in place)
+    found n place is =
+        let args = map forms.kind_in unit.args in
+        front_at (args ++ args) (map forms.kind_in unit.locals) n (forms.kind_in place)
+        (front_at args args n (forms.kind_in place)
+        (slice_get-map forms.kind_in unit.args n ∙ ap (option_map forms.kind_in) is))
+
+    by : (n : ℕ) (kind : Kind) (o : Option Place) → slice_get unit.args n ≡ o → option_and_then kind_of o ≡ Some kind
+        → IsOneOfKind known kind (slice_get known.variables (0 + n))
+    by n kind None there is = absurd (none-some kind is)
+    by n kind (Some place) there is =
+        let at =
+        fit_at known (entry_kinds unit) known.variables n (forms.kind_in place) has.fit (found n place there) in
+        let plain : n ≡ 0 + n = omega arith in
+        subst (λ m. IsOneOfKind known kind (slice_get known.variables m)) plain
+        (subst (IsOneOfKind known kind) (sym at.is) (read_kind known place kind at.var is at.fits))
+
+-- ---- each Requires
+
+abbrev pub IsTestOf : MethodUnit → Clause → Type 0
+IsTestOf unit clause = IsTest unit.args unit.result clause.tree
+
+no_ensures : (kind : ClauseKind) → is_kind clause_kinds.Requires kind ≡ true → is_kind clause_kinds.Ensures kind ≡ false
+no_ensures clause_kinds.Requires is = refl
+no_ensures clause_kinds.Ensures is = absurd (false≢true is)
+
+is_test : (unit : MethodUnit) (clause : Clause) → is_kind clause_kinds.Requires clause.kind ≡ true
+    → IsNumberClause unit.args unit.result clause
+    → HasInts clause → IsTestOf unit clause
+is_test unit clause requires number ints = record {
+  kind = kinds.Int;
+  typed = record {
+    kind_is = kind_everywhere unit.args unit.result clause.tree kinds.Int
+        (subst (λ ensured. kind_in unit.args unit.result ensured clause.tree ≡ Some kinds.Int)
+        (no_ensures clause.kind requires) number);
+    ints = ints;
+  };
+  tested = refl;
+}
+
+all_tests : (unit : MethodUnit) (clauses : List Clause) → AllByRecursion (IsNumberClause unit.args unit.result) clauses
+    → AllByRecursion HasInts clauses → AllByRecursion (IsTestOf unit) (clauses_of clause_kinds.Requires clauses)
+all_tests unit [] numbers ints = tt
+all_tests unit (clause ∷ clauses) numbers ints =
+    cond_both (is_kind clause_kinds.Requires clause.kind) _ _ (AllByRecursion (IsTestOf unit))
+    (λ requires. (is_test unit clause requires numbers.0 ints.0, all_tests unit clauses numbers.1 ints.1))
+    (λ other. all_tests unit clauses numbers.1 ints.1)
+
+-- Where nothing is reached, nothing is behind what is assumed.
+none_assumed : (env : TreeEnv) (holds : Bool) (t : Term) → assumed env holds t None ≡ None
+unfolding assumed
+none_assumed env holds (terms.Cond c a b) =
+    ap (λ o. join (assumed env holds a o) (assumed env holds b (assumed env false c None))) (none_assumed env true c)
+    ∙ ap (λ o. join o (assumed env holds b (assumed env false c None))) (none_assumed env holds a)
+    ∙ ap (assumed env holds b) (none_assumed env false c) ∙ none_assumed env holds b
+none_assumed env holds (terms.Bin operators.Ceq a (terms.Const n)) =
+    cond_both (int_eq n (pos 0)) _ _ (λ (o : State). o ≡ None) (λ zero. none_assumed env (not holds) a) (λ other. refl)
+none_assumed env holds _ = refl
+
+pub assumed_kinds : (unit : MethodUnit) (t : Term) (state : State) → IsTest unit.args unit.result t
+    → AreKinds (entry_kinds unit) state
+    → AreKinds (entry_kinds unit) (assumed at_entry true t state)
+assumed_kinds unit t None test are = subst (AreKinds (entry_kinds unit)) (sym (none_assumed at_entry true t)) tt
+assumed_kinds unit t (Some known) test has =
+    same_forms (entry_kinds unit) known (assumed at_entry true t (Some known))
+    (assumed_keeps_forms at_entry true t known unit.args unit.result (readable unit known has) test) has
+
+required_kinds : (unit : MethodUnit) (clauses : List Clause) (state : State) → AllByRecursion (IsTestOf unit) clauses
+    → AreKinds (entry_kinds unit) state → AreKinds (entry_kinds unit) (required clauses state)
+required_kinds unit [] state tests are = are
+required_kinds unit (clause ∷ clauses) state tests are =
+    required_kinds unit clauses (assumed at_entry true clause.tree state) tests.1
+    (assumed_kinds unit clause.tree state tests.0 are)
+
+pub all_readable : (unit : MethodUnit) (state : State) → AreKinds (entry_kinds unit) state
+    → ForSome state (IsReadable at_entry unit.args unit.result)
+all_readable unit None are = λ x is. absurd (none-some x is)
+all_readable unit (Some known) has = λ x is.
+    subst (IsReadable at_entry unit.args unit.result) (same_Some known x is) (readable unit known has)
+
+true_value : (o : Option Value) → is_number_true o ≡ true → option_and_then is_true o ≡ Some true
+true_value (Some (values.Int n)) is = ap Some is
+true_value _ is = absurd (false≢true is)
+
+all_true : (n : ℕ) (r : Reading) (clauses : List Clause) → first_false n r clauses ≡ None
+    → AllByRecursion (λ clause. clause_holds r clause ≡ true) clauses
+all_true n r [] none = tt
+all_true n r (clause ∷ clauses) none = cond_both (clause_holds r clause) _ _
+    (λ (o : Option ℕ). o ≡ None
+    → (clause_holds r clause ≡ true) × AllByRecursion (λ c. clause_holds r c ≡ true) clauses)
+    (λ so rest. (so, all_true (n + 1) r clauses rest)) (λ not is. absurd (none-some n (sym is))) none
+
+required_over : (unit : MethodUnit) (clauses : List Clause) (state : State) (vs : List Value) (heap : Heap)
+    (r : Reading)
+    → AllByRecursion (IsTestOf unit) clauses → AreKinds (entry_kinds unit) state
+    → Reads at_entry unit.args unit.result vs heap r
+    → AllByRecursion (λ clause. clause_holds r clause ≡ true) clauses → HoldsOver state vs heap
+    → HoldsOver (required clauses state) vs heap
+required_over unit [] state vs heap r tests are reads so over = over
+required_over unit (clause ∷ clauses) state vs heap r tests are reads so over =
+    required_over unit clauses (assumed at_entry true clause.tree state) vs heap r tests.1
+    (assumed_kinds unit clause.tree state tests.0 are) reads so.1
+    (assumed_is_kept at_entry true clause.tree state unit.args unit.result vs heap r
+    (all_readable unit state are) tests.0 reads over
+    (true_value (value_of clause.tree r) so.0))
+
+-- ---- the whole
+
+abbrev requires : MethodUnit → List Clause
+requires unit = clauses_of clause_kinds.Requires (clauses_in_force unit)
+
+pub unit_tests : (unit : MethodUnit) → IsWellFormed unit → AllByRecursion (IsTestOf unit) (requires unit)
+unit_tests unit formed = all_tests unit unit.clauses formed.numbers (own_ints unit formed)
+
+kinds_required : (unit : MethodUnit) → IsWellFormed unit
+    → AreKinds (entry_kinds unit) (required (requires unit) (begun unit))
+kinds_required unit formed =
+    required_kinds unit (requires unit) (begun unit) (unit_tests unit formed) (begun_kinds unit formed)
+
+pub entry_fits : (unit : MethodUnit) → IsWellFormed unit → FitsStack unit (Some []) (entry unit)
+unfolding entry
+entry_fits unit formed =
+    normal_fits unit (Some []) (required (requires unit) (begun unit))
+    (on_no_stack unit (required (requires unit) (begun unit)) (kinds_required unit formed))
+
+entry_reads : (unit : MethodUnit) (index : ℕ) (args : List Value) (heap : Heap) → IsWellFormed unit
+    → MayBegin unit args heap
+    → Reads at_entry unit.args unit.result (args ++ args ++ map zero_of unit.locals) heap
+    (record { args = args; entry_heap = heap; heap = heap; result = None })
+entry_reads unit index args heap formed begins =
+    let p = point (entry_frame unit index args heap) heap in
+    let machine : HasMachineValues p = point_values unit p (entry_point unit index args heap formed.locals begins) in
+    let zeros = map zero_of unit.locals in
+    record {
+      heap_is = refl;
+      args_are = λ n v is. from_first n v (front_at (args ++ args) zeros n v (front_at args args n v is));
+      result_is = tt;
+      fit = begins.fit;
+      result_fits = λ v is. absurd (none-some v is);
+      is_heap = begins.heap_is;
+      is_entry = begins.heap_is;
+      kept = keeps_itself heap;
+      are_values =
+          both_all (IsValue heap) (args ++ args) zeros
+          (both_all (IsValue heap) args args machine.args machine.args) machine.locals;
+    }
+  where
+    from_first : (n : ℕ) (v : Value) → slice_get (args ++ args ++ map zero_of unit.locals) n ≡ Some v
+        → slice_get (args ++ args ++ map zero_of unit.locals) (0 + n) ≡ Some v
+    from_first n v is =
+        let plain : n ≡ 0 + n =
+        omega arith in subst (λ m. slice_get (args ++ args ++ map zero_of unit.locals) m ≡ Some v) plain is
+
+at_begin : (unit : MethodUnit) (state : State) (index : ℕ) (args : List Value) (heap : Heap) → IsWellFormed unit
+    → MayBegin unit args heap
+    → HoldsOver state (args ++ args ++ map zero_of unit.locals) heap
+    → HoldsAt state (point (entry_frame unit index args heap) heap)
+at_begin unit state index args heap formed begins over =
+    let p = point (entry_frame unit index args heap) heap in
+    record {
+      machine = point_values unit p (entry_point unit index args heap formed.locals begins);
+      frame = record {
+        number = over.number;
+        array = over.array;
+        holds =
+            subst (λ vs. HoldsIn state vs heap over.number over.array)
+            (sym (append-nil (args ++ args ++ map zero_of unit.locals))) over.holds;
+      };
+    }
+
+pub begun_holds : (unit : MethodUnit) → IsWellFormed unit → HoldsAtEntry unit (begun unit)
+begun_holds unit formed = λ index args heap begins.
+    at_begin unit (begun unit) index args heap formed begins
+    (begun_over unit args heap formed begins.heap_is begins.fit)
+
+pub entry_holds : (unit : MethodUnit) → IsWellFormed unit → HoldsAtEntry unit (entry unit)
+unfolding entry
+entry_holds unit formed = λ index args heap begins.
+    let state = required (requires unit) (begun unit) in
+    let vs = args ++ args ++ map zero_of unit.locals in
+    let r : Reading = record { args = args; entry_heap = heap; heap = heap; result = None } in
+    normal_at state (point (entry_frame unit index args heap) heap)
+    (forms_of (entry_kinds unit) state (kinds_required unit formed))
+    (at_begin unit state index args heap formed begins
+    (required_over unit (requires unit) (begun unit) vs heap r (unit_tests unit formed) (begun_kinds unit formed)
+    (entry_reads unit index args heap formed begins) (all_true 1 r (requires unit) begins.required)
+    (begun_over unit args heap formed begins.heap_is begins.fit)))

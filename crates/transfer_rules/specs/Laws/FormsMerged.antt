@@ -1,0 +1,366 @@
+-- States that fit the same kinds may be joined, and fit them when they are joined, widened or named anew.
+use Rattle.std.proofs.Common.{◌≡◌, ℕ, zero, suc, ◌<◌, ◌≤◌, ◌==◌, ℤ, pos, Bool, true, false, List, [], ◌∷◌, length, get_or, map, slice_get, Option, Some, None, refl, sym, ap, subst, ◌∙◌, arith}
+use Rattle.std.specs.Prelude.{if◌then◌else◌}
+use Rattle.std.specs.List.{AllByRecursion, list_all}
+use Rattle.std.specs.Option.{ForSome, option_and_then, option_map, option_map_or}
+use Rattle.std.proofs.lemmas.Bool.Decides.{Decides-eqb}
+use Rattle.std.proofs.lemmas.Option.{same_Some}
+use Rattle.cil_model.specs.Places.{place_number}
+use Rattle.cil_model.specs.Values.{same_place}
+use Rattle.cil_model.specs.declared.place.Kind.{Kind}
+use Rattle.cil_model.specs.declared.place.Kind.TheVariants.{Bools, Int, Ints, Native, NullRef, Text}
+use Rattle.cil_model.specs.declared.place.Place.{Place}
+use Rattle.cil_model.specs.declared.place.Place.TheVariants as places
+use Rattle.cil_model.specs.declared.unit.Unit.{Unit as MethodUnit}
+use Rattle.domain_api.specs.declared.expr.Expr.{Expr}
+use Rattle.frame_names.proofs.SaidLaws.{frames_say}
+use Rattle.frame_names.specs.Frames as frames
+use Rattle.frame_names.specs.Meaning.{Said, SaysBoth, an_array, numbers_behind, said}
+use Rattle.frame_names.specs.MergedReferences.{merged_references, one_place}
+use Rattle.frame_names.specs.PairedFrames.{FramePairing, behind, if_near, is_near, named_frame, old_at, paired_frames, pairing_by, pairs_of}
+use Rattle.frame_names.specs.declared.reference.Reference.{Reference}
+use Rattle.frame_names.specs.declared.var.Var.{Var}
+use Rattle.frame_names.specs.declared.var.Var.TheVariants as vars
+use Rattle.merged_numbers.specs.Merging as numbers
+use Rattle.merged_numbers.specs.Merging.{Outcome}
+use Rattle.merged_states.proofs.Formed.{HasArrayPlace, merged_form, normal_form, pairs_have}
+use Rattle.merged_states.specs.Alike.{AreLike, AreLikeStates, IsLike}
+use Rattle.merged_states.specs.Laws.Frames.{alike_of, same_entry}
+use Rattle.merged_states.specs.Merging.{NumberRule, join, known_as, merged_as, merged_by, merged_known, normal, normal_as, normal_by, normal_known, widen}
+use Rattle.merged_states.specs.Parts.{numbers_known, unknown_items}
+use Rattle.merged_states.specs.declared.merging.Merging.TheVariants.{Join, Widening}
+use Rattle.state_facts.specs.Forms.{HasForm, HasVar, IsArrayPlace}
+use Rattle.state_facts.specs.StateFacts as states
+use Rattle.state_facts.specs.StateFacts.{StateFacts, State, both_of_same_place}
+use Rattle.state_facts.specs.declared.reference.Unknown.{Unknown}
+use Rattle.symbolic_values.specs.Pairing.{origin}
+use Rattle.symbolic_values.specs.declared.def.Def.{Def}
+use Rattle.symbolic_values.specs.declared.pairs.Key.{Key}
+use Rattle.alias_facts.specs.PairsOf.{Pair}
+use Rattle.transfer_rules.specs.Forms.{FitKinds, FitsKind, FitsStack, HasKinds, is_of_place, kinds_over}
+use Rattle.transfer_rules.specs.Laws.Fitting.{AreKinds, over_stack}
+use Rattle.transfer_rules.specs.Laws.FittingResults.{any_number}
+use Rattle.transfer_rules.specs.Laws.KindForms.{zero_of_place}
+
+-- ---- states that are like each other
+
+both_number : (m n k : ℕ) → (m == k) ≡ true → (n == k) ≡ true → (m == n) ≡ true
+both_number m n k first second = (Decides-eqb m n).1 ((Decides-eqb m k).0 first ∙ sym ((Decides-eqb n k).0 second))
+
+both_place : (place : Place) (x y : Option (Reference Unknown))
+    → option_map_or (λ r. same_place r.place place) x true ≡ true
+    → option_map_or (λ r. same_place r.place place) y true ≡ true → both_of_same_place x y ≡ true
+both_place place None y first second = refl
+both_place place (Some x) None first second = refl
+both_place place (Some x) (Some y) first second =
+    both_number (place_number x.place) (place_number y.place) (place_number place) first second
+
+no_place : (references others : List (Reference Unknown)) (r q : ℕ) → r ≡ 0
+    → both_of_same_place (states.reference_at references r) (states.reference_at others q) ≡ true
+unfolding states.reference_at
+no_place references others zero q is = refl
+no_place references others (suc r) q is = absurd (omega (arith, is))
+
+like_kind : (a b : StateFacts) (k : Kind) (v w : Var) → FitsKind a k v → FitsKind b k w → IsLike a b v w
+like_kind a b Int (vars.Number e) (vars.Number f) first second = tt
+like_kind a b Native (vars.Number e) (vars.Number f) first second = tt
+like_kind a b Ints (vars.Reference r) (vars.Reference q) first second =
+    both_place places.Ints (states.reference_at a.references r) (states.reference_at b.references q) first second
+like_kind a b Bools (vars.Reference r) (vars.Reference q) first second =
+    both_place places.Bools (states.reference_at a.references r) (states.reference_at b.references q) first second
+like_kind a b NullRef (vars.Reference r) (vars.Reference q) first second = no_place a.references b.references r q first
+like_kind a b Text vars.Text vars.Text first second = tt
+like_kind a b Int (vars.Number e) (vars.Reference q) first second = elim second [ ]
+like_kind a b Int (vars.Number e) vars.Text first second = elim second [ ]
+like_kind a b Native (vars.Number e) (vars.Reference q) first second = elim second [ ]
+like_kind a b Native (vars.Number e) vars.Text first second = elim second [ ]
+like_kind a b Ints (vars.Reference r) (vars.Number f) first second = elim second [ ]
+like_kind a b Ints (vars.Reference r) vars.Text first second = elim second [ ]
+like_kind a b Bools (vars.Reference r) (vars.Number f) first second = elim second [ ]
+like_kind a b Bools (vars.Reference r) vars.Text first second = elim second [ ]
+like_kind a b NullRef (vars.Reference r) (vars.Number f) first second = elim second [ ]
+like_kind a b NullRef (vars.Reference r) vars.Text first second = elim second [ ]
+like_kind a b Text vars.Text (vars.Number f) first second = elim second [ ]
+like_kind a b Text vars.Text (vars.Reference q) first second = elim second [ ]
+like_kind a b _ _ w first second = elim first [ ]
+
+like_kinds : (a b : StateFacts) (ks : List Kind) (vs ws : List Var) → FitKinds a ks vs → FitKinds b ks ws
+    → AreLike a b vs ws
+like_kinds a b [] [] [] first second = tt
+like_kinds a b [] [] (w ∷ ws) first second = elim second [ ]
+like_kinds a b [] (v ∷ vs) ws first second = elim first [ ]
+like_kinds a b (k ∷ ks) (v ∷ vs) (w ∷ ws) first second =
+    (like_kind a b k v w first.0 second.0, like_kinds a b ks vs ws first.1 second.1)
+like_kinds a b (k ∷ ks) (v ∷ vs) [] first second = elim second [ ]
+like_kinds a b (k ∷ ks) [] ws first second = elim first [ ]
+
+pub fitting_like : (unit : MethodUnit) (at : Option (List Kind)) (a b : State) → FitsStack unit at a
+    → FitsStack unit at b
+    → AreLikeStates a b
+fitting_like unit at None b first second = tt
+fitting_like unit at (Some a) None first second = tt
+fitting_like unit None (Some a) (Some b) first second = elim first [ ]
+fitting_like unit (Some stack) (Some a) (Some b) first second = record {
+  first = first.form;
+  second = second.form;
+  variables = like_kinds a b (kinds_over unit stack) a.variables b.variables first.fit second.fit;
+}
+
+-- ---- a merged reference
+
+-- The type of a merged reference is that of one of the two.
+record HasOnePlace (a b : List (Reference Unknown)) (u : Key) (o : Option (Reference Unknown)) : Type 0 where
+  reference : Reference Unknown
+  is : o ≡ Some reference
+  place_is : reference.place ≡ one_place (frames.place_at a u.s) (frames.place_at b u.t)
+
+merged_at : (a b : List (Reference Unknown)) (us : List Key) (lengths : List Expr) (i : ℕ) → i < length us
+    → HasOnePlace a b (get_or us i origin) (slice_get (map unknown_items (merged_references a b us lengths)) i)
+merged_at a b [] lengths i below = absurd (omega (arith, below))
+merged_at a b (u ∷ us) lengths zero below = record { reference = _; is = refl; place_is = refl }
+merged_at a b (u ∷ us) lengths (suc i) below =
+    let rest = merged_at a b us (behind lengths) i (omega (arith, below)) in
+    record { reference = rest.reference; is = rest.is; place_is = rest.place_is }
+
+abbrev of_place : Place → Option Place → Bool
+of_place place found = option_map_or (λ p. same_place p place) found true
+
+read_place : (place : Place) (o : Option (Reference Unknown))
+    → option_map_or (λ r. same_place r.place place) o true ≡ of_place place (frames.place_in o)
+read_place place None = refl
+read_place place (Some r) = refl
+
+read_at : (known : StateFacts) (place : Place) (r : ℕ) → is_of_place known place r ≡ true
+    → of_place place (frames.place_at known.references r) ≡ true
+read_at known place r is =
+    sym (read_place place (frames.reference_at known.references r))
+    ∙ ap (λ o. option_map_or (λ (x : Reference Unknown). same_place x.place place) o true)
+    (sym (same_entry known.references r)) ∙ is
+
+either_place : (place : Place) (p q : Option Place) → of_place place p ≡ true → of_place place q ≡ true
+    → IsArrayPlace (one_place p q)
+    → same_place (one_place p q) place ≡ true
+either_place place (Some p) q first second array = first
+either_place place None (Some q) first second array = second
+either_place place None None first second array = elim array [ ]
+
+null_place : (known : StateFacts) (r : ℕ) → r ≡ 0 → frames.place_at known.references r ≡ None
+null_place known zero is = refl
+null_place known (suc r) is = absurd (omega (arith, is))
+
+two_nulls : (p q : Option Place) → p ≡ None → q ≡ None → IsArrayPlace (one_place p q) → ⊥
+two_nulls None None first second array = array
+two_nulls (Some p) q first second array = absurd cc
+two_nulls None (Some q) first second array = absurd cc
+
+all_at : (P : Key → Type 0) (us : List Key) (i : ℕ) → AllByRecursion P us → i < length us → P (get_or us i origin)
+all_at P [] i all below = absurd (omega (arith, below))
+all_at P (u ∷ us) zero all below = all.0
+all_at P (u ∷ us) (suc i) all below = all_at P us i all.1 (omega (arith, below))
+
+-- The references of a state in new names.
+record IsMergedOf (a b to : StateFacts) (us : List Key) : Type 0 where
+  lengths : List Expr
+  references : to.references ≡ map unknown_items (merged_references a.references b.references us lengths)
+  arrays : AllByRecursion (HasArrayPlace a.references b.references) us
+
+new_place : (a b to : StateFacts) (us : List Key) (merged : IsMergedOf a b to us) (place : Place) (i r q : ℕ)
+    → i < length us
+    → (get_or us i origin).s ≡ r → (get_or us i origin).t ≡ q → is_of_place a place r ≡ true
+    → is_of_place b place q ≡ true
+    → is_of_place to place (suc i) ≡ true
+unfolding states.reference_at
+new_place a b to us merged place i r q below r_is q_is first second =
+    let u = get_or us i origin in
+    let found = merged_at a.references b.references us merged.lengths i below in
+    ap (λ references. option_map_or (λ (x : Reference Unknown). same_place x.place place) (slice_get references i) true)
+    merged.references
+    ∙ ap (λ o. option_map_or (λ (x : Reference Unknown). same_place x.place place) o true) found.is
+    ∙ ap (λ p. same_place p place) found.place_is
+    ∙ either_place place (frames.place_at a.references u.s) (frames.place_at b.references u.t)
+    (read_at a place u.s (subst (λ n. is_of_place a place n ≡ true) (sym r_is) first))
+    (read_at b place u.t (subst (λ n. is_of_place b place n ≡ true) (sym q_is) second))
+    (all_at (HasArrayPlace a.references b.references) us i merged.arrays below)
+
+zero_fits : (a to : StateFacts) (k : Kind) (r : ℕ) → FitsKind a k (vars.Reference r) → FitsKind to k (vars.Reference 0)
+zero_fits a to Ints r fits = zero_of_place to places.Ints 0 refl
+zero_fits a to Bools r fits = zero_of_place to places.Bools 0 refl
+zero_fits a to NullRef r fits = refl
+zero_fits a to Int r fits = elim fits [ ]
+zero_fits a to Native r fits = elim fits [ ]
+zero_fits a to Text r fits = elim fits [ ]
+
+-- What stands for two references that fit a kind fits it.
+one_fits : (a b to : StateFacts) (us : List Key) → IsMergedOf a b to us → (k : Kind) (p r q : ℕ) → p ≤ length us
+    → old_at true us p ≡ r
+    → old_at false us p ≡ q → FitsKind a k (vars.Reference r) → FitsKind b k (vars.Reference q)
+    → FitsKind to k (vars.Reference p)
+one_fits a b to us merged k zero r q there r_is q_is first second = zero_fits a to k r first
+one_fits a b to us merged Ints (suc i) r q there r_is q_is first second =
+    new_place a b to us merged places.Ints i r q (omega (arith, there)) r_is q_is first second
+one_fits a b to us merged Bools (suc i) r q there r_is q_is first second =
+    new_place a b to us merged places.Bools i r q (omega (arith, there)) r_is q_is first second
+one_fits a b to us merged NullRef (suc i) r q there r_is q_is first second =
+    absurd (two_nulls (frames.place_at a.references (get_or us i origin).s)
+    (frames.place_at b.references (get_or us i origin).t)
+    (null_place a (get_or us i origin).s (r_is ∙ first)) (null_place b (get_or us i origin).t (q_is ∙ second))
+    (all_at (HasArrayPlace a.references b.references) us i merged.arrays (omega (arith, there))))
+one_fits a b to us merged Int (suc i) r q there r_is q_is first second = elim first [ ]
+one_fits a b to us merged Native (suc i) r q there r_is q_is first second = elim first [ ]
+one_fits a b to us merged Text (suc i) r q there r_is q_is first second = elim first [ ]
+
+-- ---- merged variables
+
+text_fits : (a to : StateFacts) (k : Kind) → FitsKind a k vars.Text → FitsKind to k vars.Text
+text_fits a to Text fits = tt
+text_fits a to Int fits = elim fits [ ]
+text_fits a to Native fits = elim fits [ ]
+text_fits a to Ints fits = elim fits [ ]
+text_fits a to Bools fits = elim fits [ ]
+text_fits a to NullRef fits = elim fits [ ]
+
+-- What stands for two variables that fit a kind, by what it says of both.
+var_fits : (a b to : StateFacts) (us : List Key) (m n l : ℕ → ℤ) → IsMergedOf a b to us
+    → length us ≡ length to.references → (k : Kind) (w v u : Var)
+    → said m (λ r. Some (old_at true us r)) w ≡ said l Some v → said n (λ r. Some (old_at false us r)) w ≡ said l Some u
+    → HasVar to w → FitsKind a k v → FitsKind b k u → FitsKind to k w
+var_fits a b to us m n l merged count k (vars.Number e) (vars.Number f) u first second there one other =
+    any_number a to k f e one
+var_fits a b to us m n l merged count k (vars.Reference p) (vars.Reference r)
+    (vars.Reference q) first second there one other =
+    one_fits a b to us merged k p r q (omega (arith, there, count)) (same p r true first)
+    (same p q false second) one other
+  where
+    same : (p r : ℕ) (side : Bool) → an_array (Some (old_at side us p)) ≡ an_array (Some r) → old_at side us p ≡ r
+    same p r side is = cc
+var_fits a b to us m n l merged count k vars.Text vars.Text u first second there one other = text_fits a to k one
+var_fits a b to us m n l merged count k (vars.Number e) (vars.Reference r) u first second there one other = absurd cc
+var_fits a b to us m n l merged count k (vars.Number e) vars.Text u first second there one other = absurd cc
+var_fits a b to us m n l merged count k (vars.Reference p) (vars.Number f) u first second there one other = absurd cc
+var_fits a b to us m n l merged count k (vars.Reference p) vars.Text u first second there one other = absurd cc
+var_fits a b to us m n l merged count k (vars.Reference p) (vars.Reference r)
+    (vars.Number f) first second there one other = absurd cc
+var_fits a b to us m n l merged count k (vars.Reference p) (vars.Reference r) vars.Text first second there one other =
+    absurd cc
+var_fits a b to us m n l merged count k vars.Text (vars.Number f) u first second there one other = absurd cc
+var_fits a b to us m n l merged count k vars.Text (vars.Reference r) u first second there one other = absurd cc
+
+heads : (x y : Said) (xs ys : List Said) → x ∷ xs ≡ y ∷ ys → (x ≡ y) × (xs ≡ ys)
+heads x y xs ys is = (cc, cc)
+
+all_fit : (a b to : StateFacts) (us : List Key) (m n l : ℕ → ℤ) → IsMergedOf a b to us
+    → length us ≡ length to.references
+    → (ks : List Kind) (ws vs qs : List Var) → map (said m (λ r. Some (old_at true us r))) ws ≡ map (said l Some) vs
+    → map (said n (λ r. Some (old_at false us r))) ws ≡ map (said l Some) qs → AllByRecursion (HasVar to) ws
+    → FitKinds a ks vs → FitKinds b ks qs → FitKinds to ks ws
+all_fit a b to us m n l merged count [] [] [] qs first second there one other = tt
+all_fit a b to us m n l merged count [] (w ∷ ws) [] qs first second there one other = absurd cc
+all_fit a b to us m n l merged count [] ws (v ∷ vs) qs first second there one other = elim one [ ]
+all_fit a b to us m n l merged count (k ∷ ks) ws [] qs first second there one other = elim one [ ]
+all_fit a b to us m n l merged count (k ∷ ks) ws (v ∷ vs) [] first second there one other = elim other [ ]
+all_fit a b to us m n l merged count (k ∷ ks) [] (v ∷ vs) (q ∷ qs) first second there one other = absurd cc
+all_fit a b to us m n l merged count (k ∷ ks) (w ∷ ws) (v ∷ vs) (q ∷ qs) first second there one other =
+    let here = heads _ _ _ _ first in
+    let beside = heads _ _ _ _ second in (
+      var_fits a b to us m n l merged count k w v q here.0 beside.0 there.0 one.0 other.0,
+      all_fit a b to us m n l merged count ks ws vs qs here.1 beside.1 there.1 one.1 other.1,
+    )
+
+-- ---- states in new names
+
+many : (a b : List (Reference Unknown)) (us : List Key) (lengths : List Expr)
+    → length us ≡ length (map unknown_items (merged_references a b us lengths))
+many a b [] lengths = refl
+many a b (u ∷ us) lengths = ap suc (many a b us (behind lengths))
+
+named_is : (new f : FramePairing) → if_near new ≡ Some f → new ≡ f
+named_is new f is = by (list_all is_near new.numbers.exprs) is
+  where
+    by : (near : Bool) → (if near then Some new else None) ≡ Some f → new ≡ f
+    by true same = same_Some new f same
+    by false same = absurd cc
+
+module _ (ks : List Kind) (a b : StateFacts) (first : HasKinds ks a) (second : HasKinds ks b) where
+  known_fits : (f : FramePairing) (outcome : Outcome) (def : Key → Option Def) (pairs : List Pair)
+      → paired_frames a.variables a.references b.variables b.references ≡ Some f
+      → HasForm (known_as a b f outcome def pairs)
+      → HasKinds ks (known_as a b f outcome def pairs)
+  known_fits f outcome def pairs found form =
+      let like = like_kinds a b ks a.variables b.variables first.fit second.fit in
+      let says : SaysBoth a.variables b.variables f =
+      frames_say a.variables b.variables a.references b.references (Some f) (alike_of a b a.variables b.variables like)
+      (sym found) in
+      let us = f.references.keys in
+      let to = known_as a b f outcome def pairs in
+      let names : named_frame a.variables (pairs_of a.variables b.variables)
+      (pairing_by (pairs_of a.variables b.variables) a.variables a.references b.variables b.references) ≡ f =
+      named_is _ f found in
+      let merged : IsMergedOf a b to us = record {
+        lengths = f.lengths;
+        references = refl;
+        arrays =
+            subst (λ (g : FramePairing). AllByRecursion (HasArrayPlace a.references b.references) g.references.keys)
+            names (pairs_have a b first.form second.form);
+      } in
+      record {
+        form = form;
+        fit =
+            all_fit a b to us (numbers_behind true (λ s. pos 0) f) (numbers_behind false (λ s. pos 0) f)
+            (λ s. pos 0) merged
+            (many a.references b.references us f.lengths) ks f.vars a.variables b.variables
+            (says true (λ s. pos 0) Some) (says false (λ s. pos 0) Some) form.variables first.fit second.fit;
+      }
+
+each_fits : (ks : List Kind) (make : Outcome → StateFacts) (o : Option Outcome) → ForSome (option_map make o) HasForm
+    → ((outcome : Outcome) → HasForm (make outcome) → HasKinds ks (make outcome)) → AreKinds ks (option_map make o)
+each_fits ks make None form fits = tt
+each_fits ks make (Some outcome) form fits = fits outcome (form (make outcome) refl)
+
+merged_fit : (ks : List Kind) (rule : NumberRule) (a b : StateFacts) → HasKinds ks a → HasKinds ks b
+    → ForSome (merged_known rule a b) HasForm
+    → AreKinds ks (merged_known rule a b)
+merged_fit ks rule a b first second = by (paired_frames a.variables a.references b.variables b.references) refl
+  where
+    by : (found : Option FramePairing) → paired_frames a.variables a.references b.variables b.references ≡ found
+        → ForSome (option_and_then (merged_by rule a b) found) HasForm
+        → AreKinds ks (option_and_then (merged_by rule a b) found)
+    by None is form = tt
+    by (Some f) is form =
+        each_fits ks (merged_as a b f) (rule f.numbers.keys (numbers_known a.facts) (numbers_known b.facts)) form
+        (λ outcome own. known_fits ks a b first second f outcome _ _ is own)
+
+normal_fit : (ks : List Kind) (a : StateFacts) → HasKinds ks a → ForSome (normal_known a) HasForm
+    → AreKinds ks (normal_known a)
+normal_fit ks a has = by (paired_frames a.variables a.references a.variables a.references) refl
+  where
+    by : (found : Option FramePairing) → paired_frames a.variables a.references a.variables a.references ≡ found
+        → ForSome (option_and_then (normal_by a) found) HasForm → AreKinds ks (option_and_then (normal_by a) found)
+    by None is form = tt
+    by (Some f) is form = each_fits ks (normal_as a f) (numbers.normed f.numbers.keys (numbers_known a.facts)) form
+        (λ outcome own. known_fits ks a a has has f outcome _ _ is own)
+
+pub join_fits : (unit : MethodUnit) (at : Option (List Kind)) (a b : State) → FitsStack unit at a → FitsStack unit at b
+    → FitsStack unit at (join a b)
+join_fits unit at None b first second = second
+join_fits unit at (Some a) None first second = first
+join_fits unit None (Some a) (Some b) first second = elim first [ ]
+join_fits unit (Some stack) (Some a) (Some b) first second =
+    over_stack unit stack (join (Some a) (Some b))
+    (merged_fit (kinds_over unit stack) numbers.joined a b first second (merged_form Join a b first.form second.form))
+
+pub widen_fits : (unit : MethodUnit) (at : Option (List Kind)) (a b : State) → FitsStack unit at a → FitsStack unit at b
+    → FitsStack unit at (widen a b)
+widen_fits unit at None b first second = second
+widen_fits unit at (Some a) None first second = first
+widen_fits unit None (Some a) (Some b) first second = elim first [ ]
+widen_fits unit (Some stack) (Some a) (Some b) first second =
+    over_stack unit stack (widen (Some a) (Some b))
+    (merged_fit (kinds_over unit stack) numbers.widened a b first second
+    (merged_form Widening a b first.form second.form))
+
+pub normal_fits : (unit : MethodUnit) (at : Option (List Kind)) (a : State) → FitsStack unit at a
+    → FitsStack unit at (normal a)
+normal_fits unit at None fits = tt
+normal_fits unit None (Some a) fits = elim fits [ ]
+normal_fits unit (Some stack) (Some a) has =
+    over_stack unit stack (normal (Some a)) (normal_fit (kinds_over unit stack) a has (normal_form a has.form))

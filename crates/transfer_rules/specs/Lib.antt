@@ -1,0 +1,12 @@
+pub mod Operands
+pub mod Acts
+pub mod Owed
+pub mod Choices
+pub mod Post
+pub mod Steps
+pub mod Entry
+pub mod Forms
+pub mod Flow
+pub mod Unknown
+pub mod Inductive
+pub mod Laws

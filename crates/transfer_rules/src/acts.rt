@@ -1,0 +1,147 @@
+//! What an operation does to a state.
+
+ghost use Rattle.std.specs.Prelude.{◌≡◌, ◌+◌, ◌≤◌, length, OnOk, Some};
+ghost use Rattle.std.specs.Option.{ForSome, option_and_then};
+ghost use Rattle.cil_model.specs.Limits.{MAX_VARIABLES};
+ghost use Rattle.transfer_rules.specs.Acts as rule;
+ghost use Rattle.transfer_rules.specs.Operands.{on_condition};
+ghost use Rattle.transfer_rules.specs.Owed.{IsReady};
+
+use crate::arrays::{load_item, make_array, push_length, store_item};
+use crate::moves::{duplicate, load, put_result, store};
+use crate::operands::{refuse, take_condition};
+use crate::operators::{complement, negate, operate};
+use abs_state::{AbsState, Var};
+use cil_model::{Op, Place, Test, Unit, UnitCall, unit_call};
+use domain_api::NoMemory;
+use number_spans::constant;
+use state_obligations::Condition;
+
+/// Where an argument stands among the variables.
+fn arg_place(unit: &Unit, n: u16) -> u32
+    requires { length unit.now.args + length unit.now.locals + unit.now.max_stack ≤ MAX_VARIABLES }
+    ensures { result ≡ rule.arg_place unit.now n }
+{
+    (unit.args.as_slice().len() + n as usize) as u32
+}
+
+/// Where a local stands among the variables.
+fn local_place(unit: &Unit, n: u16) -> u32
+    requires { length unit.now.args + length unit.now.locals + unit.now.max_stack ≤ MAX_VARIABLES }
+    ensures { result ≡ rule.local_place unit.now n }
+{
+    let args = unit.args.as_slice().len();
+    (args + args + n as usize) as u32
+}
+
+/// The type of a variable: void where there is none.
+fn type_of(types: &[Place], n: u16) -> Place
+    ensures { result ≡ rule.type_of types.now n }
+{
+    match types.get(n as usize) {
+        Some(place) => *place,
+        None => Place::Void,
+    }
+}
+
+/// Takes the condition of an Assume, which is assumed to be another number than 0.
+#[tactic(auto, using(crate::proofs::Passing::passing))]
+fn pass_assume(state: &mut AbsState, message: bool) -> Result<(), NoMemory>
+    ensures { OnOk result (state.new ≡ option_and_then (on_condition message rule.with_condition) state.old) }
+{
+    let Some(Var::Number(e)) = take_condition(state, message)? else {
+        refuse(state);
+        return Ok(());
+    };
+    state.assume_met(Condition::Assert(e))
+}
+
+/// Takes the condition of an Assert.
+#[tactic(auto, using(crate::proofs::Passing::passing))]
+fn pass_assert(state: &mut AbsState, message: bool) -> Result<(), NoMemory>
+    ensures { OnOk result (state.new ≡ option_and_then (on_condition message rule.left) state.old) }
+{
+    let Some(_) = take_condition(state, message)? else {
+        refuse(state);
+        return Ok(());
+    };
+    Ok(())
+}
+
+/// Takes what a call takes that names this.
+#[tactic(auto, using(crate::proofs::Passing::passing))]
+fn pass_named(state: &mut AbsState, call: UnitCall) -> Result<(), NoMemory>
+    ensures { OnOk result (state.new ≡ option_and_then (rule.behind_call (Some call)) state.old) }
+{
+    match call {
+        UnitCall::Assert(message) => pass_assert(state, message),
+        UnitCall::Assume(message) => pass_assume(state, message),
+        _ => Ok(()),
+    }
+}
+
+/// Takes what a call of a contract takes.
+#[tactic(auto, using(crate::proofs::Passing::passing))]
+fn pass_call(state: &mut AbsState, call: Option<UnitCall>) -> Result<(), NoMemory>
+    ensures { OnOk result (state.new ≡ option_and_then (rule.behind_call call) state.old) }
+{
+    match call {
+        Some(call) => pass_named(state, call),
+        None => Ok(()),
+    }
+}
+
+/// Takes what a branch tests.
+#[tactic(auto, using(crate::proofs::Passing::passing))]
+fn pass_test(state: &mut AbsState, test: Test) -> Result<(), NoMemory>
+    ensures { OnOk result (state.new ≡ option_and_then (rule.behind_test test) state.old) }
+{
+    match test {
+        Test::Always => Ok(()),
+        Test::True => state.pop(),
+        Test::False => state.pop(),
+        Test::Cmp(_) => {
+            state.pop()?;
+            state.pop()
+        }
+    }
+}
+
+/// Does to a state what an operation of the unit does to a point, where it ends in no fault. Calls of methods leave it.
+#[tactic(auto, using(crate::proofs::Doing::doing))]
+pub(crate) fn act(state: &mut AbsState, unit: &Unit, op: &Op) -> Result<(), NoMemory>
+    requires few { length unit.now.args + length unit.now.locals + unit.now.max_stack ≤ MAX_VARIABLES }
+    requires ready { ForSome state.old (IsReady op.now) }
+    ensures { OnOk result (state.new ≡ rule.act unit.now op.now state.old) }
+{
+    match op {
+        Op::Nop | Op::ConvI4 => Ok(()),
+        Op::LoadArg(n) => load(state, arg_place(unit, *n)),
+        Op::StoreArg(n) => store(
+            state,
+            arg_place(unit, *n),
+            type_of(unit.args.as_slice(), *n),
+        ),
+        Op::LoadLocal(n) => load(state, local_place(unit, *n)),
+        Op::StoreLocal(n) => store(
+            state,
+            local_place(unit, *n),
+            type_of(unit.locals.as_slice(), *n),
+        ),
+        Op::Null => state.push(Var::Reference(0)),
+        Op::Const(n) => state.push(Var::Number(constant(i64::from(*n)))),
+        Op::Text(_) => state.push(Var::Text),
+        Op::Dup => duplicate(state),
+        Op::Pop | Op::Switch(_) => state.pop(),
+        Op::Call(number) => pass_call(state, unit_call(*number)),
+        Op::Return => put_result(state, unit.result),
+        Op::Branch(test, _) => pass_test(state, *test),
+        Op::Bin(operator) => operate(state, *operator),
+        Op::Neg => negate(state),
+        Op::Not => complement(state),
+        Op::NewArray(number) => make_array(state, *number),
+        Op::Length => push_length(state),
+        Op::LoadElem(_) => load_item(state),
+        Op::StoreElem(_) => store_item(state),
+    }
+}

@@ -1,0 +1,49 @@
+//! Walks through blocks, and along edges.
+
+ghost use Rattle.std.specs.Prelude.{◌≡◌, ◌+◌, ◌<◌, ◌≤◌, length, IfOk, OnOk};
+ghost use Rattle.std.specs.List.{AllByRecursion};
+ghost use Rattle.cil_model.specs.Limits.{MAX_VARIABLES};
+ghost use Rattle.transfer_rules.specs.Flow as rule;
+ghost use Rattle.transfer_rules.specs.Flow.{IsToldOf};
+ghost use Rattle.unit_flow.specs.Ways.{IsShortSwitch};
+
+use crate::rules::{along, post};
+use abs_state::AbsState;
+use cil_model::{Instr, Unit};
+use domain_api::NoMemory;
+use std::alloc::Global;
+use unit_flow::UnitFlow;
+
+/// Takes the state through these instructions of a block, and along the way of this number on from the last.
+fn walk(state: &mut AbsState, unit: &Unit, instrs: &[Instr], number: u32) -> Result<(), NoMemory>
+    requires few { length unit.now.args + length unit.now.locals + unit.now.max_stack ≤ MAX_VARIABLES }
+    requires short { AllByRecursion (λ i. IsShortSwitch i.op) instrs.now }
+    ensures { OnOk result (state.new ≡ rule.through unit.now number instrs.now state.old) }
+{
+    let [others @ .., last] = instrs else {
+        return Ok(());
+    };
+    for instr in others {
+        post(state, unit, &instr.op)?;
+    }
+    along(state, unit, &last.op, number)
+}
+
+/// The state at the end of an edge, from the one at its begin, in normal form.
+///
+/// Cost: that of the rules of the instructions of the block that the edge leaves.
+pub(crate) fn along_edge(
+    alloc: Global,
+    state: &AbsState,
+    code: &UnitFlow,
+    edge: usize,
+) -> Result<AbsState, NoMemory>
+    requires lawful { IsToldOf code.now }
+    requires there { edge < length code.now.graph.edges }
+    ensures { IfOk result (λ behind. behind ≡ rule.along_edge state.now code.now edge) }
+{
+    let edge = code.graph.edges.as_slice()[edge];
+    let mut behind = state.copy(alloc)?;
+    walk(&mut behind, &code.unit, code.block(edge.from), edge.number)?;
+    behind.norm(alloc)
+}
