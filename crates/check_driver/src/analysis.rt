@@ -10,8 +10,8 @@ ghost use Rattle.unit_form.specs.Spelling.{unit_bytes};
 
 use cil_model::Unit;
 use invariant_checker::{Verdict, judge};
-use range_rules::UnitFlow;
 use std::alloc::{AllocError, Global};
+use unit_flow::UnitFlow;
 use widening_engine::Finder;
 
 /// The unit with its graph and its kinds, each found once.

@@ -13,12 +13,13 @@ ghost use Rattle.invariant_checker.specs.Safety.{IsSafe};
 ghost use Rattle.invariant_checker.specs.Verdicts as rule;
 
 use crate::verdict::Verdict;
+use abs_state::AbsState;
 use cil_model::{Instr, Obligation, Unit};
 use domain_api::NoMemory;
-use range_obligations::{obligations, rules_out};
-use range_rules::{UnitFlow, inductive, post};
-use range_states::{AbsState, Invariant, avoid, faults_of};
+use obligation_prover::{avoid, faults_of, obligations, rules_out};
 use std::alloc::Global;
+use transfer_rules::{Invariant, inductive, post};
+use unit_flow::UnitFlow;
 
 /// Appends a verdict for each fault of an instruction. Each is judged where those before it are assumed not to have come.
 fn push_in_turn(

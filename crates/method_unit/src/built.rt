@@ -5,38 +5,19 @@ ghost use Rattle.method_unit.specs.Built.{is_built, is_built_call};
 
 use cil_model::{Op, UnitCall, unit_call};
 
-/// Returns whether the call is one of Assert or Assume without a message.
+/// Returns whether the call is one of Assert or Assume.
 fn is_built_call(call: Option<UnitCall>) -> bool
     ensures { result ≡ is_built_call call }
 {
-    matches!(
-        call,
-        Some(UnitCall::Assert(false) | UnitCall::Assume(false))
-    )
+    matches!(call, Some(UnitCall::Assert(_) | UnitCall::Assume(_)))
 }
 
-/// Returns whether the operation is built. Those on references, arrays, texts and callees are not.
+/// Returns whether the operation is built. A call of a callee is not.
 pub fn is_built(op: &Op) -> bool
     ensures { result ≡ is_built op.now }
 {
     match op {
-        Op::Null | Op::Text(_) | Op::NewArray(_) => false,
-        Op::Length | Op::LoadElem(_) | Op::StoreElem(_) => false,
         Op::Call(number) => is_built_call(unit_call(*number)),
-        Op::Nop
-        | Op::LoadArg(_)
-        | Op::StoreArg(_)
-        | Op::LoadLocal(_)
-        | Op::StoreLocal(_)
-        | Op::Const(_)
-        | Op::Dup
-        | Op::Pop
-        | Op::Return
-        | Op::Branch(_, _)
-        | Op::Switch(_)
-        | Op::Bin(_)
-        | Op::Neg
-        | Op::Not
-        | Op::ConvI4 => true,
+        _ => true,
     }
 }

@@ -5,32 +5,14 @@ ghost use Rattle.method_unit.specs.NotBuilt.{are_numbers, first_unbuilt, gives_n
 ghost use Rattle.method_unit.specs.Units.{IsUnit};
 
 use crate::built::is_built;
-use cil_model::{Instr, Place, Unit};
+use cil_model::{ClauseKind, Instr, Unit};
 
-/// Returns whether each of the places is int32 or bool.
-fn are_numbers(places: &[Place]) -> bool
-    ensures { result ≡ are_numbers places.now }
-{
-    places
+/// Returns whether no clause is an Ensures.
+fn has_built_clauses(unit: &Unit) -> bool {
+    unit.clauses
+        .as_slice()
         .iter()
-        .all(|place| matches!(place, Place::Bool | Place::Int))
-}
-
-/// Returns whether a result of this type is int32 or bool, or none.
-fn gives_number(place: Place) -> bool
-    ensures { result ≡ gives_number place }
-{
-    matches!(place, Place::Void | Place::Bool | Place::Int)
-}
-
-/// Returns whether arguments and locals are int32 or bool, the result too or none, and there are no clauses.
-fn has_built_head(unit: &Unit) -> bool
-    ensures { result ≡ has_built_head unit.now }
-{
-    gives_number(unit.result)
-        && are_numbers(unit.args.as_slice())
-        && are_numbers(unit.locals.as_slice())
-        && unit.clauses.as_slice().is_empty()
+        .all(|clause| clause.kind == ClauseKind::Requires)
 }
 
 /// The IL offset of the first instruction from an offset on that is not built.
@@ -55,7 +37,7 @@ pub fn not_built(unit: &Unit) -> Option<u32>
     // A unit that is built calls no method.
     ensures alone { result ≡ None → IsUnit unit.now → unit.now.callees ≡ [] }
 {
-    if has_built_head(unit) {
+    if has_built_clauses(unit) {
         first_unbuilt(unit.instrs.as_slice(), unit.body_start)
     } else {
         Some(unit.body_start)

@@ -10,9 +10,9 @@ ghost use Rattle.widening_engine.specs.Work.{HasCounted, HasCountedAtMost, work}
 use crate::finder::{Finder, known};
 use crate::keeping::kept_rounds;
 use domain_api::{NoMemory, Ticks};
-use range_rules::{UnitFlow, UnitState};
-use range_states::Invariant;
 use std::alloc::Global;
+use transfer_rules::{Invariant, UnitState};
+use unit_flow::UnitFlow;
 use unit_form::unit_bytes;
 
 /// A finder that computes the state along an edge again only where that of its source has changed.

@@ -5,10 +5,11 @@ ghost use Rattle.range_rules.specs.Flow.{IsLawful};
 ghost use Rattle.unit_form.specs.Spelling.{unit_bytes};
 ghost use Rattle.widening_engine.specs.Limits.{limit_of};
 
+use abs_state::AbsState;
 use domain_api::NoMemory;
-use range_rules::{UnitFlow, UnitState};
-use range_states::{AbsState, Invariant};
 use std::alloc::Global;
+use transfer_rules::{Invariant, UnitState};
+use unit_flow::UnitFlow;
 
 /// What finds the invariants of units.
 pub trait Finder {
