@@ -19,11 +19,11 @@ use Rattle.cil_model.specs.declared.unit_numbers.UnitCall.{UnitCall}
 use Rattle.cil_model.specs.declared.unit_numbers.UnitCall.TheVariants as calls
 use Rattle.cil_model.proofs.Forms.{spelling_some}
 use Rattle.cil_model.proofs.Lists.{all_append}
-use Rattle.range_states.specs.Faults.{call_faults, faults_of, operator_faults}
-use Rattle.range_states.specs.FrameFacts.{State}
-use Rattle.range_obligations.specs.Obligations.{obligation, obligations_at, obligations_in}
-use Rattle.range_rules.specs.Flow.{IsLawful}
-use Rattle.range_rules.specs.declared.unit_flow.UnitFlow.{UnitFlow}
+use Rattle.obligation_prover.specs.Faults.{call_faults, faults_of, operator_faults}
+use Rattle.obligation_prover.specs.Obligations.{obligation, obligations_at, obligations_in}
+use Rattle.state_facts.specs.StateFacts.{State}
+use Rattle.unit_flow.specs.Flow.{IsLawful}
+use Rattle.unit_flow.specs.declared.unit_flow.UnitFlow.{UnitFlow}
 use Rattle.invariant_checker.specs.Verdicts.{verdicts}
 use Rattle.invariant_checker.specs.declared.verdict.Verdict.{Verdict}
 use Rattle.invariant_checker.proofs.Covering.{each_told, obligations_told}
@@ -50,6 +50,10 @@ call_few _ = omega arith
 faults_few : (unit : MethodUnit) (op : Op) → length (faults_of unit op) ≤ MAX_CLAUSES
 faults_few unit (ops.Bin operator) = operator_few operator
 faults_few unit (ops.Call number) = call_few (unit_call number)
+faults_few unit (ops.NewArray number) = omega arith
+faults_few unit ops.Length = omega arith
+faults_few unit (ops.LoadElem place) = omega arith
+faults_few unit (ops.StoreElem place) = omega arith
 faults_few unit _ = omega arith
 
 at_few : (unit : MethodUnit) (i : Instr) → length (obligations_in unit i) ≤ MAX_CLAUSES
@@ -109,7 +113,7 @@ module _ (code : UnitFlow) (states : List State) (lawful : IsLawful code) where
   pub verdicts_inside : All (λ v. v.obligation.at < length code.unit.code) (verdicts code states)
   verdicts_inside =
       let end = length code.unit.code in
-      let instrs = weaker (0 + end) end code.unit.instrs (omega arith) (offsets_below 0 code.unit.instrs code.unit.code lawful.unit.formed.code.spelled) in
+      let instrs = weaker (0 + end) end code.unit.instrs (omega arith) (offsets_below 0 code.unit.instrs code.unit.code lawful.formed.code.spelled) in
       All-from_recursion (λ v. v.obligation.at < end) (verdicts code states)
       (told_below end (verdicts code states)
       (subst (AllByRecursion (λ o. o.at < end)) (sym (each_told code states lawful)) (listed_below end code.unit code.unit.instrs instrs)))

@@ -15,17 +15,17 @@ use Rattle.cil_model.specs.declared.unit.Unit.{Unit as MethodUnit}
 use Rattle.flow_graph.specs.declared.graph.Graph.{Graph}
 use Rattle.flow_graph.proofs.AlongEdges.{all_after}
 use Rattle.flow_graph.proofs.Lying.{blocks_increase}
-use Rattle.range_states.specs.Avoiding.{avoid}
-use Rattle.range_states.specs.Faults.{faults_of}
-use Rattle.range_states.specs.FrameFacts.{State}
-use Rattle.range_obligations.specs.Obligations.{obligation, obligations_at, obligations_in, obligations_of}
-use Rattle.range_rules.specs.Laws.BlockWays.{all_kept, none_before}
-use Rattle.range_rules.specs.Flow.{IsLawful, block_instrs, instrs_between, is_before}
-use Rattle.range_rules.specs.Laws.FlowLaws as laws
-use Rattle.range_rules.specs.Inductive.{state_at}
-use Rattle.range_rules.specs.Laws.Placing.{item_there}
-use Rattle.range_rules.specs.Post.{post}
-use Rattle.range_rules.specs.declared.unit_flow.UnitFlow.{UnitFlow}
+use Rattle.obligation_prover.specs.Avoiding.{avoid}
+use Rattle.obligation_prover.specs.Faults.{faults_of}
+use Rattle.obligation_prover.specs.Obligations.{obligation, obligations_at, obligations_in, obligations_of}
+use Rattle.state_facts.specs.StateFacts.{State}
+use Rattle.transfer_rules.specs.Inductive.{state_at}
+use Rattle.transfer_rules.specs.Post.{post}
+use Rattle.unit_flow.specs.Flow.{IsLawful, block_instrs, instrs_between, is_before}
+use Rattle.unit_flow.specs.declared.unit_flow.UnitFlow.{UnitFlow}
+use Rattle.unit_flow.proofs.BlockWays.{all_kept, none_before}
+use Rattle.unit_flow.proofs.LawfulCode as laws
+use Rattle.unit_flow.proofs.Places.{item_there, there_is}
 use Rattle.invariant_checker.specs.Inducts.{is_inductive}
 use Rattle.invariant_checker.specs.Verdicts.{unproved, verdicts, verdicts_at, verdicts_from, verdicts_in, verdicts_in_turn}
 use Rattle.invariant_checker.specs.declared.verdict.Verdict.{Verdict}
@@ -65,11 +65,6 @@ none_there [] n le = refl
 none_there (x ∷ xs) zero le = absurd (omega (arith, le))
 none_there (x ∷ xs) (suc n) le = none_there xs n (omega (arith, le))
 
-some_there : (xs : List ℕ) (n : ℕ) → n < length xs → slice_get xs n ≡ Some (get_or xs n 0)
-some_there [] n below = absurd (omega (arith, below))
-some_there (x ∷ xs) zero below = refl
-some_there (x ∷ xs) (suc n) below = some_there xs n (omega (arith, below))
-
 module _ (starts : List ℕ) (is : List Instr) (at : ℕ) (pairs : AllPairs (λ a b. a < b) starts) (lie : LieFrom at is) where
   abbrev block : ℕ → List Instr
   block b = instrs_between (get_or starts b 0) (slice_get starts (b + 1)) is
@@ -81,7 +76,7 @@ module _ (starts : List ℕ) (is : List Instr) (at : ℕ) (pairs : AllPairs (λ 
       let none : slice_get starts (b + 1) ≡ None = none_there starts (b + 1) (omega (arith, ends)) in
       append-nil (block b) ∙ (ap (λ (end : Option ℕ). filter (λ i. is_before end i.at) rest) none ∙ all_early rest)
   blocks_from b (suc n) ends =
-      let there : slice_get starts (b + 1) ≡ Some (get_or starts (b + 1) 0) = some_there starts (b + 1) (omega (arith, ends)) in
+      let there : slice_get starts (b + 1) ≡ Some (get_or starts (b + 1) 0) = there_is starts (b + 1) 0 (omega (arith, ends)) in
       let less : get_or starts b 0 < get_or starts (b + 1) 0 = pairs b (b + 1) 0 (omega arith) (omega (arith, ends)) in
       let others = blocks_from (b + 1) n (omega (arith, ends)) in
       ap (λ (js : List Instr). block b ++ js) others

@@ -1,9 +1,10 @@
 -- Steps of the code that judges a unit.
-use Rattle.std.proofs.Common.{◌≡◌, ℕ, zero, suc, ◌+◌, ◌^◌, ◌<◌, List, [], ◌∷◌, ◌++◌, length, get_or, drop, map, All, refl, sym, ap, subst, ◌∙◌, add-one, append_assoc, append-nil, drop-cons, arith, inl, inr}
+use Rattle.std.proofs.Common.{◌≡◌, ℕ, zero, suc, ◌+◌, ◌^◌, ◌-◌, ◌<◌, ◌≤◌, List, [], ◌∷◌, ◌++◌, length, get_or, take, drop, map, All, refl, sym, ap, subst, ◌∙◌, add-one, append_assoc, append-nil, drop-cons, arith, inl, inr}
 use Rattle.std.specs.Prelude.{IsTrue}
 use Rattle.std.specs.List.{AllByRecursion, flat_map, range_with_len}
 use Rattle.std.proofs.lemmas.Bool.{cases_Bool, false≢true}
 use Rattle.std.proofs.lemmas.Grind.{flat_map-append}
+use Rattle.std.proofs.lemmas.List.{drop_all, get_or-take, length-take}
 use Rattle.std.proofs.lemmas.List.Elements.{All-from_recursion}
 use Rattle.cil_model.specs.declared.instruction.Instr.{Instr}
 use Rattle.cil_model.specs.declared.machine.FaultKind.{FaultKind}
@@ -11,23 +12,24 @@ use Rattle.cil_model.specs.declared.machine.Obligation.{Obligation}
 use Rattle.cil_model.specs.declared.unit.Unit.{Unit as MethodUnit}
 use Rattle.flow_graph.specs.declared.graph.Graph.{Graph}
 use Rattle.flow_graph.proofs.Lying.{few_blocks}
-use Rattle.range_states.specs.Avoiding.{avoid}
-use Rattle.range_states.specs.FrameFacts.{State}
-use Rattle.range_obligations.specs.Entailed.{entailed}
-use Rattle.range_obligations.specs.Obligations.{obligation, obligations_of}
-use Rattle.range_rules.specs.Flow.{IsLawful}
-use Rattle.range_rules.specs.Laws.FlowLaws as laws
-use Rattle.range_rules.specs.Inductive.{HasShape, IsInductive, state_at}
-use Rattle.range_rules.specs.declared.unit_flow.UnitFlow.{UnitFlow}
+use Rattle.obligation_prover.specs.Avoiding.{avoid}
+use Rattle.obligation_prover.specs.Entailed.{rules_out}
+use Rattle.obligation_prover.specs.Obligations.{obligation, obligations_of}
+use Rattle.state_facts.specs.StateFacts.{State}
+use Rattle.transfer_rules.specs.Inductive.{HasShape, IsInductive, state_at}
+use Rattle.transfer_rules.specs.Post.{post}
+use Rattle.unit_flow.specs.Flow.{IsLawful}
+use Rattle.unit_flow.specs.declared.unit_flow.UnitFlow.{UnitFlow}
+use Rattle.unit_flow.proofs.LawfulCode as laws
 use Rattle.invariant_checker.specs.Inducts.{is_inductive}
-use Rattle.invariant_checker.specs.Verdicts.{unproved, verdicts, verdicts_by_blocks, verdicts_in, verdicts_in_turn, verdicts_of_block}
+use Rattle.invariant_checker.specs.Verdicts.{unproved, verdicts, verdicts_at, verdicts_by_blocks, verdicts_from, verdicts_in, verdicts_in_turn, verdicts_of_block}
 use Rattle.invariant_checker.specs.declared.verdict.Verdict.{Verdict}
 use Rattle.invariant_checker.proofs.InductionTest.{inductive_by, inductive_true}
 
 -- ---- the faults of an instruction
 
 abbrev pub verdict_at : MethodUnit → Instr → FaultKind → State → Verdict
-verdict_at unit i kind state = record { obligation = obligation i kind; proved = entailed unit i.op kind state }
+verdict_at unit i kind state = record { obligation = obligation i kind; proved = rules_out unit i.op kind state }
 
 pub one_more_judged : (found : List Verdict) (unit : MethodUnit) (i : Instr) (kinds : List FaultKind) (k : ℕ) (d : FaultKind) (state : State) → k < length kinds
     → (found ++ verdict_at unit i (get_or kinds k d) state ∷ []) ++ verdicts_in_turn unit i (drop (k + 1) kinds) (avoid unit i.op (get_or kinds k d) state)
@@ -35,6 +37,40 @@ pub one_more_judged : (found : List Verdict) (unit : MethodUnit) (i : Instr) (ki
 one_more_judged found unit i kinds k d state below =
     append_assoc found (verdict_at unit i (get_or kinds k d) state ∷ []) (verdicts_in_turn unit i (drop (k + 1) kinds) (avoid unit i.op (get_or kinds k d) state))
     ∙ ap (λ (vs : List Verdict). found ++ vs) (sym (rw (drop-cons kinds k d below, add-one k) refl))
+
+-- ---- the instructions of a block
+
+-- All instructions but the last.
+abbrev front : List Instr → List Instr
+front is = take (length is - 1) is
+
+module _ (unit : MethodUnit) (is : List Instr) (k : ℕ) (i : Instr) (state : State) (found : List Verdict) where
+  from_it : k < length is → get_or is k i ≡ i → drop k is ≡ i ∷ drop (k + 1) is
+  from_it below here =
+      drop-cons is k i below
+      ∙ (ap (λ (j : Instr). j ∷ drop (suc k) is) here ∙ ap (λ (n : ℕ). i ∷ drop n is) (sym (add-one k)))
+
+  -- What is found at an instruction, and from the next one on.
+  pub one_more_passed : k < length (front is) → i ≡ get_or (front is) k i
+      → (found ++ verdicts_at unit i state) ++ verdicts_from unit (drop (k + 1) is) (post unit i.op state)
+      ≡ found ++ verdicts_from unit (drop k is) state
+  one_more_passed below there =
+      let within : k < length is = omega (arith, below, length-take (length is - 1) is) in
+      let here : get_or is k i ≡ i =
+      sym (there ∙ get_or-take (length is - 1) is k i (omega (arith, below, length-take (length is - 1) is))) in
+      append_assoc found (verdicts_at unit i state) (verdicts_from unit (drop (k + 1) is) (post unit i.op state))
+      ∙ ap (λ (js : List Instr). found ++ verdicts_from unit js state) (sym (from_it within here))
+
+  -- What is found at the last.
+  pub last_passed : 1 ≤ length is → length (front is) ≤ k → k ≤ length (front is) → i ≡ get_or is (length is - 1) i
+      → found ++ verdicts_at unit i state ≡ found ++ verdicts_from unit (drop k is) state
+  last_passed some least most there =
+      let last : k ≡ length is - 1 = omega (arith, some, least, most, length-take (length is - 1) is) in
+      let here : get_or is k i ≡ i = ap (λ (n : ℕ). get_or is n i) last ∙ sym there in
+      let rest : drop (k + 1) is ≡ [] = drop_all (k + 1) is (omega (arith, some, last)) in
+      ap (λ (vs : List Verdict). found ++ vs) (sym (append-nil (verdicts_at unit i state)))
+      ∙ ap (λ (js : List Instr). found ++ verdicts_from unit js state)
+      (sym (from_it (omega (arith, some, last)) here ∙ ap (λ (js : List Instr). i ∷ js) rest))
 
 -- ---- all blocks
 
