@@ -8,11 +8,15 @@ use Rattle.cil_model.specs.declared.machine.Obligation.{Obligation}
 use Rattle.cil_model.specs.declared.place.Place.TheVariants as places
 use Rattle.cil_model.specs.declared.unit.Unit.{Unit as MethodUnit}
 use Rattle.cil_model.proofs.Laid.{method}
-use Rattle.number_facts.specs.Ends.{range_of}
+use Rattle.number_facts.specs.Assume.{assumed as numbers_assumed, assumed_apart, assumed_at_most, assumed_equal, changed, cut_both, holding, lost, lowered, ordered, raised}
+use Rattle.number_facts.specs.Ends.{met, range_of, span_at}
 use Rattle.number_facts.specs.Facts.{range_at}
-use Rattle.number_spans.specs.Spans.{excludes, moved}
+use Rattle.number_facts.specs.Fresh.{bounded}
+use Rattle.number_facts.specs.Gaps.{at_most, equal, gap}
+use Rattle.number_spans.specs.Spans.{excludes, moved, shifted}
 use Rattle.obligation_prover.specs.Operations.{operation_of}
-use Rattle.state_facts.specs.Assuming.{assumed}
+use Rattle.pentagon_domain.specs.Gaps.{gap_with}
+use Rattle.state_facts.specs.Assuming.{assumed, following, symbol_told, with_steps, with_test}
 use Rattle.state_facts.specs.Moves.{popped}
 use Rattle.state_obligations.specs.Assumed.{assumed_by, no_division_overflow}
 use Rattle.state_obligations.specs.Entailed.{entailed_by}
@@ -36,7 +40,7 @@ too_large = record { at = 2; kind = faults.DivOverflow; callee = None }
 -- What is known at the entry proves both obligations.
 both_proved : verdicts (flow_of unit) (Some no_variables ∷ [])
     ≡ record { obligation = zero_divisor; proved = true } ∷ record { obligation = too_large; proved = true } ∷ []
-unfolding verdicts is_inductive has_numbers has_references entry kinds_of post acted operated operation_of entailed_by assumed_by no_division_overflow assumed popped range_at range_of excludes moved
+unfolding verdicts is_inductive has_numbers has_references entry kinds_of post acted operated operation_of entailed_by assumed_by no_division_overflow assumed following symbol_told bounded with_steps with_test numbers_assumed assumed_apart assumed_at_most assumed_equal changed cut_both holding lost lowered ordered raised met span_at at_most equal gap gap_with popped range_at range_of excludes moved shifted
 both_proved = refl
 
 -- That nothing is reached proves none, since the entry is.

@@ -63,7 +63,7 @@ one_of_all f a (suc n) b proved low high =
     elim (cases_lt a b) [
       | inl less ↦ one_of_all f (a + 1) n b parts.1 (omega (arith, less)) (omega (arith, high))
       | inr not ↦ (let same : a ≡ b = omega (arith, low, not) in
-        subst (λ (k : ℕ). all_proved (f k) ≡ true) same parts.0)
+          subst (λ (k : ℕ). all_proved (f k) ≡ true) same parts.0)
     ]
 
 only : (next n at : ℕ) → slice_get (next ∷ []) n ≡ Some at → at ≡ next
