@@ -2,7 +2,7 @@
 use Rattle.std.proofs.Common.{◌≡◌, ℕ, zero, suc, ◌+◌, ◌==◌, ◌<◌, ◌≤◌, Bool, true, false, ◌&&◌, ◌||◌, List, [], ◌∷◌, ◌++◌, map, length, reverse, get_or, slice_get, Option, Some, None, refl, sym, ap, subst, ◌∙◌, append_assoc, length-append, arith}
 use Rattle.std.specs.Prelude.{◌↔◌, IsTrue, pos}
 use Rattle.std.specs.List.{AllByRecursion}
-use Rattle.std.proofs.lemmas.Bool.{and_parts, eqb-true, false≢true}
+use Rattle.std.proofs.lemmas.Bool.{and_parts, eq-eqb, eqb-true, ne_eqb, false≢true}
 use Rattle.std.proofs.lemmas.List.{length-map, reverse-reverse}
 use Rattle.std.proofs.lemmas.Option.{slice_get-get_or}
 use Rattle.alias_facts.specs.declared.nullness.Nullness.TheVariants.{NotNull}
@@ -33,7 +33,7 @@ same_place_of : (place : Place) (r : ℕ) (known : StateFacts) → HasReference 
 unfolding reference_at
 same_place_of place zero known there = refl
 same_place_of place (suc r) known there =
-    rw (slice_get-get_or known.references r some_reference (omega (arith, there))) refl
+    rw (ne_eqb (suc r) 0 (λ e. absurd (omega (arith, e))), slice_get-get_or known.references r some_reference (omega (arith, there))) refl
 
 by_place : (place : Place) (r : ℕ) (known : StateFacts) → HasReference known r
     → (is_null_or place r known ≡ true) ↔ (is_of_place known place r ≡ true)
@@ -146,18 +146,25 @@ module _ (state : State) where
     three : length (args ++ args ++ locals) ≡ length unit.args + length unit.args + length unit.locals
     three = omega (arith, length-append (args ++ args) locals, two, long_locals)
 
+    one_args : 0 + length args ≡ length unit.args
+    one_args = omega (arith, long_args)
+
+    two_args : 0 + length (args ++ args) ≡ length unit.args + length unit.args
+    two_args = omega (arith, two)
+
+    all_three : 0 + length (args ++ args ++ locals) ≡ length unit.args + length unit.args + length unit.locals
+    all_three = omega (arith, three)
+
+    joined : (ks js : List Kind) (n : ℕ) (test : Bool) → fit_from state ks 0 ≡ test → 0 + length ks ≡ n
+        → fit_from state (ks ++ js) 0 ≡ (test && fit_from state js n)
+    joined ks js n test is at =
+        appended ks js 0
+        ∙ (ap (λ b. b && fit_from state js (0 + length ks)) is ∙ ap (λ m. test && fit_from state js m) at)
+
     pub whole : fit_from state (args ++ args ++ locals ++ stack) 0 ≡ fit_frame unit stack state
     whole =
-        appended (args ++ args ++ locals) stack 0
-        ∙ (ap (λ b. b && fit_from state stack (0 + length (args ++ args ++ locals)))
-        (appended (args ++ args) locals 0
-        ∙ ap (λ b. b && fit_from state locals (0 + length (args ++ args)))
-        (appended args args 0 ∙ ap (λ n. fit_from state args 0 && fit_from state args n) (omega (arith, long_args) : 0 + length args ≡ length unit.args)))
-        ∙ rest)
-      where
-        rest : ((fit_from state args 0 && fit_from state args (length unit.args)) && fit_from state locals (0 + length (args ++ args))
-            && fit_from state stack (0 + length (args ++ args ++ locals))) ≡ fit_frame unit stack state
-        rest = rw (two, three) refl
+        joined (args ++ args ++ locals) stack _ _
+        (joined (args ++ args) locals _ _ (joined args args _ _ refl one_args) two_args) all_three
 
 -- ---- the whole stack
 
@@ -194,10 +201,7 @@ module _ (unit : MethodUnit) (stack : List Kind) (known : StateFacts) (form : Ha
       let all = told known [] known.variables frame_kinds 0 refl refl form.variables
           (subst (λ ks. FitKinds known ks known.variables) are_kinds has.fit) in
       both_true known (length known.variables == wanted) (fit_frame unit stack (Some known))
-      (rw (all.1 ∙ long) (same_number wanted)) (sym (whole (Some known) unit stack) ∙ all.0)
-    where
-      same_number : (n : ℕ) → (n == n) ≡ true
-      same_number n = eqb_same n
+      (eq-eqb (length known.variables) wanted (all.1 ∙ long)) (sym (whole (Some known) unit stack) ∙ all.0)
 
   pub stack_told : IsTrue (fit_stack unit stack (Some known)) ↔ HasKinds (kinds_over unit (reverse stack)) known
   stack_told = (forth, back)
