@@ -7,4 +7,5 @@ pub mod Ways
 pub mod GoingOn
 pub mod Walking
 pub mod Inducing
+pub mod FitTold
 pub mod Beginning

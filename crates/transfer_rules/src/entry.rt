@@ -1,10 +1,13 @@
 //! The state where a method begins.
 
-ghost use Rattle.std.specs.Prelude.{◌≡◌, Some, IfOk, OnOk};
+ghost use Rattle.std.specs.Prelude.{◌≡◌, slice_get, Some, IfOk, OnOk};
 ghost use Rattle.std.specs.Option.{option_map};
 ghost use Rattle.cil_model.specs.Clauses.{clauses_of};
 ghost use Rattle.cil_model.specs.WellFormed.{IsWellFormed};
 ghost use Rattle.cil_model.specs.declared.clause.ClauseKind.TheVariants as kinds;
+ghost use Rattle.frame_names.specs.declared.var.Var.{Var};
+ghost use Rattle.state_facts.specs.StateFacts.{variables_in};
+ghost use Rattle.state_facts.specs.States.{push};
 ghost use Rattle.transfer_rules.specs.Entry as rule;
 ghost use Rattle.transfer_rules.specs.Entry.{HoldsAtEntry};
 ghost use Rattle.transfer_rules.specs.Laws.BegunLaws.{entry_kinds};
@@ -46,15 +49,23 @@ pub(crate) fn push_unknown(state: &mut AbsState, places: &[Place]) -> Result<(),
     Ok(())
 }
 
+/// Pushes what the variable of this list index has.
+fn push_again(state: &mut AbsState, i: u64) -> Result<(), NoMemory>
+    ensures { OnOk result ((v : Var) → slice_get (variables_in state.old) i ≡ Some v → state.new ≡ push v state.old) }
+{
+    match state.var_at(i) {
+        Some(value) => state.push(value),
+        None => Ok(()),
+    }
+}
+
 /// Pushes all variables once more.
+#[tactic(auto, using(crate::proofs::Beginning::again))]
 fn push_twice(state: &mut AbsState) -> Result<(), NoMemory>
     ensures { OnOk result (state.new ≡ option_map rule.twice state.old) }
 {
     for i in 0..state.var_count() {
-        let Some(value) = state.var_at(i) else {
-            break;
-        };
-        state.push(value)?;
+        push_again(state, i)?;
     }
     Ok(())
 }
