@@ -40,7 +40,10 @@ too_large = record { at = 2; kind = faults.DivOverflow; callee = None }
 -- What is known at the entry proves both obligations.
 both_proved : verdicts (flow_of unit) (Some no_variables ∷ [])
     ≡ record { obligation = zero_divisor; proved = true } ∷ record { obligation = too_large; proved = true } ∷ []
-unfolding verdicts is_inductive has_numbers has_references entry kinds_of post acted operated operation_of entailed_by assumed_by no_division_overflow assumed following symbol_told bounded with_steps with_test numbers_assumed assumed_apart assumed_at_most assumed_equal changed cut_both holding lost lowered ordered raised met span_at at_most equal gap gap_with popped range_at range_of excludes moved shifted
+unfolding verdicts is_inductive has_numbers has_references entry kinds_of post acted operated operation_of entailed_by
+    assumed_by no_division_overflow assumed following symbol_told bounded with_steps with_test numbers_assumed
+    assumed_apart assumed_at_most assumed_equal changed cut_both holding lost lowered ordered raised met span_at at_most
+    equal gap gap_with popped range_at range_of excludes moved shifted
 both_proved = refl
 
 -- That nothing is reached proves none, since the entry is.

@@ -48,7 +48,8 @@ module _ (code : UnitFlow) (told : IsToldOf code) where
       by o is None fits = tt
       by None is (Some known) fits = absurd fits
       by (Some stack) is (Some known) has =
-          let typed = passed_along code.unit code.kinds (decoded code told.lawful) told.lawful.kinds i at stack passed is in
+          let typed =
+          passed_along code.unit code.kinds (decoded code told.lawful) told.lawful.kinds i at stack passed is in
           absorbed_fits code.unit (before (i.at + i.size)) typed.after (post code.unit i.op (Some known)) typed.absorbed
           (acts stack typed.after (avoid_all i.op (Some known))
           (stays_fitting code.unit stack known (avoid_all i.op (Some known)) (avoided_stays i.op known has.form) has)

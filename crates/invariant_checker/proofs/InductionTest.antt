@@ -1,25 +1,24 @@
 -- The test of an invariant tells whether states are one.
-use Rattle.std.proofs.Common.{◌≡◌, ℕ, zero, suc, ◌+◌, ◌<◌, ◌≤◌, ◌==◌, Bool, true, false, ◌&&◌, Decides, List, [], ◌∷◌, length, Option, Some, None, refl, sym, subst, arith, inl, inr}
+use Rattle.std.proofs.Common.{◌≡◌, ℕ, zero, suc, ◌+◌, ◌<◌, ◌≤◌, ◌==◌, Bool, true, ◌&&◌, Decides, List, length, reverse, Option, Some, None, refl, sym, subst, arith, inl, inr}
 use Rattle.std.specs.List.{list_all, range_with_len}
-use Rattle.std.proofs.lemmas.Bool.{and_parts, cases_lt, eq-eqb, eqb-true, true≢false}
-use Rattle.std.proofs.lemmas.Bool.Decides.{Decides-and, Decides-like}
+use Rattle.std.proofs.lemmas.Bool.{and_parts, cases_lt, eq-eqb, eqb-true, false≢true}
+use Rattle.std.proofs.lemmas.List.{reverse-reverse}
 use Rattle.abs_state.specs.FormTests.{has_form}
 use Rattle.abs_state.specs.StateParts.{parts_of}
 use Rattle.abs_state.proofs.PartForms.{form_decides}
 use Rattle.cil_model.specs.declared.place.Kind.{Kind}
-use Rattle.cil_model.specs.declared.place.Kind.TheVariants as kinds
-use Rattle.cil_model.specs.declared.place.Place.TheVariants as places
 use Rattle.cil_model.specs.declared.unit.Unit.{Unit as MethodUnit}
-use Rattle.frame_names.specs.declared.var.Var.{Var}
-use Rattle.frame_names.specs.declared.var.Var.TheVariants as vars
 use Rattle.merged_states.specs.Inclusion.{is_included}
+use Rattle.state_facts.specs.Forms.{HasForm}
 use Rattle.state_facts.specs.StateFacts.{StateFacts, State}
 use Rattle.transfer_rules.specs.Entry.{entry}
-use Rattle.transfer_rules.specs.Forms.{FitKinds, FitsKind, FitsStack, HasKinds, kinds_over}
+use Rattle.transfer_rules.specs.FitTests.{fit_stack}
+use Rattle.transfer_rules.specs.Forms.{FitsStack, HasKinds, kinds_over}
 use Rattle.transfer_rules.specs.Inductive.{IsInductive, state_at}
+use Rattle.transfer_rules.proofs.FitTold.{stack_told}
 use Rattle.unit_flow.specs.Flow.{kinds_at}
 use Rattle.unit_flow.specs.declared.unit_flow.UnitFlow.{UnitFlow}
-use Rattle.invariant_checker.specs.Inducts.{fit_kinds, fits_block, fits_kind, fits_stack, has_kinds, has_shape, is_carried, is_inductive}
+use Rattle.invariant_checker.specs.Inducts.{fits_block, fits_stack, has_shape, is_carried, is_inductive}
 
 -- ---- a test of numbers below another
 
@@ -41,53 +40,28 @@ all_from p a (suc n) each =
 
 -- ---- the form of states
 
-always : Decides true (Unit {0})
-always = (λ is. tt, λ u. refl)
-
-never : Decides false ⊥
-never = (λ is. true≢false (sym is), λ none. absurd none)
-
-same_number : (m n : ℕ) → Decides (m == n) (m ≡ n)
-same_number m n = (λ is. eqb-true m n is, λ is. eq-eqb m n is)
-
-kind_decides : (known : StateFacts) (kind : Kind) (v : Var) → Decides (fits_kind known kind v) (FitsKind known kind v)
-kind_decides known kinds.Int (vars.Number e) = always
-kind_decides known kinds.Native (vars.Number e) = always
-kind_decides known kinds.Ints (vars.Reference r) = (λ is. is, λ is. is)
-kind_decides known kinds.Bools (vars.Reference r) = (λ is. is, λ is. is)
-kind_decides known kinds.NullRef (vars.Reference r) = same_number r 0
-kind_decides known kinds.Text vars.Text = always
-kind_decides known kinds.Int (vars.Reference r) = never
-kind_decides known kinds.Int vars.Text = never
-kind_decides known kinds.Native (vars.Reference r) = never
-kind_decides known kinds.Native vars.Text = never
-kind_decides known kinds.Ints (vars.Number e) = never
-kind_decides known kinds.Ints vars.Text = never
-kind_decides known kinds.Bools (vars.Number e) = never
-kind_decides known kinds.Bools vars.Text = never
-kind_decides known kinds.NullRef (vars.Number e) = never
-kind_decides known kinds.NullRef vars.Text = never
-kind_decides known kinds.Text (vars.Number e) = never
-kind_decides known kinds.Text (vars.Reference r) = never
-
-kinds_decide : (known : StateFacts) (ks : List Kind) (vs : List Var)
-    → Decides (fit_kinds known ks vs) (FitKinds known ks vs)
-kinds_decide known [] [] = always
-kinds_decide known [] (v ∷ vs) = never
-kinds_decide known (kind ∷ ks) [] = never
-kinds_decide known (kind ∷ ks) (v ∷ vs) =
-    Decides-and (fits_kind known kind v) (fit_kinds known ks vs) (kind_decides known kind v) (kinds_decide known ks vs)
-
-has_decides : (ks : List Kind) (known : StateFacts) → Decides (has_kinds ks known) (HasKinds ks known)
-has_decides ks known = Decides-like _ (λ is. record { form = is.0; fit = is.1 }) (λ has. (has.form, has.fit))
-    (Decides-and (has_form (parts_of (Some known))) (fit_kinds known ks known.variables)
-    (form_decides (parts_of (Some known))) (kinds_decide known ks known.variables))
+has_decides : (unit : MethodUnit) (stack : List Kind) (known : StateFacts)
+    → Decides (has_form (parts_of (Some known)) && fit_stack unit (reverse stack) (Some known))
+    (HasKinds (kinds_over unit stack) known)
+has_decides unit stack known = (
+  λ is.
+      let parts = and_parts (has_form (parts_of (Some known))) (fit_stack unit (reverse stack) (Some known)) is in
+      subst (λ (ks : List Kind). HasKinds (kinds_over unit ks) known) (reverse-reverse stack)
+      ((stack_told unit (reverse stack) known (forms.0 parts.0)).0 parts.1),
+  λ has.
+      let fits = (stack_told unit (reverse stack) known has.form).1
+      (subst (λ (ks : List Kind). HasKinds (kinds_over unit ks) known) (sym (reverse-reverse stack)) has) in
+      rw (forms.1 has.form, fits) refl,
+)
+  where
+    forms : Decides (has_form (parts_of (Some known))) (HasForm known)
+    forms = form_decides (parts_of (Some known))
 
 stack_decides : (unit : MethodUnit) (stack : Option (List Kind)) (state : State)
     → Decides (fits_stack unit stack state) (FitsStack unit stack state)
-stack_decides unit stack None = always
-stack_decides unit None (Some known) = never
-stack_decides unit (Some stack) (Some known) = has_decides (kinds_over unit stack) known
+stack_decides unit stack None = (λ is. tt, λ fits. refl)
+stack_decides unit None (Some known) = (λ is. absurd (false≢true is), λ fits. absurd fits)
+stack_decides unit (Some stack) (Some known) = has_decides unit stack known
 
 -- ---- the test
 

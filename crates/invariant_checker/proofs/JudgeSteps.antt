@@ -4,7 +4,7 @@ use Rattle.std.specs.Prelude.{IsTrue}
 use Rattle.std.specs.List.{AllByRecursion, flat_map, range_with_len}
 use Rattle.std.proofs.lemmas.Bool.{cases_Bool, false≢true}
 use Rattle.std.proofs.lemmas.Grind.{flat_map-append}
-use Rattle.std.proofs.lemmas.List.{drop_all, get_or-take, length-take}
+use Rattle.std.proofs.lemmas.List.{get_or-take, length-take}
 use Rattle.std.proofs.lemmas.List.Elements.{All-from_recursion}
 use Rattle.cil_model.specs.declared.instruction.Instr.{Instr}
 use Rattle.cil_model.specs.declared.machine.FaultKind.{FaultKind}
@@ -31,11 +31,14 @@ use Rattle.invariant_checker.proofs.InductionTest.{inductive_by, inductive_true}
 abbrev pub verdict_at : MethodUnit → Instr → FaultKind → State → Verdict
 verdict_at unit i kind state = record { obligation = obligation i kind; proved = rules_out unit i.op kind state }
 
-pub one_more_judged : (found : List Verdict) (unit : MethodUnit) (i : Instr) (kinds : List FaultKind) (k : ℕ) (d : FaultKind) (state : State) → k < length kinds
-    → (found ++ verdict_at unit i (get_or kinds k d) state ∷ []) ++ verdicts_in_turn unit i (drop (k + 1) kinds) (avoid unit i.op (get_or kinds k d) state)
+pub one_more_judged : (found : List Verdict) (unit : MethodUnit) (i : Instr) (kinds : List FaultKind) (k : ℕ) (d : FaultKind)
+    (state : State) → k < length kinds
+    → (found ++ verdict_at unit i (get_or kinds k d) state ∷ [])
+    ++ verdicts_in_turn unit i (drop (k + 1) kinds) (avoid unit i.op (get_or kinds k d) state)
     ≡ found ++ verdicts_in_turn unit i (drop k kinds) state
 one_more_judged found unit i kinds k d state below =
-    append_assoc found (verdict_at unit i (get_or kinds k d) state ∷ []) (verdicts_in_turn unit i (drop (k + 1) kinds) (avoid unit i.op (get_or kinds k d) state))
+    append_assoc found (verdict_at unit i (get_or kinds k d) state ∷ [])
+    (verdicts_in_turn unit i (drop (k + 1) kinds) (avoid unit i.op (get_or kinds k d) state))
     ∙ ap (λ (vs : List Verdict). found ++ vs) (sym (rw (drop-cons kinds k d below, add-one k) refl))
 
 -- ---- the instructions of a block
@@ -61,31 +64,24 @@ module _ (unit : MethodUnit) (is : List Instr) (k : ℕ) (i : Instr) (state : St
       append_assoc found (verdicts_at unit i state) (verdicts_from unit (drop (k + 1) is) (post unit i.op state))
       ∙ ap (λ (js : List Instr). found ++ verdicts_from unit js state) (sym (from_it within here))
 
-  -- What is found at the last.
-  pub last_passed : 1 ≤ length is → length (front is) ≤ k → k ≤ length (front is) → i ≡ get_or is (length is - 1) i
-      → found ++ verdicts_at unit i state ≡ found ++ verdicts_from unit (drop k is) state
-  last_passed some least most there =
-      let last : k ≡ length is - 1 = omega (arith, some, least, most, length-take (length is - 1) is) in
-      let here : get_or is k i ≡ i = ap (λ (n : ℕ). get_or is n i) last ∙ sym there in
-      let rest : drop (k + 1) is ≡ [] = drop_all (k + 1) is (omega (arith, some, last)) in
-      ap (λ (vs : List Verdict). found ++ vs) (sym (append-nil (verdicts_at unit i state)))
-      ∙ ap (λ (js : List Instr). found ++ verdicts_from unit js state)
-      (sym (from_it (omega (arith, some, last)) here ∙ ap (λ (js : List Instr). i ∷ js) rest))
-
 -- ---- all blocks
 
 range_more : (a n : ℕ) → range_with_len a (suc n) ≡ range_with_len a n ++ (a + n) ∷ []
 range_more a zero = let same : a ≡ a + 0 = omega arith in ap (λ (k : ℕ). k ∷ []) same
 range_more a (suc n) =
     let same : a + 1 + n ≡ a + suc n = omega arith in
-    ap (λ (ks : List ℕ). a ∷ ks) (range_more (a + 1) n ∙ ap (λ (k : ℕ). range_with_len (a + 1) n ++ k ∷ []) same)
+    ap (λ (ks : List ℕ). a ∷ ks)
+    (range_more (a + 1) n ∙ ap (λ (k : ℕ). range_with_len (a + 1) n ++ k ∷ []) same)
 
 module _ (code : UnitFlow) (states : List State) where
-  pub block_judged : (k : ℕ) (state : State) (found more : List Verdict) → state ≡ state_at states k → found ≡ flat_map (verdicts_in code states) (range_with_len 0 k)
-      → more ≡ found ++ verdicts_of_block code state k → more ≡ flat_map (verdicts_in code states) (range_with_len 0 (k + 1))
+  pub block_judged : (k : ℕ) (state : State) (found more : List Verdict) → state ≡ state_at states k
+      → found ≡ flat_map (verdicts_in code states) (range_with_len 0 k)
+      → more ≡ found ++ verdicts_of_block code state k
+      → more ≡ flat_map (verdicts_in code states) (range_with_len 0 (k + 1))
   block_judged k state found more is before here =
       let range : range_with_len 0 (k + 1) ≡ range_with_len 0 k ++ k ∷ [] =
-      ap (range_with_len 0) (add-one k) ∙ (range_more 0 k ∙ ap (λ (n : ℕ). range_with_len 0 k ++ n ∷ []) (omega arith)) in
+      ap (range_with_len 0) (add-one k)
+      ∙ (range_more 0 k ∙ ap (λ (n : ℕ). range_with_len 0 k ++ n ∷ []) (omega arith)) in
       let f = verdicts_in code states in
       here ∙ (ap (λ (vs : List Verdict). vs ++ verdicts_of_block code state k) before
       ∙ (ap (λ (s : State). flat_map f (range_with_len 0 k) ++ verdicts_of_block code s k) is
@@ -94,7 +90,9 @@ module _ (code : UnitFlow) (states : List State) where
 
   pub few_blocks_there : IsLawful code → HasShape code states → (k : ℕ) → k < length states → k < 2 ^ 32
   few_blocks_there lawful shape k below =
-      let few : length code.graph.blocks < 2 ^ 32 = subst (λ (g : Graph). length g.blocks < 2 ^ 32) (sym lawful.graph) (few_blocks code.unit (laws.short code lawful)) in
+      let few : length code.graph.blocks < 2 ^ 32 =
+      subst (λ (g : Graph). length g.blocks < 2 ^ 32) (sym lawful.graph)
+      (few_blocks code.unit (laws.short code lawful)) in
       omega (arith, few, below, shape.count)
 
   -- ---- by whether the states are an invariant
@@ -111,7 +109,8 @@ module _ (code : UnitFlow) (states : List State) where
         | inr not ↦ rw not refl
       ]
 
-  none_proved : (listed : List Obligation) → AllByRecursion (λ v. IsTrue v.proved → IsInductive code states) (map unproved listed)
+  none_proved : (listed : List Obligation)
+      → AllByRecursion (λ v. IsTrue v.proved → IsInductive code states) (map unproved listed)
   none_proved [] = tt
   none_proved (o ∷ listed) = (λ proved. absurd (false≢true proved), none_proved listed)
 
@@ -120,5 +119,8 @@ module _ (code : UnitFlow) (states : List State) where
   proved_where_inductive =
       elim (cases_Bool (is_inductive code states)) [
         | inl is ↦ (λ k d below proved. inductive_by code states is)
-        | inr not ↦ rw not (All-from_recursion (λ v. IsTrue v.proved → IsInductive code states) (map unproved (obligations_of code.unit)) (none_proved (obligations_of code.unit)))
+        | inr not ↦
+            rw not
+            (All-from_recursion (λ v. IsTrue v.proved → IsInductive code states)
+            (map unproved (obligations_of code.unit)) (none_proved (obligations_of code.unit)))
       ]

@@ -1,5 +1,5 @@
 -- A unit is safe where no instruction ends in a fault at a point to which a run comes.
-use Rattle.std.proofs.Common.{◌≡◌, ◌⊎◌, ℕ, true, List, refl, sym, subst, inl, inr}
+use Rattle.std.proofs.Common.{◌≡◌, ℕ, true, List, refl, sym, subst, inl, inr}
 use Rattle.cil_model.specs.Effects.{Faults, HasEffect, effects}
 use Rattle.cil_model.specs.Runs.{IsDefined, IsNoFault, LocalRuns, LocalSafe, LocalStep}
 use Rattle.cil_model.specs.Values.{Heap}

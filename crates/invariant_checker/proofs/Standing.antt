@@ -28,7 +28,7 @@ use Rattle.transfer_rules.specs.Laws.FlowSteps.{fits_formed}
 use Rattle.transfer_rules.specs.Laws.StepsHold.{step_holds}
 use Rattle.transfer_rules.proofs.Inducing.{holds_there}
 use Rattle.unit_flow.specs.Chains.{IsChain, IsPassed}
-use Rattle.unit_flow.specs.Flow.{Steps, block_instrs, kinds_at, start_of}
+use Rattle.unit_flow.specs.Flow.{Steps, block_instrs, start_of}
 use Rattle.unit_flow.specs.Ways.{way_of}
 use Rattle.unit_flow.specs.declared.unit_flow.UnitFlow.{UnitFlow}
 use Rattle.unit_flow.proofs.BlockChains.{block_chain}

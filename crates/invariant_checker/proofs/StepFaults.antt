@@ -1,5 +1,5 @@
 -- A step to a fault, of a unit that calls no methods: an instruction ends in it, or an Ensures is not true.
-use Rattle.std.proofs.Common.{◌≡◌, ◌⊎◌, ℕ, true, false, List, [], ◌∷◌, ◌++◌, Option, Some, None, refl, sym, ap, subst, ◌∙◌, inl, inr}
+use Rattle.std.proofs.Common.{◌≡◌, ◌⊎◌, ℕ, false, List, [], ◌∷◌, Option, Some, None, refl, sym, ap, subst, ◌∙◌, inl, inr}
 use Rattle.std.specs.List.{AllByRecursion}
 use Rattle.std.proofs.lemmas.Option.{none-some}
 use Rattle.cil_model.specs.Calls.{Returned, ReturnRow, ensures_fault}
@@ -15,7 +15,6 @@ use Rattle.cil_model.specs.declared.instruction.BinOp.TheVariants as operators
 use Rattle.cil_model.specs.declared.instruction.Instr.{Instr}
 use Rattle.cil_model.specs.declared.instruction.Op.{Op}
 use Rattle.cil_model.specs.declared.instruction.Op.TheVariants as ops
-use Rattle.cil_model.specs.declared.machine.Config.{Config}
 use Rattle.cil_model.specs.declared.machine.Config.TheVariants as configs
 use Rattle.cil_model.specs.declared.machine.FaultKind.{FaultKind}
 use Rattle.cil_model.specs.declared.machine.FaultKind.TheVariants as faults
@@ -45,7 +44,8 @@ pub record BreaksEnsures (unit : MethodUnit) (kind : FaultKind) : Type 0 where
 
 -- That cannot be where there is none.
 pub none_broken : (unit : MethodUnit) (kind : FaultKind) → EnsuresNothing unit → BreaksEnsures unit kind → ⊥
-none_broken unit kind none breaks = none-some breaks.number (sym (holds breaks.frame breaks.heap breaks.result) ∙ breaks.untrue)
+none_broken unit kind none breaks =
+    none-some breaks.number (sym (holds breaks.frame breaks.heap breaks.result) ∙ breaks.untrue)
   where
     holds : (f : Frame) (heap : Heap) (result : Option Value) → ensures_fault unit f heap result ≡ None
     holds f heap result =

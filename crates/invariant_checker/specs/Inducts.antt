@@ -1,47 +1,26 @@
 -- Whether states are an invariant, as a test. transfer_rules says what it means (specs/Inductive.antt there).
-use Rattle.std.specs.Prelude.{ℕ, ◌==◌, Bool, true, false, ◌&&◌, List, [], ◌∷◌, length, Option, Some, None}
+use Rattle.std.specs.Prelude.{ℕ, ◌==◌, Bool, true, false, ◌&&◌, List, length, reverse, Option, Some, None}
 use Rattle.std.specs.List.{list_all, range_with_len}
 use Rattle.abs_state.specs.FormTests.{has_form}
 use Rattle.abs_state.specs.StateParts.{parts_of}
 use Rattle.cil_model.specs.declared.place.Kind.{Kind}
-use Rattle.cil_model.specs.declared.place.Kind.TheVariants as kinds
-use Rattle.cil_model.specs.declared.place.Place.TheVariants as places
 use Rattle.cil_model.specs.declared.unit.Unit.{Unit as MethodUnit}
-use Rattle.frame_names.specs.declared.var.Var.{Var}
-use Rattle.frame_names.specs.declared.var.Var.TheVariants as vars
 use Rattle.merged_states.specs.Inclusion.{is_included}
-use Rattle.state_facts.specs.StateFacts.{StateFacts, State}
+use Rattle.state_facts.specs.StateFacts.{State}
 use Rattle.transfer_rules.specs.Entry.{entry}
+use Rattle.transfer_rules.specs.FitTests.{fit_stack}
 use Rattle.transfer_rules.specs.Flow.{along_edge}
-use Rattle.transfer_rules.specs.Forms.{is_of_place, kinds_over}
 use Rattle.transfer_rules.specs.Inductive.{state_at}
 use Rattle.unit_flow.specs.Flow.{edge_at, kinds_at}
 use Rattle.unit_flow.specs.declared.unit_flow.UnitFlow.{UnitFlow}
 
--- What a variable has fits the kind.
-abbrev pub fits_kind : StateFacts → Kind → Var → Bool
-fits_kind known kinds.Int (vars.Number e) = true
-fits_kind known kinds.Native (vars.Number e) = true
-fits_kind known kinds.Ints (vars.Reference r) = is_of_place known places.Ints r
-fits_kind known kinds.Bools (vars.Reference r) = is_of_place known places.Bools r
-fits_kind known kinds.NullRef (vars.Reference r) = r == 0
-fits_kind known kinds.Text vars.Text = true
-fits_kind known kind v = false
-
-abbrev pub fit_kinds : StateFacts → List Kind → List Var → Bool
-fit_kinds known [] [] = true
-fit_kinds known (kind ∷ ks) (v ∷ vs) = fits_kind known kind v && fit_kinds known ks vs
-fit_kinds known ks vs = false
-
--- What is known has its form, and its variables fit these kinds.
-abbrev pub has_kinds : List Kind → StateFacts → Bool
-has_kinds ks known = has_form (parts_of (Some known)) && fit_kinds known ks known.variables
-
--- Nothing is reached, or the variables fit. Where typing does not come, nothing is reached.
+-- Nothing is reached, or what is known has its form and the variables fit. Where typing does not come, nothing is
+-- reached.
 abbrev pub fits_stack : MethodUnit → Option (List Kind) → State → Bool
 fits_stack unit stack None = true
 fits_stack unit None (Some known) = false
-fits_stack unit (Some stack) (Some known) = has_kinds (kinds_over unit stack) known
+fits_stack unit (Some stack) (Some known) =
+    has_form (parts_of (Some known)) && fit_stack unit (reverse stack) (Some known)
 
 -- The state of a block fits it.
 abbrev pub fits_block : UnitFlow → List State → ℕ → Bool
@@ -56,7 +35,8 @@ has_shape code states =
 -- The state along an edge from that of its source is included in that of its target.
 abbrev pub is_carried : UnitFlow → List State → ℕ → Bool
 is_carried code states edge =
-    is_included (along_edge (state_at states (edge_at code edge).from) code edge) (state_at states (edge_at code edge).to)
+    is_included (along_edge (state_at states (edge_at code edge).from) code edge)
+    (state_at states (edge_at code edge).to)
 
 -- The states have the unit's shape. The one where the unit begins is included in that of the first block, and the one
 -- along each edge in that of its target.

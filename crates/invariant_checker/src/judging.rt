@@ -18,7 +18,8 @@ use std::alloc::Global;
 use transfer_rules::{Invariant, inductive, post};
 use unit_flow::UnitFlow;
 
-/// Appends a verdict for each fault of an instruction. Each is judged where those before it are assumed not to have come.
+/// Appends a verdict for each fault of an instruction. Each is judged where those before it are assumed not to have
+/// come.
 fn push_in_turn(
     found: &mut Vec<Verdict>,
     state: &mut AbsState,
@@ -41,8 +42,8 @@ fn push_in_turn(
     Ok(())
 }
 
-/// Appends the verdicts at an instruction, from the state before it. An instruction without obligations costs nothing, and
-/// any other one a copy of the state.
+/// Appends the verdicts at an instruction, from the state before it. An instruction without obligations costs nothing,
+/// and any other one a copy of the state.
 fn push_verdicts(
     alloc: Global,
     found: &mut Vec<Verdict>,
@@ -147,8 +148,8 @@ fn find_verdicts(
 /// Returns whether each obligation of a unit is proved by an invariant, which may have come from anywhere: where it is
 /// none of this unit, nothing is proved.
 ///
-/// Cost: that of `inductive`, and then one walk through each block, with a copy of the state at each instruction that has
-/// obligations.
+/// Cost: that of `inductive`, and then one walk through each block, with a copy of the state at each instruction that
+/// has obligations.
 pub fn judge(
     alloc: Global,
     code: &UnitFlow,

@@ -1,5 +1,5 @@
 use Rattle.std.proofs.Common.{◌∙◌}
-use Rattle.invariant_checker.proofs.JudgeSteps.{last_passed, one_more_passed}
+use Rattle.invariant_checker.proofs.JudgeSteps.{one_more_passed}
 use Rattle.invariant_checker.proofs.judging.judge_instrs.Goals as goal
 
 pub loop-instr-preserved : goal.loop-instr-preserved
