@@ -1,0 +1,9 @@
+//! What is held of a unit.
+
+use abs_state::AbsState;
+
+/// What is held at the start of each block of a unit, a state for each block in their order.
+#[derive(Drop)]
+pub struct Invariant {
+    pub states: Vec<AbsState>,
+}
