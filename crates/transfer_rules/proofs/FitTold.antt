@@ -1,9 +1,10 @@
 -- The tests of forms tell whether variables fit kinds.
-use Rattle.std.proofs.Common.{◌≡◌, ℕ, zero, suc, ◌+◌, ◌==◌, ◌<◌, ◌≤◌, Bool, true, false, ◌&&◌, ◌||◌, List, [], ◌∷◌, ◌++◌, map, length, reverse, get_or, slice_get, Option, Some, None, refl, sym, ap, subst, ◌∙◌, append_assoc, length-append, arith}
-use Rattle.std.specs.Prelude.{◌↔◌, IsTrue, pos}
+use Rattle.std.proofs.Common.{◌≡◌, ℕ, zero, suc, ◌+◌, ◌==◌, ◌<◌, Bool, true, false, ◌&&◌, List, [], ◌∷◌, ◌++◌, map, length, reverse, drop, get_or, slice_get, Some, None, refl, sym, ap, subst, ◌∙◌, append_assoc, length-append, arith}
+use Rattle.std.specs.Prelude.{◌↔◌, IsTrue, is_some, pos}
+use Rattle.std.specs.Option.{ForSome}
 use Rattle.std.specs.List.{AllByRecursion}
 use Rattle.std.proofs.lemmas.Bool.{and_parts, eq-eqb, eqb-true, ne_eqb, false≢true}
-use Rattle.std.proofs.lemmas.List.{length-map, reverse-reverse}
+use Rattle.std.proofs.lemmas.List.{at_drop_more, length-map, reverse-reverse}
 use Rattle.std.proofs.lemmas.Option.{slice_get-get_or}
 use Rattle.alias_facts.specs.declared.nullness.Nullness.TheVariants.{NotNull}
 use Rattle.cil_model.specs.declared.place.Kind.{Kind}
@@ -19,7 +20,10 @@ use Rattle.state_facts.specs.Forms.{HasForm, HasReference, HasVar}
 use Rattle.state_facts.specs.StateFacts.{StateFacts, State, reference_at, variables_in}
 use Rattle.state_facts.specs.declared.reference.Unknown.{Unknown}
 use Rattle.transfer_rules.specs.FitTests.{fit_frame, fit_from, fit_stack, fits_kind, fits_there, is_null_or}
-use Rattle.transfer_rules.specs.Forms.{FitKinds, FitsKind, HasKinds, is_of_place, kind_in, kinds_over}
+use Rattle.transfer_rules.specs.Flow.{Fits}
+use Rattle.transfer_rules.specs.Forms.{FitKinds, FitsKind, FitsStack, HasKinds, is_of_place, kind_in, kinds_over}
+use Rattle.unit_flow.specs.Flow.{kinds_at}
+use Rattle.unit_flow.specs.declared.unit_flow.UnitFlow.{UnitFlow}
 
 -- ---- one variable
 
@@ -83,9 +87,9 @@ module _ (known : StateFacts) where
   fitting front (v ∷ vs) (k ∷ ks) i are at there long test =
       let both = and_parts (fits_there k (slice_get known.variables i) (Some known)) (fit_from (Some known) ks (i + 1)) test in (
         (kind_told k v known there.0).0
-        (subst (λ o. fits_there k o (Some known) ≡ true) (here_is front v vs i are at) both.0),
+            (subst (λ o. fits_there k o (Some known) ≡ true) (here_is front v vs i are at) both.0),
         fitting (front ++ v ∷ []) vs ks (i + 1) (next_are front v vs are) (next_at front v i at) there.1
-        (omega (arith, long)) both.1,
+            (omega (arith, long)) both.1,
       )
 
   both_true : (a b : Bool) → a ≡ true → b ≡ true → (a && b) ≡ true
@@ -100,10 +104,17 @@ module _ (known : StateFacts) where
   told front (v ∷ vs) (k ∷ ks) i are at there fits =
       let rest = told (front ++ v ∷ []) vs ks (i + 1) (next_are front v vs are) (next_at front v i at) there.1 fits.1 in (
         both_true (fits_there k (slice_get known.variables i) (Some known)) (fit_from (Some known) ks (i + 1))
-        (subst (λ o. fits_there k o (Some known) ≡ true) (sym (here_is front v vs i are at))
-        ((kind_told k v known there.0).1 fits.0)) rest.0,
+            (subst (λ o. fits_there k o (Some known) ≡ true) (sym (here_is front v vs i are at))
+            ((kind_told k v known there.0).1 fits.0)) rest.0,
         omega (arith, rest.1),
       )
+
+-- One that does not fit decides.
+pub one_misfit : (state : State) (ks : List Kind) (at i : ℕ) (d : Kind) → i < length ks
+    → fits_there (get_or ks i d) (slice_get (variables_in state) at) state ≡ false
+    → fit_from state (drop i ks) at ≡ false
+one_misfit state ks at i d below misfit =
+    at_drop_more (λ js. fit_from state js at) ks i d below ∙ ap (λ b. b && fit_from state (drop (i + 1) ks) (at + 1)) misfit
 
 -- ---- the parts of a frame
 
@@ -199,9 +210,25 @@ module _ (unit : MethodUnit) (stack : List Kind) (known : StateFacts) (form : Ha
   back : HasKinds (kinds_over unit (reverse stack)) known → fit_stack unit stack (Some known) ≡ true
   back has =
       let all = told known [] known.variables frame_kinds 0 refl refl form.variables
-          (subst (λ ks. FitKinds known ks known.variables) are_kinds has.fit) in
+      (subst (λ ks. FitKinds known ks known.variables) are_kinds has.fit) in
       both_true known (length known.variables == wanted) (fit_frame unit stack (Some known))
       (eq-eqb (length known.variables) wanted (all.1 ∙ long)) (sym (whole (Some known) unit stack) ∙ all.0)
 
   pub stack_told : IsTrue (fit_stack unit stack (Some known)) ↔ HasKinds (kinds_over unit (reverse stack)) known
   stack_told = (forth, back)
+
+-- ---- at a block
+
+told_at : (unit : MethodUnit) (stack : List Kind) (r : Bool) (state : State) → is_some state ≡ true
+    → ForSome state HasForm → r ≡ fit_stack unit stack state
+    → IsTrue r ↔ FitsStack unit (Some (reverse stack)) state
+told_at unit stack r None reached form is = absurd (false≢true reached)
+told_at unit stack r (Some known) reached form is =
+    let both = stack_told unit stack known (form known refl) in
+    (λ e. both.0 (sym is ∙ e), λ has. is ∙ both.1 has)
+
+pub fits_told : (code : UnitFlow) (block : ℕ) (state : State) (stack : List Kind) (r : Bool) → is_some state ≡ true
+    → ForSome state HasForm → r ≡ fit_stack code.unit stack state → Some (reverse stack) ≡ kinds_at code block
+    → IsTrue r ↔ Fits code block state
+fits_told code block state stack r reached form is kinds =
+    subst (λ ks. IsTrue r ↔ FitsStack code.unit ks state) kinds (told_at code.unit stack r state reached form is)

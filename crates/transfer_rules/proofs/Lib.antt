@@ -9,3 +9,4 @@ pub mod Walking
 pub mod Inducing
 pub mod FitTold
 pub mod Beginning
+pub mod Requiring

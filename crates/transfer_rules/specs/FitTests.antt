@@ -1,5 +1,5 @@
 -- Whether the variables of states have the forms of kinds, as tests. specs/Forms.antt says what they mean.
-use Rattle.std.specs.Prelude.{ℕ, ◌+◌, ◌==◌, Bool, true, false, ◌&&◌, ◌||◌, List, [], ◌∷◌, map, length, slice_get, Option, Some, None}
+use Rattle.std.specs.Prelude.{ℕ, ◌+◌, ◌==◌, Bool, true, false, ◌&&◌, ◌||◌, List, [], ◌∷◌, map, length, slice_get, Option, Some}
 use Rattle.cil_model.specs.Values.{same_place}
 use Rattle.cil_model.specs.declared.place.Kind.{Kind}
 use Rattle.cil_model.specs.declared.place.Kind.TheVariants as kinds

@@ -1,6 +1,7 @@
 //! The state where a method begins.
 
-ghost use Rattle.std.specs.Prelude.{◌≡◌, slice_get, Some, IfOk, OnOk};
+ghost use Rattle.std.specs.Prelude.{◌≡◌, [], ◌∷◌, slice_get, Some, IfOk, OnOk};
+ghost use Rattle.std.specs.List.{AllByRecursion};
 ghost use Rattle.std.specs.Option.{option_map};
 ghost use Rattle.cil_model.specs.Clauses.{clauses_of};
 ghost use Rattle.cil_model.specs.WellFormed.{IsWellFormed};
@@ -11,10 +12,11 @@ ghost use Rattle.state_facts.specs.States.{push};
 ghost use Rattle.transfer_rules.specs.Entry as rule;
 ghost use Rattle.transfer_rules.specs.Entry.{HoldsAtEntry};
 ghost use Rattle.transfer_rules.specs.Laws.BegunLaws.{entry_kinds};
+ghost use Rattle.transfer_rules.specs.Laws.EntryLaws.{IsTestOf};
 ghost use Rattle.transfer_rules.specs.Laws.Fitting.{AreKinds};
 
 use abs_state::{AbsState, Parts, Var};
-use cil_model::{ClauseKind, Place, Unit};
+use cil_model::{Clause, ClauseKind, Place, Unit};
 use clause_trees::{TreeEnv, assume_tree};
 use domain_api::NoMemory;
 use number_spans::constant;
@@ -101,21 +103,39 @@ fn begun(alloc: Global, unit: &Unit) -> Result<AbsState, NoMemory>
     Ok(state)
 }
 
+/// The state in which a clause is assumed to be true, where it is a Requires.
+fn assume_required(
+    alloc: Global,
+    state: AbsState,
+    unit: &Unit,
+    clause: &Clause,
+) -> Result<AbsState, NoMemory>
+    requires kinds { AreKinds (entry_kinds unit.now) state }
+    requires test { AllByRecursion (IsTestOf unit.now) (clauses_of kinds.Requires (clause.now ∷ [])) }
+    ensures { IfOk result (λ new. new ≡ rule.required (clauses_of kinds.Requires (clause.now ∷ [])) state) }
+{
+    match clause.kind {
+        ClauseKind::Requires => {
+            let env = TreeEnv {
+                args: 0,
+                result: None,
+            };
+            assume_tree(alloc, &state, &clause.tree, &env)
+        }
+        ClauseKind::Ensures => Ok(state),
+    }
+}
+
 /// The state in which each Requires of the unit is assumed to be true, one after another.
+#[tactic(auto, using(crate::proofs::Requiring::requiring))]
 fn required(alloc: Global, state: AbsState, unit: &Unit) -> Result<AbsState, NoMemory>
     requires formed { IsWellFormed unit.now }
     requires begun { AreKinds (entry_kinds unit.now) state }
     ensures { IfOk result (λ new. new ≡ rule.required (clauses_of kinds.Requires unit.now.clauses) state) }
 {
-    let env = TreeEnv {
-        args: 0,
-        result: None,
-    };
     let mut known = state;
     for clause in unit.clauses.as_slice() {
-        if clause.kind == ClauseKind::Requires {
-            known = assume_tree(alloc, &known, &clause.tree, &env)?;
-        }
+        known = assume_required(alloc, known, unit, clause)?;
     }
     Ok(known)
 }
