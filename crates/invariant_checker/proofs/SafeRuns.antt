@@ -15,7 +15,7 @@ use Rattle.unit_flow.specs.declared.unit_flow.UnitFlow.{UnitFlow}
 use Rattle.unit_flow.proofs.KindsAlong.{makes}
 use Rattle.unit_flow.proofs.LawfulCode as laws
 use Rattle.unit_flow.proofs.OnTheWay.{StepsToFault, itself, run_faults, typed}
-use Rattle.invariant_checker.specs.Safety.{EnsuresNothing, FaultsByEnsures, IsSafe, IsSafeButForEnsures, is_of_ensures}
+use Rattle.invariant_checker.specs.Safety.{EnsuresNothing, FaultsAtMostByEnsures, IsSafe, IsSafeButForEnsures, is_of_ensures}
 use Rattle.invariant_checker.proofs.StepFaults.{BreaksEnsures, faults_or_breaks, none_broken}
 
 -- No step to a fault is one of an instruction that ends in it.
@@ -48,7 +48,7 @@ module _ (code : UnitFlow) (told : IsToldOf code) (none : NoneFaults code told.l
   by_ensures kind broken = subst (λ (k : FaultKind). is_of_ensures k ≡ true) (sym broken.kind_is) refl
 
   at_most : (index : ℕ) (args : List Value) (heap : Heap) (n : ℕ) (c : Config) → LocalRuns unit index args heap n c
-      → FaultsByEnsures c
+      → FaultsAtMostByEnsures c
   at_most index args heap n (configs.Fault kind m at) runs = by_ensures kind (breaks index args heap n kind m at runs)
   at_most index args heap n _ runs = tt
 

@@ -31,11 +31,11 @@ is_of_ensures (faults.Ensures number) = true
 is_of_ensures _ = false
 
 -- The configuration is no fault, unless that an Ensures is not true.
-abbrev pub FaultsByEnsures : Config → Type 0
-FaultsByEnsures (configs.Fault kind unit at) = is_of_ensures kind ≡ true
-FaultsByEnsures _ = Unit {0}
+abbrev pub FaultsAtMostByEnsures : Config → Type 0
+FaultsAtMostByEnsures (configs.Fault kind unit at) = is_of_ensures kind ≡ true
+FaultsAtMostByEnsures _ = Unit {0}
 
 -- No run of the unit by itself ends in another fault than that, or where nothing is defined.
 abbrev pub IsSafeButForEnsures : MethodUnit → Type 0
 IsSafeButForEnsures unit = (index : ℕ) (args : List Value) (heap : Heap) (n : ℕ) (c : Config)
-    → LocalRuns unit index args heap n c → FaultsByEnsures c × IsDefined (LocalStep unit) c
+    → LocalRuns unit index args heap n c → FaultsAtMostByEnsures c × IsDefined (LocalStep unit) c
