@@ -1,10 +1,10 @@
-use Rattle.std.proofs.Common.{◌≡◌, ◌<◌, ◌∙◌, true, sym, subst, refl, length, arith}
+use Rattle.std.proofs.Common.{◌<◌, ◌∙◌, sym, subst, refl, length, arith}
 use Rattle.std.proofs.lemmas.List.{get_or_read}
 use Rattle.widening_engine.specs.Flows.{flow_of}
 use Rattle.widening_engine.specs.Kept.{states_of}
-use Rattle.widening_engine.specs.Rounds.{Flow, behind, is_carried, state_at}
+use Rattle.widening_engine.specs.Rounds.{Flow, behind, state_at}
 use Rattle.widening_engine.proofs.EdgeSteps.{behind_fits, keeps}
-use Rattle.widening_engine.proofs.KeptStates.{behind_at, carried_found, mark_read, state_read}
+use Rattle.widening_engine.proofs.KeptStates.{behind_at, carried_found, state_read}
 use Rattle.widening_engine.proofs.kept.Kept.is_carried.Goals as goal
 
 pub leq-requires : goal.leq-requires

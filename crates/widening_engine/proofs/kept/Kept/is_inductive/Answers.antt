@@ -1,7 +1,7 @@
-use Rattle.std.proofs.Common.{◌≡◌, ◌<◌, ◌∙◌, List, ap, sym, arith}
+use Rattle.std.proofs.Common.{◌≡◌, ◌<◌, ◌∙◌, ap, sym, arith}
 use Rattle.widening_engine.specs.Flows.{flow_of}
 use Rattle.widening_engine.specs.Kept.{states_of}
-use Rattle.widening_engine.specs.Rounds.{Flow, is_carried, is_inductive}
+use Rattle.widening_engine.specs.Rounds.{Flow, is_inductive}
 use Rattle.widening_engine.proofs.KeptStates.{all_carried, not_begun, not_carried}
 use Rattle.widening_engine.proofs.kept.Kept.is_inductive.Goals as goal
 
