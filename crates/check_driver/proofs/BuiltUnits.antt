@@ -1,14 +1,12 @@
 -- The flow of a unit that is built is told of, and the unit is safe where each verdict on it is that of a proved obligation.
-use Rattle.std.proofs.Common.{◌≡◌, ◌*◌, ◌<◌, ◌≤◌, true, List, [], length, Result, Ok, Err, Vec, Global, refl, ap, ◌∙◌, subst, sym, arith}
+use Rattle.std.proofs.Common.{◌≡◌, ◌*◌, ◌<◌, ◌≤◌, true, List, length, Result, Ok, Err, Vec, Global, refl, ap, ◌∙◌, subst, sym, arith}
 use Rattle.std.specs.Prelude.{All, IfOk}
-use Rattle.cil_model.specs.Clauses.{clauses_of}
 use Rattle.cil_model.specs.Limits.{MAX_CLAUSES}
 use Rattle.cil_model.specs.Passes.{KindsOf}
 use Rattle.cil_model.specs.Shapes.{shape_of}
-use Rattle.cil_model.specs.declared.clause.ClauseKind.TheVariants as kinds
 use Rattle.cil_model.specs.declared.unit.Unit.{Unit as MethodUnit}
 use Rattle.invariant_checker.specs.Counts.{all_proved}
-use Rattle.invariant_checker.specs.Safety.{IsSafe}
+use Rattle.invariant_checker.specs.Safety.{EnsuresNothing, IsSafe}
 use Rattle.invariant_checker.specs.Verdicts.{verdicts}
 use Rattle.invariant_checker.specs.declared.verdict.Verdict.{Verdict}
 use Rattle.invariant_checker.proofs.Soundness.{proved_is_safe}
@@ -36,13 +34,13 @@ told_flow unit built =
     let typed = subst (KindsOf (shape_of unit) unit.instrs) (found_kinds unit well.runs.stacks well.runs.kinds) well.runs.kinds in
     record { lawful = record { formed = well; graph = refl; kinds = typed }; alone = built_alone unit built.is_unit built.built }
 
-pub built_is_silent : (unit : MethodUnit) → IsBuilt unit → clauses_of kinds.Ensures unit.clauses ≡ []
+pub built_is_silent : (unit : MethodUnit) → IsBuilt unit → EnsuresNothing unit
 built_is_silent unit built = BuiltParts.silent (built_parts unit built.built)
 
 pub built_is_safe : (unit : MethodUnit) → IsBuilt unit → all_proved (unit_verdicts unit) ≡ true → IsSafe unit
 unfolding unit_verdicts
 built_is_safe unit built proved =
-    proved_is_safe (flow_of unit) (limit_of (flow_of unit)) (told_flow unit built) (built_is_silent unit built) proved
+    proved_is_safe (flow_of unit) (limit_of (flow_of unit)) (told_flow unit built) proved (built_is_silent unit built)
 
 -- ---- its verdicts
 
