@@ -39,10 +39,10 @@ public class Shop
         return count;
     }
 
-    // N13: it has a contract.
+    // N13: it has an Ensures.
     public static int Half(int n)
     {
-        Contract.Requires(n >= 0);
+        Contract.Ensures(Contract.Result<int>() <= 1 << 30);
         return n / 2;
     }
 

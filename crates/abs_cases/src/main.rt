@@ -3,11 +3,9 @@
 //! The words are the names of files of cases. docs/RULE_CASES.md says how a case is written.
 #![tactic(auto)]
 
-mod premises;
 mod rules;
 mod state_answers;
 mod state_steps;
-mod states;
 
 use rule_text::run_files;
 use rules::AbsRules;

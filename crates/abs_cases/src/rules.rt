@@ -1,9 +1,9 @@
 //! The rules, by the keywords of cases.
 
-use crate::states::state;
 use crate::{state_answers, state_steps};
 use abs_state::AbsState;
 use rule_text::{Failure, Line, Rules};
+use state_text::state;
 use std::alloc::Global;
 
 /// The state of a case that is run.

@@ -1,13 +1,15 @@
 //! The rules that tell something of a state.
 
-use crate::premises::{are_alike, has_number, has_reference, has_symbol, reached};
 use crate::state_steps::{read_count, read_operator};
-use crate::states::{append_value, parts, state, state_text};
 use abs_state::AbsState;
 use domain_api::Lattice;
 use fact_text::{expr, nullness_name, reference, symbol};
 use rule_text::{
     Failure, append_number, append_wide_range, asked, check, check_yes, three_words, two_words,
+};
+use state_text::{
+    append_value, are_alike, has_number, has_reference, has_symbol, parts, reached, state,
+    state_text,
 };
 use std::alloc::Global;
 

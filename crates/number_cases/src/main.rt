@@ -1,4 +1,4 @@
-//! Runs cases of single rules on numbers of which ranges, bounds and definitions are known together.
+//! Runs cases of single rules on ranges, and on numbers of which ranges, bounds and definitions are known together.
 //!
 //! The words are the names of files of cases. docs/RULE_CASES.md says how a case is written.
 #![tactic(auto)]
@@ -6,6 +6,7 @@
 mod facts;
 mod merge_rules;
 mod number_rules;
+mod range_rules;
 mod rules;
 
 use rule_text::run_files;

@@ -8,7 +8,7 @@ use domain_api::{Expr, Order};
 use fact_text::{expr, symbol};
 use number_facts::Numbers;
 use rule_text::{
-    Failure, append_number, append_wide_range, asked, check, comparison, may_operate, narrow,
+    Failure, append_number, append_wide_range, are_narrow, asked, check, comparison, may_operate,
     operator, three_words, two_words,
 };
 use std::alloc::{AllocError, Global};
@@ -24,19 +24,39 @@ pub fn is_there(numbers: &Numbers, e: Expr) -> Result<(), Failure>
     }
 }
 
+/// The numbers of each symbol are int32.
+fn narrow(numbers: &Numbers) -> Result<(), Failure>
+    ensures { OnOk result (AreNarrow numbers.now) }
+{
+    if are_narrow(numbers.ranges.as_slice()) {
+        Ok(())
+    } else {
+        Err(Failure::Unmet("the numbers of each symbol are int32"))
+    }
+}
+
+/// The symbol of a number is there, and its constant is one of -2^32 to 2^32.
+fn is_small(numbers: &Numbers, e: Expr) -> Result<(), Failure>
+    ensures { OnOk result (IsThere numbers.now e) }
+{
+    is_there(numbers, e)?;
+    if -4_294_967_296 <= e.k && e.k <= 4_294_967_296 {
+        Ok(())
+    } else {
+        Err(Failure::Unmet("the number's constant has at most 33 bits"))
+    }
+}
+
 /// The two numbers of an operator, each there, with a constant of at most 33 bits, and of symbols of int32.
-fn operands(alloc: Global, numbers: &Numbers, a: &str, b: &str) -> Result<(Expr, Expr), Failure>
+fn operands(numbers: &Numbers, a: &str, b: &str) -> Result<(Expr, Expr), Failure>
     ensures first { IfOk result (λ pair. IsThere numbers.now pair.0) }
     ensures second { IfOk result (λ pair. IsThere numbers.now pair.1) }
     ensures narrow { OnOk result (AreNarrow numbers.now) }
 {
     let (a, b) = (expr(a)?, expr(b)?);
-    let ranges = range_facts::Numbers {
-        ranges: Vec::from_slice(alloc, numbers.ranges.as_slice())?,
-    };
-    narrow(&ranges)?;
-    rule_text::is_there(&ranges, a)?;
-    rule_text::is_there(&ranges, b)?;
+    narrow(numbers)?;
+    is_small(numbers, a)?;
+    is_small(numbers, b)?;
     Ok((a, b))
 }
 
@@ -95,7 +115,7 @@ pub fn arith(alloc: Global, numbers: &mut Numbers, argument: &str) -> Result<(),
     let (question, told) = asked(argument)?;
     let (op, a, b) = three_words(question)?;
     let op = operator(op).ok_or(Failure::Unread("an operator"))?;
-    let (a, b) = operands(alloc, numbers, a, b)?;
+    let (a, b) = operands(numbers, a, b)?;
     may_operate(op, b)?;
     let made = numbers.arith(op, a, b)?;
     check(made_text(alloc, made)?, told)
@@ -106,7 +126,7 @@ pub fn exact(alloc: Global, numbers: &Numbers, argument: &str) -> Result<(), Fai
     let (question, told) = asked(argument)?;
     let (op, a, b) = three_words(question)?;
     let op = operator(op).ok_or(Failure::Unread("an operator"))?;
-    let (a, b) = operands(alloc, numbers, a, b)?;
+    let (a, b) = operands(numbers, a, b)?;
     let (lo, hi) = numbers.exact_ends(op, a, b);
     check(format!(in alloc; "{lo}..{hi}")?, told)
 }

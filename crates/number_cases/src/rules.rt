@@ -1,7 +1,7 @@
 //! The rules, by the keywords of cases.
 
 use crate::facts::{facts, nothing};
-use crate::{merge_rules, number_rules};
+use crate::{merge_rules, number_rules, range_rules};
 use number_facts::Numbers;
 use rule_text::{Failure, Line, Rules};
 use std::alloc::Global;
@@ -16,10 +16,27 @@ pub struct NumberRules {
     beside: Numbers,
 }
 
+/// Asks a rule on ranges alone, if the keyword is that of one. Answers whether it is.
+fn ask_range(alloc: Global, keyword: &str, argument: &str) -> Result<bool, Failure> {
+    match keyword {
+        "range" => range_rules::between(alloc, argument)?,
+        "constant" => range_rules::constant(alloc, argument)?,
+        "full" => range_rules::full(alloc, argument)?,
+        "without" => range_rules::without(alloc, argument)?,
+        "within" => range_rules::within(alloc, argument)?,
+        "ranges" => range_rules::operate(alloc, argument)?,
+        _ => return Ok(false),
+    }
+    Ok(true)
+}
+
 impl NumberRules {
     /// Takes a line that asks a rule.
     fn ask(&mut self, keyword: &str, argument: &str) -> Result<Line, Failure> {
         let alloc = self.alloc;
+        if ask_range(alloc, keyword, argument)? {
+            return Ok(Line::Answer);
+        }
         let Some(numbers) = &mut self.numbers else {
             return Err(Failure::Unread("`after unreachable`, or another state"));
         };

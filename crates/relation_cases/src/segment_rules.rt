@@ -4,16 +4,13 @@ use crate::segment_tests::{ends_pair, formed, has_next, keeps_end, zero_stays};
 use crate::segment_text::{check_segments, segment, segments};
 use crate::words::expr;
 use array_segments::Segs;
-use domain_api::{Expr, Paired};
+use domain_api::Expr;
 use interval_domain::Range;
+use number_facts::{Definitions, Numbers};
 use pentagon_domain::Bounds;
-use range_facts::Numbers;
 use rule_text::{Failure, Line, append_range, asked, check, check_yes, range, two_words};
 use std::alloc::{AllocError, Global};
 use symbolic_values::Pairs;
-
-/// What is known of the symbols: bounds, and ranges from symbol 1 on.
-type Known = Paired<Bounds, Numbers>;
 
 /// The segments of a case.
 #[derive(Drop)]
@@ -64,7 +61,7 @@ fn range_text(alloc: Global, found: Range) -> Result<String, AllocError> {
 }
 
 /// What is loaded at an index.
-fn loaded(segs: &Segs<Range>, known: &Known, at: Expr) -> Result<Range, Failure> {
+fn loaded(segs: &Segs<Range>, known: &Numbers, at: Expr) -> Result<Range, Failure> {
     formed(segs)?;
     Ok(segs.load(known, at))
 }
@@ -72,7 +69,7 @@ fn loaded(segs: &Segs<Range>, known: &Known, at: Expr) -> Result<Range, Failure>
 /// A store to an array that may be another one.
 fn store_weakly(
     segs: &mut Segs<Range>,
-    known: &Known,
+    known: &Numbers,
     at: Expr,
     value: Range,
 ) -> Result<(), Failure> {
@@ -85,7 +82,7 @@ fn store_weakly(
 fn store_strongly(
     alloc: Global,
     segs: &mut Segs<Range>,
-    known: &Known,
+    known: &Numbers,
     at: Expr,
     value: Range,
 ) -> Result<(), Failure> {
@@ -99,7 +96,7 @@ fn store_strongly(
 fn is_below(
     segs: &Segs<Range>,
     other: &Segs<Range>,
-    known: &Known,
+    known: &Numbers,
     names: &[Option<Expr>],
 ) -> Result<bool, Failure> {
     formed(segs)?;
@@ -138,12 +135,11 @@ impl SegmentRules {
     }
 
     /// What is known of the symbols, with these bounds.
-    fn known(&self, bounds: &Bounds) -> Result<Known, AllocError> {
-        Ok(Paired {
-            first: bounds.copy(self.alloc)?,
-            second: Numbers {
-                ranges: Vec::from_slice(self.alloc, self.ranges.as_slice())?,
-            },
+    fn known(&self, bounds: &Bounds) -> Result<Numbers, AllocError> {
+        Ok(Numbers {
+            ranges: Vec::from_slice(self.alloc, self.ranges.as_slice())?,
+            definitions: Definitions::new(self.alloc),
+            bounds: bounds.copy(self.alloc)?,
         })
     }
 

@@ -1,8 +1,6 @@
 //! Answers, and what is asked before them.
 
 use crate::failure::Failure;
-use crate::states::{state, state_text};
-use range_states::AbsState;
 use std::alloc::Global;
 
 /// A question, and the text of its answer behind ` = `.
@@ -46,13 +44,4 @@ pub fn check_yes(alloc: Global, found: bool, told: &str) -> Result<(), Failure> 
         String::from_str(alloc, if found { "yes" } else { "no" })?,
         told,
     )
-}
-
-/// The same of a state.
-pub fn check_state(alloc: Global, found: &AbsState, told: &str) -> Result<(), Failure> {
-    if found.same(&state(alloc, told)?) {
-        Ok(())
-    } else {
-        Err(Failure::Found(state_text(alloc, found)?))
-    }
 }

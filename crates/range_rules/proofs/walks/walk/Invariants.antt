@@ -1,9 +1,0 @@
-use Rattle.std.proofs.Common.{◌≡◌, drop}
-use Rattle.range_rules.specs.Flow.{through}
-use Rattle.range_rules.specs.Laws.Walking.{CanWalk}
-use Rattle.range_rules.proofs.walks.walk.Given as goal
-
-abbrev pub invariant-loop-instr : goal.invariant-loop-instr
-invariant-loop-instr l =
-    CanWalk l.unit l.number (drop l.instr-index l.instrs) l.state
-    × (through l.unit l.number (drop l.instr-index l.instrs) l.state ≡ through l.unit l.number l.instrs l.initial.state)

@@ -1,6 +1,0 @@
-use Rattle.std.proofs.Common.{◌≡◌, take}
-use Rattle.range_states.specs.NormalForm.{numbers_in, of_numbers}
-use Rattle.range_states.proofs.known.Known.normal.Given as goal
-
-abbrev pub invariant-loop-index : goal.invariant-loop-index
-invariant-loop-index l = l.known ≡ of_numbers (take l.index (numbers_in l.self))

@@ -1,7 +1,0 @@
-use Rattle.std.proofs.Common.{sym, ◌∙◌}
-use Rattle.range_states.proofs.FormsKept.{same_form, pushed_form}
-use Rattle.range_states.proofs.state.AbsState.push.Goals as goal
-
-pub invariant_of-self-2 : goal.invariant_of-self-2
-invariant_of-self-2 c = λ x is. same_form _ x is (rw c.in_ok-push.ensures.ok
-    (pushed_form c.in-Some.known c.args.e (c.self.invariant _ c.in-Some.is) (c.requires _ (sym c.self.view_is ∙ c.in-Some.is))))
