@@ -81,7 +81,8 @@ module _ (starts : List ℕ) (is : List Instr) (at : ℕ) (pairs : AllPairs (λ 
       append-nil (block b)
       ∙ (ap (λ (end : Option ℕ). filter (λ i. is_before end i.at) rest) none ∙ all_early rest)
   blocks_from b (suc n) ends =
-      let there : slice_get starts (b + 1) ≡ Some (get_or starts (b + 1) 0) = there_is starts (b + 1) 0 (omega (arith, ends)) in
+      let there : slice_get starts (b + 1) ≡ Some (get_or starts (b + 1) 0) =
+      there_is starts (b + 1) 0 (omega (arith, ends)) in
       let less : get_or starts b 0 < get_or starts (b + 1) 0 = pairs b (b + 1) 0 (omega arith) (omega (arith, ends)) in
       let others = blocks_from (b + 1) n (omega (arith, ends)) in
       ap (λ (js : List Instr). block b ++ js) others

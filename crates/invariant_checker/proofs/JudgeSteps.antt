@@ -31,8 +31,8 @@ use Rattle.invariant_checker.proofs.InductionTest.{inductive_by, inductive_true}
 abbrev pub verdict_at : MethodUnit → Instr → FaultKind → State → Verdict
 verdict_at unit i kind state = record { obligation = obligation i kind; proved = rules_out unit i.op kind state }
 
-pub one_more_judged : (found : List Verdict) (unit : MethodUnit) (i : Instr) (kinds : List FaultKind) (k : ℕ) (d : FaultKind)
-    (state : State) → k < length kinds
+pub one_more_judged : (found : List Verdict) (unit : MethodUnit) (i : Instr) (kinds : List FaultKind) (k : ℕ)
+    (d : FaultKind) (state : State) → k < length kinds
     → (found ++ verdict_at unit i (get_or kinds k d) state ∷ [])
     ++ verdicts_in_turn unit i (drop (k + 1) kinds) (avoid unit i.op (get_or kinds k d) state)
     ≡ found ++ verdicts_in_turn unit i (drop k kinds) state

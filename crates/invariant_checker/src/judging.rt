@@ -158,16 +158,20 @@ pub fn judge(
     requires lawful { IsToldOf code.now }
     ensures value { IfOk result (λ found. found.items ≡ rule.verdicts code.now invariant.now.states.items) }
     // There is one verdict for each obligation, in the order of the code.
-    ensures each { IfOk result (λ found. map (λ verdict. verdict.obligation) found.items ≡ obligations_of code.now.unit) }
+    ensures each { IfOk result (λ found.
+        map (λ verdict. verdict.obligation) found.items ≡ obligations_of code.now.unit) }
     // Nothing is proved by what is no invariant of the unit.
-    ensures inductive { IfOk result (λ found. All (λ verdict. IsTrue verdict.proved → IsInductive code.now invariant.now.states.items) found.items) }
+    ensures inductive { IfOk result (λ found.
+        All (λ verdict. IsTrue verdict.proved → IsInductive code.now invariant.now.states.items) found.items) }
     // A unit whose obligations are all proved ends in no fault but that an Ensures is not true, of which none tells.
     ensures body { IfOk result (λ found. IsTrue (counts.all_proved found.items) → IsSafeButForEnsures code.now.unit) }
     // Where it has no Ensures, it is safe.
-    ensures sound { IfOk result (λ found. IsTrue (counts.all_proved found.items) → EnsuresNothing code.now.unit → IsSafe code.now.unit) }
+    ensures sound { IfOk result (λ found.
+        IsTrue (counts.all_proved found.items) → EnsuresNothing code.now.unit → IsSafe code.now.unit) }
     // An instruction has no more obligations than a method may have clauses.
     ensures few { IfOk result (λ found. length found.items ≤ MAX_CLAUSES * length code.now.unit.instrs) }
-    ensures inside { IfOk result (λ found. All (λ verdict. verdict.obligation.at < length code.now.unit.code) found.items) }
+    ensures inside { IfOk result (λ found.
+        All (λ verdict. verdict.obligation.at < length code.now.unit.code) found.items) }
 {
     let found = find_verdicts(alloc, code, invariant.states.as_slice())?;
     Ok(found)
