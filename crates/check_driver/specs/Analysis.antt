@@ -3,7 +3,7 @@ use Rattle.std.specs.Prelude.{List}
 use Rattle.cil_model.specs.declared.unit.Unit.{Unit as MethodUnit}
 use Rattle.invariant_checker.specs.Verdicts.{verdicts}
 use Rattle.invariant_checker.specs.declared.verdict.Verdict.{Verdict}
-use Rattle.range_rules.specs.FlowOf.{flow_of}
+use Rattle.unit_flow.specs.FlowOf.{flow_of}
 use Rattle.widening_engine.specs.Limits.{limit_of}
 
 -- Those under the invariant that a finder answers.

@@ -5,7 +5,7 @@ ghost use Rattle.check_driver.specs.Analysis.{unit_verdicts};
 ghost use Rattle.check_driver.specs.Asked.{Asks};
 ghost use Rattle.check_driver.specs.Findings.{AreWithin};
 ghost use Rattle.method_unit.specs.BuiltUnits.{IsBuilt};
-ghost use Rattle.range_rules.specs.FlowOf.{flow_of};
+ghost use Rattle.unit_flow.specs.FlowOf.{flow_of};
 ghost use Rattle.unit_form.specs.Spelling.{unit_bytes};
 
 use cil_model::Unit;
@@ -15,8 +15,7 @@ use unit_flow::UnitFlow;
 use widening_engine::Finder;
 
 /// The unit with its graph and its kinds, each found once.
-#[tactic(auto, using(crate::proofs::BuiltUnits::of_numbers))]
-pub fn unit_flow(alloc: Global, unit: Unit) -> Result<UnitFlow, AllocError>
+pub fn find_flow(alloc: Global, unit: Unit) -> Result<UnitFlow, AllocError>
     requires { IsBuilt unit }
     ensures flow { IfOk result (λ code. code ≡ flow_of unit) }
     ensures unit { IfOk result (λ code. code.unit ≡ unit) }
@@ -51,6 +50,6 @@ pub fn judge_unit<D: Finder>(
     ensures within { IfOk result (λ found. AreWithin found.items) }
     ensures asked { Asks (unit_bytes unit ∷ []) result (D.asked finder.old) (D.asked finder.new) }
 {
-    let code = unit_flow(alloc, unit)?;
+    let code = find_flow(alloc, unit)?;
     judge_flow(alloc, &code, finder)
 }

@@ -14,7 +14,7 @@ ghost use Rattle.answer_lines.specs.Writing.{Writes, change_of};
 ghost use Rattle.method_unit.specs.BuiltUnits.{first_built_fault, IsBuilt};
 ghost use Rattle.unit_form.specs.Spelling.{unit_bytes};
 
-use crate::analysis::{judge_flow, unit_flow};
+use crate::analysis::{find_flow, judge_flow};
 use crate::fault_text::unit_fault_text;
 use crate::unit_report::report_lines;
 use answer_lines::{Interrupt, answer_refused, put_lines};
@@ -37,7 +37,7 @@ fn put_report<O: Sink, D: Finder>(
     ensures written { Writes result (change_of O.written O.faults out.old out.new) (unit_report unit) }
     ensures asked { Asks (unit_bytes unit ∷ []) result (D.asked finder.old) (D.asked finder.new) }
 {
-    let code = unit_flow(alloc, unit)?;
+    let code = find_flow(alloc, unit)?;
     let found = judge_flow(alloc, &code, finder)?;
     let lines = report_lines(alloc, &code.unit, &found)?;
     put_lines(alloc, out, &lines)?;

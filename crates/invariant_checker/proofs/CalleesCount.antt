@@ -1,5 +1,5 @@
--- Why a unit with callees is not said to be safe in every world: its entry of a callee asks for nothing, and the world has a
--- method there that requires what is false.
+-- Why a unit with callees is not said to be safe in every world: its entry of a callee asks for nothing, and the world
+-- has a method there that requires what is false.
 use Rattle.std.proofs.Common.{◌≡◌, true, pos, [], ◌∷◌, Some, codes, refl}
 use Rattle.std.specs.Int.{int_wrap}
 use Rattle.cil_model.specs.Clauses.{value_of}
@@ -43,7 +43,8 @@ strict = record {
   code = 0x16 ∷ 0x28 ∷ 1 ∷ 0 ∷ 0 ∷ 0 ∷ 0x2a ∷ [];
   clauses = record { kind = RequiresClause; tree = terms.Const (pos 0) } ∷ [];
   body_start = 6;
-  instrs = record { at = 0; size = 1; op = ops.Const (pos 0) } ∷ record { at = 1; size = 5; op = ops.Call 1 } ∷ record { at = 6; size = 1; op = ops.Return } ∷ [];
+  instrs = record { at = 0; size = 1; op = ops.Const (pos 0) } ∷ record { at = 1; size = 5; op = ops.Call 1 }
+      ∷ record { at = 6; size = 1; op = ops.Return } ∷ [];
 }
 
 abbrev world : World

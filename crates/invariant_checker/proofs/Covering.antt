@@ -15,17 +15,17 @@ use Rattle.cil_model.specs.declared.unit.Unit.{Unit as MethodUnit}
 use Rattle.flow_graph.specs.declared.graph.Graph.{Graph}
 use Rattle.flow_graph.proofs.AlongEdges.{all_after}
 use Rattle.flow_graph.proofs.Lying.{blocks_increase}
-use Rattle.range_states.specs.Avoiding.{avoid}
-use Rattle.range_states.specs.Faults.{faults_of}
-use Rattle.range_states.specs.FrameFacts.{State}
-use Rattle.range_obligations.specs.Obligations.{obligation, obligations_at, obligations_in, obligations_of}
-use Rattle.range_rules.specs.Laws.BlockWays.{all_kept, none_before}
-use Rattle.range_rules.specs.Flow.{IsLawful, block_instrs, instrs_between, is_before}
-use Rattle.range_rules.specs.Laws.FlowLaws as laws
-use Rattle.range_rules.specs.Inductive.{state_at}
-use Rattle.range_rules.specs.Laws.Placing.{item_there}
-use Rattle.range_rules.specs.Post.{post}
-use Rattle.range_rules.specs.declared.unit_flow.UnitFlow.{UnitFlow}
+use Rattle.obligation_prover.specs.Avoiding.{avoid}
+use Rattle.obligation_prover.specs.Faults.{faults_of}
+use Rattle.obligation_prover.specs.Obligations.{obligation, obligations_at, obligations_in, obligations_of}
+use Rattle.state_facts.specs.StateFacts.{State}
+use Rattle.transfer_rules.specs.Inductive.{state_at}
+use Rattle.transfer_rules.specs.Post.{post}
+use Rattle.unit_flow.specs.Flow.{IsLawful, block_instrs, instrs_between, is_before}
+use Rattle.unit_flow.specs.declared.unit_flow.UnitFlow.{UnitFlow}
+use Rattle.unit_flow.proofs.BlockWays.{all_kept, none_before}
+use Rattle.unit_flow.proofs.LawfulCode as laws
+use Rattle.unit_flow.proofs.Places.{item_there, there_is}
 use Rattle.invariant_checker.specs.Inducts.{is_inductive}
 use Rattle.invariant_checker.specs.Verdicts.{unproved, verdicts, verdicts_at, verdicts_from, verdicts_in, verdicts_in_turn}
 use Rattle.invariant_checker.specs.declared.verdict.Verdict.{Verdict}
@@ -44,8 +44,10 @@ cut_at start end at (i ∷ is) le lie =
           let whole = all_kept start i.at (i ∷ is) (omega (arith, le, high)) from in
           let late : is_before (Some end) i.at ≡ false = grind (arith, nat_tests, high) in
           let none : instrs_between start (Some end) (i ∷ is) ≡ [] =
-          ap (λ (js : List Instr). filter (λ j. is_before (Some end) j.at) js) whole ∙ none_before (Some end) i.at (i ∷ is) late (all_after i.at i.at (i ∷ is) (omega arith) from) in
-          ap (λ (js : List Instr). js ++ filter (λ j. nat_le end j.at) (i ∷ is)) none ∙ (all_kept end i.at (i ∷ is) high from ∙ sym whole)
+          ap (λ (js : List Instr). filter (λ j. is_before (Some end) j.at) js) whole
+          ∙ none_before (Some end) i.at (i ∷ is) late (all_after i.at i.at (i ∷ is) (omega arith) from) in
+          ap (λ (js : List Instr). js ++ filter (λ j. nat_le end j.at) (i ∷ is)) none
+          ∙ (all_kept end i.at (i ∷ is) high from ∙ sym whole)
       | inr before ↦
           let low : i.at < end = grind (arith, nat_tests, before) in
           let early : is_before (Some end) i.at ≡ true = grind (arith, nat_tests, low) in
@@ -65,37 +67,40 @@ none_there [] n le = refl
 none_there (x ∷ xs) zero le = absurd (omega (arith, le))
 none_there (x ∷ xs) (suc n) le = none_there xs n (omega (arith, le))
 
-some_there : (xs : List ℕ) (n : ℕ) → n < length xs → slice_get xs n ≡ Some (get_or xs n 0)
-some_there [] n below = absurd (omega (arith, below))
-some_there (x ∷ xs) zero below = refl
-some_there (x ∷ xs) (suc n) below = some_there xs n (omega (arith, below))
-
-module _ (starts : List ℕ) (is : List Instr) (at : ℕ) (pairs : AllPairs (λ a b. a < b) starts) (lie : LieFrom at is) where
+module _ (starts : List ℕ) (is : List Instr) (at : ℕ) (pairs : AllPairs (λ a b. a < b) starts)
+    (lie : LieFrom at is) where
   abbrev block : ℕ → List Instr
   block b = instrs_between (get_or starts b 0) (slice_get starts (b + 1)) is
 
   -- The blocks from one on are the instructions from its start on.
-  blocks_from : (b n : ℕ) → b + suc n ≡ length starts → flat_map block (range_with_len b (suc n)) ≡ filter (λ i. nat_le (get_or starts b 0) i.at) is
+  blocks_from : (b n : ℕ) → b + suc n ≡ length starts
+      → flat_map block (range_with_len b (suc n)) ≡ filter (λ i. nat_le (get_or starts b 0) i.at) is
   blocks_from b zero ends =
       let rest = filter (λ i. nat_le (get_or starts b 0) i.at) is in
       let none : slice_get starts (b + 1) ≡ None = none_there starts (b + 1) (omega (arith, ends)) in
-      append-nil (block b) ∙ (ap (λ (end : Option ℕ). filter (λ i. is_before end i.at) rest) none ∙ all_early rest)
+      append-nil (block b)
+      ∙ (ap (λ (end : Option ℕ). filter (λ i. is_before end i.at) rest) none ∙ all_early rest)
   blocks_from b (suc n) ends =
-      let there : slice_get starts (b + 1) ≡ Some (get_or starts (b + 1) 0) = some_there starts (b + 1) (omega (arith, ends)) in
+      let there : slice_get starts (b + 1) ≡ Some (get_or starts (b + 1) 0) =
+      there_is starts (b + 1) 0 (omega (arith, ends)) in
       let less : get_or starts b 0 < get_or starts (b + 1) 0 = pairs b (b + 1) 0 (omega arith) (omega (arith, ends)) in
       let others = blocks_from (b + 1) n (omega (arith, ends)) in
       ap (λ (js : List Instr). block b ++ js) others
-      ∙ (ap (λ (end : Option ℕ). instrs_between (get_or starts b 0) end is ++ filter (λ i. nat_le (get_or starts (b + 1) 0) i.at) is) there
+      ∙ (ap (λ (end : Option ℕ). instrs_between (get_or starts b 0) end is
+      ++ filter (λ i. nat_le (get_or starts (b + 1) 0) i.at) is) there
       ∙ cut_at (get_or starts b 0) (get_or starts (b + 1) 0) at is (omega (arith, less)) lie)
 
-blocks_are_body : (code : UnitFlow) → IsLawful code → flat_map (block_instrs code) (range_with_len 0 (length code.graph.blocks)) ≡ body_of code.unit
+blocks_are_body : (code : UnitFlow) → IsLawful code
+    → flat_map (block_instrs code) (range_with_len 0 (length code.graph.blocks)) ≡ body_of code.unit
 blocks_are_body code lawful = by (length code.graph.blocks) refl
   where
     unit : MethodUnit
     unit = code.unit
 
     pairs : AllPairs (λ a b. a < b) code.graph.blocks
-    pairs = subst (λ (g : Graph). AllPairs (λ a b. a < b) g.blocks) (sym lawful.graph) (AllPairs-from_increasing _ (blocks_increase code.unit (laws.short code lawful)))
+    pairs =
+        subst (λ (g : Graph). AllPairs (λ a b. a < b) g.blocks) (sym lawful.graph)
+        (AllPairs-from_increasing _ (blocks_increase code.unit (laws.short code lawful)))
 
     first : get_or code.graph.blocks 0 0 ≡ code.unit.body_start
     first = item_there code.graph.blocks 0 code.unit.body_start 0 (laws.starts code lawful)
@@ -111,17 +116,22 @@ blocks_are_body code lawful = by (length code.graph.blocks) refl
 abbrev pub obligations_told : List Verdict → List Obligation
 obligations_told found = map (λ v. v.obligation) found
 
-told_in_turn : (unit : MethodUnit) (i : Instr) (kinds : List FaultKind) (state : State) → obligations_told (verdicts_in_turn unit i kinds state) ≡ map (obligation i) kinds
+told_in_turn : (unit : MethodUnit) (i : Instr) (kinds : List FaultKind) (state : State)
+    → obligations_told (verdicts_in_turn unit i kinds state) ≡ map (obligation i) kinds
 told_in_turn unit i [] state = refl
-told_in_turn unit i (kind ∷ kinds) state = ap (λ (os : List Obligation). obligation i kind ∷ os) (told_in_turn unit i kinds (avoid unit i.op kind state))
+told_in_turn unit i (kind ∷ kinds) state =
+    ap (λ (os : List Obligation). obligation i kind ∷ os)
+    (told_in_turn unit i kinds (avoid unit i.op kind state))
 
-told_from : (unit : MethodUnit) (is : List Instr) (state : State) → obligations_told (verdicts_from unit is state) ≡ flat_map (obligations_at unit) is
+told_from : (unit : MethodUnit) (is : List Instr) (state : State)
+    → obligations_told (verdicts_from unit is state) ≡ flat_map (obligations_at unit) is
 told_from unit [] state = refl
 told_from unit (i ∷ is) state =
     let front = told_in_turn unit i (faults_of unit i.op) state in
     let behind = told_from unit is (post unit i.op state) in
     map-append (λ (v : Verdict). v.obligation) (verdicts_at unit i state) (verdicts_from unit is (post unit i.op state))
-    ∙ (ap (λ (os : List Obligation). os ++ obligations_told (verdicts_from unit is (post unit i.op state))) front ∙ ap (λ (os : List Obligation). obligations_at unit i ++ os) behind)
+    ∙ (ap (λ (os : List Obligation). os ++ obligations_told (verdicts_from unit is (post unit i.op state))) front
+    ∙ ap (λ (os : List Obligation). obligations_at unit i ++ os) behind)
 
 module _ (code : UnitFlow) (states : List State) where
   told_by_blocks : (a n : ℕ) → obligations_told (flat_map (verdicts_in code states) (range_with_len a n))
@@ -130,12 +140,15 @@ module _ (code : UnitFlow) (states : List State) where
   told_by_blocks a (suc n) =
       let front = told_from code.unit (block_instrs code a) (state_at states a) in
       let behind = told_by_blocks (a + 1) n in
-      map-append (λ (v : Verdict). v.obligation) (verdicts_in code states a) (flat_map (verdicts_in code states) (range_with_len (a + 1) n))
-      ∙ (ap (λ (os : List Obligation). os ++ obligations_told (flat_map (verdicts_in code states) (range_with_len (a + 1) n))) front
+      let later = flat_map (verdicts_in code states) (range_with_len (a + 1) n) in
+      map-append (λ (v : Verdict). v.obligation) (verdicts_in code states a) later
+      ∙ (ap (λ (os : List Obligation). os ++ obligations_told later) front
       ∙ (ap (λ (os : List Obligation). flat_map (obligations_at code.unit) (block_instrs code a) ++ os) behind
-      ∙ sym (flat_map-append (obligations_at code.unit) (block_instrs code a) (flat_map (block_instrs code) (range_with_len (a + 1) n)))))
+      ∙ sym (flat_map-append (obligations_at code.unit) (block_instrs code a)
+      (flat_map (block_instrs code) (range_with_len (a + 1) n)))))
 
-told_of_body : (unit : MethodUnit) (is : List Instr) → flat_map (obligations_at unit) (filter (λ i. nat_le unit.body_start i.at) is) ≡ flat_map (obligations_in unit) is
+told_of_body : (unit : MethodUnit) (is : List Instr)
+    → flat_map (obligations_at unit) (filter (λ i. nat_le unit.body_start i.at) is) ≡ flat_map (obligations_in unit) is
 told_of_body unit [] = refl
 told_of_body unit (i ∷ is) =
     elim (cases_Bool (nat_le unit.body_start i.at)) [
@@ -148,10 +161,15 @@ told_unproved [] = refl
 told_unproved (o ∷ os) = ap (λ (ps : List Obligation). o ∷ ps) (told_unproved os)
 
 -- One verdict for each obligation, in order.
-pub each_told : (code : UnitFlow) (states : List State) → IsLawful code → obligations_told (verdicts code states) ≡ obligations_of code.unit
+pub each_told : (code : UnitFlow) (states : List State) → IsLawful code
+    → obligations_told (verdicts code states) ≡ obligations_of code.unit
 unfolding verdicts
 each_told code states lawful =
     elim (cases_Bool (is_inductive code states)) [
-      | inl is ↦ rw is (told_by_blocks code states 0 (length code.graph.blocks) ∙ (ap (flat_map (obligations_at code.unit)) (blocks_are_body code lawful) ∙ told_of_body code.unit code.unit.instrs))
+      | inl is ↦
+          rw is
+          (told_by_blocks code states 0 (length code.graph.blocks)
+          ∙ (ap (flat_map (obligations_at code.unit)) (blocks_are_body code lawful)
+          ∙ told_of_body code.unit code.unit.instrs))
       | inr not ↦ rw not (told_unproved (obligations_of code.unit))
     ]

@@ -1,9 +1,10 @@
 -- Steps of the code that judges a unit.
-use Rattle.std.proofs.Common.{◌≡◌, ℕ, zero, suc, ◌+◌, ◌^◌, ◌<◌, List, [], ◌∷◌, ◌++◌, length, get_or, drop, map, All, refl, sym, ap, subst, ◌∙◌, add-one, append_assoc, append-nil, drop-cons, arith, inl, inr}
+use Rattle.std.proofs.Common.{◌≡◌, ℕ, zero, suc, ◌+◌, ◌^◌, ◌-◌, ◌<◌, List, [], ◌∷◌, ◌++◌, length, get_or, take, drop, map, All, refl, sym, ap, subst, ◌∙◌, add-one, append_assoc, append-nil, drop-cons, arith, inl, inr}
 use Rattle.std.specs.Prelude.{IsTrue}
 use Rattle.std.specs.List.{AllByRecursion, flat_map, range_with_len}
 use Rattle.std.proofs.lemmas.Bool.{cases_Bool, false≢true}
 use Rattle.std.proofs.lemmas.Grind.{flat_map-append}
+use Rattle.std.proofs.lemmas.List.{get_or-take, length-take}
 use Rattle.std.proofs.lemmas.List.Elements.{All-from_recursion}
 use Rattle.cil_model.specs.declared.instruction.Instr.{Instr}
 use Rattle.cil_model.specs.declared.machine.FaultKind.{FaultKind}
@@ -11,30 +12,57 @@ use Rattle.cil_model.specs.declared.machine.Obligation.{Obligation}
 use Rattle.cil_model.specs.declared.unit.Unit.{Unit as MethodUnit}
 use Rattle.flow_graph.specs.declared.graph.Graph.{Graph}
 use Rattle.flow_graph.proofs.Lying.{few_blocks}
-use Rattle.range_states.specs.Avoiding.{avoid}
-use Rattle.range_states.specs.FrameFacts.{State}
-use Rattle.range_obligations.specs.Entailed.{entailed}
-use Rattle.range_obligations.specs.Obligations.{obligation, obligations_of}
-use Rattle.range_rules.specs.Flow.{IsLawful}
-use Rattle.range_rules.specs.Laws.FlowLaws as laws
-use Rattle.range_rules.specs.Inductive.{HasShape, IsInductive, state_at}
-use Rattle.range_rules.specs.declared.unit_flow.UnitFlow.{UnitFlow}
+use Rattle.obligation_prover.specs.Avoiding.{avoid}
+use Rattle.obligation_prover.specs.Entailed.{rules_out}
+use Rattle.obligation_prover.specs.Obligations.{obligation, obligations_of}
+use Rattle.state_facts.specs.StateFacts.{State}
+use Rattle.transfer_rules.specs.Inductive.{HasShape, IsInductive, state_at}
+use Rattle.transfer_rules.specs.Post.{post}
+use Rattle.unit_flow.specs.Flow.{IsLawful}
+use Rattle.unit_flow.specs.declared.unit_flow.UnitFlow.{UnitFlow}
+use Rattle.unit_flow.proofs.LawfulCode as laws
 use Rattle.invariant_checker.specs.Inducts.{is_inductive}
-use Rattle.invariant_checker.specs.Verdicts.{unproved, verdicts, verdicts_by_blocks, verdicts_in, verdicts_in_turn, verdicts_of_block}
+use Rattle.invariant_checker.specs.Verdicts.{unproved, verdicts, verdicts_at, verdicts_by_blocks, verdicts_from, verdicts_in, verdicts_in_turn, verdicts_of_block}
 use Rattle.invariant_checker.specs.declared.verdict.Verdict.{Verdict}
 use Rattle.invariant_checker.proofs.InductionTest.{inductive_by, inductive_true}
 
 -- ---- the faults of an instruction
 
 abbrev pub verdict_at : MethodUnit → Instr → FaultKind → State → Verdict
-verdict_at unit i kind state = record { obligation = obligation i kind; proved = entailed unit i.op kind state }
+verdict_at unit i kind state = record { obligation = obligation i kind; proved = rules_out unit i.op kind state }
 
-pub one_more_judged : (found : List Verdict) (unit : MethodUnit) (i : Instr) (kinds : List FaultKind) (k : ℕ) (d : FaultKind) (state : State) → k < length kinds
-    → (found ++ verdict_at unit i (get_or kinds k d) state ∷ []) ++ verdicts_in_turn unit i (drop (k + 1) kinds) (avoid unit i.op (get_or kinds k d) state)
+pub one_more_judged : (found : List Verdict) (unit : MethodUnit) (i : Instr) (kinds : List FaultKind) (k : ℕ)
+    (d : FaultKind) (state : State) → k < length kinds
+    → (found ++ verdict_at unit i (get_or kinds k d) state ∷ [])
+    ++ verdicts_in_turn unit i (drop (k + 1) kinds) (avoid unit i.op (get_or kinds k d) state)
     ≡ found ++ verdicts_in_turn unit i (drop k kinds) state
 one_more_judged found unit i kinds k d state below =
-    append_assoc found (verdict_at unit i (get_or kinds k d) state ∷ []) (verdicts_in_turn unit i (drop (k + 1) kinds) (avoid unit i.op (get_or kinds k d) state))
+    append_assoc found (verdict_at unit i (get_or kinds k d) state ∷ [])
+    (verdicts_in_turn unit i (drop (k + 1) kinds) (avoid unit i.op (get_or kinds k d) state))
     ∙ ap (λ (vs : List Verdict). found ++ vs) (sym (rw (drop-cons kinds k d below, add-one k) refl))
+
+-- ---- the instructions of a block
+
+-- All instructions but the last.
+abbrev front : List Instr → List Instr
+front is = take (length is - 1) is
+
+module _ (unit : MethodUnit) (is : List Instr) (k : ℕ) (i : Instr) (state : State) (found : List Verdict) where
+  from_it : k < length is → get_or is k i ≡ i → drop k is ≡ i ∷ drop (k + 1) is
+  from_it below here =
+      drop-cons is k i below
+      ∙ (ap (λ (j : Instr). j ∷ drop (suc k) is) here ∙ ap (λ (n : ℕ). i ∷ drop n is) (sym (add-one k)))
+
+  -- What is found at an instruction, and from the next one on.
+  pub one_more_passed : k < length (front is) → i ≡ get_or (front is) k i
+      → (found ++ verdicts_at unit i state) ++ verdicts_from unit (drop (k + 1) is) (post unit i.op state)
+      ≡ found ++ verdicts_from unit (drop k is) state
+  one_more_passed below there =
+      let within : k < length is = omega (arith, below, length-take (length is - 1) is) in
+      let here : get_or is k i ≡ i =
+      sym (there ∙ get_or-take (length is - 1) is k i (omega (arith, below, length-take (length is - 1) is))) in
+      append_assoc found (verdicts_at unit i state) (verdicts_from unit (drop (k + 1) is) (post unit i.op state))
+      ∙ ap (λ (js : List Instr). found ++ verdicts_from unit js state) (sym (from_it within here))
 
 -- ---- all blocks
 
@@ -42,14 +70,18 @@ range_more : (a n : ℕ) → range_with_len a (suc n) ≡ range_with_len a n ++ 
 range_more a zero = let same : a ≡ a + 0 = omega arith in ap (λ (k : ℕ). k ∷ []) same
 range_more a (suc n) =
     let same : a + 1 + n ≡ a + suc n = omega arith in
-    ap (λ (ks : List ℕ). a ∷ ks) (range_more (a + 1) n ∙ ap (λ (k : ℕ). range_with_len (a + 1) n ++ k ∷ []) same)
+    ap (λ (ks : List ℕ). a ∷ ks)
+    (range_more (a + 1) n ∙ ap (λ (k : ℕ). range_with_len (a + 1) n ++ k ∷ []) same)
 
 module _ (code : UnitFlow) (states : List State) where
-  pub block_judged : (k : ℕ) (state : State) (found more : List Verdict) → state ≡ state_at states k → found ≡ flat_map (verdicts_in code states) (range_with_len 0 k)
-      → more ≡ found ++ verdicts_of_block code state k → more ≡ flat_map (verdicts_in code states) (range_with_len 0 (k + 1))
+  pub block_judged : (k : ℕ) (state : State) (found more : List Verdict) → state ≡ state_at states k
+      → found ≡ flat_map (verdicts_in code states) (range_with_len 0 k)
+      → more ≡ found ++ verdicts_of_block code state k
+      → more ≡ flat_map (verdicts_in code states) (range_with_len 0 (k + 1))
   block_judged k state found more is before here =
       let range : range_with_len 0 (k + 1) ≡ range_with_len 0 k ++ k ∷ [] =
-      ap (range_with_len 0) (add-one k) ∙ (range_more 0 k ∙ ap (λ (n : ℕ). range_with_len 0 k ++ n ∷ []) (omega arith)) in
+      ap (range_with_len 0) (add-one k)
+      ∙ (range_more 0 k ∙ ap (λ (n : ℕ). range_with_len 0 k ++ n ∷ []) (omega arith)) in
       let f = verdicts_in code states in
       here ∙ (ap (λ (vs : List Verdict). vs ++ verdicts_of_block code state k) before
       ∙ (ap (λ (s : State). flat_map f (range_with_len 0 k) ++ verdicts_of_block code s k) is
@@ -58,7 +90,9 @@ module _ (code : UnitFlow) (states : List State) where
 
   pub few_blocks_there : IsLawful code → HasShape code states → (k : ℕ) → k < length states → k < 2 ^ 32
   few_blocks_there lawful shape k below =
-      let few : length code.graph.blocks < 2 ^ 32 = subst (λ (g : Graph). length g.blocks < 2 ^ 32) (sym lawful.graph) (few_blocks code.unit (laws.short code lawful)) in
+      let few : length code.graph.blocks < 2 ^ 32 =
+      subst (λ (g : Graph). length g.blocks < 2 ^ 32) (sym lawful.graph)
+      (few_blocks code.unit (laws.short code lawful)) in
       omega (arith, few, below, shape.count)
 
   -- ---- by whether the states are an invariant
@@ -75,7 +109,8 @@ module _ (code : UnitFlow) (states : List State) where
         | inr not ↦ rw not refl
       ]
 
-  none_proved : (listed : List Obligation) → AllByRecursion (λ v. IsTrue v.proved → IsInductive code states) (map unproved listed)
+  none_proved : (listed : List Obligation)
+      → AllByRecursion (λ v. IsTrue v.proved → IsInductive code states) (map unproved listed)
   none_proved [] = tt
   none_proved (o ∷ listed) = (λ proved. absurd (false≢true proved), none_proved listed)
 
@@ -84,5 +119,8 @@ module _ (code : UnitFlow) (states : List State) where
   proved_where_inductive =
       elim (cases_Bool (is_inductive code states)) [
         | inl is ↦ (λ k d below proved. inductive_by code states is)
-        | inr not ↦ rw not (All-from_recursion (λ v. IsTrue v.proved → IsInductive code states) (map unproved (obligations_of code.unit)) (none_proved (obligations_of code.unit)))
+        | inr not ↦
+            rw not
+            (All-from_recursion (λ v. IsTrue v.proved → IsInductive code states)
+            (map unproved (obligations_of code.unit)) (none_proved (obligations_of code.unit)))
       ]

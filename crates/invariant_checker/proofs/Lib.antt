@@ -1,10 +1,11 @@
+pub mod StepFaults
 pub mod SafeRuns
 pub mod InductionTest
+pub mod Fitting
 pub mod Standing
 pub mod Soundness
 pub mod Covering
 pub mod Counting
-pub mod Walking
 pub mod JudgeSteps
 mod Examples
 mod UnsafeUnit

@@ -34,15 +34,16 @@ unit = record {
   code = code;
   clauses = [];
   body_start = 0;
-  instrs = instr 0 1 (ops.LoadArg 0) ∷ instr 1 1 (ops.Const (pos 1)) ∷ instr 2 2 (ops.Bin operators.Cgt) ∷ instr 4 5 (ops.Call 5)
-      ∷ instr 9 1 (ops.LoadArg 0) ∷ instr 10 1 ops.Return ∷ [];
+  instrs = instr 0 1 (ops.LoadArg 0) ∷ instr 1 1 (ops.Const (pos 1)) ∷ instr 2 2 (ops.Bin operators.Cgt)
+      ∷ instr 4 5 (ops.Call 5) ∷ instr 9 1 (ops.LoadArg 0) ∷ instr 10 1 ops.Return ∷ [];
 }
 
 abbrev args : List Value
 args = values.Int (pos 0) ∷ []
 
 abbrev frame : ℕ → List Value → Frame
-frame at stack = record { unit = 0; at = at; stack = stack; locals = []; args = args; entry_args = args; entry_heap = [] }
+frame at stack =
+    record { unit = 0; at = at; stack = stack; locals = []; args = args; entry_args = args; entry_heap = [] }
 
 abbrev live : ℕ → List Value → Config
 live at stack = configs.Live (frame at stack ∷ []) []
@@ -57,7 +58,11 @@ step0 : LocalStep unit (live 0 []) (live 1 (values.Int (pos 0) ∷ []))
 step0 = (instr 0 1 (ops.LoadArg 0), refl, (GoesOn (frame 1 (values.Int (pos 0) ∷ [])) [], inl refl, refl))
 
 step1 : LocalStep unit (live 1 (values.Int (pos 0) ∷ [])) (live 2 (values.Int (pos 1) ∷ values.Int (pos 0) ∷ []))
-step1 = (instr 1 1 (ops.Const (pos 1)), refl, (GoesOn (frame 2 (values.Int (pos 1) ∷ values.Int (pos 0) ∷ [])) [], inl refl, refl))
+step1 = (
+  instr 1 1 (ops.Const (pos 1)),
+  refl,
+  (GoesOn (frame 2 (values.Int (pos 1) ∷ values.Int (pos 0) ∷ [])) [], inl refl, refl),
+)
 
 step2 : LocalStep unit (live 2 (values.Int (pos 1) ∷ values.Int (pos 0) ∷ [])) (live 4 (values.Int (pos 0) ∷ []))
 step2 = (instr 2 2 (ops.Bin operators.Cgt), refl, (GoesOn (frame 4 (values.Int (pos 0) ∷ [])) [], inl refl, refl))

@@ -5,15 +5,15 @@ use Rattle.cil_model.specs.declared.instruction.Instr.{Instr}
 use Rattle.cil_model.specs.declared.machine.FaultKind.{FaultKind}
 use Rattle.cil_model.specs.declared.machine.Obligation.{Obligation}
 use Rattle.cil_model.specs.declared.unit.Unit.{Unit as MethodUnit}
-use Rattle.range_states.specs.Avoiding.{avoid}
-use Rattle.range_states.specs.Faults.{faults_of}
-use Rattle.range_states.specs.FrameFacts.{State}
-use Rattle.range_obligations.specs.Entailed.{entailed}
-use Rattle.range_obligations.specs.Obligations.{obligation, obligations_of}
-use Rattle.range_rules.specs.Flow.{block_instrs}
-use Rattle.range_rules.specs.Inductive.{state_at}
-use Rattle.range_rules.specs.Post.{post}
-use Rattle.range_rules.specs.declared.unit_flow.UnitFlow.{UnitFlow}
+use Rattle.obligation_prover.specs.Avoiding.{avoid}
+use Rattle.obligation_prover.specs.Entailed.{rules_out}
+use Rattle.obligation_prover.specs.Faults.{faults_of}
+use Rattle.obligation_prover.specs.Obligations.{obligation, obligations_of}
+use Rattle.state_facts.specs.StateFacts.{State}
+use Rattle.transfer_rules.specs.Inductive.{state_at}
+use Rattle.transfer_rules.specs.Post.{post}
+use Rattle.unit_flow.specs.Flow.{block_instrs}
+use Rattle.unit_flow.specs.declared.unit_flow.UnitFlow.{UnitFlow}
 use Rattle.invariant_checker.specs.Inducts.{is_inductive}
 use Rattle.invariant_checker.specs.declared.verdict.Verdict.{Verdict}
 
@@ -23,7 +23,8 @@ use Rattle.invariant_checker.specs.declared.verdict.Verdict.{Verdict}
 abbrev pub verdicts_in_turn : MethodUnit → Instr → List FaultKind → State → List Verdict
 verdicts_in_turn unit i [] state = []
 verdicts_in_turn unit i (kind ∷ kinds) state =
-    record { obligation = obligation i kind; proved = entailed unit i.op kind state } ∷ verdicts_in_turn unit i kinds (avoid unit i.op kind state)
+    record { obligation = obligation i kind; proved = rules_out unit i.op kind state }
+    ∷ verdicts_in_turn unit i kinds (avoid unit i.op kind state)
 
 -- The verdicts at an instruction of the unit, from the state before it.
 abbrev pub verdicts_at : MethodUnit → Instr → State → List Verdict
@@ -54,4 +55,5 @@ unproved o = record { obligation = o; proved = false }
 
 -- Each obligation of a unit with its verdict: nothing is proved by states that are no invariant.
 unfoldable pub verdicts : UnitFlow → List State → List Verdict
-verdicts code states = if is_inductive code states then verdicts_by_blocks code states else map unproved (obligations_of code.unit)
+verdicts code states =
+    if is_inductive code states then verdicts_by_blocks code states else map unproved (obligations_of code.unit)

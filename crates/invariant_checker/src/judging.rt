@@ -1,15 +1,12 @@
 //! The verdicts on the obligations of a unit.
 
 ghost use Rattle.std.specs.Prelude.{◌≡◌, ◌++◌, ◌+◌, ◌*◌, ◌<◌, ◌≤◌, All, IfOk, IsTrue, OnOk, length, map};
-ghost use Rattle.std.specs.Option.{ForSome};
 ghost use Rattle.cil_model.specs.Limits.{MAX_CLAUSES, MAX_VARIABLES};
-ghost use Rattle.range_states.specs.Faults.{operands_of};
-ghost use Rattle.range_obligations.specs.Obligations.{obligations_of};
-ghost use Rattle.range_rules.specs.Flow.{Fits, IsLawful};
-ghost use Rattle.range_rules.specs.Inductive.{HasShape, IsInductive};
-ghost use Rattle.invariant_checker.specs.Chains.{CanJudge};
+ghost use Rattle.obligation_prover.specs.Obligations.{obligations_of};
+ghost use Rattle.transfer_rules.specs.Flow.{IsToldOf};
+ghost use Rattle.transfer_rules.specs.Inductive.{HasShape, IsInductive};
 ghost use Rattle.invariant_checker.specs.Counts as counts;
-ghost use Rattle.invariant_checker.specs.Safety.{IsSafe};
+ghost use Rattle.invariant_checker.specs.Safety.{EnsuresNothing, IsSafe, IsSafeButForEnsures};
 ghost use Rattle.invariant_checker.specs.Verdicts as rule;
 
 use crate::verdict::Verdict;
@@ -21,14 +18,14 @@ use std::alloc::Global;
 use transfer_rules::{Invariant, inductive, post};
 use unit_flow::UnitFlow;
 
-/// Appends a verdict for each fault of an instruction. Each is judged where those before it are assumed not to have come.
+/// Appends a verdict for each fault of an instruction. Each is judged where those before it are assumed not to have
+/// come.
 fn push_in_turn(
     found: &mut Vec<Verdict>,
     state: &mut AbsState,
     unit: &Unit,
     instr: &Instr,
 ) -> Result<(), NoMemory>
-    requires { ForSome state.old (λ known. operands_of instr.now.op ≤ length known.variables) }
     ensures { OnOk result (found.new.items ≡ found.old.items ++ rule.verdicts_at unit.now instr.now state.old) }
 {
     for kind in faults_of(unit, &instr.op) {
@@ -45,8 +42,8 @@ fn push_in_turn(
     Ok(())
 }
 
-/// Appends the verdicts at an instruction, from the state before it. An instruction without obligations costs nothing, and
-/// any other one a copy of the state.
+/// Appends the verdicts at an instruction, from the state before it. An instruction without obligations costs nothing,
+/// and any other one a copy of the state.
 fn push_verdicts(
     alloc: Global,
     found: &mut Vec<Verdict>,
@@ -54,7 +51,6 @@ fn push_verdicts(
     unit: &Unit,
     instr: &Instr,
 ) -> Result<(), NoMemory>
-    requires { ForSome state.now (λ known. operands_of instr.now.op ≤ length known.variables) }
     ensures { OnOk result (found.new.items ≡ found.old.items ++ rule.verdicts_at unit.now instr.now state.now) }
 {
     if faults_of(unit, &instr.op).is_empty() {
@@ -72,8 +68,7 @@ fn judge_instrs(
     instrs: &[Instr],
     state: &mut AbsState,
 ) -> Result<(), NoMemory>
-    requires few { length unit.now.args + length unit.now.locals + unit.now.max_stack ≤ MAX_VARIABLES }
-    requires can { CanJudge unit.now instrs.now state.old }
+    requires { length unit.now.args + length unit.now.locals + unit.now.max_stack ≤ MAX_VARIABLES }
     ensures { OnOk result (found.new.items ≡ found.old.items ++ rule.verdicts_from unit.now instrs.now state.old) }
 {
     let [others @ .., last] = instrs else {
@@ -94,9 +89,8 @@ fn judge_block(
     block: u32,
     state: &AbsState,
 ) -> Result<(), NoMemory>
-    requires lawful { IsLawful code.now }
+    requires lawful { IsToldOf code.now }
     requires there { block < length code.now.graph.blocks }
-    requires fits { Fits code.now block state.now }
     ensures { OnOk result (found.new.items ≡ found.old.items ++ rule.verdicts_of_block code.now state.now block) }
 {
     let mut before = state.copy(alloc)?;
@@ -109,7 +103,7 @@ fn judge_blocks(
     code: &UnitFlow,
     states: &[AbsState],
 ) -> Result<Vec<Verdict>, NoMemory>
-    requires lawful { IsLawful code.now }
+    requires lawful { IsToldOf code.now }
     requires shape { HasShape code.now states.now }
     ensures { IfOk result (λ found. found.items ≡ rule.verdicts_by_blocks code.now states.now) }
 {
@@ -141,7 +135,7 @@ fn find_verdicts(
     code: &UnitFlow,
     states: &[AbsState],
 ) -> Result<Vec<Verdict>, NoMemory>
-    requires { IsLawful code.now }
+    requires { IsToldOf code.now }
     ensures { IfOk result (λ found. found.items ≡ rule.verdicts code.now states.now) }
 {
     if inductive(alloc, code, states)? {
@@ -152,27 +146,32 @@ fn find_verdicts(
 }
 
 /// Returns whether each obligation of a unit is proved by an invariant, which may have come from anywhere: where it is
-/// none of this
-/// unit, nothing is proved.
+/// none of this unit, nothing is proved.
 ///
-/// Cost: that of `inductive`, and then one walk through each block, with a copy of the state at each instruction that has
-/// obligations.
+/// Cost: that of `inductive`, and then one walk through each block, with a copy of the state at each instruction that
+/// has obligations.
 pub fn judge(
     alloc: Global,
     code: &UnitFlow,
     invariant: &Invariant,
 ) -> Result<Vec<Verdict>, NoMemory>
-    requires lawful { IsLawful code.now }
+    requires lawful { IsToldOf code.now }
     ensures value { IfOk result (λ found. found.items ≡ rule.verdicts code.now invariant.now.states.items) }
     // There is one verdict for each obligation, in the order of the code.
-    ensures each { IfOk result (λ found. map (λ verdict. verdict.obligation) found.items ≡ obligations_of code.now.unit) }
+    ensures each { IfOk result (λ found.
+        map (λ verdict. verdict.obligation) found.items ≡ obligations_of code.now.unit) }
     // Nothing is proved by what is no invariant of the unit.
-    ensures inductive { IfOk result (λ found. All (λ verdict. IsTrue verdict.proved → IsInductive code.now invariant.now.states.items) found.items) }
-    // A unit whose obligations are all proved is safe.
-    ensures sound { IfOk result (λ found. IsTrue (counts.all_proved found.items) → IsSafe code.now.unit) }
+    ensures inductive { IfOk result (λ found.
+        All (λ verdict. IsTrue verdict.proved → IsInductive code.now invariant.now.states.items) found.items) }
+    // A unit whose obligations are all proved ends in no fault but that an Ensures is not true, of which none tells.
+    ensures body { IfOk result (λ found. IsTrue (counts.all_proved found.items) → IsSafeButForEnsures code.now.unit) }
+    // Where it has no Ensures, it is safe.
+    ensures sound { IfOk result (λ found.
+        IsTrue (counts.all_proved found.items) → EnsuresNothing code.now.unit → IsSafe code.now.unit) }
     // An instruction has no more obligations than a method may have clauses.
     ensures few { IfOk result (λ found. length found.items ≤ MAX_CLAUSES * length code.now.unit.instrs) }
-    ensures inside { IfOk result (λ found. All (λ verdict. verdict.obligation.at < length code.now.unit.code) found.items) }
+    ensures inside { IfOk result (λ found.
+        All (λ verdict. verdict.obligation.at < length code.now.unit.code) found.items) }
 {
     let found = find_verdicts(alloc, code, invariant.states.as_slice())?;
     Ok(found)

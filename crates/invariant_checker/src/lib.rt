@@ -1,5 +1,5 @@
-//! The verdict on each obligation of a unit under an invariant, however that was found, and that a unit whose verdicts are all
-//! proved is safe.
+//! The verdict on each obligation of a unit under an invariant, however that was found, and that a unit whose verdicts
+//! are all proved is safe.
 #![tactic(auto)]
 
 mod judging;

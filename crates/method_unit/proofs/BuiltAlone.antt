@@ -5,7 +5,7 @@ use Rattle.std.specs.Option.{option_map_or}
 use Rattle.std.proofs.lemmas.Bool.{cases_Bool, cond_both, false≢true}
 use Rattle.std.proofs.lemmas.Bool.Decides.{nat_tests}
 use Rattle.std.proofs.lemmas.Option.{none-some}
-use Rattle.cil_model.specs.Blocks.{behind_last_closing, body_of, closes, start_of_body}
+use Rattle.cil_model.specs.Blocks.{behind_last_closing, closes, start_of_body}
 use Rattle.cil_model.specs.ClauseTrees.{closing}
 use Rattle.cil_model.specs.ShortCode.{LieFrom}
 use Rattle.cil_model.specs.Shapes.{shape_of}
@@ -28,7 +28,7 @@ use Rattle.contract_extract.specs.declared.faults.clause_fault.ClauseFault.TheVa
 use Rattle.contract_extract.proofs.FaultLemmas.NoFaults.{no_fault_if, no_first, none_in_both}
 use Rattle.method_unit.specs.Built.{is_built, is_built_call}
 use Rattle.method_unit.specs.CalledInOrder.{calls_in}
-use Rattle.method_unit.specs.NotBuilt.{first_unbuilt, has_built_head, not_built}
+use Rattle.method_unit.specs.NotBuilt.{not_built}
 use Rattle.method_unit.specs.Units.{IsUnit}
 use Rattle.method_unit.proofs.BuiltParts.{built_parts}
 
@@ -112,11 +112,3 @@ built_alone unit is built =
     let there = subst (λ (start : ℕ). AllByRecursion (λ i. nat_le start i.at ≡ true → is_built i.op ≡ true) unit.instrs) well.body body in
     let none = none_called unit.instrs (shape_of unit) unit.instrs 0 0 0 [] short.lie (omega arith) refl there (no_first _ is.clauses) in
     no_item unit.callees (subst (InOrderOfUse 0 (length unit.callees)) none well.order)
-
--- The same of what the code tests.
-pub tested_alone : (unit : MethodUnit) (is : List Instr) (first : Option ℕ) → has_built_head unit ≡ true → is ≡ unit.instrs
-    → first ≡ first_unbuilt (filter (λ i. nat_le unit.body_start i.at) is) → first ≡ None → IsUnit unit → unit.callees ≡ []
-unfolding not_built
-tested_alone unit is first head same found none is_unit =
-    let silent : first_unbuilt (body_of unit) ≡ None = ap (λ (js : List Instr). first_unbuilt (filter (λ i. nat_le unit.body_start i.at) js)) (sym same) ∙ sym found ∙ none in
-    built_alone unit is_unit (rw head silent)

@@ -1,5 +1,5 @@
 -- What is not built begins in the code.
-use Rattle.std.proofs.Common.{◌≡◌, ℕ, ◌+◌, ◌≤◌, Bool, true, false, nat_le, List, [], ◌∷◌, length, filter, Option, Some, None, if◌then◌else◌, refl, sym, ap, subst, ◌∙◌, arith}
+use Rattle.std.proofs.Common.{◌≡◌, ℕ, ◌+◌, ◌≤◌, nat_le, List, [], ◌∷◌, Some, arith}
 use Rattle.std.specs.List.{AllByRecursion}
 use Rattle.std.proofs.lemmas.Bool.{cond_both}
 use Rattle.std.proofs.lemmas.Option.{none-some, same_Some}
@@ -10,7 +10,7 @@ use Rattle.cil_model.specs.declared.instruction.Instr.{Instr}
 use Rattle.cil_model.specs.declared.unit.Unit.{Unit as MethodUnit}
 use Rattle.flow_graph.proofs.Lying.{all_passing}
 use Rattle.method_unit.specs.Built.{is_built}
-use Rattle.method_unit.specs.NotBuilt.{first_unbuilt, has_built_head, not_built}
+use Rattle.method_unit.specs.NotBuilt.{are_required, first_unbuilt, not_built}
 use Rattle.method_unit.specs.Units.{IsUnit}
 
 body_within : (at : ℕ) (is : List Instr) → at ≤ 2147483647 → AllByRecursion IsOfShortCode is → behind_last_closing at is ≤ 2147483647
@@ -29,7 +29,7 @@ unfolding not_built
 not_built_within unit at is found =
     let well = is.well_formed in
     let short = code_is_short unit.instrs unit.code well.code (omega (arith, well.limits.code)) in
-    cond_both (has_built_head unit) _ (Some unit.body_start) (λ first. first ≡ Some at → at ≤ 2147483647)
+    cond_both (are_required unit.clauses) _ (Some unit.body_start) (λ first. first ≡ Some at → at ≤ 2147483647)
     (λ e first. unbuilt_within _ at (all_passing IsOfShortCode (λ i. nat_le unit.body_start i.at) unit.instrs short.each) first)
     (λ e first.
     let same = same_Some unit.body_start at first in

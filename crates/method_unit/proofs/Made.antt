@@ -1,5 +1,5 @@
 -- The unit that is made of the fields of a file.
-use Rattle.std.proofs.Common.{◌≡◌, ℕ, List, [], ◌∷◌, Option, None, refl, sym, ap, subst, ◌∙◌}
+use Rattle.std.proofs.Common.{◌≡◌, ℕ, List, None, subst, ◌∙◌}
 use Rattle.std.specs.List.{AllByRecursion}
 use Rattle.cc_base.specs.Tests.{first_of}
 use Rattle.cc_base.proofs.TestLemmas.{first_of-none}
@@ -16,7 +16,7 @@ use Rattle.contract_extract.specs.Extracting.{AreContracts}
 use Rattle.il_decoder.specs.Decoding.{instructions_of}
 use Rattle.unit_form.specs.UnitFields.{FieldsOfUnit}
 use Rattle.method_unit.specs.UnitFile.{code_tests_of, decoding_test, instr_tests, shape_told}
-use Rattle.method_unit.specs.UnitOf.{HasTold, IsUnitOf}
+use Rattle.method_unit.specs.UnitOf.{IsUnitOf}
 use Rattle.method_unit.specs.Units.{HasKinds}
 
 -- What the tests of the instructions tell, where they are those of this shape.

@@ -1,8 +1,6 @@
 -- What a fault of the code names stands in the file.
-use Rattle.std.proofs.Common.{◌≡◌, ℕ, suc, zero, ◌+◌, ◌<◌, ◌≤◌, ◌^◌, ◌==◌, Bool, true, false, nat_le, List, [], ◌∷◌, map, filter, Option, Some, length, slice_get, Fits, w32, refl, sym, ap, subst, ◌∙◌, arith}
+use Rattle.std.proofs.Common.{◌≡◌, ℕ, ◌+◌, ◌<◌, ◌≤◌, ◌^◌, nat_le, List, [], ◌∷◌, map, length, Fits, w32, sym, subst, arith}
 use Rattle.std.specs.List.{All, AllByRecursion}
-use Rattle.std.proofs.lemmas.Bool.{cond_both}
-use Rattle.std.proofs.lemmas.Option.{none-some, same_Some}
 use Rattle.cil_model.specs.Code.{CodeOf}
 use Rattle.cil_model.specs.Limits.{MAX_CODE_BYTES}
 use Rattle.cil_model.proofs.ShortCodes.{code_is_short}

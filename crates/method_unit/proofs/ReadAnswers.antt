@@ -1,5 +1,5 @@
 -- What an answer says that the tests of a unit file judge.
-use Rattle.std.proofs.Common.{◌≡◌, ℕ, List, [], ◌∷◌, Option, Some, None, Result, Ok, Err, sym, ap, ap₂, ◌∙◌}
+use Rattle.std.proofs.Common.{◌≡◌, ℕ, List, Option, Some, None, Result, Ok, Err, sym, ap, ap₂, ◌∙◌}
 use Rattle.std.proofs.lemmas.Option.{none-some}
 use Rattle.cc_base.specs.LittleEndian.{IsBytes}
 use Rattle.cc_base.specs.Tests.{GivesOnly, JudgesOrNoMemory}

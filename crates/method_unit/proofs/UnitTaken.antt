@@ -1,13 +1,11 @@
 -- A file without a fault spells the unit that is read of it.
-use Rattle.std.proofs.Common.{◌≡◌, ℕ, ◌+◌, ◌≤◌, zero, suc, List, [], ◌∷◌, ◌++◌, length, map, filter_map, Option, Some, None, option_map, slice_get, refl, sym, ap, subst, ◌∙◌, arith, inl, inr}
+use Rattle.std.proofs.Common.{◌≡◌, ℕ, ◌≤◌, zero, suc, List, [], ◌∷◌, ◌++◌, length, map, filter_map, Option, Some, None, option_map, slice_get, refl, sym, ap, subst, ◌∙◌, arith}
 use Rattle.std.specs.List.{AllByRecursion}
-use Rattle.std.proofs.lemmas.Bool.{cases_lt}
 use Rattle.cc_base.specs.LittleEndian.{IsBytes}
 use Rattle.cc_base.specs.Tests.{first_of}
-use Rattle.cc_base.proofs.TestLemmas.{first_of-one, none_before, none_behind, none_here}
-use Rattle.cil_model.specs.Blocks.{block_count, start_of_body}
+use Rattle.cc_base.proofs.TestLemmas.{none_before, none_behind, none_here}
+use Rattle.cil_model.specs.Blocks.{start_of_body}
 use Rattle.cil_model.specs.ClauseTrees.{clauses_in}
-use Rattle.cil_model.specs.FitKinds.{AreDecoded}
 use Rattle.cil_model.specs.TreeKinds.{IsNumberClause}
 use Rattle.cil_model.specs.Bodies.{HasBody}
 use Rattle.cil_model.specs.WellFormed.{ClausesWithinLimits, IsWellFormed, told_by_code}

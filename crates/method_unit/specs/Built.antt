@@ -6,27 +6,23 @@ use Rattle.cil_model.specs.declared.instruction.Op.TheVariants as ops
 use Rattle.cil_model.specs.declared.unit_numbers.UnitCall.{UnitCall}
 use Rattle.cil_model.specs.declared.unit_numbers.UnitCall.TheVariants as calls
 
--- Of the calls Assert and Assume are built, without a message.
+-- Of the calls Assert and Assume are built, with a message or without.
 abbrev pub is_built_call : Option UnitCall → Bool
-is_built_call (Some (calls.Assert false)) = true
-is_built_call (Some (calls.Assume false)) = true
+is_built_call (Some (calls.Assert message)) = true
+is_built_call (Some (calls.Assume message)) = true
 is_built_call _ = false
 
--- Operations on numbers are built. Those on references, arrays, texts and callees are not.
+-- Each operation is built but a call of anything else. They are all named, so that none is taken that is added later.
 abbrev pub is_built : Op → Bool
-is_built ops.Null = false
-is_built (ops.Text token) = false
-is_built (ops.NewArray number) = false
-is_built ops.Length = false
-is_built (ops.LoadElem place) = false
-is_built (ops.StoreElem place) = false
 is_built (ops.Call number) = is_built_call (unit_call number)
 is_built ops.Nop = true
 is_built (ops.LoadArg n) = true
 is_built (ops.StoreArg n) = true
 is_built (ops.LoadLocal n) = true
 is_built (ops.StoreLocal n) = true
+is_built ops.Null = true
 is_built (ops.Const n) = true
+is_built (ops.Text token) = true
 is_built ops.Dup = true
 is_built ops.Pop = true
 is_built ops.Return = true
@@ -36,3 +32,7 @@ is_built (ops.Bin operator) = true
 is_built ops.Neg = true
 is_built ops.Not = true
 is_built ops.ConvI4 = true
+is_built (ops.NewArray number) = true
+is_built ops.Length = true
+is_built (ops.LoadElem place) = true
+is_built (ops.StoreElem place) = true

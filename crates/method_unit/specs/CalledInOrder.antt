@@ -1,5 +1,5 @@
 -- Callees that are called in their order, up to some instruction.
-use Rattle.std.specs.Prelude.{◌≡◌, ℕ, suc, ◌==◌, nat_lt, Bool, List, drop, Option, Some, None, if◌then◌else◌}
+use Rattle.std.specs.Prelude.{◌≡◌, ℕ, suc, ◌==◌, nat_lt, List, drop, Option, Some, None, if◌then◌else◌}
 use Rattle.std.specs.List.{filter_map, list_any}
 use Rattle.cc_base.specs.Tests.{first_of}
 use Rattle.cil_model.specs.WellFormed.{called_by}

@@ -1,6 +1,6 @@
 -- The tests of a unit file, in order, and the unit of a file that passes them. Those of the code say where in the file an
 -- instruction, a block or a callee stands.
-use Rattle.std.specs.Prelude.{ℕ, suc, ◌+◌, ◌==◌, nat_lt, Bool, true, ◌&&◌, List, [], ◌∷◌, ◌++◌, length, map, filter_map, slice_get, is_some, Option, Some, None, option_map, if◌then◌else◌}
+use Rattle.std.specs.Prelude.{ℕ, suc, ◌+◌, ◌==◌, nat_lt, Bool, true, ◌&&◌, List, [], ◌∷◌, ◌++◌, length, map, filter_map, slice_get, is_some, Option, Some, option_map, if◌then◌else◌}
 use Rattle.std.specs.Option.{option_map_or}
 use Rattle.std.specs.List.{list_any}
 use Rattle.cc_base.specs.Tests.{first_of, must}

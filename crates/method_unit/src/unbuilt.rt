@@ -1,18 +1,21 @@
 //! Where the analysis of a unit is not built.
 
 ghost use Rattle.std.specs.Prelude.{◌≡◌, [], filter, nat_le, None};
-ghost use Rattle.method_unit.specs.NotBuilt.{are_numbers, first_unbuilt, gives_number, has_built_head, not_built};
+ghost use Rattle.cil_model.specs.Clauses.{clauses_of};
+ghost use Rattle.cil_model.specs.declared.clause.ClauseKind.TheVariants as kinds;
+ghost use Rattle.method_unit.specs.NotBuilt.{are_required, first_unbuilt, not_built};
 ghost use Rattle.method_unit.specs.Units.{IsUnit};
 
 use crate::built::is_built;
-use cil_model::{ClauseKind, Instr, Unit};
+use cil_model::{Clause, ClauseKind, Instr, Unit};
 
-/// Returns whether no clause is an Ensures.
-fn has_built_clauses(unit: &Unit) -> bool {
-    unit.clauses
-        .as_slice()
+/// Returns whether each of the clauses is required.
+fn are_required(clauses: &[Clause]) -> bool
+    ensures { result ≡ are_required clauses.now }
+{
+    clauses
         .iter()
-        .all(|clause| clause.kind == ClauseKind::Requires)
+        .all(|clause| matches!(clause.kind, ClauseKind::Requires))
 }
 
 /// The IL offset of the first instruction from an offset on that is not built.
@@ -27,19 +30,28 @@ fn first_unbuilt(instrs: &[Instr], start: u32) -> Option<u32>
     None
 }
 
-/// The IL offset at which a unit stops being built: the start of its body where its result, an argument, a local or a clause
-/// keeps it from being so, and otherwise an instruction of the body.
-///
-/// Cost: linear in the unit.
+/// The IL offset at which a unit stops being built.
 #[tactic(auto, unfolding(crate::specs::NotBuilt::not_built))]
-pub fn not_built(unit: &Unit) -> Option<u32>
-    ensures value { result ≡ not_built unit.now }
-    // A unit that is built calls no method.
-    ensures alone { result ≡ None → IsUnit unit.now → unit.now.callees ≡ [] }
+fn stop(unit: &Unit) -> Option<u32>
+    ensures { result ≡ not_built unit.now }
 {
-    if has_built_clauses(unit) {
+    if are_required(unit.clauses.as_slice()) {
         first_unbuilt(unit.instrs.as_slice(), unit.body_start)
     } else {
         Some(unit.body_start)
     }
+}
+
+/// The IL offset at which a unit stops being built: the start of its body where the unit ensures anything, and otherwise
+/// an instruction of the body.
+///
+/// Cost: linear in the unit.
+pub fn not_built(unit: &Unit) -> Option<u32>
+    ensures value { result ≡ not_built unit.now }
+    // A unit that is built calls no method.
+    ensures alone { result ≡ None → IsUnit unit.now → unit.now.callees ≡ [] }
+    // It ensures nothing.
+    ensures silent { result ≡ None → clauses_of kinds.Ensures unit.now.clauses ≡ [] }
+{
+    stop(unit)
 }

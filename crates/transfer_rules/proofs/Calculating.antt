@@ -1,5 +1,5 @@
 -- Operators and arrays of the code, of a state that may be reached or not.
-use Rattle.std.proofs.Common.{◌≡◌, ◌==◌, ℕ, ◌-◌, ℤ, pos, negsuc, Bool, true, false, List, [], ◌∷◌, ◌++◌, length, take, Option, Some, None, refl, sym, ap, subst, ◌∙◌}
+use Rattle.std.proofs.Common.{◌≡◌, ◌==◌, ℕ, ◌-◌, ℤ, pos, negsuc, true, false, List, [], ◌∷◌, ◌++◌, length, take, Option, Some, None, refl, sym, ap, subst, ◌∙◌}
 use Rattle.std.specs.Prelude.{Result, Ok, Err, OnOk, is_some, reverse, slice_get}
 use Rattle.std.specs.Option.{ForSome, option_and_then}
 use Rattle.std.proofs.lemmas.Bool.{cond_both}
@@ -19,12 +19,12 @@ use Rattle.frame_names.specs.declared.var.Var.TheVariants as vars
 use Rattle.number_spans.specs.Constants.{constant}
 use Rattle.number_spans.specs.Owed.{Divides, Shifts}
 use Rattle.obligation_prover.specs.Operations.{from_top}
-use Rattle.state_facts.specs.Forms.{HasNumber, HasReference, HasVar, IsArrayPlace}
+use Rattle.state_facts.specs.Forms.{HasVar, IsArrayPlace}
 use Rattle.state_facts.specs.Moves.{popped}
 use Rattle.state_facts.specs.StateFacts.{StateFacts, State, length_at}
 use Rattle.state_facts.specs.States as states
 use Rattle.transfer_rules.specs.Acts.{calculated, complemented, negated, operated, taken_from, with_item_of, with_item_put, with_length, with_new, with_number_put}
-use Rattle.transfer_rules.specs.Operands.{IsTaken, Took, TookTwo, on_one, on_three, on_two, over_one, over_two, with_one}
+use Rattle.transfer_rules.specs.Operands.{Took, TookTwo, on_one, on_three, on_two, over_one, over_two, with_one}
 use Rattle.transfer_rules.specs.Owed.{AreReadyFor, IsReady}
 use Rattle.transfer_rules.specs.Laws.Tops.{front}
 use Rattle.transfer_rules.proofs.Taking.{still_there}

@@ -1,6 +1,6 @@
 -- The state that each operation leaves.
-use Rattle.std.proofs.Common.{◌≡◌, ◌≢◌, ℕ, ℤ, Some, None, List, refl, sym}
-use Rattle.std.specs.Option.{option_and_then, option_map}
+use Rattle.std.proofs.Common.{◌≡◌, ℕ, ℤ, Some, None, List, refl, sym}
+use Rattle.std.specs.Option.{option_and_then}
 use Rattle.cil_model.specs.UnitCalls.{array_place, unit_call}
 use Rattle.cil_model.specs.declared.instruction.BinOp.{BinOp}
 use Rattle.cil_model.specs.declared.instruction.Op.{Op}

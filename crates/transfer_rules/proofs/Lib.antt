@@ -7,4 +7,6 @@ pub mod Ways
 pub mod GoingOn
 pub mod Walking
 pub mod Inducing
+pub mod FitTold
 pub mod Beginning
+pub mod Requiring

@@ -1,25 +1,16 @@
 -- Moves of the code, of a state that may be reached or not.
-use Rattle.std.proofs.Common.{◌≡◌, ◌≢◌, ◌≤◌, ◌<◌, ℕ, ◌-◌, ℤ, Bool, true, false, nat_lt, Option, Some, None, List, [], length, refl, sym, ap, subst, ◌∙◌, arith, slice_get}
-use Rattle.std.specs.Prelude.{if◌then◌else◌, IsSome, reverse}
+use Rattle.std.proofs.Common.{◌≡◌, ◌≢◌, ◌≤◌, ◌<◌, ℕ, ◌-◌, Bool, true, false, nat_lt, Option, Some, None, length, refl, sym, ap, subst, ◌∙◌, arith, slice_get}
+use Rattle.std.specs.Prelude.{if◌then◌else◌, reverse}
 use Rattle.std.specs.Option.{ForSome, option_and_then}
-use Rattle.std.proofs.lemmas.Bool.{cond_both}
 use Rattle.std.proofs.lemmas.Option.{slice_get_past}
-use Rattle.cil_model.specs.Comparisons.{comparison_of}
-use Rattle.cil_model.specs.UnitCalls.{array_place}
-use Rattle.cil_model.specs.declared.instruction.BinOp.{BinOp}
-use Rattle.cil_model.specs.declared.instruction.CmpOp.{CmpOp}
 use Rattle.cil_model.specs.declared.place.Place.{Place}
 use Rattle.cil_model.specs.declared.place.Place.TheVariants as places
-use Rattle.domain_api.specs.declared.expr.Expr.{Expr}
 use Rattle.frame_names.specs.declared.var.Var.{Var}
-use Rattle.frame_names.specs.declared.var.Var.TheVariants as vars
 use Rattle.obligation_prover.specs.Operations.{from_top}
-use Rattle.state_facts.specs.Forms.{IsArrayPlace}
-use Rattle.state_facts.specs.Moves.{pushed, popped}
 use Rattle.state_facts.specs.StateFacts.{StateFacts, State, variables_in}
 use Rattle.state_facts.specs.States as states
-use Rattle.transfer_rules.specs.Acts.{calculated, duplicated, given, loaded, put_into, returned, stored}
-use Rattle.transfer_rules.specs.Operands.{Took, on_one, over_one, with_one}
+use Rattle.transfer_rules.specs.Acts.{duplicated, given, loaded, put_into, returned, stored}
+use Rattle.transfer_rules.specs.Operands.{Took, on_one, with_one}
 
 -- ---- variables
 

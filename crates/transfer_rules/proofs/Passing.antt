@@ -1,5 +1,5 @@
 -- What calls of contracts and branches take.
-use Rattle.std.proofs.Common.{◌≡◌, pos, Bool, Option, Some, None, refl, sym, ap, subst, ◌∙◌}
+use Rattle.std.proofs.Common.{◌≡◌, Bool, Option, Some, None, refl, sym, ap, ◌∙◌}
 use Rattle.std.specs.Option.{option_and_then}
 use Rattle.cil_model.specs.declared.instruction.CmpOp.{CmpOp}
 use Rattle.cil_model.specs.declared.instruction.Test.{Test}
@@ -9,7 +9,7 @@ use Rattle.cil_model.specs.declared.unit_numbers.UnitCall.TheVariants as calls
 use Rattle.domain_api.specs.declared.expr.Expr.{Expr}
 use Rattle.frame_names.specs.declared.var.Var.{Var}
 use Rattle.frame_names.specs.declared.var.Var.TheVariants as vars
-use Rattle.state_facts.specs.StateFacts.{StateFacts, State}
+use Rattle.state_facts.specs.StateFacts.{State}
 use Rattle.state_facts.specs.States as states
 use Rattle.state_obligations.specs.Assumed.{assume}
 use Rattle.state_obligations.specs.declared.condition.Condition.TheVariants as conditions

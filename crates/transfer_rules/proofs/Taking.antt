@@ -1,6 +1,6 @@
 -- What is taken from the stack is what each rule over operands takes.
 use Rattle.std.proofs.Common.{◌≡◌, Bool, true, false, Option, Some, None, refl, sym, ap, subst, ◌∙◌}
-use Rattle.std.specs.Prelude.{IfSome, IsSome, reverse, slice_get}
+use Rattle.std.specs.Prelude.{IfSome, reverse, slice_get}
 use Rattle.std.specs.Option.{ForSome, option_and_then}
 use Rattle.std.proofs.lemmas.Bool.{false≢true}
 use Rattle.frame_names.specs.declared.var.Var.{Var}
@@ -9,7 +9,7 @@ use Rattle.state_facts.specs.Forms.{HasVar}
 use Rattle.state_facts.specs.Moves.{popped}
 use Rattle.state_facts.specs.StateFacts.{StateFacts, State, variables_in}
 use Rattle.state_facts.specs.States.{pop}
-use Rattle.transfer_rules.specs.Operands.{IsTaken, Rule, Took, TookCondition, TookTwo, on_one, on_two, over_one, over_two, with_one}
+use Rattle.transfer_rules.specs.Operands.{IsTaken, Rule, Took, TookCondition, TookTwo, on_one, over_one, over_two, with_one}
 
 -- ---- one
 

@@ -1,5 +1,5 @@
 -- What is assumed along the ways on from a branch, of a state that may be reached or not.
-use Rattle.std.proofs.Common.{◌≡◌, ◌==◌, ◌≤◌, ◌<◌, ℕ, ℤ, pos, Bool, true, false, not, nat_lt, Option, Some, None, List, [], length, refl, sym, ap, subst, ◌∙◌, arith, slice_get}
+use Rattle.std.proofs.Common.{◌≡◌, ◌==◌, ◌≤◌, ◌<◌, ℕ, pos, Bool, true, false, not, nat_lt, Option, Some, None, List, length, refl, sym, ap, ◌∙◌, arith, slice_get}
 use Rattle.std.specs.Prelude.{if◌then◌else◌, reverse}
 use Rattle.std.specs.Option.{option_and_then}
 use Rattle.cil_model.specs.declared.instruction.CmpOp.{CmpOp}

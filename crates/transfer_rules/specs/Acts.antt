@@ -1,7 +1,7 @@
 -- What an operation does to what is known of a point, where it ends in no fault (ECMA-335 III.3 and III.4). Where an
 -- operand is missing, or has not the form that the operation takes, nothing is reached: the machine does not go on there.
 use Rattle.std.specs.Prelude.{ℕ, ◌+◌, ◌-◌, ℤ, pos, negsuc, nat_lt, List, length, get_or, slice_get, Option, Some, None, if◌then◌else◌}
-use Rattle.std.specs.Option.{option_and_then, option_map}
+use Rattle.std.specs.Option.{option_and_then}
 use Rattle.cil_model.specs.Comparisons.{comparison_of}
 use Rattle.cil_model.specs.UnitCalls.{array_place, unit_call}
 use Rattle.cil_model.specs.declared.instruction.BinOp.{BinOp}

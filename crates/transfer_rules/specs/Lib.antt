@@ -6,6 +6,7 @@ pub mod Post
 pub mod Steps
 pub mod Entry
 pub mod Forms
+pub mod FitTests
 pub mod Flow
 pub mod Unknown
 pub mod Inductive

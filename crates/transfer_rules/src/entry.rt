@@ -1,17 +1,22 @@
 //! The state where a method begins.
 
-ghost use Rattle.std.specs.Prelude.{◌≡◌, Some, IfOk, OnOk};
+ghost use Rattle.std.specs.Prelude.{◌≡◌, [], ◌∷◌, slice_get, Some, IfOk, OnOk};
+ghost use Rattle.std.specs.List.{AllByRecursion};
 ghost use Rattle.std.specs.Option.{option_map};
 ghost use Rattle.cil_model.specs.Clauses.{clauses_of};
 ghost use Rattle.cil_model.specs.WellFormed.{IsWellFormed};
 ghost use Rattle.cil_model.specs.declared.clause.ClauseKind.TheVariants as kinds;
+ghost use Rattle.frame_names.specs.declared.var.Var.{Var};
+ghost use Rattle.state_facts.specs.StateFacts.{variables_in};
+ghost use Rattle.state_facts.specs.States.{push};
 ghost use Rattle.transfer_rules.specs.Entry as rule;
 ghost use Rattle.transfer_rules.specs.Entry.{HoldsAtEntry};
 ghost use Rattle.transfer_rules.specs.Laws.BegunLaws.{entry_kinds};
+ghost use Rattle.transfer_rules.specs.Laws.EntryLaws.{IsTestOf};
 ghost use Rattle.transfer_rules.specs.Laws.Fitting.{AreKinds};
 
 use abs_state::{AbsState, Parts, Var};
-use cil_model::{ClauseKind, Place, Unit};
+use cil_model::{Clause, ClauseKind, Place, Unit};
 use clause_trees::{TreeEnv, assume_tree};
 use domain_api::NoMemory;
 use number_spans::constant;
@@ -46,15 +51,23 @@ pub(crate) fn push_unknown(state: &mut AbsState, places: &[Place]) -> Result<(),
     Ok(())
 }
 
+/// Pushes what the variable of this list index has.
+fn push_again(state: &mut AbsState, i: u64) -> Result<(), NoMemory>
+    ensures { OnOk result ((v : Var) → slice_get (variables_in state.old) i ≡ Some v → state.new ≡ push v state.old) }
+{
+    match state.var_at(i) {
+        Some(value) => state.push(value),
+        None => Ok(()),
+    }
+}
+
 /// Pushes all variables once more.
+#[tactic(auto, using(crate::proofs::Beginning::again))]
 fn push_twice(state: &mut AbsState) -> Result<(), NoMemory>
     ensures { OnOk result (state.new ≡ option_map rule.twice state.old) }
 {
     for i in 0..state.var_count() {
-        let Some(value) = state.var_at(i) else {
-            break;
-        };
-        state.push(value)?;
+        push_again(state, i)?;
     }
     Ok(())
 }
@@ -90,21 +103,39 @@ fn begun(alloc: Global, unit: &Unit) -> Result<AbsState, NoMemory>
     Ok(state)
 }
 
+/// The state in which a clause is assumed to be true, where it is a Requires.
+fn assume_required(
+    alloc: Global,
+    state: AbsState,
+    unit: &Unit,
+    clause: &Clause,
+) -> Result<AbsState, NoMemory>
+    requires kinds { AreKinds (entry_kinds unit.now) state }
+    requires test { AllByRecursion (IsTestOf unit.now) (clauses_of kinds.Requires (clause.now ∷ [])) }
+    ensures { IfOk result (λ new. new ≡ rule.required (clauses_of kinds.Requires (clause.now ∷ [])) state) }
+{
+    match clause.kind {
+        ClauseKind::Requires => {
+            let env = TreeEnv {
+                args: 0,
+                result: None,
+            };
+            assume_tree(alloc, &state, &clause.tree, &env)
+        }
+        ClauseKind::Ensures => Ok(state),
+    }
+}
+
 /// The state in which each Requires of the unit is assumed to be true, one after another.
+#[tactic(auto, using(crate::proofs::Requiring::requiring))]
 fn required(alloc: Global, state: AbsState, unit: &Unit) -> Result<AbsState, NoMemory>
     requires formed { IsWellFormed unit.now }
     requires begun { AreKinds (entry_kinds unit.now) state }
     ensures { IfOk result (λ new. new ≡ rule.required (clauses_of kinds.Requires unit.now.clauses) state) }
 {
-    let env = TreeEnv {
-        args: 0,
-        result: None,
-    };
     let mut known = state;
     for clause in unit.clauses.as_slice() {
-        if clause.kind == ClauseKind::Requires {
-            known = assume_tree(alloc, &known, &clause.tree, &env)?;
-        }
+        known = assume_required(alloc, known, unit, clause)?;
     }
     Ok(known)
 }

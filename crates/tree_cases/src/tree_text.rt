@@ -9,14 +9,6 @@ use cil_model::{BinOp, Node, Place, Tree, UnOp};
 use domain_api::NoMemory;
 use rule_text::{Failure, operator, place};
 use std::alloc::Global;
-use std::str::SplitWhitespace;
-
-/// The words of a tree that were not read yet.
-#[derive(Drop)]
-struct Words<'a> {
-    alloc: Global,
-    words: SplitWhitespace<'a>,
-}
 
 /// A constant, in a box.
 fn constant(alloc: Global, n: i32) -> Result<Box<Tree>, Failure> {
@@ -74,49 +66,46 @@ fn leaf(word: &str) -> Result<Node, Failure> {
     }
 }
 
-impl Words<'_> {
-    /// The next word.
-    fn word(&mut self) -> Result<&str, Failure> {
-        self.words.next().ok_or(Failure::Unread("a tree"))
+/// The trees of the words that were read, from the last word on.
+#[derive(Drop)]
+struct Reader {
+    alloc: Global,
+    /// The tree of the word that was read last comes last.
+    trees: Vec<Tree>,
+    /// The type that was read last.
+    place: Option<Place>,
+}
+
+impl Reader {
+    /// The next operand of the word that is read.
+    fn operand(&mut self) -> Result<Tree, Failure> {
+        self.trees.pop().ok_or(Failure::Unread("a tree"))
     }
 
-    /// The next tree, in a box.
-    fn operand(&mut self) -> Result<Box<Tree>, Failure> {
-        let tree = self.tree()?;
+    /// The next operand, in a box.
+    fn boxed(&mut self) -> Result<Box<Tree>, Failure> {
+        let tree = self.operand()?;
         Ok(Box::new(self.alloc, tree)?)
     }
 
-    /// The next type.
-    fn place(&mut self) -> Result<Place, Failure> {
-        place(self.word()?).ok_or(Failure::Unread("a type"))
-    }
-
-    /// The next tree, whose root has this word.
-    fn rooted(&mut self, word: &str) -> Result<Node, Failure> {
+    /// The node of a word that is none of one operand.
+    fn node(&mut self, word: &str) -> Result<Node, Failure> {
         if let Some(op) = operator(word) {
-            return Ok(Node::Bin(op, self.operand()?, self.operand()?));
+            return Ok(Node::Bin(op, self.boxed()?, self.boxed()?));
         }
         match word {
             "elem" => {
-                let place = self.place()?;
-                Ok(Node::Elem(place, self.operand()?, self.operand()?))
+                let place = self.place.take().ok_or(Failure::Unread("a type"))?;
+                Ok(Node::Elem(place, self.boxed()?, self.boxed()?))
             }
-            "cond" => Ok(Node::Cond(self.operand()?, self.operand()?, self.operand()?)),
+            "cond" => Ok(Node::Cond(self.boxed()?, self.boxed()?, self.boxed()?)),
             _ => leaf(word),
         }
     }
 
-    /// The next tree.
-    fn tree(&mut self) -> Result<Tree, Failure> {
-        let Some(word) = self.words.next() else {
-            return Err(Failure::Unread("a tree"));
-        };
-        let (word, count) = repeated(word)?;
-        if !is_unary(word) {
-            let node = self.rooted(word)?;
-            return Ok(Tree { node });
-        }
-        let mut tree = self.tree()?;
+    /// A node of one operand, so many times over the next operand.
+    fn repeat(&mut self, word: &str, count: u32) -> Result<Tree, Failure> {
+        let mut tree = self.operand()?;
         for _ in 0..count {
             tree = Tree {
                 node: unary(self.alloc, word, tree)?,
@@ -124,17 +113,40 @@ impl Words<'_> {
         }
         Ok(tree)
     }
+
+    /// Reads a word, whose operands were read.
+    fn read(&mut self, text: &str) -> Result<(), Failure> {
+        if let Some(place) = place(text) {
+            self.place = Some(place);
+            return Ok(());
+        }
+        let (word, count) = repeated(text)?;
+        let tree = if is_unary(word) {
+            self.repeat(word, count)?
+        } else {
+            let node = self.node(word)?;
+            Tree { node }
+        };
+        self.trees.push(tree)?;
+        Ok(())
+    }
 }
 
 /// The tree of a text.
 pub fn tree(alloc: Global, text: &str) -> Result<Tree, Failure> {
-    let mut words = Words {
+    let words: Vec<&str> = text.split_whitespace().collect(alloc)?;
+    let mut reader = Reader {
         alloc,
-        words: text.split_whitespace(),
+        trees: Vec::new(alloc),
+        place: None,
     };
-    let tree = words.tree()?;
-    match words.words.next() {
-        None => Ok(tree),
-        Some(_) => Err(Failure::Unread("the end of a tree")),
+    for word in words.as_slice().iter().rev() {
+        reader.read(word)?;
+    }
+    let tree = reader.operand()?;
+    if reader.trees.is_empty() && reader.place.is_none() {
+        Ok(tree)
+    } else {
+        Err(Failure::Unread("the end of a tree"))
     }
 }

@@ -20,7 +20,6 @@ use Rattle.il_decoder.specs.declared.body.Header.{Header}
 use Rattle.method_code.specs.Numbering.{numbered}
 use Rattle.method_code.specs.OfMethods.{args_of, result_of, told_clauses}
 use Rattle.method_code.specs.Reading.{as_token}
-use Rattle.method_unit.specs.NotBuilt.{has_none}
 use Rattle.method_unit.specs.UnitFile.{clause_told}
 use Rattle.method_unit.specs.Units.{IsUnit}
 use Rattle.unit_builder.proofs.CalledNumbers.{callees_in_order}
@@ -32,7 +31,7 @@ use Rattle.unit_builder.proofs.TokenTests.{tokens_named}
 use Rattle.unit_builder.specs.Bodies.{callee_tokens, decoded_instrs, header_of, il_fault, locals_named, locals_told, unit_instrs, unit_name}
 use Rattle.unit_builder.specs.Making.{HasParts, IsMade}
 use Rattle.unit_builder.specs.Outcomes.{unit_of}
-use Rattle.unit_builder.specs.Reasons.{blocks_in, code_tests, has_short_name, header_tests, kind_tests, name_test, own_tests, reason_tests, row_tests, token_tests, unit_shape, variable_count}
+use Rattle.unit_builder.specs.Reasons.{blocks_in, code_tests, has_none, has_short_name, header_tests, kind_tests, name_test, own_tests, reason_tests, row_tests, token_tests, unit_shape, variable_count}
 use Rattle.unit_builder.specs.Rows.{IsRowOf}
 use Rattle.unit_builder.specs.declared.reason.Reason.{Reason}
 use Rattle.unit_builder.specs.declared.reason.Reason.TheVariants.{LocalType, LocalsNotZero, Section, TooLarge, Code, Clauses}

@@ -1,5 +1,5 @@
 -- Why a method of an assembly is not analysed: the tests of its row, of its header and of its code, in order.
-use Rattle.std.specs.Prelude.{ℕ, ◌+◌, nat_le, Bool, not, ◌||◌, List, [], ◌∷◌, ◌++◌, length, map, is_some, Option, Some, None, option_map}
+use Rattle.std.specs.Prelude.{ℕ, ◌+◌, nat_le, Bool, true, false, not, ◌||◌, List, [], ◌∷◌, ◌++◌, length, map, is_some, Option, Some, None, option_map}
 use Rattle.std.specs.List.{list_all}
 use Rattle.std.specs.Option.{option_map_or}
 use Rattle.asm_image.specs.Bodies.{has_il_body, method_of}
@@ -19,7 +19,6 @@ use Rattle.il_decoder.specs.Body.{header_at}
 use Rattle.il_decoder.specs.declared.body.Header.{Header}
 use Rattle.method_code.specs.Called.{are_known, is_static}
 use Rattle.method_code.specs.OfMethods.{args_of, clauses_of, result_of}
-use Rattle.method_unit.specs.NotBuilt.{has_none}
 use Rattle.method_unit.specs.UnitFile.{names_something}
 use Rattle.stack_typer.specs.FirstTypeFault.{first_type_fault}
 use Rattle.unit_builder.specs.Bodies.{callee_tokens, header_of, il_fault, locals_named, locals_told, unit_instrs, unit_name}
@@ -48,6 +47,10 @@ name_test method = must (is_short_name (unit_name method)) TooLarge
 -- How many arguments, locals and stack slots the method has.
 abbrev pub variable_count : List ℕ → MethodRow → Header → ℕ
 variable_count asm method header = length (args_of method.sig.types) + length (locals_told asm header) + header.max_stack
+
+abbrev pub has_none : {X : Type 0} → List X → Bool
+has_none [] = true
+has_none (x ∷ xs) = false
 
 -- What is tested of the header, where one reads. The method's name counts in any case.
 unfoldable pub header_tests : List ℕ → MethodRow → Option Header → List (Option Reason)

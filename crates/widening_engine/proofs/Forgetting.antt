@@ -11,6 +11,8 @@ use Rattle.widening_engine.specs.declared.kept_block.KeptBlock.{KeptBlock}
 pub record AreForgetting {S : Type 0} (flow : Flow S) (old : Kept S) (block : ℕ) (new : Kept S) (changed : List Bool) : Type 0 where
   pub entry : new.entry ≡ old.entry
   pub behind : new.behind.items ≡ old.behind.items
+  pub begun : new.begun ≡ old.begun
+  pub carried : new.carried.items ≡ old.carried.items
   pub stale : new.stale.items ≡ old.stale.items
   pub blocks : length new.blocks.items ≡ length old.blocks.items
   pub count : length changed ≡ block
@@ -22,6 +24,8 @@ module _ {S : Type 0} (flow : Flow S) (old : Kept S) where
   forgetting_none changed none = record {
     entry = refl;
     behind = refl;
+    begun = refl;
+    carried = refl;
     stale = refl;
     blocks = refl;
     count = ap length none;
@@ -31,11 +35,14 @@ module _ {S : Type 0} (flow : Flow S) (old : Kept S) where
 
   -- One more block.
   pub forgetting_more : (block : ℕ) (mid new : Kept S) (changed told : List Bool) (before value : KeptBlock S) (other : Bool) → AreForgetting flow old block mid changed → block < length old.blocks.items
-      → before ≡ block_at flow mid.blocks.items block → IsForgotten flow block before value other → new.entry ≡ mid.entry → new.behind.items ≡ mid.behind.items → new.stale.items ≡ mid.stale.items
+      → before ≡ block_at flow mid.blocks.items block → IsForgotten flow block before value other → new.entry ≡ mid.entry → new.behind.items ≡ mid.behind.items → new.begun ≡ mid.begun
+      → new.carried.items ≡ mid.carried.items → new.stale.items ≡ mid.stale.items
       → new.blocks.items ≡ set mid.blocks.items block value → told ≡ changed ++ other ∷ [] → AreForgetting flow old (block + 1) new told
-  forgetting_more block mid new changed told before value other so_far inside before_is forgotten entry behind stale blocks pushed = record {
+  forgetting_more block mid new changed told before value other so_far inside before_is forgotten entry behind begun carried stale blocks pushed = record {
     entry = entry ∙ so_far.entry;
     behind = behind ∙ so_far.behind;
+    begun = begun ∙ so_far.begun;
+    carried = carried ∙ so_far.carried;
     stale = stale ∙ so_far.stale;
     blocks = ap length blocks ∙ length-set mid.blocks.items block value ∙ so_far.blocks;
     count = ap length pushed ∙ length_push changed other ∙ ap (λ (n : ℕ). n + 1) so_far.count;
@@ -66,6 +73,8 @@ module _ {S : Type 0} (flow : Flow S) (old : Kept S) where
   forgetting_all new changed all = record {
     entry = all.entry;
     behind = all.behind;
+    begun = all.begun;
+    carried = all.carried;
     stale = all.stale;
     blocks = all.blocks;
     count = all.count;

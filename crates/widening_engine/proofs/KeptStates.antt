@@ -1,8 +1,8 @@
 -- What is kept of a round, and what it is in the next one.
-use Rattle.std.proofs.Common.{◌≡◌, ℕ, zero, suc, ◌+◌, ◌<◌, ◌≤◌, ◌==◌, Bool, true, false, not, ◌&&◌, List, [], ◌∷◌, ◌++◌, cond, length, get_or, map, filter, Option, Some, None, unwrap_or, refl, sym, ap, subst, ◌∙◌, arith, inl, inr, set}
+use Rattle.std.proofs.Common.{◌≡◌, ℕ, zero, suc, ◌+◌, ◌<◌, ◌≤◌, ◌==◌, Bool, true, false, not, ◌&&◌, List, [], ◌∷◌, ◌++◌, cond, length, get_or, map, filter, Option, Some, None, unwrap_or, refl, sym, ap, subst, ◌∙◌, arith, inl, inr, set, get_or-set_same, get_or-set_other}
 use Rattle.std.specs.List.{count_by, list_all, reduce}
 use Rattle.std.proofs.lemmas.Bool.{cases_Bool, cases_eq, eqb-true, ne_eqb}
-use Rattle.std.proofs.lemmas.List.{get_or-map, get_or_read, length-map, map-append}
+use Rattle.std.proofs.lemmas.List.{get_or-map, get_or_read, length-map, length-set, map-append}
 use Rattle.std.proofs.lemmas.List.Elements.{filter-append}
 use Rattle.std.proofs.lemmas.List.FromFn.{fill_by_all, get_or-map-range_with_len, length-map-range_with_len}
 use Rattle.widening_engine.specs.Flows.{FitBlocks}
@@ -164,6 +164,9 @@ module _ {S : Type 0} (flow : Flow S) (fits : ℕ → S → Type 0) (law : Keeps
       edges = ap length stepped.behind ∙ kept.edges;
       fit = stepped_fit;
       behind = stepped.behind ∙ kept.behind;
+      begun = λ yes. kept.begun (sym stepped.begun ∙ yes);
+      marks = ap length stepped.carried ∙ kept.marks;
+      carried = λ edge h yes. kept.carried edge h (sym (ap (λ (items : List Bool). get_or items edge false) stepped.carried) ∙ yes);
       count = stepped.count ∙ kept.count;
       join = λ block h not. (stepped.block block (omega (arith, count_old))).join ∙ taken old joins kept are block h;
       join_fits = λ block h. subst (fits block) (sym ((stepped.block block (omega (arith, count_old))).join ∙ taken old joins kept are block h)) (taken_fits old kept block h);
@@ -197,9 +200,9 @@ module _ {S : Type 0} (flow : Flow S) (fits : ℕ → S → Type 0) (law : Keeps
 -- ---- the edges are computed again
 
 module _ {S : Type 0} (flow : Flow S) (fits : ℕ → S → Type 0) (law : Keeps flow fits) where
-  pub refreshed_kept : (before : List S) (changed : List Bool) (old new : Kept S) → IsKeptOf flow fits before old → AreTold flow before (states_of old.blocks.items) changed
+  pub refreshed_kept : (before : List S) (changed : List Bool) (old new : Kept S) → 0 < flow.blocks → IsKeptOf flow fits before old → AreTold flow before (states_of old.blocks.items) changed
       → IsRefreshed flow changed old new → IsKept flow fits new
-  refreshed_kept before changed old new kept told again =
+  refreshed_kept before changed old new first kept told again =
       let states : List S = states_of old.blocks.items in
       let states_are : states_of new.blocks.items ≡ states = ap states_of again.blocks in
       let value : (edge : ℕ) → edge < flow.edges → get_or new.behind.items edge flow.nothing ≡ behind flow states edge =
@@ -214,6 +217,13 @@ module _ {S : Type 0} (flow : Flow S) (fits : ℕ → S → Type 0) (law : Keeps
         fit = subst (FitBlocks flow fits) (sym states_are) kept.fit;
         behind = fill_by_all (behind flow (states_of new.blocks.items)) new.behind.items flow.edges flow.nothing again.edges
             (λ edge h. value edge h ∙ ap (λ (s : List S). behind flow s edge) (sym states_are));
+        begun = λ yes.
+            ap (flow.leq flow.entry) (ap (λ (s : List S). state_at flow s 0) states_are ∙ (told.told 0 first).0 (again.begun yes).1) ∙ kept.begun (again.begun yes).0;
+        marks = again.marks ∙ kept.marks;
+        carried = λ edge h yes.
+            let source = ap (λ (s : List S). behind flow s edge) states_are ∙ sym (value edge h) ∙ again.behind_same edge h yes ∙ behind_at flow before old.behind.items edge kept.behind h in
+            let target = ap (λ (s : List S). state_at flow s (flow.target edge)) states_are ∙ (told.told (flow.target edge) (law.target_below edge h)).0 (again.target_same edge h yes) in
+            (λ i. flow.leq (source i) (target i)) ∙ kept.carried edge h (again.carried edge h yes);
         count = again.count ∙ kept.count;
         join = λ block h not.
             ap (λ (items : List (KeptBlock S)). join_of (block_at flow items block)) again.blocks
@@ -244,9 +254,9 @@ module _ {S : Type 0} (flow : Flow S) (fits : ℕ → S → Type 0) (law : Keeps
 
   -- The same where all edges are computed and all blocks are to be joined anew.
   pub begun_kept : (changed : List Bool) (old new : Kept S) → old.entry ≡ flow.entry → old.blocks.items ≡ map (λ block. no_block flow.nothing) (places flow.blocks)
-      → old.stale.items ≡ map (λ block. true) (places flow.blocks) → changed ≡ map (λ block. true) (places flow.blocks)
+      → old.begun ≡ false → old.carried.items ≡ map (λ edge. false) (places flow.edges) → old.stale.items ≡ map (λ block. true) (places flow.blocks) → changed ≡ map (λ block. true) (places flow.blocks)
       → IsRefreshed flow changed old new → IsKept flow fits new × (states_of new.blocks.items ≡ never_reached flow)
-  begun_kept changed old new entry blocks stale all again =
+  begun_kept changed old new entry blocks begun carried stale all again =
       let states_are : states_of new.blocks.items ≡ never_reached flow =
       ap states_of again.blocks ∙ begun_states old.blocks.items blocks in
       let block_is : (block : ℕ) → block < flow.blocks → block_at flow new.blocks.items block ≡ no_block flow.nothing =
@@ -267,6 +277,11 @@ module _ {S : Type 0} (flow : Flow S) (fits : ℕ → S → Type 0) (law : Keeps
               (λ edge h. again.behind edge h
               ∙ ap (λ (t : Bool). cond t (behind flow (states_of old.blocks.items) edge) (get_or old.behind.items edge flow.nothing)) (set changed (flow.source edge) all (law.source_below edge h))
               ∙ ap (λ (items : List (KeptBlock S)). behind flow (states_of items) edge) (sym again.blocks));
+          begun = λ yes. absurd_of (sym (again.begun yes).0 ∙ begun);
+          marks = again.marks ∙ ap length carried ∙ length-map-range_with_len (λ edge. false) 0 flow.edges;
+          carried = λ edge h yes.
+              let there : 0 + edge ≡ edge = omega arith in
+              absurd_of (sym (again.carried edge h yes) ∙ ap (λ (items : List Bool). get_or items edge false) carried ∙ get_or-map-range_with_len (λ e. false) 0 flow.edges edge edge false h there);
           count = again.count ∙ ap length stale ∙ length-map-range_with_len (λ block. true) 0 flow.blocks;
           join = λ block h not. absurd_of (sym (set old.stale.items block stale h) ∙ again.stale block not);
           join_fits = λ block h. subst (λ (b : KeptBlock S). fits block (join_of b)) (sym (block_is block h)) (law.nothing block h);
@@ -295,6 +310,9 @@ module _ {S : Type 0} (flow : Flow S) (fits : ℕ → S → Type 0) (law : Keeps
     edges = ap length forgotten.behind ∙ kept.edges;
     fit = unknown_fits flow fits (states_of new.blocks.items) law forgotten_states;
     behind = forgotten.behind ∙ kept.behind;
+    begun = λ yes. kept.begun (sym forgotten.begun ∙ yes);
+    marks = ap length forgotten.carried ∙ kept.marks;
+    carried = λ edge h yes. kept.carried edge h (sym (ap (λ (items : List Bool). get_or items edge false) forgotten.carried) ∙ yes);
     count = ap length forgotten.stale ∙ kept.count;
     join = λ block h not. (forgotten.block block (omega (arith, kept.blocks))).join ∙ kept.join block h (sym (ap (λ (items : List Bool). get_or items block false) forgotten.stale) ∙ not);
     join_fits = λ block h. subst (fits block) (sym ((forgotten.block block (omega (arith, kept.blocks))).join)) (kept.join_fits block h);
@@ -355,6 +373,42 @@ module _ {S : Type 0} (flow : Flow S) (states : List S) where
   pub all_carried : is_begun flow states ≡ true → ((edge : ℕ) → edge < flow.edges → is_carried flow states edge ≡ true) → true ≡ is_inductive flow states
   unfolding is_inductive
   all_carried begun each = sym (λ i. begun i && all_pass (is_carried flow states) flow.edges each i)
+
+-- What was found to be included is so, and everything else is as it was.
+module _ {S : Type 0} (flow : Flow S) (fits : ℕ → S → Type 0) (old new : Kept S) (kept : IsKept flow fits old) (entry : new.entry ≡ old.entry)
+    (blocks : new.blocks.items ≡ old.blocks.items) (behind_is : new.behind.items ≡ old.behind.items) (stale : new.stale.items ≡ old.stale.items) where
+  pub found_kept : (new.begun ≡ true → is_begun flow (states_of old.blocks.items) ≡ true) → length new.carried.items ≡ flow.edges
+      → ((edge : ℕ) → edge < flow.edges → get_or new.carried.items edge false ≡ true → is_carried flow (states_of old.blocks.items) edge ≡ true) → IsKept flow fits new
+  found_kept begun marks carried = subst (λ (items : List (KeptBlock S)). IsKeptOf flow fits (states_of items) new) (sym blocks) (record {
+    entry = entry ∙ kept.entry;
+    blocks = ap length blocks ∙ kept.blocks;
+    edges = ap length behind_is ∙ kept.edges;
+    fit = subst (λ (items : List (KeptBlock S)). FitBlocks flow fits (states_of items)) (sym blocks) kept.fit;
+    behind = behind_is ∙ kept.behind;
+    begun = begun;
+    marks = marks;
+    carried = carried;
+    count = ap length stale ∙ kept.count;
+    join = λ block h not. ap (λ (items : List (KeptBlock S)). join_of (block_at flow items block)) blocks ∙ kept.join block h (sym (ap (λ (items : List Bool). get_or items block false) stale) ∙ not);
+    join_fits = λ block h. subst (λ (items : List (KeptBlock S)). fits block (join_of (block_at flow items block))) (sym blocks) (kept.join_fits block h);
+    settled = λ block h. subst (λ (items : List (KeptBlock S)). IsSettled flow.widen (block_at flow items block)) (sym blocks) (kept.settled block h);
+  })
+
+  -- Of the state where the code begins.
+  pub begun_found : new.carried.items ≡ old.carried.items → (answer : Bool) → new.begun ≡ answer → answer ≡ is_begun flow (states_of old.blocks.items) → IsKept flow fits new
+  begun_found same answer is found = found_kept (λ told. sym found ∙ sym is ∙ told) (ap length same ∙ kept.marks)
+      (λ edge h told. kept.carried edge h (sym (ap (λ (items : List Bool). get_or items edge false) same) ∙ told))
+
+  -- Of the state behind an edge.
+  pub carried_found : (edge : ℕ) (answer : Bool) → edge < flow.edges → new.begun ≡ old.begun → new.carried.items ≡ set old.carried.items edge answer
+      → answer ≡ is_carried flow (states_of old.blocks.items) edge → IsKept flow fits new
+  carried_found edge answer inside same is found = found_kept (λ told. kept.begun (sym same ∙ told)) (ap length is ∙ length-set old.carried.items edge answer ∙ kept.marks)
+      (λ k h told. elim (cases_eq k edge) [
+        | inl e ↦ ap (is_carried flow (states_of old.blocks.items)) e ∙ sym found
+            ∙ sym (get_or-set_same old.carried.items edge answer false (omega (arith, kept.marks, inside))) ∙ sym (ap (λ (items : List Bool). get_or items edge false) is)
+            ∙ ap (λ (j : ℕ). get_or new.carried.items j false) (sym e) ∙ told
+        | inr ne ↦ kept.carried k h (sym (ap (λ (items : List Bool). get_or items k false) is ∙ get_or-set_other old.carried.items edge k answer false ne) ∙ told)
+      ])
 
 -- ---- what flows into the blocks that are to be joined anew
 

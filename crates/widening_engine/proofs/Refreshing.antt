@@ -1,8 +1,8 @@
 -- Edges that are computed again, one after another.
-use Rattle.std.proofs.Common.{◌≡◌, ◌≢◌, ℕ, ◌+◌, ◌<◌, ◌≤◌, Bool, false, List, cond, length, get_or, refl, sym, ap, subst, ◌∙◌, arith, set, inl, inr, get_or-set_same, get_or-set_other}
+use Rattle.std.proofs.Common.{◌≡◌, ◌≢◌, ℕ, ◌+◌, ◌<◌, ◌≤◌, Bool, true, false, not, ◌&&◌, List, cond, length, get_or, refl, sym, ap, subst, ◌∙◌, arith, set, inl, inr, get_or-set_same, get_or-set_other}
 use Rattle.std.proofs.lemmas.Bool.{cases_eq}
 use Rattle.std.proofs.lemmas.List.{length-set}
-use Rattle.widening_engine.specs.Kept.{IsMarked, IsRefreshed, states_of}
+use Rattle.widening_engine.specs.Kept.{IsMarked, IsRefreshed, IsStillKnown, states_of}
 use Rattle.widening_engine.specs.Rounds.{Flow, behind}
 use Rattle.widening_engine.specs.declared.kept.Kept.{Kept}
 
@@ -19,27 +19,45 @@ pub record AreRefreshing {S : Type 0} (flow : Flow S) (changed : List Bool) (old
   pub done : (k : ℕ) → k < edge → get_or new.behind.items k flow.nothing ≡ computed flow changed old k
   pub rest : (k : ℕ) → edge ≤ k → get_or new.behind.items k flow.nothing ≡ get_or old.behind.items k flow.nothing
   pub stale : (block : ℕ) → get_or new.stale.items block false ≡ false → get_or old.stale.items block false ≡ false
+  pub begun : new.begun ≡ true → (old.begun ≡ true) × (get_or changed 0 false ≡ false)
+  pub marks : length new.carried.items ≡ length old.carried.items
+  pub carried : (k : ℕ) → get_or new.carried.items k false ≡ true → get_or old.carried.items k false ≡ true
+  pub target_same : (k : ℕ) → k < edge → get_or new.carried.items k false ≡ true → get_or changed (flow.target k) false ≡ false
+  pub behind_same : (k : ℕ) → k < edge → get_or new.carried.items k false ≡ true → get_or new.behind.items k flow.nothing ≡ get_or old.behind.items k flow.nothing
   pub same : (k : ℕ) → k < edge → get_or new.stale.items (flow.target k) false ≡ false → get_or new.behind.items k flow.nothing ≡ get_or old.behind.items k flow.nothing
 
+still_true : (known changed : Bool) → (known && not changed) ≡ true → (known ≡ true) × (changed ≡ false)
+still_true true false e = (refl, refl)
+still_true true true e = (refl, sym e)
+still_true false changed e = cc
+
 module _ {S : Type 0} (flow : Flow S) (changed : List Bool) (old : Kept S) where
-  pub refreshing_none : AreRefreshing flow changed old 0 old
-  refreshing_none = record {
-    entry = refl;
-    blocks = refl;
-    count = refl;
-    edges = refl;
+  pub refreshing_none : (new : Kept S) (first : Bool) → first ≡ get_or changed 0 false → new.entry ≡ old.entry → new.blocks.items ≡ old.blocks.items → new.behind.items ≡ old.behind.items
+      → new.stale.items ≡ old.stale.items → new.carried.items ≡ old.carried.items → new.begun ≡ (old.begun && not first) → AreRefreshing flow changed old 0 new
+  refreshing_none new first first_is entry blocks behind stale carried begun = record {
+    entry = entry;
+    blocks = blocks;
+    count = ap length stale;
+    edges = ap length behind;
     done = λ k h. absurd (omega arith);
-    rest = λ k h. refl;
-    stale = λ block h. h;
-    same = λ k h not. refl;
+    rest = λ k h. ap (λ (items : List S). get_or items k flow.nothing) behind;
+    begun = λ yes. let both = still_true old.begun first (sym begun ∙ yes) in (both.0, sym first_is ∙ both.1);
+    marks = ap length carried;
+    carried = λ k yes. sym (ap (λ (items : List Bool). get_or items k false) carried) ∙ yes;
+    target_same = λ k h. absurd (omega arith);
+    behind_same = λ k h. absurd (omega arith);
+    stale = λ block not. sym (ap (λ (items : List Bool). get_or items block false) stale) ∙ not;
+    same = λ k h. absurd (omega arith);
   }
 
   -- One more edge.
-  pub refreshing_more : (edge : ℕ) (again : Bool) (mid new : Kept S) → again ≡ get_or changed (flow.source edge) false → edge < length old.behind.items
+  pub refreshing_more : (edge : ℕ) (again other : Bool) (mid new : Kept S) → again ≡ get_or changed (flow.source edge) false → other ≡ get_or changed (flow.target edge) false
+      → edge < length old.behind.items
       → AreRefreshing flow changed old edge mid → new.entry ≡ mid.entry → new.blocks.items ≡ mid.blocks.items
       → new.behind.items ≡ set mid.behind.items edge (cond again (behind flow (states_of mid.blocks.items) edge) (get_or mid.behind.items edge flow.nothing))
+      → new.begun ≡ mid.begun → IsStillKnown edge other mid.carried.items new.carried.items (new.behind.items ≡ mid.behind.items)
       → IsMarked (flow.target edge) mid.stale.items new.stale.items (new.behind.items ≡ mid.behind.items) → AreRefreshing flow changed old (edge + 1) new
-  refreshing_more edge again mid new tells inside so_far entry blocks behind_is marked =
+  refreshing_more edge again other_target mid new tells tells_target inside so_far entry blocks behind_is begun known marked =
       let value : S = cond again (behind flow (states_of mid.blocks.items) edge) (get_or mid.behind.items edge flow.nothing) in
       let value_is : value ≡ computed flow changed old edge = λ i. cond (tells i) (behind flow (states_of (so_far.blocks i)) edge) (so_far.rest edge (omega arith) i) in
       let other : (k : ℕ) → k ≢ edge → get_or new.behind.items k flow.nothing ≡ get_or mid.behind.items k flow.nothing =
@@ -56,6 +74,19 @@ module _ {S : Type 0} (flow : Flow S) (changed : List Bool) (old : Kept S) where
           | inr ne ↦ other k ne ∙ so_far.done k (omega arith)
         ];
         rest = λ k h. let ne : k ≢ edge = omega arith in other k ne ∙ so_far.rest k (omega arith);
+        begun = λ yes. so_far.begun (sym begun ∙ yes);
+        marks = known.count ∙ so_far.marks;
+        carried = λ k yes. so_far.carried k (known.kept k yes);
+        target_same = λ k h yes. elim (cases_eq k edge) [
+          | inl e ↦ ap (λ (j : ℕ). get_or changed (flow.target j) false) e ∙ sym tells_target
+              ∙ known.still (subst (λ (j : ℕ). get_or new.carried.items j false ≡ true) e yes)
+          | inr ne ↦ so_far.target_same k (omega arith) (known.kept k yes)
+        ];
+        behind_same = λ k h yes. elim (cases_eq k edge) [
+          | inl e ↦ subst (λ (j : ℕ). get_or new.behind.items j flow.nothing ≡ get_or old.behind.items j flow.nothing) (sym e)
+              (ap (λ (items : List S). get_or items edge flow.nothing) (known.told (subst (λ (j : ℕ). get_or new.carried.items j false ≡ true) e yes)) ∙ so_far.rest edge (omega arith))
+          | inr ne ↦ other k ne ∙ so_far.behind_same k (omega arith) (known.kept k yes)
+        ];
         stale = λ block not. so_far.stale block (marked.kept block not);
         same = λ k h not. elim (cases_eq k edge) [
           | inl e ↦ subst (λ (j : ℕ). get_or new.behind.items j flow.nothing ≡ get_or old.behind.items j flow.nothing) (sym e)
@@ -73,5 +104,10 @@ module _ {S : Type 0} (flow : Flow S) (changed : List Bool) (old : Kept S) where
     edges = all.edges ∙ many;
     behind = all.done;
     stale = all.stale;
+    begun = all.begun;
+    marks = all.marks;
+    carried = λ edge h. all.carried edge;
+    target_same = all.target_same;
+    behind_same = all.behind_same;
     same = all.same;
   }

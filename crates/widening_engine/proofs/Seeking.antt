@@ -26,6 +26,15 @@ module _ {S : Type 0} (flow : Flow S) (fits : ℕ → S → Type 0) (first : ℕ
   }
 
   module _ (number : ℕ) (kept : Kept S) (count : ℕ) (so_far : AreSought flow fits first number kept count) where
+    -- The same states again.
+    pub sought_same : (new : Kept S) → IsKept flow fits new → new.blocks.items ≡ kept.blocks.items → AreSought flow fits first number new count
+    sought_same new is_kept same = record {
+      is_kept = is_kept;
+      is = ap states_of same ∙ so_far.is;
+      before = so_far.before;
+      ticked = so_far.ticked;
+    }
+
     -- One more round.
     pub sought_more : (new : Kept S) (later : ℕ) → is_inductive flow (states_of kept.blocks.items) ≡ false → IsKept flow fits new
         → states_of new.blocks.items ≡ after_round flow (nat_le 3 (number + 1)) (states_of kept.blocks.items)

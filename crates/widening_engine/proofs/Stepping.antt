@@ -11,6 +11,8 @@ use Rattle.widening_engine.specs.declared.kept_block.KeptBlock.{KeptBlock}
 pub record AreStepping {S : Type 0} (flow : Flow S) (late : Bool) (heads : List Bool) (joins : List (Option S)) (old : Kept S) (block : ℕ) (new : Kept S) (left : List (Option S)) (changed : List Bool) : Type 0 where
   pub entry : new.entry ≡ old.entry
   pub behind : new.behind.items ≡ old.behind.items
+  pub begun : new.begun ≡ old.begun
+  pub carried : new.carried.items ≡ old.carried.items
   pub count : length new.stale.items ≡ length old.stale.items
   pub blocks : length new.blocks.items ≡ length old.blocks.items
   pub taken : length left ≡ length joins
@@ -32,6 +34,8 @@ module _ {S : Type 0} (flow : Flow S) (late : Bool) (heads : List Bool) (joins :
   stepping_none changed none = record {
     entry = refl;
     behind = refl;
+    begun = refl;
+    carried = refl;
     count = refl;
     blocks = refl;
     taken = refl;
@@ -46,11 +50,14 @@ module _ {S : Type 0} (flow : Flow S) (late : Bool) (heads : List Bool) (joins :
   pub stepping_more : (block : ℕ) (mid new : Kept S) (left after : List (Option S)) (changed told : List Bool) (value : KeptBlock S) (other : Bool)
       → AreStepping flow late heads joins old block mid left changed → block < length old.blocks.items
       → IsStepped flow.widen (late && get_or heads block false) (fresh_join flow.nothing (get_or mid.stale.items block false) (get_or left block None)) (block_at flow mid.blocks.items block) value other
-      → new.entry ≡ mid.entry → new.behind.items ≡ mid.behind.items → new.blocks.items ≡ set mid.blocks.items block value → new.stale.items ≡ set mid.stale.items block false
+      → new.entry ≡ mid.entry → new.behind.items ≡ mid.behind.items → new.begun ≡ mid.begun → new.carried.items ≡ mid.carried.items
+      → new.blocks.items ≡ set mid.blocks.items block value → new.stale.items ≡ set mid.stale.items block false
       → after ≡ set left block None → told ≡ changed ++ other ∷ [] → AreStepping flow late heads joins old (block + 1) new after told
-  stepping_more block mid new left after changed told value other so_far inside stepped entry behind blocks stale taken pushed = record {
+  stepping_more block mid new left after changed told value other so_far inside stepped entry behind begun carried blocks stale taken pushed = record {
     entry = entry ∙ so_far.entry;
     behind = behind ∙ so_far.behind;
+    begun = begun ∙ so_far.begun;
+    carried = carried ∙ so_far.carried;
     count = ap length stale ∙ length-set mid.stale.items block false ∙ so_far.count;
     blocks = ap length blocks ∙ length-set mid.blocks.items block value ∙ so_far.blocks;
     taken = ap length taken ∙ length-set left block None ∙ so_far.taken;
@@ -92,6 +99,8 @@ module _ {S : Type 0} (flow : Flow S) (late : Bool) (heads : List Bool) (joins :
   stepping_all new left changed all = record {
     entry = all.entry;
     behind = all.behind;
+    begun = all.begun;
+    carried = all.carried;
     count = all.count;
     blocks = all.blocks;
     told = all.told;

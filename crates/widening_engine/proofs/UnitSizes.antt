@@ -20,8 +20,8 @@ use Rattle.cil_model.specs.declared.instruction.Test.TheVariants as tests
 use Rattle.flow_graph.proofs.GraphFacts.{blocks_counted}
 use Rattle.flow_graph.specs.BlocksOf.{block_at, blocks_of}
 use Rattle.flow_graph.specs.EdgesOf.{edge_to, edges_from, edges_out, edges_to}
-use Rattle.range_rules.specs.Flow.{IsLawful}
-use Rattle.range_rules.specs.declared.unit_flow.UnitFlow.{UnitFlow}
+use Rattle.transfer_rules.specs.Flow.{IsToldOf}
+use Rattle.unit_flow.specs.declared.unit_flow.UnitFlow.{UnitFlow}
 use Rattle.unit_form.specs.Spelling.{HasFields}
 use Rattle.widening_engine.specs.Flows.{AreNumbered}
 use Rattle.widening_engine.specs.Limits.{unit_flow}
@@ -160,25 +160,26 @@ edges-few blocks start at (i ∷ is) code (begins, (bytes, rest, spells, parts, 
     ]
 
 -- Blocks and edges of a unit have numbers of 32 bits.
-pub numbered : (code : UnitFlow) → IsLawful code → AreNumbered (unit_flow code)
-numbered code lawful =
+pub numbered : (code : UnitFlow) → IsToldOf code → AreNumbered (unit_flow code)
+numbered code told =
     let unit = code.unit in
-    let limits = lawful.unit.formed.limits in
+    let lawful = told.lawful in
+    let limits = lawful.formed.limits in
     record {
       blocks = rw lawful.graph (omega (arith, blocks_counted unit, limits.blocks));
-      edges = rw lawful.graph (omega (arith, edges-few (blocks_of unit) unit.body_start 0 unit.instrs unit.code lawful.unit.formed.code.spelled, limits.code, limits.instructions));
+      edges = rw lawful.graph (omega (arith, edges-few (blocks_of unit) unit.body_start 0 unit.instrs unit.code lawful.formed.code.spelled, limits.code, limits.instructions));
     }
 
 -- Such a unit can be spelled as a file.
-pub spelled : (code : UnitFlow) → IsLawful code → HasFields code.unit
-spelled code lawful =
-    let formed = lawful.unit.formed in
+pub spelled : (code : UnitFlow) → IsToldOf code → HasFields code.unit
+spelled code told =
+    let formed = told.lawful.formed in
     record {
       name = formed.name;
       args = formed.args;
       locals = formed.locals;
       variables = formed.limits.variables;
       callees = formed.callees;
-      count = rw lawful.unit.callees (omega arith);
+      count = rw told.alone (omega arith);
       code = formed.limits.code;
     }

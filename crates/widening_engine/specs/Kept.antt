@@ -2,7 +2,7 @@
 use Rattle.std.specs.Prelude.{◌≡◌, ◌↔◌, ℕ, ◌<◌, Bool, true, false, ◌&&◌, if◌then◌else◌, List, length, map, get_or, Option, Some, None, unwrap_or}
 use Rattle.widening_engine.specs.Flows.{FitBlocks}
 use Rattle.widening_engine.specs.Merging.{merged_by}
-use Rattle.widening_engine.specs.Rounds.{Flow, behind, incoming, merge, places, state_at}
+use Rattle.widening_engine.specs.Rounds.{Flow, behind, incoming, is_begun, is_carried, merge, places, state_at}
 use Rattle.widening_engine.specs.declared.kept.Kept.{Kept}
 use Rattle.widening_engine.specs.declared.kept_block.KeptBlock.{KeptBlock}
 
@@ -47,7 +47,8 @@ all_behind flow states = map (behind flow states) (places flow.edges)
 abbrev pub flowing : {S : Type 0} → Flow S → List S → ℕ → S
 flowing flow states block = merge flow (incoming flow states block)
 
--- What is kept, where the states behind the edges are those from the states `before`: so is each join, but those of the blocks that are to be joined anew.
+-- What is kept, where the states behind the edges are those from the states `before`: so is each join, but those of the blocks that are to be joined anew,
+-- and what is known to be included was so in these states.
 pub record IsKeptOf {S : Type 0} (flow : Flow S) (fits : ℕ → S → Type 0) (before : List S) (kept : Kept S) : Type 0 where
   pub entry : kept.entry ≡ flow.entry
   pub blocks : length kept.blocks.items ≡ flow.blocks
@@ -55,6 +56,9 @@ pub record IsKeptOf {S : Type 0} (flow : Flow S) (fits : ℕ → S → Type 0) (
   pub fit : FitBlocks flow fits (states_of kept.blocks.items)
   pub behind : kept.behind.items ≡ all_behind flow before
   pub count : length kept.stale.items ≡ flow.blocks
+  pub begun : kept.begun ≡ true → is_begun flow before ≡ true
+  pub marks : length kept.carried.items ≡ flow.edges
+  pub carried : (edge : ℕ) → edge < flow.edges → get_or kept.carried.items edge false ≡ true → is_carried flow before edge ≡ true
   pub join : (block : ℕ) → block < flow.blocks → get_or kept.stale.items block false ≡ false → join_of (block_at flow kept.blocks.items block) ≡ flowing flow before block
   pub join_fits : (block : ℕ) → block < flow.blocks → fits block (join_of (block_at flow kept.blocks.items block))
   pub settled : (block : ℕ) → block < flow.blocks → IsSettled flow.widen (block_at flow kept.blocks.items block)
@@ -75,6 +79,8 @@ fresh_join nothing stale join = if stale then Some (unwrap_or join nothing) else
 pub record AreStepped {S : Type 0} (flow : Flow S) (late : Bool) (heads : List Bool) (joins : List (Option S)) (old new : Kept S) (changed : List Bool) : Type 0 where
   pub entry : new.entry ≡ old.entry
   pub behind : new.behind.items ≡ old.behind.items
+  pub begun : new.begun ≡ old.begun
+  pub carried : new.carried.items ≡ old.carried.items
   pub count : length new.stale.items ≡ length old.stale.items
   pub blocks : length new.blocks.items ≡ length old.blocks.items
   pub told : length changed ≡ length old.blocks.items
@@ -92,6 +98,8 @@ pub record IsForgotten {S : Type 0} (flow : Flow S) (block : ℕ) (old new : Kep
 pub record AreForgotten {S : Type 0} (flow : Flow S) (old new : Kept S) (changed : List Bool) : Type 0 where
   pub entry : new.entry ≡ old.entry
   pub behind : new.behind.items ≡ old.behind.items
+  pub begun : new.begun ≡ old.begun
+  pub carried : new.carried.items ≡ old.carried.items
   pub stale : new.stale.items ≡ old.stale.items
   pub blocks : length new.blocks.items ≡ length old.blocks.items
   pub count : length changed ≡ length old.blocks.items
@@ -102,7 +110,8 @@ pub record AreTold {S : Type 0} (flow : Flow S) (before states : List S) (change
   pub count : length changed ≡ flow.blocks
   pub told : (block : ℕ) → block < flow.blocks → TellsChange (state_at flow before block) (state_at flow states block) (get_or changed block false)
 
--- The edges whose source has changed are computed again, and each block to which another state flows is to be joined anew.
+-- The edges whose source has changed are computed again, and each block to which another state flows is to be joined anew. Nothing
+-- else counts as included than before, and nothing where one of the two states has changed.
 pub record IsRefreshed {S : Type 0} (flow : Flow S) (changed : List Bool) (old new : Kept S) : Type 0 where
   pub entry : new.entry ≡ old.entry
   pub blocks : new.blocks.items ≡ old.blocks.items
@@ -111,6 +120,11 @@ pub record IsRefreshed {S : Type 0} (flow : Flow S) (changed : List Bool) (old n
   pub behind : (edge : ℕ) → edge < flow.edges → get_or new.behind.items edge flow.nothing
       ≡ (if get_or changed (flow.source edge) false then behind flow (states_of old.blocks.items) edge else get_or old.behind.items edge flow.nothing)
   pub stale : (block : ℕ) → get_or new.stale.items block false ≡ false → get_or old.stale.items block false ≡ false
+  pub begun : new.begun ≡ true → (old.begun ≡ true) × (get_or changed 0 false ≡ false)
+  pub marks : length new.carried.items ≡ length old.carried.items
+  pub carried : (edge : ℕ) → edge < flow.edges → get_or new.carried.items edge false ≡ true → get_or old.carried.items edge false ≡ true
+  pub target_same : (edge : ℕ) → edge < flow.edges → get_or new.carried.items edge false ≡ true → get_or changed (flow.target edge) false ≡ false
+  pub behind_same : (edge : ℕ) → edge < flow.edges → get_or new.carried.items edge false ≡ true → get_or new.behind.items edge flow.nothing ≡ get_or old.behind.items edge flow.nothing
   pub same : (edge : ℕ) → edge < flow.edges → get_or new.stale.items (flow.target edge) false ≡ false → get_or new.behind.items edge flow.nothing ≡ get_or old.behind.items edge flow.nothing
 
 -- The mark of the edge's target is set, or what is told of the edge is so; no other mark is taken back.
@@ -118,3 +132,10 @@ pub record IsMarked (target : ℕ) (old new : List Bool) (same : Type 0) : Type 
   pub count : length new ≡ length old
   pub kept : (block : ℕ) → get_or new block false ≡ false → get_or old block false ≡ false
   pub told : get_or new target false ≡ false → same
+
+-- No other mark is set than before. That of the edge is set only where its target has not changed, and what is told of the edge is so.
+pub record IsStillKnown (edge : ℕ) (changed : Bool) (old new : List Bool) (same : Type 0) : Type 0 where
+  pub count : length new ≡ length old
+  pub kept : (k : ℕ) → get_or new k false ≡ true → get_or old k false ≡ true
+  pub still : get_or new edge false ≡ true → changed ≡ false
+  pub told : get_or new edge false ≡ true → same

@@ -1,14 +1,14 @@
 -- Where the analysis of a unit settles.
 use Rattle.std.specs.Prelude.{List, None, length, map}
-use Rattle.range_states.specs.FrameFacts.{State}
-use Rattle.range_states.specs.Inclusion as inclusion
-use Rattle.range_states.specs.Join as join
-use Rattle.range_states.specs.Widening as widening
-use Rattle.range_rules.specs.Entry.{entry}
-use Rattle.range_rules.specs.Flow.{along_edge, edge_at}
-use Rattle.range_rules.specs.Unknown.{unknown}
-use Rattle.range_rules.specs.declared.unit_flow.UnitFlow.{UnitFlow}
-use Rattle.range_rules.specs.declared.unit_state.UnitState.{UnitState}
+use Rattle.merged_states.specs.Inclusion.{is_included}
+use Rattle.merged_states.specs.Merging as states
+use Rattle.state_facts.specs.StateFacts.{State}
+use Rattle.transfer_rules.specs.Entry.{entry}
+use Rattle.transfer_rules.specs.Flow.{along_edge}
+use Rattle.transfer_rules.specs.Unknown.{unknown}
+use Rattle.transfer_rules.specs.declared.unit_state.UnitState.{UnitState}
+use Rattle.unit_flow.specs.Flow.{edge_at}
+use Rattle.unit_flow.specs.declared.unit_flow.UnitFlow.{UnitFlow}
 use Rattle.widening_engine.specs.Rounds.{Flow, limit}
 
 -- How states of a unit flow along the edges of its graph.
@@ -22,9 +22,9 @@ unit_flow code = record {
   nothing = record { state = None };
   unknown = λ block. record { state = unknown code block };
   along = λ a edge. record { state = along_edge a.state code edge };
-  join = λ a b. record { state = join.join a.state b.state };
-  widen = λ a b. record { state = widening.widen a.state b.state };
-  leq = λ a b. inclusion.leq a.state b.state;
+  join = λ a b. record { state = states.join a.state b.state };
+  widen = λ a b. record { state = states.widen a.state b.state };
+  leq = λ a b. is_included a.state b.state;
 }
 
 -- The states where the analysis of a unit settles, one for each block.

@@ -21,7 +21,7 @@ fn mark(heads: &mut Vec<bool>, edge: Edge)
 }
 
 /// As many marks as there are blocks, none of them set.
-fn no_marks(alloc: Global, count: usize) -> Result<Vec<bool>, NoMemory>
+pub(crate) fn no_marks(alloc: Global, count: usize) -> Result<Vec<bool>, NoMemory>
     ensures { IfOk result (λ heads. heads.items ≡ map (λ block. false) (places count)) }
 {
     (0..count).map(|_| false).collect(alloc)

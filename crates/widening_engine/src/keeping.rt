@@ -119,8 +119,9 @@ fn settle<S: FlowState + Drop>(
 /// for each round by the number of edges whose source has another state than before. `NoMemory` where memory runs out.
 ///
 /// Cost: besides, in each round a look at each block and each edge, a comparison for each edge up to the first that is
-/// not carried, and a join for each edge to a block that is joined again. One state is kept for each edge, and at most
-/// two for each block.
+/// not carried, but for those that were found carried and where neither the state along the edge nor that of its
+/// target is another one since, and a join for each edge to a block that is joined again. One state is kept for each
+/// edge, and at most two for each block.
 pub fn kept_rounds<S: FlowState + Drop>(
     alloc: Global,
     code: &S::Code,

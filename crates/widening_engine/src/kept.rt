@@ -1,12 +1,13 @@
 //! What is kept of all blocks and edges from one round to the next, so that only what changed is computed again.
 
-ghost use Rattle.std.specs.Prelude.{◌≡◌, ◌↔◌, ◌<◌, ◌≤◌, ◌+◌, ◌^◌, ◌==◌, ◌&&◌, ℕ, Bool, true, false, map, length, get_or, slice_set, slice_index_or, if◌then◌else◌, None, Some, IfOk, OnOk, IfSome, unwrap_or, count_by, replicate};
+ghost use Rattle.std.specs.Prelude.{◌≡◌, ◌↔◌, ◌<◌, ◌≤◌, ◌+◌, ◌^◌, ◌==◌, ◌&&◌, not, ℕ, Bool, true, false, map, length, get_or, slice_set, slice_index_or, if◌then◌else◌, None, Some, IfOk, OnOk, IfSome, unwrap_or, count_by, replicate};
 ghost use Rattle.widening_engine.specs.Flows.{AreEdges, AreNumbered, FitBlocks, flow_of};
-ghost use Rattle.widening_engine.specs.Kept.{AreForgotten, AreStepped, IsKept, IsMarked, IsRefreshed, fresh_join, joined_anew, no_block, states_of};
+ghost use Rattle.widening_engine.specs.Kept.{AreForgotten, AreStepped, IsKept, IsMarked, IsRefreshed, IsStillKnown, fresh_join, joined_anew, no_block, states_of};
 ghost use Rattle.widening_engine.specs.Merging.{joined};
-ghost use Rattle.widening_engine.specs.Rounds.{all_unknown, behind, is_head, is_inductive, never_reached, places};
+ghost use Rattle.widening_engine.specs.Rounds.{all_unknown, behind, is_begun, is_carried, is_head, is_inductive, never_reached, places};
 ghost use Rattle.widening_engine.specs.Work.{HasCounted, HasCountedAtMost, after_round, after_ticks, changes};
 
+use crate::heads::no_marks;
 use crate::kept_block::KeptBlock;
 use domain_api::{FlowState, NoMemory};
 use flow_graph::Edge;
@@ -21,6 +22,10 @@ pub(crate) struct Kept<S> {
     pub blocks: Vec<KeptBlock<S>>,
     /// Of each edge the state behind it, from that of its source.
     pub behind: Vec<S>,
+    /// The state where the code begins is known to be included in that of the first block.
+    pub begun: bool,
+    /// For each edge, whether the state behind it is known to be included in that of its target.
+    pub carried: Vec<bool>,
     /// For each block, whether another state flows into it than when they were joined.
     pub stale: Vec<bool>,
 }
@@ -70,6 +75,13 @@ fn fresh_join<S: FlowState + Drop>(stale: bool, join: Option<S>) -> Option<S>
     }
 }
 
+/// Whether what was known is known still, where a state that it speaks of may have changed.
+fn still_known(known: bool, changed: bool) -> bool
+    ensures { result ≡ (known && not changed) }
+{
+    known && !changed
+}
+
 /// Whether a round widens at the block.
 fn widens_at(late: bool, head: bool) -> bool
     ensures { result ≡ (late && head) }
@@ -109,26 +121,68 @@ fn all_marks(alloc: Global, count: usize) -> Result<Vec<bool>, NoMemory>
 }
 
 impl<S: FlowState + Drop> Kept<S> {
-    /// Whether the states are inductive.
+    /// Whether the state where the code begins is included in that of the first block.
+    fn is_begun(&mut self, alloc: Global, code: &S::Code) -> Result<bool, NoMemory>
+        requires lawful { S.lawful code.now }
+        requires kept { IsKept (flow_of S.FlowState.own S.Lattice code.now) (S.fits code.now) self.old }
+        ensures kept { OnOk result (IsKept (flow_of S.FlowState.own S.Lattice code.now) (S.fits code.now) self.new) }
+        ensures blocks { OnOk result (self.new.blocks.items ≡ self.old.blocks.items) }
+        ensures value { IfOk result (λ yes. yes ≡ is_begun (flow_of S.FlowState.own S.Lattice code.now) (states_of self.old.blocks.items)) }
+    {
+        if self.begun {
+            return Ok(true);
+        }
+        let first = &self.blocks[0];
+        let begun = self.entry.leq(alloc, &first.state)?;
+        self.begun = begun;
+        Ok(begun)
+    }
+
+    /// Whether the state behind the edge is included in that of its target.
+    fn is_carried(
+        &mut self,
+        alloc: Global,
+        code: &S::Code,
+        place: usize,
+        edge: Edge,
+    ) -> Result<bool, NoMemory>
+        requires lawful { S.lawful code.now }
+        requires place { place < S.edge_count code.now }
+        requires to { edge.to ≡ S.target code.now place }
+        requires kept { IsKept (flow_of S.FlowState.own S.Lattice code.now) (S.fits code.now) self.old }
+        ensures kept { OnOk result (IsKept (flow_of S.FlowState.own S.Lattice code.now) (S.fits code.now) self.new) }
+        ensures blocks { OnOk result (self.new.blocks.items ≡ self.old.blocks.items) }
+        ensures value { IfOk result (λ yes. yes ≡ is_carried (flow_of S.FlowState.own S.Lattice code.now) (states_of self.old.blocks.items) place) }
+    {
+        if self.carried[place] {
+            return Ok(true);
+        }
+        let target = &self.blocks[edge.to as usize];
+        let behind = &self.behind[place];
+        let carried = behind.leq(alloc, &target.state)?;
+        self.carried[place] = carried;
+        Ok(carried)
+    }
+
+    /// Whether the states are inductive. What is found included is not asked again until one of the two states changes.
     pub(crate) fn is_inductive(
-        &self,
+        &mut self,
         alloc: Global,
         code: &S::Code,
         edges: &[Edge],
     ) -> Result<bool, NoMemory>
         requires lawful { S.lawful code.now }
         requires edges { AreEdges (flow_of S.FlowState.own S.Lattice code.now) edges.now }
-        requires kept { IsKept (flow_of S.FlowState.own S.Lattice code.now) (S.fits code.now) self.now }
-        ensures { IfOk result (λ yes. yes ≡ is_inductive (flow_of S.FlowState.own S.Lattice code.now) (states_of self.now.blocks.items)) }
+        requires kept { IsKept (flow_of S.FlowState.own S.Lattice code.now) (S.fits code.now) self.old }
+        ensures kept { OnOk result (IsKept (flow_of S.FlowState.own S.Lattice code.now) (S.fits code.now) self.new) }
+        ensures blocks { OnOk result (self.new.blocks.items ≡ self.old.blocks.items) }
+        ensures value { IfOk result (λ yes. yes ≡ is_inductive (flow_of S.FlowState.own S.Lattice code.now) (states_of self.new.blocks.items)) }
     {
-        let first = &self.blocks[0];
-        if !self.entry.leq(alloc, &first.state)? {
+        if !self.is_begun(alloc, code)? {
             return Ok(false);
         }
         for place in 0..edges.len() {
-            let target = &self.blocks[edges[place].to as usize];
-            let behind = &self.behind[place];
-            if !behind.leq(alloc, &target.state)? {
+            if !self.is_carried(alloc, code, place, edges[place])? {
                 return Ok(false);
             }
         }
@@ -201,6 +255,25 @@ impl<S: FlowState + Drop> Kept<S> {
         Ok(changed)
     }
 
+    /// Takes the state behind the edge, if it is another one than before.
+    fn take_behind(&mut self, place: usize, to: usize, behind: S)
+        requires place { place < length self.old.behind.items }
+        requires carried { place < length self.old.carried.items }
+        requires to { to < length self.old.stale.items }
+        ensures entry { self.new.entry ≡ self.old.entry }
+        ensures blocks { self.new.blocks.items ≡ self.old.blocks.items }
+        ensures behind { self.new.behind.items ≡ slice_set self.old.behind.items place behind }
+        ensures begun { self.new.begun ≡ self.old.begun }
+        ensures carried { IsStillKnown place false self.old.carried.items self.new.carried.items (self.new.behind.items ≡ self.old.behind.items) }
+        ensures stale { IsMarked to self.old.stale.items self.new.stale.items (self.new.behind.items ≡ self.old.behind.items) }
+    {
+        if !behind.same(&self.behind[place]) {
+            self.behind[place] = behind;
+            self.carried[place] = false;
+            self.stale[to] = true;
+        }
+    }
+
     /// Computes the state behind the edge again, if that of its source has changed.
     fn refresh_edge(
         &mut self,
@@ -209,6 +282,7 @@ impl<S: FlowState + Drop> Kept<S> {
         place: u32,
         edge: Edge,
         changed: bool,
+        target_changed: bool,
         meter: &mut S::Gauge,
     ) -> Result<(), NoMemory>
         requires lawful { S.lawful code.now }
@@ -217,24 +291,26 @@ impl<S: FlowState + Drop> Kept<S> {
         requires from { edge.from ≡ S.source code.now place }
         requires to { edge.to ≡ S.target code.now place }
         requires behind { length self.old.behind.items ≡ S.edge_count code.now }
+        requires carried { length self.old.carried.items ≡ S.edge_count code.now }
         requires stale { length self.old.stale.items ≡ S.block_count code.now }
         ensures entry { OnOk result (self.new.entry ≡ self.old.entry) }
         ensures blocks { OnOk result (self.new.blocks.items ≡ self.old.blocks.items) }
         ensures behind { let flow = flow_of S.FlowState.own S.Lattice code.now in OnOk result (self.new.behind.items ≡ slice_set self.old.behind.items place
             (if changed then behind flow (states_of self.old.blocks.items) place else slice_index_or self.old.behind.items place S.nothing)) }
+        ensures begun { OnOk result (self.new.begun ≡ self.old.begun) }
+        ensures carried { OnOk result (IsStillKnown place target_changed self.old.carried.items self.new.carried.items (self.new.behind.items ≡ self.old.behind.items)) }
         ensures stale { let flow = flow_of S.FlowState.own S.Lattice code.now in OnOk result (IsMarked (flow.target place) self.old.stale.items self.new.stale.items (self.new.behind.items ≡ self.old.behind.items)) }
         ensures ticked { OnOk result (S.Gauge.count meter.new ≡ after_ticks (if changed then 1 else 0) (S.Gauge.count meter.old)) }
         ensures most { S.Gauge.count meter.new ≤ S.Gauge.count meter.old + (if changed then 1 else 0) }
     {
+        let known = self.carried[place as usize];
+        self.carried[place as usize] = still_known(known, target_changed);
         if !changed {
             return Ok(());
         }
         let source = &self.blocks[edge.from as usize];
         let behind = source.state.along_edge(alloc, code, place, meter)?;
-        if !behind.same(&self.behind[place as usize]) {
-            self.behind[place as usize] = behind;
-            self.stale[edge.to as usize] = true;
-        }
+        self.take_behind(place as usize, edge.to as usize, behind);
         Ok(())
     }
 
@@ -252,6 +328,7 @@ impl<S: FlowState + Drop> Kept<S> {
         requires few { S.edge_count code.now < 2 ^ 32 }
         requires fit { FitBlocks (flow_of S.FlowState.own S.Lattice code.now) (S.fits code.now) (states_of self.old.blocks.items) }
         requires behind { length self.old.behind.items ≡ S.edge_count code.now }
+        requires carried { length self.old.carried.items ≡ S.edge_count code.now }
         requires stale { length self.old.stale.items ≡ S.block_count code.now }
         requires changed { length changed.now ≡ S.block_count code.now }
         ensures refreshed { OnOk result (IsRefreshed (flow_of S.FlowState.own S.Lattice code.now) changed.now self.old self.new) }
@@ -260,10 +337,12 @@ impl<S: FlowState + Drop> Kept<S> {
         ensures most { S.Gauge.count meter.new
             ≤ S.Gauge.count meter.old + count_by (λ edge. get_or changed.now (S.source code.now edge) false) (places (S.edge_count code.now)) }
     {
+        self.begun = still_known(self.begun, changed[0]);
         for place in 0..edges.len() {
             let edge = edges[place];
             let again = changed[edge.from as usize];
-            self.refresh_edge(alloc, code, place as u32, edge, again, meter)?;
+            let other = changed[edge.to as usize];
+            self.refresh_edge(alloc, code, place as u32, edge, again, other, meter)?;
         }
         Ok(())
     }
@@ -348,16 +427,21 @@ impl<S: FlowState + Drop> Kept<S> {
         ensures entry { IfOk result (λ kept. kept.entry ≡ S.entry code.now) }
         ensures blocks { IfOk result (λ kept. kept.blocks.items ≡ map (λ block. no_block S.nothing) (places count)) }
         ensures behind { IfOk result (λ kept. kept.behind.items ≡ map (λ edge. S.nothing) (places edges)) }
+        ensures begun { IfOk result (λ kept. kept.begun ≡ false) }
+        ensures carried { IfOk result (λ kept. kept.carried.items ≡ map (λ edge. false) (places edges)) }
         ensures stale { IfOk result (λ kept. kept.stale.items ≡ map (λ block. true) (places count)) }
     {
         let entry = S::entry(alloc, code)?;
         let blocks = no_blocks(alloc, count)?;
         let behind = nothing_behind(alloc, edges)?;
+        let carried = no_marks(alloc, edges)?;
         let stale = all_marks(alloc, count)?;
         Ok(Kept {
             entry,
             blocks,
             behind,
+            begun: false,
+            carried,
             stale,
         })
     }

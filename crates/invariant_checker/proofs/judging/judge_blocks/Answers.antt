@@ -1,12 +1,19 @@
 use Rattle.std.proofs.Common.{arith}
-use Rattle.range_rules.proofs.Inducing.{item_is}
+use Rattle.transfer_rules.proofs.Inducing.{item_is}
 use Rattle.invariant_checker.proofs.JudgeSteps.{block_judged, few_blocks_there}
 use Rattle.invariant_checker.proofs.judging.judge_blocks.Goals as goal
 
 pub overflow_cast-block : goal.overflow_cast-block
-overflow_cast-block c = omega (arith, few_blocks_there c.args.code.now c.args.states.now c.requires.lawful c.requires.shape c.loop-block.block c.loop-block-test.true)
+overflow_cast-block c =
+    omega (
+      arith,
+      few_blocks_there c.args.code.now c.args.states.now c.requires.lawful.lawful c.requires.shape c.loop-block.block
+          c.loop-block-test.true,
+    )
 
 pub loop-block-preserved : goal.loop-block-preserved
 loop-block-preserved c =
-    block_judged c.args.code.now c.args.states.now c.loop-block.block c.index-states-block.result c.loop-block.found.items c.judge_block.new.found.items
-    (item_is c.args.states.now c.loop-block.block c.index-states-block.result c.loop-block-test.true c.index-states-block.is) c.loop-block.invariant c.in_ok-judge_block.ensures
+    block_judged c.args.code.now c.args.states.now c.loop-block.block c.index-states-block.result
+    c.loop-block.found.items c.judge_block.new.found.items
+    (item_is c.args.states.now c.loop-block.block c.index-states-block.result c.loop-block-test.true
+    c.index-states-block.is) c.loop-block.invariant c.in_ok-judge_block.ensures

@@ -1,8 +1,7 @@
 use Rattle.std.proofs.Common.{◌≡◌, ◌∷◌, ◌++◌, ◌<◌, [], length, get_or, ◌∙◌}
 use Rattle.cil_model.specs.declared.machine.FaultKind.TheVariants.{Requires}
-use Rattle.range_states.specs.Avoiding.{avoid}
-use Rattle.range_states.specs.Faults.{faults_of, operands_of}
-use Rattle.range_states.proofs.AvoidingSteps.{avoid_has}
+use Rattle.obligation_prover.specs.Avoiding.{avoid}
+use Rattle.obligation_prover.specs.Faults.{faults_of}
 use Rattle.invariant_checker.proofs.JudgeSteps.{one_more_judged, verdict_at}
 use Rattle.invariant_checker.proofs.judging.push_in_turn.Goals as goal
 
@@ -17,7 +16,6 @@ loop-kind-preserved c =
     let within : c.loop-kind.kind-index < length kinds = rw here at c.loop-kind-test.true in
     let pushed : c.push.new.self.items ≡ c.loop-kind.found.items ++ verdict_at unit i kind c.loop-kind.state ∷ [] =
     rw (c.rules_out.ensures.value, here) at c.in_ok-push.ensures.items in
-    rw (pushed, step) (record {
-      same = one_more_judged c.loop-kind.found.items unit i kinds c.loop-kind.kind-index (Requires 0) c.loop-kind.state within ∙ c.loop-kind.invariant.same;
-      room = avoid_has (operands_of i.op) unit i.op kind c.loop-kind.state c.loop-kind.invariant.room;
-    })
+    rw (pushed, step)
+    (one_more_judged c.loop-kind.found.items unit i kinds c.loop-kind.kind-index (Requires 0) c.loop-kind.state within
+    ∙ c.loop-kind.invariant)

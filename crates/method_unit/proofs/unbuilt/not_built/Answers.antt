@@ -1,7 +1,10 @@
 use Rattle.std.proofs.Common.{sym, ◌∙◌}
-use Rattle.method_unit.proofs.BuiltAlone.{tested_alone}
+use Rattle.method_unit.proofs.BuiltAlone.{built_alone}
+use Rattle.method_unit.proofs.BuiltParts.{BuiltParts, built_parts}
 use Rattle.method_unit.proofs.unbuilt.not_built.Goals as goal
 
-pub returns-then-has_built_head-clause-alone : goal.returns-then-has_built_head-clause-alone
-returns-then-has_built_head-clause-alone c none is =
-    tested_alone c.args.unit.now c.as_slice.result.now c.first_unbuilt.result (sym c.has_built_head.ensures ∙ c.if-has_built_head.true) c.as_slice.ensures c.first_unbuilt.ensures none is
+pub returns-clause-alone : goal.returns-clause-alone
+returns-clause-alone c none is = built_alone c.args.unit.now is (sym c.stop.ensures ∙ none)
+
+pub returns-clause-silent : goal.returns-clause-silent
+returns-clause-silent c none = BuiltParts.silent (built_parts c.args.unit.now (sym c.stop.ensures ∙ none))

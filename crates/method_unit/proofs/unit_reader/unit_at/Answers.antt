@@ -2,7 +2,7 @@ use Rattle.std.proofs.Common.{List, refl, sym, subst, ◌∙◌}
 use Rattle.cil_model.specs.Code.{CodeOf}
 use Rattle.cil_model.specs.declared.instruction.Instr.{Instr}
 use Rattle.unit_form.specs.FieldsRead.{fields_told}
-use Rattle.method_unit.proofs.Made.{HasParts, Tested, made}
+use Rattle.method_unit.proofs.Made.{made}
 use Rattle.method_unit.proofs.unit_reader.unit_at.Goals as goal
 
 pub returns : goal.returns

@@ -2,7 +2,7 @@ use Rattle.std.proofs.Common.{◌≡◌, ◌∙◌, length, ap, sym, subst, arit
 use Rattle.std.proofs.lemmas.List.FromFn.{length-map-range_with_len}
 use Rattle.widening_engine.specs.Flows.{flow_of}
 use Rattle.widening_engine.specs.Rounds.{Flow, is_head, last_round}
-use Rattle.widening_engine.proofs.Seeking.{AreSought, sought_first, sought_more, ticked_found, ticked_last, tried_found, tried_last, within, within_more}
+use Rattle.widening_engine.proofs.Seeking.{AreSought, sought_first, sought_more, sought_same, ticked_found, ticked_last, tried_found, tried_last, within, within_more}
 use Rattle.widening_engine.proofs.keeping.seek.Goals as goal
 
 pub loop-number-init : goal.loop-number-init
@@ -22,7 +22,8 @@ loop-number-preserved g c =
     let fits = g.S.FlowState.fits code in
     let first = g.S.Gauge.Meter.count c.args.meter.now in
     let l = c.loop-number in
-    sought_more flow fits first l.number l.kept (g.S.Gauge.Meter.count l.meter) l.invariant c.round.new.self _ (sym c.in_ok-inductive.ensures ∙ c.if-inductive.false)
+    let sought = sought_same flow fits first l.number l.kept (g.S.Gauge.Meter.count l.meter) l.invariant c.is_inductive.new.self c.in_ok-inductive.ensures.kept c.in_ok-inductive.ensures.blocks in
+    sought_more flow fits first l.number c.is_inductive.new.self (g.S.Gauge.Meter.count l.meter) sought c.round.new.self _ (sym c.in_ok-inductive.ensures.value ∙ c.if-inductive.false)
     c.in_ok-round.ensures.kept c.in_ok-round.ensures.states c.in_ok-round.ensures.ticked
 
 pub returns-in_err-inductive-clause-most : goal.returns-in_err-inductive-clause-most
@@ -45,7 +46,8 @@ returns-in_err-round-clause-most g c =
     let first = g.S.Gauge.Meter.count c.args.meter.now in
     let l = c.loop-number in
     let many = ap length c.requires.heads ∙ length-map-range_with_len (is_head flow) 0 flow.blocks in
-    within_more flow fits first l.number l.kept (g.S.Gauge.Meter.count l.meter) l.invariant _ (omega (arith, many)) (sym c.in_ok-inductive.ensures ∙ c.if-inductive.false) c.round.ensures.most
+    let sought = sought_same flow fits first l.number l.kept (g.S.Gauge.Meter.count l.meter) l.invariant c.is_inductive.new.self c.in_ok-inductive.ensures.kept c.in_ok-inductive.ensures.blocks in
+    within_more flow fits first l.number c.is_inductive.new.self (g.S.Gauge.Meter.count l.meter) sought _ (omega (arith, many)) (sym c.in_ok-inductive.ensures.value ∙ c.if-inductive.false) c.round.ensures.most
 
 pub returns-then-inductive-clause-found : goal.returns-then-inductive-clause-found
 returns-then-inductive-clause-found g c =
@@ -56,7 +58,8 @@ returns-then-inductive-clause-found g c =
     let first = g.S.Gauge.Meter.count c.args.meter.now in
     let l = c.loop-number in
     let many = ap length c.requires.heads ∙ length-map-range_with_len (is_head flow) 0 flow.blocks in
-    tried_found flow fits first l.number l.kept (g.S.Gauge.Meter.count l.meter) l.invariant (omega (arith, many)) (sym c.in_ok-inductive.ensures ∙ c.if-inductive.true)
+    let sought = sought_same flow fits first l.number l.kept (g.S.Gauge.Meter.count l.meter) l.invariant c.is_inductive.new.self c.in_ok-inductive.ensures.kept c.in_ok-inductive.ensures.blocks in
+    tried_found flow fits first l.number c.is_inductive.new.self (g.S.Gauge.Meter.count l.meter) sought (omega (arith, many)) (sym c.in_ok-inductive.ensures.value ∙ c.if-inductive.true)
 
 pub returns-then-inductive-clause-ticked : goal.returns-then-inductive-clause-ticked
 returns-then-inductive-clause-ticked g c =
@@ -67,7 +70,8 @@ returns-then-inductive-clause-ticked g c =
     let first = g.S.Gauge.Meter.count c.args.meter.now in
     let l = c.loop-number in
     let many = ap length c.requires.heads ∙ length-map-range_with_len (is_head flow) 0 flow.blocks in
-    ticked_found flow fits first l.number l.kept (g.S.Gauge.Meter.count l.meter) l.invariant (omega (arith, many)) (sym c.in_ok-inductive.ensures ∙ c.if-inductive.true)
+    let sought = sought_same flow fits first l.number l.kept (g.S.Gauge.Meter.count l.meter) l.invariant c.is_inductive.new.self c.in_ok-inductive.ensures.kept c.in_ok-inductive.ensures.blocks in
+    ticked_found flow fits first l.number c.is_inductive.new.self (g.S.Gauge.Meter.count l.meter) sought (omega (arith, many)) (sym c.in_ok-inductive.ensures.value ∙ c.if-inductive.true)
 
 pub returns-then-inductive-clause-most : goal.returns-then-inductive-clause-most
 returns-then-inductive-clause-most g c =
@@ -78,7 +82,8 @@ returns-then-inductive-clause-most g c =
     let first = g.S.Gauge.Meter.count c.args.meter.now in
     let l = c.loop-number in
     let many = ap length c.requires.heads ∙ length-map-range_with_len (is_head flow) 0 flow.blocks in
-    within flow fits first l.number l.kept (g.S.Gauge.Meter.count l.meter) l.invariant (omega (arith, many))
+    let sought = sought_same flow fits first l.number l.kept (g.S.Gauge.Meter.count l.meter) l.invariant c.is_inductive.new.self c.in_ok-inductive.ensures.kept c.in_ok-inductive.ensures.blocks in
+    within flow fits first l.number c.is_inductive.new.self (g.S.Gauge.Meter.count l.meter) sought (omega (arith, many))
 
 pub returns-in_err-last-clause-most : goal.returns-in_err-last-clause-most
 returns-in_err-last-clause-most g c =
@@ -104,7 +109,8 @@ returns-clause-kept g c =
     let many = ap length c.requires.heads ∙ length-map-range_with_len (is_head flow) 0 flow.blocks in
     let all : l.number ≡ last_round flow = omega (arith, many) in
     let sought = subst (λ n. AreSought flow fits first n l.kept (g.S.Gauge.Meter.count l.meter)) all l.invariant in
-    sought.is_kept
+    let again = sought_same flow fits first (last_round flow) l.kept (g.S.Gauge.Meter.count l.meter) sought c.is_inductive-2.new.self c.in_ok-last.ensures.kept c.in_ok-last.ensures.blocks in
+    again.is_kept
 
 pub returns-clause-found : goal.returns-clause-found
 returns-clause-found g c =
@@ -117,7 +123,8 @@ returns-clause-found g c =
     let many = ap length c.requires.heads ∙ length-map-range_with_len (is_head flow) 0 flow.blocks in
     let all : l.number ≡ last_round flow = omega (arith, many) in
     let sought = subst (λ n. AreSought flow fits first n l.kept (g.S.Gauge.Meter.count l.meter)) all l.invariant in
-    tried_last flow fits first l.kept (g.S.Gauge.Meter.count l.meter) sought c.in_ok-last.last c.in_ok-last.ensures
+    let again = sought_same flow fits first (last_round flow) l.kept (g.S.Gauge.Meter.count l.meter) sought c.is_inductive-2.new.self c.in_ok-last.ensures.kept c.in_ok-last.ensures.blocks in
+    tried_last flow fits first c.is_inductive-2.new.self (g.S.Gauge.Meter.count l.meter) again c.in_ok-last.last c.in_ok-last.ensures.value
 
 pub returns-clause-ticked : goal.returns-clause-ticked
 returns-clause-ticked g c =
@@ -130,7 +137,8 @@ returns-clause-ticked g c =
     let many = ap length c.requires.heads ∙ length-map-range_with_len (is_head flow) 0 flow.blocks in
     let all : l.number ≡ last_round flow = omega (arith, many) in
     let sought = subst (λ n. AreSought flow fits first n l.kept (g.S.Gauge.Meter.count l.meter)) all l.invariant in
-    ticked_last flow fits first l.kept (g.S.Gauge.Meter.count l.meter) sought c.in_ok-last.last c.in_ok-last.ensures
+    let again = sought_same flow fits first (last_round flow) l.kept (g.S.Gauge.Meter.count l.meter) sought c.is_inductive-2.new.self c.in_ok-last.ensures.kept c.in_ok-last.ensures.blocks in
+    ticked_last flow fits first c.is_inductive-2.new.self (g.S.Gauge.Meter.count l.meter) again c.in_ok-last.last c.in_ok-last.ensures.value
 
 pub returns-clause-most : goal.returns-clause-most
 returns-clause-most g c =
@@ -143,4 +151,5 @@ returns-clause-most g c =
     let many = ap length c.requires.heads ∙ length-map-range_with_len (is_head flow) 0 flow.blocks in
     let all : l.number ≡ last_round flow = omega (arith, many) in
     let sought = subst (λ n. AreSought flow fits first n l.kept (g.S.Gauge.Meter.count l.meter)) all l.invariant in
-    within flow fits first (last_round flow) l.kept (g.S.Gauge.Meter.count l.meter) sought (omega arith)
+    let again = sought_same flow fits first (last_round flow) l.kept (g.S.Gauge.Meter.count l.meter) sought c.is_inductive-2.new.self c.in_ok-last.ensures.kept c.in_ok-last.ensures.blocks in
+    within flow fits first (last_round flow) c.is_inductive-2.new.self (g.S.Gauge.Meter.count l.meter) again (omega arith)

@@ -39,7 +39,8 @@ returns-then-inductive-clause-value g c =
     let flow : Flow _ = flow_of g.S.FlowState g.S.Lattice c.args.code.now in
     let states = states_of c.args.kept.blocks.items in
     let first = g.S.Gauge.Meter.count c.args.meter.now in
-    c.in_ok-states.ensures ∙ settled_later flow states _ (c.in_ok-round-2.ensures.states ∙ ap (next flow) c.in_ok-round.ensures.states) (sym c.in_ok-inductive.ensures ∙ c.if-inductive.true)
+    c.in_ok-states.ensures ∙ settled_later flow states _ (ap states_of c.in_ok-inductive.ensures.blocks ∙ c.in_ok-round-2.ensures.states ∙ ap (next flow) c.in_ok-round.ensures.states)
+    (sym c.in_ok-inductive.ensures.value ∙ c.if-inductive.true)
 
 pub returns-then-inductive-clause-most : goal.returns-then-inductive-clause-most
 returns-then-inductive-clause-most g c =
@@ -60,7 +61,8 @@ returns-clause-value g c =
     let flow : Flow _ = flow_of g.S.FlowState g.S.Lattice c.args.code.now in
     let states = states_of c.args.kept.blocks.items in
     let first = g.S.Gauge.Meter.count c.args.meter.now in
-    c.in_ok-found.ensures ∙ settled_here flow states _ (c.in_ok-round-2.ensures.states ∙ ap (next flow) c.in_ok-round.ensures.states) (sym c.in_ok-inductive.ensures ∙ c.if-inductive.false)
+    c.in_ok-found.ensures ∙ settled_here flow states _ (ap states_of c.in_ok-inductive.ensures.blocks ∙ c.in_ok-round-2.ensures.states ∙ ap (next flow) c.in_ok-round.ensures.states)
+    (sym c.in_ok-inductive.ensures.value ∙ c.if-inductive.false)
 
 pub returns-clause-most : goal.returns-clause-most
 returns-clause-most g c =

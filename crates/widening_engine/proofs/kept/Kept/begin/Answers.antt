@@ -1,4 +1,4 @@
-use Rattle.std.proofs.Common.{◌≤◌, ◌+◌, ◌∙◌, true, length, map, ap, subst}
+use Rattle.std.proofs.Common.{◌≤◌, ◌+◌, ◌∙◌, false, true, length, map, ap, subst}
 use Rattle.std.proofs.lemmas.List.FromFn.{length-map-range_with_len}
 use Rattle.widening_engine.specs.Flows.{flow_of}
 use Rattle.widening_engine.specs.Kept.{no_block}
@@ -21,6 +21,7 @@ refresh-requires g c =
       few = c.requires.few;
       fit = begun_fit flow (g.S.FlowState.fits code) law c.in_ok-kept.kept.blocks.items blocks;
       behind = ap length c.in_ok-kept.ensures.behind ∙ length-map-range_with_len _ 0 _ ∙ c.requires.edges.count;
+      carried = ap length c.in_ok-kept.ensures.carried ∙ length-map-range_with_len _ 0 _ ∙ c.requires.edges.count;
       stale = ap length c.in_ok-kept.ensures.stale ∙ length-map-range_with_len _ 0 _ ∙ c.requires.count;
       changed = ap length (c.as_slice.ensures.value ∙ c.in_ok-all.ensures) ∙ length-map-range_with_len _ 0 _ ∙ c.requires.count;
     }
@@ -32,9 +33,10 @@ returns-clause-kept g c =
     let flow : Flow _ = flow_of g.S.FlowState g.S.Lattice code in
     let law = keeps g.S.FlowState g.S.Lattice code c.requires.lawful m.source_below m.target_below m.along_fits m.join_fits m.widen_fits m.entry_fits m.nothing_fits m.unknown_fits in
     let blocks = c.in_ok-kept.ensures.blocks ∙ ap (λ n. map (λ block. no_block flow.nothing) (places n)) c.requires.count in
+    let carried = c.in_ok-kept.ensures.carried ∙ ap (λ n. map (λ edge. false) (places n)) c.requires.edges.count in
     let stale = c.in_ok-kept.ensures.stale ∙ ap (λ n. map (λ block. true) (places n)) c.requires.count in
     let all = c.as_slice.ensures.value ∙ c.in_ok-all.ensures ∙ ap (λ n. map (λ block. true) (places n)) c.requires.count in
-    (begun_kept flow (g.S.FlowState.fits code) law _ c.in_ok-kept.kept _ c.in_ok-kept.ensures.entry blocks stale all c.in_ok-refresh.ensures.refreshed).0
+    (begun_kept flow (g.S.FlowState.fits code) law _ c.in_ok-kept.kept _ c.in_ok-kept.ensures.entry blocks c.in_ok-kept.ensures.begun carried stale all c.in_ok-refresh.ensures.refreshed).0
 
 pub returns-clause-states : goal.returns-clause-states
 returns-clause-states g c =
@@ -43,9 +45,10 @@ returns-clause-states g c =
     let flow : Flow _ = flow_of g.S.FlowState g.S.Lattice code in
     let law = keeps g.S.FlowState g.S.Lattice code c.requires.lawful m.source_below m.target_below m.along_fits m.join_fits m.widen_fits m.entry_fits m.nothing_fits m.unknown_fits in
     let blocks = c.in_ok-kept.ensures.blocks ∙ ap (λ n. map (λ block. no_block flow.nothing) (places n)) c.requires.count in
+    let carried = c.in_ok-kept.ensures.carried ∙ ap (λ n. map (λ edge. false) (places n)) c.requires.edges.count in
     let stale = c.in_ok-kept.ensures.stale ∙ ap (λ n. map (λ block. true) (places n)) c.requires.count in
     let all = c.as_slice.ensures.value ∙ c.in_ok-all.ensures ∙ ap (λ n. map (λ block. true) (places n)) c.requires.count in
-    (begun_kept flow (g.S.FlowState.fits code) law _ c.in_ok-kept.kept _ c.in_ok-kept.ensures.entry blocks stale all c.in_ok-refresh.ensures.refreshed).1
+    (begun_kept flow (g.S.FlowState.fits code) law _ c.in_ok-kept.kept _ c.in_ok-kept.ensures.entry blocks c.in_ok-kept.ensures.begun carried stale all c.in_ok-refresh.ensures.refreshed).1
 
 pub returns-clause-ticked : goal.returns-clause-ticked
 returns-clause-ticked g c =

@@ -19,7 +19,7 @@ loop-block-preserved g c =
     let b = get_or_read mid.blocks.items n _ (omega (arith, so_far.blocks, kept.blocks, h)) c.index_mut.ensures.value (no_block flow.nothing) in
     let taken = c.take_state-other.ensures in
     forgetting_more flow c.args.self.now n mid _ c.loop-block.changed.items _ _ c.take_state-other.new.self c.take_state-other.result so_far (omega (arith, kept.blocks, h)) b
-    (record { state = taken.state ∙ c.in_ok-state.ensures; join = taken.join; settled = taken.settled; told = taken.changed }) refl refl refl refl c.in_ok-push.ensures.items
+    (record { state = taken.state ∙ c.in_ok-state.ensures; join = taken.join; settled = taken.settled; told = taken.changed }) refl refl refl refl refl refl c.in_ok-push.ensures.items
 
 pub returns : goal.returns
 returns g c =

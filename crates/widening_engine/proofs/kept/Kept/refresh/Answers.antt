@@ -30,8 +30,9 @@ loop-place-preserved g c =
     let here = same_tick c.args.changed.now _ (flow.source n) (c.requires.edges.from n inside) in
     let e = c.in_ok-refresh_edge.ensures in
     record {
-      refreshing = refreshing_more flow c.args.changed.now c.args.self.now n _ c.loop-place.self _ (ap (λ b. get_or c.args.changed.now b false) (c.requires.edges.from n inside)) (omega (arith, inside, c.requires.behind))
-          c.loop-place.invariant.refreshing e.entry e.blocks e.behind e.stale;
+      refreshing = refreshing_more flow c.args.changed.now c.args.self.now n _ _ c.loop-place.self _ (ap (λ b. get_or c.args.changed.now b false) (c.requires.edges.from n inside))
+          (ap (λ b. get_or c.args.changed.now b false) (c.requires.edges.to n inside)) (omega (arith, inside, c.requires.behind))
+          c.loop-place.invariant.refreshing e.entry e.blocks e.behind e.begun e.carried e.stale;
       ticked = e.ticked ∙ (λ i. after_ticks (here i) (c.loop-place.invariant.ticked i))
           ∙ sym (ticks_add (count_by anew (places n)) (cond (anew n) 1 0) (g.S.Gauge.Meter.count c.args.meter.now))
           ∙ ap (λ k. after_ticks k (g.S.Gauge.Meter.count c.args.meter.now)) (sym (count_more anew n));

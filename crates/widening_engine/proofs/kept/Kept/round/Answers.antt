@@ -20,7 +20,7 @@ refresh-requires g c =
     let law = keeps g.S.FlowState g.S.Lattice code c.requires.lawful m.source_below m.target_below m.along_fits m.join_fits m.widen_fits m.entry_fits m.nothing_fits m.unknown_fits in
     let mid = stepped_kept flow (g.S.FlowState.fits code) law c.args.late c.args.heads.now c.in_ok-joins.joins.items c.args.self.now _ _ c.requires.kept c.in_ok-joins.ensures c.requires.heads c.in_ok-changed.ensures in
     let told = stepped_told flow (g.S.FlowState.fits code) law c.args.late c.args.heads.now c.in_ok-joins.joins.items c.args.self.now _ _ c.requires.kept c.in_ok-joins.ensures c.requires.heads c.in_ok-changed.ensures in
-    record { lawful = c.requires.lawful; edges = c.requires.edges; few = c.requires.few; fit = mid.fit; behind = mid.edges; stale = mid.count; changed = ap length c.as_slice.ensures.value ∙ told.count }
+    record { lawful = c.requires.lawful; edges = c.requires.edges; few = c.requires.few; fit = mid.fit; behind = mid.edges; carried = mid.marks; stale = mid.count; changed = ap length c.as_slice.ensures.value ∙ told.count }
 
 pub returns-clause-kept : goal.returns-clause-kept
 returns-clause-kept g c =
@@ -33,7 +33,7 @@ returns-clause-kept g c =
     let mid = c.step_all.new.self in
     let changed = c.in_ok-changed.changed.items in
     let told = stepped_told flow (g.S.FlowState.fits code) law c.args.late c.args.heads.now c.in_ok-joins.joins.items old mid changed kept c.in_ok-joins.ensures c.requires.heads c.in_ok-changed.ensures in
-    on_ok_weaker c.refresh.result (λ again. refreshed_kept flow (g.S.FlowState.fits code) law (states_of old.blocks.items) _ mid _
+    on_ok_weaker c.refresh.result (λ again. refreshed_kept flow (g.S.FlowState.fits code) law (states_of old.blocks.items) _ mid _ (m.first_block code c.requires.lawful)
     (stepped_kept flow (g.S.FlowState.fits code) law c.args.late c.args.heads.now c.in_ok-joins.joins.items old mid changed kept c.in_ok-joins.ensures c.requires.heads c.in_ok-changed.ensures)
     (subst (λ (marks : List Bool). AreTold flow (states_of old.blocks.items) (states_of mid.blocks.items) marks) (sym c.as_slice.ensures.value) told) again) c.refresh.ensures.refreshed
 

@@ -67,7 +67,7 @@ loop-block-preserved g c =
     let fresh = c.fresh_join-fresh.ensures ∙ (λ i. fresh_join flow.nothing (mark i) (join i)) in
     stepping_more flow c.args.late c.args.heads.now c.args.joins.items old n mid _ c.loop-block.joins.items _ c.loop-block.changed.items _ c.step.new.self c.in_ok-other.other so_far (omega (arith, kept.blocks, h))
     (stepped_same flow.widen _ (c.args.late && get_or c.args.heads.now n false) _ _ _ _ c.step.new.self c.in_ok-other.other c.widens_at-widens.ensures fresh b c.in_ok-other.ensures)
-    refl refl refl refl (ap (λ o. set c.loop-block.joins.items n o) c.take-join.ensures.after) c.in_ok-push.ensures.items
+    refl refl refl refl refl refl (ap (λ o. set c.loop-block.joins.items n o) c.take-join.ensures.after) c.in_ok-push.ensures.items
 
 pub returns : goal.returns
 returns g c =
