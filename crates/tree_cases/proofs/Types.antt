@@ -1,9 +1,9 @@
 -- Variables of types can be read, and the constants of trees are int32.
-use Rattle.std.proofs.Common.{◌≡◌, ℕ, zero, suc, ◌+◌, List, [], ◌∷◌, ◌++◌, Option, Some, None, slice_get, sym, subst, arith}
+use Rattle.std.proofs.Common.{◌≡◌, true, nat_eq, ℕ, zero, suc, ◌+◌, List, [], ◌∷◌, ◌++◌, Option, Some, None, slice_get, sym, subst, arith}
+use Rattle.std.proofs.lemmas.Bool.{eqb-true}
 use Rattle.std.proofs.lemmas.Option.{none-some}
 use Rattle.std.specs.List.{AllByRecursion}
 use Rattle.std.specs.Option.{ForSome, option_and_then, option_map}
-use Rattle.std.specs.Prelude.{IsSome}
 use Rattle.cil_model.specs.Kinds.{kind_of}
 use Rattle.cil_model.specs.TermCodes.{Root, preorder}
 use Rattle.cil_model.specs.Terms.{Term}
@@ -17,6 +17,7 @@ use Rattle.frame_names.specs.declared.reference.Reference.{Reference}
 use Rattle.state_facts.specs.Forms.{HasForm}
 use Rattle.state_facts.specs.Moves.{place_at, place_of}
 use Rattle.state_facts.specs.StateFacts.{StateFacts, State, reference_at, variables_in}
+use Rattle.state_facts.specs.declared.reference.Unknown.{Unknown}
 use Rattle.tree_cases.specs.Types.{AreOfTypes, IsOfKindOf, IsOfType, IsResultOf}
 
 -- ---- one variable
@@ -29,6 +30,13 @@ reference_of place (Some reference) is = is
 pub array_of : (state : State) (r : ℕ) (place : Place) → ForSome state (λ known. place_at known r ≡ place)
     → ForSome state (λ known. IsOfPlace place (place_in known r))
 array_of state r place is = λ known at. reference_of place (reference_at known.references r) (is known at)
+
+pub null_of : (state : State) (r : ℕ) (place : Place) → nat_eq r 0 ≡ true
+    → ForSome state (λ known. IsOfPlace place (place_in known r))
+unfolding reference_at
+null_of state r place is =
+    let none : r ≡ 0 = eqb-true r 0 is in
+    λ known at. subst (λ q. IsOfPlace place (place_in known q)) (sym none) tt
 
 pub ruleset arrays = (array_of)
 
@@ -72,8 +80,6 @@ can_be_read state env args result form all of = λ known at. record {
   args_fit = λ n kind is. one_fits known env.args args n kind (all known at) is;
   result_fits = λ i kind is has. result_fits known env.result result i kind (of known at) is has;
 }
-
-pub ruleset reading = (can_be_read)
 
 -- ---- trees
 

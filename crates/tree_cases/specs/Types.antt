@@ -1,6 +1,9 @@
 -- The types of the values that variables have.
 use Rattle.std.specs.Prelude.{ℕ, suc, List, [], ◌∷◌, Option, Some, None, slice_get}
 use Rattle.cil_model.specs.Kinds.{kind_of}
+use Rattle.cil_model.specs.Terms.{Term, Const}
+use Rattle.cil_model.specs.TermCodes.{ConstRoot}
+use Rattle.cil_model.specs.WellFormed.{IsIntRoot}
 use Rattle.cil_model.specs.declared.place.Kind.{Kind}
 use Rattle.cil_model.specs.declared.place.Place.{Place}
 use Rattle.clause_trees.specs.VariableKinds.{IsOneOfKind}
@@ -25,3 +28,8 @@ AreOfTypes known i (place ∷ others) =
 abbrev pub IsResultOf : StateFacts → Option ℕ → Place → Type 0
 IsResultOf known None place = Unit {0}
 IsResultOf known (Some i) place = IsOfType known place (slice_get known.variables i)
+
+-- If a term is a constant, it is int32.
+abbrev pub IsLeafOfInt : Term → Type 0
+IsLeafOfInt (Const n) = IsIntRoot (ConstRoot n)
+IsLeafOfInt t = Unit {0}

@@ -58,7 +58,6 @@ fn operation(alloc: Global, state: &AbsState, text: &str) -> Result<Operation, F
 }
 
 /// The condition that an operation has for a fault, if it has one.
-#[tactic(auto, using(crate::proofs::Conditions::condition_there))]
 fn condition_of(
     alloc: Global,
     state: &AbsState,

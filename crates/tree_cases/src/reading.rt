@@ -4,8 +4,8 @@ ghost use Rattle.std.specs.Prelude.{◌≡◌, ◌<◌, ◌+◌, ◌^◌, true, 
 ghost use Rattle.std.specs.Option.{ForSome};
 ghost use Rattle.state_facts.specs.StateFacts.{variables_in};
 ghost use Rattle.clause_trees.specs.Meaning.{CanTest, HasIntsIn, IsTest};
-ghost use Rattle.clause_trees.specs.VariableKinds.{IsReadable};
-ghost use Rattle.tree_cases.specs.Types.{AreOfTypes, IsOfType, IsResultOf};
+ghost use Rattle.clause_trees.specs.VariableKinds.{IsOfPlace, IsReadable, place_in};
+ghost use Rattle.tree_cases.specs.Types.{AreOfTypes, IsLeafOfInt, IsOfType, IsResultOf};
 
 use abs_state::{AbsState, Var};
 use cil_model::{Node, Place, Tree, is_tested};
@@ -13,18 +13,24 @@ use clause_trees::TreeEnv;
 use rule_text::Failure;
 use std::alloc::{AllocError, Global};
 
-/// Whether a value is one of a type. Null is one of each type of arrays.
+/// Whether a reference is an array of a type. Null is one of each type of arrays.
 #[tactic(auto, using(crate::proofs::Types::arrays))]
+fn is_array_of(state: &AbsState, r: u32, place: Place) -> bool
+    requires reached { IsSome state.now }
+    ensures { result ≡ true → ForSome state.now (λ known. IsOfPlace place (place_in known r)) }
+{
+    r == 0 || state.place(r) == place
+}
+
+/// Whether a value is one of a type.
 fn is_of_type(state: &AbsState, v: Option<Var>, place: Place) -> bool
     requires reached { IsSome state.now }
     ensures { result ≡ true → ForSome state.now (λ known. IsOfType known place v) }
 {
-    match (v, place) {
-        (_, Place::Void)
-        | (Some(Var::Number(_)), Place::Bool | Place::Int)
-        | (Some(Var::Reference(0)), Place::Bools | Place::Ints) => true,
-        (Some(Var::Reference(r)), Place::Bools) => matches!(state.place(r), Place::Bools),
-        (Some(Var::Reference(r)), Place::Ints) => matches!(state.place(r), Place::Ints),
+    match (place, v) {
+        (Place::Void, _) | (Place::Bool | Place::Int, Some(Var::Number(_))) => true,
+        (Place::Bools, Some(Var::Reference(r))) => is_array_of(state, r, Place::Bools),
+        (Place::Ints, Some(Var::Reference(r))) => is_array_of(state, r, Place::Ints),
         _ => false,
     }
 }
@@ -62,10 +68,12 @@ fn is_result_of(state: &AbsState, at: Option<u32>, place: Place) -> bool
 }
 
 /// The variables that trees read have values of these types.
-#[tactic(auto, using(crate::proofs::Types::reading))]
 fn readable(state: &AbsState, env: &TreeEnv, args: &[Place], of: Place) -> Result<(), Failure>
     ensures { OnOk result (ForSome state.now (IsReadable env.now args.now of)) }
 {
+    if !state.reached() {
+        return Ok(());
+    }
     if args.len() < 65_536
         && are_variables_of(state, u64::from(env.args), args)
         && is_result_of(state, env.result, of)
@@ -76,13 +84,23 @@ fn readable(state: &AbsState, env: &TreeEnv, args: &[Place], of: Place) -> Resul
     }
 }
 
-/// Whether the constants of a tree are int32. By their type they are.
+/// Whether the constant of a root is int32, if it is one. By its type it is.
+fn is_int_root(root: &Tree) -> bool
+    ensures { result ≡ true → IsLeafOfInt root.now }
+{
+    match root.node {
+        Node::Const(n) => n <= i32::MAX,
+        _ => true,
+    }
+}
+
+/// Whether the constants of a tree are int32.
 #[tactic(auto, using(crate::proofs::Types::both_ints))]
 fn has_ints(tree: &Tree) -> bool
     ensures { result ≡ true → HasIntsIn tree.now }
 {
     match &tree.node {
-        Node::Const(_) | Node::Arg(_) | Node::Null | Node::Result => true,
+        Node::Const(_) | Node::Arg(_) | Node::Null | Node::Result => is_int_root(tree),
         Node::Len(a) | Node::Un(_, a) | Node::Old(a) => has_ints(a),
         Node::Elem(_, a, b) | Node::Bin(_, a, b) => has_ints(a) && has_ints(b),
         Node::Cond(test, a, b) => has_ints(test) && has_ints(a) && has_ints(b),
