@@ -1,15 +1,17 @@
 -- The forms of variables at calls and returns.
-use Rattle.std.specs.Prelude.{◌≡◌, ℕ, ◌*◌, ◌-◌, ◌≤◌, List, [], ◌∷◌, ◌++◌, length, take, Option, Some, None}
+use Rattle.std.specs.Prelude.{◌≡◌, ℕ, true, ◌*◌, ◌-◌, ◌≤◌, List, [], ◌∷◌, ◌++◌, length, take, Option, Some, None}
 use Rattle.std.specs.List.{AllByRecursion}
 use Rattle.std.specs.Option.{ForSome}
 use Rattle.cil_model.specs.Kinds.{kind_of}
 use Rattle.cil_model.specs.Limits.{MAX_VARIABLES}
+use Rattle.cil_model.specs.TreeKinds.{kind_in}
+use Rattle.cil_model.specs.WellFormed.{HasInts}
 use Rattle.cil_model.specs.declared.clause.Clause.{Clause}
 use Rattle.cil_model.specs.declared.place.Kind.{Kind}
+use Rattle.cil_model.specs.declared.place.Kind.TheVariants as kinds
 use Rattle.cil_model.specs.declared.place.Place.{Place}
 use Rattle.cil_model.specs.declared.unit.CalleeInfo.{CalleeInfo}
 use Rattle.cil_model.specs.declared.unit.Unit.{Unit as MethodUnit}
-use Rattle.clause_trees.specs.Meaning.{IsTest}
 use Rattle.clause_trees.specs.VariableKinds.{AreSameForms, IsOfKind, IsReadable}
 use Rattle.clause_trees.specs.declared.reader.TreeEnv.{TreeEnv}
 use Rattle.frame_names.specs.declared.var.Var.{Var}
@@ -34,9 +36,10 @@ pub record CanReturn (unit : MethodUnit) (state : State) : Type 0 where
   pub few : HasFew state
   pub readable : ForSome state (IsReadable (at_return unit.result state) unit.args unit.result)
 
--- The clause is one of a method of these arguments and this result: its tree is one that may be tested.
-abbrev pub IsClauseOf : List Place → Place → Clause → Type 0
-IsClauseOf args result clause = IsTest args result clause.tree
+-- The clause may be one of a method of these arguments and this result: its tree is a number, and its constants are int32.
+pub record IsClauseOf (args : List Place) (result : Place) (clause : Clause) : Type 0 where
+  pub number : kind_in args result true clause.tree ≡ Some kinds.Int
+  pub ints : HasInts clause
 
 -- Clauses may be assumed one after the other: they are those of some method, and the variables that the environment names
 -- are there, and of the kinds of its arguments and its result.

@@ -15,7 +15,7 @@ use Rattle.machine_points.specs.declared.point.Point.{Point}
 use Rattle.state_facts.specs.Holds.{HoldsAt}
 use Rattle.state_facts.specs.Keeps.{listed}
 use Rattle.state_facts.specs.StateFacts.{State}
-use Rattle.contract_calls.specs.CallStates.{requires_assumed, requires_shown}
+use Rattle.contract_calls.specs.CallStates.{ensures_assumed, ensures_shown, requires_assumed, requires_shown}
 
 -- ---- points
 
@@ -113,3 +113,9 @@ KeepsEnsured unit clause before after =
     (p : Point) (result : Option Value) → Returns unit p result
     → clause_holds (reading_at_return p.frame p.heap result) clause ≡ true → HoldsAt before (returning result p)
     → HoldsAt after (returning result p)
+
+-- Each Ensures is shown, where those before it are assumed.
+abbrev pub AreEnsured : MethodUnit → List Clause → State → Type 0
+AreEnsured unit [] state = Unit {0}
+AreEnsured unit (clause ∷ clauses) state =
+    (ensures_shown unit clause state ≡ true) × AreEnsured unit clauses (ensures_assumed unit clause state)

@@ -51,12 +51,16 @@ fn put_from(state: &mut AbsState, first: u32, places: &[Place]) -> Result<(), No
 }
 
 /// Puts the arguments of a call into the places of its parameters.
+#[tactic(auto, unfolding(crate::specs::Arguments::put_args), using(crate::proofs::AtCalls::none_put))]
 fn put_each(state: &mut AbsState, places: &[Place]) -> Result<(), NoMemory>
     requires few { HasFew state.old }
     requires few_places { length places.now ≤ MAX_VARIABLES }
     ensures ok { OnOk result (state.new ≡ rule.put_args places.now state.old) }
     ensures form { ForSome state.old HasForm }
 {
+    if !state.reached() {
+        return Ok(());
+    }
     let first = first_of(state, places.len());
     put_from(state, first, places)
 }
@@ -77,6 +81,7 @@ pub fn put_args(state: &mut AbsState, places: &[Place]) -> Result<(), NoMemory>
 }
 
 /// Puts the result of a return into its place.
+#[tactic(auto, unfolding(crate::specs::Arguments::put_result))]
 fn put_one(state: &mut AbsState, place: Place) -> Result<(), NoMemory>
     requires few { HasFew state.old }
     ensures ok { OnOk result (state.new ≡ rule.put_result place state.old) }

@@ -46,6 +46,7 @@ fn at_call(state: &AbsState, callee: &CalleeInfo) -> TreeEnv
 /// proofs/CalleeClauses gives the latter.
 ///
 /// Cost: that of `tree_shown`.
+#[tactic(auto, using(crate::proofs::AtCalls::test_at_call))]
 pub fn requires_shown(
     alloc: Global,
     state: &AbsState,
@@ -63,6 +64,7 @@ pub fn requires_shown(
 /// The state in which a Requires of the callee is assumed to be true.
 ///
 /// Cost: that of `assume_tree`.
+#[tactic(auto, using(crate::proofs::AtCalls::test_at_call))]
 pub fn assume_requires(
     alloc: Global,
     state: &AbsState,
@@ -90,6 +92,7 @@ fn is_kind(kind: ClauseKind, clause: &Clause) -> bool
 }
 
 /// The state in which a clause is assumed to be true, where it is of this kind.
+#[tactic(auto, using(crate::proofs::Assuming::can_test))]
 fn assume_if(
     alloc: Global,
     state: AbsState,
@@ -108,6 +111,7 @@ fn assume_if(
 }
 
 /// The state in which each clause of this kind is assumed to be true, one after the other.
+#[tactic(auto, using(crate::proofs::Assuming::assuming))]
 fn assume_each(
     alloc: Global,
     state: AbsState,
@@ -125,7 +129,8 @@ fn assume_each(
     Ok(known)
 }
 
-/// All Requires of the callee.
+/// The state in which all Requires of the callee are assumed to be true.
+#[tactic(auto, unfolding(crate::specs::CallStates::required), using(crate::proofs::AtCalls::call_assumes))]
 fn required(alloc: Global, state: AbsState, callee: &CalleeInfo) -> Result<AbsState, NoMemory>
     requires formed { IsCallee callee.now }
     requires ready { CanCall callee.now state }
@@ -167,7 +172,8 @@ fn behind_args(state: &AbsState, callee: &CalleeInfo) -> TreeEnv
     }
 }
 
-/// What a call gives, on top of the arguments.
+/// The state behind a call, with the arguments still below its result.
+#[tactic(auto, using(crate::proofs::Behind::behind_assumes))]
 fn given(
     alloc: Global,
     mut state: AbsState,
@@ -184,6 +190,7 @@ fn given(
 }
 
 /// Takes so many values from the stack.
+#[tactic(auto, using(crate::proofs::Less::taking))]
 fn pop_each(state: &mut AbsState, count: usize) -> Result<(), NoMemory>
     ensures { OnOk result (state.new ≡ option_map (rule.without_top count) state.old) }
 {
@@ -193,24 +200,36 @@ fn pop_each(state: &mut AbsState, count: usize) -> Result<(), NoMemory>
     Ok(())
 }
 
-/// Takes the arguments from below the result, which lies on so many variables.
+/// Takes so many values from below the one on top.
+#[tactic(auto, using(crate::proofs::Less::lessening))]
+fn take_below(state: &mut AbsState, count: usize) -> Result<(), NoMemory>
+    requires few { count ≤ MAX_VARIABLES }
+    ensures { OnOk result ((first : ℕ) → ForSome state.old (λ known. length known.variables ≡ first + count + 1)
+        → state.new ≡ option_map (rule.less first count) state.old) }
+{
+    let Some(top) = state.from_top(0) else {
+        return Ok(());
+    };
+    pop_each(state, count + 1)?;
+    state.push(top)
+}
+
+/// Takes the arguments from below a result of this type.
+#[tactic(auto, using(crate::proofs::Less::lessening))]
 fn take_args(state: &mut AbsState, count: usize, place: Place) -> Result<(), NoMemory>
     requires few { count ≤ MAX_VARIABLES }
     ensures { OnOk result ((first : ℕ)
         → ForSome state.old (λ known. length known.variables ≡ first + count + result_count place)
         → state.new ≡ option_map (rule.less first count) state.old) }
 {
-    if matches!(place, Place::Void) {
-        return pop_each(state, count);
+    match place {
+        Place::Void => pop_each(state, count),
+        _ => take_below(state, count),
     }
-    let Some(result) = state.from_top(0) else {
-        return Ok(());
-    };
-    pop_each(state, count + 1)?;
-    state.push(result)
 }
 
 /// The state behind a call.
+#[tactic(auto, unfolding(crate::specs::CallStates::after_call), using(crate::proofs::BehindForms::given_many))]
 fn behind(alloc: Global, state: AbsState, callee: &CalleeInfo) -> Result<AbsState, NoMemory>
     requires formed { IsCallee callee.now }
     requires ready { CanCall callee.now state }

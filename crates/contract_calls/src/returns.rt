@@ -30,6 +30,7 @@ fn at_return(state: &AbsState, unit: &Unit) -> TreeEnv
 /// The caller owes that these are of their kinds, and a clause of the unit.
 ///
 /// Cost: that of `tree_shown`.
+#[tactic(auto, using(crate::proofs::AtReturns::test_at_return))]
 pub fn ensures_shown(
     alloc: Global,
     state: &AbsState,
@@ -47,6 +48,7 @@ pub fn ensures_shown(
 /// The state in which an Ensures of the unit is assumed to be true at a return.
 ///
 /// Cost: that of `assume_tree`.
+#[tactic(auto, using(crate::proofs::AtReturns::test_at_return))]
 pub fn assume_ensures(
     alloc: Global,
     state: &AbsState,
