@@ -14,6 +14,7 @@ use Rattle.cil_model.specs.declared.place.Kind.TheVariants as kinds
 use Rattle.cil_model.specs.declared.place.Place.{Place}
 use Rattle.cil_model.specs.declared.place.Place.TheVariants as places
 use Rattle.cil_model.specs.declared.unit.CalleeInfo.{CalleeInfo}
+use Rattle.cil_model.specs.declared.unit.Unit.{Unit as MethodUnit}
 use Rattle.cil_model.proofs.Lists.{all_append, all_drop, all_take}
 use Rattle.clause_trees.proofs.AssumedKept.{itself_same}
 use Rattle.clause_trees.proofs.SameForms.{all_on}
@@ -27,8 +28,8 @@ use Rattle.state_facts.specs.Calls.{with_call}
 use Rattle.state_facts.specs.Forms.{HasForm, IsVar}
 use Rattle.state_facts.specs.StateFacts.{StateFacts, State}
 use Rattle.contract_calls.specs.Arguments.{first_of}
-use Rattle.contract_calls.specs.CallForms.{AreGiven, CanCall, HasFew, IsBehindCall, IsBehindCallIn, IsClauseOf}
-use Rattle.contract_calls.specs.CallStates.{after_call, assumed_each, at_call, behind_args, given, less, result_at}
+use Rattle.contract_calls.specs.CallForms.{AreGiven, CanCall, CanReturn, HasFew, IsBehindCall, IsBehindCallIn, IsClauseOf}
+use Rattle.contract_calls.specs.CallStates.{after_call, assumed_each, at_call, at_return, behind_args, given, less, result_at}
 use Rattle.contract_calls.proofs.Assuming.{each_same, none_each, of_kind, readable_in}
 use Rattle.contract_calls.proofs.AtCalls.{past, same_long}
 use Rattle.contract_calls.proofs.Behind.{behind_readable, call_pushed, forgotten, kind_alike}
@@ -293,3 +294,40 @@ can_call callee known below vs form parts long few are =
             result_fits = λ i kind none. absurd (none-some i none);
           });
     }
+
+-- ---- at a return
+
+result_slot : (place : Place) (i j : ℕ) → result_at place i ≡ Some j → j ≡ i
+result_slot places.Void i j is = absurd (none-some j is)
+result_slot places.Bool i j is = sym (same_Some i j is)
+result_slot places.Int i j is = sym (same_Some i j is)
+result_slot places.Bools i j is = sym (same_Some i j is)
+result_slot places.Ints i j is = sym (same_Some i j is)
+
+-- The unit may return where its arguments at the entry are the first variables, and a result of its kind is on top.
+pub can_return : (unit : MethodUnit) (known : StateFacts) (vs more : List Var) → HasForm known
+    → known.variables ≡ vs ++ more → HasFew (Some known) → AreOfPlaces known unit.args vs
+    → ((kind : Kind) → kind_of unit.result ≡ Some kind
+    → IsOneOfKind known kind (slice_get known.variables (length known.variables - 1)))
+    → CanReturn unit (Some known)
+can_return unit known vs more form parts few are on_top = record {
+  few = few;
+  readable = λ x at.
+      subst (IsReadable (at_return unit.result (Some known)) unit.args unit.result) (same_Some known x at) (record {
+        form = form;
+        args_fit = λ n kind is.
+            let plain : n ≡ 0 + n = omega arith in
+            subst (λ m. IsOneOfKind known kind (slice_get known.variables m)) plain
+            (subst (λ l. IsOneOfKind known kind (slice_get l n)) (sym parts)
+            (front_kind known kind vs more n (of_places_at known unit.args vs n kind are is)));
+        result_fits = λ i kind is of_kind.
+            subst (λ m. IsOneOfKind known kind (slice_get known.variables m))
+            (sym (result_slot unit.result (length known.variables - 1) i is)) (on_top kind of_kind);
+      });
+}
+  where
+    front_kind : (known : StateFacts) (kind : Kind) (xs ys : List Var) (n : ℕ) → IsOneOfKind known kind (slice_get xs n)
+        → IsOneOfKind known kind (slice_get (xs ++ ys) n)
+    front_kind known kind [] ys n is = elim is [ ]
+    front_kind known kind (x ∷ xs) ys zero is = is
+    front_kind known kind (x ∷ xs) ys (suc n) is = front_kind known kind xs ys n is
