@@ -1,6 +1,6 @@
 -- What a call and a return owe, and what is known behind a call. The arguments of a call lie on top of the stack, as they
 -- were put into their places.
-use Rattle.std.specs.Prelude.{ℕ, ◌+◌, ◌-◌, Bool, true, List, [], ◌∷◌, ◌++◌, length, take, drop, Option, Some, None}
+use Rattle.std.specs.Prelude.{ℕ, zero, suc, ◌+◌, ◌-◌, Bool, true, List, [], ◌∷◌, ◌++◌, length, take, drop, slice_get, Option, Some, None}
 use Rattle.std.specs.Option.{option_map}
 use Rattle.cil_model.specs.Clauses.{clauses_of}
 use Rattle.cil_model.specs.declared.clause.Clause.{Clause}
@@ -19,6 +19,11 @@ use Rattle.contract_calls.specs.Arguments.{first_of}
 abbrev pub assumed_each : TreeEnv → List Clause → State → State
 assumed_each env [] state = state
 assumed_each env (clause ∷ clauses) state = assumed_each env clauses (assumed env true clause.tree state)
+
+-- The one of a number, counted from 1.
+unfoldable pub numbered : List Clause → ℕ → Option Clause
+numbered clauses zero = None
+numbered clauses (suc number) = slice_get clauses number
 
 -- The variable that has a result. There is none where it is void.
 abbrev pub result_at : Place → ℕ → Option ℕ

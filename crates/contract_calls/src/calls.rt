@@ -12,6 +12,7 @@ ghost use Rattle.contract_calls.specs.CallStates as rule;
 ghost use Rattle.contract_calls.specs.Meaning.{IsRequiredAt, KeepsAllRequired, KeepsCalled, KeepsRequired};
 
 use crate::arguments::first_of;
+use crate::clauses::assume_each;
 use abs_state::AbsState;
 use cil_model::{CalleeInfo, Clause, ClauseKind, Place};
 use clause_trees::{TreeEnv, assume_tree, tree_shown};
@@ -42,8 +43,8 @@ fn at_call(state: &AbsState, callee: &CalleeInfo) -> TreeEnv
 /// Returns whether the state shows a Requires of the callee to be true. The arguments lie on top of the stack, as they
 /// were put into the places of the parameters.
 ///
-/// The caller owes that they are of the parameters' kinds, and a clause of the callee. `requires_of_callee` of
-/// proofs/CalleeClauses gives the latter.
+/// The caller owes that they are of the parameters' kinds, and a clause of the callee (`callee_clauses` and
+/// `clause_there` of proofs/MethodClauses).
 ///
 /// Cost: that of `tree_shown`.
 #[tactic(auto, using(crate::proofs::AtCalls::test_at_call))]
@@ -79,54 +80,6 @@ pub fn assume_requires(
     ensures ready { IfOk result (λ new. CanCall callee.now new) }
 {
     assume_tree(alloc, state, &clause.tree, &at_call(state, callee))
-}
-
-/// Returns whether a clause is of this kind.
-fn is_kind(kind: ClauseKind, clause: &Clause) -> bool
-    ensures { result ≡ clauses.is_kind kind clause.now.kind }
-{
-    matches!(
-        (kind, clause.kind),
-        (ClauseKind::Requires, ClauseKind::Requires) | (ClauseKind::Ensures, ClauseKind::Ensures)
-    )
-}
-
-/// The state in which a clause is assumed to be true, where it is of this kind.
-#[tactic(auto, using(crate::proofs::Assuming::can_test))]
-fn assume_if(
-    alloc: Global,
-    state: AbsState,
-    kind: ClauseKind,
-    clause: &Clause,
-    env: &TreeEnv,
-) -> Result<AbsState, NoMemory>
-    requires ready { CanAssume env.now (clause.now ∷ []) state }
-    ensures { IfOk result (λ new. new ≡ rule.assumed_each env.now (clauses_of kind (clause.now ∷ [])) state) }
-{
-    if is_kind(kind, clause) {
-        assume_tree(alloc, &state, &clause.tree, env)
-    } else {
-        Ok(state)
-    }
-}
-
-/// The state in which each clause of this kind is assumed to be true, one after the other.
-#[tactic(auto, using(crate::proofs::Assuming::assuming))]
-fn assume_each(
-    alloc: Global,
-    state: AbsState,
-    kind: ClauseKind,
-    clauses: &[Clause],
-    env: &TreeEnv,
-) -> Result<AbsState, NoMemory>
-    requires ready { CanAssume env.now clauses.now state }
-    ensures { IfOk result (λ new. new ≡ rule.assumed_each env.now (clauses_of kind clauses.now) state) }
-{
-    let mut known = state;
-    for clause in clauses {
-        known = assume_if(alloc, known, kind, clause, env)?;
-    }
-    Ok(known)
 }
 
 /// The state in which all Requires of the callee are assumed to be true.

@@ -12,8 +12,10 @@
 
 mod arguments;
 mod calls;
+mod clauses;
 mod returns;
 
 pub use arguments::{put_args, put_result};
 pub use calls::{after_call, assume_requires, assume_all_requires, requires_shown};
+pub use clauses::clause_numbered;
 pub use returns::{assume_ensures, ensures_shown};
