@@ -1,5 +1,5 @@
 -- Clauses that are assumed one after another.
-use Rattle.std.proofs.Common.{◌≡◌, ℕ, ◌+◌, ◌<◌, ◌≤◌, ◌==◌, ℤ, pos, Bool, true, false, not, List, [], ◌∷◌, length, get_or, drop, Option, Some, None, int_eq, refl, ap, subst, sym, ◌∙◌}
+use Rattle.std.proofs.Common.{◌≡◌, ℕ, ◌+◌, ◌<◌, ◌≤◌, pos, Bool, true, false, not, List, [], ◌∷◌, length, get_or, drop, Option, Some, None, int_eq, refl, ap, subst, sym, ◌∙◌}
 use Rattle.std.specs.List.{AllByRecursion}
 use Rattle.std.specs.Option.{ForSome}
 use Rattle.std.proofs.lemmas.Bool.{cond_both}
@@ -19,7 +19,7 @@ use Rattle.clause_trees.proofs.AssumedTrees.{assumed_same}
 use Rattle.clause_trees.proofs.SameForms.{readable_same}
 use Rattle.clause_trees.specs.ClauseStates.{assumed}
 use Rattle.clause_trees.specs.Meaning.{CanTest, IsTest, Reads}
-use Rattle.clause_trees.specs.VariableKinds.{HasSameForms, HasSameFormsIn, IsReadable}
+use Rattle.clause_trees.specs.VariableKinds.{HasSameFormsIn, IsReadable}
 use Rattle.clause_trees.specs.declared.reader.TreeEnv.{TreeEnv}
 use Rattle.merged_states.specs.Following.{HoldsOver}
 use Rattle.merged_states.specs.Merging.{join}

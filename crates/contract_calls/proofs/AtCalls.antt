@@ -1,11 +1,11 @@
 -- What is so of the Requires at calls.
-use Rattle.std.proofs.Common.{◌≡◌, ℕ, zero, suc, ◌+◌, ◌-◌, ◌*◌, ◌≤◌, Bool, true, false, List, [], ◌∷◌, ◌++◌, length, reverse, take, drop, slice_get, Option, Some, None, if◌then◌else◌, refl, ap, subst, sym, ◌∙◌, append-nil, arith}
+use Rattle.std.proofs.Common.{◌≡◌, ℕ, zero, suc, ◌+◌, ◌-◌, ◌*◌, ◌≤◌, true, List, [], ◌∷◌, ◌++◌, length, reverse, take, drop, slice_get, Option, Some, None, if◌then◌else◌, refl, ap, subst, sym, ◌∙◌, append-nil, arith}
 use Rattle.std.specs.List.{AllByRecursion}
 use Rattle.std.specs.Option.{ForSome}
 use Rattle.std.proofs.lemmas.List.{length-append, reverse-reverse}
 use Rattle.std.proofs.lemmas.Option.{cond_some, none-some, same_Some}
 use Rattle.cil_model.specs.Calls.{args_of}
-use Rattle.cil_model.specs.Clauses.{Reading, clause_holds, clauses_of, first_false, value_of}
+use Rattle.cil_model.specs.Clauses.{clauses_of, first_false}
 use Rattle.cil_model.specs.Limits.{MAX_VARIABLES}
 use Rattle.cil_model.specs.Values.{FitPlaces, FitsPlace, Heap, IsHeap, IsValue, KeepsForms, has_array, put, put_all}
 use Rattle.cil_model.specs.WellFormed.{IsCallee}
@@ -23,14 +23,13 @@ use Rattle.clause_trees.proofs.AssumedKept.{assumed_is_kept, assumed_keeps_forms
 use Rattle.clause_trees.proofs.ShownTrees.{shown_is_so}
 use Rattle.clause_trees.specs.ClauseStates.{assumed}
 use Rattle.clause_trees.specs.Meaning.{CanTest, Reads, ReadsResult}
-use Rattle.clause_trees.specs.VariableKinds.{AreSameForms, HasSameForms, HasSameFormsIn, IsReadable}
+use Rattle.clause_trees.specs.VariableKinds.{AreSameForms, HasSameFormsIn, IsReadable}
 use Rattle.clause_trees.specs.declared.reader.TreeEnv.{TreeEnv}
 use Rattle.frame_names.specs.declared.var.Var.{Var}
 use Rattle.machine_points.specs.declared.point.Point.{Point}
 use Rattle.merged_states.specs.Following.{HoldsOver}
-use Rattle.state_facts.specs.Forms.{HasForm}
 use Rattle.state_facts.specs.Holds.{HoldsAt, variables_of}
-use Rattle.state_facts.specs.StateFacts.{StateFacts, State, variables_in}
+use Rattle.state_facts.specs.StateFacts.{StateFacts, State}
 use Rattle.contract_calls.specs.Arguments.{first_of, put_args, put_from}
 use Rattle.contract_calls.specs.CallForms.{CanAssume, CanCall, IsClauseOf}
 use Rattle.contract_calls.specs.CallStates.{assumed_each, at_call, required, requires_assumed, requires_shown}

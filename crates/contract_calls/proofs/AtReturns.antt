@@ -1,14 +1,14 @@
 -- What is so of results and of the Ensures at returns.
-use Rattle.std.proofs.Common.{◌≡◌, ℕ, ◌+◌, ◌-◌, ◌*◌, ◌≤◌, Bool, true, List, [], ◌∷◌, ◌++◌, length, reverse, drop, slice_get, inl, inr, if◌then◌else◌, Option, Some, None, refl, ap, subst, sym, ◌∙◌, append_assoc, arith}
+use Rattle.std.proofs.Common.{◌≡◌, ℕ, ◌+◌, ◌-◌, ◌*◌, ◌≤◌, true, List, [], ◌∷◌, ◌++◌, length, reverse, drop, slice_get, inl, inr, if◌then◌else◌, Option, Some, None, refl, ap, subst, sym, ◌∙◌, append_assoc, arith}
 use Rattle.std.specs.Prelude.{◌⊎◌}
 use Rattle.std.specs.List.{AllByRecursion}
 use Rattle.std.specs.Option.{ForSome, option_map}
 use Rattle.std.proofs.lemmas.List.{length-append}
 use Rattle.std.proofs.lemmas.Option.{none-some, same_Some}
 use Rattle.cil_model.specs.Calls.{args_of, result_of}
-use Rattle.cil_model.specs.Clauses.{clause_holds, first_false}
+use Rattle.cil_model.specs.Clauses.{first_false}
 use Rattle.cil_model.specs.Limits.{MAX_VARIABLES}
-use Rattle.cil_model.specs.Values.{FitPlaces, FitsPlace, Heap, IsValue, put, with_first}
+use Rattle.cil_model.specs.Values.{FitsPlace, Heap, IsValue, put, with_first}
 use Rattle.cil_model.specs.declared.clause.Clause.{Clause}
 use Rattle.cil_model.specs.declared.machine.Value.{Value}
 use Rattle.cil_model.specs.declared.machine.Value.TheVariants as values
@@ -17,7 +17,7 @@ use Rattle.cil_model.specs.declared.place.Place.TheVariants as places
 use Rattle.cil_model.specs.declared.unit.Unit.{Unit as MethodUnit}
 use Rattle.cil_model.proofs.HeapsKept.{AreValues-kept}
 use Rattle.cil_model.proofs.Lists.{all_append}
-use Rattle.clause_trees.proofs.AssumedKept.{assumed_is_kept, assumed_keeps_forms, itself_same}
+use Rattle.clause_trees.proofs.AssumedKept.{assumed_is_kept, assumed_keeps_forms}
 use Rattle.clause_trees.proofs.ShownTrees.{shown_is_so}
 use Rattle.clause_trees.specs.ClauseStates.{assumed}
 use Rattle.clause_trees.specs.Meaning.{CanTest, Reads, ReadsResult}

@@ -1,58 +1,53 @@
 -- What is so behind a call.
-use Rattle.std.proofs.Common.{◌≡◌, ℕ, zero, suc, ◌+◌, ◌-◌, ◌≤◌, ℤ, pos, Bool, true, inl, inr, List, [], ◌∷◌, ◌++◌, length, reverse, take, drop, slice_get, Option, Some, None, refl, ap, subst, sym, ◌∙◌, append_assoc, append-nil, arith}
+use Rattle.std.proofs.Common.{◌≡◌, ℕ, zero, suc, ◌+◌, ℤ, pos, inl, inr, List, [], ◌∷◌, ◌++◌, length, reverse, take, drop, slice_get, Option, Some, None, refl, ap, subst, sym, ◌∙◌, append_assoc, append-nil, arith}
 use Rattle.std.specs.Prelude.{◌⊎◌}
 use Rattle.std.specs.List.{AllByRecursion}
-use Rattle.std.specs.Option.{ForSome, option_and_then, option_map}
-use Rattle.std.proofs.lemmas.List.{drop_at, length-append, length-take-le, reverse-append, take_at}
+use Rattle.std.specs.Option.{ForSome, option_map}
+use Rattle.std.proofs.lemmas.List.{drop_at, length-append, reverse-append, take_at}
 use Rattle.std.proofs.lemmas.Option.{none-some, same_Some}
 use Rattle.alias_facts.specs.PairsOf.{Pair}
-use Rattle.cil_model.specs.Calls.{FitsResult, FreeReturn, IsPassedOrNew, args_of, behind_call, pushed}
-use Rattle.cil_model.specs.Clauses.{Reading, clause_holds, clauses_of}
+use Rattle.cil_model.specs.Calls.{FitsResult, FreeReturn, IsPassedOrNew}
+use Rattle.cil_model.specs.Clauses.{Reading, clauses_of}
 use Rattle.cil_model.specs.Kinds.{kind_of}
-use Rattle.cil_model.specs.Values.{FitsPlace, Heap, IsHeap, IsValue, KeepsForms}
+use Rattle.cil_model.specs.Values.{FitsPlace, Heap, IsValue, KeepsForms}
 use Rattle.cil_model.specs.WellFormed.{IsCallee}
-use Rattle.cil_model.specs.declared.clause.Clause.{Clause}
 use Rattle.cil_model.specs.declared.clause.ClauseKind.TheVariants as clause_kinds
 use Rattle.cil_model.specs.declared.instruction.Instr.{Instr}
 use Rattle.cil_model.specs.declared.machine.Value.{Value}
-use Rattle.cil_model.specs.declared.machine.Value.TheVariants as values
 use Rattle.cil_model.specs.declared.place.Kind.{Kind}
 use Rattle.cil_model.specs.declared.place.Kind.TheVariants as kinds
 use Rattle.cil_model.specs.declared.place.Place.{Place}
 use Rattle.cil_model.specs.declared.place.Place.TheVariants as places
 use Rattle.cil_model.specs.declared.unit.CalleeInfo.{CalleeInfo}
 use Rattle.cil_model.proofs.HeapsKept.{AreValues-kept, keeps_on, value_of_place}
-use Rattle.cil_model.proofs.Lists.{all_append, all_drop, all_split, all_take}
-use Rattle.clause_trees.proofs.AssumedKept.{itself_same}
+use Rattle.cil_model.proofs.Lists.{all_append, all_split}
 use Rattle.clause_trees.proofs.PushedMoves.{unknown_pushed}
-use Rattle.clause_trees.proofs.SameForms.{all_on, same_forms_on}
-use Rattle.clause_trees.proofs.Stays.{found_var, grown_itself, pushed_readable}
+use Rattle.clause_trees.proofs.Stays.{pushed_readable}
 use Rattle.clause_trees.specs.Meaning.{Reads, ReadsResult}
-use Rattle.clause_trees.specs.VariableKinds.{AreSameForms, HasSameForms, HasSameFormsIn, IsGrown, IsOfKind, IsOfPlace, IsOneOfKind, IsPushed, IsPushedIn, IsReadable, place_in}
-use Rattle.clause_trees.specs.declared.reader.TreeEnv.{TreeEnv}
+use Rattle.clause_trees.specs.VariableKinds.{IsOfKind, IsOfPlace, IsOneOfKind, IsPushed, IsPushedIn, IsReadable, place_in}
 use Rattle.frame_names.specs.declared.var.Var.{Var}
 use Rattle.frame_names.specs.declared.var.Var.TheVariants as vars
 use Rattle.machine_points.specs.MachineValues.{HasMachineValues}
 use Rattle.machine_points.specs.declared.point.Point.{Point}
 use Rattle.merged_states.specs.Following.{HoldsOver}
 use Rattle.number_facts.specs.Fresh.{Made, fresh}
-use Rattle.state_facts.proofs.Agreeing.{as_many, have_taken}
+use Rattle.state_facts.proofs.Agreeing.{have_taken}
 use Rattle.state_facts.proofs.ArraysHold.{call_keeps}
-use Rattle.state_facts.proofs.Growing.{Formed, grown, same_facts}
+use Rattle.state_facts.proofs.Growing.{Formed}
 use Rattle.state_facts.proofs.MoveForms.{call_form}
-use Rattle.state_facts.specs.Calls.{returned, with_call, with_result_array, with_returned}
-use Rattle.state_facts.specs.Forms.{HasForm, IsVar}
-use Rattle.state_facts.specs.Holds.{HasValue, HaveValues, HoldsAt, HoldsBy, HoldsIn, variables_of}
+use Rattle.state_facts.specs.Calls.{returned, with_call, with_returned}
+use Rattle.state_facts.specs.Forms.{HasForm}
+use Rattle.state_facts.specs.Holds.{HaveValues, variables_of}
 use Rattle.state_facts.specs.Keeps.{listed}
-use Rattle.state_facts.specs.StateFacts.{StateFacts, State, variables_in}
+use Rattle.state_facts.specs.StateFacts.{StateFacts, State}
 use Rattle.state_facts.specs.States.{forget}
 use Rattle.state_facts.specs.UnknownValues.{with_unknown}
 use Rattle.contract_calls.specs.Arguments.{first_of}
-use Rattle.contract_calls.specs.CallForms.{AreGiven, CanAssume, CanCall, IsBehindCall, IsBehindCallIn, IsClauseOf}
-use Rattle.contract_calls.specs.CallStates.{after_call, assumed_each, at_call, behind_args, given, less, result_at}
+use Rattle.contract_calls.specs.CallForms.{CanAssume, CanCall}
+use Rattle.contract_calls.specs.CallStates.{after_call, behind_args, given, less, result_at}
 use Rattle.contract_calls.specs.Meaning.{KeepsCalled, back, passing}
-use Rattle.contract_calls.proofs.Assuming.{all_true, each_keeps, each_same, none_each, of_kind}
-use Rattle.contract_calls.proofs.AtCalls.{IsAtCall, at_call_is, below_args, past, reads_over}
+use Rattle.contract_calls.proofs.Assuming.{all_true, each_keeps, of_kind}
+use Rattle.contract_calls.proofs.AtCalls.{IsAtCall, at_call_is, below_args, reads_over}
 use Rattle.contract_calls.proofs.MethodClauses.{callee_clauses}
 use Rattle.contract_calls.proofs.PassedArguments.{at_of, base_of}
 

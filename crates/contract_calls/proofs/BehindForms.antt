@@ -7,7 +7,6 @@ use Rattle.std.proofs.lemmas.Option.{none-some, same_Some}
 use Rattle.cil_model.specs.Clauses.{clauses_of}
 use Rattle.cil_model.specs.Kinds.{kind_of, result_count}
 use Rattle.cil_model.specs.WellFormed.{IsCallee}
-use Rattle.cil_model.specs.declared.clause.Clause.{Clause}
 use Rattle.cil_model.specs.declared.clause.ClauseKind.TheVariants as clause_kinds
 use Rattle.cil_model.specs.declared.place.Kind.{Kind}
 use Rattle.cil_model.specs.declared.place.Kind.TheVariants as kinds
@@ -19,16 +18,15 @@ use Rattle.cil_model.proofs.Lists.{all_append, all_drop, all_take}
 use Rattle.clause_trees.proofs.AssumedKept.{itself_same}
 use Rattle.clause_trees.proofs.SameForms.{all_on}
 use Rattle.clause_trees.proofs.Stays.{grown_itself}
-use Rattle.clause_trees.specs.VariableKinds.{AreSameForms, HasSameForms, HasSameFormsIn, IsGrown, IsOfKind, IsOneOfKind, IsPushed, IsPushedIn, IsReadable}
-use Rattle.clause_trees.specs.declared.reader.TreeEnv.{TreeEnv}
+use Rattle.clause_trees.specs.VariableKinds.{AreSameForms, HasSameFormsIn, IsGrown, IsOfKind, IsOneOfKind, IsPushedIn, IsReadable}
 use Rattle.frame_names.specs.declared.var.Var.{Var}
 use Rattle.frame_names.specs.declared.var.Var.TheVariants as vars
-use Rattle.state_facts.proofs.Growing.{grown, one_longer, same_facts}
+use Rattle.state_facts.proofs.Growing.{grown, same_facts}
 use Rattle.state_facts.specs.Calls.{with_call}
 use Rattle.state_facts.specs.Forms.{HasForm, IsVar}
 use Rattle.state_facts.specs.StateFacts.{StateFacts, State}
 use Rattle.contract_calls.specs.Arguments.{first_of}
-use Rattle.contract_calls.specs.CallForms.{AreGiven, CanCall, CanReturn, HasFew, IsBehindCall, IsBehindCallIn, IsClauseOf}
+use Rattle.contract_calls.specs.CallForms.{AreGiven, CanCall, CanReturn, HasFew, IsBehindCallIn}
 use Rattle.contract_calls.specs.CallStates.{after_call, assumed_each, at_call, at_return, behind_args, given, less, result_at}
 use Rattle.contract_calls.proofs.Assuming.{each_same, none_each, of_kind, readable_in}
 use Rattle.contract_calls.proofs.AtCalls.{past, same_long}

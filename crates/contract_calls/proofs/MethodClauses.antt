@@ -4,12 +4,11 @@ use Rattle.std.specs.List.{AllByRecursion}
 use Rattle.std.specs.Option.{option_and_then}
 use Rattle.std.proofs.lemmas.Bool.{false≢true}
 use Rattle.std.proofs.lemmas.Option.{none-some, same_Some, slice_get_read}
-use Rattle.cil_model.specs.Clauses.{Reading, clause_holds, clauses_of, is_kind, is_number_true, value_of}
+use Rattle.cil_model.specs.Clauses.{Reading, clause_holds, is_kind, is_number_true, value_of}
 use Rattle.cil_model.specs.Comparisons.{is_true}
 use Rattle.cil_model.specs.TreeKinds.{IsNumberClause, kind_in}
 use Rattle.cil_model.specs.WellFormed.{HasInts, IsCallee}
 use Rattle.cil_model.specs.declared.clause.Clause.{Clause}
-use Rattle.cil_model.specs.declared.clause.ClauseKind.{ClauseKind}
 use Rattle.cil_model.specs.declared.clause.ClauseKind.TheVariants as clause_kinds
 use Rattle.cil_model.specs.declared.machine.Value.{Value}
 use Rattle.cil_model.specs.declared.machine.Value.TheVariants as values
@@ -33,11 +32,13 @@ pub clauses_are : (args : List Place) (result : Place) (clauses : List Clause)
     → AllByRecursion (IsNumberClause args result) clauses → AllByRecursion HasInts clauses
     → AllByRecursion (IsClauseOf args result) clauses
 clauses_are args result [] numbers ints = tt
-clauses_are args result (clause ∷ clauses) numbers ints =
-    (record {
-      number = number_of args result clause (is_kind clause_kinds.Ensures clause.kind) numbers.0;
-      ints = ints.0;
-    }, clauses_are args result clauses numbers.1 ints.1)
+clauses_are args result (clause ∷ clauses) numbers ints = (
+  record {
+    number = number_of args result clause (is_kind clause_kinds.Ensures clause.kind) numbers.0;
+    ints = ints.0;
+  },
+  clauses_are args result clauses numbers.1 ints.1,
+)
 
 -- So for those of a callee.
 pub callee_clauses : (callee : CalleeInfo) → IsCallee callee

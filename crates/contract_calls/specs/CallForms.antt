@@ -1,5 +1,5 @@
 -- The forms of variables at calls and returns.
-use Rattle.std.specs.Prelude.{◌≡◌, ℕ, true, ◌*◌, ◌-◌, ◌≤◌, List, [], ◌∷◌, ◌++◌, length, take, Option, Some, None}
+use Rattle.std.specs.Prelude.{◌≡◌, true, ◌*◌, ◌-◌, ◌≤◌, List, [], ◌∷◌, ◌++◌, length, take, Option, Some, None}
 use Rattle.std.specs.List.{AllByRecursion}
 use Rattle.std.specs.Option.{ForSome}
 use Rattle.cil_model.specs.Kinds.{kind_of}

@@ -1,5 +1,5 @@
 -- What it means: of points of runs.
-use Rattle.std.specs.Prelude.{◌≡◌, ℕ, true, List, [], ◌∷◌, ◌++◌, length, reverse, drop, Option, Some, None}
+use Rattle.std.specs.Prelude.{◌≡◌, true, List, [], ◌∷◌, ◌++◌, length, reverse, drop, Option, Some, None}
 use Rattle.cil_model.specs.Calls.{FreeReturn, args_of, behind_call, pushed, result_of}
 use Rattle.cil_model.specs.Clauses.{Reading, clause_holds, false_requires}
 use Rattle.cil_model.specs.Values.{FitPlaces, Heap}

@@ -19,11 +19,7 @@ pub(crate) fn first_of(state: &AbsState, count: usize) -> u32
     ensures { result ≡ rule.first_of count state.now }
 {
     let all = state.var_count() as usize;
-    if count < all {
-        (all - count) as u32
-    } else {
-        0
-    }
+    if count < all { (all - count) as u32 } else { 0 }
 }
 
 /// Puts what a variable has into a place of this type.

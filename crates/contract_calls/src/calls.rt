@@ -90,7 +90,13 @@ fn required(alloc: Global, state: AbsState, callee: &CalleeInfo) -> Result<AbsSt
     ensures { IfOk result (λ new. new ≡ rule.required callee.now state) }
 {
     let env = at_call(&state, callee);
-    assume_each(alloc, state, ClauseKind::Requires, callee.clauses.as_slice(), &env)
+    assume_each(
+        alloc,
+        state,
+        ClauseKind::Requires,
+        callee.clauses.as_slice(),
+        &env,
+    )
 }
 
 /// The state in which all Requires of the callee are assumed to be true, one after the other.
@@ -127,11 +133,7 @@ fn behind_args(state: &AbsState, callee: &CalleeInfo) -> TreeEnv
 
 /// The state behind a call, with the arguments still below its result.
 #[tactic(auto, using(crate::proofs::Behind::behind_assumes))]
-fn given(
-    alloc: Global,
-    mut state: AbsState,
-    callee: &CalleeInfo,
-) -> Result<AbsState, NoMemory>
+fn given(alloc: Global, mut state: AbsState, callee: &CalleeInfo) -> Result<AbsState, NoMemory>
     requires formed { IsCallee callee.now }
     requires ready { CanCall callee.now state }
     ensures { IfOk result (λ new. new ≡ rule.given callee.now state) }
@@ -139,7 +141,13 @@ fn given(
     let env = behind_args(&state, callee);
     let count = callee.args.as_slice().len() as u32;
     state.forget(env.args, count, callee.result)?;
-    assume_each(alloc, state, ClauseKind::Ensures, callee.clauses.as_slice(), &env)
+    assume_each(
+        alloc,
+        state,
+        ClauseKind::Ensures,
+        callee.clauses.as_slice(),
+        &env,
+    )
 }
 
 /// Takes so many values from the stack.
@@ -198,11 +206,7 @@ fn behind(alloc: Global, state: AbsState, callee: &CalleeInfo) -> Result<AbsStat
 /// values are those over the heap at the call. The arguments are gone, and the result is on top.
 ///
 /// Cost: that of `assume_tree` for each Ensures.
-pub fn after_call(
-    alloc: Global,
-    state: AbsState,
-    callee: &CalleeInfo,
-) -> Result<AbsState, NoMemory>
+pub fn after_call(alloc: Global, state: AbsState, callee: &CalleeInfo) -> Result<AbsState, NoMemory>
     requires formed { IsCallee callee.now }
     requires ready { CanCall callee.now state }
     ensures value { IfOk result (λ new. new ≡ rule.after_call callee.now state) }

@@ -16,6 +16,6 @@ mod clauses;
 mod returns;
 
 pub use arguments::{put_args, put_result};
-pub use calls::{after_call, assume_requires, assume_all_requires, requires_shown};
+pub use calls::{after_call, assume_all_requires, assume_requires, requires_shown};
 pub use clauses::clause_numbered;
 pub use returns::{assume_ensures, ensures_shown};
