@@ -139,7 +139,8 @@ pub at_call_is : (callee : CalleeInfo) (state : State) (p : Point) (args : List 
 at_call_is callee state p args are holds =
     let rest = drop (length callee.args) p.frame.stack in
     let below = below_args callee.args p in
-    let parts : variables_of (passing callee.args args p).frame ≡ below ++ args = over_args (base_of p.frame) rest args in
+    let parts : variables_of (passing callee.args args p).frame ≡ below ++ args =
+    over_args (base_of p.frame) rest args in
     let machine = holds.machine in
     let stack = all_split (IsValue p.heap) (reverse args) rest machine.stack in
     let of_args = subst (AllByRecursion (IsValue p.heap)) (reverse-reverse args)
@@ -217,7 +218,8 @@ back_to callee before after p args holds over =
 
 -- One that is assumed is kept.
 pub assumed_at_call : (callee : CalleeInfo) (clause : Clause) (state : State) → CanCall callee state
-    → IsClauseOf callee.args callee.result clause → KeepsRequired callee clause state (requires_assumed callee clause state)
+    → IsClauseOf callee.args callee.result clause
+    → KeepsRequired callee clause state (requires_assumed callee clause state)
 assumed_at_call callee clause state ready is = λ p args are so holds.
     let here = at_call_is callee state p args are holds in
     back_to callee state (requires_assumed callee clause state) p args holds
@@ -291,7 +293,7 @@ required_same callee known formed ready =
     (clauses_of clause_kinds.Requires callee.clauses) known (Some known) here (itself_same known here.form)
     (of_kind callee.args callee.result clause_kinds.Requires callee.clauses (callee_clauses callee formed))
 
-none_required : (callee : CalleeInfo) → required callee None ≡ None
+pub none_required : (callee : CalleeInfo) → required callee None ≡ None
 unfolding required
 none_required callee =
     none_each (at_call (length callee.args) None) (clauses_of clause_kinds.Requires callee.clauses)
@@ -312,7 +314,8 @@ none_put places = by places (first_of (length places) None)
     by (place ∷ places) i = by places (i + 1)
 
 -- The callee may be called where its arguments are put.
-pub put_ready : (callee : CalleeInfo) (state : State) → CanCall callee state → CanCall callee (put_args callee.args state)
+pub put_ready : (callee : CalleeInfo) (state : State) → CanCall callee state
+    → CanCall callee (put_args callee.args state)
 put_ready callee None ready = subst (CanCall callee) (sym (none_put callee.args)) ready
 put_ready callee (Some known) ready =
     ready_in callee known (put_args callee.args (Some known)) ready

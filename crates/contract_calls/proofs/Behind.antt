@@ -45,7 +45,7 @@ use Rattle.state_facts.specs.UnknownValues.{with_unknown}
 use Rattle.contract_calls.specs.Arguments.{first_of}
 use Rattle.contract_calls.specs.CallForms.{CanAssume, CanCall}
 use Rattle.contract_calls.specs.CallStates.{after_call, behind_args, given, less, result_at}
-use Rattle.contract_calls.specs.Meaning.{KeepsCalled, back, passing}
+use Rattle.contract_calls.specs.Meaning.{KeepsReturned, back, passing}
 use Rattle.contract_calls.proofs.Assuming.{all_true, each_keeps, of_kind}
 use Rattle.contract_calls.proofs.AtCalls.{IsAtCall, at_call_is, below_args, reads_over}
 use Rattle.contract_calls.proofs.MethodClauses.{callee_clauses}
@@ -53,7 +53,8 @@ use Rattle.contract_calls.proofs.PassedArguments.{at_of, base_of}
 
 -- ---- the result is pushed
 
-pub kind_alike : (a b : StateFacts) → ((r : ℕ) → place_in b r ≡ place_in a r) → (kind : Kind) (v : Var) → IsOfKind a kind v
+pub kind_alike : (a b : StateFacts) → ((r : ℕ) → place_in b r ≡ place_in a r) → (kind : Kind) (v : Var)
+    → IsOfKind a kind v
     → IsOfKind b kind v
 kind_alike a b same kinds.Int (vars.Number e) is = tt
 kind_alike a b same kinds.Ints (vars.Reference r) is = subst (IsOfPlace places.Ints) (sym (same r)) is
@@ -76,7 +77,8 @@ apart_pushed one two place kind known (Some made) is formed = record {
   };
   top = is.top;
   variables_are = is.variables_are;
-  of_kind = kind_alike (returned one place known made) (returned two place known made) (λ r. refl) kind is.top is.of_kind;
+  of_kind =
+      kind_alike (returned one place known made) (returned two place known made) (λ r. refl) kind is.top is.of_kind;
 }
 
 array_pushed : (apart : List Pair) (place : Place) (kind : Kind) (known : StateFacts)
@@ -350,7 +352,8 @@ reads_behind callee state p args new result here free =
     let count = length callee.args in
     let lower = below_args callee.args p ++ args in
     let size = length-append (below_args callee.args p) args in
-    reads_over (behind_args callee state) callee.args callee.result (below_args callee.args p) args (listed result) p.heap
+    reads_over (behind_args callee state) callee.args callee.result (below_args callee.args p) args (listed result)
+    p.heap
     new result here.first
     (given_read new callee.result result lower (first_of count state + count) free.fits
     (omega (arith, size, here.first, here.long)))
@@ -359,7 +362,7 @@ reads_behind callee state p args new result here free =
     (given_values new callee.result result free.fits))
 
 pub call_kept : (callee : CalleeInfo) (state : State) → IsCallee callee → CanCall callee state
-    → KeepsCalled callee state (after_call callee state)
+    → KeepsReturned callee state (after_call callee state)
 unfolding after_call
 call_kept callee state formed ready = λ i p args new result are free holds.
     let here = at_call_is callee state p args are holds in
@@ -376,4 +379,5 @@ call_kept callee state formed ready = λ i p args new result are free holds.
     (back_values callee i p args new result free holds.machine)
     (subst (λ l. HoldsOver (option_map (less (first_of count state) count) (given callee state)) l new)
     (sym (back_parts callee i p new result))
-    (less_keeps (given callee state) (first_of count state) count below args (listed result) new here.first here.long all))
+    (less_keeps (given callee state) (first_of count state) count below args (listed result) new here.first
+    here.long all))

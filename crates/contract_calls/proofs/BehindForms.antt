@@ -40,10 +40,11 @@ grown_forms : (known after : StateFacts) (vs : List Var) → IsGrown known after
     → AllByRecursion (IsVar (length known.facts.ranges) (length known.references)) vs → AreSameForms known after vs vs
 grown_forms known after [] grown all = tt
 grown_forms known after (vars.Number e ∷ vs) grown all = (tt, grown_forms known after vs grown all.1)
-grown_forms known after (vars.Reference r ∷ vs) grown all = (grown.places r all.0, grown_forms known after vs grown all.1)
+grown_forms known after (vars.Reference r ∷ vs) grown all =
+    (grown.places r all.0, grown_forms known after vs grown all.1)
 grown_forms known after (vars.Text ∷ vs) grown all = (tt, grown_forms known after vs grown all.1)
 
-same_take : (a b : StateFacts) (n : ℕ) (vs ws : List Var) → AreSameForms a b vs ws
+pub same_take : (a b : StateFacts) (n : ℕ) (vs ws : List Var) → AreSameForms a b vs ws
     → AreSameForms a b (take n vs) (take n ws)
 same_take a b zero vs ws same = tt
 same_take a b (suc n) [] [] same = tt
@@ -174,7 +175,8 @@ given_many callee (Some known) formed ready = λ x at.
     most = ready.there known refl
 
     by : (o : State) → IsGivenOverIn callee known o → (x : StateFacts) → o ≡ Some x
-        → length x.variables ≡ first_of (length callee.args) (Some known) + length callee.args + result_count callee.result
+        → length x.variables
+        ≡ first_of (length callee.args) (Some known) + length callee.args + result_count callee.result
     by None over x at = absurd (none-some x at)
     by (Some after) over x at =
         ap (λ k. length k.variables) (sym (same_Some after x at)) ∙ over.long ∙ omega (arith, most)
@@ -279,9 +281,11 @@ can_call callee known below vs form parts long few are =
     let first : length known.variables - length callee.args ≡ length below = omega (arith, all, long) in
     record {
       few = few;
-      there = λ x at. subst (λ k. length callee.args ≤ length k.variables) (same_Some known x at) (omega (arith, all, long));
+      there = λ x at.
+          subst (λ k. length callee.args ≤ length k.variables) (same_Some known x at) (omega (arith, all, long));
       readable = λ x at.
-          subst (IsReadable (at_call (length callee.args) (Some known)) callee.args callee.result) (same_Some known x at)
+          subst (IsReadable (at_call (length callee.args) (Some known)) callee.args callee.result)
+          (same_Some known x at)
           (record {
             form = form;
             args_fit = λ n kind is.

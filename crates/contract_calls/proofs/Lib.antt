@@ -8,3 +8,4 @@ pub mod Less
 pub mod BehindForms
 pub mod Public
 pub mod Numbered
+pub mod WholeCalls

@@ -47,7 +47,8 @@ callee_clauses callee formed = clauses_are callee.args callee.result callee.clau
 
 -- One of them is one of a method.
 pub clause_found : (args : List Place) (result : Place) (clauses : List Clause) (i : ℕ) (clause : Clause)
-    → AllByRecursion (IsClauseOf args result) clauses → slice_get clauses i ≡ Some clause → IsClauseOf args result clause
+    → AllByRecursion (IsClauseOf args result) clauses → slice_get clauses i ≡ Some clause
+    → IsClauseOf args result clause
 clause_found args result [] i clause all at = absurd (none-some clause at)
 clause_found args result (c ∷ clauses) zero clause all at = subst (IsClauseOf args result) (same_Some c clause at) all.0
 clause_found args result (c ∷ clauses) (suc i) clause all at = clause_found args result clauses i clause all.1 at

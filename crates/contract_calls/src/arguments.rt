@@ -61,8 +61,8 @@ fn put_each(state: &mut AbsState, places: &[Place]) -> Result<(), NoMemory>
     put_from(state, first, places)
 }
 
-/// Puts the arguments of a call into the places of its parameters, as the machine does. They lie on top of the stack, the
-/// last one uppermost.
+/// Puts the arguments of a call into the places of its parameters, as the machine does. They lie on top of the stack,
+/// the last one uppermost.
 ///
 /// Here as below the error is want of memory, after which the state is to be given up.
 pub fn put_args(state: &mut AbsState, places: &[Place]) -> Result<(), NoMemory>

@@ -9,9 +9,9 @@ ghost use Rattle.cil_model.specs.Limits.{MAX_VARIABLES};
 ghost use Rattle.cil_model.specs.WellFormed.{IsCallee};
 ghost use Rattle.contract_calls.specs.CallForms.{CanAssume, CanCall, HasFew, IsClauseOf};
 ghost use Rattle.contract_calls.specs.CallStates as rule;
-ghost use Rattle.contract_calls.specs.Meaning.{IsRequiredAt, KeepsAllRequired, KeepsCalled, KeepsRequired};
+ghost use Rattle.contract_calls.specs.Meaning.{IsRequiredAt, KeepsAllRequired, KeepsCall, KeepsReturned, KeepsRequired};
 
-use crate::arguments::first_of;
+use crate::arguments::{first_of, put_args};
 use crate::clauses::assume_each;
 use abs_state::AbsState;
 use cil_model::{CalleeInfo, Clause, ClauseKind, Place};
@@ -201,9 +201,9 @@ fn behind(alloc: Global, state: AbsState, callee: &CalleeInfo) -> Result<AbsStat
     Ok(state)
 }
 
-/// The state behind a call that came back, from the one in which the arguments lie on top of the stack, as they were put
-/// into the places of the parameters, and the Requires are assumed. Each Ensures of the callee is assumed, of which old
-/// values are those over the heap at the call. The arguments are gone, and the result is on top.
+/// The state behind a call that came back, from the one at the call: the arguments lie on top of the stack, as they
+/// were put into the places of the parameters. Each Ensures of the callee is assumed, of which old values are those over
+/// the heap at the call. The arguments are gone, and the result is on top.
 ///
 /// Cost: that of `assume_tree` for each Ensures.
 pub fn after_call(alloc: Global, state: AbsState, callee: &CalleeInfo) -> Result<AbsState, NoMemory>
@@ -211,7 +211,33 @@ pub fn after_call(alloc: Global, state: AbsState, callee: &CalleeInfo) -> Result
     requires ready { CanCall callee.now state }
     ensures value { IfOk result (λ new. new ≡ rule.after_call callee.now state) }
     // Whatever the callee did that its Ensures allow.
-    ensures keeps { IfOk result (λ new. KeepsCalled callee.now state new) }
+    ensures keeps { IfOk result (λ new. KeepsReturned callee.now state new) }
 {
     behind(alloc, state, callee)
+}
+
+/// What a call makes of a state.
+#[tactic(auto, unfolding(crate::specs::CallStates::called))]
+fn whole(alloc: Global, mut state: AbsState, callee: &CalleeInfo) -> Result<AbsState, NoMemory>
+    requires formed { IsCallee callee.now }
+    requires ready { CanCall callee.now state }
+    ensures { IfOk result (λ new. new ≡ rule.called callee.now state) }
+{
+    put_args(&mut state, callee.args.as_slice())?;
+    let state = assume_all_requires(alloc, state, callee)?;
+    after_call(alloc, state, callee)
+}
+
+/// The state behind a call that came back, from the one before it: the arguments are put, all Requires of the callee are
+/// assumed, and then each of its Ensures.
+///
+/// Cost: that of `assume_tree` for each clause.
+pub fn call(alloc: Global, state: AbsState, callee: &CalleeInfo) -> Result<AbsState, NoMemory>
+    requires formed { IsCallee callee.now }
+    requires ready { CanCall callee.now state }
+    ensures value { IfOk result (λ new. new ≡ rule.called callee.now state) }
+    // Whatever the callee did that its Ensures allow.
+    ensures keeps { IfOk result (λ new. KeepsCall callee.now state new) }
+{
+    whole(alloc, state, callee)
 }
