@@ -1,0 +1,11 @@
+pub mod MethodClauses
+pub mod PassedArguments
+pub mod Assuming
+pub mod AtCalls
+pub mod AtReturns
+pub mod Behind
+pub mod Less
+pub mod BehindForms
+pub mod Public
+pub mod Numbered
+pub mod WholeCalls
