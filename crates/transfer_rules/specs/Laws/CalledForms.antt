@@ -20,9 +20,8 @@ use Rattle.cil_model.specs.declared.place.Place.TheVariants as places
 use Rattle.cil_model.specs.declared.unit.CalleeInfo.{CalleeInfo}
 use Rattle.cil_model.specs.declared.unit.Unit.{Unit as MethodUnit}
 use Rattle.cil_model.proofs.Lists.{all_split}
-use Rattle.clause_trees.proofs.SameForms.{same_forms_on}
-use Rattle.clause_trees.specs.VariableKinds.{AreSameForms, HasSameFormsIn, IsOfKind, IsOfPlace}
-use Rattle.contract_calls.specs.Arguments.{first_of, put_args}
+use Rattle.clause_trees.specs.VariableKinds.{AreSameForms, IsOfKind, IsOfPlace}
+use Rattle.contract_calls.specs.Arguments.{first_of}
 use Rattle.contract_calls.specs.CallForms.{AreGiven, CanCall, HasFew, IsBehindCall, IsBehindCallIn}
 use Rattle.contract_calls.specs.CallStates.{after_call, behind_args, called, less, required}
 use Rattle.contract_calls.proofs.Assuming.{none_each}
@@ -40,7 +39,7 @@ use Rattle.transfer_rules.specs.Forms.{FitKinds, FitsKind, FitsStack, HasKinds, 
 use Rattle.transfer_rules.specs.Owed.{CanCallIt}
 use Rattle.transfer_rules.specs.Laws.Fitting.{fit_pushed, over_more}
 use Rattle.transfer_rules.specs.Laws.KindForms.{taken_fits, when_same}
-use Rattle.transfer_rules.specs.Laws.SameKinds.{forms_fit, read_kind, same_forms}
+use Rattle.transfer_rules.specs.Laws.SameKinds.{forms_fit, read_kind}
 
 -- What is asked of a unit and of the stack before an instruction: callees are as well formed units have them, and the
 -- stack is no larger than that of a frame.
