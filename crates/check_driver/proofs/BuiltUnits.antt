@@ -16,7 +16,7 @@ use Rattle.method_unit.proofs.BuiltAlone.{built_alone}
 use Rattle.method_unit.proofs.BuiltParts.{BuiltParts, built_parts}
 use Rattle.method_unit.proofs.UnitAgain.{unit_again}
 use Rattle.state_facts.specs.StateFacts.{State}
-use Rattle.transfer_rules.specs.Flow.{IsToldOf}
+use Rattle.invariant_checker.specs.Told.{IsToldOf}
 use Rattle.unit_flow.specs.FlowOf.{flow_of}
 use Rattle.unit_flow.specs.declared.unit_flow.UnitFlow.{UnitFlow}
 use Rattle.unit_flow.proofs.KindsFound.{found_kinds}

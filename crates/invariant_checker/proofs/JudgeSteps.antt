@@ -1,10 +1,10 @@
 -- Steps of the code that judges a unit.
-use Rattle.std.proofs.Common.{◌≡◌, ℕ, zero, suc, ◌+◌, ◌^◌, ◌-◌, ◌<◌, List, [], ◌∷◌, ◌++◌, length, get_or, take, drop, map, All, refl, sym, ap, subst, ◌∙◌, add-one, append_assoc, append-nil, drop-cons, arith, inl, inr}
+use Rattle.std.proofs.Common.{◌≡◌, ℕ, zero, suc, ◌+◌, ◌^◌, ◌-◌, ◌<◌, ◌≤◌, List, [], ◌∷◌, ◌++◌, length, get_or, take, drop, map, All, refl, sym, ap, subst, ◌∙◌, add-one, append_assoc, append-nil, drop-cons, arith, inl, inr}
 use Rattle.std.specs.Prelude.{IsTrue}
 use Rattle.std.specs.List.{AllByRecursion, flat_map, range_with_len}
 use Rattle.std.proofs.lemmas.Bool.{cases_Bool, false≢true}
 use Rattle.std.proofs.lemmas.Grind.{flat_map-append}
-use Rattle.std.proofs.lemmas.List.{get_or-take, length-take}
+use Rattle.std.proofs.lemmas.List.{drop_all, get_or-take, length-take}
 use Rattle.std.proofs.lemmas.List.Elements.{All-from_recursion}
 use Rattle.cil_model.specs.declared.instruction.Instr.{Instr}
 use Rattle.cil_model.specs.declared.machine.FaultKind.{FaultKind}
@@ -16,6 +16,8 @@ use Rattle.obligation_prover.specs.Avoiding.{avoid}
 use Rattle.obligation_prover.specs.Entailed.{rules_out}
 use Rattle.obligation_prover.specs.Obligations.{obligation, obligations_of}
 use Rattle.state_facts.specs.StateFacts.{State}
+use Rattle.transfer_rules.specs.Flow.{AreReady}
+use Rattle.transfer_rules.specs.Owed.{CanDo}
 use Rattle.transfer_rules.specs.Inductive.{HasShape, IsInductive, state_at}
 use Rattle.transfer_rules.specs.Post.{post}
 use Rattle.unit_flow.specs.Flow.{IsLawful}
@@ -63,6 +65,53 @@ module _ (unit : MethodUnit) (is : List Instr) (k : ℕ) (i : Instr) (state : St
       sym (there ∙ get_or-take (length is - 1) is k i (omega (arith, below, length-take (length is - 1) is))) in
       append_assoc found (verdicts_at unit i state) (verdicts_from unit (drop (k + 1) is) (post unit i.op state))
       ∙ ap (λ (js : List Instr). found ++ verdicts_from unit js state) (sym (from_it within here))
+
+-- What is found so far and what is still to be found come to the same, and each rule may be asked of its state.
+pub record IsOnWay (unit : MethodUnit) (is : List Instr) (old : List Verdict) (first : State) (found : List Verdict)
+    (state : State) (k : ℕ) : Type 0 where
+  pub same : found ++ verdicts_from unit (drop k is) state ≡ old ++ verdicts_from unit is first
+  pub ready : AreReady unit (drop k is) state
+
+pub begins : (unit : MethodUnit) (is : List Instr) (old : List Verdict) (first : State) → AreReady unit is first
+    → IsOnWay unit is old first old first 0
+begins unit is old first ready = record { same = refl; ready = ready }
+
+module _ (unit : MethodUnit) (is : List Instr) (old : List Verdict) (first : State) (found : List Verdict)
+    (state : State) (k : ℕ) (i : Instr) (way : IsOnWay unit is old first found state k) where
+  ready_there : k < length is → get_or is k i ≡ i → AreReady unit (i ∷ drop (k + 1) is) state
+  ready_there below here =
+      subst (λ (l : List Instr). AreReady unit l state) (from_it unit is k i state found below here) way.ready
+
+  in_front : k < length (front is) → i ≡ get_or (front is) k i → (k < length is) × (get_or is k i ≡ i)
+  in_front below there = (
+    omega (arith, below, length-take (length is - 1) is),
+    sym (there ∙ get_or-take (length is - 1) is k i (omega (arith, below, length-take (length is - 1) is))),
+  )
+
+  pub next_ready : k < length (front is) → i ≡ get_or (front is) k i → CanDo unit i.op state
+  next_ready below there = let at = in_front below there in (ready_there at.0 at.1).0
+
+  pub on_way : k < length (front is) → i ≡ get_or (front is) k i
+      → IsOnWay unit is old first (found ++ verdicts_at unit i state) (post unit i.op state) (k + 1)
+  on_way below there =
+      let at = in_front below there in
+      record {
+        same = one_more_passed unit is k i state found below there ∙ way.same;
+        ready = (ready_there at.0 at.1).1;
+      }
+
+  pub on_way_ends : 1 ≤ length is → length (front is) ≤ k → k ≤ length (front is) → i ≡ get_or is (length is - 1) i
+      → found ++ verdicts_at unit i state ≡ old ++ verdicts_from unit is first
+  on_way_ends some least most there =
+      let last : k ≡ length is - 1 = omega (arith, some, least, most, length-take (length is - 1) is) in
+      let here : get_or is k i ≡ i = ap (λ (n : ℕ). get_or is n i) last ∙ sym there in
+      let none : drop (k + 1) is ≡ [] = drop_all (k + 1) is (omega (arith, some, last)) in
+      sym (ap (λ (js : List Instr). found ++ verdicts_from unit js state)
+      (from_it unit is k i state found (omega (arith, some, last)) here
+      ∙ ap (λ (js : List Instr). i ∷ js) none)
+      ∙ ap (λ (vs : List Verdict). found ++ vs) (append-nil (verdicts_at unit i state))) ∙ way.same
+
+pub ruleset judging = (begins, next_ready, on_way_ends)
 
 -- ---- all blocks
 

@@ -9,7 +9,7 @@ use Rattle.cil_model.specs.declared.machine.FaultKind.{FaultKind}
 use Rattle.cil_model.specs.declared.machine.Value.{Value}
 use Rattle.cil_model.specs.declared.unit.Unit.{Unit as MethodUnit}
 use Rattle.cil_model.proofs.AloneSafe.{alone_is_safe, no_callee_no_call}
-use Rattle.transfer_rules.specs.Flow.{IsToldOf}
+use Rattle.invariant_checker.specs.Told.{IsToldOf}
 use Rattle.unit_flow.specs.Flow.{IsLawful}
 use Rattle.unit_flow.specs.declared.unit_flow.UnitFlow.{UnitFlow}
 use Rattle.unit_flow.proofs.KindsAlong.{makes}

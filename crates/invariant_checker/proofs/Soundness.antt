@@ -6,7 +6,7 @@ use Rattle.cil_model.specs.declared.machine.Obligation.{Obligation}
 use Rattle.obligation_prover.specs.Obligations.{obligations_of}
 use Rattle.obligation_prover.proofs.Complete.{lists_each_fault}
 use Rattle.state_facts.specs.StateFacts.{State}
-use Rattle.transfer_rules.specs.Flow.{IsToldOf}
+use Rattle.invariant_checker.specs.Told.{IsToldOf}
 use Rattle.unit_flow.specs.Flow.{IsLawful}
 use Rattle.unit_flow.specs.declared.unit_flow.UnitFlow.{UnitFlow}
 use Rattle.invariant_checker.specs.Counts.{all_proved}

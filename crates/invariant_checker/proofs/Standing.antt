@@ -20,11 +20,11 @@ use Rattle.obligation_prover.proofs.InTurn.{in_turn}
 use Rattle.state_facts.specs.Forms.{HasForm}
 use Rattle.state_facts.specs.Holds.{HoldsAt}
 use Rattle.state_facts.specs.StateFacts.{State}
-use Rattle.transfer_rules.specs.Flow.{IsToldOf}
+use Rattle.invariant_checker.specs.Told.{IsToldOf}
 use Rattle.transfer_rules.specs.Forms.{FitsStack}
 use Rattle.transfer_rules.specs.Inductive.{IsInductive, state_at}
 use Rattle.transfer_rules.specs.Post.{post}
-use Rattle.transfer_rules.specs.Laws.FlowSteps.{fits_formed}
+use Rattle.transfer_rules.specs.Laws.FlowSteps.{fits_formed, post_fits, post_ready}
 use Rattle.transfer_rules.specs.Laws.StepsHold.{step_holds}
 use Rattle.transfer_rules.proofs.Inducing.{holds_there}
 use Rattle.unit_flow.specs.Chains.{IsChain, IsPassed}
@@ -37,7 +37,6 @@ use Rattle.unit_flow.proofs.WayLaws.{takes_way}
 use Rattle.invariant_checker.specs.Counts.{all_proved}
 use Rattle.invariant_checker.specs.Verdicts.{verdicts_at, verdicts_by_blocks, verdicts_from, verdicts_in, verdicts_in_turn}
 use Rattle.invariant_checker.specs.declared.verdict.Verdict.{Verdict}
-use Rattle.invariant_checker.proofs.Fitting.{post_fits}
 use Rattle.invariant_checker.proofs.SafeRuns.{NoneFaults}
 
 -- ---- verdicts
@@ -111,10 +110,10 @@ module _ (code : UnitFlow) (told : IsToldOf code) (states : List State) (inducti
       record {
         chain = subst (λ (at : ℕ). IsChain unit code.graph b at (j ∷ is)) (sym next) stands.chain.1;
         fits = subst (λ (at : ℕ). FitsStack unit (before at) behind) (sym next)
-            (post_fits code told i p.frame.at state passed stands.fits);
+            (post_fits code told.lawful i p.frame.at state passed stands.fits);
         shown = (both_proved (verdicts_at unit i state) (verdicts_from unit (j ∷ is) behind) stands.shown).1;
-        holds = step_holds code told i state p q (fits_formed unit (before p.frame.at) state stands.fits) step
-            stands.holds;
+        holds = step_holds code told.lawful i state p q (fits_formed unit (before p.frame.at) state stands.fits)
+            (post_ready code told.lawful i p.frame.at state passed.here passed.found stands.fits) step stands.holds;
       }
 
   stands_on : (b : ℕ) (is : List Instr) (state : State) (p : Point) (rest : List Instr) (q : Point)
@@ -137,7 +136,7 @@ module _ (code : UnitFlow) (told : IsToldOf code) (states : List State) (inducti
       stands_on way.block (block_instrs code way.block) (state_at states way.block) way.first way.rest p way.passes
       way.chain
       (stands_first way.block way.first way.below way.here
-      (holds_there code told states inductive way.count way.block way.first way.came))
+      (holds_there code told.lawful states inductive way.count way.block way.first way.came))
 
   -- ---- no instruction ends in a fault
 

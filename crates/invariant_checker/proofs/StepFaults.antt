@@ -28,7 +28,7 @@ use Rattle.machine_points.specs.Points.{lives_at}
 use Rattle.machine_points.specs.declared.point.Point.{Point}
 use Rattle.obligation_prover.specs.Faults.{IsAmong, call_faults, faults_of, is_of_clause, operator_faults}
 use Rattle.obligation_prover.proofs.Complete.{no_other}
-use Rattle.transfer_rules.specs.Flow.{IsToldOf}
+use Rattle.invariant_checker.specs.Told.{IsToldOf}
 use Rattle.unit_flow.specs.declared.unit_flow.UnitFlow.{UnitFlow}
 use Rattle.unit_flow.proofs.StepRows.{calls_none, faults_by}
 use Rattle.invariant_checker.specs.Safety.{EnsuresNothing}

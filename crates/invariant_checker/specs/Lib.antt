@@ -2,3 +2,4 @@ pub mod Counts
 pub mod Inducts
 pub mod Safety
 pub mod Verdicts
+pub mod Told

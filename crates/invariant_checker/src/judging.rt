@@ -3,7 +3,8 @@
 ghost use Rattle.std.specs.Prelude.{◌≡◌, ◌++◌, ◌+◌, ◌*◌, ◌<◌, ◌≤◌, All, IfOk, IsTrue, OnOk, length, map};
 ghost use Rattle.cil_model.specs.Limits.{MAX_CLAUSES, MAX_VARIABLES};
 ghost use Rattle.obligation_prover.specs.Obligations.{obligations_of};
-ghost use Rattle.transfer_rules.specs.Flow.{IsToldOf};
+ghost use Rattle.invariant_checker.specs.Told.{IsToldOf};
+ghost use Rattle.transfer_rules.specs.Flow.{AreReady, Fits};
 ghost use Rattle.transfer_rules.specs.Inductive.{HasShape, IsInductive};
 ghost use Rattle.invariant_checker.specs.Counts as counts;
 ghost use Rattle.invariant_checker.specs.Safety.{EnsuresNothing, IsSafe, IsSafeButForEnsures};
@@ -61,6 +62,7 @@ fn push_verdicts(
 }
 
 /// Appends the verdicts at the instructions of a block, from the state before the first of them.
+#[tactic(auto, using(crate::proofs::JudgeSteps::judging))]
 fn judge_instrs(
     alloc: Global,
     found: &mut Vec<Verdict>,
@@ -68,7 +70,8 @@ fn judge_instrs(
     instrs: &[Instr],
     state: &mut AbsState,
 ) -> Result<(), NoMemory>
-    requires { length unit.now.args + length unit.now.locals + unit.now.max_stack ≤ MAX_VARIABLES }
+    requires few { length unit.now.args + length unit.now.locals + unit.now.max_stack ≤ MAX_VARIABLES }
+    requires ready { AreReady unit.now instrs.now state.old }
     ensures { OnOk result (found.new.items ≡ found.old.items ++ rule.verdicts_from unit.now instrs.now state.old) }
 {
     let [others @ .., last] = instrs else {
@@ -76,7 +79,7 @@ fn judge_instrs(
     };
     for instr in others {
         push_verdicts(alloc, found, state, unit, instr)?;
-        post(state, unit, &instr.op)?;
+        post(alloc, state, unit, &instr.op)?;
     }
     push_verdicts(alloc, found, state, unit, last)
 }
@@ -91,6 +94,7 @@ fn judge_block(
 ) -> Result<(), NoMemory>
     requires lawful { IsToldOf code.now }
     requires there { block < length code.now.graph.blocks }
+    requires fits { Fits code.now block state.now }
     ensures { OnOk result (found.new.items ≡ found.old.items ++ rule.verdicts_of_block code.now state.now block) }
 {
     let mut before = state.copy(alloc)?;

@@ -1,11 +1,12 @@
 use Rattle.std.proofs.Common.{subst, sym}
-use Rattle.transfer_rules.specs.Flow.{IsToldOf}
+use Rattle.invariant_checker.specs.Told.{IsToldOf}
+use Rattle.unit_flow.specs.Flow.{IsLawful}
 use Rattle.check_driver.proofs.Asking.{asks_all}
 use Rattle.check_driver.proofs.BuiltUnits.{told_flow, verdicts_are, within_limits}
 use Rattle.check_driver.proofs.analysis.judge_flow.Goals as goal
 
 pub find-requires : goal.find-requires
-find-requires g c = record { lawful = subst IsToldOf (sym c.requires.flow) (told_flow c.args.code.now.unit c.requires.built) }
+find-requires g c = record { lawful = subst IsLawful (sym c.requires.flow) (told_flow c.args.code.now.unit c.requires.built).lawful }
 
 pub judge-requires : goal.judge-requires
 judge-requires g c = record { lawful = subst IsToldOf (sym c.requires.flow) (told_flow c.args.code.now.unit c.requires.built) }
