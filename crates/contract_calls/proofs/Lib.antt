@@ -1,0 +1,9 @@
+pub mod Clauses
+pub mod PassedArguments
+pub mod Assuming
+pub mod AtCalls
+pub mod AtReturns
+pub mod Behind
+pub mod Less
+pub mod BehindForms
+pub mod Public

@@ -1,0 +1,4 @@
+pub mod Arguments
+pub mod CallStates
+pub mod CallForms
+pub mod Meaning
