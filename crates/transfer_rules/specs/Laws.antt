@@ -13,6 +13,5 @@ pub mod FormsMerged
 pub mod FlowSteps
 pub mod UnknownLaws
 pub mod BegunLaws
-pub mod OwnInts
 pub mod EntryLaws
 pub mod FlowLaws
