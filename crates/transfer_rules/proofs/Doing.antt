@@ -81,9 +81,9 @@ pub switched : (unit : MethodUnit) (targets : List ℕ) (state : State) → stat
 unfolding acted
 switched unit targets state = pops unit (ops.Switch targets) state (λ known. refl)
 
-pub called : (unit : MethodUnit) (number : ℕ) (state : State) → option_and_then (behind_call (unit_call number)) state ≡ act unit (ops.Call number) state
+pub called : (unit : MethodUnit) (number : ℕ) (state : State) → option_and_then (behind_call unit (unit_call number)) state ≡ act unit (ops.Call number) state
 unfolding acted
-called unit number state = done unit (ops.Call number) (behind_call (unit_call number)) state (λ known. refl)
+called unit number state = done unit (ops.Call number) (behind_call unit (unit_call number)) state (λ known. refl)
 
 pub put_back : (unit : MethodUnit) (state : State) → option_and_then (returned unit.result) state ≡ act unit ops.Return state
 unfolding acted

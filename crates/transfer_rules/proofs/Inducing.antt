@@ -14,12 +14,12 @@ use Rattle.merged_states.specs.Laws.StatesHold.{leq_holds}
 use Rattle.merged_states.specs.Inclusion.{is_included}
 use Rattle.merged_states.specs.Alike.{AreLikeStates}
 use Rattle.transfer_rules.specs.Entry.{entry}
-use Rattle.transfer_rules.specs.Flow.{Fits, IsToldOf, along_edge}
+use Rattle.transfer_rules.specs.Flow.{Fits, along_edge}
 use Rattle.transfer_rules.specs.Laws.FormsMerged.{fitting_like}
 use Rattle.transfer_rules.specs.Laws.FlowLaws as laws
 use Rattle.transfer_rules.specs.Inductive.{AllCarried, HasShape, HoldsInRuns, HoldsWhereItComes, IsBegun, IsInductive, state_at}
 use Rattle.unit_flow.proofs.OnTheWay.{runs_go_along}
-use Rattle.unit_flow.specs.Flow.{edge_at, kinds_at, no_edge}
+use Rattle.unit_flow.specs.Flow.{IsLawful, edge_at, kinds_at, no_edge}
 use Rattle.unit_flow.specs.Runs.{edges_in}
 use Rattle.unit_flow.specs.declared.unit_flow.UnitFlow.{UnitFlow}
 
@@ -41,10 +41,10 @@ pub item_is : (states : List State) (i : ℕ) (s : State) → i < length states 
 item_is states i s below is = is ∙ same_item states i s None below
 
 -- A unit has few blocks.
-pub few_blocks : (code : UnitFlow) → IsToldOf code → length code.graph.blocks ≤ MAX_BLOCKS
-few_blocks code told =
-    subst (λ (g : Graph). length g.blocks ≤ MAX_BLOCKS) (sym told.lawful.graph)
-    (subst (λ (n : ℕ). n ≤ MAX_BLOCKS) (sym (blocks_counted code.unit)) told.lawful.formed.limits.blocks)
+pub few_blocks : (code : UnitFlow) → IsLawful code → length code.graph.blocks ≤ MAX_BLOCKS
+few_blocks code lawful =
+    subst (λ (g : Graph). length g.blocks ≤ MAX_BLOCKS) (sym lawful.graph)
+    (subst (λ (n : ℕ). n ≤ MAX_BLOCKS) (sym (blocks_counted code.unit)) lawful.formed.limits.blocks)
 
 -- ---- one edge
 
@@ -58,7 +58,7 @@ told_so r a b c d answer p q = IfOk-weaker r _ (λ yes. IsTrue yes ↔ (is_inclu
     same : (less : Bool) → less ≡ is_included c d → IsTrue less ↔ (is_included c d ≡ true)
     same less is = (λ yes. sym is ∙ yes, λ yes. is ∙ yes)
 
-module _ (code : UnitFlow) (lawful : IsToldOf code) (states : List State) (shape : HasShape code states) (k : ℕ) (below : k < length code.graph.edges) (edges : List Edge)
+module _ (code : UnitFlow) (lawful : IsLawful code) (states : List State) (shape : HasShape code states) (k : ℕ) (below : k < length code.graph.edges) (edges : List Edge)
     (are : edges ≡ code.graph.edges) where
   abbrev edge : Edge
   edge = get_or edges k no_edge
@@ -93,7 +93,7 @@ module _ (code : UnitFlow) (lawful : IsToldOf code) (states : List State) (shape
 
 -- ---- the first block
 
-module _ (code : UnitFlow) (lawful : IsToldOf code) (states : List State) (shape : HasShape code states) where
+module _ (code : UnitFlow) (lawful : IsLawful code) (states : List State) (shape : HasShape code states) where
   pub first_there : 0 < length states
   first_there = subst (λ (n : ℕ). 0 < n) (sym shape.count) (laws.has_block code lawful)
 
@@ -121,7 +121,7 @@ unit_states code = record {
   leq = is_included;
 }
 
-flows : (code : UnitFlow) → IsToldOf code → Flow (edges_in code) (unit_states code) (length code.graph.blocks)
+flows : (code : UnitFlow) → IsLawful code → Flow (edges_in code) (unit_states code) (length code.graph.blocks)
 flows code lawful = record {
   first = laws.has_block code lawful;
   source_below = λ edge below. laws.source_below code edge lawful below;
@@ -133,7 +133,7 @@ flows code lawful = record {
   leq_holds = λ block a b p first second less holds. leq_holds a b p (fitting_like code.unit (kinds_at code block) a b first second) less holds;
 }
 
-module _ (code : UnitFlow) (lawful : IsToldOf code) (states : List State) (inductive : IsInductive code states) where
+module _ (code : UnitFlow) (lawful : IsLawful code) (states : List State) (inductive : IsInductive code states) where
   fits_at : (block : ℕ) → block < length code.graph.blocks → Fits code block (state_at states block)
   fits_at block below = inductive.shape.fit block (subst (λ (n : ℕ). block < n) (sym inductive.shape.count) below)
 
@@ -142,4 +142,4 @@ module _ (code : UnitFlow) (lawful : IsToldOf code) (states : List State) (induc
       holds_along (edges_in code) (unit_states code) (length code.graph.blocks) (flows code lawful) (state_at states) fits_at inductive.begun inductive.edges
 
   pub holds_in_runs : HoldsInRuns code states
-  holds_in_runs block p comes = let (n, along) = runs_go_along code lawful.lawful block p comes in holds_there n block p along
+  holds_in_runs block p comes = let (n, along) = runs_go_along code lawful block p comes in holds_there n block p along

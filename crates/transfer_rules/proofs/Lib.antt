@@ -2,6 +2,7 @@ pub mod Taking
 pub mod Moving
 pub mod Calculating
 pub mod Doing
+pub mod Calling
 pub mod Passing
 pub mod Ways
 pub mod GoingOn

@@ -1,9 +1,10 @@
 -- What calls of contracts and branches take.
-use Rattle.std.proofs.Common.{◌≡◌, Bool, Option, Some, None, refl, sym, ap, ◌∙◌}
+use Rattle.std.proofs.Common.{◌≡◌, ℕ, Bool, Option, Some, None, slice_get, refl, sym, ap, subst, ◌∙◌}
 use Rattle.std.specs.Option.{option_and_then}
 use Rattle.cil_model.specs.declared.instruction.CmpOp.{CmpOp}
 use Rattle.cil_model.specs.declared.instruction.Test.{Test}
 use Rattle.cil_model.specs.declared.instruction.Test.TheVariants as tests
+use Rattle.cil_model.specs.declared.unit.Unit.{Unit as MethodUnit}
 use Rattle.cil_model.specs.declared.unit_numbers.UnitCall.{UnitCall}
 use Rattle.cil_model.specs.declared.unit_numbers.UnitCall.TheVariants as calls
 use Rattle.domain_api.specs.declared.expr.Expr.{Expr}
@@ -13,7 +14,8 @@ use Rattle.state_facts.specs.StateFacts.{State}
 use Rattle.state_facts.specs.States as states
 use Rattle.state_obligations.specs.Assumed.{assume}
 use Rattle.state_obligations.specs.declared.condition.Condition.TheVariants as conditions
-use Rattle.transfer_rules.specs.Acts.{behind_call, behind_test, left, with_condition}
+use Rattle.transfer_rules.specs.Acts.{behind_call, behind_test, called, left, with_condition}
+use Rattle.transfer_rules.specs.Owed.{CanCallBy, CanCallIt}
 use Rattle.transfer_rules.specs.Operands.{TookCondition, on_condition, over_one}
 
 -- ---- conditions
@@ -50,34 +52,55 @@ left_none message state after took = sym (took left)
 
 -- ---- calls
 
-pub assert_passed : (call : UnitCall) (message : Bool) (state : State) → call ≡ calls.Assert message
-    → option_and_then (on_condition message left) state ≡ option_and_then (behind_call (Some call)) state
-unfolding behind_call
-assert_passed call message None is = refl
-assert_passed call message (Some known) is = rw is refl
+module _ (unit : MethodUnit) where
+  pub assert_passed : (call : UnitCall) (message : Bool) (state : State) → call ≡ calls.Assert message
+      → option_and_then (on_condition message left) state ≡ option_and_then (behind_call unit (Some call)) state
+  unfolding behind_call
+  assert_passed call message None is = refl
+  assert_passed call message (Some known) is = rw is refl
 
-pub assume_passed : (call : UnitCall) (message : Bool) (state : State) → call ≡ calls.Assume message
-    → option_and_then (on_condition message with_condition) state ≡ option_and_then (behind_call (Some call)) state
-unfolding behind_call
-assume_passed call message None is = refl
-assume_passed call message (Some known) is = rw is refl
+  pub assume_passed : (call : UnitCall) (message : Bool) (state : State) → call ≡ calls.Assume message
+      → option_and_then (on_condition message with_condition) state
+      ≡ option_and_then (behind_call unit (Some call)) state
+  unfolding behind_call
+  assume_passed call message None is = refl
+  assume_passed call message (Some known) is = rw is refl
 
-pub other_passed : (call : UnitCall) (state : State) → ((message : Bool) → call ≡ calls.Assert message → ⊥) → ((message : Bool) → call ≡ calls.Assume message → ⊥)
-    → state ≡ option_and_then (behind_call (Some call)) state
-unfolding behind_call
-other_passed call None no_assert no_assume = refl
-other_passed (calls.Assert message) (Some known) no_assert no_assume = absurd (no_assert message refl)
-other_passed (calls.Assume message) (Some known) no_assert no_assume = absurd (no_assume message refl)
-other_passed _ (Some known) no_assert no_assume = refl
+  pub callee_passed : (call : UnitCall) (number : ℕ) (state : State) → call ≡ calls.Callee number
+      → option_and_then (called (slice_get unit.callees number)) state
+      ≡ option_and_then (behind_call unit (Some call)) state
+  unfolding behind_call
+  callee_passed call number None is = refl
+  callee_passed call number (Some known) is = rw is refl
 
-pub none_passed : (call : Option UnitCall) (state : State) → call ≡ None → state ≡ option_and_then (behind_call call) state
-unfolding behind_call
-none_passed call None is = refl
-none_passed call (Some known) is = rw is refl
+  pub callee_ready : (call : UnitCall) (number : ℕ) (state : State) → call ≡ calls.Callee number
+      → CanCallBy unit (Some call) state → CanCallIt (slice_get unit.callees number) state
+  callee_ready call number state is ready = subst (λ (c : UnitCall). CanCallBy unit (Some c) state) is ready
 
-pub some_passed : (call : Option UnitCall) (named : UnitCall) (state : State) → call ≡ Some named
-    → option_and_then (behind_call (Some named)) state ≡ option_and_then (behind_call call) state
-some_passed call named state is = ap (λ (c : Option UnitCall). option_and_then (behind_call c) state) (sym is)
+  pub other_passed : (call : UnitCall) (state : State) → ((message : Bool) → call ≡ calls.Assert message → ⊥)
+      → ((message : Bool) → call ≡ calls.Assume message → ⊥) → ((number : ℕ) → call ≡ calls.Callee number → ⊥)
+      → state ≡ option_and_then (behind_call unit (Some call)) state
+  unfolding behind_call
+  other_passed call None no_assert no_assume no_callee = refl
+  other_passed (calls.Assert message) (Some known) no_assert no_assume no_callee = absurd (no_assert message refl)
+  other_passed (calls.Assume message) (Some known) no_assert no_assume no_callee = absurd (no_assume message refl)
+  other_passed (calls.Callee number) (Some known) no_assert no_assume no_callee = absurd (no_callee number refl)
+  other_passed _ (Some known) no_assert no_assume no_callee = refl
+
+  pub none_passed : (call : Option UnitCall) (state : State) → call ≡ None
+      → state ≡ option_and_then (behind_call unit call) state
+  unfolding behind_call
+  none_passed call None is = refl
+  none_passed call (Some known) is = rw is refl
+
+  pub some_passed : (call : Option UnitCall) (named : UnitCall) (state : State) → call ≡ Some named
+      → option_and_then (behind_call unit (Some named)) state ≡ option_and_then (behind_call unit call) state
+  some_passed call named state is =
+      ap (λ (c : Option UnitCall). option_and_then (behind_call unit c) state) (sym is)
+
+  pub some_ready : (call : Option UnitCall) (named : UnitCall) (state : State) → call ≡ Some named
+      → CanCallBy unit call state → CanCallBy unit (Some named) state
+  some_ready call named state is ready = subst (λ (c : Option UnitCall). CanCallBy unit c state) is ready
 
 -- ---- tests
 
@@ -101,4 +124,4 @@ unfolding behind_test
 two_popped test op None is = refl
 two_popped test op (Some known) is = rw is refl
 
-pub ruleset passing = (condition_is, no_condition, left_is, left_none, assert_passed, assume_passed, other_passed, none_passed, some_passed, always_left, true_popped, false_popped, two_popped)
+pub ruleset passing = (condition_is, no_condition, left_is, left_none, assert_passed, assume_passed, callee_passed, callee_ready, other_passed, none_passed, some_passed, some_ready, always_left, true_popped, false_popped, two_popped)

@@ -7,7 +7,8 @@ use Rattle.cil_model.specs.declared.instruction.Instr.{Instr}
 use Rattle.cil_model.specs.declared.unit.Unit.{Unit as MethodUnit}
 use Rattle.flow_graph.proofs.Lying.{all_passing}
 use Rattle.state_facts.specs.StateFacts.{State}
-use Rattle.transfer_rules.specs.Flow.{through}
+use Rattle.transfer_rules.specs.Flow.{AreReady, through}
+use Rattle.transfer_rules.specs.Owed.{CanDo}
 use Rattle.transfer_rules.specs.Post.{along, post}
 use Rattle.unit_flow.specs.Flow.{IsLawful, block_instrs, is_before, start_of}
 use Rattle.unit_flow.specs.Ways.{IsShortSwitch}
@@ -65,6 +66,52 @@ module _ (unit : MethodUnit) (number : ℕ) (is : List Instr) (k : ℕ) (i : Ins
       → i ≡ get_or is (length is - 1) i → through unit number (drop k is) state ≡ along unit i.op number state
   walk_ends state some least most there = rw (one_left some least most there) refl
 
+  -- ---- whether the rules may be asked
+
+  split_at : k + 1 < length is → i ≡ get_or is k i → drop k is ≡ i ∷ drop (k + 1) is
+  split_at below there =
+      drop-cons is k i (omega (arith, below))
+      ∙ two (get_or is k i) (drop (suc k) is) (sym there) (rw (add-one k) refl)
+    where
+      two : (j : Instr) (js : List Instr) → j ≡ i → js ≡ drop (k + 1) is → j ∷ js ≡ i ∷ drop (k + 1) is
+      two j js p q = cc
+
+  ready_there : (state : State) → k < length (front is) → i ≡ get_or (front is) k i → AreReady unit (drop k is) state
+      → AreReady unit (i ∷ drop (k + 1) is) state
+  ready_there state below there ready =
+      let is_it = in_front below there in
+      subst (λ (l : List Instr). AreReady unit l state) (split_at is_it.0 is_it.1) ready
+
+-- The states that are still to be gone through come to the same, and each rule may be asked of its state.
+pub record IsOnWay (unit : MethodUnit) (number : ℕ) (is : List Instr) (first state : State) (k : ℕ) : Type 0 where
+  pub same : through unit number (drop k is) state ≡ through unit number is first
+  pub ready : AreReady unit (drop k is) state
+
+pub walk_begins : (unit : MethodUnit) (number : ℕ) (is : List Instr) (first : State) → AreReady unit is first
+    → IsOnWay unit number is first first 0
+walk_begins unit number is first ready = record { same = refl; ready = ready }
+
+module _ (unit : MethodUnit) (number : ℕ) (is : List Instr) (first state : State) (k : ℕ) (i : Instr)
+    (way : IsOnWay unit number is first state k) where
+  pub next_ready : k < length (front is) → i ≡ get_or (front is) k i → CanDo unit i.op state
+  next_ready below there = (ready_there unit number is k i state below there way.ready).0
+
+  pub on_way : k < length (front is) → i ≡ get_or (front is) k i
+      → IsOnWay unit number is first (post unit i.op state) (k + 1)
+  on_way below there = record {
+    same = walk_goes_on unit number is k i state below there ∙ way.same;
+    ready = (ready_there unit number is k i state below there way.ready).1;
+  }
+
+  pub last_ready : 1 ≤ length is → length (front is) ≤ k → k ≤ length (front is) → i ≡ get_or is (length is - 1) i
+      → CanDo unit i.op state
+  last_ready some least most there =
+      (subst (λ (l : List Instr). AreReady unit l state) (one_left unit number is k i some least most there) way.ready).0
+
+  pub walk_done : 1 ≤ length is → length (front is) ≤ k → k ≤ length (front is) → i ≡ get_or is (length is - 1) i
+      → along unit i.op number state ≡ through unit number is first
+  walk_done some least most there = sym (walk_ends unit number is k i state some least most there) ∙ way.same
+
 all_there : (P : Instr → Type 0) (is : List Instr) (k : ℕ) (d : Instr) → k < length is → AllByRecursion P is
     → P (get_or is k d)
 all_there P [] k d below all = absurd (omega (arith, below))
@@ -87,4 +134,4 @@ block_short code lawful block =
     (all_passing (λ i. IsShortSwitch i.op) (λ i. nat_le (start_of code block) i.at) code.unit.instrs
     (short_switches code lawful))
 
-pub ruleset walking = (walk_goes_on, walk_ends, last_short)
+pub ruleset walking = (walk_begins, next_ready, on_way, last_ready, walk_done, last_short)

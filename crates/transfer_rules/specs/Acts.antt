@@ -13,9 +13,12 @@ use Rattle.cil_model.specs.declared.instruction.Test.{Test}
 use Rattle.cil_model.specs.declared.instruction.Test.TheVariants as tests
 use Rattle.cil_model.specs.declared.place.Place.{Place}
 use Rattle.cil_model.specs.declared.place.Place.TheVariants as places
+use Rattle.cil_model.specs.declared.unit.CalleeInfo.{CalleeInfo}
 use Rattle.cil_model.specs.declared.unit.Unit.{Unit as MethodUnit}
 use Rattle.cil_model.specs.declared.unit_numbers.UnitCall.{UnitCall}
 use Rattle.cil_model.specs.declared.unit_numbers.UnitCall.TheVariants as calls
+use Rattle.contract_calls.specs.Arguments.{put_args}
+use Rattle.contract_calls.specs.CallStates.{after_call, required}
 use Rattle.domain_api.specs.declared.expr.Expr.{Expr}
 use Rattle.frame_names.specs.declared.var.Var.{Var}
 use Rattle.frame_names.specs.declared.var.Var.TheVariants as vars
@@ -119,12 +122,20 @@ abbrev pub with_condition : Var → StateFacts → State
 with_condition (vars.Number e) known = assumed_by (conditions.Assert e) known
 with_condition v known = None
 
--- Behind an Assume its condition is not 0. Behind an Assert that is assumed with its fault. Calls of methods are not told
--- of.
-unfoldable pub behind_call : Option UnitCall → StateFacts → State
-behind_call (Some (calls.Assert message)) known = on_condition message left known
-behind_call (Some (calls.Assume message)) known = on_condition message with_condition known
-behind_call call known = Some known
+-- The arguments are put into the places of the parameters, all Requires are true, and the callee came back.
+abbrev pub called_back : CalleeInfo → State → State
+called_back callee state = after_call callee (required callee (put_args callee.args state))
+
+abbrev pub called : Option CalleeInfo → StateFacts → State
+called (Some callee) known = called_back callee (Some known)
+called None known = None
+
+-- Behind an Assume its condition is not 0. Behind an Assert that is assumed with its fault.
+unfoldable pub behind_call : MethodUnit → Option UnitCall → StateFacts → State
+behind_call unit (Some (calls.Assert message)) known = on_condition message left known
+behind_call unit (Some (calls.Assume message)) known = on_condition message with_condition known
+behind_call unit (Some (calls.Callee number)) known = called (slice_get unit.callees number) known
+behind_call unit call known = Some known
 
 -- A branch takes what it tests.
 unfoldable pub behind_test : Test → StateFacts → State
@@ -144,7 +155,7 @@ acted unit (ops.Const n) known = given (vars.Number (constant n)) known
 acted unit (ops.Text token) known = given vars.Text known
 acted unit ops.Dup known = duplicated known
 acted unit ops.Pop known = Some (popped known)
-acted unit (ops.Call number) known = behind_call (unit_call number) known
+acted unit (ops.Call number) known = behind_call unit (unit_call number) known
 acted unit ops.Return known = returned unit.result known
 acted unit (ops.Branch test target) known = behind_test test known
 acted unit (ops.Switch targets) known = Some (popped known)

@@ -1,24 +1,25 @@
 -- How states flow along the edges of a unit's graph: through the instructions of the block that an edge leaves.
-use Rattle.std.specs.Prelude.{◌≡◌, ℕ, List, [], ◌∷◌}
+use Rattle.std.specs.Prelude.{ℕ, List, [], ◌∷◌}
 use Rattle.cil_model.specs.declared.instruction.Instr.{Instr}
 use Rattle.cil_model.specs.declared.unit.Unit.{Unit as MethodUnit}
 use Rattle.merged_states.specs.Merging.{normal}
 use Rattle.state_facts.specs.StateFacts.{State}
 use Rattle.transfer_rules.specs.Forms.{FitsStack}
+use Rattle.transfer_rules.specs.Owed.{CanDo}
 use Rattle.transfer_rules.specs.Post as rules
-use Rattle.unit_flow.specs.Flow.{IsLawful, block_instrs, edge_at, kinds_at}
+use Rattle.unit_flow.specs.Flow.{block_instrs, edge_at, kinds_at}
 use Rattle.unit_flow.specs.declared.unit_flow.UnitFlow.{UnitFlow}
-
--- The unit calls no methods, of which the rules do not tell.
-pub record IsToldOf (code : UnitFlow) : Type 0 where
-  pub lawful : IsLawful code
-  pub alone : code.unit.callees ≡ []
 
 -- Behind all instructions but the last, and then along the way of this number on from the last.
 abbrev pub through : MethodUnit → ℕ → List Instr → State → State
 through unit number [] state = state
 through unit number (i ∷ []) state = rules.along unit i.op number state
 through unit number (i ∷ j ∷ is) state = through unit number (j ∷ is) (rules.post unit i.op state)
+
+-- Each rule on the way may be asked of the state there.
+abbrev pub AreReady : MethodUnit → List Instr → State → Type 0
+AreReady unit [] state = Unit {0}
+AreReady unit (i ∷ is) state = CanDo unit i.op state × AreReady unit is (rules.post unit i.op state)
 
 -- The state at the end of an edge, from the one at its begin: through the block that it leaves, in normal form.
 unfoldable pub along_edge : State → UnitFlow → ℕ → State

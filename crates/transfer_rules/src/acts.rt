@@ -5,8 +5,9 @@ ghost use Rattle.std.specs.Option.{ForSome, option_and_then};
 ghost use Rattle.cil_model.specs.Limits.{MAX_VARIABLES};
 ghost use Rattle.transfer_rules.specs.Acts as rule;
 ghost use Rattle.transfer_rules.specs.Operands.{on_condition};
-ghost use Rattle.transfer_rules.specs.Owed.{IsReady};
+ghost use Rattle.transfer_rules.specs.Owed.{CanCallBy, CanDo, IsReady};
 
+use crate::calls::pass_callee;
 use crate::arrays::{load_item, make_array, push_length, store_item};
 use crate::moves::{duplicate, load, put_result, store};
 use crate::operands::{refuse, take_condition};
@@ -16,6 +17,7 @@ use cil_model::{Op, Place, Test, Unit, UnitCall, unit_call};
 use domain_api::NoMemory;
 use number_spans::constant;
 use state_obligations::Condition;
+use std::alloc::Global;
 
 /// Where an argument stands among the variables.
 fn arg_place(unit: &Unit, n: u16) -> u32
@@ -70,23 +72,36 @@ fn pass_assert(state: &mut AbsState, message: bool) -> Result<(), NoMemory>
 
 /// Takes what a call takes that names this.
 #[tactic(auto, using(crate::proofs::Passing::passing))]
-fn pass_named(state: &mut AbsState, call: UnitCall) -> Result<(), NoMemory>
-    ensures { OnOk result (state.new ≡ option_and_then (rule.behind_call (Some call)) state.old) }
+fn pass_named(
+    alloc: Global,
+    state: &mut AbsState,
+    unit: &Unit,
+    call: UnitCall,
+) -> Result<(), NoMemory>
+    requires ready { CanCallBy unit.now (Some call) state.old }
+    ensures { OnOk result (state.new ≡ option_and_then (rule.behind_call unit.now (Some call)) state.old) }
 {
     match call {
         UnitCall::Assert(message) => pass_assert(state, message),
         UnitCall::Assume(message) => pass_assume(state, message),
+        UnitCall::Callee(number) => pass_callee(alloc, state, unit, number),
         _ => Ok(()),
     }
 }
 
-/// Takes what a call of a contract takes.
+/// Takes what a call takes, and gives what it gives.
 #[tactic(auto, using(crate::proofs::Passing::passing))]
-fn pass_call(state: &mut AbsState, call: Option<UnitCall>) -> Result<(), NoMemory>
-    ensures { OnOk result (state.new ≡ option_and_then (rule.behind_call call) state.old) }
+fn pass_call(
+    alloc: Global,
+    state: &mut AbsState,
+    unit: &Unit,
+    call: Option<UnitCall>,
+) -> Result<(), NoMemory>
+    requires ready { CanCallBy unit.now call state.old }
+    ensures { OnOk result (state.new ≡ option_and_then (rule.behind_call unit.now call) state.old) }
 {
     match call {
-        Some(call) => pass_named(state, call),
+        Some(call) => pass_named(alloc, state, unit, call),
         None => Ok(()),
     }
 }
@@ -107,11 +122,17 @@ fn pass_test(state: &mut AbsState, test: Test) -> Result<(), NoMemory>
     }
 }
 
-/// Does to a state what an operation of the unit does to a point, where it ends in no fault. Calls of methods leave it.
+/// Does to a state what an operation of the unit does to a point, where it ends in no fault.
 #[tactic(auto, using(crate::proofs::Doing::doing))]
-pub(crate) fn act(state: &mut AbsState, unit: &Unit, op: &Op) -> Result<(), NoMemory>
+pub(crate) fn act(
+    alloc: Global,
+    state: &mut AbsState,
+    unit: &Unit,
+    op: &Op,
+) -> Result<(), NoMemory>
     requires few { length unit.now.args + length unit.now.locals + unit.now.max_stack ≤ MAX_VARIABLES }
     requires ready { ForSome state.old (IsReady op.now) }
+    requires calls { CanDo unit.now op.now state.old }
     ensures { OnOk result (state.new ≡ rule.act unit.now op.now state.old) }
 {
     match op {
@@ -133,7 +154,7 @@ pub(crate) fn act(state: &mut AbsState, unit: &Unit, op: &Op) -> Result<(), NoMe
         Op::Text(_) => state.push(Var::Text),
         Op::Dup => duplicate(state),
         Op::Pop | Op::Switch(_) => state.pop(),
-        Op::Call(number) => pass_call(state, unit_call(*number)),
+        Op::Call(number) => pass_call(alloc, state, unit, unit_call(*number)),
         Op::Return => put_result(state, unit.result),
         Op::Branch(test, _) => pass_test(state, *test),
         Op::Bin(operator) => operate(state, *operator),

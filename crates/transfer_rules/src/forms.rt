@@ -5,8 +5,9 @@ ghost use Rattle.std.specs.Option.{ForSome};
 ghost use Rattle.cil_model.specs.Limits.{MAX_VARIABLES};
 ghost use Rattle.state_facts.specs.StateFacts.{variables_in};
 ghost use Rattle.transfer_rules.specs.FitTests as test;
-ghost use Rattle.transfer_rules.specs.Flow.{Fits, IsToldOf};
+ghost use Rattle.transfer_rules.specs.Flow.{Fits};
 ghost use Rattle.transfer_rules.specs.Forms as rule;
+ghost use Rattle.unit_flow.specs.Flow.{IsLawful};
 
 use abs_state::{AbsState, Var};
 use cil_model::{Kind, Place, Unit};
@@ -111,7 +112,7 @@ fn fit_stack(state: &AbsState, unit: &Unit, kinds: &[Kind]) -> bool
 
 /// Returns whether the state fits the start of a block.
 pub(crate) fn fits(code: &UnitFlow, block: u32, state: &AbsState) -> bool
-    requires lawful { IsToldOf code.now }
+    requires lawful { IsLawful code.now }
     requires block { block < length code.now.graph.blocks }
     ensures { IsTrue result ↔ Fits code.now block state.now }
 {

@@ -1,8 +1,8 @@
 //! Whether states, one for each block, are an invariant.
 
 ghost use Rattle.std.specs.Prelude.{◌≡◌, ◌<◌, ◌↔◌, length, IfOk, IsTrue};
-ghost use Rattle.transfer_rules.specs.Flow.{IsToldOf};
 ghost use Rattle.transfer_rules.specs.Inductive.{AllCarried, AllFit, HasShape, HoldsInRuns, HoldsWhereItComes, IsBegun, IsCarried, IsInductive};
+ghost use Rattle.unit_flow.specs.Flow.{IsLawful};
 
 use crate::entry::entry_state;
 use crate::forms::fits;
@@ -15,7 +15,7 @@ use unit_flow::UnitFlow;
 /// Returns whether each state fits the block of its place.
 #[tactic(auto, using(crate::proofs::Inducing::few_blocks))]
 fn all_fit(code: &UnitFlow, states: &[AbsState]) -> bool
-    requires lawful { IsToldOf code.now }
+    requires lawful { IsLawful code.now }
     requires count { length states.now ≡ length code.now.graph.blocks }
     ensures { IsTrue result ↔ AllFit code.now states.now }
 {
@@ -31,7 +31,7 @@ fn all_fit(code: &UnitFlow, states: &[AbsState]) -> bool
 /// for each argument at the entry, argument, local and value on the stack there, of a form that fits its kind. Where
 /// typing does not come, nothing is reached. Takes no memory.
 pub fn has_shape(code: &UnitFlow, states: &[AbsState]) -> bool
-    requires lawful { IsToldOf code.now }
+    requires lawful { IsLawful code.now }
     ensures exact { IsTrue result ↔ HasShape code.now states.now }
 {
     states.len() == code.graph.blocks.as_slice().len() && all_fit(code, states)
@@ -44,7 +44,7 @@ fn is_carried(
     states: &[AbsState],
     edge: usize,
 ) -> Result<bool, NoMemory>
-    requires lawful { IsToldOf code.now }
+    requires lawful { IsLawful code.now }
     requires shape { HasShape code.now states.now }
     requires edge { edge < length code.now.graph.edges }
     ensures { IfOk result (λ yes. IsTrue yes ↔ IsCarried code.now states.now edge) }
@@ -56,7 +56,7 @@ fn is_carried(
 
 /// Returns whether that is so of each edge.
 fn all_carried(alloc: Global, code: &UnitFlow, states: &[AbsState]) -> Result<bool, NoMemory>
-    requires lawful { IsToldOf code.now }
+    requires lawful { IsLawful code.now }
     requires shape { HasShape code.now states.now }
     ensures { IfOk result (λ yes. IsTrue yes ↔ AllCarried code.now states.now) }
 {
@@ -70,7 +70,7 @@ fn all_carried(alloc: Global, code: &UnitFlow, states: &[AbsState]) -> Result<bo
 
 /// Returns whether the state where the unit begins is included in that of the first block.
 fn is_begun(alloc: Global, code: &UnitFlow, states: &[AbsState]) -> Result<bool, NoMemory>
-    requires lawful { IsToldOf code.now }
+    requires lawful { IsLawful code.now }
     requires shape { HasShape code.now states.now }
     ensures { IfOk result (λ yes. IsTrue yes ↔ IsBegun code.now states.now) }
 {
@@ -81,7 +81,7 @@ fn is_begun(alloc: Global, code: &UnitFlow, states: &[AbsState]) -> Result<bool,
 
 /// Returns whether the states are an invariant of the unit.
 fn is_inductive(alloc: Global, code: &UnitFlow, states: &[AbsState]) -> Result<bool, NoMemory>
-    requires lawful { IsToldOf code.now }
+    requires lawful { IsLawful code.now }
     ensures exact { IfOk result (λ yes. IsTrue yes ↔ IsInductive code.now states.now) }
 {
     if !has_shape(code, states) {
@@ -98,7 +98,7 @@ fn is_inductive(alloc: Global, code: &UnitFlow, states: &[AbsState]) -> Result<b
 ///
 /// Cost: one walk through the source of each edge, up to the first edge that shows that they are none.
 pub fn inductive(alloc: Global, code: &UnitFlow, states: &[AbsState]) -> Result<bool, NoMemory>
-    requires lawful { IsToldOf code.now }
+    requires lawful { IsLawful code.now }
     ensures exact { IfOk result (λ yes. IsTrue yes ↔ IsInductive code.now states.now) }
     // The state of each block then holds of each point that comes there along edges.
     ensures sound { IfOk result (λ yes. IsTrue yes → HoldsWhereItComes code.now states.now) }

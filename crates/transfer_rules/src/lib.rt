@@ -5,6 +5,7 @@
 
 mod acts;
 mod arrays;
+mod calls;
 mod choices;
 mod entry;
 mod forms;

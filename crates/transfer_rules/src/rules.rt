@@ -4,6 +4,7 @@ ghost use Rattle.std.specs.Prelude.{◌≡◌, ◌+◌, ◌≤◌, length, OnOk}
 ghost use Rattle.std.specs.Option.{ForSome};
 ghost use Rattle.cil_model.specs.Limits.{MAX_VARIABLES};
 ghost use Rattle.state_facts.specs.Forms.{HasForm};
+ghost use Rattle.transfer_rules.specs.Owed.{CanDo};
 ghost use Rattle.transfer_rules.specs.Post as rule;
 ghost use Rattle.transfer_rules.specs.Steps.{HoldsAlong, HoldsBehind};
 ghost use Rattle.unit_flow.specs.Ways.{IsShortSwitch};
@@ -14,11 +15,18 @@ use abs_state::AbsState;
 use cil_model::{Op, Unit};
 use domain_api::NoMemory;
 use obligation_prover::avoid_all;
+use std::alloc::Global;
 
 /// Makes a state that of after an instruction.
 #[tactic(auto, unfolding(crate::specs::Post::post), using(crate::proofs::GoingOn::going_on))]
-fn go_on(state: &mut AbsState, unit: &Unit, op: &Op) -> Result<(), NoMemory>
+fn go_on(
+    alloc: Global,
+    state: &mut AbsState,
+    unit: &Unit,
+    op: &Op,
+) -> Result<(), NoMemory>
     requires few { length unit.now.args + length unit.now.locals + unit.now.max_stack ≤ MAX_VARIABLES }
+    requires calls { CanDo unit.now op.now state.old }
     ensures value { OnOk result (state.new ≡ rule.post unit.now op.now state.old) }
     ensures form { ForSome state.old HasForm }
 {
@@ -26,27 +34,43 @@ fn go_on(state: &mut AbsState, unit: &Unit, op: &Op) -> Result<(), NoMemory>
         return Ok(());
     }
     avoid_all(state, unit, op)?;
-    act(state, unit, op)
+    act(alloc, state, unit, op)
 }
 
 /// Makes a state that of after an instruction: none of its faults came, and its operation did what it does. Of a branch
-/// nothing is assumed, and calls of methods leave the state.
+/// nothing is assumed. Behind a call of a method its Requires are true, and what came back is known by its Ensures.
+///
+/// The caller owes that the arguments of a call lie on top of the stack and are of their kinds (`CanDo`), as they are where
+/// the state fits the kinds there.
 ///
 /// Cost: that of the operation's conditions and of its rule. After want of memory the state is to be given up.
 #[tactic(auto, using(crate::proofs::GoingOn::holding))]
-pub fn post(state: &mut AbsState, unit: &Unit, op: &Op) -> Result<(), NoMemory>
+pub fn post(
+    alloc: Global,
+    state: &mut AbsState,
+    unit: &Unit,
+    op: &Op,
+) -> Result<(), NoMemory>
     requires few { length unit.now.args + length unit.now.locals + unit.now.max_stack ≤ MAX_VARIABLES }
+    requires calls { CanDo unit.now op.now state.old }
     ensures value { OnOk result (state.new ≡ rule.post unit.now op.now state.old) }
     // It holds of each point to which the instruction leads from one of which the state held.
     ensures sound { OnOk result (HoldsBehind unit.now op.now state.old state.new) }
 {
-    go_on(state, unit, op)
+    go_on(alloc, state, unit, op)
 }
 
 /// Makes a state that along the way of this number on from an instruction.
 #[tactic(auto, unfolding(crate::specs::Post::along), using(crate::proofs::GoingOn::going_on))]
-fn go_along(state: &mut AbsState, unit: &Unit, op: &Op, way: u32) -> Result<(), NoMemory>
+fn go_along(
+    alloc: Global,
+    state: &mut AbsState,
+    unit: &Unit,
+    op: &Op,
+    way: u32,
+) -> Result<(), NoMemory>
     requires few { length unit.now.args + length unit.now.locals + unit.now.max_stack ≤ MAX_VARIABLES }
+    requires calls { CanDo unit.now op.now state.old }
     requires short { IsShortSwitch op.now }
     ensures value { OnOk result (state.new ≡ rule.along unit.now op.now way state.old) }
     ensures form { ForSome state.old HasForm }
@@ -56,21 +80,30 @@ fn go_along(state: &mut AbsState, unit: &Unit, op: &Op, way: u32) -> Result<(), 
     }
     avoid_all(state, unit, op)?;
     choose(state, op, way)?;
-    act(state, unit, op)
+    act(alloc, state, unit, op)
 }
 
 /// Makes a state that along the way of this number on from an instruction. The way of a branch to its target has the
 /// number 0 and the one after it the number 1, and the ways of a switch are numbered as its targets, before the one
 /// after it. Each other instruction has one way.
 ///
+/// The caller owes as for `post`.
+///
 /// Cost: as of `post`, and that of a comparison. After want of memory the state is to be given up.
 #[tactic(auto, using(crate::proofs::GoingOn::holding))]
-pub fn along(state: &mut AbsState, unit: &Unit, op: &Op, way: u32) -> Result<(), NoMemory>
+pub fn along(
+    alloc: Global,
+    state: &mut AbsState,
+    unit: &Unit,
+    op: &Op,
+    way: u32,
+) -> Result<(), NoMemory>
     requires few { length unit.now.args + length unit.now.locals + unit.now.max_stack ≤ MAX_VARIABLES }
+    requires calls { CanDo unit.now op.now state.old }
     requires short { IsShortSwitch op.now }
     ensures value { OnOk result (state.new ≡ rule.along unit.now op.now way state.old) }
     // It holds of each point to which the instruction leads on this way from one of which the state held.
     ensures sound { OnOk result (HoldsAlong unit.now op.now way state.old state.new) }
 {
-    go_along(state, unit, op, way)
+    go_along(alloc, state, unit, op, way)
 }

@@ -7,12 +7,12 @@ ghost use Rattle.merged_states.specs.Merging as states;
 ghost use Rattle.merged_states.specs.Laws.StatesHold as laws;
 ghost use Rattle.state_facts.specs.Holds.{HoldsAt};
 ghost use Rattle.transfer_rules.specs.Entry.{entry};
-ghost use Rattle.transfer_rules.specs.Flow.{Fits, IsToldOf, along_edge};
+ghost use Rattle.transfer_rules.specs.Flow.{Fits, along_edge};
 ghost use Rattle.transfer_rules.specs.Laws.FlowLaws as flow;
 ghost use Rattle.transfer_rules.specs.Laws.FormsMerged as merged;
 ghost use Rattle.transfer_rules.specs.Laws.UnknownLaws as unknowns;
 ghost use Rattle.transfer_rules.specs.Unknown.{unknown};
-ghost use Rattle.unit_flow.specs.Flow.{Begins, GoesAlong, edge_at, kinds_at};
+ghost use Rattle.unit_flow.specs.Flow.{Begins, GoesAlong, IsLawful, edge_at, kinds_at};
 
 use crate::entry::entry_state;
 use crate::unknown_states::unknown;
@@ -74,7 +74,7 @@ impl FlowState for UnitState {
 
     type Gauge = Ticks;
 
-    ghost lawful = { IsToldOf };
+    ghost lawful = { IsLawful };
 
     ghost block_count = { λ code. length code.graph.blocks };
 

@@ -1,8 +1,9 @@
 //! States that know nothing.
 
 ghost use Rattle.std.specs.Prelude.{◌≡◌, ◌<◌, length, reverse, Some, IfOk, OnOk};
-ghost use Rattle.transfer_rules.specs.Flow.{Fits, IsToldOf};
+ghost use Rattle.transfer_rules.specs.Flow.{Fits};
 ghost use Rattle.transfer_rules.specs.Unknown as rule;
+ghost use Rattle.unit_flow.specs.Flow.{IsLawful};
 
 use crate::entry::{no_variables, push_unknown};
 use abs_state::{AbsState, Var};
@@ -58,7 +59,7 @@ fn unknown_over(alloc: Global, unit: &Unit, kinds: &[Kind]) -> Result<AbsState, 
 /// The state at the start of a block that knows nothing but the types of the variables, each apart from the others. It is
 /// in no normal form: symbols are numbered as they are made. Where typing does not come, nothing is reached.
 pub fn unknown(alloc: Global, code: &UnitFlow, block: u32) -> Result<AbsState, NoMemory>
-    requires lawful { IsToldOf code.now }
+    requires lawful { IsLawful code.now }
     requires block { block < length code.now.graph.blocks }
     ensures value { IfOk result (λ state. state ≡ rule.unknown code.now block) }
     ensures fits { IfOk result (Fits code.now block) }

@@ -4,7 +4,8 @@ ghost use Rattle.std.specs.Prelude.{◌≡◌, ◌+◌, ◌<◌, ◌≤◌, leng
 ghost use Rattle.std.specs.List.{AllByRecursion};
 ghost use Rattle.cil_model.specs.Limits.{MAX_VARIABLES};
 ghost use Rattle.transfer_rules.specs.Flow as rule;
-ghost use Rattle.transfer_rules.specs.Flow.{IsToldOf};
+ghost use Rattle.transfer_rules.specs.Flow.{AreReady, Fits};
+ghost use Rattle.unit_flow.specs.Flow.{IsLawful, edge_at};
 ghost use Rattle.unit_flow.specs.Ways.{IsShortSwitch};
 
 use crate::rules::{along, post};
@@ -15,8 +16,15 @@ use std::alloc::Global;
 use unit_flow::UnitFlow;
 
 /// Takes the state through these instructions of a block, and along the way of this number on from the last.
-fn walk(state: &mut AbsState, unit: &Unit, instrs: &[Instr], number: u32) -> Result<(), NoMemory>
+fn walk(
+    alloc: Global,
+    state: &mut AbsState,
+    unit: &Unit,
+    instrs: &[Instr],
+    number: u32,
+) -> Result<(), NoMemory>
     requires few { length unit.now.args + length unit.now.locals + unit.now.max_stack ≤ MAX_VARIABLES }
+    requires ready { AreReady unit.now instrs.now state.old }
     requires short { AllByRecursion (λ i. IsShortSwitch i.op) instrs.now }
     ensures { OnOk result (state.new ≡ rule.through unit.now number instrs.now state.old) }
 {
@@ -24,9 +32,9 @@ fn walk(state: &mut AbsState, unit: &Unit, instrs: &[Instr], number: u32) -> Res
         return Ok(());
     };
     for instr in others {
-        post(state, unit, &instr.op)?;
+        post(alloc, state, unit, &instr.op)?;
     }
-    along(state, unit, &last.op, number)
+    along(alloc, state, unit, &last.op, number)
 }
 
 /// The state at the end of an edge, from the one at its begin, in normal form.
@@ -38,12 +46,19 @@ pub(crate) fn along_edge(
     code: &UnitFlow,
     edge: usize,
 ) -> Result<AbsState, NoMemory>
-    requires lawful { IsToldOf code.now }
+    requires lawful { IsLawful code.now }
     requires there { edge < length code.now.graph.edges }
+    requires fits { Fits code.now (edge_at code.now edge).from state.now }
     ensures { IfOk result (λ behind. behind ≡ rule.along_edge state.now code.now edge) }
 {
     let edge = code.graph.edges.as_slice()[edge];
     let mut behind = state.copy(alloc)?;
-    walk(&mut behind, &code.unit, code.block(edge.from), edge.number)?;
+    walk(
+        alloc,
+        &mut behind,
+        &code.unit,
+        code.block(edge.from),
+        edge.number,
+    )?;
     behind.norm(alloc)
 }

@@ -599,7 +599,7 @@ module _ (unit : MethodUnit) (known : StateFacts) (f : Frame) (form : HasForm kn
   condition_so true rule otherwise _ other so holds are has = elim has [ ]
 
   call_so : (call : Option UnitCall) → Over f.stack → AllByRecursion (IsValue heap) f.stack
-      → HasEffect (rows.contract_call call i f heap) (GoesOn g after) → Behind (behind_call call known)
+      → HasEffect (rows.contract_call call i f heap) (GoesOn g after) → Behind (behind_call unit call known)
   unfolding behind_call
   call_so (Some (calls.Assert message)) holds are has =
       condition_so message left (Faults faults.Assert) f.stack (λ same. absurd cc) left_holds holds are has

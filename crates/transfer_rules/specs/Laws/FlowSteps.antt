@@ -1,17 +1,24 @@
 -- A state that fits the start of a block fits wherever an edge from there goes, and holds where a point comes along it.
-use Rattle.std.proofs.Common.{◌≡◌, ◌≢◌, ℕ, ◌+◌, ◌<◌, true, List, [], ◌∷◌, length, slice_get, Option, Some, None, refl, subst}
+use Rattle.std.proofs.Common.{◌≡◌, ◌≢◌, ℕ, ◌+◌, ◌<◌, true, List, [], ◌∷◌, length, slice_get, Option, Some, None, refl, subst, arith}
+use Rattle.std.specs.List.{AllByRecursion}
 use Rattle.std.specs.Option.{ForSome, option_and_then}
 use Rattle.std.proofs.lemmas.Option.{none-some, same_Some}
 use Rattle.cil_model.specs.Bodies.{is_executed}
 use Rattle.cil_model.specs.FitKinds.{OperandFits}
 use Rattle.cil_model.specs.Kinds as kinds
 use Rattle.cil_model.specs.Passes.{stack_at, successors}
+use Rattle.cil_model.specs.Runs.{instr_at}
 use Rattle.cil_model.specs.Shapes.{shape_of}
+use Rattle.cil_model.specs.UnitCalls.{unit_call}
+use Rattle.cil_model.specs.WellFormed.{IsCallee}
 use Rattle.cil_model.specs.declared.instruction.Instr.{Instr}
 use Rattle.cil_model.specs.declared.instruction.Op.{Op}
 use Rattle.cil_model.specs.declared.instruction.Op.TheVariants as ops
 use Rattle.cil_model.specs.declared.place.Kind.{Kind}
+use Rattle.cil_model.specs.declared.unit.CalleeInfo.{CalleeInfo}
 use Rattle.cil_model.specs.declared.unit.Unit.{Unit as MethodUnit}
+use Rattle.cil_model.specs.declared.unit_numbers.UnitCall.{UnitCall}
+use Rattle.cil_model.specs.declared.unit_numbers.UnitCall.TheVariants as calls
 use Rattle.machine_points.specs.declared.point.Point.{Point}
 use Rattle.obligation_prover.specs.Avoiding.{avoid_all}
 use Rattle.state_facts.specs.Forms.{HasForm}
@@ -19,18 +26,21 @@ use Rattle.state_facts.specs.Holds.{HoldsAt}
 use Rattle.state_facts.specs.StateFacts.{StateFacts, State}
 use Rattle.transfer_rules.specs.Acts.{acted}
 use Rattle.transfer_rules.specs.Choices.{chosen}
-use Rattle.transfer_rules.specs.Flow.{Fits, IsToldOf, along_edge, through}
+use Rattle.transfer_rules.specs.Flow.{AreReady, Fits, along_edge, through}
 use Rattle.transfer_rules.specs.Forms.{FitsStack, HasKinds, kinds_over}
+use Rattle.transfer_rules.specs.Owed.{CanCallBy, CanCallIt, CanDo}
 use Rattle.transfer_rules.specs.Post.{along, post}
+use Rattle.transfer_rules.specs.Laws.CalledForms.{IsWithin, can_call_it, found_callee, no_call}
 use Rattle.transfer_rules.specs.Laws.Choosing.{chosen_stays}
 use Rattle.transfer_rules.specs.Laws.FormsBehind.{absorbed_fits, acted_fits, stays_fitting}
 use Rattle.transfer_rules.specs.Laws.FormsMerged.{normal_fits}
 use Rattle.transfer_rules.specs.Laws.PostLaws.{avoided_stays}
+use Rattle.transfer_rules.specs.Laws.StackSizes.{within_stack}
 use Rattle.transfer_rules.specs.Laws.StepsHold.{AreFormed, along_keeps}
 use Rattle.unit_flow.specs.Chains.{IsLeft, IsPassed, IsWay}
-use Rattle.unit_flow.specs.Flow.{GoesAlong, block_instrs, edge_at, kinds_at, start_of}
+use Rattle.unit_flow.specs.Flow.{GoesAlong, IsLawful, block_instrs, edge_at, kinds_at, start_of}
 use Rattle.unit_flow.specs.declared.unit_flow.UnitFlow.{UnitFlow}
-use Rattle.unit_flow.proofs.KindsAlong.{left_along, operand, passed_along}
+use Rattle.unit_flow.proofs.KindsAlong.{left_along, operand, passed_along, typed_at}
 use Rattle.unit_flow.proofs.LawfulCode.{decoded, way}
 
 -- ---- one instruction
@@ -49,8 +59,8 @@ then_fits : (unit : MethodUnit) (stack : List Kind) (at : Option (List Kind)) (n
 then_fits unit stack at next None fits more = tt
 then_fits unit stack at next (Some known) has more = more known has
 
-module _ (unit : MethodUnit) (alone : unit.callees ≡ []) (op : Op) (stack after : List Kind) (operand : OperandFits op)
-    (executed : is_executed op ≡ true) (goes : op ≢ ops.Return)
+module _ (unit : MethodUnit) (op : Op) (stack after : List Kind) (within : IsWithin unit stack)
+    (operand : OperandFits op) (executed : is_executed op ≡ true) (goes : op ≢ ops.Return)
     (typed : kinds.behind (shape_of unit) op stack ≡ Some after) where
   avoided_fits : (state : State) → FitsStack unit (Some stack) state → FitsStack unit (Some stack) (avoid_all op state)
   avoided_fits None fits = tt
@@ -61,7 +71,7 @@ module _ (unit : MethodUnit) (alone : unit.callees ≡ []) (op : Op) (stack afte
   unfolding post
   post_kept state fits =
       then_fits unit stack (Some after) (acted unit op) (avoid_all op state) (avoided_fits state fits)
-      (λ known has. acted_fits unit op stack after known operand executed goes alone typed has)
+      (λ known has. acted_fits unit op stack after known operand executed goes within typed has)
 
   along_kept : (number : ℕ) (state : State) → FitsStack unit (Some stack) state
       → FitsStack unit (Some after) (along unit op number state)
@@ -71,7 +81,7 @@ module _ (unit : MethodUnit) (alone : unit.callees ≡ []) (op : Op) (stack afte
       (then_fits unit stack (Some stack) (chosen op number) (avoid_all op state) (avoided_fits state fits)
       (λ known has. stays_fitting unit stack known (chosen op number known) (chosen_stays op number known has.form)
       has))
-      (λ known has. acted_fits unit op stack after known operand executed goes alone typed has)
+      (λ known has. acted_fits unit op stack after known operand executed goes within typed has)
 
 -- Where nothing is reached before, nothing is after.
 none_behind : (unit : MethodUnit) (op : Op) → post unit op None ≡ None
@@ -82,6 +92,37 @@ none_along : (unit : MethodUnit) (op : Op) (number : ℕ) → along unit op numb
 unfolding along
 none_along unit op number = refl
 
+-- ---- calls
+
+named_ready : (unit : MethodUnit) (call : Option UnitCall) (stack after : List Kind) (state : State) → IsWithin unit stack
+    → kinds.behind_call (shape_of unit) call stack ≡ Some after → FitsStack unit (Some stack) state
+    → CanCallBy unit call state
+named_ready unit (Some (calls.Callee number)) stack after state within typed fits =
+    can_call_it unit (slice_get unit.callees number) stack after state
+    (λ info is. found_callee unit.callees number info within.callees is) within.few typed fits
+named_ready unit _ stack after state within typed fits = tt
+
+-- What a call takes is there, where the state fits.
+fits_ready : (unit : MethodUnit) (op : Op) (stack after : List Kind) (state : State) → IsWithin unit stack
+    → kinds.behind (shape_of unit) op stack ≡ Some after → FitsStack unit (Some stack) state → CanDo unit op state
+fits_ready unit (ops.Call number) stack after state within typed fits =
+    named_ready unit (unit_call number) stack after state within typed fits
+fits_ready unit _ stack after state within typed fits = tt
+
+-- Where nothing is reached.
+none_named : (unit : MethodUnit) (call : Option UnitCall) → AllByRecursion IsCallee unit.callees
+    → CanCallBy unit call None
+none_named unit (Some (calls.Callee number)) all = by (slice_get unit.callees number) refl
+  where
+    by : (o : Option CalleeInfo) → slice_get unit.callees number ≡ o → CanCallIt o None
+    by None is = tt
+    by (Some info) is = (found_callee unit.callees number info all is, no_call info)
+none_named unit _ all = tt
+
+none_ready : (unit : MethodUnit) (op : Op) → AllByRecursion IsCallee unit.callees → CanDo unit op None
+none_ready unit (ops.Call number) all = none_named unit (unit_call number) all
+none_ready unit _ all = tt
+
 -- A return has no way on.
 goes_on : (op : Op) (next n at : ℕ) → slice_get (successors op next) n ≡ Some at → op ≢ ops.Return
 goes_on op next n at is =
@@ -89,14 +130,22 @@ goes_on op next n at is =
 
 -- ---- a way through a block
 
-module _ (code : UnitFlow) (told : IsToldOf code) where
+module _ (code : UnitFlow) (lawful : IsLawful code) where
   abbrev unit : MethodUnit
   unit = code.unit
 
   abbrev before : ℕ → Option (List Kind)
   before at = stack_at code.unit.instrs code.kinds at
 
-  post_fits : (i : Instr) (at : ℕ) (state : State) → IsPassed unit at i → FitsStack unit (before at) state
+  within_at : (at : ℕ) (stack : List Kind) → before at ≡ Some stack → IsWithin unit stack
+  within_at at stack is = record {
+    callees = lawful.formed.callees;
+    few = omega (arith, lawful.formed.limits.variables,
+          within_stack (shape_of unit) unit.instrs code.kinds at stack lawful.kinds is);
+  }
+
+  -- A state that fits before an instruction fits before the next one.
+  pub post_fits : (i : Instr) (at : ℕ) (state : State) → IsPassed unit at i → FitsStack unit (before at) state
       → FitsStack unit (before (i.at + i.size)) (post unit i.op state)
   post_fits i at state passed fits = by (before at) refl state fits
     where
@@ -105,10 +154,10 @@ module _ (code : UnitFlow) (told : IsToldOf code) where
       by o is None fits = rw (none_behind unit i.op) tt
       by None is (Some known) fits = absurd fits
       by (Some stack) is (Some known) fits =
-          let typed = passed_along unit code.kinds (decoded code told.lawful) told.lawful.kinds i at stack passed is in
+          let typed = passed_along unit code.kinds (decoded code lawful) lawful.kinds i at stack passed is in
           absorbed_fits unit (before (i.at + i.size)) typed.after (post unit i.op (Some known)) typed.absorbed
-          (post_kept unit told.alone i.op stack typed.after
-          (operand unit code.kinds (decoded code told.lawful) told.lawful.kinds i passed.found) passed.executed
+          (post_kept unit i.op stack typed.after (within_at at stack is)
+          (operand unit code.kinds (decoded code lawful) lawful.kinds i passed.found) passed.executed
           (goes_on i.op (i.at + i.size) 0 (i.at + i.size) (rw passed.next refl)) typed.typed (Some known) fits)
 
   last_fits : (i : Instr) (at number target : ℕ) (state : State) → IsLeft unit at number target i
@@ -120,12 +169,33 @@ module _ (code : UnitFlow) (told : IsToldOf code) where
       by o is None fits = rw (none_along unit i.op number) tt
       by None is (Some known) fits = absurd fits
       by (Some stack) is (Some known) fits =
-          let typed = left_along unit code.kinds (decoded code told.lawful) told.lawful.kinds i at number target stack
-          left is in
+          let typed = left_along unit code.kinds (decoded code lawful) lawful.kinds i at number target stack left is in
           absorbed_fits unit (before target) typed.after (along unit i.op number (Some known)) typed.absorbed
-          (along_kept unit told.alone i.op stack typed.after
-          (operand unit code.kinds (decoded code told.lawful) told.lawful.kinds i left.found) left.executed
+          (along_kept unit i.op stack typed.after (within_at at stack is)
+          (operand unit code.kinds (decoded code lawful) lawful.kinds i left.found) left.executed
           (goes_on i.op (i.at + i.size) number target left.goes) typed.typed number (Some known) fits)
+
+  -- The rule of an instruction may be asked of a state that fits before it.
+  pub post_ready : (i : Instr) (at : ℕ) (state : State) → i.at ≡ at → instr_at unit.instrs i.at ≡ Some i
+      → FitsStack unit (before at) state → CanDo unit i.op state
+  post_ready i at state here found fits = by (before at) refl state fits
+    where
+      by : (o : Option (List Kind)) → before at ≡ o → (state : State) → FitsStack unit o state → CanDo unit i.op state
+      by o is None fits = none_ready unit i.op lawful.formed.callees
+      by None is (Some known) fits = absurd fits
+      by (Some stack) is (Some known) fits =
+          let typed = typed_at unit code.kinds (decoded code lawful) lawful.kinds i at stack here found is in
+          fits_ready unit i.op stack typed.after (Some known) (within_at at stack is) typed.typed fits
+
+  pub through_ready : (is : List Instr) (at number target : ℕ) (state : State) → IsWay unit at number target is
+      → FitsStack unit (before at) state → AreReady unit is state
+  through_ready [] at number target state way fits = absurd way
+  through_ready (i ∷ []) at number target state left fits = (post_ready i at state left.here left.found fits, tt)
+  through_ready (i ∷ j ∷ is) at number target state way fits = (
+    post_ready i at state way.0.here way.0.found fits,
+    through_ready (j ∷ is) (i.at + i.size) number target (post unit i.op state) way.1
+        (post_fits i at state way.0 fits),
+  )
 
   pub through_fits : (is : List Instr) (at number target : ℕ) (state : State) → IsWay unit at number target is
       → FitsStack unit (before at) state → FitsStack unit (before target) (through unit number is state)
@@ -151,29 +221,38 @@ module _ (code : UnitFlow) (told : IsToldOf code) where
 -- ---- edges
 
 -- What a state at the start of an edge leaves at its end, before it is named anew.
-pub block_fits : (code : UnitFlow) (edge : ℕ) (state : State) → IsToldOf code → edge < length code.graph.edges
+pub block_fits : (code : UnitFlow) (edge : ℕ) (state : State) → IsLawful code → edge < length code.graph.edges
     → Fits code (edge_at code edge).from state → Fits code (edge_at code edge).to
     (through code.unit (edge_at code edge).number (block_instrs code (edge_at code edge).from) state)
-block_fits code edge state told below fits =
-    through_fits code told (block_instrs code (edge_at code edge).from) (start_of code (edge_at code edge).from)
+block_fits code edge state lawful below fits =
+    through_fits code lawful (block_instrs code (edge_at code edge).from) (start_of code (edge_at code edge).from)
     (edge_at code edge).number (start_of code (edge_at code edge).to) state
-    (way code told.lawful edge below) fits
+    (way code lawful edge below) fits
+
+-- The rules of the block that an edge leaves may be asked.
+pub block_ready : (code : UnitFlow) (edge : ℕ) (state : State) → IsLawful code → edge < length code.graph.edges
+    → Fits code (edge_at code edge).from state → AreReady code.unit (block_instrs code (edge_at code edge).from) state
+block_ready code edge state lawful below fits =
+    through_ready code lawful (block_instrs code (edge_at code edge).from) (start_of code (edge_at code edge).from)
+    (edge_at code edge).number (start_of code (edge_at code edge).to) state
+    (way code lawful edge below) fits
 
 -- A state that fits the start of an edge's source fits, carried along, the start of its target.
-pub along_fits : (code : UnitFlow) (edge : ℕ) (state : State) → IsToldOf code → edge < length code.graph.edges
+pub along_fits : (code : UnitFlow) (edge : ℕ) (state : State) → IsLawful code → edge < length code.graph.edges
     → Fits code (edge_at code edge).from state → Fits code (edge_at code edge).to (along_edge state code edge)
 unfolding along_edge
-along_fits code edge state told below fits =
+along_fits code edge state lawful below fits =
     normal_fits code.unit (kinds_at code (edge_at code edge).to)
     (through code.unit (edge_at code edge).number (block_instrs code (edge_at code edge).from) state)
-    (block_fits code edge state told below fits)
+    (block_fits code edge state lawful below fits)
 
 -- What holds of a point holds, carried along, where the point comes along the edge.
-pub along_holds : (code : UnitFlow) (edge : ℕ) (state : State) (p q : Point) → IsToldOf code
+pub along_holds : (code : UnitFlow) (edge : ℕ) (state : State) (p q : Point) → IsLawful code
     → edge < length code.graph.edges → Fits code (edge_at code edge).from state → HoldsAt state p
     → GoesAlong code edge p q → HoldsAt (along_edge state code edge) q
-along_holds code edge state p q told below fits holds goes =
-    along_keeps code told edge state p q
-    (through_formed code told (block_instrs code (edge_at code edge).from) (start_of code (edge_at code edge).from)
+along_holds code edge state p q lawful below fits holds goes =
+    along_keeps code lawful edge state p q
+    (through_formed code lawful (block_instrs code (edge_at code edge).from) (start_of code (edge_at code edge).from)
     (edge_at code edge).number (start_of code (edge_at code edge).to) state
-    (way code told.lawful edge below) fits) goes holds
+    (way code lawful edge below) fits)
+    (block_ready code edge state lawful below fits) goes holds

@@ -25,7 +25,6 @@ use Rattle.cil_model.specs.declared.place.Kind.{Kind}
 use Rattle.cil_model.specs.declared.place.Kind.TheVariants.{Bools, Int, Ints, Native, NullRef, Text}
 use Rattle.cil_model.specs.declared.place.Place.{Place}
 use Rattle.cil_model.specs.declared.place.Place.TheVariants as places
-use Rattle.cil_model.specs.declared.unit.CalleeInfo.{CalleeInfo}
 use Rattle.cil_model.specs.declared.unit.Unit.{Unit as MethodUnit}
 use Rattle.cil_model.specs.declared.unit_numbers.UnitCall.{UnitCall}
 use Rattle.cil_model.specs.declared.unit_numbers.UnitCall.TheVariants as calls
@@ -49,6 +48,7 @@ use Rattle.state_obligations.specs.Assumed.{assumed_by}
 use Rattle.state_obligations.specs.declared.condition.Condition.TheVariants as conditions
 use Rattle.transfer_rules.specs.Acts.{acted, arg_place, behind_call, behind_test, calculated, complemented, duplicated, given, left, loaded, local_place, negated, operated, put_into, stored, taken_from, type_of, with_condition, with_item_of, with_item_put, with_length, with_new}
 use Rattle.transfer_rules.specs.Forms.{FitKinds, FitsKind, FitsStack, HasKinds, kind_in, kinds_over}
+use Rattle.transfer_rules.specs.Laws.CalledForms.{IsWithin, called_fits, found_callee}
 use Rattle.transfer_rules.specs.Laws.Fitting.{AreKinds, over_stack, IsOperand, fit_at, fit_last, fit_pushed, has_stayed, one_taken, operand_before, over_more, over_popped, over_pushed, there_at, three_taken, two_taken}
 use Rattle.transfer_rules.specs.Operands.{Rule, on_condition, on_one, on_three, on_two, with_one}
 use Rattle.transfer_rules.specs.Laws.KindForms.{IsReferenceVar, alike_of, array_kind, merged_fits, number_fits, pushed_form, reference_fits, taken_fits, when_same}
@@ -416,19 +416,19 @@ module _ (unit : MethodUnit) where
   met_fits vars.Text stack x own has = elim own.fits [ ]
 
   call_fits : (call : Option UnitCall) (stack after : List Kind) (known : StateFacts) → is_executed_call call ≡ true
-      → unit.callees ≡ []
+      → IsWithin unit stack
       → kinds.behind_call (shape_of unit) call stack ≡ Some after → HasKinds (kinds_over unit stack) known
-      → FitsStack unit (Some after) (behind_call call known)
+      → FitsStack unit (Some after) (behind_call unit call known)
   unfolding behind_call
-  call_fits (Some (calls.Assert message)) stack after known executed alone typed has =
+  call_fits (Some (calls.Assert message)) stack after known executed within typed has =
       condition_fits message left stack after known typed has (λ v x own last. last)
-  call_fits (Some (calls.Assume message)) stack after known executed alone typed has =
+  call_fits (Some (calls.Assume message)) stack after known executed within typed has =
       condition_fits message with_condition stack after known typed has (λ v x own last. met_fits v after x own last)
-  call_fits (Some (calls.Callee number)) stack after known executed alone typed has =
-      absurd (none-some after
-      (sym (ap (λ (cs : List CalleeInfo). kinds.behind_callee (slice_get cs number) stack) alone) ∙ typed))
-  call_fits None stack after known executed alone typed has = absurd (none-some after typed)
-  call_fits _ stack after known executed alone typed has = absurd (false≢true executed)
+  call_fits (Some (calls.Callee number)) stack after known executed within typed has =
+      called_fits unit (slice_get unit.callees number) stack after known
+      (λ info is. found_callee unit.callees number info within.callees is) within.few typed has
+  call_fits None stack after known executed within typed has = absurd (none-some after typed)
+  call_fits _ stack after known executed within typed has = absurd (false≢true executed)
 
   popped_fits : (k : Kind) (stack after : List Kind) (known : StateFacts) → stack ≡ after
       → HasKinds (kinds_over unit (k ∷ stack)) known
@@ -528,58 +528,58 @@ module _ (unit : MethodUnit) where
     near = record { least = omega (arith, ints, fits); greatest = omega (arith, ints, fits) };
   }
 
-  -- A return goes on nowhere, and calls of methods are not told of.
+  -- A return goes on nowhere.
   pub acted_fits : (op : Op) (stack after : List Kind) (known : StateFacts) → OperandFits op → is_executed op ≡ true
       → op ≢ ops.Return
-      → unit.callees ≡ [] → kinds.behind (shape_of unit) op stack ≡ Some after → HasKinds (kinds_over unit stack) known
+      → IsWithin unit stack → kinds.behind (shape_of unit) op stack ≡ Some after → HasKinds (kinds_over unit stack) known
       → FitsStack unit (Some after) (acted unit op known)
   unfolding acted operated negated complemented
-  acted_fits ops.Nop stack after known fits executed goes alone typed has =
+  acted_fits ops.Nop stack after known fits executed goes within typed has =
       subst (λ s. HasKinds (kinds_over unit s) known) (same_Some stack after typed) has
-  acted_fits (ops.LoadArg n) stack after known fits executed goes alone typed has =
+  acted_fits (ops.LoadArg n) stack after known fits executed goes within typed has =
       load_fits unit.args n (arg_place unit n) stack after known typed (λ place is. arg_kind unit stack n place is) has
-  acted_fits (ops.StoreArg n) stack after known fits executed goes alone typed has =
+  acted_fits (ops.StoreArg n) stack after known fits executed goes within typed has =
       store_fits unit.args n (arg_place unit n) stack after known typed
       (λ place rest is. arg_kind unit rest n place is) has
-  acted_fits (ops.LoadLocal n) stack after known fits executed goes alone typed has =
+  acted_fits (ops.LoadLocal n) stack after known fits executed goes within typed has =
       load_fits unit.locals n (local_place unit n) stack after known typed
       (λ place is. local_kind unit stack n place is) has
-  acted_fits (ops.StoreLocal n) stack after known fits executed goes alone typed has =
+  acted_fits (ops.StoreLocal n) stack after known fits executed goes within typed has =
       store_fits unit.locals n (local_place unit n) stack after known typed
       (λ place rest is. local_kind unit rest n place is) has
-  acted_fits ops.Null stack after known fits executed goes alone typed has =
+  acted_fits ops.Null stack after known fits executed goes within typed has =
       subst (λ s. HasKinds (kinds_over unit s) (pushed known (vars.Reference 0)))
       (same_Some (NullRef ∷ stack) after typed)
       (over_pushed unit NullRef stack (vars.Reference 0) known has (record { there = omega arith; fits = refl }))
-  acted_fits (ops.Const n) stack after known fits executed goes alone typed has =
+  acted_fits (ops.Const n) stack after known fits executed goes within typed has =
       subst (λ s. HasKinds (kinds_over unit s) (pushed known (vars.Number (constant n))))
       (same_Some (Int ∷ stack) after typed)
       (over_pushed unit Int stack (vars.Number (constant n)) known has
       (record { there = constant_fits n (length known.facts.ranges) fits; fits = tt }))
-  acted_fits (ops.Text token) stack after known fits executed goes alone typed has =
+  acted_fits (ops.Text token) stack after known fits executed goes within typed has =
       subst (λ s. HasKinds (kinds_over unit s) (pushed known vars.Text)) (same_Some (Text ∷ stack) after typed)
       (over_pushed unit Text stack vars.Text known has (record { there = tt; fits = tt }))
-  acted_fits ops.Dup stack after known fits executed goes alone typed has = dup_fits stack after known typed has
-  acted_fits ops.Pop stack after known fits executed goes alone typed has = pop_fits stack after known typed has
-  acted_fits (ops.Call number) stack after known fits executed goes alone typed has =
-      call_fits (unit_call number) stack after known executed alone typed has
-  acted_fits ops.Return stack after known fits executed goes alone typed has = absurd (goes refl)
-  acted_fits (ops.Branch test target) stack after known fits executed goes alone typed has =
+  acted_fits ops.Dup stack after known fits executed goes within typed has = dup_fits stack after known typed has
+  acted_fits ops.Pop stack after known fits executed goes within typed has = pop_fits stack after known typed has
+  acted_fits (ops.Call number) stack after known fits executed goes within typed has =
+      call_fits (unit_call number) stack after known executed within typed has
+  acted_fits ops.Return stack after known fits executed goes within typed has = absurd (goes refl)
+  acted_fits (ops.Branch test target) stack after known fits executed goes within typed has =
       test_fits test stack after known typed has
-  acted_fits (ops.Switch targets) stack after known fits executed goes alone typed has =
+  acted_fits (ops.Switch targets) stack after known fits executed goes within typed has =
       switch_fits stack after known typed has
-  acted_fits (ops.Bin op) stack after known fits executed goes alone typed has =
+  acted_fits (ops.Bin op) stack after known fits executed goes within typed has =
       operated_fits op (comparison_of op) stack after known refl typed has
-  acted_fits ops.Neg stack after known fits executed goes alone typed has =
+  acted_fits ops.Neg stack after known fits executed goes within typed has =
       taken_number (pos 0) stack after known (λ m. constant_zero m) typed has
-  acted_fits ops.Not stack after known fits executed goes alone typed has =
+  acted_fits ops.Not stack after known fits executed goes within typed has =
       taken_number (negsuc 0) stack after known (λ m. constant_minus m) typed has
-  acted_fits ops.ConvI4 stack after known fits executed goes alone typed has =
+  acted_fits ops.ConvI4 stack after known fits executed goes within typed has =
       converted_fits stack after known typed has
-  acted_fits (ops.NewArray number) stack after known fits executed goes alone typed has =
+  acted_fits (ops.NewArray number) stack after known fits executed goes within typed has =
       created_fits (array_place number) stack after known (arrays_are number) typed has
-  acted_fits ops.Length stack after known fits executed goes alone typed has = length_fits stack after known typed has
-  acted_fits (ops.LoadElem place) stack after known fits executed goes alone typed has =
+  acted_fits ops.Length stack after known fits executed goes within typed has = length_fits stack after known typed has
+  acted_fits (ops.LoadElem place) stack after known fits executed goes within typed has =
       read_fits place stack after known typed has
-  acted_fits (ops.StoreElem place) stack after known fits executed goes alone typed has =
+  acted_fits (ops.StoreElem place) stack after known fits executed goes within typed has =
       written_fits place stack after known typed has

@@ -19,12 +19,12 @@ use Rattle.state_facts.specs.StateFacts.{StateFacts, State}
 use Rattle.state_facts.specs.UnknownValues as rule
 use Rattle.state_facts.specs.UnknownValues.{push_unknown, push_within, with_within}
 use Rattle.transfer_rules.specs.Entry.{no_variables, with_unknown}
-use Rattle.transfer_rules.specs.Flow.{Fits, IsToldOf}
+use Rattle.transfer_rules.specs.Flow.{Fits}
 use Rattle.transfer_rules.specs.Forms.{FitsStack, HasKinds, kind_in}
 use Rattle.transfer_rules.specs.Laws.Fitting.{AreKinds, has_pushed, over_stack}
 use Rattle.transfer_rules.specs.Laws.FittingResults.{GivesNumber, array_more, made_number, number_more, some_number}
 use Rattle.transfer_rules.specs.Unknown.{lengths, push_of_kind, unknown, unknown_over, with_stack}
-use Rattle.unit_flow.specs.Flow.{kinds_at}
+use Rattle.unit_flow.specs.Flow.{IsLawful, kinds_at}
 use Rattle.unit_flow.specs.declared.unit_flow.UnitFlow.{UnitFlow}
 
 -- ---- one value
@@ -131,7 +131,7 @@ unknown_over_fits unit (Some stack) args locals =
     (stack_kept (reverse stack) (map kind_in unit.args ++ map kind_in unit.args ++ map kind_in unit.locals)
     (with_unknown unit.locals (with_unknown unit.args (with_unknown unit.args (Some no_variables)))) third)
 
-pub unknown_fits : (code : UnitFlow) (block : ℕ) → IsToldOf code → Fits code block (unknown code block)
+pub unknown_fits : (code : UnitFlow) (block : ℕ) → IsLawful code → Fits code block (unknown code block)
 unfolding unknown
-unknown_fits code block told =
-    unknown_over_fits code.unit (kinds_at code block) told.lawful.formed.args told.lawful.formed.locals
+unknown_fits code block lawful =
+    unknown_over_fits code.unit (kinds_at code block) lawful.formed.args lawful.formed.locals

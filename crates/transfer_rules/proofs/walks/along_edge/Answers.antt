@@ -4,6 +4,7 @@ use Rattle.merged_states.specs.Merging.{normal}
 use Rattle.state_facts.specs.StateFacts.{State}
 use Rattle.transfer_rules.specs.Flow.{along_edge}
 use Rattle.transfer_rules.specs.Laws.FlowLaws.{source_below}
+use Rattle.transfer_rules.specs.Laws.FlowSteps.{block_ready}
 use Rattle.transfer_rules.proofs.Walking.{block_short}
 use Rattle.transfer_rules.proofs.walks.along_edge.Goals as goal
 
@@ -12,10 +13,15 @@ block-requires-clause-there c =
     rw c.as_slice.ensures (source_below c.args.code.now c.args.edge c.requires.lawful c.requires.there)
 
 pub walk-requires-clause-few : goal.walk-requires-clause-few
-walk-requires-clause-few c = c.requires.lawful.lawful.formed.limits.variables
+walk-requires-clause-few c = c.requires.lawful.formed.limits.variables
 
 pub walk-requires-clause-short : goal.walk-requires-clause-short
-walk-requires-clause-short c = rw c.block.ensures (block_short c.args.code.now c.requires.lawful.lawful _)
+walk-requires-clause-short c = rw c.block.ensures (block_short c.args.code.now c.requires.lawful _)
+
+pub walk-requires-clause-ready : goal.walk-requires-clause-ready
+walk-requires-clause-ready c =
+    rw (c.block.ensures, c.in_ok-behind.ensures, c.as_slice.ensures)
+    (block_ready c.args.code.now c.args.edge c.args.state.now c.requires.lawful c.requires.there c.requires.fits)
 
 pub returns : goal.returns
 unfolding along_edge

@@ -1,0 +1,38 @@
+-- What a call of a method takes and gives.
+use Rattle.std.proofs.Common.{◌≡◌, Option, Some, None, refl, sym, ap, subst, ◌∙◌}
+use Rattle.std.specs.Option.{option_and_then}
+use Rattle.cil_model.specs.WellFormed.{IsCallee}
+use Rattle.cil_model.specs.declared.unit.CalleeInfo.{CalleeInfo}
+use Rattle.contract_calls.specs.Arguments.{put_args}
+use Rattle.contract_calls.specs.CallForms.{CanCall}
+use Rattle.contract_calls.proofs.AtCalls.{put_ready}
+use Rattle.state_facts.specs.StateFacts.{State}
+use Rattle.transfer_rules.specs.Acts.{called, called_back}
+use Rattle.transfer_rules.specs.Owed.{CanCallIt}
+use Rattle.transfer_rules.specs.Laws.CalledForms.{none_back}
+
+-- Where the arguments are put, the callee may be called still.
+pub put_can : (callee : CalleeInfo) (old new : State) → CanCall callee old → new ≡ put_args callee.args old
+    → CanCall callee new
+put_can callee old new ready is = subst (CanCall callee) (sym is) (put_ready callee old ready)
+
+-- ---- the callee of a number
+
+pub formed_callee : (o : Option CalleeInfo) (callee : CalleeInfo) (state : State) → o ≡ Some callee → CanCallIt o state
+    → IsCallee callee
+formed_callee o callee state is ready = (subst (λ (c : Option CalleeInfo). CanCallIt c state) is ready).0
+
+pub ready_callee : (o : Option CalleeInfo) (callee : CalleeInfo) (state : State) → o ≡ Some callee → CanCallIt o state
+    → CanCall callee state
+ready_callee o callee state is ready = (subst (λ (c : Option CalleeInfo). CanCallIt c state) is ready).1
+
+pub callee_called : (o : Option CalleeInfo) (callee : CalleeInfo) (state : State) → o ≡ Some callee
+    → called_back callee state ≡ option_and_then (called o) state
+callee_called o callee None is = none_back callee
+callee_called o callee (Some known) is = ap (λ (c : Option CalleeInfo). called c known) (sym is)
+
+pub none_called : (o : Option CalleeInfo) (state : State) → o ≡ None → None ≡ option_and_then (called o) state
+none_called o None is = refl
+none_called o (Some known) is = ap (λ (c : Option CalleeInfo). called c known) (sym is)
+
+pub ruleset calling = (put_can, formed_callee, ready_callee, callee_called, none_called)

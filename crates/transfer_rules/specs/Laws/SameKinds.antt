@@ -1,0 +1,149 @@
+-- Variables of the same forms fit the same kinds, and what fits the kind of a place is what clauses read there.
+use Rattle.std.proofs.Common.{◌≡◌, ℕ, zero, suc, ◌<◌, ◌≤◌, Bool, true, List, [], ◌∷◌, length, slice_get, Option, Some, None, refl, sym, ap, subst, ◌∙◌, arith}
+use Rattle.std.specs.List.{AllByRecursion}
+use Rattle.std.specs.Option.{option_map, option_map_or}
+use Rattle.std.proofs.lemmas.Bool.{false≢true}
+use Rattle.std.proofs.lemmas.Option.{none-some, same_Some}
+use Rattle.cil_model.specs.Kinds.{kind_of}
+use Rattle.cil_model.specs.Values.{same_place}
+use Rattle.cil_model.specs.declared.place.Kind.{Kind}
+use Rattle.cil_model.specs.declared.place.Kind.TheVariants as kinds
+use Rattle.cil_model.specs.declared.place.Place.{Place}
+use Rattle.cil_model.specs.declared.place.Place.TheVariants as places
+use Rattle.clause_trees.specs.VariableKinds.{AreSameForms, HasSameFormsIn, IsOfKind, IsOfPlace, IsSameForm, place_in}
+use Rattle.frame_names.specs.declared.reference.Reference.{Reference}
+use Rattle.frame_names.specs.declared.var.Var.{Var}
+use Rattle.frame_names.specs.declared.var.Var.TheVariants as vars
+use Rattle.state_facts.specs.Forms.{HasVar}
+use Rattle.state_facts.specs.StateFacts.{StateFacts, State, reference_at}
+use Rattle.state_facts.specs.declared.reference.Unknown.{Unknown}
+use Rattle.transfer_rules.specs.Forms.{FitKinds, FitsKind, HasKinds, is_of_place, kind_in}
+use Rattle.transfer_rules.specs.Laws.Fitting.{AreKinds}
+
+-- ---- variables of the same forms
+
+of_place : Place → Option Place → Bool
+of_place place found = option_map_or (λ p. same_place p place) found true
+
+read_place : (place : Place) (o : Option (Reference Unknown))
+    → option_map_or (λ r. same_place r.place place) o true ≡ option_map_or (λ p. same_place p place)
+    (option_map (λ r. r.place) o) true
+read_place place None = refl
+read_place place (Some r) = refl
+
+same_reference : (before after : StateFacts) (place : Place) (r q : ℕ) → place_in after q ≡ place_in before r
+    → is_of_place before place r ≡ true
+    → is_of_place after place q ≡ true
+same_reference before after place r q same is =
+    read_place place (reference_at after.references q) ∙ ap (λ o. option_map_or (λ p. same_place p place) o true) same
+    ∙ sym (read_place place (reference_at before.references r)) ∙ is
+
+null_only : (known : StateFacts) (q : ℕ) → place_in known q ≡ None → q ≤ length known.references → q ≡ 0
+unfolding reference_at
+null_only known zero none there = refl
+null_only known (suc q) none there = absurd (by known.references q none (omega (arith, there)))
+  where
+    by : (references : List (Reference Unknown)) (i : ℕ)
+        → option_map (λ (r : Reference Unknown). r.place) (slice_get references i) ≡ None
+        → i < length references → ⊥
+    by [] i none below = omega (arith, below)
+    by (x ∷ references) zero none below = none-some x.place (sym none)
+    by (x ∷ references) (suc i) none below = by references i none (omega (arith, below))
+
+null_in : (known : StateFacts) (r : ℕ) → r ≡ 0 → place_in known r ≡ None
+unfolding reference_at
+null_in known zero is = refl
+null_in known (suc r) is = absurd (omega (arith, is))
+
+form_fits : (before after : StateFacts) (k : Kind) (v w : Var) → IsSameForm before after v w → HasVar after w
+    → FitsKind before k v
+    → FitsKind after k w
+form_fits before after kinds.Int (vars.Number e) (vars.Number f) same there fits = tt
+form_fits before after kinds.Native (vars.Number e) (vars.Number f) same there fits = tt
+form_fits before after kinds.Ints (vars.Reference r) (vars.Reference q) same there fits =
+    same_reference before after places.Ints r q same fits
+form_fits before after kinds.Bools (vars.Reference r) (vars.Reference q) same there fits =
+    same_reference before after places.Bools r q same fits
+form_fits before after kinds.NullRef (vars.Reference r) (vars.Reference q) same there fits =
+    null_only after q (same ∙ null_in before r fits) there
+form_fits before after kinds.Text vars.Text vars.Text same there fits = tt
+form_fits before after k (vars.Number e) (vars.Reference q) same there fits = elim same [ ]
+form_fits before after k (vars.Number e) vars.Text same there fits = elim same [ ]
+form_fits before after k (vars.Reference r) (vars.Number f) same there fits = elim same [ ]
+form_fits before after k (vars.Reference r) vars.Text same there fits = elim same [ ]
+form_fits before after k vars.Text (vars.Number f) same there fits = elim same [ ]
+form_fits before after k vars.Text (vars.Reference q) same there fits = elim same [ ]
+form_fits before after _ _ _ same there fits = elim fits [ ]
+
+pub forms_fit : (before after : StateFacts) (ks : List Kind) (vs ws : List Var) → AreSameForms before after vs ws
+    → AllByRecursion (HasVar after) ws
+    → FitKinds before ks vs → FitKinds after ks ws
+forms_fit before after [] [] [] same there fits = tt
+forms_fit before after [] [] (w ∷ ws) same there fits = elim same [ ]
+forms_fit before after [] (v ∷ vs) ws same there fits = elim fits [ ]
+forms_fit before after (k ∷ ks) [] ws same there fits = elim fits [ ]
+forms_fit before after (k ∷ ks) (v ∷ vs) [] same there fits = elim same [ ]
+forms_fit before after (k ∷ ks) (v ∷ vs) (w ∷ ws) same there fits =
+    (form_fits before after k v w same.0 there.0 fits.0, forms_fit before after ks vs ws same.1 there.1 fits.1)
+
+pub same_forms : (ks : List Kind) (known : StateFacts) (state : State) → HasSameFormsIn known state → HasKinds ks known
+    → AreKinds ks state
+same_forms ks known None same has = tt
+same_forms ks known (Some after) same has =
+    record {
+      form = same.form;
+      fit = forms_fit known after ks known.variables after.variables same.variables same.form.variables has.fit;
+    }
+
+-- ---- what clauses read
+
+ints_place : (place : Place) → same_place place places.Ints ≡ true → place ≡ places.Ints
+ints_place places.Ints is = refl
+ints_place _ is = absurd (false≢true is)
+
+bools_place : (place : Place) → same_place place places.Bools ≡ true → place ≡ places.Bools
+bools_place places.Bools is = refl
+bools_place _ is = absurd (false≢true is)
+
+ints_in : (o : Option (Reference Unknown)) → option_map_or (λ r. same_place r.place places.Ints) o true ≡ true
+    → IsOfPlace places.Ints (option_map (λ r. r.place) o)
+ints_in None is = tt
+ints_in (Some r) is = ints_place r.place is
+
+bools_in : (o : Option (Reference Unknown)) → option_map_or (λ r. same_place r.place places.Bools) o true ≡ true
+    → IsOfPlace places.Bools (option_map (λ r. r.place) o)
+bools_in None is = tt
+bools_in (Some r) is = bools_place r.place is
+
+pub read_kind : (known : StateFacts) (place : Place) (kind : Kind) (v : Var) → kind_of place ≡ Some kind
+    → FitsKind known (kind_in place) v
+    → IsOfKind known kind v
+read_kind known places.Bool kind v is fits =
+    subst (λ k. IsOfKind known k v) (same_Some kinds.Int kind is) (number v fits)
+  where
+    number : (v : Var) → FitsKind known kinds.Int v → IsOfKind known kinds.Int v
+    number (vars.Number e) fits = tt
+    number (vars.Reference r) fits = elim fits [ ]
+    number vars.Text fits = elim fits [ ]
+read_kind known places.Int kind v is fits =
+    subst (λ k. IsOfKind known k v) (same_Some kinds.Int kind is) (number v fits)
+  where
+    number : (v : Var) → FitsKind known kinds.Int v → IsOfKind known kinds.Int v
+    number (vars.Number e) fits = tt
+    number (vars.Reference r) fits = elim fits [ ]
+    number vars.Text fits = elim fits [ ]
+read_kind known places.Ints kind v is fits =
+    subst (λ k. IsOfKind known k v) (same_Some kinds.Ints kind is) (array v fits)
+  where
+    array : (v : Var) → FitsKind known kinds.Ints v → IsOfKind known kinds.Ints v
+    array (vars.Reference r) fits = ints_in (reference_at known.references r) fits
+    array (vars.Number e) fits = elim fits [ ]
+    array vars.Text fits = elim fits [ ]
+read_kind known places.Bools kind v is fits =
+    subst (λ k. IsOfKind known k v) (same_Some kinds.Bools kind is) (array v fits)
+  where
+    array : (v : Var) → FitsKind known kinds.Bools v → IsOfKind known kinds.Bools v
+    array (vars.Reference r) fits = bools_in (reference_at known.references r) fits
+    array (vars.Number e) fits = elim fits [ ]
+    array vars.Text fits = elim fits [ ]
+read_kind known places.Void kind v is fits = absurd (none-some kind is)
