@@ -1,5 +1,5 @@
 -- Steps of the code that judges a unit.
-use Rattle.std.proofs.Common.{◌≡◌, ℕ, zero, suc, ◌+◌, ◌^◌, ◌-◌, ◌<◌, List, [], ◌∷◌, ◌++◌, length, get_or, take, drop, map, All, refl, sym, ap, subst, ◌∙◌, add-one, append_assoc, append-nil, drop-cons, arith, inl, inr}
+use Rattle.std.proofs.Common.{◌≡◌, ℕ, zero, suc, ◌+◌, ◌^◌, ◌-◌, ◌<◌, ◌≤◌, List, [], ◌∷◌, ◌++◌, length, get_or, take, drop, map, All, refl, sym, ap, subst, ◌∙◌, add-one, append_assoc, append-nil, drop-cons, arith, inl, inr}
 use Rattle.std.specs.Prelude.{IsTrue}
 use Rattle.std.specs.List.{AllByRecursion, flat_map, range_with_len}
 use Rattle.std.proofs.lemmas.Bool.{cases_Bool, false≢true}
@@ -13,16 +13,18 @@ use Rattle.cil_model.specs.declared.unit.Unit.{Unit as MethodUnit}
 use Rattle.flow_graph.specs.declared.graph.Graph.{Graph}
 use Rattle.flow_graph.proofs.Lying.{few_blocks}
 use Rattle.obligation_prover.specs.Avoiding.{avoid}
+use Rattle.obligation_prover.specs.ClausesTested.{CanTest, tested_by}
 use Rattle.obligation_prover.specs.Entailed.{rules_out}
 use Rattle.obligation_prover.specs.Obligations.{obligation, obligations_of}
 use Rattle.state_facts.specs.StateFacts.{State}
 use Rattle.transfer_rules.specs.Inductive.{HasShape, IsInductive, state_at}
+use Rattle.transfer_rules.specs.Owed.{CanDo}
 use Rattle.transfer_rules.specs.Post.{post}
 use Rattle.unit_flow.specs.Flow.{IsLawful}
 use Rattle.unit_flow.specs.declared.unit_flow.UnitFlow.{UnitFlow}
 use Rattle.unit_flow.proofs.LawfulCode as laws
 use Rattle.invariant_checker.specs.Inducts.{is_inductive}
-use Rattle.invariant_checker.specs.Verdicts.{unproved, verdicts, verdicts_at, verdicts_by_blocks, verdicts_from, verdicts_in, verdicts_in_turn, verdicts_of_block}
+use Rattle.invariant_checker.specs.Verdicts.{CanJudge, unproved, verdicts, verdicts_at, verdicts_by_blocks, verdicts_from, verdicts_in, verdicts_in_turn, verdicts_of_block}
 use Rattle.invariant_checker.specs.declared.verdict.Verdict.{Verdict}
 use Rattle.invariant_checker.proofs.InductionTest.{inductive_by, inductive_true}
 
@@ -63,6 +65,39 @@ module _ (unit : MethodUnit) (is : List Instr) (k : ℕ) (i : Instr) (state : St
       sym (there ∙ get_or-take (length is - 1) is k i (omega (arith, below, length-take (length is - 1) is))) in
       append_assoc found (verdicts_at unit i state) (verdicts_from unit (drop (k + 1) is) (post unit i.op state))
       ∙ ap (λ (js : List Instr). found ++ verdicts_from unit js state) (sym (from_it within here))
+
+module _ (unit : MethodUnit) (is : List Instr) where
+  -- The instruction that the loop comes to, and what follows it.
+  can_from : (k : ℕ) (i : Instr) (state : State) → k < length (front is) → i ≡ get_or (front is) k i
+      → CanJudge unit (drop k is) state → CanJudge unit (i ∷ drop (k + 1) is) state
+  can_from k i state below there can =
+      let last = length is - 1 in
+      let within : k < length is = omega (arith, below, length-take last is) in
+      let here : get_or is k i ≡ i = sym (there ∙ get_or-take last is k i (omega (arith, below, length-take last is))) in
+      subst (λ (js : List Instr). CanJudge unit js state) (from_it unit is k i state [] within here) can
+
+  pub can_here : (k : ℕ) (i : Instr) (state : State) → k < length (front is) → i ≡ get_or (front is) k i
+      → CanJudge unit (drop k is) state → CanTest unit (tested_by unit i.op) state
+  can_here k i state below there can = (can_from k i state below there can).0
+
+  pub can_do_here : (k : ℕ) (i : Instr) (state : State) → k < length (front is) → i ≡ get_or (front is) k i
+      → CanJudge unit (drop k is) state → CanDo unit i.op state
+  can_do_here k i state below there can = (can_from k i state below there can).1
+
+  pub can_on : (k : ℕ) (i : Instr) (state : State) → k < length (front is) → i ≡ get_or (front is) k i
+      → CanJudge unit (drop k is) state → CanJudge unit (drop (k + 1) is) (post unit i.op state)
+  can_on k i state below there can = (can_from k i state below there can).2
+
+  -- The last one.
+  pub can_last : (last : Instr) (k : ℕ) (state : State) → 1 ≤ length is → last ≡ get_or is (length is - 1) last
+      → length (front is) ≤ k → k ≤ length (front is) → CanJudge unit (drop k is) state
+      → CanTest unit (tested_by unit last.op) state
+  can_last last k state some there low high can =
+      let at : k ≡ length is - 1 = omega (arith, some, low, high, length-take (length is - 1) is) in
+      let whole : drop k is ≡ last ∷ drop (k + 1) is =
+      from_it unit is k last state [] (omega (arith, some, at))
+      (ap (λ (n : ℕ). get_or is n last) at ∙ sym there) in
+      (subst (λ (js : List Instr). CanJudge unit js state) whole can).0
 
 -- ---- all blocks
 

@@ -14,9 +14,14 @@ use Rattle.cil_model.specs.declared.unit.CalleeInfo.{CalleeInfo}
 use Rattle.cil_model.specs.declared.unit.Unit.{Unit as MethodUnit}
 use Rattle.cil_model.specs.declared.unit_numbers.UnitCall.{UnitCall}
 use Rattle.cil_model.specs.declared.unit_numbers.UnitCall.TheVariants as calls
-use Rattle.contract_calls.specs.CallForms.{IsClauseOf}
+use Rattle.contract_calls.specs.Arguments.{put_args}
+use Rattle.contract_calls.specs.CallForms.{CanCall, IsClauseOf}
+use Rattle.contract_calls.proofs.AtCalls.{put_ready}
+use Rattle.contract_calls.proofs.AtReturns.{result_ready}
 use Rattle.contract_calls.proofs.Clauses.{callee_clauses, clauses_are}
-use Rattle.obligation_prover.specs.ClausesTested.{IsClauseTested, IsContract, contract_of, tested_at_call, tested_by}
+use Rattle.obligation_prover.specs.ClausesTested.{CanTest, IsClauseTested, IsContract, contract_of, put_tested, tested_at_call, tested_by}
+use Rattle.state_facts.specs.StateFacts.{State}
+use Rattle.obligation_prover.specs.declared.tested.Tested.{Tested}
 use Rattle.obligation_prover.specs.declared.tested.Tested.TheVariants as tests
 use Rattle.obligation_prover.proofs.OwnInts.{own_ints}
 
@@ -104,3 +109,21 @@ pub contract_formed : (unit : MethodUnit) (op : Op) → IsWellFormed unit → Is
 contract_formed unit (ops.Call number) formed = call_contract unit (unit_call number) formed
 contract_formed unit ops.Return formed = own_contract unit formed
 contract_formed unit _ formed = no_contract unit
+
+-- ---- states
+
+-- The clauses can be judged where what they read is put into its places.
+pub put_can : (unit : MethodUnit) (test : Tested) (state : State) → CanTest unit test state
+    → CanTest unit test (put_tested unit test state)
+put_can unit tests.Nothing state can = tt
+put_can unit (tests.Callee number) state can = λ callee there.
+    subst (CanCall callee)
+    (sym (ap (λ (o : Option CalleeInfo). option_map_or (λ c. put_args c.args state) o state) there))
+    (put_ready callee state (can callee there))
+put_can unit tests.Own state can = result_ready unit state can
+
+pub all_tests : (unit : MethodUnit) (test : Tested) → IsContract unit test
+    → AllByRecursion (IsClauseTested unit test) (contract_of unit test)
+all_tests unit test contract = contract.clauses
+
+pub ruleset putting = (put_can, all_tests)

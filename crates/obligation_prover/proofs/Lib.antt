@@ -11,3 +11,4 @@ pub mod Contracts
 pub mod Plain
 pub mod NoneFalse
 pub mod EachListed
+pub mod JudgingClauses

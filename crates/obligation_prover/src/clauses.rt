@@ -100,6 +100,7 @@ fn judge_one(
 }
 
 /// Whether each of these clauses is shown that is tested, in turn.
+#[tactic(auto, using(crate::proofs::JudgingClauses::judging))]
 fn judge_each(
     alloc: Global,
     unit: &Unit,
@@ -121,6 +122,7 @@ fn judge_each(
 }
 
 /// Whether each clause is shown, from the state before the instruction.
+#[tactic(auto, using(crate::proofs::Contracts::putting))]
 fn judge_clauses(
     alloc: Global,
     unit: &Unit,
@@ -144,6 +146,7 @@ fn judge_clauses(
 /// The caller owes that what the clauses read is there.
 ///
 /// Cost: that of showing and of assuming each.
+#[tactic(auto, using(crate::proofs::Contracts::contract_formed))]
 pub fn clauses_shown(alloc: Global, unit: &Unit, op: &Op, state: AbsState) -> Result<Vec<bool>, NoMemory>
     requires formed { IsWellFormed unit.now }
     requires ready { CanTest unit.now (rule.tested_by unit.now op.now) state }
