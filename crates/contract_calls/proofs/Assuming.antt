@@ -26,7 +26,7 @@ use Rattle.merged_states.specs.Merging.{join}
 use Rattle.state_facts.specs.StateFacts.{StateFacts, State}
 use Rattle.contract_calls.specs.CallForms.{CanAssume, IsClauseOf}
 use Rattle.contract_calls.specs.CallStates.{assumed_each}
-use Rattle.contract_calls.proofs.Clauses.{is_test, true_value}
+use Rattle.contract_calls.proofs.MethodClauses.{is_test, true_value}
 
 -- ---- one tree
 

@@ -36,7 +36,7 @@ use Rattle.contract_calls.specs.CallForms.{CanAssume, CanCall, IsClauseOf}
 use Rattle.contract_calls.specs.CallStates.{assumed_each, at_call, required, requires_assumed, requires_shown}
 use Rattle.contract_calls.specs.Meaning.{AreRequired, IsRequiredAt, KeepsAllRequired, KeepsRequired, passing, reading_at_call}
 use Rattle.contract_calls.proofs.Assuming.{all_true, each_keeps, each_same, none_assumed, none_each, of_kind, readable_in}
-use Rattle.contract_calls.proofs.Clauses.{callee_clauses, is_test, true_value}
+use Rattle.contract_calls.proofs.MethodClauses.{callee_clauses, is_test, true_value}
 use Rattle.contract_calls.proofs.PassedArguments.{args_same, as_long, at_of, base_of, over_args, over_of, two_put}
 
 -- ---- arguments fit

@@ -35,7 +35,7 @@ use Rattle.contract_calls.specs.CallStates.{at_return, ensures_assumed, ensures_
 use Rattle.contract_calls.specs.Meaning.{AreEnsured, IsEnsuredAt, KeepsEnsured, KeepsResult, Returns, reading_at_return, returning, with_stack}
 use Rattle.contract_calls.proofs.Assuming.{none_assumed, readable_in}
 use Rattle.contract_calls.proofs.AtCalls.{fits_put, none_put, reads_over, same_long}
-use Rattle.contract_calls.proofs.Clauses.{is_test, true_value}
+use Rattle.contract_calls.proofs.MethodClauses.{is_test, true_value}
 use Rattle.contract_calls.proofs.PassedArguments.{args_keep, args_same, as_long, at_of, base_of, over_of}
 
 -- ---- results

@@ -53,7 +53,7 @@ use Rattle.contract_calls.specs.CallStates.{after_call, assumed_each, at_call, b
 use Rattle.contract_calls.specs.Meaning.{KeepsCalled, back, passing}
 use Rattle.contract_calls.proofs.Assuming.{all_true, each_keeps, each_same, none_each, of_kind}
 use Rattle.contract_calls.proofs.AtCalls.{IsAtCall, at_call_is, below_args, past, reads_over}
-use Rattle.contract_calls.proofs.Clauses.{callee_clauses}
+use Rattle.contract_calls.proofs.MethodClauses.{callee_clauses}
 use Rattle.contract_calls.proofs.PassedArguments.{at_of, base_of}
 
 -- ---- the result is pushed

@@ -32,7 +32,7 @@ use Rattle.contract_calls.specs.CallStates.{after_call, assumed_each, at_call, b
 use Rattle.contract_calls.proofs.Assuming.{each_same, none_each, of_kind, readable_in}
 use Rattle.contract_calls.proofs.AtCalls.{past, same_long}
 use Rattle.contract_calls.proofs.Behind.{behind_readable, call_pushed, forgotten, kind_alike}
-use Rattle.contract_calls.proofs.Clauses.{callee_clauses}
+use Rattle.contract_calls.proofs.MethodClauses.{callee_clauses}
 use Rattle.contract_calls.proofs.PassedArguments.{all_same}
 
 -- ---- variables that stay

@@ -18,7 +18,7 @@ use Rattle.contract_calls.specs.Arguments.{put_args}
 use Rattle.contract_calls.specs.CallForms.{CanCall, IsClauseOf}
 use Rattle.contract_calls.proofs.AtCalls.{put_ready}
 use Rattle.contract_calls.proofs.AtReturns.{result_ready}
-use Rattle.contract_calls.proofs.Clauses.{callee_clauses, clauses_are}
+use Rattle.contract_calls.proofs.MethodClauses.{callee_clauses, clauses_are}
 use Rattle.obligation_prover.specs.ClausesTested.{CanTest, IsClauseTested, IsContract, contract_of, put_tested, tested_at_call, tested_by}
 use Rattle.state_facts.specs.StateFacts.{State}
 use Rattle.obligation_prover.specs.declared.tested.Tested.{Tested}

@@ -29,7 +29,7 @@ use Rattle.contract_calls.specs.Meaning.{AreEnsured, AreRequired, Returns}
 use Rattle.contract_calls.proofs.Assuming.{of_kind}
 use Rattle.contract_calls.proofs.AtCalls.{none_false, put_ready}
 use Rattle.contract_calls.proofs.AtReturns.{no_ensures_false, result_keeps, result_ready}
-use Rattle.contract_calls.proofs.Clauses.{callee_clauses}
+use Rattle.contract_calls.proofs.MethodClauses.{callee_clauses}
 use Rattle.contract_calls.proofs.PassedArguments.{args_keep}
 use Rattle.machine_points.specs.Points.{IsPointOf}
 use Rattle.machine_points.specs.declared.point.Point.{Point}
