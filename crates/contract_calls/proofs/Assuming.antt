@@ -1,5 +1,5 @@
 -- Clauses that are assumed one after another.
-use Rattle.std.proofs.Common.{◌≡◌, ℕ, ◌+◌, ◌<◌, ◌≤◌, ◌==◌, ℤ, pos, Bool, true, false, not, List, [], ◌∷◌, length, get_or, drop, Option, Some, None, int_eq, refl, ap, subst, sym, ◌∙◌}
+use Rattle.std.proofs.Common.{◌≡◌, ℕ, ◌+◌, ◌<◌, ◌≤◌, pos, Bool, true, false, not, List, [], ◌∷◌, length, get_or, drop, Option, Some, None, int_eq, refl, ap, subst, sym, ◌∙◌}
 use Rattle.std.specs.List.{AllByRecursion}
 use Rattle.std.specs.Option.{ForSome}
 use Rattle.std.proofs.lemmas.Bool.{cond_both}
@@ -19,7 +19,7 @@ use Rattle.clause_trees.proofs.AssumedTrees.{assumed_same}
 use Rattle.clause_trees.proofs.SameForms.{readable_same}
 use Rattle.clause_trees.specs.ClauseStates.{assumed}
 use Rattle.clause_trees.specs.Meaning.{CanTest, IsTest, Reads}
-use Rattle.clause_trees.specs.VariableKinds.{HasSameForms, HasSameFormsIn, IsReadable}
+use Rattle.clause_trees.specs.VariableKinds.{HasSameFormsIn, IsReadable}
 use Rattle.clause_trees.specs.declared.reader.TreeEnv.{TreeEnv}
 use Rattle.merged_states.specs.Following.{HoldsOver}
 use Rattle.merged_states.specs.Merging.{join}
@@ -59,7 +59,8 @@ readable_still env args result t (Some known) readable test =
 
 -- ---- each of some
 
-pub each_same : (env : TreeEnv) (args : List Place) (result : Place) (clauses : List Clause) (known : StateFacts) (o : State)
+pub each_same : (env : TreeEnv) (args : List Place) (result : Place) (clauses : List Clause) (known : StateFacts)
+    (o : State)
     → IsReadable env args result known → HasSameFormsIn known o → AllByRecursion (IsClauseOf args result) clauses
     → HasSameFormsIn known (assumed_each env clauses o)
 each_same env args result [] known o readable same all = same
@@ -69,7 +70,8 @@ each_same env args result (clause ∷ clauses) known o readable same all =
 
 pub none_each : (env : TreeEnv) (clauses : List Clause) → assumed_each env clauses None ≡ None
 none_each env [] = refl
-none_each env (clause ∷ clauses) = ap (assumed_each env clauses) (none_assumed env true clause.tree) ∙ none_each env clauses
+none_each env (clause ∷ clauses) =
+    ap (assumed_each env clauses) (none_assumed env true clause.tree) ∙ none_each env clauses
 
 -- Where each is true.
 pub each_keeps : (env : TreeEnv) (args : List Place) (result : Place) (clauses : List Clause) (state : State)
@@ -95,7 +97,8 @@ all_true n r (clause ∷ clauses) none = cond_both (clause_holds r clause) _ _
     (λ so rest. (so, all_true (n + 1) r clauses rest)) (λ not is. absurd (none-some n (sym is))) none
 
 pub of_kind : (args : List Place) (result : Place) (kind : ClauseKind) (clauses : List Clause)
-    → AllByRecursion (IsClauseOf args result) clauses → AllByRecursion (IsClauseOf args result) (clauses_of kind clauses)
+    → AllByRecursion (IsClauseOf args result) clauses
+    → AllByRecursion (IsClauseOf args result) (clauses_of kind clauses)
 of_kind args result kind [] all = tt
 of_kind args result kind (clause ∷ clauses) all =
     cond_both (is_kind kind clause.kind) _ _ (AllByRecursion (IsClauseOf args result))
@@ -104,8 +107,10 @@ of_kind args result kind (clause ∷ clauses) all =
 -- ---- a loop over them
 
 -- Of the clauses, those before this one that are of the kind are assumed, and the rest is still to be.
-pub record IsUnderWay (env : TreeEnv) (kind : ClauseKind) (clauses : List Clause) (first known : State) (i : ℕ) : Type 0 where
-  pub same : assumed_each env (clauses_of kind clauses) first ≡ assumed_each env (clauses_of kind (drop i clauses)) known
+pub record IsUnderWay (env : TreeEnv) (kind : ClauseKind) (clauses : List Clause) (first known : State) (i : ℕ)
+    : Type 0 where
+  pub same : assumed_each env (clauses_of kind clauses) first
+      ≡ assumed_each env (clauses_of kind (drop i clauses)) known
   pub ready : CanAssume env (drop i clauses) known
 
 pub begins : (env : TreeEnv) (kind : ClauseKind) (clauses : List Clause) (first : State) → CanAssume env clauses first
@@ -124,16 +129,19 @@ one_first env kind clause rest known = by (is_kind kind clause.kind) refl
     by true is = rw is refl
     by false is = rw is refl
 
-one_readable : (env : TreeEnv) (args : List Place) (result : Place) (kind : ClauseKind) (clause : Clause) (known : State)
+one_readable : (env : TreeEnv) (args : List Place) (result : Place) (kind : ClauseKind) (clause : Clause)
+    (known : State)
     → ForSome known (IsReadable env args result) → IsClauseOf args result clause
     → ForSome (assumed_each env (clauses_of kind (clause ∷ [])) known) (IsReadable env args result)
 one_readable env args result kind clause known readable is =
     cond_both (is_kind kind clause.kind) _ _
     (λ (cs : List Clause). ForSome (assumed_each env cs known) (IsReadable env args result))
-    (λ this. readable_still env args result clause.tree known readable (is_test args result clause is)) (λ other. readable)
+    (λ this. readable_still env args result clause.tree known readable (is_test args result clause is))
+    (λ other. readable)
 
 module _ (env : TreeEnv) (kind : ClauseKind) (clauses : List Clause) (first known : State) (i : ℕ) (clause : Clause)
-    (way : IsUnderWay env kind clauses first known i) (below : i < length clauses) (is : clause ≡ get_or clauses i clause) where
+    (way : IsUnderWay env kind clauses first known i) (below : i < length clauses)
+    (is : clause ≡ get_or clauses i clause) where
   split : drop i clauses ≡ clause ∷ drop (i + 1) clauses
   split = drop_more clauses i clause below ∙ ap (λ c. c ∷ drop (i + 1) clauses) (sym is)
 

@@ -1,11 +1,11 @@
 -- What is so of the Requires at calls.
-use Rattle.std.proofs.Common.{◌≡◌, ℕ, zero, suc, ◌+◌, ◌-◌, ◌*◌, ◌≤◌, Bool, true, false, List, [], ◌∷◌, ◌++◌, length, reverse, take, drop, slice_get, Option, Some, None, if◌then◌else◌, refl, ap, subst, sym, ◌∙◌, append-nil, arith}
+use Rattle.std.proofs.Common.{◌≡◌, ℕ, zero, suc, ◌+◌, ◌-◌, ◌*◌, ◌≤◌, true, List, [], ◌∷◌, ◌++◌, length, reverse, take, drop, slice_get, Option, Some, None, if◌then◌else◌, refl, ap, subst, sym, ◌∙◌, append-nil, arith}
 use Rattle.std.specs.List.{AllByRecursion}
 use Rattle.std.specs.Option.{ForSome}
 use Rattle.std.proofs.lemmas.List.{length-append, reverse-reverse}
 use Rattle.std.proofs.lemmas.Option.{cond_some, none-some, same_Some}
 use Rattle.cil_model.specs.Calls.{args_of}
-use Rattle.cil_model.specs.Clauses.{Reading, clause_holds, clauses_of, first_false, value_of}
+use Rattle.cil_model.specs.Clauses.{clauses_of, first_false}
 use Rattle.cil_model.specs.Limits.{MAX_VARIABLES}
 use Rattle.cil_model.specs.Values.{FitPlaces, FitsPlace, Heap, IsHeap, IsValue, KeepsForms, has_array, put, put_all}
 use Rattle.cil_model.specs.WellFormed.{IsCallee}
@@ -23,14 +23,13 @@ use Rattle.clause_trees.proofs.AssumedKept.{assumed_is_kept, assumed_keeps_forms
 use Rattle.clause_trees.proofs.ShownTrees.{shown_is_so}
 use Rattle.clause_trees.specs.ClauseStates.{assumed}
 use Rattle.clause_trees.specs.Meaning.{CanTest, Reads, ReadsResult}
-use Rattle.clause_trees.specs.VariableKinds.{AreSameForms, HasSameForms, HasSameFormsIn, IsReadable}
+use Rattle.clause_trees.specs.VariableKinds.{AreSameForms, HasSameFormsIn, IsReadable}
 use Rattle.clause_trees.specs.declared.reader.TreeEnv.{TreeEnv}
 use Rattle.frame_names.specs.declared.var.Var.{Var}
 use Rattle.machine_points.specs.declared.point.Point.{Point}
 use Rattle.merged_states.specs.Following.{HoldsOver}
-use Rattle.state_facts.specs.Forms.{HasForm}
 use Rattle.state_facts.specs.Holds.{HoldsAt, variables_of}
-use Rattle.state_facts.specs.StateFacts.{StateFacts, State, variables_in}
+use Rattle.state_facts.specs.StateFacts.{StateFacts, State}
 use Rattle.contract_calls.specs.Arguments.{first_of, put_args, put_from}
 use Rattle.contract_calls.specs.CallForms.{CanAssume, CanCall, IsClauseOf}
 use Rattle.contract_calls.specs.CallStates.{assumed_each, at_call, required, requires_assumed, requires_shown}
@@ -140,7 +139,8 @@ pub at_call_is : (callee : CalleeInfo) (state : State) (p : Point) (args : List 
 at_call_is callee state p args are holds =
     let rest = drop (length callee.args) p.frame.stack in
     let below = below_args callee.args p in
-    let parts : variables_of (passing callee.args args p).frame ≡ below ++ args = over_args (base_of p.frame) rest args in
+    let parts : variables_of (passing callee.args args p).frame ≡ below ++ args =
+    over_args (base_of p.frame) rest args in
     let machine = holds.machine in
     let stack = all_split (IsValue p.heap) (reverse args) rest machine.stack in
     let of_args = subst (AllByRecursion (IsValue p.heap)) (reverse-reverse args)
@@ -218,7 +218,8 @@ back_to callee before after p args holds over =
 
 -- One that is assumed is kept.
 pub assumed_at_call : (callee : CalleeInfo) (clause : Clause) (state : State) → CanCall callee state
-    → IsClauseOf callee.args callee.result clause → KeepsRequired callee clause state (requires_assumed callee clause state)
+    → IsClauseOf callee.args callee.result clause
+    → KeepsRequired callee clause state (requires_assumed callee clause state)
 assumed_at_call callee clause state ready is = λ p args are so holds.
     let here = at_call_is callee state p args are holds in
     back_to callee state (requires_assumed callee clause state) p args holds
@@ -292,7 +293,7 @@ required_same callee known formed ready =
     (clauses_of clause_kinds.Requires callee.clauses) known (Some known) here (itself_same known here.form)
     (of_kind callee.args callee.result clause_kinds.Requires callee.clauses (callee_clauses callee formed))
 
-none_required : (callee : CalleeInfo) → required callee None ≡ None
+pub none_required : (callee : CalleeInfo) → required callee None ≡ None
 unfolding required
 none_required callee =
     none_each (at_call (length callee.args) None) (clauses_of clause_kinds.Requires callee.clauses)
@@ -313,7 +314,8 @@ none_put places = by places (first_of (length places) None)
     by (place ∷ places) i = by places (i + 1)
 
 -- The callee may be called where its arguments are put.
-pub put_ready : (callee : CalleeInfo) (state : State) → CanCall callee state → CanCall callee (put_args callee.args state)
+pub put_ready : (callee : CalleeInfo) (state : State) → CanCall callee state
+    → CanCall callee (put_args callee.args state)
 put_ready callee None ready = subst (CanCall callee) (sym (none_put callee.args)) ready
 put_ready callee (Some known) ready =
     ready_in callee known (put_args callee.args (Some known)) ready

@@ -1,14 +1,14 @@
 -- What is so of results and of the Ensures at returns.
-use Rattle.std.proofs.Common.{◌≡◌, ℕ, ◌+◌, ◌-◌, ◌*◌, ◌≤◌, Bool, true, List, [], ◌∷◌, ◌++◌, length, reverse, drop, slice_get, inl, inr, if◌then◌else◌, Option, Some, None, refl, ap, subst, sym, ◌∙◌, append_assoc, arith}
+use Rattle.std.proofs.Common.{◌≡◌, ℕ, ◌+◌, ◌-◌, ◌*◌, ◌≤◌, true, List, [], ◌∷◌, ◌++◌, length, reverse, drop, slice_get, inl, inr, if◌then◌else◌, Option, Some, None, refl, ap, subst, sym, ◌∙◌, append_assoc, arith}
 use Rattle.std.specs.Prelude.{◌⊎◌}
 use Rattle.std.specs.List.{AllByRecursion}
 use Rattle.std.specs.Option.{ForSome, option_map}
 use Rattle.std.proofs.lemmas.List.{length-append}
 use Rattle.std.proofs.lemmas.Option.{none-some, same_Some}
 use Rattle.cil_model.specs.Calls.{args_of, result_of}
-use Rattle.cil_model.specs.Clauses.{clause_holds, first_false}
+use Rattle.cil_model.specs.Clauses.{first_false}
 use Rattle.cil_model.specs.Limits.{MAX_VARIABLES}
-use Rattle.cil_model.specs.Values.{FitPlaces, FitsPlace, Heap, IsValue, put, with_first}
+use Rattle.cil_model.specs.Values.{FitsPlace, Heap, IsValue, put, with_first}
 use Rattle.cil_model.specs.declared.clause.Clause.{Clause}
 use Rattle.cil_model.specs.declared.machine.Value.{Value}
 use Rattle.cil_model.specs.declared.machine.Value.TheVariants as values
@@ -17,7 +17,7 @@ use Rattle.cil_model.specs.declared.place.Place.TheVariants as places
 use Rattle.cil_model.specs.declared.unit.Unit.{Unit as MethodUnit}
 use Rattle.cil_model.proofs.HeapsKept.{AreValues-kept}
 use Rattle.cil_model.proofs.Lists.{all_append}
-use Rattle.clause_trees.proofs.AssumedKept.{assumed_is_kept, assumed_keeps_forms, itself_same}
+use Rattle.clause_trees.proofs.AssumedKept.{assumed_is_kept, assumed_keeps_forms}
 use Rattle.clause_trees.proofs.ShownTrees.{shown_is_so}
 use Rattle.clause_trees.specs.ClauseStates.{assumed}
 use Rattle.clause_trees.specs.Meaning.{CanTest, Reads, ReadsResult}
@@ -88,7 +88,8 @@ one_told heap place v result (Some stored) found is =
 
 result_tells : (heap : Heap) (place : Place) (stack : List Value) (result : Option Value)
     → result_of heap place stack ≡ Some result → IsNothing place stack result ⊎ IsOne heap place stack result
-result_tells heap places.Void [] result is = inl (record { void = refl; empty = refl; none = sym (same_Some None result is) })
+result_tells heap places.Void [] result is =
+    inl (record { void = refl; empty = refl; none = sym (same_Some None result is) })
 result_tells heap places.Bool [] result is = absurd (none-some result is)
 result_tells heap places.Int [] result is = absurd (none-some result is)
 result_tells heap places.Bools [] result is = absurd (none-some result is)
@@ -97,7 +98,8 @@ result_tells heap place (v ∷ []) result is = inr (one_told heap place v result
 result_tells heap places.Void (v ∷ w ∷ stack) result is = absurd (none-some result is)
 result_tells heap place (v ∷ w ∷ stack) result is = absurd (none-some result is)
 
-pub result_keeps : (place : Place) (state : State) → ForSome state HasForm → KeepsResult place state (put_result place state)
+pub result_keeps : (place : Place) (state : State) → ForSome state HasForm
+    → KeepsResult place state (put_result place state)
 unfolding put_result
 result_keeps place state form = λ p result is holds. elim (result_tells p.heap place p.frame.stack result is) [
   | inl told ↦
@@ -266,7 +268,8 @@ unfolding put_result
 none_result place = none_put (result_places place)
 
 -- The unit may return where its result is put.
-pub result_ready : (unit : MethodUnit) (state : State) → CanReturn unit state → CanReturn unit (put_result unit.result state)
+pub result_ready : (unit : MethodUnit) (state : State) → CanReturn unit state
+    → CanReturn unit (put_result unit.result state)
 result_ready unit None ready = subst (CanReturn unit) (sym (none_result unit.result)) ready
 result_ready unit (Some known) ready =
     return_in unit known (put_result unit.result (Some known)) ready

@@ -1,64 +1,60 @@
 -- What is so behind a call.
-use Rattle.std.proofs.Common.{◌≡◌, ℕ, zero, suc, ◌+◌, ◌-◌, ◌≤◌, ℤ, pos, Bool, true, inl, inr, List, [], ◌∷◌, ◌++◌, length, reverse, take, drop, slice_get, Option, Some, None, refl, ap, subst, sym, ◌∙◌, append_assoc, append-nil, arith}
+use Rattle.std.proofs.Common.{◌≡◌, ℕ, zero, suc, ◌+◌, ℤ, pos, inl, inr, List, [], ◌∷◌, ◌++◌, length, reverse, take, drop, slice_get, Option, Some, None, refl, ap, subst, sym, ◌∙◌, append_assoc, append-nil, arith}
 use Rattle.std.specs.Prelude.{◌⊎◌}
 use Rattle.std.specs.List.{AllByRecursion}
-use Rattle.std.specs.Option.{ForSome, option_and_then, option_map}
-use Rattle.std.proofs.lemmas.List.{drop_at, length-append, length-take-le, reverse-append, take_at}
+use Rattle.std.specs.Option.{ForSome, option_map}
+use Rattle.std.proofs.lemmas.List.{drop_at, length-append, reverse-append, take_at}
 use Rattle.std.proofs.lemmas.Option.{none-some, same_Some}
 use Rattle.alias_facts.specs.PairsOf.{Pair}
-use Rattle.cil_model.specs.Calls.{FitsResult, FreeReturn, IsPassedOrNew, args_of, behind_call, pushed}
-use Rattle.cil_model.specs.Clauses.{Reading, clause_holds, clauses_of}
+use Rattle.cil_model.specs.Calls.{FitsResult, FreeReturn, IsPassedOrNew}
+use Rattle.cil_model.specs.Clauses.{Reading, clauses_of}
 use Rattle.cil_model.specs.Kinds.{kind_of}
-use Rattle.cil_model.specs.Values.{FitsPlace, Heap, IsHeap, IsValue, KeepsForms}
+use Rattle.cil_model.specs.Values.{FitsPlace, Heap, IsValue, KeepsForms}
 use Rattle.cil_model.specs.WellFormed.{IsCallee}
-use Rattle.cil_model.specs.declared.clause.Clause.{Clause}
 use Rattle.cil_model.specs.declared.clause.ClauseKind.TheVariants as clause_kinds
 use Rattle.cil_model.specs.declared.instruction.Instr.{Instr}
 use Rattle.cil_model.specs.declared.machine.Value.{Value}
-use Rattle.cil_model.specs.declared.machine.Value.TheVariants as values
 use Rattle.cil_model.specs.declared.place.Kind.{Kind}
 use Rattle.cil_model.specs.declared.place.Kind.TheVariants as kinds
 use Rattle.cil_model.specs.declared.place.Place.{Place}
 use Rattle.cil_model.specs.declared.place.Place.TheVariants as places
 use Rattle.cil_model.specs.declared.unit.CalleeInfo.{CalleeInfo}
 use Rattle.cil_model.proofs.HeapsKept.{AreValues-kept, keeps_on, value_of_place}
-use Rattle.cil_model.proofs.Lists.{all_append, all_drop, all_split, all_take}
-use Rattle.clause_trees.proofs.AssumedKept.{itself_same}
+use Rattle.cil_model.proofs.Lists.{all_append, all_split}
 use Rattle.clause_trees.proofs.PushedMoves.{unknown_pushed}
-use Rattle.clause_trees.proofs.SameForms.{all_on, same_forms_on}
-use Rattle.clause_trees.proofs.Stays.{found_var, grown_itself, pushed_readable}
+use Rattle.clause_trees.proofs.Stays.{pushed_readable}
 use Rattle.clause_trees.specs.Meaning.{Reads, ReadsResult}
-use Rattle.clause_trees.specs.VariableKinds.{AreSameForms, HasSameForms, HasSameFormsIn, IsGrown, IsOfKind, IsOfPlace, IsOneOfKind, IsPushed, IsPushedIn, IsReadable, place_in}
-use Rattle.clause_trees.specs.declared.reader.TreeEnv.{TreeEnv}
+use Rattle.clause_trees.specs.VariableKinds.{IsOfKind, IsOfPlace, IsOneOfKind, IsPushed, IsPushedIn, IsReadable, place_in}
 use Rattle.frame_names.specs.declared.var.Var.{Var}
 use Rattle.frame_names.specs.declared.var.Var.TheVariants as vars
 use Rattle.machine_points.specs.MachineValues.{HasMachineValues}
 use Rattle.machine_points.specs.declared.point.Point.{Point}
 use Rattle.merged_states.specs.Following.{HoldsOver}
 use Rattle.number_facts.specs.Fresh.{Made, fresh}
-use Rattle.state_facts.proofs.Agreeing.{as_many, have_taken}
+use Rattle.state_facts.proofs.Agreeing.{have_taken}
 use Rattle.state_facts.proofs.ArraysHold.{call_keeps}
-use Rattle.state_facts.proofs.Growing.{Formed, grown, same_facts}
+use Rattle.state_facts.proofs.Growing.{Formed}
 use Rattle.state_facts.proofs.MoveForms.{call_form}
-use Rattle.state_facts.specs.Calls.{returned, with_call, with_result_array, with_returned}
-use Rattle.state_facts.specs.Forms.{HasForm, IsVar}
-use Rattle.state_facts.specs.Holds.{HasValue, HaveValues, HoldsAt, HoldsBy, HoldsIn, variables_of}
+use Rattle.state_facts.specs.Calls.{returned, with_call, with_returned}
+use Rattle.state_facts.specs.Forms.{HasForm}
+use Rattle.state_facts.specs.Holds.{HaveValues, variables_of}
 use Rattle.state_facts.specs.Keeps.{listed}
-use Rattle.state_facts.specs.StateFacts.{StateFacts, State, variables_in}
+use Rattle.state_facts.specs.StateFacts.{StateFacts, State}
 use Rattle.state_facts.specs.States.{forget}
 use Rattle.state_facts.specs.UnknownValues.{with_unknown}
 use Rattle.contract_calls.specs.Arguments.{first_of}
-use Rattle.contract_calls.specs.CallForms.{AreGiven, CanAssume, CanCall, IsBehindCall, IsBehindCallIn, IsClauseOf}
-use Rattle.contract_calls.specs.CallStates.{after_call, assumed_each, at_call, behind_args, given, less, result_at}
-use Rattle.contract_calls.specs.Meaning.{KeepsCalled, back, passing}
-use Rattle.contract_calls.proofs.Assuming.{all_true, each_keeps, each_same, none_each, of_kind}
-use Rattle.contract_calls.proofs.AtCalls.{IsAtCall, at_call_is, below_args, past, reads_over}
+use Rattle.contract_calls.specs.CallForms.{CanAssume, CanCall}
+use Rattle.contract_calls.specs.CallStates.{after_call, behind_args, given, less, result_at}
+use Rattle.contract_calls.specs.Meaning.{KeepsReturned, back, passing}
+use Rattle.contract_calls.proofs.Assuming.{all_true, each_keeps, of_kind}
+use Rattle.contract_calls.proofs.AtCalls.{IsAtCall, at_call_is, below_args, reads_over}
 use Rattle.contract_calls.proofs.MethodClauses.{callee_clauses}
 use Rattle.contract_calls.proofs.PassedArguments.{at_of, base_of}
 
 -- ---- the result is pushed
 
-pub kind_alike : (a b : StateFacts) → ((r : ℕ) → place_in b r ≡ place_in a r) → (kind : Kind) (v : Var) → IsOfKind a kind v
+pub kind_alike : (a b : StateFacts) → ((r : ℕ) → place_in b r ≡ place_in a r) → (kind : Kind) (v : Var)
+    → IsOfKind a kind v
     → IsOfKind b kind v
 kind_alike a b same kinds.Int (vars.Number e) is = tt
 kind_alike a b same kinds.Ints (vars.Reference r) is = subst (IsOfPlace places.Ints) (sym (same r)) is
@@ -81,7 +77,8 @@ apart_pushed one two place kind known (Some made) is formed = record {
   };
   top = is.top;
   variables_are = is.variables_are;
-  of_kind = kind_alike (returned one place known made) (returned two place known made) (λ r. refl) kind is.top is.of_kind;
+  of_kind =
+      kind_alike (returned one place known made) (returned two place known made) (λ r. refl) kind is.top is.of_kind;
 }
 
 array_pushed : (apart : List Pair) (place : Place) (kind : Kind) (known : StateFacts)
@@ -355,7 +352,8 @@ reads_behind callee state p args new result here free =
     let count = length callee.args in
     let lower = below_args callee.args p ++ args in
     let size = length-append (below_args callee.args p) args in
-    reads_over (behind_args callee state) callee.args callee.result (below_args callee.args p) args (listed result) p.heap
+    reads_over (behind_args callee state) callee.args callee.result (below_args callee.args p) args (listed result)
+    p.heap
     new result here.first
     (given_read new callee.result result lower (first_of count state + count) free.fits
     (omega (arith, size, here.first, here.long)))
@@ -364,7 +362,7 @@ reads_behind callee state p args new result here free =
     (given_values new callee.result result free.fits))
 
 pub call_kept : (callee : CalleeInfo) (state : State) → IsCallee callee → CanCall callee state
-    → KeepsCalled callee state (after_call callee state)
+    → KeepsReturned callee state (after_call callee state)
 unfolding after_call
 call_kept callee state formed ready = λ i p args new result are free holds.
     let here = at_call_is callee state p args are holds in
@@ -381,4 +379,5 @@ call_kept callee state formed ready = λ i p args new result are free holds.
     (back_values callee i p args new result free holds.machine)
     (subst (λ l. HoldsOver (option_map (less (first_of count state) count) (given callee state)) l new)
     (sym (back_parts callee i p new result))
-    (less_keeps (given callee state) (first_of count state) count below args (listed result) new here.first here.long all))
+    (less_keeps (given callee state) (first_of count state) count below args (listed result) new here.first
+    here.long all))

@@ -7,28 +7,27 @@ use Rattle.std.proofs.lemmas.Option.{none-some, same_Some}
 use Rattle.cil_model.specs.Clauses.{clauses_of}
 use Rattle.cil_model.specs.Kinds.{kind_of, result_count}
 use Rattle.cil_model.specs.WellFormed.{IsCallee}
-use Rattle.cil_model.specs.declared.clause.Clause.{Clause}
 use Rattle.cil_model.specs.declared.clause.ClauseKind.TheVariants as clause_kinds
 use Rattle.cil_model.specs.declared.place.Kind.{Kind}
 use Rattle.cil_model.specs.declared.place.Kind.TheVariants as kinds
 use Rattle.cil_model.specs.declared.place.Place.{Place}
 use Rattle.cil_model.specs.declared.place.Place.TheVariants as places
 use Rattle.cil_model.specs.declared.unit.CalleeInfo.{CalleeInfo}
+use Rattle.cil_model.specs.declared.unit.Unit.{Unit as MethodUnit}
 use Rattle.cil_model.proofs.Lists.{all_append, all_drop, all_take}
 use Rattle.clause_trees.proofs.AssumedKept.{itself_same}
 use Rattle.clause_trees.proofs.SameForms.{all_on}
 use Rattle.clause_trees.proofs.Stays.{grown_itself}
-use Rattle.clause_trees.specs.VariableKinds.{AreSameForms, HasSameForms, HasSameFormsIn, IsGrown, IsOfKind, IsOneOfKind, IsPushed, IsPushedIn, IsReadable}
-use Rattle.clause_trees.specs.declared.reader.TreeEnv.{TreeEnv}
+use Rattle.clause_trees.specs.VariableKinds.{AreSameForms, HasSameFormsIn, IsGrown, IsOfKind, IsOneOfKind, IsPushedIn, IsReadable}
 use Rattle.frame_names.specs.declared.var.Var.{Var}
 use Rattle.frame_names.specs.declared.var.Var.TheVariants as vars
-use Rattle.state_facts.proofs.Growing.{grown, one_longer, same_facts}
+use Rattle.state_facts.proofs.Growing.{grown, same_facts}
 use Rattle.state_facts.specs.Calls.{with_call}
 use Rattle.state_facts.specs.Forms.{HasForm, IsVar}
 use Rattle.state_facts.specs.StateFacts.{StateFacts, State}
 use Rattle.contract_calls.specs.Arguments.{first_of}
-use Rattle.contract_calls.specs.CallForms.{AreGiven, CanCall, HasFew, IsBehindCall, IsBehindCallIn, IsClauseOf}
-use Rattle.contract_calls.specs.CallStates.{after_call, assumed_each, at_call, behind_args, given, less, result_at}
+use Rattle.contract_calls.specs.CallForms.{AreGiven, CanCall, CanReturn, HasFew, IsBehindCallIn}
+use Rattle.contract_calls.specs.CallStates.{after_call, assumed_each, at_call, at_return, behind_args, given, less, result_at}
 use Rattle.contract_calls.proofs.Assuming.{each_same, none_each, of_kind, readable_in}
 use Rattle.contract_calls.proofs.AtCalls.{past, same_long}
 use Rattle.contract_calls.proofs.Behind.{behind_readable, call_pushed, forgotten, kind_alike}
@@ -41,10 +40,11 @@ grown_forms : (known after : StateFacts) (vs : List Var) → IsGrown known after
     → AllByRecursion (IsVar (length known.facts.ranges) (length known.references)) vs → AreSameForms known after vs vs
 grown_forms known after [] grown all = tt
 grown_forms known after (vars.Number e ∷ vs) grown all = (tt, grown_forms known after vs grown all.1)
-grown_forms known after (vars.Reference r ∷ vs) grown all = (grown.places r all.0, grown_forms known after vs grown all.1)
+grown_forms known after (vars.Reference r ∷ vs) grown all =
+    (grown.places r all.0, grown_forms known after vs grown all.1)
 grown_forms known after (vars.Text ∷ vs) grown all = (tt, grown_forms known after vs grown all.1)
 
-same_take : (a b : StateFacts) (n : ℕ) (vs ws : List Var) → AreSameForms a b vs ws
+pub same_take : (a b : StateFacts) (n : ℕ) (vs ws : List Var) → AreSameForms a b vs ws
     → AreSameForms a b (take n vs) (take n ws)
 same_take a b zero vs ws same = tt
 same_take a b (suc n) [] [] same = tt
@@ -175,7 +175,8 @@ given_many callee (Some known) formed ready = λ x at.
     most = ready.there known refl
 
     by : (o : State) → IsGivenOverIn callee known o → (x : StateFacts) → o ≡ Some x
-        → length x.variables ≡ first_of (length callee.args) (Some known) + length callee.args + result_count callee.result
+        → length x.variables
+        ≡ first_of (length callee.args) (Some known) + length callee.args + result_count callee.result
     by None over x at = absurd (none-some x at)
     by (Some after) over x at =
         ap (λ k. length k.variables) (sym (same_Some after x at)) ∙ over.long ∙ omega (arith, most)
@@ -280,9 +281,11 @@ can_call callee known below vs form parts long few are =
     let first : length known.variables - length callee.args ≡ length below = omega (arith, all, long) in
     record {
       few = few;
-      there = λ x at. subst (λ k. length callee.args ≤ length k.variables) (same_Some known x at) (omega (arith, all, long));
+      there = λ x at.
+          subst (λ k. length callee.args ≤ length k.variables) (same_Some known x at) (omega (arith, all, long));
       readable = λ x at.
-          subst (IsReadable (at_call (length callee.args) (Some known)) callee.args callee.result) (same_Some known x at)
+          subst (IsReadable (at_call (length callee.args) (Some known)) callee.args callee.result)
+          (same_Some known x at)
           (record {
             form = form;
             args_fit = λ n kind is.
@@ -293,3 +296,40 @@ can_call callee known below vs form parts long few are =
             result_fits = λ i kind none. absurd (none-some i none);
           });
     }
+
+-- ---- at a return
+
+result_slot : (place : Place) (i j : ℕ) → result_at place i ≡ Some j → j ≡ i
+result_slot places.Void i j is = absurd (none-some j is)
+result_slot places.Bool i j is = sym (same_Some i j is)
+result_slot places.Int i j is = sym (same_Some i j is)
+result_slot places.Bools i j is = sym (same_Some i j is)
+result_slot places.Ints i j is = sym (same_Some i j is)
+
+-- The unit may return where its arguments at the entry are the first variables, and a result of its kind is on top.
+pub can_return : (unit : MethodUnit) (known : StateFacts) (vs more : List Var) → HasForm known
+    → known.variables ≡ vs ++ more → HasFew (Some known) → AreOfPlaces known unit.args vs
+    → ((kind : Kind) → kind_of unit.result ≡ Some kind
+    → IsOneOfKind known kind (slice_get known.variables (length known.variables - 1)))
+    → CanReturn unit (Some known)
+can_return unit known vs more form parts few are on_top = record {
+  few = few;
+  readable = λ x at.
+      subst (IsReadable (at_return unit.result (Some known)) unit.args unit.result) (same_Some known x at) (record {
+        form = form;
+        args_fit = λ n kind is.
+            let plain : n ≡ 0 + n = omega arith in
+            subst (λ m. IsOneOfKind known kind (slice_get known.variables m)) plain
+            (subst (λ l. IsOneOfKind known kind (slice_get l n)) (sym parts)
+            (front_kind known kind vs more n (of_places_at known unit.args vs n kind are is)));
+        result_fits = λ i kind is of_kind.
+            subst (λ m. IsOneOfKind known kind (slice_get known.variables m))
+            (sym (result_slot unit.result (length known.variables - 1) i is)) (on_top kind of_kind);
+      });
+}
+  where
+    front_kind : (known : StateFacts) (kind : Kind) (xs ys : List Var) (n : ℕ) → IsOneOfKind known kind (slice_get xs n)
+        → IsOneOfKind known kind (slice_get (xs ++ ys) n)
+    front_kind known kind [] ys n is = elim is [ ]
+    front_kind known kind (x ∷ xs) ys zero is = is
+    front_kind known kind (x ∷ xs) ys (suc n) is = front_kind known kind xs ys n is

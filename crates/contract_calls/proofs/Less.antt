@@ -1,5 +1,5 @@
 -- The arguments are taken from below the result.
-use Rattle.std.proofs.Common.{◌≡◌, ℕ, zero, suc, ◌+◌, ◌-◌, ◌≤◌, List, [], ◌∷◌, ◌++◌, length, reverse, take, drop, slice_get, Option, Some, None, refl, ap, subst, sym, ◌∙◌, append-nil, arith}
+use Rattle.std.proofs.Common.{◌≡◌, ℕ, zero, suc, ◌+◌, ◌-◌, ◌≤◌, List, [], ◌∷◌, ◌++◌, length, reverse, take, drop, slice_get, Some, None, refl, ap, sym, ◌∙◌, append-nil, arith}
 use Rattle.std.specs.Option.{ForSome, option_map}
 use Rattle.std.proofs.lemmas.List.{drop_all, drop_at, length-append, length-take-le, reverse-append, reverse-reverse, take_all}
 use Rattle.std.proofs.lemmas.Option.{none-some, same_Some}
@@ -43,7 +43,8 @@ pub ruleset taking = (none_taken, one_more)
 
 -- ---- the result alone is left
 
-pub less_nothing : (state : State) (first count : ℕ) → ForSome state (λ known. length known.variables ≡ first + count + 0)
+pub less_nothing : (state : State) (first count : ℕ)
+    → ForSome state (λ known. length known.variables ≡ first + count + 0)
     → option_map (without_top count) state ≡ option_map (less first count) state
 less_nothing None first count many = refl
 less_nothing (Some known) first count many =
@@ -83,7 +84,8 @@ less_result (Some known) first count v is many =
 pub less_none : (state : State) (first count : ℕ) → None ≡ slice_get (reverse (variables_in state)) 0
     → ForSome state (λ known. length known.variables ≡ first + count + 1) → state ≡ option_map (less first count) state
 less_none None first count is many = refl
-less_none (Some known) first count is many = absurd (by known.variables (reverse known.variables) refl (many known refl) is)
+less_none (Some known) first count is many =
+    absurd (by known.variables (reverse known.variables) refl (many known refl) is)
   where
     by : (vs l : List Var) → reverse vs ≡ l → length vs ≡ first + count + 1 → None ≡ slice_get l 0 → ⊥
     by vs [] same size at =

@@ -1,4 +1,4 @@
-pub mod Clauses
+pub mod MethodClauses
 pub mod PassedArguments
 pub mod Assuming
 pub mod AtCalls
@@ -7,3 +7,5 @@ pub mod Behind
 pub mod Less
 pub mod BehindForms
 pub mod Public
+pub mod Numbered
+pub mod WholeCalls

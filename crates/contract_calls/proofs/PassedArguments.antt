@@ -1,9 +1,9 @@
 -- Arguments that are put are those that a call takes from the stack.
-use Rattle.std.proofs.Common.{◌≡◌, ℕ, zero, suc, ◌+◌, ◌-◌, ◌≤◌, ℤ, List, [], ◌∷◌, ◌++◌, length, reverse, take, drop, set, slice_get, Option, Some, None, refl, ap, subst, sym, ◌∙◌, append_assoc, append-nil, arith}
+use Rattle.std.proofs.Common.{◌≡◌, ℕ, zero, suc, ◌+◌, ◌-◌, ℤ, List, [], ◌∷◌, ◌++◌, length, reverse, take, drop, set, slice_get, Option, Some, None, refl, ap, subst, sym, ◌∙◌, append_assoc, arith}
 use Rattle.std.specs.List.{AllByRecursion}
 use Rattle.std.specs.Option.{ForSome, option_map, option_map_or}
 use Rattle.std.proofs.Math.Seq.{set-append_seam}
-use Rattle.std.proofs.lemmas.List.{length-append, length-reverse, reverse-append, reverse-reverse, take-append-drop}
+use Rattle.std.proofs.lemmas.List.{length-append, reverse-append, reverse-reverse, take-append-drop}
 use Rattle.std.proofs.lemmas.Option.{none-some, same_Some}
 use Rattle.cil_model.specs.Calls.{args_of}
 use Rattle.cil_model.specs.Values.{FitPlaces, Heap, IsValue, put, put_all, with_first}
@@ -53,7 +53,8 @@ set_same a b (x ∷ vs) zero v w places at same =
 set_same a b (x ∷ vs) (suc i) v w places at same =
     ((all_same a b places (x ∷ [])).0, set_same a b vs i v w places at same)
 
-made_same : (known : StateFacts) (i : ℕ) (e : Expr) (o : Option Made) → slice_get known.variables i ≡ Some (vars.Number e)
+made_same : (known : StateFacts) (i : ℕ) (e : Expr) (o : Option Made)
+    → slice_get known.variables i ≡ Some (vars.Number e)
     → Formed (option_map (in_variable known i) o) → HasSameFormsIn known (option_map (in_variable known i) o)
 made_same known i e None at formed = tt
 made_same known i e (Some made) at formed = record {
@@ -80,7 +81,8 @@ var_put i vars.Text place known at formed = record {
 abbrev put_var : ℕ → Place → State → Option Var → State
 put_var i place state o = option_map_or (λ v. states.put i v place state) o state
 
-slot_put : (i : ℕ) (place : Place) (known : StateFacts) (o : Option Var) → HasForm known → slice_get known.variables i ≡ o
+slot_put : (i : ℕ) (place : Place) (known : StateFacts) (o : Option Var) → HasForm known
+    → slice_get known.variables i ≡ o
     → HasSameFormsIn known (put_var i place (Some known) o)
 slot_put i place known None form at = itself_same known form
 slot_put i place known (Some v) form at =
@@ -153,7 +155,8 @@ slot_keeps (Some known) place below rest value stored heap form over is =
 slot_form : (i : ℕ) (place : Place) (state : State) → ForSome state HasForm → ForSome (put_slot i place state) HasForm
 slot_form i place None form = λ x is. absurd (none-some x (sym (nothing_put i place) ∙ is))
 slot_form i place (Some known) form = λ x is.
-    of_same (put_slot i place (Some known)) x (slot_same i place known (Some known) (itself_same known (form known refl)))
+    of_same (put_slot i place (Some known)) x
+    (slot_same i place known (Some known) (itself_same known (form known refl)))
     is
   where
     of_same : (o : State) (x : StateFacts) → HasSameFormsIn known o → o ≡ Some x → HasForm x
@@ -202,7 +205,8 @@ abbrev pub base_of : Frame → List Value
 base_of frame = frame.entry_args ++ frame.args ++ frame.locals
 
 -- Those of a frame with arguments on its stack.
-pub over_args : (base below args : List Value) → base ++ reverse (reverse args ++ below) ≡ (base ++ reverse below) ++ args
+pub over_args : (base below args : List Value)
+    → base ++ reverse (reverse args ++ below) ≡ (base ++ reverse below) ++ args
 over_args base below args =
     ap (λ l. base ++ l) (reverse-append (reverse args) below ∙ ap (λ l. reverse below ++ l) (reverse-reverse args))
     ∙ sym (append_assoc base (reverse below) args)
@@ -224,7 +228,8 @@ args_values heap (place ∷ places) (v ∷ vs) fit = (value_of_place heap place 
 args_values heap [] (v ∷ vs) fit = elim fit [ ]
 args_values heap (place ∷ places) [] fit = elim fit [ ]
 
-pub passing_values : (places : List Place) (p : Point) (args : List Value) → args_of p.heap places p.frame.stack ≡ Some args
+pub passing_values : (places : List Place) (p : Point) (args : List Value)
+    → args_of p.heap places p.frame.stack ≡ Some args
     → HasMachineValues p → HasMachineValues (passing places args p)
 passing_values places p args are machine = record {
   heap = machine.heap;
@@ -247,7 +252,8 @@ as_long None vs heap count over = elim over.holds [ ]
 as_long (Some known) vs heap count over =
     ap (λ n. n - count) (as_many over.number over.array known.variables vs over.holds.variables)
 
-pub args_keep : (places : List Place) (state : State) → ForSome state HasForm → KeepsArgs places state (put_args places state)
+pub args_keep : (places : List Place) (state : State) → ForSome state HasForm
+    → KeepsArgs places state (put_args places state)
 unfolding put_args
 args_keep places state form = λ p args are holds.
     let values = reverse (take (length places) p.frame.stack) in

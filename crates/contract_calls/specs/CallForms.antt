@@ -1,5 +1,5 @@
 -- The forms of variables at calls and returns.
-use Rattle.std.specs.Prelude.{◌≡◌, ℕ, true, ◌*◌, ◌-◌, ◌≤◌, List, [], ◌∷◌, ◌++◌, length, take, Option, Some, None}
+use Rattle.std.specs.Prelude.{◌≡◌, true, ◌*◌, ◌-◌, ◌≤◌, List, [], ◌∷◌, ◌++◌, length, take, Option, Some, None}
 use Rattle.std.specs.List.{AllByRecursion}
 use Rattle.std.specs.Option.{ForSome}
 use Rattle.cil_model.specs.Kinds.{kind_of}
@@ -36,13 +36,13 @@ pub record CanReturn (unit : MethodUnit) (state : State) : Type 0 where
   pub few : HasFew state
   pub readable : ForSome state (IsReadable (at_return unit.result state) unit.args unit.result)
 
--- The clause may be one of a method of these arguments and this result: its tree is a number, and its constants are int32.
+-- The clause may be one of a method of these arguments and this result: its tree is a number with constants of int32.
 pub record IsClauseOf (args : List Place) (result : Place) (clause : Clause) : Type 0 where
   pub number : kind_in args result true clause.tree ≡ Some kinds.Int
   pub ints : HasInts clause
 
--- Clauses may be assumed one after the other: they are those of some method, and the variables that the environment names
--- are there, and of the kinds of its arguments and its result.
+-- Clauses may be assumed one after the other: they are those of some method, and the variables that the environment
+-- names are there, and of the kinds of its arguments and its result.
 pub record CanAssume (env : TreeEnv) (clauses : List Clause) (state : State) : Type 0 where
   pub args : List Place
   pub result : Place

@@ -1,6 +1,6 @@
--- What a call and a return owe, and what is known behind a call. The arguments of a call lie on top of the stack, as they
--- were put into their places.
-use Rattle.std.specs.Prelude.{ℕ, ◌+◌, ◌-◌, Bool, true, List, [], ◌∷◌, ◌++◌, length, take, drop, Option, Some, None}
+-- What a call and a return owe, and what is known behind a call. The arguments of a call lie on top of the stack, as
+-- they were put into their places.
+use Rattle.std.specs.Prelude.{ℕ, zero, suc, ◌+◌, ◌-◌, Bool, true, List, [], ◌∷◌, ◌++◌, length, take, drop, slice_get, Option, Some, None}
 use Rattle.std.specs.Option.{option_map}
 use Rattle.cil_model.specs.Clauses.{clauses_of}
 use Rattle.cil_model.specs.declared.clause.Clause.{Clause}
@@ -13,12 +13,17 @@ use Rattle.clause_trees.specs.ClauseStates.{assumed, shown}
 use Rattle.clause_trees.specs.declared.reader.TreeEnv.{TreeEnv}
 use Rattle.state_facts.specs.StateFacts.{StateFacts, State}
 use Rattle.state_facts.specs.States.{forget}
-use Rattle.contract_calls.specs.Arguments.{first_of}
+use Rattle.contract_calls.specs.Arguments.{first_of, put_args}
 
 -- Each clause is true.
 abbrev pub assumed_each : TreeEnv → List Clause → State → State
 assumed_each env [] state = state
 assumed_each env (clause ∷ clauses) state = assumed_each env clauses (assumed env true clause.tree state)
+
+-- The one of a number, counted from 1.
+unfoldable pub numbered : List Clause → ℕ → Option Clause
+numbered clauses zero = None
+numbered clauses (suc number) = slice_get clauses number
 
 -- The variable that has a result. There is none where it is void.
 abbrev pub result_at : Place → ℕ → Option ℕ
@@ -41,7 +46,8 @@ requires_assumed callee clause state = assumed (at_call (length callee.args) sta
 
 -- All Requires of the callee are assumed.
 unfoldable pub required : CalleeInfo → State → State
-required callee state = assumed_each (at_call (length callee.args) state) (clauses_of kinds.Requires callee.clauses) state
+required callee state =
+    assumed_each (at_call (length callee.args) state) (clauses_of kinds.Requires callee.clauses) state
 
 -- ---- behind a call
 
@@ -51,8 +57,8 @@ behind_args callee state =
     let count = length callee.args in
     record { args = first_of count state; result = result_at callee.result (first_of count state + count) }
 
--- The call came back: what arrays hold may be other than it was, its result is on top of the arguments, and each Ensures is
--- true.
+-- The call came back: what arrays hold may be other than it was, its result is on top of the arguments, and each
+-- Ensures is true.
 abbrev pub given : CalleeInfo → State → State
 given callee state =
     let count = length callee.args in
@@ -72,6 +78,12 @@ less first count known =
 unfoldable pub after_call : CalleeInfo → State → State
 after_call callee state =
     option_map (less (first_of (length callee.args) state) (length callee.args)) (given callee state)
+
+-- ---- a whole call
+
+-- The arguments of a call are put, and it came back.
+unfoldable pub called : CalleeInfo → State → State
+called callee state = after_call callee (required callee (put_args callee.args state))
 
 -- ---- at a return
 

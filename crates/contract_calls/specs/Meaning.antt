@@ -1,5 +1,5 @@
 -- What it means: of points of runs.
-use Rattle.std.specs.Prelude.{◌≡◌, ℕ, true, List, [], ◌∷◌, ◌++◌, length, reverse, drop, Option, Some, None}
+use Rattle.std.specs.Prelude.{◌≡◌, true, List, [], ◌∷◌, ◌++◌, length, reverse, drop, Option, Some, None}
 use Rattle.cil_model.specs.Calls.{FreeReturn, args_of, behind_call, pushed, result_of}
 use Rattle.cil_model.specs.Clauses.{Reading, clause_holds, false_requires}
 use Rattle.cil_model.specs.Values.{FitPlaces, Heap}
@@ -37,8 +37,8 @@ back callee i result new p = point (pushed (behind_call i (length callee.args) p
 
 -- ---- arguments and results
 
--- Where a call takes arguments from the stack of a point of which the old state holds, the new one holds of the point where
--- they were put.
+-- Where a call takes arguments from the stack of a point of which the old state holds, the new one holds of the point
+-- where they were put.
 abbrev pub KeepsArgs : List Place → State → State → Type 0
 KeepsArgs places before after =
     (p : Point) (args : List Value) → args_of p.heap places p.frame.stack ≡ Some args → HoldsAt before p
@@ -77,11 +77,19 @@ KeepsAllRequired callee before after =
     → HoldsAt after (passing callee.args args p)
 
 -- Where a call comes back with all that its callee's Ensures allow, the new state holds of the point behind it.
-abbrev pub KeepsCalled : CalleeInfo → State → State → Type 0
-KeepsCalled callee before after =
+abbrev pub KeepsReturned : CalleeInfo → State → State → Type 0
+KeepsReturned callee before after =
     (i : Instr) (p : Point) (args : List Value) (new : Heap) (result : Option Value)
     → args_of p.heap callee.args p.frame.stack ≡ Some args → FreeReturn callee args p.heap new result
     → HoldsAt before (passing callee.args args p) → HoldsAt after (back callee i result new p)
+
+-- Where a call takes its arguments from the stack of a point of which the old state holds, no Requires is false, and it
+-- comes back with all that its callee's Ensures allow, the new state holds of the point behind it.
+abbrev pub KeepsCall : CalleeInfo → State → State → Type 0
+KeepsCall callee before after =
+    (i : Instr) (p : Point) (args : List Value) (new : Heap) (result : Option Value)
+    → args_of p.heap callee.args p.frame.stack ≡ Some args → false_requires callee.clauses args p.heap ≡ None
+    → FreeReturn callee args p.heap new result → HoldsAt before p → HoldsAt after (back callee i result new p)
 
 -- Each Requires is shown, where those before it are assumed.
 abbrev pub AreRequired : CalleeInfo → List Clause → State → Type 0
@@ -96,7 +104,8 @@ abbrev pub reading_at_return : Frame → Heap → Option Value → Reading
 reading_at_return frame heap result =
     record { args = frame.entry_args; entry_heap = frame.entry_heap; heap = heap; result = result }
 
--- A frame of the unit returns this: its arguments at the entry are of their types, and the result is put into its place.
+-- A frame of the unit returns this: its arguments at the entry are of their types, and the result was put into its
+-- place.
 pub record Returns (unit : MethodUnit) (p : Point) (result : Option Value) : Type 0 where
   pub args_fit : FitPlaces p.frame.entry_heap unit.args p.frame.entry_args
   pub result_is : result_of p.heap unit.result p.frame.stack ≡ Some result

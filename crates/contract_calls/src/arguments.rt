@@ -19,11 +19,7 @@ pub(crate) fn first_of(state: &AbsState, count: usize) -> u32
     ensures { result ≡ rule.first_of count state.now }
 {
     let all = state.var_count() as usize;
-    if count < all {
-        (all - count) as u32
-    } else {
-        0
-    }
+    if count < all { (all - count) as u32 } else { 0 }
 }
 
 /// Puts what a variable has into a place of this type.
@@ -65,8 +61,8 @@ fn put_each(state: &mut AbsState, places: &[Place]) -> Result<(), NoMemory>
     put_from(state, first, places)
 }
 
-/// Puts the arguments of a call into the places of its parameters, as the machine does. They lie on top of the stack, the
-/// last one uppermost.
+/// Puts the arguments of a call into the places of its parameters, as the machine does. They lie on top of the stack,
+/// the last one uppermost.
 ///
 /// Here as below the error is want of memory, after which the state is to be given up.
 pub fn put_args(state: &mut AbsState, places: &[Place]) -> Result<(), NoMemory>

@@ -9,9 +9,10 @@ ghost use Rattle.cil_model.specs.Limits.{MAX_VARIABLES};
 ghost use Rattle.cil_model.specs.WellFormed.{IsCallee};
 ghost use Rattle.contract_calls.specs.CallForms.{CanAssume, CanCall, HasFew, IsClauseOf};
 ghost use Rattle.contract_calls.specs.CallStates as rule;
-ghost use Rattle.contract_calls.specs.Meaning.{IsRequiredAt, KeepsAllRequired, KeepsCalled, KeepsRequired};
+ghost use Rattle.contract_calls.specs.Meaning.{IsRequiredAt, KeepsAllRequired, KeepsCall, KeepsReturned, KeepsRequired};
 
-use crate::arguments::first_of;
+use crate::arguments::{first_of, put_args};
+use crate::clauses::assume_each;
 use abs_state::AbsState;
 use cil_model::{CalleeInfo, Clause, ClauseKind, Place};
 use clause_trees::{TreeEnv, assume_tree, tree_shown};
@@ -42,8 +43,8 @@ fn at_call(state: &AbsState, callee: &CalleeInfo) -> TreeEnv
 /// Returns whether the state shows a Requires of the callee to be true. The arguments lie on top of the stack, as they
 /// were put into the places of the parameters.
 ///
-/// The caller owes that they are of the parameters' kinds, and a clause of the callee. `requires_of_callee` of
-/// proofs/CalleeClauses gives the latter.
+/// The caller owes that they are of the parameters' kinds, and a clause of the callee (`callee_clauses` and
+/// `clause_there` of proofs/MethodClauses).
 ///
 /// Cost: that of `tree_shown`.
 #[tactic(auto, using(crate::proofs::AtCalls::test_at_call))]
@@ -81,54 +82,6 @@ pub fn assume_requires(
     assume_tree(alloc, state, &clause.tree, &at_call(state, callee))
 }
 
-/// Returns whether a clause is of this kind.
-fn is_kind(kind: ClauseKind, clause: &Clause) -> bool
-    ensures { result ≡ clauses.is_kind kind clause.now.kind }
-{
-    matches!(
-        (kind, clause.kind),
-        (ClauseKind::Requires, ClauseKind::Requires) | (ClauseKind::Ensures, ClauseKind::Ensures)
-    )
-}
-
-/// The state in which a clause is assumed to be true, where it is of this kind.
-#[tactic(auto, using(crate::proofs::Assuming::can_test))]
-fn assume_if(
-    alloc: Global,
-    state: AbsState,
-    kind: ClauseKind,
-    clause: &Clause,
-    env: &TreeEnv,
-) -> Result<AbsState, NoMemory>
-    requires ready { CanAssume env.now (clause.now ∷ []) state }
-    ensures { IfOk result (λ new. new ≡ rule.assumed_each env.now (clauses_of kind (clause.now ∷ [])) state) }
-{
-    if is_kind(kind, clause) {
-        assume_tree(alloc, &state, &clause.tree, env)
-    } else {
-        Ok(state)
-    }
-}
-
-/// The state in which each clause of this kind is assumed to be true, one after the other.
-#[tactic(auto, using(crate::proofs::Assuming::assuming))]
-fn assume_each(
-    alloc: Global,
-    state: AbsState,
-    kind: ClauseKind,
-    clauses: &[Clause],
-    env: &TreeEnv,
-) -> Result<AbsState, NoMemory>
-    requires ready { CanAssume env.now clauses.now state }
-    ensures { IfOk result (λ new. new ≡ rule.assumed_each env.now (clauses_of kind clauses.now) state) }
-{
-    let mut known = state;
-    for clause in clauses {
-        known = assume_if(alloc, known, kind, clause, env)?;
-    }
-    Ok(known)
-}
-
 /// The state in which all Requires of the callee are assumed to be true.
 #[tactic(auto, unfolding(crate::specs::CallStates::required), using(crate::proofs::AtCalls::call_assumes))]
 fn required(alloc: Global, state: AbsState, callee: &CalleeInfo) -> Result<AbsState, NoMemory>
@@ -137,7 +90,13 @@ fn required(alloc: Global, state: AbsState, callee: &CalleeInfo) -> Result<AbsSt
     ensures { IfOk result (λ new. new ≡ rule.required callee.now state) }
 {
     let env = at_call(&state, callee);
-    assume_each(alloc, state, ClauseKind::Requires, callee.clauses.as_slice(), &env)
+    assume_each(
+        alloc,
+        state,
+        ClauseKind::Requires,
+        callee.clauses.as_slice(),
+        &env,
+    )
 }
 
 /// The state in which all Requires of the callee are assumed to be true, one after the other.
@@ -174,11 +133,7 @@ fn behind_args(state: &AbsState, callee: &CalleeInfo) -> TreeEnv
 
 /// The state behind a call, with the arguments still below its result.
 #[tactic(auto, using(crate::proofs::Behind::behind_assumes))]
-fn given(
-    alloc: Global,
-    mut state: AbsState,
-    callee: &CalleeInfo,
-) -> Result<AbsState, NoMemory>
+fn given(alloc: Global, mut state: AbsState, callee: &CalleeInfo) -> Result<AbsState, NoMemory>
     requires formed { IsCallee callee.now }
     requires ready { CanCall callee.now state }
     ensures { IfOk result (λ new. new ≡ rule.given callee.now state) }
@@ -186,7 +141,13 @@ fn given(
     let env = behind_args(&state, callee);
     let count = callee.args.as_slice().len() as u32;
     state.forget(env.args, count, callee.result)?;
-    assume_each(alloc, state, ClauseKind::Ensures, callee.clauses.as_slice(), &env)
+    assume_each(
+        alloc,
+        state,
+        ClauseKind::Ensures,
+        callee.clauses.as_slice(),
+        &env,
+    )
 }
 
 /// Takes so many values from the stack.
@@ -240,21 +201,43 @@ fn behind(alloc: Global, state: AbsState, callee: &CalleeInfo) -> Result<AbsStat
     Ok(state)
 }
 
-/// The state behind a call that came back, from the one in which the arguments lie on top of the stack, as they were put
-/// into the places of the parameters, and the Requires are assumed. Each Ensures of the callee is assumed, of which old
-/// values are those over the heap at the call. The arguments are gone, and the result is on top.
+/// The state behind a call that came back, from the one at the call: the arguments lie on top of the stack, as they
+/// were put into the places of the parameters. Each Ensures of the callee is assumed, of which old values are those over
+/// the heap at the call. The arguments are gone, and the result is on top.
 ///
 /// Cost: that of `assume_tree` for each Ensures.
-pub fn after_call(
-    alloc: Global,
-    state: AbsState,
-    callee: &CalleeInfo,
-) -> Result<AbsState, NoMemory>
+pub fn after_call(alloc: Global, state: AbsState, callee: &CalleeInfo) -> Result<AbsState, NoMemory>
     requires formed { IsCallee callee.now }
     requires ready { CanCall callee.now state }
     ensures value { IfOk result (λ new. new ≡ rule.after_call callee.now state) }
     // Whatever the callee did that its Ensures allow.
-    ensures keeps { IfOk result (λ new. KeepsCalled callee.now state new) }
+    ensures keeps { IfOk result (λ new. KeepsReturned callee.now state new) }
 {
     behind(alloc, state, callee)
+}
+
+/// What a call makes of a state.
+#[tactic(auto, unfolding(crate::specs::CallStates::called))]
+fn whole(alloc: Global, mut state: AbsState, callee: &CalleeInfo) -> Result<AbsState, NoMemory>
+    requires formed { IsCallee callee.now }
+    requires ready { CanCall callee.now state }
+    ensures { IfOk result (λ new. new ≡ rule.called callee.now state) }
+{
+    put_args(&mut state, callee.args.as_slice())?;
+    let state = assume_all_requires(alloc, state, callee)?;
+    after_call(alloc, state, callee)
+}
+
+/// The state behind a call that came back, from the one before it: the arguments are put, all Requires of the callee are
+/// assumed, and then each of its Ensures.
+///
+/// Cost: that of `assume_tree` for each clause.
+pub fn call(alloc: Global, state: AbsState, callee: &CalleeInfo) -> Result<AbsState, NoMemory>
+    requires formed { IsCallee callee.now }
+    requires ready { CanCall callee.now state }
+    ensures value { IfOk result (λ new. new ≡ rule.called callee.now state) }
+    // Whatever the callee did that its Ensures allow.
+    ensures keeps { IfOk result (λ new. KeepsCall callee.now state new) }
+{
+    whole(alloc, state, callee)
 }

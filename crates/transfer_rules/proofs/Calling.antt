@@ -1,5 +1,6 @@
 -- What a call of a method takes and gives.
 use Rattle.std.proofs.Common.{◌≡◌, Option, Some, None, refl, sym, ap, subst, ◌∙◌}
+use Rattle.std.specs.Prelude.{Result, Ok, Err, OnOk}
 use Rattle.std.specs.Option.{option_and_then}
 use Rattle.cil_model.specs.WellFormed.{IsCallee}
 use Rattle.cil_model.specs.declared.unit.CalleeInfo.{CalleeInfo}
@@ -26,13 +27,19 @@ pub ready_callee : (o : Option CalleeInfo) (callee : CalleeInfo) (state : State)
     → CanCall callee state
 ready_callee o callee state is ready = (subst (λ (c : Option CalleeInfo). CanCallIt c state) is ready).1
 
-pub callee_called : (o : Option CalleeInfo) (callee : CalleeInfo) (state : State) → o ≡ Some callee
+callee_called : (o : Option CalleeInfo) (callee : CalleeInfo) (state : State) → o ≡ Some callee
     → called_back callee state ≡ option_and_then (called o) state
 callee_called o callee None is = none_back callee
 callee_called o callee (Some known) is = ap (λ (c : Option CalleeInfo). called c known) (sym is)
+
+pub where_called : {E : Type 0} (result : Result (Unit {0}) E) (o : Option CalleeInfo) (callee : CalleeInfo)
+    (old new : State) → o ≡ Some callee → OnOk result (new ≡ called_back callee old)
+    → OnOk result (new ≡ option_and_then (called o) old)
+where_called (Ok u) o callee old new found is = is ∙ callee_called o callee old found
+where_called (Err e) o callee old new found is = tt
 
 pub none_called : (o : Option CalleeInfo) (state : State) → o ≡ None → None ≡ option_and_then (called o) state
 none_called o None is = refl
 none_called o (Some known) is = ap (λ (c : Option CalleeInfo). called c known) (sym is)
 
-pub ruleset calling = (put_can, formed_callee, ready_callee, callee_called, none_called)
+pub ruleset calling = (put_can, formed_callee, ready_callee)

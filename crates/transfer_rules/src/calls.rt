@@ -1,7 +1,7 @@
 //! Calls of methods.
 
 ghost use Rattle.std.specs.Prelude.{◌≡◌, OnOk, slice_get};
-ghost use Rattle.std.specs.Option.{option_and_then};
+ghost use Rattle.std.specs.Option.{option_and_then, option_copied};
 ghost use Rattle.cil_model.specs.WellFormed.{IsCallee};
 ghost use Rattle.contract_calls.specs.CallForms.{CanCall};
 ghost use Rattle.transfer_rules.specs.Acts as rule;
@@ -29,6 +29,13 @@ fn call_back(alloc: Global, state: &mut AbsState, callee: &CalleeInfo) -> Result
     Ok(())
 }
 
+/// The entry of the unit's callee of this number, if there is one.
+fn callee_of(unit: &Unit, number: u32) -> Option<&CalleeInfo>
+    ensures { option_copied result ≡ slice_get unit.now.callees number }
+{
+    unit.callees.as_slice().get(number as usize)
+}
+
 /// Calls the unit's callee of this number. Where there is none, nothing is reached behind the call.
 #[tactic(auto, using(crate::proofs::Calling::calling))]
 pub(crate) fn pass_callee(
@@ -40,7 +47,7 @@ pub(crate) fn pass_callee(
     requires ready { CanCallIt (slice_get unit.now.callees number) state.old }
     ensures { OnOk result (state.new ≡ option_and_then (rule.called (slice_get unit.now.callees number)) state.old) }
 {
-    match unit.callees.as_slice().get(number as usize) {
+    match callee_of(unit, number) {
         Some(callee) => call_back(alloc, state, callee),
         None => {
             refuse(state);

@@ -6,8 +6,9 @@ use Rattle.contract_calls.proofs.arguments.put_from.Goals as goal
 pub loop-place-preserved : goal.loop-place-preserved
 loop-place-preserved c =
     let at : c.loop-place.i ≡ c.args.first + c.loop-place.place-index = c.loop-place.invariant.1 in
-    (c.loop-place.invariant.0
-    ∙ (at_drop_more (λ ps. put_from c.loop-place.i ps c.loop-place.state) c.args.places.now c.loop-place.place-index _
-    c.loop-place-test.true
-    ∙ ap (put_from (c.loop-place.i + 1) (drop (c.loop-place.place-index + 1) c.args.places.now))
-    (sym c.in_ok-put_slot.ensures)), omega (arith, at))
+    let rest = drop (c.loop-place.place-index + 1) c.args.places.now in (
+      c.loop-place.invariant.0 ∙ at_drop_more (λ ps. put_from c.loop-place.i ps c.loop-place.state) c.args.places.now
+          c.loop-place.place-index _ c.loop-place-test.true
+          ∙ ap (put_from (c.loop-place.i + 1) rest) (sym c.in_ok-put_slot.ensures),
+      omega (arith, at),
+    )

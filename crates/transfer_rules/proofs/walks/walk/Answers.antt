@@ -3,7 +3,7 @@ use Rattle.transfer_rules.proofs.walks.walk.Goals as goal
 
 pub loop-instr-preserved : goal.loop-instr-preserved
 loop-instr-preserved c =
-    rw c.in_ok-post.ensures.value (on_way c.args.unit.now c.args.number c.args.instrs.now c.loop-instr.initial.state
+    rw c.in_ok-post.ensures.value (on_way c.args.unit.now c.args.number c.args.instrs.now _
     c.loop-instr.state c.loop-instr.instr-index c.instr-item.result c.loop-instr.invariant c.loop-instr-test.true
     c.instr-item.is)
 

@@ -1,5 +1,5 @@
 use Rattle.contract_calls.proofs.Assuming.{IsUnderWay}
-use Rattle.contract_calls.proofs.calls.assume_each.Given as goal
+use Rattle.contract_calls.proofs.clauses.assume_each.Given as goal
 
 abbrev pub invariant-loop-clause : goal.invariant-loop-clause
 invariant-loop-clause l = IsUnderWay l.env l.kind l.clauses l.fn.state l.known l.clause-index

@@ -1,5 +1,5 @@
 use Rattle.contract_calls.proofs.Assuming.{next}
-use Rattle.contract_calls.proofs.calls.assume_each.Goals as goal
+use Rattle.contract_calls.proofs.clauses.assume_each.Goals as goal
 
 pub loop-clause-preserved : goal.loop-clause-preserved
 loop-clause-preserved c =
