@@ -1,5 +1,5 @@
 -- What is so of a whole call.
-use Rattle.std.proofs.Common.{◌≡◌, ℕ, ◌-◌, List, length, take, Option, Some, None, refl, ap, subst, sym, ◌∙◌}
+use Rattle.std.proofs.Common.{◌≡◌, ◌-◌, List, length, take, Some, None, refl, ap, subst, sym, ◌∙◌}
 use Rattle.std.specs.Option.{ForSome, option_map}
 use Rattle.cil_model.specs.Calls.{args_of}
 use Rattle.cil_model.specs.Clauses.{clauses_of, false_requires}
@@ -14,7 +14,7 @@ use Rattle.state_facts.specs.Forms.{HasForm}
 use Rattle.state_facts.specs.Holds.{HoldsAt}
 use Rattle.state_facts.specs.StateFacts.{StateFacts, State}
 use Rattle.contract_calls.specs.Arguments.{first_of, put_args}
-use Rattle.contract_calls.specs.CallForms.{CanCall, IsBehindCall, IsBehindCallIn}
+use Rattle.contract_calls.specs.CallForms.{CanCall, IsBehindCallIn}
 use Rattle.contract_calls.specs.CallStates.{after_call, behind_args, called, less, required}
 use Rattle.contract_calls.specs.Meaning.{AreRequired, KeepsCall}
 use Rattle.contract_calls.proofs.Assuming.{none_each, of_kind}

@@ -202,8 +202,8 @@ fn behind(alloc: Global, state: AbsState, callee: &CalleeInfo) -> Result<AbsStat
 }
 
 /// The state behind a call that came back, from the one at the call: the arguments lie on top of the stack, as they
-/// were put into the places of the parameters. Each Ensures of the callee is assumed, of which old values are those over
-/// the heap at the call. The arguments are gone, and the result is on top.
+/// were put into the places of the parameters. Each Ensures of the callee is assumed, of which old values are those
+/// over the heap at the call. The arguments are gone, and the result is on top.
 ///
 /// Cost: that of `assume_tree` for each Ensures.
 pub fn after_call(alloc: Global, state: AbsState, callee: &CalleeInfo) -> Result<AbsState, NoMemory>
@@ -228,8 +228,8 @@ fn whole(alloc: Global, mut state: AbsState, callee: &CalleeInfo) -> Result<AbsS
     after_call(alloc, state, callee)
 }
 
-/// The state behind a call that came back, from the one before it: the arguments are put, all Requires of the callee are
-/// assumed, and then each of its Ensures.
+/// The state behind a call that came back, from the one before it: the arguments are put, all Requires of the callee
+/// are assumed, and then each of its Ensures.
 ///
 /// Cost: that of `assume_tree` for each clause.
 pub fn call(alloc: Global, state: AbsState, callee: &CalleeInfo) -> Result<AbsState, NoMemory>
