@@ -2,8 +2,6 @@
 use Rattle.std.proofs.Common.{◌≡◌, ℕ, suc, ◌+◌, ◌<◌, ◌≤◌, Bool, true, List, [], ◌∷◌, ◌++◌, length, get_or, drop, map, refl, sym, ap, subst, ◌∙◌, add-one, append_assoc, drop-cons, arith}
 use Rattle.std.specs.List.{list_all, range_with_len}
 use Rattle.std.proofs.lemmas.Bool.{and_parts}
-use Rattle.std.proofs.lemmas.List.Sums.{count_by-le-length, length-filter}
-use Rattle.cil_model.specs.Clauses.{is_kind}
 use Rattle.cil_model.specs.Limits.{MAX_CLAUSES}
 use Rattle.cil_model.specs.WellFormed.{IsWellFormed}
 use Rattle.cil_model.specs.declared.clause.Clause.{Clause}
@@ -11,10 +9,10 @@ use Rattle.cil_model.specs.declared.instruction.Instr.{Instr}
 use Rattle.cil_model.specs.declared.instruction.Op.{Op}
 use Rattle.cil_model.specs.declared.machine.Obligation.{Obligation}
 use Rattle.cil_model.specs.declared.unit.Unit.{Unit as MethodUnit}
-use Rattle.obligation_prover.specs.ClausesTested.{clause_assumed, clause_obligation, clause_obligations, clauses_shown, clauses_tested, contract_of, kind_tested, put_tested, shown_in_turn, tested_by}
+use Rattle.obligation_prover.specs.ClausesTested.{clause_assumed, clause_obligation, clause_obligations, clauses_shown, clauses_tested, put_tested, shown_in_turn, tested_by}
 use Rattle.obligation_prover.specs.declared.tested.Tested.{Tested}
 use Rattle.obligation_prover.specs.declared.tested.Tested.TheVariants as tests
-use Rattle.obligation_prover.proofs.Contracts.{contract_formed}
+use Rattle.obligation_prover.proofs.Contracts.{few_tested}
 use Rattle.state_facts.specs.StateFacts.{State}
 use Rattle.invariant_checker.specs.Counts.{all_proved}
 use Rattle.invariant_checker.specs.Verdicts.{clause_verdicts, clauses_from}
@@ -27,17 +25,6 @@ shown_long : (unit : MethodUnit) (test : Tested) (clauses : List Clause) (state 
 shown_long unit test [] state = refl
 shown_long unit test (clause ∷ clauses) state =
     ap (λ (n : ℕ). suc n) (shown_long unit test clauses (clause_assumed unit test clause state))
-
-pub few_tested : (unit : MethodUnit) (op : Op) → IsWellFormed unit
-    → length (clauses_tested unit (tested_by unit op)) ≤ MAX_CLAUSES
-few_tested unit op formed =
-    let test = tested_by unit op in
-    omega (
-      arith,
-      (contract_formed unit op formed).few,
-      length-filter (λ (clause : Clause). is_kind (kind_tested test) clause.kind) (contract_of unit test),
-      count_by-le-length (λ (clause : Clause). is_kind (kind_tested test) clause.kind) (contract_of unit test),
-    )
 
 pub few_shown : (unit : MethodUnit) (op : Op) (state : State) → IsWellFormed unit
     → length (clauses_shown unit op state) ≤ MAX_CLAUSES

@@ -23,12 +23,12 @@ use Rattle.cil_model.proofs.Lists.{all_append}
 use Rattle.obligation_prover.specs.ClausesTested.{clause_obligation, clause_obligations, clauses_tested, tested_at_call, tested_by}
 use Rattle.obligation_prover.specs.Faults.{call_faults, faults_of, operator_faults}
 use Rattle.obligation_prover.specs.Obligations.{obligation, obligations_at, obligations_in, own_obligations}
+use Rattle.obligation_prover.proofs.Contracts.{few_tested}
 use Rattle.state_facts.specs.StateFacts.{State}
 use Rattle.unit_flow.specs.Flow.{IsLawful}
 use Rattle.unit_flow.specs.declared.unit_flow.UnitFlow.{UnitFlow}
 use Rattle.invariant_checker.specs.Verdicts.{verdicts}
 use Rattle.invariant_checker.specs.declared.verdict.Verdict.{Verdict}
-use Rattle.invariant_checker.proofs.ClauseVerdicts.{few_tested}
 use Rattle.invariant_checker.proofs.Covering.{each_told, obligations_told}
 
 -- ---- how many

@@ -3,6 +3,8 @@ use Rattle.std.proofs.Common.{◌≡◌, ℕ, zero, suc, ◌+◌, ◌≤◌, Lis
 use Rattle.std.specs.List.{AllByRecursion}
 use Rattle.std.specs.Option.{option_map_or}
 use Rattle.std.proofs.lemmas.Option.{none-some, same_Some}
+use Rattle.std.proofs.lemmas.List.Sums.{count_by-le-length, length-filter}
+use Rattle.cil_model.specs.Clauses.{is_kind}
 use Rattle.cil_model.specs.Limits.{MAX_CLAUSES, MAX_INSTRUCTIONS}
 use Rattle.cil_model.specs.UnitCalls.{unit_call}
 use Rattle.cil_model.specs.WellFormed.{InOrderOfUse, IsCallee, IsWellFormed, called_by}
@@ -19,7 +21,7 @@ use Rattle.contract_calls.specs.CallForms.{CanCall, IsClauseOf}
 use Rattle.contract_calls.proofs.AtCalls.{put_ready}
 use Rattle.contract_calls.proofs.AtReturns.{result_ready}
 use Rattle.contract_calls.proofs.MethodClauses.{callee_clauses, clauses_are}
-use Rattle.obligation_prover.specs.ClausesTested.{CanTest, IsClauseTested, IsContract, contract_of, put_tested, tested_at_call, tested_by}
+use Rattle.obligation_prover.specs.ClausesTested.{CanTest, IsClauseTested, IsContract, clauses_tested, contract_of, kind_tested, put_tested, tested_at_call, tested_by}
 use Rattle.state_facts.specs.StateFacts.{State}
 use Rattle.obligation_prover.specs.declared.tested.Tested.{Tested}
 use Rattle.obligation_prover.specs.declared.tested.Tested.TheVariants as tests
@@ -109,6 +111,18 @@ pub contract_formed : (unit : MethodUnit) (op : Op) → IsWellFormed unit → Is
 contract_formed unit (ops.Call number) formed = call_contract unit (unit_call number) formed
 contract_formed unit ops.Return formed = own_contract unit formed
 contract_formed unit _ formed = no_contract unit
+
+-- No more clauses are tested than a method may have.
+pub few_tested : (unit : MethodUnit) (op : Op) → IsWellFormed unit
+    → length (clauses_tested unit (tested_by unit op)) ≤ MAX_CLAUSES
+few_tested unit op formed =
+    let test = tested_by unit op in
+    omega (
+      arith,
+      (contract_formed unit op formed).few,
+      length-filter (λ (clause : Clause). is_kind (kind_tested test) clause.kind) (contract_of unit test),
+      count_by-le-length (λ (clause : Clause). is_kind (kind_tested test) clause.kind) (contract_of unit test),
+    )
 
 -- ---- states
 

@@ -146,7 +146,6 @@ fn judge_clauses(
 /// The caller owes that what the clauses read is there.
 ///
 /// Cost: that of showing and of assuming each.
-#[tactic(auto, using(crate::proofs::Contracts::contract_formed))]
 pub fn clauses_shown(alloc: Global, unit: &Unit, op: &Op, state: AbsState) -> Result<Vec<bool>, NoMemory>
     requires formed { IsWellFormed unit.now }
     requires ready { CanTest unit.now (rule.tested_by unit.now op.now) state }
