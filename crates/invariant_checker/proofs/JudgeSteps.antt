@@ -4,7 +4,7 @@ use Rattle.std.specs.Prelude.{IsTrue}
 use Rattle.std.specs.List.{AllByRecursion, flat_map, range_with_len}
 use Rattle.std.proofs.lemmas.Bool.{cases_Bool, false≢true}
 use Rattle.std.proofs.lemmas.Grind.{flat_map-append}
-use Rattle.std.proofs.lemmas.List.{get_or-take, length-take}
+use Rattle.std.proofs.lemmas.List.{drop_all, get_or-take, length-take}
 use Rattle.std.proofs.lemmas.List.Elements.{All-from_recursion}
 use Rattle.cil_model.specs.declared.instruction.Instr.{Instr}
 use Rattle.cil_model.specs.declared.machine.FaultKind.{FaultKind}
@@ -66,38 +66,65 @@ module _ (unit : MethodUnit) (is : List Instr) (k : ℕ) (i : Instr) (state : St
       append_assoc found (verdicts_at unit i state) (verdicts_from unit (drop (k + 1) is) (post unit i.op state))
       ∙ ap (λ (js : List Instr). found ++ verdicts_from unit js state) (sym (from_it within here))
 
-module _ (unit : MethodUnit) (is : List Instr) where
-  -- The instruction that the loop comes to, and what follows it.
-  can_from : (k : ℕ) (i : Instr) (state : State) → k < length (front is) → i ≡ get_or (front is) k i
-      → CanJudge unit (drop k is) state → CanJudge unit (i ∷ drop (k + 1) is) state
-  can_from k i state below there can =
+-- What was found of the first instructions, and what is to be found of the others, is the whole; and these can be judged.
+pub record IsUnderWay (unit : MethodUnit) (is : List Instr) (before : List Verdict) (first : State)
+    (found : List Verdict) (state : State) (k : ℕ) : Type 0 where
+  pub same : found ++ verdicts_from unit (drop k is) state ≡ before ++ verdicts_from unit is first
+  pub can : CanJudge unit (drop k is) state
+
+module _ (unit : MethodUnit) (is : List Instr) (before : List Verdict) (first : State) (found : List Verdict)
+    (state : State) (k : ℕ) (i : Instr) (way : IsUnderWay unit is before first found state k)
+    (below : k < length (front is)) (there : i ≡ get_or (front is) k i) where
+  can_from : CanJudge unit (i ∷ drop (k + 1) is) state
+  can_from =
       let last = length is - 1 in
       let within : k < length is = omega (arith, below, length-take last is) in
       let here : get_or is k i ≡ i = sym (there ∙ get_or-take last is k i (omega (arith, below, length-take last is))) in
-      subst (λ (js : List Instr). CanJudge unit js state) (from_it unit is k i state [] within here) can
+      subst (λ (js : List Instr). CanJudge unit js state) (from_it unit is k i state found within here) way.can
 
-  pub can_here : (k : ℕ) (i : Instr) (state : State) → k < length (front is) → i ≡ get_or (front is) k i
-      → CanJudge unit (drop k is) state → CanTest unit (tested_by unit i.op) state
-  can_here k i state below there can = (can_from k i state below there can).0
+  pub can_here : CanTest unit (tested_by unit i.op) state
+  can_here = can_from.0
 
-  pub can_do_here : (k : ℕ) (i : Instr) (state : State) → k < length (front is) → i ≡ get_or (front is) k i
-      → CanJudge unit (drop k is) state → CanDo unit i.op state
-  can_do_here k i state below there can = (can_from k i state below there can).1
+  pub can_do_here : CanDo unit i.op state
+  can_do_here = can_from.1
 
-  pub can_on : (k : ℕ) (i : Instr) (state : State) → k < length (front is) → i ≡ get_or (front is) k i
-      → CanJudge unit (drop k is) state → CanJudge unit (drop (k + 1) is) (post unit i.op state)
-  can_on k i state below there can = (can_from k i state below there can).2
+  goes_on : (more : List Verdict) (new : State) → more ≡ found ++ verdicts_at unit i state → new ≡ post unit i.op state
+      → IsUnderWay unit is before first more new (k + 1)
+  goes_on more new told made = record {
+    same = rw (told, made) (one_more_passed unit is k i state found below there ∙ way.same);
+    can = subst (CanJudge unit (drop (k + 1) is)) (sym made) can_from.2;
+  }
 
-  -- The last one.
-  pub can_last : (last : Instr) (k : ℕ) (state : State) → 1 ≤ length is → last ≡ get_or is (length is - 1) last
-      → length (front is) ≤ k → k ≤ length (front is) → CanJudge unit (drop k is) state
-      → CanTest unit (tested_by unit last.op) state
-  can_last last k state some there low high can =
+pub next : (unit : MethodUnit) (is : List Instr) (before : List Verdict) (first : State) (found : List Verdict)
+    (state : State) (k : ℕ) (i : Instr) → IsUnderWay unit is before first found state k → k < length (front is)
+    → i ≡ get_or (front is) k i → (more : List Verdict) (new : State) → more ≡ found ++ verdicts_at unit i state
+    → new ≡ post unit i.op state → IsUnderWay unit is before first more new (k + 1)
+next unit is before first found state k i way below there more new told made =
+    goes_on unit is before first found state k i way below there more new told made
+
+-- The last one.
+module _ (unit : MethodUnit) (is : List Instr) (before : List Verdict) (first : State) (found : List Verdict)
+    (state : State) (k : ℕ) (last : Instr) (way : IsUnderWay unit is before first found state k) (some : 1 ≤ length is)
+    (there : last ≡ get_or is (length is - 1) last) (low : length (front is) ≤ k) (high : k ≤ length (front is)) where
+  at_last : drop k is ≡ last ∷ drop (k + 1) is
+  at_last =
       let at : k ≡ length is - 1 = omega (arith, some, low, high, length-take (length is - 1) is) in
-      let whole : drop k is ≡ last ∷ drop (k + 1) is =
-      from_it unit is k last state [] (omega (arith, some, at))
-      (ap (λ (n : ℕ). get_or is n last) at ∙ sym there) in
-      (subst (λ (js : List Instr). CanJudge unit js state) whole can).0
+      from_it unit is k last state found (omega (arith, some, at)) (ap (λ (n : ℕ). get_or is n last) at ∙ sym there)
+
+  pub can_last : CanTest unit (tested_by unit last.op) state
+  can_last = (subst (λ (js : List Instr). CanJudge unit js state) at_last way.can).0
+
+  pub ended : (more : List Verdict) → more ≡ found ++ verdicts_at unit last state
+      → more ≡ before ++ verdicts_from unit is first
+  ended more told =
+      let none : drop (k + 1) is ≡ [] = drop_all (k + 1) is
+      (omega (arith, some, low, length-take (length is - 1) is)) in
+      told ∙ (sym (append-nil (found ++ verdicts_at unit last state))
+      ∙ (append_assoc found (verdicts_at unit last state) []
+      ∙ (ap (λ (vs : List Verdict). found ++ vs)
+      (ap (λ (js : List Instr). verdicts_at unit last state ++ verdicts_from unit js (post unit last.op state)) (sym none)
+      ∙ ap (λ (js : List Instr). verdicts_from unit js state) (sym at_last))
+      ∙ way.same)))
 
 -- ---- all blocks
 

@@ -69,14 +69,35 @@ one_place places.Int n i is = sym (same_Some n i is)
 one_place places.Bools n i is = sym (same_Some n i is)
 one_place places.Ints n i is = sym (same_Some n i is)
 
+-- A return finds one value that its place takes, or none where the place is void.
+one_taken : (place : Place) (k : Kind) (after : List Kind) → behind_return place (k ∷ []) ≡ Some after
+    → takes place k ≡ true
+one_taken places.Void k after typed = (when_same (takes places.Void k) [] after typed).0
+one_taken places.Bool k after typed = (when_same (takes places.Bool k) [] after typed).0
+one_taken places.Int k after typed = (when_same (takes places.Int k) [] after typed).0
+one_taken places.Bools k after typed = (when_same (takes places.Bools k) [] after typed).0
+one_taken places.Ints k after typed = (when_same (takes places.Ints k) [] after typed).0
+
+never_two : (place : Place) (k l : Kind) (stack after : List Kind) → behind_return place (k ∷ l ∷ stack) ≡ Some after
+    → ⊥
+never_two places.Void k l stack after typed = none-some after typed
+never_two places.Bool k l stack after typed = none-some after typed
+never_two places.Int k l stack after typed = none-some after typed
+never_two places.Bools k l stack after typed = none-some after typed
+never_two places.Ints k l stack after typed = none-some after typed
+
+never_empty : (place : Place) (kind : Kind) (after : List Kind) → behind_return place [] ≡ Some after
+    → kind_of place ≡ Some kind → ⊥
+never_empty places.Void kind after typed is = none-some kind is
+never_empty places.Bool kind after typed is = none-some after typed
+never_empty places.Int kind after typed is = none-some after typed
+never_empty places.Bools kind after typed is = none-some after typed
+never_empty places.Ints kind after typed is = none-some after typed
+
 on_top : (known : StateFacts) (place : Place) (stack after : List Kind) (upper : List Var)
     → behind_return place stack ≡ Some after → FitKinds known (reverse stack) upper → IsOnTop known place upper
-on_top known places.Void [] after upper typed fits =
-    record { reads = λ i n kind at is. absurd (none-some kind is) }
-on_top known places.Bool [] after upper typed fits = absurd (none-some after typed)
-on_top known places.Int [] after upper typed fits = absurd (none-some after typed)
-on_top known places.Bools [] after upper typed fits = absurd (none-some after typed)
-on_top known places.Ints [] after upper typed fits = absurd (none-some after typed)
+on_top known place [] after upper typed fits =
+    record { reads = λ i n kind at is. absurd (never_empty place kind after typed is) }
 on_top known place (k ∷ []) after [] typed fits = elim fits [ ]
 on_top known place (k ∷ []) after (v ∷ w ∷ upper) typed fits = elim fits.1 [ ]
 on_top known place (k ∷ []) after (v ∷ []) typed fits = record {
@@ -84,12 +105,10 @@ on_top known place (k ∷ []) after (v ∷ []) typed fits = record {
     v,
     refl,
     one_place place n i at,
-    read_kind known place kind v is
-        (taken_fits known place k v (when_same (takes place k) [] after typed).0 fits.0),
+    read_kind known place kind v is (taken_fits known place k v (one_taken place k after typed) fits.0),
   );
 }
-on_top known places.Void (k ∷ l ∷ stack) after upper typed fits = absurd (none-some after typed)
-on_top known place (k ∷ l ∷ stack) after upper typed fits = absurd (none-some after typed)
+on_top known place (k ∷ l ∷ stack) after upper typed fits = absurd (never_two place k l stack after typed)
 
 module _ (unit : MethodUnit) (stack after : List Kind) (known : StateFacts)
     (few : length unit.args + length unit.locals + length stack ≤ MAX_VARIABLES)
@@ -100,20 +119,14 @@ module _ (unit : MethodUnit) (stack after : List Kind) (known : StateFacts)
   abbrev below : List Kind
   below = map kind_in unit.args ++ map kind_in unit.args ++ map kind_in unit.locals
 
-  parts : FitKinds known (below ++ reverse stack) known.variables
-  parts = subst (λ (ks : List Kind). FitKinds known ks known.variables) grouped has.fit
-    where
-      grouped : kinds_over unit stack ≡ below ++ reverse stack
-      grouped = grind append_assoc
-
   long : length known.variables ≡ length unit.args + length unit.args + length unit.locals + length stack
   long =
       fit_long known (kinds_over unit stack) known.variables has.fit
       ∙ omega (
         arith,
-        length-append entry (entry ++ map kind_in unit.locals ++ reverse stack),
-        length-append entry (map kind_in unit.locals ++ reverse stack),
-        length-append (map kind_in unit.locals) (reverse stack),
+        length-append below (reverse stack),
+        length-append (entry ++ entry) (map kind_in unit.locals),
+        length-append entry entry,
         length-map unit.args kind_in,
         length-map unit.locals kind_in,
         length-reverse stack,
@@ -122,15 +135,21 @@ module _ (unit : MethodUnit) (stack after : List Kind) (known : StateFacts)
   args_read : (n : ℕ) (kind : Kind) → option_and_then kind_of (slice_get unit.args n) ≡ Some kind
       → IsOneOfKind known kind (slice_get known.variables n)
   args_read n kind is =
-      let both = fit_split known entry (entry ++ map kind_in unit.locals ++ reverse stack) known.variables has.fit in
-      let (v, there, of) = read_at known unit.args both.lower n kind both.first is in
+      let all = fit_split known below (reverse stack) known.variables has.fit in
+      let both = fit_split known (entry ++ entry) (map kind_in unit.locals) all.lower all.first in
+      let args = fit_split known entry entry both.lower both.first in
+      let (v, there, of) = read_at known unit.args args.lower n kind args.first is in
+      let first : slice_get both.lower n ≡ Some v =
+      ap (λ (vs : List Var). slice_get vs n) args.are ∙ front_at args.lower args.upper n v there in
+      let second : slice_get all.lower n ≡ Some v =
+      ap (λ (vs : List Var). slice_get vs n) both.are ∙ front_at both.lower both.upper n v first in
       subst (IsOneOfKind known kind)
-      (sym (ap (λ (vs : List Var). slice_get vs n) both.are ∙ front_at both.lower both.upper n v there)) of
+      (sym (ap (λ (vs : List Var). slice_get vs n) all.are ∙ front_at all.lower all.upper n v second)) of
 
   result_read : (i : ℕ) (kind : Kind) → result_at unit.result (first_of 1 (Some known)) ≡ Some i
       → kind_of unit.result ≡ Some kind → IsOneOfKind known kind (slice_get known.variables i)
   result_read i kind at is =
-      let both = fit_split known below (reverse stack) known.variables parts in
+      let both = fit_split known below (reverse stack) known.variables has.fit in
       let top = on_top known unit.result stack after both.upper typed both.second in
       let (v, alone, here, of) = top.reads i (first_of 1 (Some known)) kind at is in
       let are : known.variables ≡ both.lower ++ v ∷ [] = both.are ∙ ap (λ (vs : List Var). both.lower ++ vs) alone in
@@ -145,7 +164,13 @@ module _ (unit : MethodUnit) (stack after : List Kind) (known : StateFacts)
     few = omega (arith, long, few);
     readable = λ x is.
         subst (IsReadable (at_return unit.result (Some known)) unit.args unit.result) (same_Some known x is)
-        (record { form = has.form; args_fit = args_read; result_fits = result_read });
+        (record {
+          form = has.form;
+          args_fit = λ n kind at.
+              let same : n ≡ 0 + n = omega arith in
+              subst (λ (m : ℕ). IsOneOfKind known kind (slice_get known.variables m)) same (args_read n kind at);
+          result_fits = result_read;
+        });
   }
 
 -- Where nothing is reached, any unit may return.

@@ -39,7 +39,7 @@ use Rattle.obligation_prover.proofs.Plain.{row_plain}
 -- ---- clauses by their numbers
 
 -- What is not true is one of the clauses.
-in_range : (n : ℕ) (r : Reading) (clauses : List Clause) (k : ℕ) → first_false n r clauses ≡ Some k
+pub in_range : (n : ℕ) (r : Reading) (clauses : List Clause) (k : ℕ) → first_false n r clauses ≡ Some k
     → (n ≤ k) × (k < n + length clauses)
 in_range n r [] k is = absurd (none-some k is)
 in_range n r (clause ∷ clauses) k is =

@@ -12,3 +12,4 @@ pub mod Plain
 pub mod NoneFalse
 pub mod EachListed
 pub mod JudgingClauses
+pub mod ByClause

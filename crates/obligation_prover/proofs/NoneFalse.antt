@@ -66,7 +66,7 @@ are_ensured unit [] state shown = tt
 are_ensured unit (clause ∷ clauses) state shown =
     let parts = and_parts _ _ shown in (parts.0, are_ensured unit clauses _ parts.1)
 
-form_of : {P : StateFacts → Type 0} (state : State) → ForSome state P → ((known : StateFacts) → P known → HasForm known)
+pub form_of : {P : StateFacts → Type 0} (state : State) → ForSome state P → ((known : StateFacts) → P known → HasForm known)
     → ForSome state HasForm
 form_of state all so = λ known is. so known (all known is)
 
