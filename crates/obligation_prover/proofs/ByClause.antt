@@ -1,13 +1,13 @@
 -- What is said of an obligation of a clause: where it is entailed, the clause is not found false.
 use Rattle.std.proofs.Common.{◌≡◌, ◌⊎◌, ℕ, zero, suc, ◌+◌, ◌-◌, ◌≤◌, Bool, true, false, if◌then◌else◌, List, [], ◌∷◌, Option, Some, None, slice_get, refl, sym, ap, subst, ◌∙◌, inl, inr, arith}
+use Rattle.std.specs.Prelude.{Result, Ok, Err, IfOk}
 use Rattle.std.specs.List.{AllByRecursion}
 use Rattle.std.specs.Option.{ForSome, option_map_or}
 use Rattle.std.proofs.lemmas.Bool.{cond_both, false≢true, true≢false}
 use Rattle.std.proofs.lemmas.Option.{none-some, same_Some}
 use Rattle.cil_model.specs.Calls.{FreeCall, FreelyCalled, Returned, clauses_in_force, ensures_fault}
 use Rattle.cil_model.specs.Clauses.{Reading, clause_holds, clauses_of, false_requires, first_false, is_kind}
-use Rattle.cil_model.specs.Effects.{Faults}
-use Rattle.cil_model.specs.Runs.{CallsBy, EffectRow, Row}
+use Rattle.cil_model.specs.Runs.{CallsBy, EffectRow, Row, instr_at}
 use Rattle.cil_model.specs.UnitCalls.{unit_call}
 use Rattle.cil_model.specs.WellFormed.{IsWellFormed}
 use Rattle.cil_model.specs.declared.clause.Clause.{Clause}
@@ -20,6 +20,7 @@ use Rattle.cil_model.specs.declared.machine.Config.{Config}
 use Rattle.cil_model.specs.declared.machine.Config.TheVariants as configs
 use Rattle.cil_model.specs.declared.machine.FaultKind.{FaultKind}
 use Rattle.cil_model.specs.declared.machine.FaultKind.TheVariants as faults
+use Rattle.cil_model.specs.declared.machine.Obligation.{Obligation}
 use Rattle.cil_model.specs.declared.machine.Value.{Value}
 use Rattle.cil_model.specs.declared.unit.CalleeInfo.{CalleeInfo}
 use Rattle.cil_model.specs.declared.unit.Unit.{Unit as MethodUnit}
@@ -37,10 +38,10 @@ use Rattle.machine_points.specs.declared.point.Point.{Point}
 use Rattle.state_facts.specs.Forms.{HasForm}
 use Rattle.state_facts.specs.Holds.{HoldsAt}
 use Rattle.state_facts.specs.StateFacts.{StateFacts, State}
-use Rattle.obligation_prover.specs.ByObligation.{AssumesClause, EndsNotIn, clause_entailed, clause_met, clause_of_fault}
+use Rattle.obligation_prover.specs.ByObligation.{AssumesAt, AssumesClause, AssumesIt, CanJudge, EndsNotIn, RulesItOut, clause_entailed, clause_met, clause_of_fault}
 use Rattle.obligation_prover.specs.ClausesTested.{CanTest, IsClauseTested, IsContract, clause_assumed, clause_shown, clauses_tested, contract_of, kind_tested, put_tested, tested_at_call, tested_by}
 use Rattle.obligation_prover.specs.Faults.{is_of_clause}
-use Rattle.obligation_prover.specs.Meaning.{RulesOut}
+use Rattle.obligation_prover.specs.Meaning.{AssumesNoFault, RulesOut}
 use Rattle.obligation_prover.specs.declared.tested.Tested.{Tested}
 use Rattle.obligation_prover.specs.declared.tested.Tested.TheVariants as tests
 use Rattle.obligation_prover.proofs.Complete.{effect_of_step}
@@ -258,3 +259,47 @@ clause_kept unit op kind state formed can = λ clause found.
     (option_map_or (λ c. clause_assumed unit test c (put_tested unit test state)) o state)) (sym found)
     (assumed_at unit test clause state can
     (clause_is_tested unit test kind clause (contract_formed unit op formed) found))
+
+pub clause_assumes : (unit : MethodUnit) (op : Op) (kind : FaultKind) (state : State) → is_of_clause kind ≡ true
+    → IsWellFormed unit → CanTest unit (tested_by unit op) state
+    → AssumesAt unit op kind state (clause_met unit (tested_by unit op) kind state)
+clause_assumes unit op kind state of formed can = record {
+  clause = λ so. clause_kept unit op kind state formed can;
+  own = λ other. absurd (true≢false (sym of ∙ other));
+}
+
+pub own_assumes : (unit : MethodUnit) (op : Op) (kind : FaultKind) (state new : State) → is_of_clause kind ≡ false
+    → AssumesNoFault unit op state new → AssumesAt unit op kind state new
+own_assumes unit op kind state new own keeps = record {
+  clause = λ so. absurd (true≢false (sym so ∙ own));
+  own = λ other. keeps;
+}
+
+-- ---- where the obligation stands
+
+pub can_there : (unit : MethodUnit) (o : Obligation) (state : State) (i : Instr) → CanJudge unit o state
+    → instr_at unit.instrs o.at ≡ Some i → CanTest unit (tested_by unit i.op) state
+can_there unit o state i can there = can i there
+
+pub entailed_there : {E : Type 0} (result : Result Bool E) (unit : MethodUnit) (o : Obligation) (state : State) (i : Instr)
+    → instr_at unit.instrs o.at ≡ Some i → IfOk result (λ entailed. entailed ≡ true → EndsNotIn unit i.op o.kind state)
+    → IfOk result (λ entailed. entailed ≡ true → RulesItOut unit o state)
+entailed_there (Ok entailed) unit o state i there sound = λ so j found.
+    subst (λ (k : Instr). EndsNotIn unit k.op o.kind state) (same_Some i j (sym there ∙ found)) (sound so)
+entailed_there (Err e) unit o state i there sound = tt
+
+pub assumed_there : {E : Type 0} (result : Result State E) (unit : MethodUnit) (o : Obligation) (state : State) (i : Instr)
+    → instr_at unit.instrs o.at ≡ Some i → IfOk result (AssumesAt unit i.op o.kind state)
+    → IfOk result (λ new. AssumesIt unit o state new)
+assumed_there (Ok new) unit o state i there sound = λ j found.
+    subst (λ (k : Instr). AssumesAt unit k.op o.kind state new) (same_Some i j (sym there ∙ found)) sound
+assumed_there (Err e) unit o state i there sound = tt
+
+pub nowhere_entailed : (unit : MethodUnit) (o : Obligation) (state : State) → instr_at unit.instrs o.at ≡ None
+    → RulesItOut unit o state
+nowhere_entailed unit o state none = λ i found. absurd (none-some i (sym none ∙ found))
+
+pub nowhere_assumed : {E : Type 0} (result : Result State E) (unit : MethodUnit) (o : Obligation) (state : State)
+    → instr_at unit.instrs o.at ≡ None → IfOk result (λ new. AssumesIt unit o state new)
+nowhere_assumed (Ok new) unit o state none = λ i found. absurd (none-some i (sym none ∙ found))
+nowhere_assumed (Err e) unit o state none = tt

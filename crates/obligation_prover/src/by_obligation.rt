@@ -5,7 +5,7 @@ ghost use Rattle.std.specs.Option.{ForSome, option_copied};
 ghost use Rattle.cil_model.specs.Runs.{instr_at};
 ghost use Rattle.cil_model.specs.WellFormed.{IsWellFormed};
 ghost use Rattle.obligation_prover.specs.ByObligation as rule;
-ghost use Rattle.obligation_prover.specs.ByObligation.{AssumesIt, CanJudge, RulesItOut};
+ghost use Rattle.obligation_prover.specs.ByObligation.{AssumesAt, AssumesIt, CanJudge, EndsNotIn, RulesItOut};
 ghost use Rattle.obligation_prover.specs.ClausesTested as tests;
 ghost use Rattle.obligation_prover.specs.ClausesTested.{CanTest, IsClauseTested, IsContract};
 ghost use Rattle.obligation_prover.specs.Faults.{is_of_clause};
@@ -55,6 +55,7 @@ fn clause_of_fault(unit: &Unit, test: Tested, kind: FaultKind) -> Option<&Clause
 }
 
 /// Returns whether a clause is shown, from the state before the instruction that tests it.
+#[tactic(auto, using(crate::proofs::Contracts::put_can))]
 fn clause_entailed(
     alloc: Global,
     unit: &Unit,
@@ -76,6 +77,7 @@ fn clause_entailed(
 }
 
 /// The state where a clause is assumed, from the one before the instruction that tests it.
+#[tactic(auto, using(crate::proofs::Contracts::put_can))]
 fn clause_met(
     alloc: Global,
     unit: &Unit,
@@ -108,6 +110,7 @@ fn entailed_at(
     requires ready { CanTest unit.now (tests.tested_by unit.now op.now) state.now }
     ensures value { IfOk result (λ entailed. entailed ≡ rule.entailed_at unit.now op.now kind state.now) }
     ensures own { is_of_clause kind ≡ false → result ≡ Ok (rule.entailed_at unit.now op.now kind state.now) }
+    ensures sound { IfOk result (λ entailed. entailed ≡ true → EndsNotIn unit.now op.now kind state.now) }
 {
     if is_of_clause(kind) {
         clause_entailed(alloc, unit, tested_by(unit, op), kind, state)
@@ -126,7 +129,8 @@ fn met_at(
 ) -> Result<AbsState, NoMemory>
     requires formed { IsWellFormed unit.now }
     requires ready { CanTest unit.now (tests.tested_by unit.now op.now) state.now }
-    ensures { IfOk result (λ new. new ≡ rule.met_at unit.now op.now kind state.now) }
+    ensures value { IfOk result (λ new. new ≡ rule.met_at unit.now op.now kind state.now) }
+    ensures sound { IfOk result (AssumesAt unit.now op.now kind state.now) }
 {
     if is_of_clause(kind) {
         return clause_met(alloc, unit, tested_by(unit, op), kind, state);
