@@ -17,7 +17,9 @@ use crate::verdict::Verdict;
 use abs_state::AbsState;
 use cil_model::{Instr, Obligation, Unit};
 use domain_api::NoMemory;
-use obligation_prover::{Tested, avoid, clause_obligation, clauses_shown, faults_of, obligations, rules_out, tested_by};
+use obligation_prover::{
+    Tested, avoid, clause_obligation, clauses_shown, faults_of, obligations, rules_out, tested_by,
+};
 use std::alloc::Global;
 use transfer_rules::{Invariant, inductive, post};
 use unit_flow::UnitFlow;

@@ -87,8 +87,11 @@ module _ (unit : MethodUnit) (i : Instr) (f : Frame) (heap : Heap) (kind : Fault
       (subst (λ (cs : List Clause). k < 1 + length cs) (sym same) range.1) in
       let is_kind : kind ≡ faults.Requires k = cc in
       let here : i.at ≡ at = cc in (
-        (Some number, subst (λ (x : FaultKind). Contains (owed test)
-        (record { at = i.at; kind = x; callee = Some number })) (sym is_kind) there),
+        (
+          Some number,
+          subst (λ (x : FaultKind). Contains (owed test)
+              (record { at = i.at; kind = x; callee = Some number })) (sym is_kind) there,
+        ),
         here,
       )
   requires_false number callee args None known is (inl ends) = absurd cc
@@ -115,8 +118,11 @@ module _ (unit : MethodUnit) (i : Instr) (f : Frame) (heap : Heap) (kind : Fault
       each_there (clause_obligation i tests.Own) 1 (length (clauses_tested unit tests.Own)) k range.0 range.1 in
       let same : kind ≡ faults.Ensures k = cc in
       let here : i.at ≡ at = cc in (
-        (None, subst (λ (x : FaultKind). Contains (owed tests.Own)
-        (record { at = i.at; kind = x; callee = None })) (sym same) there),
+        (
+          None,
+          subst (λ (x : FaultKind). Contains (owed tests.Own)
+              (record { at = i.at; kind = x; callee = None })) (sym same) there,
+        ),
         here,
       )
   ensures_false result None is (inl ends) = let to = ends.1 in absurd cc
@@ -148,8 +154,11 @@ module _ (unit : MethodUnit) (i : Instr) (f : Frame) (heap : Heap) (kind : Fault
           )
       by (inr own) =
           let is = step_among unit i f heap kind index at own row in (
-            (None, Contains-append_left (own_obligations unit i) (clause_obligations unit i) _
-            (mapped (faults_of unit i.op) is.0)),
+            (
+              None,
+              Contains-append_left (own_obligations unit i) (clause_obligations unit i) _
+                  (mapped (faults_of unit i.op) is.0),
+            ),
             is.1,
           )
 

@@ -52,8 +52,7 @@ are_required : (unit : MethodUnit) (number : ℕ) (callee : CalleeInfo) (clauses
 are_required unit number callee [] state there shown = tt
 are_required unit number callee (clause ∷ clauses) state there shown =
     let parts = and_parts _ _ shown in
-    let test = tests.Callee number in
-    (
+    let test = tests.Callee number in (
       subst (λ (o : Option CalleeInfo). option_map_or (λ c. requires_shown c clause state) o false ≡ true) there parts.0,
       are_required unit number callee clauses (requires_assumed callee clause state) there
           (subst (λ (s : State). list_all (λ b. b) (shown_in_turn unit test clauses s) ≡ true)

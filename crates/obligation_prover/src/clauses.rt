@@ -11,7 +11,9 @@ ghost use Rattle.obligation_prover.specs.ClausesTested.{CanTest, IsClauseTested,
 use crate::tested::{Tested, callee_at, contract_of, is_tested, tested_by};
 use abs_state::AbsState;
 use cil_model::{Clause, Op, Unit};
-use contract_calls::{assume_ensures, assume_requires, ensures_shown, put_args, put_result, requires_shown};
+use contract_calls::{
+    assume_ensures, assume_requires, ensures_shown, put_args, put_result, requires_shown,
+};
 use domain_api::NoMemory;
 use std::alloc::Global;
 
@@ -146,7 +148,12 @@ fn judge_clauses(
 /// The caller owes that what the clauses read is there.
 ///
 /// Cost: that of showing and of assuming each.
-pub fn clauses_shown(alloc: Global, unit: &Unit, op: &Op, state: AbsState) -> Result<Vec<bool>, NoMemory>
+pub fn clauses_shown(
+    alloc: Global,
+    unit: &Unit,
+    op: &Op,
+    state: AbsState,
+) -> Result<Vec<bool>, NoMemory>
     requires formed { IsWellFormed unit.now }
     requires ready { CanTest unit.now (rule.tested_by unit.now op.now) state }
     ensures value { IfOk result (λ shown. shown.items ≡ rule.clauses_shown unit.now op.now state) }

@@ -30,7 +30,12 @@ fn count_tested(test: Tested, clauses: &[Clause]) -> u8
 }
 
 /// Appends the obligations of so many clauses that an instruction tests.
-fn push_each(found: &mut Vec<Obligation>, instr: &Instr, test: Tested, count: u8) -> Result<(), NoMemory>
+fn push_each(
+    found: &mut Vec<Obligation>,
+    instr: &Instr,
+    test: Tested,
+    count: u8,
+) -> Result<(), NoMemory>
     requires few { count ≤ MAX_CLAUSES }
     ensures { OnOk result (found.new.items
         ≡ found.old.items ++ map (tests.clause_obligation instr.now test) (range_with_len 1 count)) }
@@ -42,16 +47,29 @@ fn push_each(found: &mut Vec<Obligation>, instr: &Instr, test: Tested, count: u8
 }
 
 /// Appends those of the clauses that an instruction tests.
-fn push_clause_obligations(found: &mut Vec<Obligation>, unit: &Unit, instr: &Instr) -> Result<(), NoMemory>
+fn push_clause_obligations(
+    found: &mut Vec<Obligation>,
+    unit: &Unit,
+    instr: &Instr,
+) -> Result<(), NoMemory>
     requires formed { IsWellFormed unit.now }
     ensures { OnOk result (found.new.items ≡ found.old.items ++ tests.clause_obligations unit.now instr.now) }
 {
     let test = tested_by(unit, &instr.op);
-    push_each(found, instr, test, count_tested(test, contract_of(unit, test)))
+    push_each(
+        found,
+        instr,
+        test,
+        count_tested(test, contract_of(unit, test)),
+    )
 }
 
 /// Appends the own obligations of an instruction of the unit.
-fn push_own_obligations(found: &mut Vec<Obligation>, unit: &Unit, instr: &Instr) -> Result<(), NoMemory>
+fn push_own_obligations(
+    found: &mut Vec<Obligation>,
+    unit: &Unit,
+    instr: &Instr,
+) -> Result<(), NoMemory>
     ensures { OnOk result (found.new.items ≡ found.old.items ++ rule.own_obligations unit.now instr.now) }
 {
     for kind in faults_of(unit, &instr.op) {
@@ -65,7 +83,11 @@ fn push_own_obligations(found: &mut Vec<Obligation>, unit: &Unit, instr: &Instr)
 }
 
 /// Appends the obligations of an instruction where it stands in the unit's body.
-fn push_body_obligations(found: &mut Vec<Obligation>, unit: &Unit, instr: &Instr) -> Result<(), NoMemory>
+fn push_body_obligations(
+    found: &mut Vec<Obligation>,
+    unit: &Unit,
+    instr: &Instr,
+) -> Result<(), NoMemory>
     requires formed { IsWellFormed unit.now }
     ensures { OnOk result (found.new.items ≡ found.old.items ++ rule.obligations_in unit.now instr.now) }
 {

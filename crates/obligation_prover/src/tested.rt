@@ -6,7 +6,9 @@ ghost use Rattle.cil_model.specs.Clauses.{is_kind};
 ghost use Rattle.cil_model.specs.WellFormed.{IsWellFormed};
 ghost use Rattle.obligation_prover.specs.ClausesTested as rule;
 
-use cil_model::{CalleeInfo, Clause, ClauseKind, FaultKind, Instr, Obligation, Op, Unit, UnitCall, unit_call};
+use cil_model::{
+    CalleeInfo, Clause, ClauseKind, FaultKind, Instr, Obligation, Op, Unit, UnitCall, unit_call,
+};
 
 /// Of whose contract an instruction tests clauses.
 #[derive(Clone, Copy)]

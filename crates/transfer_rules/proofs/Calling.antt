@@ -4,18 +4,12 @@ use Rattle.std.specs.Prelude.{Result, Ok, Err, OnOk}
 use Rattle.std.specs.Option.{option_and_then}
 use Rattle.cil_model.specs.WellFormed.{IsCallee}
 use Rattle.cil_model.specs.declared.unit.CalleeInfo.{CalleeInfo}
-use Rattle.contract_calls.specs.Arguments.{put_args}
 use Rattle.contract_calls.specs.CallForms.{CanCall}
-use Rattle.contract_calls.proofs.AtCalls.{put_ready}
+use Rattle.contract_calls.specs.CallStates.{called}
 use Rattle.state_facts.specs.StateFacts.{State}
-use Rattle.transfer_rules.specs.Acts.{called, called_back}
+use Rattle.transfer_rules.specs.Acts.{after_callee}
 use Rattle.transfer_rules.specs.Owed.{CanCallIt}
 use Rattle.transfer_rules.specs.Laws.CalledForms.{none_back}
-
--- Where the arguments are put, the callee may be called still.
-pub put_can : (callee : CalleeInfo) (old new : State) → CanCall callee old → new ≡ put_args callee.args old
-    → CanCall callee new
-put_can callee old new ready is = subst (CanCall callee) (sym is) (put_ready callee old ready)
 
 -- ---- the callee of a number
 
@@ -28,18 +22,18 @@ pub ready_callee : (o : Option CalleeInfo) (callee : CalleeInfo) (state : State)
 ready_callee o callee state is ready = (subst (λ (c : Option CalleeInfo). CanCallIt c state) is ready).1
 
 callee_called : (o : Option CalleeInfo) (callee : CalleeInfo) (state : State) → o ≡ Some callee
-    → called_back callee state ≡ option_and_then (called o) state
+    → called callee state ≡ option_and_then (after_callee o) state
 callee_called o callee None is = none_back callee
-callee_called o callee (Some known) is = ap (λ (c : Option CalleeInfo). called c known) (sym is)
+callee_called o callee (Some known) is = ap (λ (c : Option CalleeInfo). after_callee c known) (sym is)
 
 pub where_called : {E : Type 0} (result : Result (Unit {0}) E) (o : Option CalleeInfo) (callee : CalleeInfo)
-    (old new : State) → o ≡ Some callee → OnOk result (new ≡ called_back callee old)
-    → OnOk result (new ≡ option_and_then (called o) old)
+    (old new : State) → o ≡ Some callee → OnOk result (new ≡ called callee old)
+    → OnOk result (new ≡ option_and_then (after_callee o) old)
 where_called (Ok u) o callee old new found is = is ∙ callee_called o callee old found
 where_called (Err e) o callee old new found is = tt
 
-pub none_called : (o : Option CalleeInfo) (state : State) → o ≡ None → None ≡ option_and_then (called o) state
+pub none_called : (o : Option CalleeInfo) (state : State) → o ≡ None → None ≡ option_and_then (after_callee o) state
 none_called o None is = refl
-none_called o (Some known) is = ap (λ (c : Option CalleeInfo). called c known) (sym is)
+none_called o (Some known) is = ap (λ (c : Option CalleeInfo). after_callee c known) (sym is)
 
-pub ruleset calling = (put_can, formed_callee, ready_callee)
+pub ruleset calling = (formed_callee, ready_callee)

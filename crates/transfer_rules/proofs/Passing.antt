@@ -14,7 +14,7 @@ use Rattle.state_facts.specs.StateFacts.{State}
 use Rattle.state_facts.specs.States as states
 use Rattle.state_obligations.specs.Assumed.{assume}
 use Rattle.state_obligations.specs.declared.condition.Condition.TheVariants as conditions
-use Rattle.transfer_rules.specs.Acts.{behind_call, behind_test, called, left, with_condition}
+use Rattle.transfer_rules.specs.Acts.{after_callee, behind_call, behind_test, left, with_condition}
 use Rattle.transfer_rules.specs.Owed.{CanCallBy, CanCallIt}
 use Rattle.transfer_rules.specs.Operands.{TookCondition, on_condition, over_one}
 
@@ -67,7 +67,7 @@ module _ (unit : MethodUnit) where
   assume_passed call message (Some known) is = rw is refl
 
   pub callee_passed : (call : UnitCall) (number : ℕ) (state : State) → call ≡ calls.Callee number
-      → option_and_then (called (slice_get unit.callees number)) state
+      → option_and_then (after_callee (slice_get unit.callees number)) state
       ≡ option_and_then (behind_call unit (Some call)) state
   unfolding behind_call
   callee_passed call number None is = refl

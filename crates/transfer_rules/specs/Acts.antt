@@ -17,8 +17,7 @@ use Rattle.cil_model.specs.declared.unit.CalleeInfo.{CalleeInfo}
 use Rattle.cil_model.specs.declared.unit.Unit.{Unit as MethodUnit}
 use Rattle.cil_model.specs.declared.unit_numbers.UnitCall.{UnitCall}
 use Rattle.cil_model.specs.declared.unit_numbers.UnitCall.TheVariants as calls
-use Rattle.contract_calls.specs.Arguments.{put_args}
-use Rattle.contract_calls.specs.CallStates.{after_call, required}
+use Rattle.contract_calls.specs.CallStates.{called}
 use Rattle.domain_api.specs.declared.expr.Expr.{Expr}
 use Rattle.frame_names.specs.declared.var.Var.{Var}
 use Rattle.frame_names.specs.declared.var.Var.TheVariants as vars
@@ -122,19 +121,17 @@ abbrev pub with_condition : Var → StateFacts → State
 with_condition (vars.Number e) known = assumed_by (conditions.Assert e) known
 with_condition v known = None
 
--- The arguments are put into the places of the parameters, all Requires are true, and the callee came back.
-abbrev pub called_back : CalleeInfo → State → State
-called_back callee state = after_call callee (required callee (put_args callee.args state))
-
-abbrev pub called : Option CalleeInfo → StateFacts → State
-called (Some callee) known = called_back callee (Some known)
-called None known = None
+-- Behind a call of a callee its arguments were put, its Requires are true, and it came back as its Ensures allow. Nothing
+-- is reached where there is none.
+abbrev pub after_callee : Option CalleeInfo → StateFacts → State
+after_callee (Some callee) known = called callee (Some known)
+after_callee None known = None
 
 -- Behind an Assume its condition is not 0. Behind an Assert that is assumed with its fault.
 unfoldable pub behind_call : MethodUnit → Option UnitCall → StateFacts → State
 behind_call unit (Some (calls.Assert message)) known = on_condition message left known
 behind_call unit (Some (calls.Assume message)) known = on_condition message with_condition known
-behind_call unit (Some (calls.Callee number)) known = called (slice_get unit.callees number) known
+behind_call unit (Some (calls.Callee number)) known = after_callee (slice_get unit.callees number) known
 behind_call unit call known = Some known
 
 -- A branch takes what it tests.

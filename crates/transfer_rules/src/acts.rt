@@ -7,8 +7,8 @@ ghost use Rattle.transfer_rules.specs.Acts as rule;
 ghost use Rattle.transfer_rules.specs.Operands.{on_condition};
 ghost use Rattle.transfer_rules.specs.Owed.{CanCallBy, CanDo, IsReady};
 
-use crate::calls::pass_callee;
 use crate::arrays::{load_item, make_array, push_length, store_item};
+use crate::calls::pass_callee;
 use crate::moves::{duplicate, load, put_result, store};
 use crate::operands::{refuse, take_condition};
 use crate::operators::{complement, negate, operate};
@@ -124,12 +124,7 @@ fn pass_test(state: &mut AbsState, test: Test) -> Result<(), NoMemory>
 
 /// Does to a state what an operation of the unit does to a point, where it ends in no fault.
 #[tactic(auto, using(crate::proofs::Doing::doing))]
-pub(crate) fn act(
-    alloc: Global,
-    state: &mut AbsState,
-    unit: &Unit,
-    op: &Op,
-) -> Result<(), NoMemory>
+pub(crate) fn act(alloc: Global, state: &mut AbsState, unit: &Unit, op: &Op) -> Result<(), NoMemory>
     requires few { length unit.now.args + length unit.now.locals + unit.now.max_stack ≤ MAX_VARIABLES }
     requires ready { ForSome state.old (IsReady op.now) }
     requires calls { CanDo unit.now op.now state.old }

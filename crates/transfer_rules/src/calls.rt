@@ -4,28 +4,25 @@ ghost use Rattle.std.specs.Prelude.{◌≡◌, OnOk, slice_get};
 ghost use Rattle.std.specs.Option.{option_and_then, option_copied};
 ghost use Rattle.cil_model.specs.WellFormed.{IsCallee};
 ghost use Rattle.contract_calls.specs.CallForms.{CanCall};
+ghost use Rattle.contract_calls.specs.CallStates.{called};
 ghost use Rattle.transfer_rules.specs.Acts as rule;
 ghost use Rattle.transfer_rules.specs.Owed.{CanCallIt};
 
 use crate::operands::refuse;
 use abs_state::AbsState;
 use cil_model::{CalleeInfo, Unit};
-use contract_calls::{after_call, assume_all_requires, put_args};
 use domain_api::NoMemory;
 use std::alloc::Global;
 use std::mem;
 
-/// Puts the arguments, assumes what the callee requires, and comes back from it.
-#[tactic(auto, using(crate::proofs::Calling::calling))]
+/// Makes a state that behind a call of the callee.
 fn call_back(alloc: Global, state: &mut AbsState, callee: &CalleeInfo) -> Result<(), NoMemory>
     requires formed { IsCallee callee.now }
     requires ready { CanCall callee.now state.old }
-    ensures { OnOk result (state.new ≡ rule.called_back callee.now state.old) }
+    ensures { OnOk result (state.new ≡ called callee.now state.old) }
 {
-    put_args(state, callee.args.as_slice())?;
-    let passed = mem::replace(state, AbsState::nothing());
-    let required = assume_all_requires(alloc, passed, callee)?;
-    *state = after_call(alloc, required, callee)?;
+    let before = mem::replace(state, AbsState::nothing());
+    *state = contract_calls::call(alloc, before, callee)?;
     Ok(())
 }
 
@@ -45,7 +42,7 @@ pub(crate) fn pass_callee(
     number: u32,
 ) -> Result<(), NoMemory>
     requires ready { CanCallIt (slice_get unit.now.callees number) state.old }
-    ensures { OnOk result (state.new ≡ option_and_then (rule.called (slice_get unit.now.callees number)) state.old) }
+    ensures { OnOk result (state.new ≡ option_and_then (rule.after_callee (slice_get unit.now.callees number)) state.old) }
 {
     match callee_of(unit, number) {
         Some(callee) => call_back(alloc, state, callee),

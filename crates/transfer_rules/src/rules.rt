@@ -19,12 +19,7 @@ use std::alloc::Global;
 
 /// Makes a state that of after an instruction.
 #[tactic(auto, unfolding(crate::specs::Post::post), using(crate::proofs::GoingOn::going_on))]
-fn go_on(
-    alloc: Global,
-    state: &mut AbsState,
-    unit: &Unit,
-    op: &Op,
-) -> Result<(), NoMemory>
+fn go_on(alloc: Global, state: &mut AbsState, unit: &Unit, op: &Op) -> Result<(), NoMemory>
     requires few { length unit.now.args + length unit.now.locals + unit.now.max_stack ≤ MAX_VARIABLES }
     requires calls { CanDo unit.now op.now state.old }
     ensures value { OnOk result (state.new ≡ rule.post unit.now op.now state.old) }
@@ -45,12 +40,7 @@ fn go_on(
 ///
 /// Cost: that of the operation's conditions and of its rule. After want of memory the state is to be given up.
 #[tactic(auto, using(crate::proofs::GoingOn::holding))]
-pub fn post(
-    alloc: Global,
-    state: &mut AbsState,
-    unit: &Unit,
-    op: &Op,
-) -> Result<(), NoMemory>
+pub fn post(alloc: Global, state: &mut AbsState, unit: &Unit, op: &Op) -> Result<(), NoMemory>
     requires few { length unit.now.args + length unit.now.locals + unit.now.max_stack ≤ MAX_VARIABLES }
     requires calls { CanDo unit.now op.now state.old }
     ensures value { OnOk result (state.new ≡ rule.post unit.now op.now state.old) }

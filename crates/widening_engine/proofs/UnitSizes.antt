@@ -1,5 +1,5 @@
 -- A graph has no more edges than its unit's code has bytes, and two for each instruction.
-use Rattle.std.proofs.Common.{◌≡◌, ℕ, ◌+◌, ◌-◌, ◌*◌, ◌^◌, ◌<◌, ◌≤◌, nat_le, List, [], ◌∷◌, ◌++◌, length, filter, Option, Some, None, option_map, ap, refl, subst, sym, ◌∙◌, length-append, arith, inl, inr}
+use Rattle.std.proofs.Common.{◌≡◌, ℕ, ◌+◌, ◌-◌, ◌*◌, ◌^◌, ◌<◌, ◌≤◌, nat_le, List, [], ◌∷◌, ◌++◌, length, filter, filter_map, Option, Some, None, option_map, ap, refl, subst, sym, ◌∙◌, length-append, arith, inl, inr}
 use Rattle.std.specs.List.{flat_map}
 use Rattle.std.specs.Option.{option_to_list}
 use Rattle.std.proofs.lemmas.Bool.{cases_Bool}
@@ -11,6 +11,7 @@ use Rattle.cil_model.specs.Code.{CodeFrom}
 use Rattle.cil_model.specs.Opcodes.{Form, variable_form, constant_form, test_of, branch_form, operator_of, object_form, short_form, long_form, near, far, operator_form, target}
 use Rattle.cil_model.specs.Passes.{successors}
 use Rattle.cil_model.specs.Spells.{SpellsForm, Spells, offset_bytes}
+use Rattle.cil_model.specs.WellFormed.{InOrderOfUse, called_by}
 use Rattle.cil_model.specs.declared.instruction.BinOp.{BinOp}
 use Rattle.cil_model.specs.declared.instruction.Instr.{Instr}
 use Rattle.cil_model.specs.declared.instruction.Op.{Op}
@@ -20,7 +21,7 @@ use Rattle.cil_model.specs.declared.instruction.Test.TheVariants as tests
 use Rattle.flow_graph.proofs.GraphFacts.{blocks_counted}
 use Rattle.flow_graph.specs.BlocksOf.{block_at, blocks_of}
 use Rattle.flow_graph.specs.EdgesOf.{edge_to, edges_from, edges_out, edges_to}
-use Rattle.transfer_rules.specs.Flow.{IsToldOf}
+use Rattle.unit_flow.specs.Flow.{IsLawful}
 use Rattle.unit_flow.specs.declared.unit_flow.UnitFlow.{UnitFlow}
 use Rattle.unit_form.specs.Spelling.{HasFields}
 use Rattle.widening_engine.specs.Flows.{AreNumbered}
@@ -160,26 +161,44 @@ edges-few blocks start at (i ∷ is) code (begins, (bytes, rest, spells, parts, 
     ]
 
 -- Blocks and edges of a unit have numbers of 32 bits.
-pub numbered : (code : UnitFlow) → IsToldOf code → AreNumbered (unit_flow code)
-numbered code told =
+pub numbered : (code : UnitFlow) → IsLawful code → AreNumbered (unit_flow code)
+numbered code lawful =
     let unit = code.unit in
-    let lawful = told.lawful in
     let limits = lawful.formed.limits in
     record {
       blocks = rw lawful.graph (omega (arith, blocks_counted unit, limits.blocks));
       edges = rw lawful.graph (omega (arith, edges-few (blocks_of unit) unit.body_start 0 unit.instrs unit.code lawful.formed.code.spelled, limits.code, limits.instructions));
     }
 
+-- ---- the callees of a unit
+
+-- Each new number is one more.
+last_in_order : (first all : ℕ) (numbers : List ℕ) → InOrderOfUse first all numbers → all ≤ first + length numbers
+last_in_order first all [] order = omega (arith, order)
+last_in_order first all (n ∷ ns) (inl known) = omega (arith, last_in_order first all ns known.1)
+last_in_order first all (n ∷ ns) (inr new) = omega (arith, last_in_order (first + 1) all ns new.1)
+
+few_called : (is : List Instr) → length (filter_map (λ i. called_by i.op) is) ≤ length is
+few_called [] = omega arith
+few_called (i ∷ is) = by (called_by i.op) refl (few_called is)
+  where
+    by : (number : Option ℕ) → called_by i.op ≡ number
+        → length (filter_map (λ j. called_by j.op) is) ≤ length is
+        → length (filter_map (λ j. called_by j.op) (i ∷ is)) ≤ length (i ∷ is)
+    by None same few = rw same (omega (arith, few))
+    by (Some n) same few = rw same (omega (arith, few))
+
 -- Such a unit can be spelled as a file.
-pub spelled : (code : UnitFlow) → IsToldOf code → HasFields code.unit
-spelled code told =
-    let formed = told.lawful.formed in
+pub spelled : (code : UnitFlow) → IsLawful code → HasFields code.unit
+spelled code lawful =
+    let formed = lawful.formed in
     record {
       name = formed.name;
       args = formed.args;
       locals = formed.locals;
       variables = formed.limits.variables;
       callees = formed.callees;
-      count = rw told.alone (omega arith);
+      count = omega (arith, few_called code.unit.instrs, formed.limits.instructions,
+            last_in_order 0 (length code.unit.callees) (filter_map (λ i. called_by i.op) code.unit.instrs) formed.order);
       code = formed.limits.code;
     }

@@ -1,7 +1,7 @@
 //! What finds the invariants of units.
 
 ghost use Rattle.std.specs.Prelude.{◌≡◌, ℕ, List, [], ◌∷◌, ◌++◌, map, IfOk, OnOk, OnErr};
-ghost use Rattle.transfer_rules.specs.Flow.{IsToldOf};
+ghost use Rattle.unit_flow.specs.Flow.{IsLawful};
 ghost use Rattle.unit_form.specs.Spelling.{unit_bytes};
 ghost use Rattle.widening_engine.specs.Limits.{limit_of};
 
@@ -20,7 +20,7 @@ pub trait Finder {
     ///
     /// `NoMemory` where memory runs out; the unit then does not count as asked for.
     fn find(&mut self, alloc: Global, code: &UnitFlow) -> Result<Invariant, NoMemory>
-        requires lawful { IsToldOf code.now }
+        requires lawful { IsLawful code.now }
         ensures value { IfOk result (λ found. found.states.items ≡ limit_of code.now) }
         ensures asked { OnOk result (asked self.new ≡ asked self.old ++ unit_bytes code.now.unit ∷ []) }
         ensures kept { OnErr result (asked self.new ≡ asked self.old) };

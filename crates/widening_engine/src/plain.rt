@@ -1,7 +1,7 @@
 //! A finder that computes each round anew.
 
 ghost use Rattle.std.specs.Prelude.{◌≡◌, ◌≤◌, ◌+◌, ◌*◌, ◌++◌, ◌∷◌, [], length, map, IfOk, OnOk, OnErr};
-ghost use Rattle.transfer_rules.specs.Flow.{IsToldOf};
+ghost use Rattle.unit_flow.specs.Flow.{IsLawful};
 ghost use Rattle.unit_form.specs.Spelling.{unit_bytes};
 ghost use Rattle.widening_engine.specs.Limits.{limit_of, unit_flow};
 ghost use Rattle.widening_engine.specs.Rounds.{limit};
@@ -30,7 +30,7 @@ fn settled_states(
     code: &UnitFlow,
     meter: &mut Ticks,
 ) -> Result<Vec<UnitState>, NoMemory>
-    requires { IsToldOf code.now }
+    requires { IsLawful code.now }
     ensures value { IfOk result (λ states. states.items ≡ limit (unit_flow code.now)) }
     ensures most { meter.new.count ≤ meter.old.count + length (rounds (unit_flow code.now)) * length code.now.graph.edges }
     ensures ticked { OnOk result (meter.new.count ≡ after_ticks (length (rounds (unit_flow code.now)) * length code.now.graph.edges) meter.old.count) }
@@ -62,7 +62,7 @@ impl Finder for Plain {
     ghost asked = { λ finder. map (λ bytes. bytes.items) finder.asked.items };
 
     fn find(&mut self, alloc: Global, code: &UnitFlow) -> Result<Invariant, NoMemory>
-        requires lawful { IsToldOf code.now }
+        requires lawful { IsLawful code.now }
         ensures value { IfOk result (λ found. found.states.items ≡ limit_of code.now) }
         ensures asked { OnOk result (map (λ bytes. bytes.items) self.new.asked.items ≡ map (λ bytes. bytes.items) self.old.asked.items ++ unit_bytes code.now.unit ∷ []) }
         ensures kept { OnErr result (map (λ bytes. bytes.items) self.new.asked.items ≡ map (λ bytes. bytes.items) self.old.asked.items) }

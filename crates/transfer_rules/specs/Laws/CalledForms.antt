@@ -1,5 +1,5 @@
 -- Where the kinds before a call of a method fit, the method may be called, and those after the call fit behind it.
-use Rattle.std.proofs.Common.{◌≡◌, ℕ, zero, suc, ◌+◌, ◌-◌, ◌*◌, ◌≤◌, Bool, true, false, ◌&&◌, List, [], ◌∷◌, ◌++◌, length, map, take, drop, slice_get, Option, Some, None, refl, sym, ap, subst, ◌∙◌, append_assoc, append-nil, arith}
+use Rattle.std.proofs.Common.{◌≡◌, ℕ, zero, suc, ◌+◌, ◌-◌, ◌≤◌, true, List, [], ◌∷◌, ◌++◌, length, map, take, drop, slice_get, Option, Some, None, refl, sym, ap, subst, ◌∙◌, append_assoc, append-nil, arith}
 use Rattle.std.specs.Prelude.{reverse}
 use Rattle.std.specs.List.{AllByRecursion}
 use Rattle.std.specs.Option.{option_map, option_map_or}
@@ -8,7 +8,7 @@ use Rattle.std.proofs.lemmas.Bool.{and_parts, false≢true}
 use Rattle.std.proofs.lemmas.List.{length-append, length-map, length-reverse, reverse-append, take-append-drop}
 use Rattle.std.proofs.lemmas.Option.{none-some, same_Some}
 use Rattle.cil_model.specs.Clauses.{clauses_of}
-use Rattle.cil_model.specs.Kinds.{behind_callee, kind_of, pushed_kind, take_each, takes, when}
+use Rattle.cil_model.specs.Kinds.{behind_callee, kind_of, pushed_kind, take_each, takes}
 use Rattle.cil_model.specs.Limits.{MAX_VARIABLES}
 use Rattle.cil_model.specs.Values.{same_place}
 use Rattle.cil_model.specs.WellFormed.{IsCallee}
@@ -20,27 +20,26 @@ use Rattle.cil_model.specs.declared.place.Place.TheVariants as places
 use Rattle.cil_model.specs.declared.unit.CalleeInfo.{CalleeInfo}
 use Rattle.cil_model.specs.declared.unit.Unit.{Unit as MethodUnit}
 use Rattle.cil_model.proofs.Lists.{all_split}
-use Rattle.clause_trees.proofs.SameForms.{same_forms_on}
-use Rattle.clause_trees.specs.VariableKinds.{AreSameForms, HasSameFormsIn, IsOfKind, IsOfPlace}
-use Rattle.contract_calls.specs.Arguments.{first_of, put_args}
+use Rattle.clause_trees.specs.VariableKinds.{AreSameForms, IsOfKind, IsOfPlace}
+use Rattle.contract_calls.specs.Arguments.{first_of}
 use Rattle.contract_calls.specs.CallForms.{AreGiven, CanCall, HasFew, IsBehindCall, IsBehindCallIn}
-use Rattle.contract_calls.specs.CallStates.{after_call, at_call, behind_args, less, required}
+use Rattle.contract_calls.specs.CallStates.{after_call, behind_args, called, less, required}
 use Rattle.contract_calls.proofs.Assuming.{none_each}
-use Rattle.contract_calls.proofs.AtCalls.{none_put, put_ready, required_ready, required_same}
-use Rattle.contract_calls.proofs.BehindForms.{AreOfPlaces, behind_forms, can_call}
-use Rattle.contract_calls.proofs.PassedArguments.{args_same}
+use Rattle.contract_calls.proofs.AtCalls.{none_put, none_required}
+use Rattle.contract_calls.proofs.BehindForms.{AreOfPlaces, can_call}
+use Rattle.contract_calls.proofs.WholeCalls.{whole_forms}
 use Rattle.frame_names.specs.declared.reference.Reference.{Reference}
 use Rattle.frame_names.specs.declared.var.Var.{Var}
 use Rattle.frame_names.specs.declared.var.Var.TheVariants as vars
 use Rattle.state_facts.specs.Forms.{HasVar}
 use Rattle.state_facts.specs.StateFacts.{StateFacts, State, reference_at}
 use Rattle.state_facts.specs.declared.reference.Unknown.{Unknown}
-use Rattle.transfer_rules.specs.Acts.{called, called_back}
+use Rattle.transfer_rules.specs.Acts.{after_callee}
 use Rattle.transfer_rules.specs.Forms.{FitKinds, FitsKind, FitsStack, HasKinds, kind_in, kinds_over}
 use Rattle.transfer_rules.specs.Owed.{CanCallIt}
 use Rattle.transfer_rules.specs.Laws.Fitting.{fit_pushed, over_more}
 use Rattle.transfer_rules.specs.Laws.KindForms.{taken_fits, when_same}
-use Rattle.transfer_rules.specs.Laws.SameKinds.{forms_fit, read_kind, same_forms}
+use Rattle.transfer_rules.specs.Laws.SameKinds.{forms_fit, read_kind}
 
 -- What is asked of a unit and of the stack before an instruction: callees are as well formed units have them, and the
 -- stack is no larger than that of a frame.
@@ -93,8 +92,7 @@ of_places known [] (k ∷ ks) vs took fits = absurd (false≢true took)
 of_places known (place ∷ types) [] vs took fits = absurd (false≢true took)
 of_places known (place ∷ types) (k ∷ ks) [] took fits = elim fits [ ]
 of_places known (place ∷ types) (k ∷ ks) (v ∷ vs) took fits =
-    let both = and_parts (takes place k) (take_each types ks) took in
-    (
+    let both = and_parts (takes place k) (take_each types ks) took in (
       λ kind is. read_kind known place kind v is (taken_fits known place k v both.0 fits.0),
       of_places known types ks vs both.1 fits.1,
     )
@@ -128,12 +126,9 @@ none_after info =
     ap (option_map (less (first_of (length info.args) None) (length info.args)))
     (none_each (behind_args info None) (clauses_of clause_kinds.Ensures info.clauses))
 
-none_required : (info : CalleeInfo) → required info None ≡ None
-unfolding required
-none_required info = none_each (at_call (length info.args) None) (clauses_of clause_kinds.Requires info.clauses)
-
 -- Nothing is reached behind it.
-pub none_back : (info : CalleeInfo) → called_back info None ≡ None
+pub none_back : (info : CalleeInfo) → called info None ≡ None
+unfolding called
 none_back info =
     ap (λ (s : State). after_call info (required info s)) (none_put info.args)
     ∙ ap (after_call info) (none_required info) ∙ none_after info
@@ -172,8 +167,14 @@ module _ (unit : MethodUnit) where
       let args = map kind_in unit.args in
       let locals = map kind_in unit.locals in
       length-append (args ++ args ++ locals) (reverse stack)
-      ∙ omega (arith, length-append (args ++ args) locals, length-append args args, length-map unit.args kind_in,
-      length-map unit.locals kind_in, length-reverse stack)
+      ∙ omega (
+        arith,
+        length-append (args ++ args) locals,
+        length-append args args,
+        length-map unit.args kind_in,
+        length-map unit.locals kind_in,
+        length-reverse stack,
+      )
 
   few_over : (stack : List Kind) (known : StateFacts) → length unit.args + length unit.locals + length stack ≤ MAX_VARIABLES
       → HasKinds (kinds_over unit stack) known → HasFew (Some known)
@@ -235,40 +236,22 @@ module _ (unit : MethodUnit) where
     came_in known None has came = tt
     came_in known (Some after) has came = came_fits known after has came
 
-    -- From a state whose variables have the forms that they had.
-    after_fits : (known : StateFacts) (o : State) → HasKinds (kinds_over unit stack) known → HasSameFormsIn known o
-        → CanCall info o → FitsStack unit (Some (pushed_kind (kind_of info.result) rest)) (after_call info o)
-    after_fits known None has same can =
-        subst (FitsStack unit (Some (pushed_kind (kind_of info.result) rest))) (sym (none_after info)) tt
-    after_fits known (Some x) has same can =
-        came_in x (after_call info (Some x)) (same_forms (kinds_over unit stack) known (Some x) same has)
-        (behind_forms info x formed can)
-
-    required_keeps : (known : StateFacts) (o : State) → HasSameFormsIn known o → CanCall info o
-        → HasSameFormsIn known (required info o)
-    required_keeps known None same can = subst (HasSameFormsIn known) (sym (none_required info)) tt
-    required_keeps known (Some x) same can =
-        same_forms_on known x (required info (Some x)) same (required_same info x formed can)
-
     pub back_fits : (known : StateFacts) → HasKinds (kinds_over unit stack) known
-        → FitsStack unit (Some (pushed_kind (kind_of info.result) rest)) (called_back info (Some known))
+        → FitsStack unit (Some (pushed_kind (kind_of info.result) rest)) (called info (Some known))
     back_fits known has =
-        let passed = put_args info.args (Some known) in
-        let can = put_ready info (Some known) (may_call known has) in
-        after_fits known (required info passed) has
-        (required_keeps known passed (args_same info.args known has.form) can) (required_ready info passed formed can)
+        came_in known (called info (Some known)) has (whole_forms info known formed (may_call known has))
 
   -- ---- a call by its number
 
   pub called_fits : (o : Option CalleeInfo) (stack after : List Kind) (known : StateFacts)
       → ((info : CalleeInfo) → o ≡ Some info → IsCallee info)
       → length unit.args + length unit.locals + length stack ≤ MAX_VARIABLES → behind_callee o stack ≡ Some after
-      → HasKinds (kinds_over unit stack) known → FitsStack unit (Some after) (called o known)
+      → HasKinds (kinds_over unit stack) known → FitsStack unit (Some after) (after_callee o known)
   called_fits None stack after known formed few typed has = absurd (none-some after typed)
   called_fits (Some info) stack after known formed few typed has =
       let same = when_same (take_each info.args (reverse (take (length info.args) stack)))
       (pushed_kind (kind_of info.result) (drop (length info.args) stack)) after typed in
-      subst (λ ks. FitsStack unit (Some ks) (called_back info (Some known))) same.1
+      subst (λ ks. FitsStack unit (Some ks) (called info (Some known))) same.1
       (back_fits info (formed info refl) stack few same.0 known has)
 
   pub can_call_it : (o : Option CalleeInfo) (stack after : List Kind) (state : State)

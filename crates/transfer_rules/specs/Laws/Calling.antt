@@ -1,5 +1,5 @@
 -- What is known behind a call of a method holds of the point where it came back.
-use Rattle.std.proofs.Common.{◌≡◌, ℕ, List, [], ◌∷◌, length, slice_get, Option, Some, None, refl, sym, ap, subst, ◌∙◌, inl, inr}
+use Rattle.std.proofs.Common.{◌≡◌, ℕ, List, [], ◌∷◌, length, slice_get, Option, Some, None, refl, sym, ap, subst, inl, inr}
 use Rattle.std.specs.Option.{option_and_then}
 use Rattle.std.proofs.lemmas.Option.{none-some, same_Some}
 use Rattle.cil_model.specs.Calls.{FreeCall, FreeReturn, FreelyCalled, args_of, behind_call, pushed}
@@ -15,17 +15,14 @@ use Rattle.cil_model.specs.declared.unit.CalleeInfo.{CalleeInfo}
 use Rattle.cil_model.specs.declared.unit.Unit.{Unit as MethodUnit}
 use Rattle.cil_model.specs.declared.unit_numbers.UnitCall.{UnitCall}
 use Rattle.cil_model.specs.declared.unit_numbers.UnitCall.TheVariants as calls
-use Rattle.contract_calls.specs.Arguments.{put_args}
 use Rattle.contract_calls.specs.CallForms.{CanCall}
-use Rattle.contract_calls.specs.CallStates.{required}
-use Rattle.contract_calls.proofs.AtCalls.{put_ready, required_at_call, required_ready}
-use Rattle.contract_calls.proofs.Behind.{call_kept}
-use Rattle.contract_calls.proofs.PassedArguments.{args_keep}
+use Rattle.contract_calls.specs.CallStates.{called}
+use Rattle.contract_calls.proofs.WholeCalls.{whole_kept}
 use Rattle.machine_points.specs.Points.{lives_at, point}
 use Rattle.machine_points.specs.declared.point.Point.{Point}
 use Rattle.state_facts.specs.Holds.{HoldsAt}
 use Rattle.state_facts.specs.StateFacts.{StateFacts, State}
-use Rattle.transfer_rules.specs.Acts.{called, called_back}
+use Rattle.transfer_rules.specs.Acts.{after_callee}
 use Rattle.transfer_rules.specs.Owed.{CanCallIt}
 
 -- ---- what came back
@@ -54,28 +51,22 @@ came_back callee args i f g heap after None (inr (new, result, free, to)) =
 
 -- ---- the point behind the call
 
-module _ (callee : CalleeInfo) (formed : IsCallee callee) (i : Instr) (p q : Point) (args : List Value)
-    (are : args_of p.heap callee.args p.frame.stack ≡ Some args) where
-  back_there : (known : StateFacts) → CanCall callee (Some known)
-      → CameBack callee args i p.frame q.frame p.heap q.heap (false_requires callee.clauses args p.heap)
-      → HoldsAt (Some known) p → HoldsAt (called_back callee (Some known)) q
-  back_there known ready back at =
-      let passed = put_args callee.args (Some known) in
-      let can = put_ready callee (Some known) ready in
-      let put = args_keep callee.args (Some known) (λ x is. (ready.readable x is).form) p args are at in
-      let so = required_at_call callee passed formed can p args are back.none put in
-      let behind = call_kept callee (required callee passed) formed (required_ready callee passed formed can) i p args
-      q.heap back.result are back.free so in
-      subst (λ (g : Frame). HoldsAt (called_back callee (Some known)) (point g q.heap)) back.frame_is behind
+back_there : (callee : CalleeInfo) (i : Instr) (p q : Point) (args : List Value) (known : StateFacts)
+    → args_of p.heap callee.args p.frame.stack ≡ Some args → IsCallee callee → CanCall callee (Some known)
+    → CameBack callee args i p.frame q.frame p.heap q.heap (false_requires callee.clauses args p.heap)
+    → HoldsAt (Some known) p → HoldsAt (called callee (Some known)) q
+back_there callee i p q args known are formed ready back at =
+    subst (λ (g : Frame). HoldsAt (called callee (Some known)) (point g q.heap)) back.frame_is
+    (whole_kept callee (Some known) formed ready i p args q.heap back.result are back.none back.free at)
 
 pub call_there : (unit : MethodUnit) (number : ℕ) (i : Instr) (p q : Point) (state : State)
     → CanCallIt (slice_get unit.callees number) state → FreeCall unit number i p.frame p.heap (lives_at q)
-    → HoldsAt state p → HoldsAt (option_and_then (called (slice_get unit.callees number)) state) q
+    → HoldsAt state p → HoldsAt (option_and_then (after_callee (slice_get unit.callees number)) state) q
 call_there unit number i p q None ready call at = absurd at.frame.holds
 call_there unit number i p q (Some known) ready call at =
     let can = subst (λ (o : Option CalleeInfo). CanCallIt o (Some known)) call.callee_is ready in
-    subst (λ (o : Option CalleeInfo). HoldsAt (called o known) q) (sym call.callee_is)
-    (back_there call.callee can.0 i p q call.args call.args_are known can.1
+    subst (λ (o : Option CalleeInfo). HoldsAt (after_callee o known) q) (sym call.callee_is)
+    (back_there call.callee i p q call.args known call.args_are can.0 can.1
     (came_back call.callee call.args i p.frame q.frame p.heap q.heap
     (false_requires call.callee.clauses call.args p.heap) call.freely) at)
 

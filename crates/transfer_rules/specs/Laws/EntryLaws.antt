@@ -1,7 +1,7 @@
 -- The state where a method begins holds of each point with which a call may begin, and its variables fit.
-use Rattle.std.proofs.Common.{◌≡◌, ℕ, zero, suc, ◌+◌, ◌<◌, ◌≤◌, Bool, true, false, not, List, [], ◌∷◌, ◌++◌, length, map, slice_get, Option, Some, None, int_eq, pos, refl, sym, ap, subst, ◌∙◌, append-nil, arith}
+use Rattle.std.proofs.Common.{◌≡◌, ℕ, zero, suc, ◌+◌, Bool, true, false, not, List, [], ◌∷◌, ◌++◌, map, slice_get, Option, Some, None, int_eq, pos, refl, sym, ap, subst, ◌∙◌, append-nil, arith}
 use Rattle.std.specs.List.{AllByRecursion}
-use Rattle.std.specs.Option.{ForSome, option_and_then, option_map, option_map_or}
+use Rattle.std.specs.Option.{ForSome, option_and_then, option_map}
 use Rattle.std.proofs.lemmas.Bool.{cond_both, false≢true}
 use Rattle.std.proofs.lemmas.Option.{none-some, same_Some, slice_get-map}
 use Rattle.cil_model.proofs.HeapsKept.{keeps_itself}
@@ -13,7 +13,7 @@ use Rattle.cil_model.specs.Runs.{MayBegin}
 use Rattle.cil_model.specs.Terms as terms
 use Rattle.cil_model.specs.Terms.{Term}
 use Rattle.cil_model.specs.TreeKinds.{IsNumberClause, kind_in}
-use Rattle.cil_model.specs.Values.{Heap, IsValue, same_place, zero_of}
+use Rattle.cil_model.specs.Values.{Heap, IsValue, zero_of}
 use Rattle.cil_model.specs.WellFormed.{HasInts, IsWellFormed}
 use Rattle.cil_model.specs.declared.clause.Clause.{Clause}
 use Rattle.cil_model.specs.declared.clause.ClauseKind.{ClauseKind}
@@ -24,27 +24,21 @@ use Rattle.cil_model.specs.declared.machine.Value.TheVariants as values
 use Rattle.cil_model.specs.declared.place.Kind.{Kind}
 use Rattle.cil_model.specs.declared.place.Kind.TheVariants as kinds
 use Rattle.cil_model.specs.declared.place.Place.{Place}
-use Rattle.cil_model.specs.declared.place.Place.TheVariants as places
 use Rattle.cil_model.specs.declared.unit.Unit.{Unit as MethodUnit}
 use Rattle.clause_trees.proofs.AssumedKept.{assumed_is_kept, assumed_keeps_forms}
 use Rattle.clause_trees.proofs.EntryKinds.{kind_everywhere}
 use Rattle.clause_trees.specs.ClauseStates.{assumed}
 use Rattle.clause_trees.specs.Meaning.{IsTest, Reads}
 use Rattle.clause_trees.specs.declared.reader.TreeEnv.{TreeEnv}
-use Rattle.clause_trees.specs.VariableKinds.{AreSameForms, HasSameFormsIn, IsOfKind, IsOfPlace, IsOneOfKind, IsReadable, IsSameForm, place_in}
-use Rattle.frame_names.specs.declared.reference.Reference.{Reference}
-use Rattle.frame_names.specs.declared.var.Var.{Var}
-use Rattle.frame_names.specs.declared.var.Var.TheVariants as vars
+use Rattle.clause_trees.specs.VariableKinds.{IsOneOfKind, IsReadable}
 use Rattle.machine_points.proofs.PointsKeep.{entry_point, point_values}
 use Rattle.machine_points.specs.MachineValues.{HasMachineValues}
 use Rattle.machine_points.specs.Points.{point}
 use Rattle.merged_states.specs.Following.{HoldsOver}
 use Rattle.merged_states.specs.Merging.{join}
 use Rattle.merged_states.specs.Laws.StatesHold.{normal_at}
-use Rattle.state_facts.specs.Forms.{HasVar}
 use Rattle.state_facts.specs.Holds.{HoldsAt, HoldsIn}
-use Rattle.state_facts.specs.StateFacts.{StateFacts, State, reference_at}
-use Rattle.state_facts.specs.declared.reference.Unknown.{Unknown}
+use Rattle.state_facts.specs.StateFacts.{StateFacts, State}
 use Rattle.transfer_rules.specs.Entry.{HoldsAtEntry, at_entry, begun, entry, required}
 use Rattle.transfer_rules.specs.Forms as forms
 use Rattle.transfer_rules.specs.Forms.{FitKinds, FitsKind, FitsStack, HasKinds, is_of_place, kinds_over}

@@ -140,8 +140,11 @@ module _ (code : UnitFlow) (lawful : IsLawful code) where
   within_at : (at : ℕ) (stack : List Kind) → before at ≡ Some stack → IsWithin unit stack
   within_at at stack is = record {
     callees = lawful.formed.callees;
-    few = omega (arith, lawful.formed.limits.variables,
-          within_stack (shape_of unit) unit.instrs code.kinds at stack lawful.kinds is);
+    few = omega (
+      arith,
+      lawful.formed.limits.variables,
+      within_stack (shape_of unit) unit.instrs code.kinds at stack lawful.kinds is,
+    );
   }
 
   -- A state that fits before an instruction fits before the next one.

@@ -1,5 +1,5 @@
 -- The states after an instruction hold where it leads.
-use Rattle.std.proofs.Common.{◌≡◌, ℕ, List, [], slice_get, Option, Some, None, refl, sym, ap, subst, ◌∙◌}
+use Rattle.std.proofs.Common.{◌≡◌, ℕ, [], slice_get, Option, Some, None, refl, sym, ap, subst, ◌∙◌}
 use Rattle.std.specs.Option.{ForSome, option_and_then, option_map_or}
 use Rattle.std.proofs.lemmas.Option.{none-some, same_Some}
 use Rattle.cil_model.specs.Calls.{FreeCall}
@@ -27,7 +27,7 @@ use Rattle.state_obligations.proofs.JudgedLaws.{judged_follow}
 use Rattle.state_obligations.specs.Conditions.{conditions_of}
 use Rattle.state_obligations.specs.Following.{StaysThereIn}
 use Rattle.state_obligations.specs.Judged.{judged}
-use Rattle.transfer_rules.specs.Acts.{acted, behind_call, called}
+use Rattle.transfer_rules.specs.Acts.{acted, after_callee, behind_call}
 use Rattle.transfer_rules.specs.Choices.{chosen}
 use Rattle.transfer_rules.specs.Owed.{CanCallBy, CanDo}
 use Rattle.transfer_rules.specs.Post.{along, post}
@@ -116,13 +116,13 @@ call_avoided number call (Some known) is =
     ≡ Some known) (sym is) refl
 
 named_acts : (unit : MethodUnit) (number call : ℕ) (state : State) → unit_call call ≡ Some (calls.Callee number)
-    → option_and_then (acted unit (ops.Call call)) state ≡ option_and_then (called (slice_get unit.callees number)) state
+    → option_and_then (acted unit (ops.Call call)) state ≡ option_and_then (after_callee (slice_get unit.callees number)) state
 unfolding acted behind_call
 named_acts unit number call None is = refl
 named_acts unit number call (Some known) is = ap (λ (c : Option UnitCall). behind_call unit c known) is
 
 named_post : (unit : MethodUnit) (number call : ℕ) (state : State) → unit_call call ≡ Some (calls.Callee number)
-    → post unit (ops.Call call) state ≡ option_and_then (called (slice_get unit.callees number)) state
+    → post unit (ops.Call call) state ≡ option_and_then (after_callee (slice_get unit.callees number)) state
 unfolding post
 named_post unit number call state is =
     ap (option_and_then (acted unit (ops.Call call))) (call_avoided number call state is)
@@ -135,7 +135,7 @@ one_way call way None = refl
 one_way call way (Some known) = refl
 
 named_along : (unit : MethodUnit) (number call way : ℕ) (state : State) → unit_call call ≡ Some (calls.Callee number)
-    → along unit (ops.Call call) way state ≡ option_and_then (called (slice_get unit.callees number)) state
+    → along unit (ops.Call call) way state ≡ option_and_then (after_callee (slice_get unit.callees number)) state
 unfolding along
 named_along unit number call way state is =
     ap (λ (s : State). option_and_then (acted unit (ops.Call call)) (option_and_then (chosen (ops.Call call) way) s))
@@ -145,7 +145,7 @@ named_along unit number call way state is =
 module _ (unit : MethodUnit) (i : Instr) (p q : Point) (state : State) (number : ℕ) where
   called_there : (call : ℕ) → unit_call call ≡ Some (calls.Callee number) → CanCallBy unit (unit_call call) state
       → CallsBy (FreeCall unit) (unit_call call) [] unit i p.frame p.heap (lives_at q) → HoldsAt state p
-      → HoldsAt (option_and_then (called (slice_get unit.callees number)) state) q
+      → HoldsAt (option_and_then (after_callee (slice_get unit.callees number)) state) q
   called_there call is ready row at =
       call_there unit number i p q state (subst (λ (c : Option UnitCall). CanCallBy unit c state) is ready)
       (subst (λ (c : Option UnitCall). CallsBy (FreeCall unit) c [] unit i p.frame p.heap (lives_at q)) is row) at

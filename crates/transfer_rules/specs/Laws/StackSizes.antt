@@ -1,9 +1,8 @@
 -- No stack before an instruction has more values than the shape lets it have.
-use Rattle.std.proofs.Common.{◌≡◌, ℕ, zero, suc, ◌+◌, ◌≤◌, ◌==◌, Bool, true, false, ◌&&◌, not, nat_lt, List, [], ◌∷◌, length, map, Option, Some, None, Result, Ok, Err, refl, sym, subst, ◌∙◌, arith}
+use Rattle.std.proofs.Common.{◌≡◌, ℕ, zero, suc, ◌+◌, ◌≤◌, ◌==◌, ◌&&◌, not, nat_lt, List, [], ◌∷◌, length, map, Option, Some, None, Result, Ok, Err, refl, subst, arith}
 use Rattle.std.specs.List.{AllByRecursion}
 use Rattle.std.specs.Option.{option_or}
 use Rattle.std.proofs.lemmas.Bool.{cond_both, ltb-false}
-use Rattle.std.proofs.lemmas.Option.{none-some, same_Some}
 use Rattle.cil_model.specs.Code.{begins_at}
 use Rattle.cil_model.specs.Kinds.{behind, operand_count, typed, within_size}
 use Rattle.cil_model.specs.Passes.{KindsOf, Stacks, after_pass, after_passes, arrived, come_to, come_to_all, first_stacks, follow, goes_behind, going_on, lowest_conflict, merged, pass_over, stack_at, successors, visited}

@@ -1,4 +1,4 @@
-use Rattle.transfer_rules.proofs.Walking.{last_ready, last_short, next_ready, on_way}
+use Rattle.transfer_rules.proofs.Walking.{last_short, next_ready, on_way}
 use Rattle.transfer_rules.proofs.walks.walk.Goals as goal
 
 pub loop-instr-preserved : goal.loop-instr-preserved

@@ -2,7 +2,11 @@ use Rattle.std.proofs.Common.{◌∙◌, ap, map}
 use Rattle.widening_engine.specs.Limits.{limit_of, unit_flow}
 use Rattle.widening_engine.specs.Work.{work}
 use Rattle.widening_engine.proofs.Seeking.{at_most}
+use Rattle.widening_engine.proofs.UnitSizes.{spelled}
 use Rattle.widening_engine.proofs.dirty.DirtyFinder.find.Goals as goal
+
+pub unit_bytes-requires : goal.unit_bytes-requires
+unit_bytes-requires c = record { fields = spelled c.args.code.now c.requires.lawful }
 
 pub returns-clause-value : goal.returns-clause-value
 unfolding limit_of

@@ -2,7 +2,11 @@ use Rattle.std.proofs.Common.{◌*◌, ◌∙◌, ap, map, length, arith}
 use Rattle.widening_engine.specs.Limits.{limit_of, unit_flow}
 use Rattle.widening_engine.specs.Work.{rounds}
 use Rattle.widening_engine.proofs.Counting.{ticks_most}
+use Rattle.widening_engine.proofs.UnitSizes.{spelled}
 use Rattle.widening_engine.proofs.plain.PlainFinder.find.Goals as goal
+
+pub unit_bytes-requires : goal.unit_bytes-requires
+unit_bytes-requires c = record { fields = spelled c.args.code.now c.requires.lawful }
 
 pub returns-clause-value : goal.returns-clause-value
 unfolding limit_of
