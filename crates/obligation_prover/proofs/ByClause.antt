@@ -1,5 +1,5 @@
 -- What is said of an obligation of a clause: where it is entailed, the clause is not found false.
-use Rattle.std.proofs.Common.{◌≡◌, ◌⊎◌, ℕ, zero, suc, ◌+◌, ◌-◌, ◌≤◌, Bool, true, false, if◌then◌else◌, List, [], ◌∷◌, Option, Some, None, slice_get, refl, sym, ap, subst, ◌∙◌, inl, inr, arith}
+use Rattle.std.proofs.Common.{◌≡◌, ℕ, zero, suc, ◌+◌, Bool, true, false, List, [], ◌∷◌, Option, Some, None, slice_get, refl, sym, ap, subst, ◌∙◌, inl, inr, arith}
 use Rattle.std.specs.Prelude.{Result, Ok, Err, IfOk}
 use Rattle.std.specs.List.{AllByRecursion}
 use Rattle.std.specs.Option.{ForSome, option_map_or}
@@ -27,17 +27,16 @@ use Rattle.cil_model.specs.declared.unit.Unit.{Unit as MethodUnit}
 use Rattle.cil_model.specs.declared.unit_numbers.UnitCall.{UnitCall}
 use Rattle.cil_model.specs.declared.unit_numbers.UnitCall.TheVariants as calls
 use Rattle.contract_calls.specs.Arguments.{put_args, put_result}
-use Rattle.contract_calls.specs.CallForms.{CanReturn, IsClauseOf}
+use Rattle.contract_calls.specs.CallForms.{CanReturn}
 use Rattle.contract_calls.specs.CallStates.{numbered, requires_assumed, requires_shown}
-use Rattle.contract_calls.specs.Meaning.{Returns, passing, reading_at_call, reading_at_return, returning}
+use Rattle.contract_calls.specs.Meaning.{Returns, passing, reading_at_call, reading_at_return}
 use Rattle.contract_calls.proofs.AtCalls.{assumed_at_call, put_ready, shown_at_call}
 use Rattle.contract_calls.proofs.AtReturns.{assumed_at_return, result_keeps, result_ready, shown_at_return}
 use Rattle.contract_calls.proofs.PassedArguments.{args_keep}
 use Rattle.machine_points.specs.Points.{IsPointOf}
 use Rattle.machine_points.specs.declared.point.Point.{Point}
-use Rattle.state_facts.specs.Forms.{HasForm}
 use Rattle.state_facts.specs.Holds.{HoldsAt}
-use Rattle.state_facts.specs.StateFacts.{StateFacts, State}
+use Rattle.state_facts.specs.StateFacts.{State}
 use Rattle.obligation_prover.specs.ByObligation.{AssumesAt, AssumesClause, AssumesIt, CanJudge, EndsNotIn, RulesItOut, clause_entailed, clause_met, clause_of_fault}
 use Rattle.obligation_prover.specs.ClausesTested.{CanTest, IsClauseTested, IsContract, clause_assumed, clause_shown, clauses_tested, contract_of, kind_tested, put_tested, tested_at_call, tested_by}
 use Rattle.obligation_prover.specs.Faults.{is_of_clause}

@@ -1,5 +1,5 @@
 -- Each fault in which an instruction may end is one of its operation, or that a clause is not true.
-use Rattle.std.proofs.Common.{◌≡◌, ◌==◌, ℕ, ◌≤◌, ℤ, pos, negsuc, true, false, ◌&&◌, int_le, int_lt, int_eq, nat_le, Option, Some, None, List, [], ◌∷◌, map, Contains, Ok, Err, refl, sym, ap, subst, ◌∙◌, inl, inr, ⊎_elim, arith, slice_get}
+use Rattle.std.proofs.Common.{◌≡◌, ℕ, ℤ, pos, negsuc, true, false, ◌&&◌, int_le, int_lt, int_eq, Option, Some, None, List, [], ◌∷◌, Ok, Err, refl, sym, ap, subst, ◌∙◌, inl, inr, ⊎_elim, slice_get}
 use Rattle.std.specs.Prelude.{◌^◌, ◌/◌, ◌*ℤ◌, ◌+ℤ◌, ◌-ℤ◌, Result, length}
 use Rattle.std.specs.Int.{int_shr}
 use Rattle.std.proofs.lemmas.Bool.{cond_both, true≢false}
@@ -9,7 +9,7 @@ use Rattle.cil_model.specs.Calls.{FreeCall, FreelyCalled, Returned, ensures_faul
 use Rattle.cil_model.specs.Clauses.{false_requires}
 use Rattle.cil_model.specs.Comparisons.{comparison_of, number_of}
 use Rattle.cil_model.specs.Effects.{Effect, GoesOn, Faults, Assumes, FindsNoRoom, HasEffect, arithmetic, array_length, at_index, below_message, binary, comparison, contract_call, effects, effects_of, gives, goes_on, item_value, loads, makes_number, new_array, of_place, pushes, stores, tests_condition}
-use Rattle.cil_model.specs.Runs.{CallsBy, EffectRow, Row, config_after, instr_at}
+use Rattle.cil_model.specs.Runs.{CallsBy, EffectRow, Row, config_after}
 use Rattle.cil_model.specs.UnitCalls.{array_place, unit_call}
 use Rattle.cil_model.specs.Values.{Heap, same_place}
 use Rattle.cil_model.specs.declared.instruction.BinOp.{BinOp}

@@ -1,9 +1,9 @@
 -- Where each clause that an instruction tests is shown in turn, it finds none false.
-use Rattle.std.proofs.Common.{◌≡◌, ℕ, Bool, true, false, List, [], ◌∷◌, Option, Some, None, slice_get, refl, sym, ap, subst, ◌∙◌, inl, inr}
-use Rattle.std.specs.List.{AllByRecursion, list_all}
+use Rattle.std.proofs.Common.{◌≡◌, ℕ, true, false, List, [], ◌∷◌, Option, Some, None, slice_get, sym, ap, subst, inl, inr}
+use Rattle.std.specs.List.{list_all}
 use Rattle.std.specs.Option.{ForSome, option_map_or}
 use Rattle.std.proofs.lemmas.Bool.{and_parts}
-use Rattle.std.proofs.lemmas.Option.{none-some, same_Some}
+use Rattle.std.proofs.lemmas.Option.{none-some}
 use Rattle.cil_model.specs.Calls.{FreeCall, FreelyCalled, Returned, clauses_in_force, ensures_fault}
 use Rattle.cil_model.specs.Clauses.{clauses_of, false_requires}
 use Rattle.cil_model.specs.Runs.{CallsBy, EffectRow, Row}
