@@ -1,7 +1,6 @@
 -- Where a state fits the start of a block, the clauses that its instructions test can be judged.
-use Rattle.std.proofs.Common.{◌≡◌, ℕ, zero, suc, ◌+◌, ◌-◌, ◌<◌, ◌≤◌, ◌*◌, true, List, [], ◌∷◌, ◌++◌, length, map, reverse, slice_get, Option, Some, None, refl, sym, ap, subst, ◌∙◌, length-append, arith}
-use Rattle.std.specs.Option.{ForSome, option_and_then, option_map_or}
-use Rattle.std.proofs.lemmas.Bool.{false≢true}
+use Rattle.std.proofs.Common.{◌≡◌, ℕ, zero, suc, ◌+◌, ◌<◌, ◌≤◌, true, List, [], ◌∷◌, ◌++◌, length, map, reverse, slice_get, Option, Some, None, refl, sym, ap, subst, ◌∙◌, length-append, arith}
+use Rattle.std.specs.Option.{option_and_then, option_map_or}
 use Rattle.std.proofs.lemmas.List.{length-map, length-reverse}
 use Rattle.std.proofs.lemmas.Option.{none-some, same_Some}
 use Rattle.cil_model.specs.Kinds.{behind, behind_return, kind_of, takes}
@@ -30,7 +29,7 @@ use Rattle.obligation_prover.specs.ClausesTested.{CanTest, tested_at_call, teste
 use Rattle.obligation_prover.specs.declared.tested.Tested.TheVariants as tests
 use Rattle.state_facts.specs.StateFacts.{StateFacts, State}
 use Rattle.transfer_rules.specs.Flow.{Fits}
-use Rattle.transfer_rules.specs.Forms.{FitKinds, FitsKind, FitsStack, HasKinds, kind_in, kinds_over}
+use Rattle.transfer_rules.specs.Forms.{FitKinds, FitsStack, HasKinds, kind_in, kinds_over}
 use Rattle.transfer_rules.specs.Owed.{CanCallBy, CanCallIt, CanDo}
 use Rattle.transfer_rules.specs.Post.{post}
 use Rattle.transfer_rules.specs.Laws.CalledForms.{fit_long, fit_split}

@@ -5,17 +5,13 @@ use Rattle.std.proofs.lemmas.Bool.{and_parts}
 use Rattle.std.proofs.lemmas.List.{drop_all, drop_more}
 use Rattle.cil_model.specs.Runs.{LocalSafe}
 use Rattle.cil_model.specs.WellFormed.{IsWellFormed}
-use Rattle.cil_model.specs.Worlds.{Agree}
 use Rattle.cil_model.specs.declared.machine.Obligation.{Obligation}
-use Rattle.cil_model.specs.declared.machine.World.{World}
-use Rattle.cil_model.specs.declared.unit.Unit.{Unit as MethodUnit}
 use Rattle.invariant_checker.specs.Counts as unit
 use Rattle.invariant_checker.specs.Verdicts.{verdicts}
 use Rattle.invariant_checker.specs.declared.verdict.Verdict.{Verdict}
 use Rattle.invariant_checker.proofs.Covering.{each_told}
 use Rattle.invariant_checker.proofs.Soundness.{proved_is_safe}
 use Rattle.obligation_prover.specs.Obligations.{obligations_of}
-use Rattle.safe_worlds.specs.Worlds.{AreSafe}
 use Rattle.safe_worlds.proofs.SafeWorlds.{world_is_safe}
 use Rattle.transfer_rules.specs.declared.invariant.Invariant.{Invariant}
 use Rattle.unit_flow.specs.Flow.{IsLawful}
