@@ -198,7 +198,11 @@ spelled code lawful =
       locals = formed.locals;
       variables = formed.limits.variables;
       callees = formed.callees;
-      count = omega (arith, few_called code.unit.instrs, formed.limits.instructions,
-            last_in_order 0 (length code.unit.callees) (filter_map (λ i. called_by i.op) code.unit.instrs) formed.order);
+      count = omega (
+        arith,
+        few_called code.unit.instrs,
+        formed.limits.instructions,
+        last_in_order 0 (length code.unit.callees) (filter_map (λ i. called_by i.op) code.unit.instrs) formed.order,
+      );
       code = formed.limits.code;
     }
