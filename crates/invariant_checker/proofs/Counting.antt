@@ -1,26 +1,29 @@
 -- How many obligations a unit has, and where.
 use Rattle.std.proofs.Common.{◌≡◌, ℕ, ◌+◌, ◌*◌, ◌<◌, ◌≤◌, nat_le, List, [], ◌∷◌, length, map, All, Option, Some, sym, ap, subst, ◌∙◌, arith, length-append}
-use Rattle.std.specs.List.{AllByRecursion, flat_map}
+use Rattle.std.specs.List.{AllByRecursion, flat_map, range_with_len}
 use Rattle.std.proofs.lemmas.Bool.{cond_both}
 use Rattle.std.proofs.lemmas.List.{length-map}
 use Rattle.std.proofs.lemmas.List.Elements.{All-from_recursion}
+use Rattle.std.proofs.lemmas.List.FromFn.{length-range_with_len}
 use Rattle.cil_model.specs.Code.{CodeFrom}
 use Rattle.cil_model.specs.Limits.{MAX_CLAUSES}
 use Rattle.cil_model.specs.UnitCalls.{unit_call}
+use Rattle.cil_model.specs.WellFormed.{IsWellFormed}
 use Rattle.cil_model.specs.declared.instruction.BinOp.{BinOp}
 use Rattle.cil_model.specs.declared.instruction.BinOp.TheVariants as operators
 use Rattle.cil_model.specs.declared.instruction.Instr.{Instr}
 use Rattle.cil_model.specs.declared.instruction.Op.{Op}
 use Rattle.cil_model.specs.declared.instruction.Op.TheVariants as ops
-use Rattle.cil_model.specs.declared.machine.FaultKind.{FaultKind}
 use Rattle.cil_model.specs.declared.machine.Obligation.{Obligation}
 use Rattle.cil_model.specs.declared.unit.Unit.{Unit as MethodUnit}
 use Rattle.cil_model.specs.declared.unit_numbers.UnitCall.{UnitCall}
 use Rattle.cil_model.specs.declared.unit_numbers.UnitCall.TheVariants as calls
 use Rattle.cil_model.proofs.Forms.{spelling_some}
 use Rattle.cil_model.proofs.Lists.{all_append}
+use Rattle.obligation_prover.specs.ClausesTested.{clause_obligation, clause_obligations, clauses_tested, tested_at_call, tested_by}
 use Rattle.obligation_prover.specs.Faults.{call_faults, faults_of, operator_faults}
-use Rattle.obligation_prover.specs.Obligations.{obligation, obligations_at, obligations_in}
+use Rattle.obligation_prover.specs.Obligations.{obligation, obligations_at, obligations_in, own_obligations}
+use Rattle.obligation_prover.proofs.Contracts.{few_tested}
 use Rattle.state_facts.specs.StateFacts.{State}
 use Rattle.unit_flow.specs.Flow.{IsLawful}
 use Rattle.unit_flow.specs.declared.unit_flow.UnitFlow.{UnitFlow}
@@ -43,34 +46,55 @@ operator_few operators.MulOvf = omega arith
 operator_few operators.SubOvf = omega arith
 operator_few _ = omega arith
 
-call_few : (call : Option UnitCall) → length (call_faults call) ≤ MAX_CLAUSES
-call_few (Some (calls.Assert message)) = omega arith
-call_few _ = omega arith
+-- What an operation may end in, and the clauses that it tests, are together no more than a method may have clauses: where
+-- there are any of the ones, there are none of the others.
+abbrev AreFew : MethodUnit → Op → Type 0
+AreFew unit op =
+    length (clauses_tested unit (tested_by unit op)) ≤ MAX_CLAUSES
+    → length (faults_of unit op) + length (clauses_tested unit (tested_by unit op)) ≤ MAX_CLAUSES
 
-faults_few : (unit : MethodUnit) (op : Op) → length (faults_of unit op) ≤ MAX_CLAUSES
-faults_few unit (ops.Bin operator) = operator_few operator
-faults_few unit (ops.Call number) = call_few (unit_call number)
-faults_few unit (ops.NewArray number) = omega arith
-faults_few unit ops.Length = omega arith
-faults_few unit (ops.LoadElem place) = omega arith
-faults_few unit (ops.StoreElem place) = omega arith
-faults_few unit _ = omega arith
+call_few : (unit : MethodUnit) (call : Option UnitCall)
+    → length (clauses_tested unit (tested_at_call unit call)) ≤ MAX_CLAUSES
+    → length (call_faults call) + length (clauses_tested unit (tested_at_call unit call)) ≤ MAX_CLAUSES
+call_few unit (Some (calls.Assert message)) few = omega arith
+call_few unit _ few = omega (arith, few)
 
-at_few : (unit : MethodUnit) (i : Instr) → length (obligations_in unit i) ≤ MAX_CLAUSES
-at_few unit i =
+op_few : (unit : MethodUnit) (op : Op) → AreFew unit op
+op_few unit (ops.Bin operator) few = omega (arith, operator_few operator)
+op_few unit (ops.Call number) few = call_few unit (unit_call number) few
+op_few unit (ops.NewArray number) few = omega arith
+op_few unit ops.Length few = omega arith
+op_few unit (ops.LoadElem place) few = omega arith
+op_few unit (ops.StoreElem place) few = omega arith
+op_few unit _ few = omega (arith, few)
+
+at_few : (unit : MethodUnit) (i : Instr) → IsWellFormed unit → length (obligations_at unit i) ≤ MAX_CLAUSES
+at_few unit i formed =
+    let test = tested_by unit i.op in
+    let count = length (clauses_tested unit test) in
+    omega (
+      arith,
+      length-append (own_obligations unit i) (clause_obligations unit i),
+      length-map (faults_of unit i.op) (obligation i),
+      length-map (range_with_len 1 count) (clause_obligation i test),
+      length-range_with_len 1 count,
+      op_few unit i.op (few_tested unit i.op formed),
+    )
+
+in_few : (unit : MethodUnit) (i : Instr) → IsWellFormed unit → length (obligations_in unit i) ≤ MAX_CLAUSES
+in_few unit i formed =
     cond_both (nat_le unit.body_start i.at) (obligations_at unit i) []
-    (λ (os : List Obligation). length os ≤ MAX_CLAUSES)
-    (λ e. omega (arith, length-map (faults_of unit i.op) (obligation i), faults_few unit i.op)) (λ e. omega arith)
+    (λ (os : List Obligation). length os ≤ MAX_CLAUSES) (λ e. at_few unit i formed) (λ e. omega arith)
 
-all_few : (unit : MethodUnit) (is : List Instr)
+all_few : (unit : MethodUnit) (is : List Instr) → IsWellFormed unit
     → length (flat_map (obligations_in unit) is) ≤ MAX_CLAUSES * length is
-all_few unit [] = omega arith
-all_few unit (i ∷ is) =
+all_few unit [] formed = omega arith
+all_few unit (i ∷ is) formed =
     omega (
       arith,
       length-append (obligations_in unit i) (flat_map (obligations_in unit) is),
-      at_few unit i,
-      all_few unit is,
+      in_few unit i formed,
+      all_few unit is formed,
     )
 
 -- ---- where
@@ -92,10 +116,17 @@ offsets_below at (i ∷ is) code (place, (bytes, rest, spells, split, others)) =
           (offsets_below (at + i.size) is rest others),
     )
 
-mapped_below : (n : ℕ) (i : Instr) (kinds : List FaultKind) → i.at < n
-    → AllByRecursion (λ o. o.at < n) (map (obligation i) kinds)
-mapped_below n i [] below = tt
-mapped_below n i (kind ∷ kinds) below = (below, mapped_below n i kinds below)
+mapped_below : {X : Type 0} (n : ℕ) (f : X → Obligation) (xs : List X) → ((x : X) → (f x).at < n)
+    → AllByRecursion (λ o. o.at < n) (map f xs)
+mapped_below n f [] below = tt
+mapped_below n f (x ∷ xs) below = (below x, mapped_below n f xs below)
+
+at_below : (n : ℕ) (unit : MethodUnit) (i : Instr) → i.at < n → AllByRecursion (λ o. o.at < n) (obligations_at unit i)
+at_below n unit i below =
+    let test = tested_by unit i.op in
+    all_append (λ o. o.at < n) (own_obligations unit i) (clause_obligations unit i)
+    (mapped_below n (obligation i) (faults_of unit i.op) (λ kind. below))
+    (mapped_below n (clause_obligation i test) (range_with_len 1 (length (clauses_tested unit test))) (λ k. below))
 
 listed_below : (n : ℕ) (unit : MethodUnit) (is : List Instr) → AllByRecursion (λ i. i.at < n) is
     → AllByRecursion (λ o. o.at < n) (flat_map (obligations_in unit) is)
@@ -103,7 +134,7 @@ listed_below n unit [] all = tt
 listed_below n unit (i ∷ is) all =
     all_append (λ o. o.at < n) (obligations_in unit i) (flat_map (obligations_in unit) is)
     (cond_both (nat_le unit.body_start i.at) (obligations_at unit i) [] (AllByRecursion (λ o. o.at < n))
-    (λ e. mapped_below n i (faults_of unit i.op) all.0) (λ e. tt))
+    (λ e. at_below n unit i all.0) (λ e. tt))
     (listed_below n unit is all.1)
 
 told_below : (n : ℕ) (found : List Verdict) → AllByRecursion (λ o. o.at < n) (obligations_told found)
@@ -121,7 +152,7 @@ module _ (code : UnitFlow) (states : List State) (lawful : IsLawful code) where
         arith,
         length-map (verdicts code states) (λ (v : Verdict). v.obligation),
         ap length (each_told code states lawful),
-        all_few code.unit code.unit.instrs,
+        all_few code.unit code.unit.instrs lawful.formed,
       )
 
   -- They stand within the code.

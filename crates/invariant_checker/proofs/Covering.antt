@@ -17,7 +17,7 @@ use Rattle.flow_graph.proofs.AlongEdges.{all_after}
 use Rattle.flow_graph.proofs.Lying.{blocks_increase}
 use Rattle.obligation_prover.specs.Avoiding.{avoid}
 use Rattle.obligation_prover.specs.Faults.{faults_of}
-use Rattle.obligation_prover.specs.Obligations.{obligation, obligations_at, obligations_in, obligations_of}
+use Rattle.obligation_prover.specs.Obligations.{obligation, obligations_at, obligations_in, obligations_of, own_obligations}
 use Rattle.state_facts.specs.StateFacts.{State}
 use Rattle.transfer_rules.specs.Inductive.{state_at}
 use Rattle.transfer_rules.specs.Post.{post}
@@ -27,8 +27,9 @@ use Rattle.unit_flow.proofs.BlockWays.{all_kept, none_before}
 use Rattle.unit_flow.proofs.LawfulCode as laws
 use Rattle.unit_flow.proofs.Places.{item_there, there_is}
 use Rattle.invariant_checker.specs.Inducts.{is_inductive}
-use Rattle.invariant_checker.specs.Verdicts.{unproved, verdicts, verdicts_at, verdicts_from, verdicts_in, verdicts_in_turn}
+use Rattle.invariant_checker.specs.Verdicts.{clause_verdicts, own_verdicts, unproved, verdicts, verdicts_at, verdicts_from, verdicts_in, verdicts_in_turn}
 use Rattle.invariant_checker.specs.declared.verdict.Verdict.{Verdict}
+use Rattle.invariant_checker.proofs.ClauseVerdicts.{clauses_told}
 
 -- ---- instructions cut at an offset
 
@@ -123,11 +124,20 @@ told_in_turn unit i (kind ∷ kinds) state =
     ap (λ (os : List Obligation). obligation i kind ∷ os)
     (told_in_turn unit i kinds (avoid unit i.op kind state))
 
+-- One verdict for each obligation of an instruction.
+told_at : (unit : MethodUnit) (i : Instr) (state : State)
+    → obligations_told (verdicts_at unit i state) ≡ obligations_at unit i
+told_at unit i state =
+    map-append (λ (v : Verdict). v.obligation) (own_verdicts unit i state) (clause_verdicts unit i state)
+    ∙ (ap (λ (os : List Obligation). os ++ obligations_told (clause_verdicts unit i state))
+    (told_in_turn unit i (faults_of unit i.op) state)
+    ∙ ap (λ (os : List Obligation). own_obligations unit i ++ os) (clauses_told unit i state))
+
 told_from : (unit : MethodUnit) (is : List Instr) (state : State)
     → obligations_told (verdicts_from unit is state) ≡ flat_map (obligations_at unit) is
 told_from unit [] state = refl
 told_from unit (i ∷ is) state =
-    let front = told_in_turn unit i (faults_of unit i.op) state in
+    let front = told_at unit i state in
     let behind = told_from unit is (post unit i.op state) in
     map-append (λ (v : Verdict). v.obligation) (verdicts_at unit i state) (verdicts_from unit is (post unit i.op state))
     ∙ (ap (λ (os : List Obligation). os ++ obligations_told (verdicts_from unit is (post unit i.op state))) front

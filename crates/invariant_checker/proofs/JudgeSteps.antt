@@ -13,18 +13,18 @@ use Rattle.cil_model.specs.declared.unit.Unit.{Unit as MethodUnit}
 use Rattle.flow_graph.specs.declared.graph.Graph.{Graph}
 use Rattle.flow_graph.proofs.Lying.{few_blocks}
 use Rattle.obligation_prover.specs.Avoiding.{avoid}
+use Rattle.obligation_prover.specs.ClausesTested.{CanTest, tested_by}
 use Rattle.obligation_prover.specs.Entailed.{rules_out}
 use Rattle.obligation_prover.specs.Obligations.{obligation, obligations_of}
 use Rattle.state_facts.specs.StateFacts.{State}
-use Rattle.transfer_rules.specs.Flow.{AreReady}
-use Rattle.transfer_rules.specs.Owed.{CanDo}
 use Rattle.transfer_rules.specs.Inductive.{HasShape, IsInductive, state_at}
+use Rattle.transfer_rules.specs.Owed.{CanDo}
 use Rattle.transfer_rules.specs.Post.{post}
 use Rattle.unit_flow.specs.Flow.{IsLawful}
 use Rattle.unit_flow.specs.declared.unit_flow.UnitFlow.{UnitFlow}
 use Rattle.unit_flow.proofs.LawfulCode as laws
 use Rattle.invariant_checker.specs.Inducts.{is_inductive}
-use Rattle.invariant_checker.specs.Verdicts.{unproved, verdicts, verdicts_at, verdicts_by_blocks, verdicts_from, verdicts_in, verdicts_in_turn, verdicts_of_block}
+use Rattle.invariant_checker.specs.Verdicts.{CanJudge, unproved, verdicts, verdicts_at, verdicts_by_blocks, verdicts_from, verdicts_in, verdicts_in_turn, verdicts_of_block}
 use Rattle.invariant_checker.specs.declared.verdict.Verdict.{Verdict}
 use Rattle.invariant_checker.proofs.InductionTest.{inductive_by, inductive_true}
 
@@ -66,52 +66,65 @@ module _ (unit : MethodUnit) (is : List Instr) (k : ℕ) (i : Instr) (state : St
       append_assoc found (verdicts_at unit i state) (verdicts_from unit (drop (k + 1) is) (post unit i.op state))
       ∙ ap (λ (js : List Instr). found ++ verdicts_from unit js state) (sym (from_it within here))
 
--- What is found so far and what is still to be found come to the same, and each rule may be asked of its state.
-pub record IsOnWay (unit : MethodUnit) (is : List Instr) (old : List Verdict) (first : State) (found : List Verdict)
-    (state : State) (k : ℕ) : Type 0 where
-  pub same : found ++ verdicts_from unit (drop k is) state ≡ old ++ verdicts_from unit is first
-  pub ready : AreReady unit (drop k is) state
+-- What was found of the first instructions, and what is to be found of the others, is the whole; and these can be judged.
+pub record IsUnderWay (unit : MethodUnit) (is : List Instr) (before : List Verdict) (first : State)
+    (found : List Verdict) (state : State) (k : ℕ) : Type 0 where
+  pub same : found ++ verdicts_from unit (drop k is) state ≡ before ++ verdicts_from unit is first
+  pub can : CanJudge unit (drop k is) state
 
-pub begins : (unit : MethodUnit) (is : List Instr) (old : List Verdict) (first : State) → AreReady unit is first
-    → IsOnWay unit is old first old first 0
-begins unit is old first ready = record { same = refl; ready = ready }
+module _ (unit : MethodUnit) (is : List Instr) (before : List Verdict) (first : State) (found : List Verdict)
+    (state : State) (k : ℕ) (i : Instr) (way : IsUnderWay unit is before first found state k)
+    (below : k < length (front is)) (there : i ≡ get_or (front is) k i) where
+  can_from : CanJudge unit (i ∷ drop (k + 1) is) state
+  can_from =
+      let last = length is - 1 in
+      let within : k < length is = omega (arith, below, length-take last is) in
+      let here : get_or is k i ≡ i = sym (there ∙ get_or-take last is k i (omega (arith, below, length-take last is))) in
+      subst (λ (js : List Instr). CanJudge unit js state) (from_it unit is k i state found within here) way.can
 
-module _ (unit : MethodUnit) (is : List Instr) (old : List Verdict) (first : State) (found : List Verdict)
-    (state : State) (k : ℕ) (i : Instr) (way : IsOnWay unit is old first found state k) where
-  ready_there : k < length is → get_or is k i ≡ i → AreReady unit (i ∷ drop (k + 1) is) state
-  ready_there below here =
-      subst (λ (l : List Instr). AreReady unit l state) (from_it unit is k i state found below here) way.ready
+  pub can_here : CanTest unit (tested_by unit i.op) state
+  can_here = can_from.0
 
-  in_front : k < length (front is) → i ≡ get_or (front is) k i → (k < length is) × (get_or is k i ≡ i)
-  in_front below there = (
-    omega (arith, below, length-take (length is - 1) is),
-    sym (there ∙ get_or-take (length is - 1) is k i (omega (arith, below, length-take (length is - 1) is))),
-  )
+  pub can_do_here : CanDo unit i.op state
+  can_do_here = can_from.1
 
-  pub next_ready : k < length (front is) → i ≡ get_or (front is) k i → CanDo unit i.op state
-  next_ready below there = let at = in_front below there in (ready_there at.0 at.1).0
+  goes_on : (more : List Verdict) (new : State) → more ≡ found ++ verdicts_at unit i state → new ≡ post unit i.op state
+      → IsUnderWay unit is before first more new (k + 1)
+  goes_on more new told made = record {
+    same = rw (told, made) (one_more_passed unit is k i state found below there ∙ way.same);
+    can = subst (CanJudge unit (drop (k + 1) is)) (sym made) can_from.2;
+  }
 
-  pub on_way : k < length (front is) → i ≡ get_or (front is) k i
-      → IsOnWay unit is old first (found ++ verdicts_at unit i state) (post unit i.op state) (k + 1)
-  on_way below there =
-      let at = in_front below there in
-      record {
-        same = one_more_passed unit is k i state found below there ∙ way.same;
-        ready = (ready_there at.0 at.1).1;
-      }
+pub next : (unit : MethodUnit) (is : List Instr) (before : List Verdict) (first : State) (found : List Verdict)
+    (state : State) (k : ℕ) (i : Instr) → IsUnderWay unit is before first found state k → k < length (front is)
+    → i ≡ get_or (front is) k i → (more : List Verdict) (new : State) → more ≡ found ++ verdicts_at unit i state
+    → new ≡ post unit i.op state → IsUnderWay unit is before first more new (k + 1)
+next unit is before first found state k i way below there more new told made =
+    goes_on unit is before first found state k i way below there more new told made
 
-  pub on_way_ends : 1 ≤ length is → length (front is) ≤ k → k ≤ length (front is) → i ≡ get_or is (length is - 1) i
-      → found ++ verdicts_at unit i state ≡ old ++ verdicts_from unit is first
-  on_way_ends some least most there =
-      let last : k ≡ length is - 1 = omega (arith, some, least, most, length-take (length is - 1) is) in
-      let here : get_or is k i ≡ i = ap (λ (n : ℕ). get_or is n i) last ∙ sym there in
-      let none : drop (k + 1) is ≡ [] = drop_all (k + 1) is (omega (arith, some, last)) in
-      sym (ap (λ (js : List Instr). found ++ verdicts_from unit js state)
-      (from_it unit is k i state found (omega (arith, some, last)) here
-      ∙ ap (λ (js : List Instr). i ∷ js) none)
-      ∙ ap (λ (vs : List Verdict). found ++ vs) (append-nil (verdicts_at unit i state))) ∙ way.same
+-- The last one.
+module _ (unit : MethodUnit) (is : List Instr) (before : List Verdict) (first : State) (found : List Verdict)
+    (state : State) (k : ℕ) (last : Instr) (way : IsUnderWay unit is before first found state k) (some : 1 ≤ length is)
+    (there : last ≡ get_or is (length is - 1) last) (low : length (front is) ≤ k) (high : k ≤ length (front is)) where
+  at_last : drop k is ≡ last ∷ drop (k + 1) is
+  at_last =
+      let at : k ≡ length is - 1 = omega (arith, some, low, high, length-take (length is - 1) is) in
+      from_it unit is k last state found (omega (arith, some, at)) (ap (λ (n : ℕ). get_or is n last) at ∙ sym there)
 
-pub ruleset judging = (begins, next_ready, on_way_ends)
+  pub can_last : CanTest unit (tested_by unit last.op) state
+  can_last = (subst (λ (js : List Instr). CanJudge unit js state) at_last way.can).0
+
+  pub ended : (more : List Verdict) → more ≡ found ++ verdicts_at unit last state
+      → more ≡ before ++ verdicts_from unit is first
+  ended more told =
+      let none : drop (k + 1) is ≡ [] = drop_all (k + 1) is
+      (omega (arith, some, low, length-take (length is - 1) is)) in
+      told ∙ (sym (append-nil (found ++ verdicts_at unit last state))
+      ∙ (append_assoc found (verdicts_at unit last state) []
+      ∙ (ap (λ (vs : List Verdict). found ++ vs)
+      (ap (λ (js : List Instr). verdicts_at unit last state ++ verdicts_from unit js (post unit last.op state)) (sym none)
+      ∙ ap (λ (js : List Instr). verdicts_from unit js state) (sym at_last))
+      ∙ way.same)))
 
 -- ---- all blocks
 

@@ -1,7 +1,7 @@
-pub mod StepFaults
+pub mod ClauseVerdicts
+pub mod Judgeable
 pub mod SafeRuns
 pub mod InductionTest
-pub mod Fitting
 pub mod Standing
 pub mod Soundness
 pub mod Covering

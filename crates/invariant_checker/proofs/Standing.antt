@@ -1,26 +1,28 @@
 -- Where an invariant proves the obligations of a unit, what its states say is true of each point that a run comes to.
-use Rattle.std.proofs.Common.{◌≡◌, ℕ, zero, suc, ◌+◌, ◌<◌, ◌≤◌, true, List, [], ◌∷◌, ◌++◌, length, slice_get, Option, Some, refl, sym, subst, ◌∙◌, arith, inl, inr}
+use Rattle.std.proofs.Common.{◌≡◌, ℕ, zero, suc, ◌+◌, ◌<◌, ◌≤◌, true, false, List, [], ◌∷◌, ◌++◌, length, slice_get, Option, Some, refl, sym, subst, ◌∙◌, arith, inl, inr}
 use Rattle.std.specs.List.{flat_map, range_with_len}
-use Rattle.std.specs.Option.{ForSome}
 use Rattle.std.proofs.lemmas.Bool.{and_parts, cases_lt}
 use Rattle.std.proofs.lemmas.List.Folds.{list_all-append}
 use Rattle.std.proofs.lemmas.Option.{none-some, same_Some}
-use Rattle.cil_model.specs.Effects.{Faults, HasEffect, effects}
+use Rattle.cil_model.specs.Calls.{FreeCall}
 use Rattle.cil_model.specs.Passes.{stack_at}
-use Rattle.cil_model.specs.Runs.{instr_at}
+use Rattle.cil_model.specs.Runs.{Row, instr_at}
 use Rattle.cil_model.specs.declared.instruction.Instr.{Instr}
+use Rattle.cil_model.specs.declared.machine.Config.TheVariants.{Fault}
 use Rattle.cil_model.specs.declared.machine.FaultKind.{FaultKind}
 use Rattle.cil_model.specs.declared.place.Kind.{Kind}
 use Rattle.cil_model.specs.declared.unit.Unit.{Unit as MethodUnit}
+use Rattle.machine_points.specs.Points.{IsPointOf}
 use Rattle.machine_points.specs.declared.point.Point.{Point}
 use Rattle.obligation_prover.specs.Avoiding.{avoid}
+use Rattle.obligation_prover.specs.ClausesTested.{clauses_shown, tested_by}
 use Rattle.obligation_prover.specs.EachFault.{AreRuledOutInTurn}
-use Rattle.obligation_prover.specs.Faults.{faults_of}
+use Rattle.obligation_prover.specs.Faults.{faults_of, is_of_clause}
+use Rattle.obligation_prover.proofs.Complete.{effect_of_step}
 use Rattle.obligation_prover.proofs.InTurn.{in_turn}
-use Rattle.state_facts.specs.Forms.{HasForm}
+use Rattle.obligation_prover.proofs.NoneFalse.{finds_none}
 use Rattle.state_facts.specs.Holds.{HoldsAt}
 use Rattle.state_facts.specs.StateFacts.{State}
-use Rattle.invariant_checker.specs.Told.{IsToldOf}
 use Rattle.transfer_rules.specs.Forms.{FitsStack}
 use Rattle.transfer_rules.specs.Inductive.{IsInductive, state_at}
 use Rattle.transfer_rules.specs.Post.{post}
@@ -28,15 +30,17 @@ use Rattle.transfer_rules.specs.Laws.FlowSteps.{fits_formed, post_fits, post_rea
 use Rattle.transfer_rules.specs.Laws.StepsHold.{step_holds}
 use Rattle.transfer_rules.proofs.Inducing.{holds_there}
 use Rattle.unit_flow.specs.Chains.{IsChain, IsPassed}
-use Rattle.unit_flow.specs.Flow.{Steps, block_instrs, start_of}
+use Rattle.unit_flow.specs.Flow.{IsLawful, Steps, block_instrs, start_of}
 use Rattle.unit_flow.specs.Ways.{way_of}
 use Rattle.unit_flow.specs.declared.unit_flow.UnitFlow.{UnitFlow}
 use Rattle.unit_flow.proofs.BlockChains.{block_chain}
 use Rattle.unit_flow.proofs.OnTheWay.{IsOnItsWay, Passes}
 use Rattle.unit_flow.proofs.WayLaws.{takes_way}
 use Rattle.invariant_checker.specs.Counts.{all_proved}
-use Rattle.invariant_checker.specs.Verdicts.{verdicts_at, verdicts_by_blocks, verdicts_from, verdicts_in, verdicts_in_turn}
+use Rattle.invariant_checker.specs.Verdicts.{clause_verdicts, own_verdicts, verdicts_at, verdicts_by_blocks, verdicts_from, verdicts_in, verdicts_in_turn}
 use Rattle.invariant_checker.specs.declared.verdict.Verdict.{Verdict}
+use Rattle.invariant_checker.proofs.ClauseVerdicts.{each_shown}
+use Rattle.invariant_checker.proofs.Judgeable.{can_test}
 use Rattle.invariant_checker.proofs.SafeRuns.{NoneFaults}
 
 -- ---- verdicts
@@ -69,7 +73,7 @@ only : (next n at : ℕ) → slice_get (next ∷ []) n ≡ Some at → at ≡ ne
 only next zero at e = sym (same_Some next at e)
 only next (suc n) at e = absurd (none-some at e)
 
-module _ (code : UnitFlow) (told : IsToldOf code) (states : List State) (inductive : IsInductive code states)
+module _ (code : UnitFlow) (lawful : IsLawful code) (states : List State) (inductive : IsInductive code states)
     (proved : all_proved (verdicts_by_blocks code states) ≡ true) where
   abbrev unit : MethodUnit
   unit = code.unit
@@ -90,7 +94,7 @@ module _ (code : UnitFlow) (told : IsToldOf code) (states : List State) (inducti
       → HoldsAt (state_at states b) p → Stands b (block_instrs code b) (state_at states b) p
   stands_first b p below here holds = record {
     chain = subst (λ (at : ℕ). IsChain unit code.graph b at (block_instrs code b)) (sym here)
-        (block_chain code told.lawful b below);
+        (block_chain code lawful b below);
     fits = subst (λ (at : ℕ). FitsStack unit (before at) (state_at states b)) (sym here)
         (inductive.shape.fit b (subst (λ (n : ℕ). b < n) (sym inductive.shape.count) below));
     shown = one_of_all (verdicts_in code states) 0 (length code.graph.blocks) b proved (omega arith)
@@ -110,10 +114,10 @@ module _ (code : UnitFlow) (told : IsToldOf code) (states : List State) (inducti
       record {
         chain = subst (λ (at : ℕ). IsChain unit code.graph b at (j ∷ is)) (sym next) stands.chain.1;
         fits = subst (λ (at : ℕ). FitsStack unit (before at) behind) (sym next)
-            (post_fits code told.lawful i p.frame.at state passed stands.fits);
+            (post_fits code lawful i p.frame.at state passed stands.fits);
         shown = (both_proved (verdicts_at unit i state) (verdicts_from unit (j ∷ is) behind) stands.shown).1;
-        holds = step_holds code told.lawful i state p q (fits_formed unit (before p.frame.at) state stands.fits)
-            (post_ready code told.lawful i p.frame.at state passed.here passed.found stands.fits) step stands.holds;
+        holds = step_holds code lawful i state p q (fits_formed unit (before p.frame.at) state stands.fits)
+            (post_ready code lawful i p.frame.at state passed.here passed.found stands.fits) step stands.holds;
       }
 
   stands_on : (b : ℕ) (is : List Instr) (state : State) (p : Point) (rest : List Instr) (q : Point)
@@ -136,34 +140,42 @@ module _ (code : UnitFlow) (told : IsToldOf code) (states : List State) (inducti
       stands_on way.block (block_instrs code way.block) (state_at states way.block) way.first way.rest p way.passes
       way.chain
       (stands_first way.block way.first way.below way.here
-      (holds_there code told.lawful states inductive way.count way.block way.first way.came))
+      (holds_there code lawful states inductive way.count way.block way.first way.came))
 
-  -- ---- no instruction ends in a fault
+  -- ---- no step ends in a fault
 
-  no_fault : (i k : Instr) (state : State) (p : Point) (kind : FaultKind) → i.at ≡ p.frame.at
-      → instr_at unit.instrs i.at ≡ Some i → instr_at unit.instrs p.frame.at ≡ Some k → ForSome state HasForm
-      → HoldsAt state p → all_proved (verdicts_at unit i state) ≡ true
-      → HasEffect (effects unit k p.frame p.heap) (Faults kind) → ⊥
-  no_fault i k state p kind here found other form holds shown ends =
+  no_fault : (i k : Instr) (state : State) (p : Point) (kind : FaultKind) (index at : ℕ) → IsPointOf unit p
+      → i.at ≡ p.frame.at → instr_at unit.instrs i.at ≡ Some i → instr_at unit.instrs p.frame.at ≡ Some k
+      → FitsStack unit (before p.frame.at) state → HoldsAt state p → all_proved (verdicts_at unit i state) ≡ true
+      → Row (FreeCall unit) k.op [] unit k p.frame p.heap (Fault kind index at) → ⊥
+  no_fault i k state p kind index at point here found other fits holds shown row =
       let same : k ≡ i = same_Some k i (sym other ∙ subst (λ (at : ℕ). instr_at unit.instrs at ≡ Some i) here found) in
-      in_turn unit i.op state form (ruled_out_in_turn unit i (faults_of unit i.op) state shown) kind i p refl holds
-      (subst (λ (x : Instr). HasEffect (effects unit x p.frame p.heap) (Faults kind)) same ends)
+      let both = both_proved (own_verdicts unit i state) (clause_verdicts unit i state) shown in
+      let step : Row (FreeCall unit) i.op [] unit i p.frame p.heap (Fault kind index at) =
+      subst (λ (x : Instr). Row (FreeCall unit) x.op [] unit x p.frame p.heap (Fault kind index at)) same row in
+      let plain : is_of_clause kind ≡ false =
+      finds_none unit i.op state lawful.formed (can_test code lawful i p.frame.at state here found fits)
+      (each_shown i (tested_by unit i.op) 1 (clauses_shown unit i.op state) both.1) i p kind index at refl point holds
+      step in
+      in_turn unit i.op state (fits_formed unit (before p.frame.at) state fits)
+      (ruled_out_in_turn unit i (faults_of unit i.op) state both.0) kind i p refl holds
+      (effect_of_step unit i p.frame p.heap kind index at plain step)
 
-  none_ends : (b : ℕ) (is : List Instr) (k : Instr) (state : State) (p : Point) (kind : FaultKind)
-      → instr_at unit.instrs p.frame.at ≡ Some k → Stands b is state p
-      → HasEffect (effects unit k p.frame p.heap) (Faults kind) → ⊥
-  none_ends b [] k state p kind found stands ends = elim stands.chain [ ]
-  none_ends b (i ∷ []) k state p kind found stands ends =
-      no_fault i k state p kind stands.chain.here stands.chain.found found
-      (fits_formed unit (before p.frame.at) state stands.fits) stands.holds
-      (both_proved (verdicts_at unit i state) [] stands.shown).0 ends
-  none_ends b (i ∷ j ∷ is) k state p kind found stands ends =
+  none_ends : (b : ℕ) (is : List Instr) (k : Instr) (state : State) (p : Point) (kind : FaultKind) (index at : ℕ)
+      → IsPointOf unit p → instr_at unit.instrs p.frame.at ≡ Some k → Stands b is state p
+      → Row (FreeCall unit) k.op [] unit k p.frame p.heap (Fault kind index at) → ⊥
+  none_ends b [] k state p kind index at point found stands row = elim stands.chain [ ]
+  none_ends b (i ∷ []) k state p kind index at point found stands row =
+      no_fault i k state p kind index at point stands.chain.here stands.chain.found found stands.fits stands.holds
+      (both_proved (verdicts_at unit i state) [] stands.shown).0 row
+  none_ends b (i ∷ j ∷ is) k state p kind index at point found stands row =
       let passed : IsPassed unit p.frame.at i = stands.chain.0.passed in
-      no_fault i k state p kind passed.here passed.found found
-      (fits_formed unit (before p.frame.at) state stands.fits) stands.holds
-      (both_proved (verdicts_at unit i state) (verdicts_from unit (j ∷ is) (post unit i.op state)) stands.shown).0 ends
+      no_fault i k state p kind index at point passed.here passed.found found stands.fits stands.holds
+      (both_proved (verdicts_at unit i state) (verdicts_from unit (j ∷ is) (post unit i.op state)) stands.shown).0 row
 
-  pub none_faults : NoneFaults code told.lawful
-  none_faults = λ kind index at to ends.
+  pub none_faults : NoneFaults code lawful
+  none_faults = λ kind index at to.
       let (state, stands) = stands_there to.before to.way in
-      none_ends to.way.block to.way.rest to.step.0 state to.before kind to.step.1 stands ends
+      let (k, found, row) = to.step in
+      none_ends to.way.block to.way.rest k state to.before kind index at
+      (record { heap = to.in_body.fits.heap_is; frame = to.in_body.fits.frame }) found stands row

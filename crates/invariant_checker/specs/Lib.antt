@@ -2,4 +2,3 @@ pub mod Counts
 pub mod Inducts
 pub mod Safety
 pub mod Verdicts
-pub mod Told

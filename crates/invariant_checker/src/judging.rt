@@ -1,25 +1,30 @@
 //! The verdicts on the obligations of a unit.
 
-ghost use Rattle.std.specs.Prelude.{◌≡◌, ◌++◌, ◌+◌, ◌*◌, ◌<◌, ◌≤◌, All, IfOk, IsTrue, OnOk, length, map};
-ghost use Rattle.cil_model.specs.Limits.{MAX_CLAUSES, MAX_VARIABLES};
+ghost use Rattle.std.specs.Prelude.{◌≡◌, ◌++◌, ◌*◌, ◌<◌, ◌≤◌, All, IfOk, IsTrue, OnOk, length, map};
+ghost use Rattle.cil_model.specs.Limits.{MAX_CLAUSES};
+ghost use Rattle.cil_model.specs.WellFormed.{IsWellFormed};
+ghost use Rattle.obligation_prover.specs.ClausesTested.{CanTest, tested_by};
 ghost use Rattle.obligation_prover.specs.Obligations.{obligations_of};
-ghost use Rattle.invariant_checker.specs.Told.{IsToldOf};
-ghost use Rattle.transfer_rules.specs.Flow.{AreReady, Fits};
+ghost use Rattle.transfer_rules.specs.Flow.{Fits};
 ghost use Rattle.transfer_rules.specs.Inductive.{HasShape, IsInductive};
+ghost use Rattle.unit_flow.specs.Flow.{IsLawful};
 ghost use Rattle.invariant_checker.specs.Counts as counts;
-ghost use Rattle.invariant_checker.specs.Safety.{EnsuresNothing, IsSafe, IsSafeButForEnsures};
+ghost use Rattle.invariant_checker.specs.Safety.{IsSafe};
 ghost use Rattle.invariant_checker.specs.Verdicts as rule;
+ghost use Rattle.invariant_checker.specs.Verdicts.{CanJudge};
 
 use crate::verdict::Verdict;
 use abs_state::AbsState;
 use cil_model::{Instr, Obligation, Unit};
 use domain_api::NoMemory;
-use obligation_prover::{avoid, faults_of, obligations, rules_out};
+use obligation_prover::{
+    Tested, avoid, clause_obligation, clauses_shown, faults_of, obligations, rules_out, tested_by,
+};
 use std::alloc::Global;
 use transfer_rules::{Invariant, inductive, post};
 use unit_flow::UnitFlow;
 
-/// Appends a verdict for each fault of an instruction. Each is judged where those before it are assumed not to have
+/// Appends a verdict for each own fault of an instruction. Each is judged where those before it are assumed not to have
 /// come.
 fn push_in_turn(
     found: &mut Vec<Verdict>,
@@ -27,7 +32,7 @@ fn push_in_turn(
     unit: &Unit,
     instr: &Instr,
 ) -> Result<(), NoMemory>
-    ensures { OnOk result (found.new.items ≡ found.old.items ++ rule.verdicts_at unit.now instr.now state.old) }
+    ensures { OnOk result (found.new.items ≡ found.old.items ++ rule.own_verdicts unit.now instr.now state.old) }
 {
     for kind in faults_of(unit, &instr.op) {
         found.push(Verdict {
@@ -43,16 +48,16 @@ fn push_in_turn(
     Ok(())
 }
 
-/// Appends the verdicts at an instruction, from the state before it. An instruction without obligations costs nothing,
-/// and any other one a copy of the state.
-fn push_verdicts(
+/// Appends the verdicts on the own faults of an instruction, from the state before it. An instruction without any costs
+/// nothing, and any other one a copy of the state.
+fn push_own(
     alloc: Global,
     found: &mut Vec<Verdict>,
     state: &AbsState,
     unit: &Unit,
     instr: &Instr,
 ) -> Result<(), NoMemory>
-    ensures { OnOk result (found.new.items ≡ found.old.items ++ rule.verdicts_at unit.now instr.now state.now) }
+    ensures { OnOk result (found.new.items ≡ found.old.items ++ rule.own_verdicts unit.now instr.now state.now) }
 {
     if faults_of(unit, &instr.op).is_empty() {
         return Ok(());
@@ -61,8 +66,78 @@ fn push_verdicts(
     push_in_turn(found, &mut assumed, unit, instr)
 }
 
+/// Appends a verdict for each clause that an instruction tests, by whether it is shown.
+fn push_shown(
+    found: &mut Vec<Verdict>,
+    instr: &Instr,
+    test: Tested,
+    shown: &[bool],
+) -> Result<(), NoMemory>
+    requires few { length shown.now ≤ MAX_CLAUSES }
+    ensures { OnOk result (found.new.items ≡ found.old.items ++ rule.clauses_from instr.now test 1 shown.now) }
+{
+    for before in 0..shown.len() {
+        found.push(Verdict {
+            obligation: clause_obligation(instr, test, before as u8 + 1),
+            proved: shown[before],
+        })?;
+    }
+    Ok(())
+}
+
+/// Appends the verdicts on the clauses that an instruction tests, from the state before it.
+#[tactic(auto, using(crate::proofs::ClauseVerdicts::few_shown))]
+fn push_clauses(
+    alloc: Global,
+    found: &mut Vec<Verdict>,
+    state: &AbsState,
+    unit: &Unit,
+    instr: &Instr,
+) -> Result<(), NoMemory>
+    requires formed { IsWellFormed unit.now }
+    requires ready { CanTest unit.now (tested_by unit.now instr.now.op) state.now }
+    ensures { OnOk result (found.new.items ≡ found.old.items ++ rule.clause_verdicts unit.now instr.now state.now) }
+{
+    let before = state.copy(alloc)?;
+    let shown = clauses_shown(alloc, unit, &instr.op, before)?;
+    push_shown(found, instr, tested_by(unit, &instr.op), shown.as_slice())
+}
+
+/// Appends them where the instruction tests any clauses. Any other one costs nothing.
+fn push_tested(
+    alloc: Global,
+    found: &mut Vec<Verdict>,
+    state: &AbsState,
+    unit: &Unit,
+    instr: &Instr,
+) -> Result<(), NoMemory>
+    requires formed { IsWellFormed unit.now }
+    requires ready { CanTest unit.now (tested_by unit.now instr.now.op) state.now }
+    ensures { OnOk result (found.new.items ≡ found.old.items ++ rule.clause_verdicts unit.now instr.now state.now) }
+{
+    match tested_by(unit, &instr.op) {
+        Tested::Nothing => Ok(()),
+        Tested::Callee(_) | Tested::Own => push_clauses(alloc, found, state, unit, instr),
+    }
+}
+
+/// Appends the verdicts at an instruction, from the state before it.
+fn push_verdicts(
+    alloc: Global,
+    found: &mut Vec<Verdict>,
+    state: &AbsState,
+    unit: &Unit,
+    instr: &Instr,
+) -> Result<(), NoMemory>
+    requires formed { IsWellFormed unit.now }
+    requires ready { CanTest unit.now (tested_by unit.now instr.now.op) state.now }
+    ensures { OnOk result (found.new.items ≡ found.old.items ++ rule.verdicts_at unit.now instr.now state.now) }
+{
+    push_own(alloc, found, state, unit, instr)?;
+    push_tested(alloc, found, state, unit, instr)
+}
+
 /// Appends the verdicts at the instructions of a block, from the state before the first of them.
-#[tactic(auto, using(crate::proofs::JudgeSteps::judging))]
 fn judge_instrs(
     alloc: Global,
     found: &mut Vec<Verdict>,
@@ -70,8 +145,8 @@ fn judge_instrs(
     instrs: &[Instr],
     state: &mut AbsState,
 ) -> Result<(), NoMemory>
-    requires few { length unit.now.args + length unit.now.locals + unit.now.max_stack ≤ MAX_VARIABLES }
-    requires ready { AreReady unit.now instrs.now state.old }
+    requires formed { IsWellFormed unit.now }
+    requires ready { CanJudge unit.now instrs.now state.old }
     ensures { OnOk result (found.new.items ≡ found.old.items ++ rule.verdicts_from unit.now instrs.now state.old) }
 {
     let [others @ .., last] = instrs else {
@@ -92,7 +167,7 @@ fn judge_block(
     block: u32,
     state: &AbsState,
 ) -> Result<(), NoMemory>
-    requires lawful { IsToldOf code.now }
+    requires lawful { IsLawful code.now }
     requires there { block < length code.now.graph.blocks }
     requires fits { Fits code.now block state.now }
     ensures { OnOk result (found.new.items ≡ found.old.items ++ rule.verdicts_of_block code.now state.now block) }
@@ -107,7 +182,7 @@ fn judge_blocks(
     code: &UnitFlow,
     states: &[AbsState],
 ) -> Result<Vec<Verdict>, NoMemory>
-    requires lawful { IsToldOf code.now }
+    requires lawful { IsLawful code.now }
     requires shape { HasShape code.now states.now }
     ensures { IfOk result (λ found. found.items ≡ rule.verdicts_by_blocks code.now states.now) }
 {
@@ -120,6 +195,7 @@ fn judge_blocks(
 
 /// Each obligation of a unit, unproved.
 fn all_unproved(alloc: Global, unit: &Unit) -> Result<Vec<Verdict>, NoMemory>
+    requires formed { IsWellFormed unit.now }
     ensures { IfOk result (λ found. found.items ≡ map rule.unproved (obligations_of unit.now)) }
 {
     let listed = obligations(alloc, unit)?;
@@ -139,7 +215,7 @@ fn find_verdicts(
     code: &UnitFlow,
     states: &[AbsState],
 ) -> Result<Vec<Verdict>, NoMemory>
-    requires { IsToldOf code.now }
+    requires { IsLawful code.now }
     ensures { IfOk result (λ found. found.items ≡ rule.verdicts code.now states.now) }
 {
     if inductive(alloc, code, states)? {
@@ -159,7 +235,7 @@ pub fn judge(
     code: &UnitFlow,
     invariant: &Invariant,
 ) -> Result<Vec<Verdict>, NoMemory>
-    requires lawful { IsToldOf code.now }
+    requires lawful { IsLawful code.now }
     ensures value { IfOk result (λ found. found.items ≡ rule.verdicts code.now invariant.now.states.items) }
     // There is one verdict for each obligation, in the order of the code.
     ensures each { IfOk result (λ found.
@@ -167,11 +243,8 @@ pub fn judge(
     // Nothing is proved by what is no invariant of the unit.
     ensures inductive { IfOk result (λ found.
         All (λ verdict. IsTrue verdict.proved → IsInductive code.now invariant.now.states.items) found.items) }
-    // A unit whose obligations are all proved ends in no fault but that an Ensures is not true, of which none tells.
-    ensures body { IfOk result (λ found. IsTrue (counts.all_proved found.items) → IsSafeButForEnsures code.now.unit) }
-    // Where it has no Ensures, it is safe.
-    ensures sound { IfOk result (λ found.
-        IsTrue (counts.all_proved found.items) → EnsuresNothing code.now.unit → IsSafe code.now.unit) }
+    // A unit whose obligations are all proved is safe.
+    ensures sound { IfOk result (λ found. IsTrue (counts.all_proved found.items) → IsSafe code.now.unit) }
     // An instruction has no more obligations than a method may have clauses.
     ensures few { IfOk result (λ found. length found.items ≤ MAX_CLAUSES * length code.now.unit.instrs) }
     ensures inside { IfOk result (λ found.

@@ -1,18 +1,15 @@
 -- Each fault in which an instruction may end is one of its operation, or that a clause is not true.
-use Rattle.std.proofs.Common.{◌≡◌, ◌==◌, ℕ, ◌≤◌, ℤ, pos, negsuc, true, false, ◌&&◌, int_le, int_lt, int_eq, nat_le, Option, Some, None, List, [], ◌∷◌, map, Contains, Ok, Err, refl, sym, ap, subst, ◌∙◌, inl, inr, ⊎_elim, arith, slice_get}
+use Rattle.std.proofs.Common.{◌≡◌, ℕ, ℤ, pos, negsuc, true, false, ◌&&◌, int_le, int_lt, int_eq, Option, Some, None, List, [], ◌∷◌, Ok, Err, refl, sym, ap, subst, ◌∙◌, inl, inr, ⊎_elim, slice_get}
 use Rattle.std.specs.Prelude.{◌^◌, ◌/◌, ◌*ℤ◌, ◌+ℤ◌, ◌-ℤ◌, Result, length}
 use Rattle.std.specs.Int.{int_shr}
-use Rattle.std.specs.List.{flat_map}
 use Rattle.std.proofs.lemmas.Bool.{cond_both, true≢false}
-use Rattle.std.proofs.lemmas.List.Elements.{Contains-append_left, Contains-append_right}
-use Rattle.std.proofs.lemmas.Option.{none-some, same_Some}
 use Rattle.cc_base.specs.Wrap.{wrap32}
 use Rattle.cil_model.specs.Arithmetic.{LEAST, GREATEST, signed, unsigned, exact, divided, divided_unsigned, shifted, operated}
 use Rattle.cil_model.specs.Calls.{FreeCall, FreelyCalled, Returned, ensures_fault}
 use Rattle.cil_model.specs.Clauses.{false_requires}
 use Rattle.cil_model.specs.Comparisons.{comparison_of, number_of}
 use Rattle.cil_model.specs.Effects.{Effect, GoesOn, Faults, Assumes, FindsNoRoom, HasEffect, arithmetic, array_length, at_index, below_message, binary, comparison, contract_call, effects, effects_of, gives, goes_on, item_value, loads, makes_number, new_array, of_place, pushes, stores, tests_condition}
-use Rattle.cil_model.specs.Runs.{CallsBy, EffectRow, Row, config_after, instr_at}
+use Rattle.cil_model.specs.Runs.{CallsBy, EffectRow, Row, config_after}
 use Rattle.cil_model.specs.UnitCalls.{array_place, unit_call}
 use Rattle.cil_model.specs.Values.{Heap, same_place}
 use Rattle.cil_model.specs.declared.instruction.BinOp.{BinOp}
@@ -35,10 +32,8 @@ use Rattle.cil_model.specs.declared.unit.CalleeInfo.{CalleeInfo}
 use Rattle.cil_model.specs.declared.unit.Unit.{Unit as MethodUnit}
 use Rattle.cil_model.specs.declared.unit_numbers.UnitCall.{UnitCall}
 use Rattle.cil_model.specs.declared.unit_numbers.UnitCall.TheVariants as calls
-use Rattle.cil_model.proofs.KindsSettle.{found_at}
-use Rattle.obligation_prover.specs.EachFault.{EndsInNoOther, ListsEachFault}
+use Rattle.obligation_prover.specs.EachFault.{EndsInNoOther}
 use Rattle.obligation_prover.specs.Faults.{IsAmong, call_faults, element_faults, faults_of, is_of_clause, operator_faults}
-use Rattle.obligation_prover.specs.Obligations.{obligation, obligations_in, obligations_of}
 use Rattle.obligation_prover.proofs.Quiet as quiet
 
 -- ---- operators
@@ -245,36 +240,13 @@ module _ (unit : MethodUnit) (i : Instr) (f : Frame) (heap : Heap) (kind : Fault
   fault_is Assumes is = absurd cc
   fault_is FindsNoRoom is = absurd cc
 
-  step_among : Row (FreeCall unit) i.op [] unit i f heap end → IsAmong (faults_of unit i.op) kind × (i.at ≡ at)
+  -- The effect by which the instruction ends in it.
+  pub effect_of_step : Row (FreeCall unit) i.op [] unit i f heap end → HasEffect (effects unit i f heap) (Faults kind)
+  effect_of_step row =
+      let found = by_effect i.op row in subst (HasEffect (effects unit i f heap)) (fault_is found.0 found.2).0 found.1
+
+  pub step_among : Row (FreeCall unit) i.op [] unit i f heap end → IsAmong (faults_of unit i.op) kind × (i.at ≡ at)
   step_among row =
       let found = by_effect i.op row in
       let is = fault_is found.0 found.2 in
       (no_other unit i.op i f heap kind refl (subst (HasEffect (effects unit i f heap)) is.0 found.1), is.1)
-
--- ---- the list
-
-mapped : (i : Instr) (kinds : List FaultKind) (kind : FaultKind) → IsAmong kinds kind → Contains (map (obligation i) kinds) (obligation i kind)
-mapped i [] kind among = elim among [ ]
-mapped i (other ∷ kinds) kind (inl is) = (0, omega arith, ap (obligation i) (sym is))
-mapped i (other ∷ kinds) kind (inr later) = Contains-append_right (obligation i other ∷ []) (map (obligation i) kinds) (obligation i kind) (mapped i kinds kind later)
-
-own : (unit : MethodUnit) (i : Instr) (kind : FaultKind) → unit.body_start ≤ i.at → IsAmong (faults_of unit i.op) kind → Contains (obligations_in unit i) (obligation i kind)
-own unit i kind within among = cond_both (nat_le unit.body_start i.at) _ _ (λ os. Contains os (obligation i kind))
-    (λ is. mapped i (faults_of unit i.op) kind among) (λ before. absurd (grind (arith, before, within)))
-
-listed : (unit : MethodUnit) (is : List Instr) (at : ℕ) (i : Instr) (kind : FaultKind) → instr_at is at ≡ Some i → unit.body_start ≤ i.at → IsAmong (faults_of unit i.op) kind
-    → Contains (flat_map (obligations_in unit) is) (obligation i kind)
-listed unit [] at i kind found within among = absurd (none-some i found)
-listed unit (j ∷ is) at i kind found within among = cond_both (j.at == at) _ _
-    (λ (other : Option Instr). other ≡ Some i → Contains (flat_map (obligations_in unit) (j ∷ is)) (obligation i kind))
-    (λ here e. Contains-append_left (obligations_in unit j) (flat_map (obligations_in unit) is) (obligation i kind)
-    (subst (λ (k : Instr). Contains (obligations_in unit k) (obligation i kind)) (sym (same_Some j i e)) (own unit i kind within among)))
-    (λ later e. Contains-append_right (obligations_in unit j) (flat_map (obligations_in unit) is) (obligation i kind) (listed unit is at i kind e within among)) found
-
-pub lists_each_fault : (unit : MethodUnit) → ListsEachFault unit (obligations_of unit)
-lists_each_fault unit = λ f heap kind index at within other (i, found, row).
-    let here : i.at ≡ f.at = found_at unit.instrs f.at i found in
-    let inside : unit.body_start ≤ i.at = subst (λ (k : ℕ). unit.body_start ≤ k) (sym here) within in
-    let is = step_among unit i f heap kind index at other row in
-    subst (λ (k : ℕ). Contains (obligations_of unit) (record { at = k; kind = kind; callee = None })) is.1
-    (listed unit unit.instrs f.at i kind found inside is.0)

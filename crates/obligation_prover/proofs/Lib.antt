@@ -6,3 +6,10 @@ pub mod RuledOut
 pub mod Complete
 pub mod InTurn
 pub mod Reading
+pub mod OwnInts
+pub mod Contracts
+pub mod Plain
+pub mod NoneFalse
+pub mod EachListed
+pub mod JudgingClauses
+pub mod ByClause

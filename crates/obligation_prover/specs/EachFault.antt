@@ -1,5 +1,5 @@
 -- That no fault is missing among the obligations.
-use Rattle.std.specs.Prelude.{◌≡◌, ℕ, ◌≤◌, true, false, Contains, List, [], ◌∷◌, None}
+use Rattle.std.specs.Prelude.{◌≡◌, ℕ, ◌≤◌, true, Contains, List, [], ◌∷◌, Option}
 use Rattle.std.specs.Option.{ForSome}
 use Rattle.cil_model.specs.Effects.{Faults, HasEffect, effects}
 use Rattle.cil_model.specs.Runs.{LocalStep}
@@ -15,7 +15,7 @@ use Rattle.state_facts.specs.Forms.{HasForm}
 use Rattle.state_facts.specs.StateFacts.{State}
 use Rattle.obligation_prover.specs.Avoiding.{avoid}
 use Rattle.obligation_prover.specs.Entailed.{rules_out}
-use Rattle.obligation_prover.specs.Faults.{IsAmong, is_of_clause}
+use Rattle.obligation_prover.specs.Faults.{IsAmong}
 use Rattle.obligation_prover.specs.Meaning.{RulesOut}
 
 -- An instruction of the unit with this operation ends in no other fault than these.
@@ -36,10 +36,12 @@ RulesOutInTurn unit op kinds =
     (state : State) → ForSome state HasForm → AreRuledOutInTurn unit op kinds state → (kind : FaultKind)
     → RulesOut unit op kind state
 
--- Where a step of a frame in the body of a unit ends in a fault, other than that a clause is not true, that fault is listed
--- at its IL offset.
+-- The fault is listed at this IL offset.
+abbrev pub IsListed : List Obligation → FaultKind → ℕ → Type 0
+IsListed listed kind at = (callee : Option ℕ) × Contains listed (record { at = at; kind = kind; callee = callee })
+
+-- Where a step of a frame in the body of a unit ends in a fault, that fault is listed at its IL offset.
 abbrev pub ListsEachFault : MethodUnit → List Obligation → Type 0
 ListsEachFault unit listed =
-    (f : Frame) (heap : Heap) (kind : FaultKind) (index at : ℕ) → unit.body_start ≤ f.at → is_of_clause kind ≡ false
-    → LocalStep unit (Live (f ∷ []) heap) (Fault kind index at)
-    → Contains listed (record { at = at; kind = kind; callee = None })
+    (f : Frame) (heap : Heap) (kind : FaultKind) (index at : ℕ) → unit.body_start ≤ f.at
+    → LocalStep unit (Live (f ∷ []) heap) (Fault kind index at) → IsListed listed kind at

@@ -1,5 +1,6 @@
 pub mod Operations
 pub mod Faults
+pub mod ClausesTested
 pub mod Entailed
 pub mod Avoiding
 pub mod Obligations

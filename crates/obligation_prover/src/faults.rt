@@ -1,13 +1,10 @@
 //! The faults that are to be ruled out.
 
-ghost use Rattle.std.specs.Prelude.{◌≡◌, ◌++◌, IfOk, OnOk};
-ghost use Rattle.obligation_prover.specs.EachFault.{EndsInNoOther, ListsEachFault, RulesOutInTurn};
+ghost use Rattle.std.specs.Prelude.{◌≡◌};
+ghost use Rattle.obligation_prover.specs.EachFault.{EndsInNoOther, RulesOutInTurn};
 ghost use Rattle.obligation_prover.specs.Faults as rule;
-ghost use Rattle.obligation_prover.specs.Obligations.{obligations_at, obligations_in, obligations_of};
 
-use cil_model::{BinOp, FaultKind, Instr, Obligation, Op, Unit, UnitCall, unit_call};
-use domain_api::NoMemory;
-use std::alloc::Global;
+use cil_model::{BinOp, FaultKind, Op, Unit, UnitCall, unit_call};
 
 /// The faults of an operator, in the order in which the machine tests for them.
 fn operator_faults(op: BinOp) -> &'static [FaultKind]
@@ -60,47 +57,4 @@ pub fn faults_of(unit: &Unit, op: &Op) -> &'static [FaultKind]
     ensures safe { RulesOutInTurn unit.now op.now result.now }
 {
     operation_faults(unit, op)
-}
-
-/// Appends the obligations of an instruction of the unit.
-fn push_obligations(found: &mut Vec<Obligation>, unit: &Unit, instr: &Instr) -> Result<(), NoMemory>
-    ensures { OnOk result (found.new.items ≡ found.old.items ++ obligations_at unit.now instr.now) }
-{
-    for kind in operation_faults(unit, &instr.op) {
-        found.push(Obligation {
-            at: instr.at,
-            kind: *kind,
-            callee: None,
-        })?;
-    }
-    Ok(())
-}
-
-/// Appends those of an instruction where it stands in the unit's body.
-fn push_body_obligations(
-    found: &mut Vec<Obligation>,
-    unit: &Unit,
-    instr: &Instr,
-) -> Result<(), NoMemory>
-    ensures { OnOk result (found.new.items ≡ found.old.items ++ obligations_in unit.now instr.now) }
-{
-    if instr.at < unit.body_start {
-        return Ok(());
-    }
-    push_obligations(found, unit, instr)?;
-    Ok(())
-}
-
-/// The obligations of a unit's body, but those of clauses: by the offsets of their instructions, and those of one in the
-/// order in which the machine tests for its faults.
-pub fn obligations(alloc: Global, unit: &Unit) -> Result<Vec<Obligation>, NoMemory>
-    ensures value { IfOk result (λ found. found.items ≡ obligations_of unit.now) }
-    // A step of the unit ends in no fault but one of these, or that a clause is not true.
-    ensures complete { IfOk result (λ found. ListsEachFault unit.now found.items) }
-{
-    let mut found = Vec::new(alloc);
-    for instr in unit.instrs.as_slice() {
-        push_body_obligations(&mut found, unit, instr)?;
-    }
-    Ok(found)
 }

@@ -17,6 +17,5 @@ pub mod StackSizes
 pub mod FlowSteps
 pub mod UnknownLaws
 pub mod BegunLaws
-pub mod OwnInts
 pub mod EntryLaws
 pub mod FlowLaws

@@ -49,21 +49,21 @@ pub record IsWithin (unit : MethodUnit) (stack : List Kind) : Type 0 where
 
 -- ---- lists of variables
 
-fit_long : (known : StateFacts) (ks : List Kind) (vs : List Var) → FitKinds known ks vs → length vs ≡ length ks
+pub fit_long : (known : StateFacts) (ks : List Kind) (vs : List Var) → FitKinds known ks vs → length vs ≡ length ks
 fit_long known [] [] fits = refl
 fit_long known [] (v ∷ vs) fits = elim fits [ ]
 fit_long known (k ∷ ks) [] fits = elim fits [ ]
 fit_long known (k ∷ ks) (v ∷ vs) fits = ap suc (fit_long known ks vs fits.1)
 
 -- The variables of the first kinds, and those above them.
-record FitBoth (known : StateFacts) (ks js : List Kind) (vs : List Var) : Type 0 where
-  lower : List Var
-  upper : List Var
-  are : vs ≡ lower ++ upper
-  first : FitKinds known ks lower
-  second : FitKinds known js upper
+pub record FitBoth (known : StateFacts) (ks js : List Kind) (vs : List Var) : Type 0 where
+  pub lower : List Var
+  pub upper : List Var
+  pub are : vs ≡ lower ++ upper
+  pub first : FitKinds known ks lower
+  pub second : FitKinds known js upper
 
-fit_split : (known : StateFacts) (ks js : List Kind) (vs : List Var) → FitKinds known (ks ++ js) vs
+pub fit_split : (known : StateFacts) (ks js : List Kind) (vs : List Var) → FitKinds known (ks ++ js) vs
     → FitBoth known ks js vs
 fit_split known [] js vs fits = record { lower = []; upper = vs; are = refl; first = tt; second = fits }
 fit_split known (k ∷ ks) js [] fits = elim fits [ ]

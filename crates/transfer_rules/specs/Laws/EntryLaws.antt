@@ -45,7 +45,7 @@ use Rattle.transfer_rules.specs.Forms.{FitKinds, FitsKind, FitsStack, HasKinds, 
 use Rattle.transfer_rules.specs.Laws.BegunLaws.{begun_kinds, begun_over, both_all, entry_kinds, forms_of, on_no_stack}
 use Rattle.transfer_rules.specs.Laws.Fitting.{AreKinds, fit_at}
 use Rattle.transfer_rules.specs.Laws.FormsMerged.{normal_fits}
-use Rattle.transfer_rules.specs.Laws.OwnInts.{own_ints}
+use Rattle.obligation_prover.proofs.OwnInts.{own_ints}
 use Rattle.transfer_rules.specs.Laws.SameKinds.{read_kind, same_forms}
 
 -- ---- what a Requires reads

@@ -1,15 +1,14 @@
 use Rattle.std.proofs.Common.{subst, sym}
-use Rattle.invariant_checker.specs.Told.{IsToldOf}
 use Rattle.unit_flow.specs.Flow.{IsLawful}
 use Rattle.check_driver.proofs.Asking.{asks_all}
-use Rattle.check_driver.proofs.BuiltUnits.{told_flow, verdicts_are, within_limits}
+use Rattle.check_driver.proofs.BuiltUnits.{lawful_flow, verdicts_are, within_limits}
 use Rattle.check_driver.proofs.analysis.judge_flow.Goals as goal
 
 pub find-requires : goal.find-requires
-find-requires g c = record { lawful = subst IsLawful (sym c.requires.flow) (told_flow c.args.code.now.unit c.requires.built).lawful }
+find-requires g c = record { lawful = subst IsLawful (sym c.requires.flow) (lawful_flow c.args.code.now.unit c.requires.built) }
 
 pub judge-requires : goal.judge-requires
-judge-requires g c = record { lawful = subst IsToldOf (sym c.requires.flow) (told_flow c.args.code.now.unit c.requires.built) }
+judge-requires g c = record { lawful = subst IsLawful (sym c.requires.flow) (lawful_flow c.args.code.now.unit c.requires.built) }
 
 pub returns-clause-value : goal.returns-clause-value
 returns-clause-value g c = verdicts_are c.judge.result c.args.code.now c.in_ok-invariant.invariant.states.items c.requires.flow c.in_ok-invariant.ensures.value c.judge.ensures.value

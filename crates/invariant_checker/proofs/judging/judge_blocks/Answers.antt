@@ -7,7 +7,7 @@ pub overflow_cast-block : goal.overflow_cast-block
 overflow_cast-block c =
     omega (
       arith,
-      few_blocks_there c.args.code.now c.args.states.now c.requires.lawful.lawful c.requires.shape c.loop-block.block
+      few_blocks_there c.args.code.now c.args.states.now c.requires.lawful c.requires.shape c.loop-block.block
           c.loop-block-test.true,
     )
 

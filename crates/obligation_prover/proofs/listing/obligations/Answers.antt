@@ -2,8 +2,8 @@ use Rattle.std.proofs.Common.{◌≤◌, length, ap, ◌∙◌}
 use Rattle.std.specs.List.{flat_map}
 use Rattle.std.proofs.lemmas.List.{take_all}
 use Rattle.obligation_prover.specs.Obligations.{obligations_in}
-use Rattle.obligation_prover.proofs.Complete.{lists_each_fault}
-use Rattle.obligation_prover.proofs.faults.obligations.Goals as goal
+use Rattle.obligation_prover.proofs.EachListed.{lists_each_fault}
+use Rattle.obligation_prover.proofs.listing.obligations.Goals as goal
 
 pub returns-clause-value : goal.returns-clause-value
 returns-clause-value c =
