@@ -1,4 +1,4 @@
--- The flow of a unit that is built is told of, and the unit is safe where each verdict on it is that of a proved obligation.
+-- The flow of a unit is lawful, and the unit is safe where each verdict on it is that of a proved obligation.
 use Rattle.std.proofs.Common.{◌≡◌, ◌*◌, ◌<◌, ◌≤◌, true, List, length, Result, Ok, Err, Vec, Global, refl, ap, ◌∙◌, subst, sym, arith}
 use Rattle.std.specs.Prelude.{All, IfOk}
 use Rattle.cil_model.specs.Limits.{MAX_CLAUSES}
@@ -6,17 +6,14 @@ use Rattle.cil_model.specs.Passes.{KindsOf}
 use Rattle.cil_model.specs.Shapes.{shape_of}
 use Rattle.cil_model.specs.declared.unit.Unit.{Unit as MethodUnit}
 use Rattle.invariant_checker.specs.Counts.{all_proved}
-use Rattle.invariant_checker.specs.Safety.{EnsuresNothing, IsSafe}
+use Rattle.invariant_checker.specs.Safety.{IsSafe}
 use Rattle.invariant_checker.specs.Verdicts.{verdicts}
 use Rattle.invariant_checker.specs.declared.verdict.Verdict.{Verdict}
 use Rattle.invariant_checker.proofs.Soundness.{proved_is_safe}
-use Rattle.method_unit.specs.BuiltUnits.{IsBuilt}
 use Rattle.method_unit.specs.Units.{IsUnit}
-use Rattle.method_unit.proofs.BuiltAlone.{built_alone}
-use Rattle.method_unit.proofs.BuiltParts.{BuiltParts, built_parts}
 use Rattle.method_unit.proofs.UnitAgain.{unit_again}
 use Rattle.state_facts.specs.StateFacts.{State}
-use Rattle.transfer_rules.specs.Flow.{IsToldOf}
+use Rattle.unit_flow.specs.Flow.{IsLawful}
 use Rattle.unit_flow.specs.FlowOf.{flow_of}
 use Rattle.unit_flow.specs.declared.unit_flow.UnitFlow.{UnitFlow}
 use Rattle.unit_flow.proofs.KindsFound.{found_kinds}
@@ -28,19 +25,16 @@ use Rattle.check_driver.specs.JudgedUnits.{AreVerdictsOn}
 
 -- ---- its flow
 
-pub told_flow : (unit : MethodUnit) → IsBuilt unit → IsToldOf (flow_of unit)
-told_flow unit built =
-    let well = built.is_unit.well_formed in
+pub lawful_flow : (unit : MethodUnit) → IsUnit unit → IsLawful (flow_of unit)
+lawful_flow unit is =
+    let well = is.well_formed in
     let typed = subst (KindsOf (shape_of unit) unit.instrs) (found_kinds unit well.runs.stacks well.runs.kinds) well.runs.kinds in
-    record { lawful = record { formed = well; graph = refl; kinds = typed }; alone = built_alone unit built.is_unit built.built }
+    record { formed = well; graph = refl; kinds = typed }
 
-pub built_is_silent : (unit : MethodUnit) → IsBuilt unit → EnsuresNothing unit
-built_is_silent unit built = BuiltParts.silent (built_parts unit built.built)
-
-pub built_is_safe : (unit : MethodUnit) → IsBuilt unit → all_proved (unit_verdicts unit) ≡ true → IsSafe unit
+pub proved_unit_safe : (unit : MethodUnit) → IsUnit unit → all_proved (unit_verdicts unit) ≡ true → IsSafe unit
 unfolding unit_verdicts
-built_is_safe unit built proved =
-    proved_is_safe (flow_of unit) (limit_of (flow_of unit)) (told_flow unit built) proved (built_is_silent unit built)
+proved_unit_safe unit is proved =
+    proved_is_safe (flow_of unit) (limit_of (flow_of unit)) (lawful_flow unit is) proved
 
 -- ---- its verdicts
 
