@@ -39,7 +39,7 @@ public class Shop
         return count;
     }
 
-    // N13: it has an Ensures.
+    // It has an Ensures, which is proved.
     public static int Half(int n)
     {
         Contract.Ensures(Contract.Result<int>() <= 1 << 30);

@@ -10,14 +10,13 @@ use Rattle.cc_base.specs.Files.{Held}
 use Rattle.cc_base.specs.Sink.{AppendsFront, IsFront, appended}
 use Rattle.cc_base.proofs.SinkLemmas.{appended-nil}
 use Rattle.check_driver.specs.CheckText.{check_text, method_line}
-use Rattle.check_driver.specs.Checked.{AsksToCheck, IfCheck, IsHeldReportable, IsReportable, PrintsMethod}
+use Rattle.check_driver.specs.Checked.{AsksToCheck, IfCheck, IsHeldReportable, IsReportable, IsSafeMethod, PrintsMethod}
 use Rattle.answer_lines.specs.Answers.{Answer}
 use Rattle.check_driver.specs.Expected.{check_answer, command_answer, expected, files_answer}
 use Rattle.check_driver.specs.Met.{AreUnder}
 use Rattle.command_words.specs.Words.{command_files, command_of, file_names, word_at, words_at}
 use Rattle.command_words.specs.declared.command.Command.{Command}
 use Rattle.command_words.specs.declared.command.Command.TheVariants as commands
-use Rattle.check_driver.proofs.PrintedMethods.{IsSafeAlone}
 use Rattle.check_driver.proofs.PrintedSafety.{printed_method}
 
 -- What was appended is known from what was written before and after.
@@ -67,7 +66,7 @@ known_of told words held bytes told_is asks known =
 pub printed_checked : (told : Option Held) (words : List (List ℕ)) (held : Held) (bytes : List ℕ) (method : MethodRow) (met : List (Option (List ℕ))) (old new : Option (List ℕ))
     → told ≡ Some held → AsksToCheck words held bytes → AreUnder told (file_names words) met → AppendsFront old new (expected words met).out
     → (new ≡ old) ⊎ IfSome (command_of words) (λ command. IfCheck command (λ file. IsHeldReportable told (word_at words file)))
-    → Contains (methods_of bytes) method → PrintsMethod old new method → IsSafeAlone bytes method
+    → Contains (methods_of bytes) method → PrintsMethod old new method → IsSafeMethod bytes method
 printed_checked told words held bytes method met old new told_is asks under appends (inl same) has prints = absurd (something_printed old new method same prints)
 printed_checked told words held bytes method met old new told_is asks under (front, is_front, adds) (inr known) has prints =
     let name = word_at words asks.file in

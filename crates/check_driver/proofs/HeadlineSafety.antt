@@ -1,7 +1,7 @@
 -- Where all that a method reaches by calls was printed as proved, the method is safe in its world.
-use Rattle.std.proofs.Common.{◌≡◌, ◌⊎◌, ℕ, zero, suc, ◌-◌, ◌<◌, ◌^◌, ◌==◌, ◌&&◌, nat_le, true, cond, List, [], ◌∷◌, ◌++◌, length, Option, Some, None, slice_get, codes, refl, sym, ap, subst, ◌∙◌, append_assoc, inl, inr, arith}
+use Rattle.std.proofs.Common.{◌≡◌, ◌⊎◌, ℕ, zero, suc, ◌+◌, ◌-◌, ◌<◌, ◌^◌, ◌==◌, ◌&&◌, nat_le, true, cond, List, [], ◌∷◌, ◌++◌, length, Option, Some, None, IsSome, slice_get, codes, refl, sym, ap, subst, ◌∙◌, append_assoc, inl, inr, arith}
 use Rattle.std.specs.Prelude.{Contains, IfSome}
-use Rattle.std.specs.List.{range_with_len}
+use Rattle.std.specs.List.{AllByRecursion, range_with_len}
 use Rattle.std.specs.Option.{option_and_then}
 use Rattle.std.proofs.lemmas.Bool.{le-leb}
 use Rattle.std.proofs.lemmas.List.{length-map}
@@ -16,7 +16,8 @@ use Rattle.cc_base.specs.Digits.{hex}
 use Rattle.cc_base.specs.Files.{Held}
 use Rattle.cc_base.specs.Sink.{AppendsFront}
 use Rattle.cc_base.specs.Tokens.{row_of, table_of}
-use Rattle.cil_model.specs.Runs.{Safe}
+use Rattle.cil_model.specs.Runs.{LocalSafe, Safe}
+use Rattle.cil_model.specs.WellFormed.{IsWellFormed}
 use Rattle.cil_model.specs.declared.unit.Unit.{Unit as MethodUnit}
 use Rattle.command_words.specs.Words.{checked_files, command_of, file_names, word_at}
 use Rattle.command_words.specs.declared.command.Command.{Command}
@@ -24,14 +25,21 @@ use Rattle.command_words.specs.declared.command.Command.TheVariants as commands
 use Rattle.metadata_tables.specs.Numbers.{method_def}
 use Rattle.method_code.specs.Reading.{as_token}
 use Rattle.pe_reader.specs.Addresses.{metadata}
-use Rattle.unit_builder.specs.Outcomes.{outcome_of}
-use Rattle.unit_builder.specs.Reach.{itself}
-use Rattle.unit_builder.specs.Walks.{unit_at, unit_by}
-use Rattle.unit_builder.specs.WorldOf.{world_of, world_tokens}
-use Rattle.unit_builder.specs.declared.entry.Outcome.TheVariants.{Analysed}
-use Rattle.unit_builder.proofs.TokenLemmas.{token_at}
+use Rattle.method_unit.specs.Units.{IsUnit}
+use Rattle.safe_worlds.proofs.SafeWorlds.{world_is_safe}
+use Rattle.unit_builder.specs.Met.{IsAmong, first_method}
+use Rattle.unit_builder.specs.Outcomes.{IfAnalysed, entries_of, entry_of, outcome_of}
+use Rattle.unit_builder.specs.Reach.{Reaches, itself}
+use Rattle.unit_builder.specs.Walks.{calls_of, unit_at, unit_by}
+use Rattle.unit_builder.specs.WorldOf.{world_of}
+use Rattle.unit_builder.specs.declared.entry.MethodEntry.{MethodEntry}
+use Rattle.unit_builder.specs.declared.entry.Outcome.{Outcome}
+use Rattle.unit_builder.specs.declared.entry.Outcome.TheVariants.{Analysed, Skipped}
+use Rattle.unit_builder.proofs.ReachedWorlds.{AllAnalysed, each_of_world, world_agrees}
+use Rattle.unit_builder.proofs.TokenLemmas.{named-among, token_at}
+use Rattle.unit_builder.proofs.VisitLemmas.{row_there, some_is}
 use Rattle.check_driver.specs.CheckText.{method_line}
-use Rattle.check_driver.specs.Checked.{AsksToCheck, HasLine, IfCheck, IsHeldReportable, PrintsMethod}
+use Rattle.check_driver.specs.Checked.{AreRunnable, AsksToCheck, HasLine, IfCheck, IsHeldReportable, IsReportable, IsSafeMethod, PrintsMethod}
 use Rattle.check_driver.specs.Expected.{expected}
 use Rattle.check_driver.specs.Headline.{IsAssemblyOf, TellAllProved, WasAppended}
 use Rattle.check_driver.specs.Met.{AreUnder}
@@ -39,7 +47,7 @@ use Rattle.check_driver.specs.Sections.{HasProvedLine, proved_line, section}
 use Rattle.check_driver.proofs.CheckedSafety.{known_of, printed_checked, something_printed}
 use Rattle.check_driver.proofs.FewMethods.{methods_are_few}
 use Rattle.check_driver.proofs.LinesOf.{section_line}
-use Rattle.check_driver.proofs.PrintedMethods.{IsSafeAlone}
+use Rattle.check_driver.proofs.PrintedSafety.{all_at}
 use Rattle.check_driver.proofs.WholeLines.{as_line}
 
 -- ---- the world of a method begins with its own unit
@@ -65,22 +73,101 @@ named_itself bytes method whole (index, below, same) =
     let row : row_of method.token.0 ≡ suc index = omega (arith, token, short) in
     named_by (methods_of bytes) method.token.0 index table row ∙ at
 
-own_unit : (bytes : List ℕ) (method : MethodRow) (unit : MethodUnit) → method_of bytes (as_token method.token.0) ≡ Some method → outcome_of bytes method ≡ Analysed unit
-    → unit_at bytes method.token.0 ≡ Some unit
+-- ---- the methods that tokens name
+
+contained_at : {X : Type 0} (xs : List X) (index : ℕ) (x : X) → slice_get xs index ≡ Some x → Contains xs x
+contained_at [] index x is = absurd (none-some x is)
+contained_at (y ∷ xs) zero x is = (0, omega arith, same_Some y x is)
+contained_at (y ∷ xs) (suc index) x is =
+    let (place, below, same) = contained_at xs index x is in (suc place, omega (arith, below), same)
+
+-- A token names a method of this row, which has that token.
+record IsNamed (bytes : List ℕ) (token : ℕ) (method : MethodRow) : Type 0 where
+  among : Contains (methods_of bytes) method
+  token_is : method.token.0 ≡ token
+
+named : (bytes : List ℕ) (token : ℕ) (method : MethodRow) → FirstBroken bytes ≡ None → method_of bytes (as_token token) ≡ Some method → IsNamed bytes token method
+named bytes token method whole is =
+    let row = (row_there bytes (as_token token) method is).1 in
+    let number = token_at bytes (row_of token - 1) method row in
+    let short = omega (arith, methods_long (metadata bytes), methods_are_few bytes whole) in
+    let here = named-among bytes (as_token token) (subst IsSome (sym is) refl) in record {
+      among = contained_at (methods_of bytes) (row_of token - 1) method row;
+      token_is = number_is token (length (methods_of bytes)) method.token.0 here number short;
+    }
+  where
+    number_is : (token count number : ℕ) → IsAmong count token → number ≡ first_method + (row_of token - 1) → count < 2 ^ 23 → number ≡ token
+    number_is token count number among is few = omega (arith, among.from, among.below, is, few)
+
+unit_named : (bytes : List ℕ) (token : ℕ) (method : MethodRow) (unit : MethodUnit) → method_of bytes (as_token token) ≡ Some method
+    → outcome_of bytes method ≡ Analysed unit → unit_at bytes token ≡ Some unit
 unfolding unit_at
-own_unit bytes method unit named analysed =
-    ap (option_and_then (λ (m : MethodRow). unit_by (outcome_of bytes m))) named ∙ ap unit_by analysed
+unit_named bytes token method unit names analysed =
+    ap (option_and_then (λ (m : MethodRow). unit_by (outcome_of bytes m))) names ∙ ap unit_by analysed
 
-first_unit : (bytes : List ℕ) (from : ℕ) (unit : MethodUnit) → unit_at bytes from ≡ Some unit → slice_get (world_of bytes from).units 0 ≡ Some unit
-unfolding world_of world_tokens
-first_unit bytes from unit own = rw own refl
+-- Each unit is one that can be run.
+unit_is : (bytes : List ℕ) (token : ℕ) (unit : MethodUnit) → FirstBroken bytes ≡ None → AreRunnable bytes → unit_at bytes token ≡ Some unit → IsUnit unit
+unfolding unit_at entries_of
+unit_is bytes token unit whole runnable is = by (method_of bytes (as_token token)) refl is
+  where
+    of : (outcome : Outcome) → IfAnalysed outcome IsUnit → unit_by outcome ≡ Some unit → IsUnit unit
+    of (Analysed other) runs is = subst IsUnit (same_Some other unit is) runs
+    of (Skipped reason) runs is = absurd (none-some unit is)
 
--- A method whose unit is safe, and calls no method, is safe in its own world.
-pub safe_in_world : (bytes : List ℕ) (method : MethodRow) → FirstBroken bytes ≡ None → Contains (methods_of bytes) method → IsSafeAlone bytes method → Safe (world_of bytes method.token.0) 0
-safe_in_world bytes method whole has found =
-    let safe = found.safe in
-    let own = own_unit bytes method safe.unit (named_itself bytes method whole has) safe.analysed in
-    safe.safe.worlds found.alone (world_of bytes method.token.0) 0 (first_unit bytes method.token.0 safe.unit own)
+    by : (method : Option MethodRow) → method_of bytes (as_token token) ≡ method
+        → option_and_then (λ (m : MethodRow). unit_by (outcome_of bytes m)) method ≡ Some unit → IsUnit unit
+    by None names is = absurd (none-some unit is)
+    by (Some method) names is =
+        of (outcome_of bytes method)
+        (all_at (λ (entry : MethodEntry). IfAnalysed entry.outcome IsUnit) (entry_of bytes) (methods_of bytes) method runnable
+        (named bytes token method whole names).among) is
+
+-- ---- the world of a method
+
+module _ (bytes : List ℕ) (method : MethodRow) (known : IsReportable bytes) (has : Contains (methods_of bytes) method)
+    (each : (reached : MethodRow) → Contains (methods_of bytes) reached → Reaches (calls_of bytes) method.token.0 reached.token.0 → IsSafeMethod bytes reached) where
+  abbrev from : ℕ
+  from = method.token.0
+
+  -- Each method that is reached is analysed, and its unit is safe by itself.
+  record IsSafeAt (token : ℕ) : Type 0 where
+    unit : MethodUnit
+    is : unit_at bytes token ≡ Some unit
+    safe : LocalSafe unit
+
+  safe_at : (token : ℕ) → IsSome (method_of bytes (as_token token)) → Reaches (calls_of bytes) from token → IsSafeAt token
+  safe_at token there reaches =
+      let (reached, names) = some_is (method_of bytes (as_token token)) there in
+      let one = named bytes token reached known.accepted names in
+      let found = each reached one.among (subst (Reaches (calls_of bytes) from) (sym one.token_is) reaches) in record {
+        unit = found.unit;
+        is = unit_named bytes token reached found.unit names found.analysed;
+        safe = found.safe.local;
+      }
+
+  all_analysed : AllAnalysed bytes from
+  all_analysed = record {
+    small = omega (arith, methods_long (metadata bytes), methods_are_few bytes known.accepted);
+    there = subst IsSome (sym (named_itself bytes method known.accepted has)) refl;
+    analysed = λ token there reaches. subst IsSome (sym (IsSafeAt.is (safe_at token there reaches))) refl;
+    units = λ token unit is. unit_is bytes token unit known.accepted known.runnable is;
+  }
+
+  all_formed : AllByRecursion IsWellFormed (world_of bytes from).units
+  all_formed =
+      each_of_world bytes from all_analysed IsWellFormed
+      (λ token unit there reaches is. (unit_is bytes token unit known.accepted known.runnable is).well_formed)
+
+  all_safe : AllByRecursion LocalSafe (world_of bytes from).units
+  all_safe =
+      each_of_world bytes from all_analysed LocalSafe
+      (λ token unit there reaches is.
+      let one = safe_at token there reaches in
+      subst LocalSafe (same_Some (IsSafeAt.unit one) unit (sym (IsSafeAt.is one) ∙ is)) (IsSafeAt.safe one))
+
+  -- Where each method that it reaches is safe by itself, a method is safe in its world.
+  pub safe_in_world : Safe (world_of bytes from) 0
+  safe_in_world = world_is_safe (world_of bytes from) (world_agrees bytes from all_analysed) all_formed all_safe 0
 
 -- ---- the words
 
@@ -112,10 +199,10 @@ has_method_line text method has =
 
 -- ---- the theorem
 
-accepted_of : (told : Option Held) (words : List (List ℕ)) (held : Held) (bytes : List ℕ) (method : MethodRow) (old new : Option (List ℕ)) → told ≡ Some held → AsksToCheck words held bytes
-    → (new ≡ old) ⊎ IfSome (command_of words) (λ command. IfCheck command (λ file. IsHeldReportable told (word_at words file))) → PrintsMethod old new method → FirstBroken bytes ≡ None
-accepted_of told words held bytes method old new told_is asks (inl same) prints = absurd (something_printed old new method same prints)
-accepted_of told words held bytes method old new told_is asks (inr known) prints = (known_of told words held bytes told_is asks known).accepted
+reportable_of : (told : Option Held) (words : List (List ℕ)) (held : Held) (bytes : List ℕ) (method : MethodRow) (old new : Option (List ℕ)) → told ≡ Some held → AsksToCheck words held bytes
+    → (new ≡ old) ⊎ IfSome (command_of words) (λ command. IfCheck command (λ file. IsHeldReportable told (word_at words file))) → PrintsMethod old new method → IsReportable bytes
+reportable_of told words held bytes method old new told_is asks (inl same) prints = absurd (something_printed old new method same prints)
+reportable_of told words held bytes method old new told_is asks (inr known) prints = known_of told words held bytes told_is asks known
 
 -- What is known of a call's assembly and of what was appended.
 pub record IsKnownOf (told : Option Held) (words : List (List ℕ)) (held : Held) (k : ℕ) (bytes text : List ℕ) (met : List (Option (List ℕ))) (old new : Option (List ℕ)) : Type 0 where
@@ -126,10 +213,10 @@ pub record IsKnownOf (told : Option Held) (words : List (List ℕ)) (held : Held
   pub known : (new ≡ old) ⊎ IfSome (command_of words) (λ command. IfCheck command (λ file. IsHeldReportable told (word_at words file)))
   pub appended : WasAppended old new text
 
-module _ (told : Option Held) (words : List (List ℕ)) (held : Held) (k : ℕ) (bytes text : List ℕ) (method : MethodRow) (met : List (Option (List ℕ))) (old new : Option (List ℕ))
-    (is : IsKnownOf told words held k bytes text met old new) (has : Contains (methods_of bytes) method) where
-  prints : HasProvedLine (section k text) method → PrintsMethod old new method
-  prints line = record {
+module _ (told : Option Held) (words : List (List ℕ)) (held : Held) (k : ℕ) (bytes text : List ℕ) (met : List (Option (List ℕ))) (old new : Option (List ℕ))
+    (is : IsKnownOf told words held k bytes text met old new) where
+  prints : (method : MethodRow) → HasProvedLine (section k text) method → PrintsMethod old new method
+  prints method line = record {
     before = is.appended.before;
     text = text;
     was = is.appended.was;
@@ -138,11 +225,13 @@ module _ (told : Option Held) (words : List (List ℕ)) (held : Held) (k : ℕ) 
   }
 
   -- A method is safe whose line stands in the section of its assembly.
-  pub section_safe : HasProvedLine (section k text) method → IsSafeAlone bytes method
-  section_safe line =
-      printed_checked told words held bytes method met old new is.told_is (asks_to_check words held k bytes is.assembly) is.under is.appends is.known has (prints line)
+  pub section_safe : (method : MethodRow) → Contains (methods_of bytes) method → HasProvedLine (section k text) method → IsSafeMethod bytes method
+  section_safe method has line =
+      printed_checked told words held bytes method met old new is.told_is (asks_to_check words held k bytes is.assembly) is.under is.appends is.known has (prints method line)
 
-  pub headline_safe : TellAllProved (section k text) bytes method → Safe (world_of bytes method.token.0) 0
-  headline_safe all =
+  pub headline_safe : (method : MethodRow) → Contains (methods_of bytes) method → TellAllProved (section k text) bytes method → Safe (world_of bytes method.token.0) 0
+  headline_safe method has all =
       let own = all method has itself in
-      safe_in_world bytes method (accepted_of told words held bytes method old new is.told_is (asks_to_check words held k bytes is.assembly) is.known (prints own)) has (section_safe own)
+      safe_in_world bytes method
+      (reportable_of told words held bytes method old new is.told_is (asks_to_check words held k bytes is.assembly) is.known (prints method own)) has
+      (λ reached among reaches. section_safe reached among (all reached among reaches))

@@ -1,6 +1,6 @@
 pub mod Answering
 pub mod Asking
-pub mod BuiltUnits
+pub mod UnitVerdicts
 pub mod JudgedLemmas
 pub mod KeysAsked
 pub mod Causes

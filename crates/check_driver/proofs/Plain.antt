@@ -40,8 +40,7 @@ use Rattle.command_words.specs.declared.command.Command.{Command}
 use Rattle.command_words.specs.declared.command.Command.TheVariants as commands
 use Rattle.written_assemblies.specs.GeneratedFiles.{generated_file}
 use Rattle.answer_lines.specs.declared.interrupt.Interrupt.{Interrupt}
-use Rattle.method_unit.specs.BuiltUnits.{first_built_fault}
-use Rattle.method_unit.specs.UnitFile.{unit_of}
+use Rattle.method_unit.specs.UnitFile.{first_unit_fault, unit_of}
 use Rattle.method_unit.specs.declared.unit_fault.UnitFault.{UnitFault}
 
 pub record IsPlain (status : ℕ) : Type 0 where
@@ -88,7 +87,7 @@ of_either false refused answer r a = a
 
 of_unit_file : (name bytes : List ℕ) → IsOfBytes (unit_file_answer name bytes).status
 of_unit_file name bytes =
-    of_either (nat_le READ_LIMIT (length bytes)) _ (unit_answer name bytes (first_built_fault bytes)) of_refused (of_unit name bytes (first_built_fault bytes))
+    of_either (nat_le READ_LIMIT (length bytes)) _ (unit_answer name bytes (first_unit_fault bytes)) of_refused (of_unit name bytes (first_unit_fault bytes))
 
 of_list : (name bytes : List ℕ) (fault : Option AsmFault) → IsOfBytes (list_answer name bytes fault).status
 of_list name bytes None = of_few 0 (omega arith)

@@ -1,6 +1,6 @@
 -- Texts without a line feed.
-use Rattle.std.proofs.Common.{◌≡◌, ℕ, zero, suc, ◌+◌, ◌/◌, ◌%◌, ◌<◌, ◌^◌, ◌==◌, Bool, true, false, not, ◌&&◌, nat_le, List, [], ◌∷◌, ◌++◌, refl, inl, inr, codes, arith}
-use Rattle.std.specs.List.{flat_map, list_all}
+use Rattle.std.proofs.Common.{◌≡◌, ℕ, zero, suc, ◌+◌, ◌/◌, ◌%◌, ◌<◌, ◌≤◌, ◌^◌, ◌==◌, Bool, true, false, not, ◌&&◌, nat_le, List, [], ◌∷◌, ◌++◌, refl, inl, inr, codes, arith}
+use Rattle.std.specs.List.{AllByRecursion, flat_map, list_all}
 use Rattle.std.specs.Fmt.{decimal, digit_glyph, digits, digits_onto}
 use Rattle.std.specs.Str.Parse.{AllDigits}
 use Rattle.std.proofs.lemmas.Bool.{and_parts, cond_both, cases_lt, le-ltb, leb-true, lt-ltb, ne_eqb}
@@ -43,6 +43,11 @@ no_feed_in f (x ∷ xs) none = no_feed_behind (f x) (flat_map f xs) (none x) (no
 
 pub no_feed_byte : (b : ℕ) → 10 < b → NoFeed (b ∷ [])
 no_feed_byte b above = rw (ne_eqb b 10 (λ same. omega (arith, above, same))) refl
+
+-- A name of graphic bytes.
+pub graphic_no_feed : (name : List ℕ) → AllByRecursion (λ b. (0x21 ≤ b) × (b ≤ 0x7e)) name → NoFeed name
+graphic_no_feed [] all = refl
+graphic_no_feed (b ∷ name) all = no_feed_behind (b ∷ []) name (no_feed_byte b (omega (arith, all.0.0))) (graphic_no_feed name all.1)
 
 digit_is_no_feed : (n : ℕ) → NoFeed (hex_digit n ∷ [])
 digit_is_no_feed n =

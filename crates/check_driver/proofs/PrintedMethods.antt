@@ -7,17 +7,16 @@ use Rattle.std.proofs.lemmas.List.{append_cancel_left}
 use Rattle.cc_base.specs.Digits.{hex, hex_digit}
 use Rattle.asm_image.specs.Rows.{method_row}
 use Rattle.asm_image.specs.declared.method_row.MethodRow.{MethodRow}
-use Rattle.method_unit.specs.NotBuilt.{not_built}
-use Rattle.method_unit.proofs.BuiltAlone.{built_alone}
 use Rattle.pe_reader.specs.Addresses.{metadata}
+use Rattle.cil_model.specs.declared.unit.CalleeInfo.{CalleeInfo}
 use Rattle.invariant_checker.specs.Counts.{all_proved}
 use Rattle.invariant_checker.specs.declared.verdict.Verdict.{Verdict}
-use Rattle.check_driver.proofs.BuiltUnits.{built_is_safe}
+use Rattle.check_driver.proofs.UnitVerdicts.{proved_unit_safe}
 use Rattle.method_unit.specs.Units.{IsUnit}
 use Rattle.unit_builder.specs.Outcomes.{IfAnalysed, entry_of, outcome_of}
 use Rattle.unit_builder.specs.declared.entry.Outcome.{Outcome}
 use Rattle.unit_builder.specs.declared.entry.Outcome.TheVariants.{Analysed, Skipped}
-use Rattle.check_driver.specs.CheckText.{Finding, Judged, Unjudged, finding, is_proved, judged_or, verdict_text}
+use Rattle.check_driver.specs.CheckText.{Finding, Judged, Unjudged, finding, is_proved, verdict_text}
 use Rattle.check_driver.specs.Checked.{IsSafeMethod}
 use Rattle.answer_lines.specs.Lines.{proved_text}
 use Rattle.check_driver.proofs.Reported.{entry_said, finding_said, method_said, verdict_said, verdicts_said}
@@ -113,18 +112,19 @@ same_text name x y e =
     append_cancel_left (codes ": ") x y (append_cancel_left name (codes ": " ++ x) (codes ": " ++ y) behind)
 
 -- No other line of a report is that of a method.
-no_verdict : (found : List Verdict) (token : ℕ) (name text : List ℕ) → Contains (map verdict_said found) (method_said token name text) → ⊥
+no_verdict : (callees : List CalleeInfo) (found : List Verdict) (token : ℕ) (name text : List ℕ)
+    → Contains (map (verdict_said callees) found) (method_said token name text) → ⊥
 unfolding verdict_said method_said
-no_verdict [] token name text has = none_contained _ has
-no_verdict (v ∷ found) token name text has =
-    elim (contains_first (verdict_said v) (method_said token name text) (map verdict_said found) has) [
+no_verdict callees [] token name text has = none_contained _ has
+no_verdict callees (v ∷ found) token name text has =
+    elim (contains_first (verdict_said callees v) (method_said token name text) (map (verdict_said callees) found) has) [
       | inl same ↦ let letters : 32 ≡ 109 = ap (λ (l : List ℕ). get_or l 0 0) same in omega (arith, letters)
-      | inr later ↦ no_verdict found token name text later
+      | inr later ↦ no_verdict callees found token name text later
     ]
 
 none_of_finding : (found : Finding) (token : ℕ) (name text : List ℕ) → Contains (verdicts_said found) (method_said token name text) → ⊥
 unfolding verdicts_said
-none_of_finding (Judged found) token name text has = no_verdict found token name text has
+none_of_finding (Judged callees found) token name text has = no_verdict callees found token name text has
 none_of_finding (Unjudged reason) token name text has = none_contained _ has
 
 -- ---- the line among those of some rows
@@ -156,26 +156,15 @@ among_rows asm (row ∷ rows) token name text has =
 -- ---- what a printed `proved` tells
 
 pub proved_tells : (found : Finding) → verdict_text found ≡ codes "proved" → is_proved found ≡ true
-proved_tells (Judged found) e = by_verdict (all_proved found) e
+proved_tells (Judged callees found) e = by_verdict (all_proved found) e
   where
     by_verdict : (proved : Bool) → proved_text proved ≡ codes "proved" → proved ≡ true
     by_verdict true e = refl
     by_verdict false e = absurd (let letters : 117 ≡ 112 = ap (λ (l : List ℕ). get_or l 0 0) e in omega (arith, letters))
 proved_tells (Unjudged reason) e = absurd (let letters : 110 ≡ 112 = ap (λ (l : List ℕ). get_or l 0 0) e in omega (arith, letters))
 
--- The method is safe, and its unit has no callees, as none has that is judged today.
-pub record IsSafeAlone (asm : List ℕ) (method : MethodRow) : Type 0 where
-  pub safe : IsSafeMethod asm method
-  pub alone : safe.unit.callees ≡ []
-
--- A method that is proved is analysed, built, and its unit has no obligation that is not proved.
-pub safe_by : (asm : List ℕ) (method : MethodRow) (outcome : Outcome) → outcome_of asm method ≡ outcome → is_proved (finding outcome) ≡ true → IfAnalysed outcome IsUnit → IsSafeAlone asm method
-safe_by asm method (Analysed unit) same proved runnable = by_place (not_built unit) refl proved
-  where
-    by_place : (place : Option ℕ) → not_built unit ≡ place → is_proved (judged_or place unit) ≡ true → IsSafeAlone asm method
-    by_place None built proved = record {
-      safe = record { unit = unit; analysed = same; safe = built_is_safe unit (record { is_unit = runnable; built = built }) proved };
-      alone = built_alone unit runnable built;
-    }
-    by_place (Some at) built proved = absurd cc
+-- A method that is proved is analysed, and its unit has no obligation that is not proved.
+pub safe_by : (asm : List ℕ) (method : MethodRow) (outcome : Outcome) → outcome_of asm method ≡ outcome → is_proved (finding outcome) ≡ true → IfAnalysed outcome IsUnit → IsSafeMethod asm method
+safe_by asm method (Analysed unit) same proved runnable =
+    record { unit = unit; analysed = same; safe = proved_unit_safe unit runnable proved }
 safe_by asm method (Skipped reason) same proved runnable = absurd cc

@@ -13,10 +13,10 @@ use Rattle.method_unit.specs.Units.{IsUnit}
 use Rattle.unit_builder.specs.Outcomes.{IfAnalysed, entries_of, entry_of, outcome_of}
 use Rattle.unit_builder.specs.declared.entry.MethodEntry.{MethodEntry}
 use Rattle.check_driver.specs.CheckText.{all_counts, check_text, finding, method_line, verdict_text}
-use Rattle.check_driver.specs.Checked.{AreRunnable, HasLine}
+use Rattle.check_driver.specs.Checked.{AreRunnable, HasLine, IsSafeMethod}
 use Rattle.answer_lines.specs.Counting.{AreBelow}
 use Rattle.check_driver.proofs.FewMethods.{methods_are_few}
-use Rattle.check_driver.proofs.PrintedMethods.{IsSafeAlone, among_rows, contains_behind, contains_first, behind_digits, none_contained, proved_tells, row_said, safe_by, same_said, same_text}
+use Rattle.check_driver.proofs.PrintedMethods.{among_rows, contains_behind, contains_first, behind_digits, none_contained, proved_tells, row_said, safe_by, same_said, same_text}
 use Rattle.check_driver.proofs.Reported.{entry_said, method_said, report_is_lines, report_said, summary_front, summary_said}
 use Rattle.check_driver.proofs.ReportTexts.{all_behind, assembly_one_line, proved_one_line, rows_one_line, summary_one_line}
 use Rattle.check_driver.proofs.WholeLines.{IsOneLine, as_line, as_lines, line_among}
@@ -35,7 +35,7 @@ contains_map f (x ∷ xs) y has =
     ]
 
 -- What holds of all that a list is mapped to holds of what each element is.
-all_at : {X Y : Type 0} (P : Y → Type 0) (f : X → Y) (xs : List X) (x : X) → AllByRecursion P (map f xs) → Contains xs x → P (f x)
+pub all_at : {X Y : Type 0} (P : Y → Type 0) (f : X → Y) (xs : List X) (x : X) → AllByRecursion P (map f xs) → Contains xs x → P (f x)
 all_at P f [] x all has = absurd (none_contained x has)
 all_at P f (other ∷ xs) x all has =
     elim (contains_first other x xs has) [
@@ -62,12 +62,12 @@ line_of_report name bytes text line all one has (rest, is) =
     ∙ ap (λ (l : List ℕ). has.before ++ l) (append_assoc (as_line line) has.behind rest) in
     line_among (report_said name bytes) has.before line (has.behind ++ rest) all one has.begins aligned
 
-report_one_line : (name bytes : List ℕ) → AreBelow (2 ^ 63) (all_counts (entries_of bytes)) → AllByRecursion IsOneLine (report_said name bytes)
+report_one_line : (name bytes : List ℕ) → AreRunnable bytes → AreBelow (2 ^ 63) (all_counts (entries_of bytes)) → AllByRecursion IsOneLine (report_said name bytes)
 unfolding report_said entries_of rows_of
-report_one_line name bytes below = (
+report_one_line name bytes runnable below = (
   assembly_one_line name,
   all_behind IsOneLine (flat_map entry_said (entries_of bytes)) (summary_said (all_counts (entries_of bytes)) ∷ [])
-      (rows_one_line bytes (range_with_len 1 (method_count (metadata bytes)))) (summary_one_line (all_counts (entries_of bytes)) below, tt),
+      (rows_one_line bytes (range_with_len 1 (method_count (metadata bytes))) runnable) (summary_one_line (all_counts (entries_of bytes)) below, tt),
 )
 
 -- The line of a method among those of a report is that of a row.
@@ -109,7 +109,7 @@ same_row bytes row other text small few e =
     )
 
 pub printed_method : (name bytes text : List ℕ) (method : MethodRow) → FirstBroken bytes ≡ None → AreRunnable bytes → AreBelow (2 ^ 63) (all_counts (entries_of bytes))
-    → Contains (methods_of bytes) method → HasLine text (method_line method.token.0 method.name (codes "proved")) → IsFront text (check_text name bytes) → IsSafeAlone bytes method
+    → Contains (methods_of bytes) method → HasLine text (method_line method.token.0 method.name (codes "proved")) → IsFront text (check_text name bytes) → IsSafeMethod bytes method
 unfolding entries_of rows_of row_said method_said method_row
 printed_method name bytes text method whole runnable below has line front =
     let md = metadata bytes in
@@ -120,9 +120,9 @@ printed_method name bytes text method whole runnable below has line front =
     let is_line : HasLine text (as_line (method_said (method_row md row).token.0 (method_row md row).name (codes "proved"))) =
     subst (λ (m : MethodRow). HasLine text (method_line m.token.0 m.name (codes "proved"))) (sym mine.2) line in
     let found = line_of_report name bytes text (method_said (method_row md row).token.0 (method_row md row).name (codes "proved"))
-    (report_one_line name bytes below) (proved_one_line (method_row md row).token.0 md row) is_line front in
+    (report_one_line name bytes runnable below) (proved_one_line (method_row md row).token.0 md row) is_line front in
     let told = row_of_report name bytes (method_row md row).token.0 (method_row md row).name (codes "proved") found in
     let same = same_row bytes row told.0 (codes "proved") (omega (arith, few, range_below 1 (method_count md) row mine.1)) (omega (arith, few, range_below 1 (method_count md) told.0 told.1)) told.2 in
     let is_runnable = all_at (λ (entry : MethodEntry). IfAnalysed entry.outcome IsUnit) (entry_of bytes) (methods_of bytes) (method_row md row) runnable (subst (Contains (methods_of bytes)) (sym mine.2) has) in
-    subst (IsSafeAlone bytes) mine.2
+    subst (IsSafeMethod bytes) mine.2
     (safe_by bytes (method_row md row) (outcome_of bytes (method_row md row)) refl (proved_tells (finding (outcome_of bytes (method_row md row))) same.1) is_runnable)

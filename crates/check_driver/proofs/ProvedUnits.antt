@@ -1,7 +1,7 @@
 -- Where the first line that was printed for a file tells a unit to be proved, the file is the spelling of a safe one.
-use Rattle.std.proofs.Common.{◌≡◌, ◌⊎◌, ℕ, ◌≤◌, Bool, true, false, List, [], ◌∷◌, ◌++◌, get_or, length, Option, Some, None, nat_le, if◌then◌else◌, slice_get, codes, refl, sym, ap, subst, ◌∙◌, append_assoc, append-nil, inl, inr, arith}
+use Rattle.std.proofs.Common.{◌≡◌, ◌⊎◌, ℕ, Bool, true, false, List, [], ◌∷◌, ◌++◌, get_or, length, Option, Some, None, nat_le, if◌then◌else◌, slice_get, codes, refl, sym, ap, subst, ◌∙◌, append_assoc, append-nil, inl, inr, arith}
 use Rattle.std.specs.Prelude.{IfSome}
-use Rattle.std.specs.List.{AllByRecursion, flat_map}
+use Rattle.std.specs.List.{flat_map}
 use Rattle.std.proofs.lemmas.List.{append_cancel_left, length-append}
 use Rattle.cc_base.specs.Files.{Held, READ_LIMIT}
 use Rattle.cc_base.specs.Sink.{AppendsFront, IsFront}
@@ -14,13 +14,11 @@ use Rattle.answer_lines.specs.Lines.{proved_text, signature_text, summary_line, 
 use Rattle.command_words.specs.Words.{command_files, command_of, file_names, word_at, words_at}
 use Rattle.command_words.specs.declared.command.Command.{Command}
 use Rattle.command_words.specs.declared.command.Command.TheVariants as commands
-use Rattle.method_unit.specs.BuiltUnits.{first_built_fault}
-use Rattle.method_unit.specs.UnitFile.{unit_of}
+use Rattle.method_unit.specs.UnitFile.{first_unit_fault, unit_of}
 use Rattle.method_unit.specs.declared.unit_fault.UnitFault.{UnitFault}
-use Rattle.method_unit.proofs.BuiltFaults.{none_built}
 use Rattle.invariant_checker.specs.Counts.{all_proved}
 use Rattle.check_driver.specs.Analysis.{unit_verdicts}
-use Rattle.check_driver.proofs.BuiltUnits.{built_is_safe}
+use Rattle.check_driver.proofs.UnitVerdicts.{proved_unit_safe}
 use Rattle.check_driver.specs.Expected.{command_answer, expected, files_answer, unit_answer, unit_file_answer}
 use Rattle.check_driver.specs.Met.{AreUnder}
 use Rattle.check_driver.specs.ProvedUnit.{AreSpelled, AsksForUnit, IfUnit, IsHeldSpelled, PrintsProvedUnit, SpellSafeUnit}
@@ -28,7 +26,7 @@ use Rattle.check_driver.specs.ReportText.{unit_counts, unit_report, verdict_line
 use Rattle.check_driver.specs.Sections.{lines_of}
 use Rattle.check_driver.proofs.CheckedSafety.{same_appended}
 use Rattle.check_driver.proofs.LinesOf.{first_line}
-use Rattle.check_driver.proofs.PlainTexts.{NoFeed, no_feed_behind, no_feed_byte, one_line, parameters_no_feed}
+use Rattle.check_driver.proofs.PlainTexts.{NoFeed, graphic_no_feed, no_feed_behind, one_line, parameters_no_feed}
 use Rattle.check_driver.proofs.PrintedMethods.{same_parts}
 use Rattle.check_driver.proofs.ReportTexts.{proved_no_feed}
 use Rattle.check_driver.proofs.WholeLines.{IsOneLine, same_first}
@@ -38,10 +36,6 @@ use Rattle.check_driver.proofs.WholeLines.{IsOneLine, same_first}
 -- Without its line feed.
 abbrev pub unit_said : MethodUnit → Bool → List ℕ
 unit_said unit proved = codes "unit " ++ signature_text unit ++ codes ": " ++ proved_text proved
-
-graphic_no_feed : (name : List ℕ) → AllByRecursion (λ b. (0x21 ≤ b) × (b ≤ 0x7e)) name → NoFeed name
-graphic_no_feed [] all = refl
-graphic_no_feed (b ∷ name) all = no_feed_behind (b ∷ []) name (no_feed_byte b (omega (arith, all.0.0))) (graphic_no_feed name all.1)
 
 signature_no_feed : (unit : MethodUnit) → IsUnitName unit.name → NoFeed (signature_text unit)
 signature_no_feed unit name =
@@ -79,7 +73,7 @@ report_begins : (unit : MethodUnit) → (more : List ℕ) × (unit_report unit �
 unfolding unit_report
 report_begins unit =
     let found = unit_verdicts unit in
-    let lines = flat_map verdict_line found in
+    let lines = flat_map (verdict_line unit.callees) found in
     let summary = summary_line (unit_counts found) in
     (lines ++ summary, append_assoc (unit_line unit (all_proved found)) lines summary ∙ append_assoc (unit_said unit (all_proved found)) (codes "\n") (lines ++ summary))
 
@@ -122,17 +116,17 @@ file_met words file held bytes (under ∷ []) at command (is, last) =
 file_met words file held bytes [] at command h = absurd h
 file_met words file held bytes (under ∷ other ∷ met) at command h = absurd h.1
 
--- A text with a line that begins what is expected begins the report of the unit, which is built.
+-- A text with a line that begins what is expected begins the report of the unit.
 front_of_report : (words : List (List ℕ)) (held : Held) (bytes : List ℕ) (met : List (Option (List ℕ))) (text line : List ℕ) → AsksForUnit words held bytes
     → AreUnder (Some held) (file_names words) met → slice_get (lines_of text) 0 ≡ Some line → IsFront text (Answer.out (expected words met))
-    → (first_built_fault bytes ≡ None) × IsFront text (unit_report (unit_of bytes))
+    → (first_unit_fault bytes ≡ None) × IsFront text (unit_report (unit_of bytes))
 front_of_report words held bytes met text line asks under first front =
     let name = word_at words asks.file in
     let here = subst (λ (command : Option Command). AreUnder (Some held) (command_files words command) met) asks.command under in
     let answer = file_met words asks.file held bytes met asks.is_held asks.command here in
     let begins : IsFront text (Answer.out (unit_file_answer name bytes)) = subst (λ (a : Answer). IsFront text a.out) answer front in
-    answer_report name bytes text line (first_built_fault bytes) first
-    (front_of_answer (nat_le READ_LIMIT (length bytes)) _ (unit_answer name bytes (first_built_fault bytes)) text line first refl begins)
+    answer_report name bytes text line (first_unit_fault bytes) first
+    (front_of_answer (nat_le READ_LIMIT (length bytes)) _ (unit_answer name bytes (first_unit_fault bytes)) text line first refl begins)
 
 -- ---- the theorem
 
@@ -163,5 +157,5 @@ proved_unit_is_safe told words held bytes signature met old new told_is asks und
       is_unit = spelled.is_unit;
       spelled = sym spelled.spelled;
       named = tells.0;
-      safe = built_is_safe unit (record { is_unit = spelled.is_unit; built = none_built bytes unit refl report.0 }) tells.1;
+      safe = proved_unit_safe unit spelled.is_unit tells.1;
     }

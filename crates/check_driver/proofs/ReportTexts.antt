@@ -1,5 +1,5 @@
 -- No text of a report's lines has a line feed.
-use Rattle.std.proofs.Common.{ℕ, ◌<◌, ◌^◌, Bool, true, false, List, [], ◌∷◌, ◌++◌, map, Option, Some, None, nat_lt, if◌then◌else◌, refl, codes, arith}
+use Rattle.std.proofs.Common.{ℕ, zero, suc, ◌<◌, ◌^◌, Bool, true, false, List, [], ◌∷◌, ◌++◌, map, Option, Some, None, nat_lt, if◌then◌else◌, slice_get, refl, codes, arith}
 use Rattle.std.specs.List.{AllByRecursion, flat_map}
 use Rattle.std.specs.Fmt.{decimal}
 use Rattle.asm_image.specs.Names.{printed_name}
@@ -13,25 +13,29 @@ use Rattle.contract_extract.specs.declared.faults.clause_fault.ClauseFault.TheVa
 use Rattle.il_decoder.specs.Labels.{label}
 use Rattle.il_decoder.specs.declared.fault.IlFault.{IlFault}
 use Rattle.il_decoder.specs.declared.fault.IlFault.TheVariants as code
-use Rattle.method_unit.specs.NotBuilt.{not_built}
+use Rattle.method_unit.specs.Units.{IsUnit}
 use Rattle.pe_reader.specs.Addresses.{metadata}
 use Rattle.invariant_checker.specs.Counts.{all_proved}
 use Rattle.invariant_checker.specs.declared.verdict.Verdict.{Verdict}
 use Rattle.cil_model.specs.declared.machine.FaultKind.{FaultKind}
 use Rattle.cil_model.specs.declared.machine.FaultKind.TheVariants as faults
-use Rattle.method_run.specs.FaultTexts.{kind_text}
+use Rattle.cil_model.specs.Places.{parameters_text}
+use Rattle.cil_model.specs.WellFormed.{IsCallee}
+use Rattle.cil_model.specs.declared.unit.CalleeInfo.{CalleeInfo}
+use Rattle.method_run.specs.FaultTexts.{callee_text, kind_text, signature_text}
 use Rattle.check_driver.specs.Analysis.{unit_verdicts}
-use Rattle.unit_builder.specs.Outcomes.{entry_of, outcome_of}
+use Rattle.unit_builder.specs.Outcomes.{IfAnalysed, entry_of, outcome_of}
 use Rattle.unit_builder.specs.declared.entry.Outcome.{Outcome}
 use Rattle.unit_builder.specs.declared.entry.Outcome.TheVariants.{Analysed, Skipped}
 use Rattle.unit_builder.specs.declared.reason.Reason.{Reason}
 use Rattle.unit_builder.specs.declared.reason.Reason.TheVariants as reasons
-use Rattle.check_driver.specs.CheckText.{Finding, Judged, Unjudged, finding, judged_or, verdict_text}
+use Rattle.check_driver.specs.CheckText.{Finding, Judged, Unjudged, finding, verdict_text}
 use Rattle.answer_lines.specs.Counting.{AreBelow}
-use Rattle.check_driver.specs.ReasonText.{clause_reason, code_reason, kind_reason, opcode_text, placed, reason_text, unbuilt_text}
+use Rattle.check_driver.specs.ReportText.{callee_of}
+use Rattle.check_driver.specs.ReasonText.{clause_reason, code_reason, kind_reason, opcode_text, placed, reason_text}
 use Rattle.answer_lines.specs.Lines.{proved_text}
 use Rattle.answer_lines.specs.declared.lines.Counts.{Counts}
-use Rattle.check_driver.proofs.PlainTexts.{NoFeed, decimal_no_feed, escaped_no_feed, hex_no_feed, label_no_feed, name_no_feed, no_feed_behind, number_no_feed, one_line}
+use Rattle.check_driver.proofs.PlainTexts.{NoFeed, decimal_no_feed, escaped_no_feed, graphic_no_feed, hex_no_feed, label_no_feed, name_no_feed, no_feed_behind, number_no_feed, one_line, parameters_no_feed}
 use Rattle.check_driver.proofs.Reported.{entry_said, finding_said, method_said, summary_front, summary_said, verdict_said, verdicts_said}
 use Rattle.check_driver.proofs.WholeLines.{IsOneLine}
 
@@ -87,46 +91,68 @@ skipped_no_feed : (reason : List ℕ) → NoFeed reason → NoFeed (verdict_text
 skipped_no_feed reason none = no_feed_behind (codes "not analysed: ") reason refl none
 
 finding_no_feed : (outcome : Outcome) → NoFeed (verdict_text (finding outcome))
-finding_no_feed (Analysed unit) = by_place (not_built unit)
-  where
-    by_place : (place : Option ℕ) → NoFeed (verdict_text (judged_or place unit))
-    by_place None = proved_no_feed (all_proved (unit_verdicts unit))
-    by_place (Some at) = skipped_no_feed (unbuilt_text at) (placed_no_feed (codes "N13 not built") at refl)
+finding_no_feed (Analysed unit) = proved_no_feed (all_proved (unit_verdicts unit))
 finding_no_feed (Skipped reason) = skipped_no_feed (reason_text reason) (reason_no_feed reason)
 
-fault_no_feed : (kind : FaultKind) → NoFeed (kind_text None kind)
-fault_no_feed (faults.Requires k) =
-    no_feed_behind (codes "requires " ++ decimal k ++ codes " of ") [] (no_feed_behind (codes "requires " ++ decimal k) (codes " of ") (no_feed_behind (codes "requires ") (decimal k) refl (number_no_feed k)) refl) refl
-fault_no_feed (faults.Ensures k) = no_feed_behind (codes "ensures ") (decimal k) refl (number_no_feed k)
-fault_no_feed faults.Assert = refl
-fault_no_feed faults.NullUse = refl
-fault_no_feed faults.Lower = refl
-fault_no_feed faults.Upper = refl
-fault_no_feed faults.DivZero = refl
-fault_no_feed faults.DivOverflow = refl
-fault_no_feed faults.Overflow = refl
-fault_no_feed faults.Shift = refl
-fault_no_feed faults.ArraySize = refl
+-- The callees' names have no line feed.
+abbrev AreNamed : List CalleeInfo → Type 0
+AreNamed callees = AllByRecursion (λ callee. NoFeed callee.name) callees
 
-verdict_no_feed : (v : Verdict) → NoFeed (verdict_said v)
+names_of : (callees : List CalleeInfo) → AllByRecursion IsCallee callees → AreNamed callees
+names_of [] all = tt
+names_of (callee ∷ callees) all = (graphic_no_feed callee.name all.0.name.graphic, names_of callees all.1)
+
+-- Nor has what is told of a callee.
+callee_no_feed : (callees : List CalleeInfo) (number : Option ℕ) → AreNamed callees → NoFeed (callee_text (callee_of callees number))
+callee_no_feed callees None named = refl
+callee_no_feed callees (Some number) named = at callees number named
+  where
+    at : (callees : List CalleeInfo) (number : ℕ) → AreNamed callees → NoFeed (callee_text (slice_get callees number))
+    unfolding signature_text
+    at [] number named = refl
+    at (callee ∷ callees) zero named =
+        let opened = callee.name ++ codes "(" in
+        no_feed_behind (opened ++ parameters_text callee.args) (codes ")")
+        (no_feed_behind opened (parameters_text callee.args) (no_feed_behind callee.name (codes "(") named.0 refl) (parameters_no_feed callee.args)) refl
+    at (callee ∷ callees) (suc number) named = at callees number named.1
+
+fault_no_feed : (callee : Option CalleeInfo) (kind : FaultKind) → NoFeed (callee_text callee) → NoFeed (kind_text callee kind)
+fault_no_feed callee (faults.Requires k) named =
+    no_feed_behind (codes "requires " ++ decimal k ++ codes " of ") (callee_text callee)
+    (no_feed_behind (codes "requires " ++ decimal k) (codes " of ") (no_feed_behind (codes "requires ") (decimal k) refl (number_no_feed k)) refl) named
+fault_no_feed callee (faults.Ensures k) named = no_feed_behind (codes "ensures ") (decimal k) refl (number_no_feed k)
+fault_no_feed callee faults.Assert named = refl
+fault_no_feed callee faults.NullUse named = refl
+fault_no_feed callee faults.Lower named = refl
+fault_no_feed callee faults.Upper named = refl
+fault_no_feed callee faults.DivZero named = refl
+fault_no_feed callee faults.DivOverflow named = refl
+fault_no_feed callee faults.Overflow named = refl
+fault_no_feed callee faults.Shift named = refl
+fault_no_feed callee faults.ArraySize named = refl
+
+verdict_no_feed : (callees : List CalleeInfo) (v : Verdict) → AreNamed callees → NoFeed (verdict_said callees v)
 unfolding verdict_said
-verdict_no_feed v =
+verdict_no_feed callees v named =
     let place = codes "  IL_" ++ hex 4 v.obligation.at in
-    let kind = kind_text None v.obligation.kind in
+    let callee = callee_of callees v.obligation.callee in
+    let kind = kind_text callee v.obligation.kind in
     no_feed_behind (place ++ codes " " ++ kind ++ codes ": ") (proved_text v.proved)
     (no_feed_behind (place ++ codes " " ++ kind) (codes ": ")
     (no_feed_behind (place ++ codes " ") kind
     (no_feed_behind place (codes " ") (no_feed_behind (codes "  IL_") (hex 4 v.obligation.at) refl (hex_no_feed 4 v.obligation.at)) refl)
-    (fault_no_feed v.obligation.kind)) refl) (proved_no_feed v.proved)
+    (fault_no_feed callee v.obligation.kind (callee_no_feed callees v.obligation.callee named))) refl) (proved_no_feed v.proved)
 
-verdicts_one_line : (found : List Verdict) → AllByRecursion IsOneLine (map verdict_said found)
-verdicts_one_line [] = tt
-verdicts_one_line (v ∷ found) = (one_line (verdict_said v) (verdict_no_feed v), verdicts_one_line found)
+verdicts_one_line : (callees : List CalleeInfo) (found : List Verdict) → AreNamed callees
+    → AllByRecursion IsOneLine (map (verdict_said callees) found)
+verdicts_one_line callees [] named = tt
+verdicts_one_line callees (v ∷ found) named =
+    (one_line (verdict_said callees v) (verdict_no_feed callees v named), verdicts_one_line callees found named)
 
-said_one_line : (found : Finding) → AllByRecursion IsOneLine (verdicts_said found)
+said_one_line : (outcome : Outcome) → IfAnalysed outcome IsUnit → AllByRecursion IsOneLine (verdicts_said (finding outcome))
 unfolding verdicts_said
-said_one_line (Judged found) = verdicts_one_line found
-said_one_line (Unjudged reason) = tt
+said_one_line (Analysed unit) is = verdicts_one_line unit.callees (unit_verdicts unit) (names_of unit.callees is.well_formed.callees)
+said_one_line (Skipped reason) is = tt
 
 method_no_feed : (token : ℕ) (name text : List ℕ) → NoFeed name → NoFeed text → NoFeed (method_said token name text)
 unfolding method_said
@@ -142,15 +168,17 @@ all_behind P [] b all others = others
 all_behind P (x ∷ a) b all others = (all.0, all_behind P a b all.1 others)
 
 -- The lines of the methods of some rows.
-pub rows_one_line : (asm : List ℕ) (rows : List ℕ) → AllByRecursion IsOneLine (flat_map entry_said (map (entry_of asm) (map (method_row (metadata asm)) rows)))
+pub rows_one_line : (asm : List ℕ) (rows : List ℕ)
+    → AllByRecursion (λ entry. IfAnalysed entry.outcome IsUnit) (map (entry_of asm) (map (method_row (metadata asm)) rows))
+    → AllByRecursion IsOneLine (flat_map entry_said (map (entry_of asm) (map (method_row (metadata asm)) rows)))
 unfolding entry_said finding_said method_row
-rows_one_line asm [] = tt
-rows_one_line asm (row ∷ rows) =
+rows_one_line asm [] runnable = tt
+rows_one_line asm (row ∷ rows) runnable =
     let method = method_row (metadata asm) row in
     let found = finding (outcome_of asm method) in
     let text = verdict_text found in
     let first = one_line (method_said method.token.0 method.name text) (method_no_feed method.token.0 method.name text (name_no_feed (metadata asm) row) (finding_no_feed (outcome_of asm method))) in
-    all_behind IsOneLine (entry_said (entry_of asm method)) (flat_map entry_said (map (entry_of asm) (map (method_row (metadata asm)) rows))) (first, said_one_line found) (rows_one_line asm rows)
+    all_behind IsOneLine (entry_said (entry_of asm method)) (flat_map entry_said (map (entry_of asm) (map (method_row (metadata asm)) rows))) (first, said_one_line (outcome_of asm method) runnable.0) (rows_one_line asm rows runnable.1)
 
 number_behind : (front : List ℕ) (n : ℕ) (what : List ℕ) → n < 2 ^ 63 → NoFeed front → NoFeed what → NoFeed (front ++ decimal n ++ what)
 number_behind front n what small none other =

@@ -1,16 +1,17 @@
 -- The report of an assembly is lines, and the lines that begin with `method` are those of its methods.
-use Rattle.std.proofs.Common.{◌≡◌, ℕ, List, [], ◌∷◌, ◌++◌, map, None, refl, sym, ap, ◌∙◌, append_assoc, append-nil, codes}
+use Rattle.std.proofs.Common.{◌≡◌, ℕ, List, [], ◌∷◌, ◌++◌, map, refl, sym, ap, ◌∙◌, append_assoc, append-nil, codes}
 use Rattle.std.specs.List.{flat_map}
 use Rattle.std.specs.Fmt.{decimal}
 use Rattle.cc_base.specs.Digits.{hex}
 use Rattle.cc_base.specs.Escapes.{escaped}
 use Rattle.invariant_checker.specs.declared.verdict.Verdict.{Verdict}
+use Rattle.cil_model.specs.declared.unit.CalleeInfo.{CalleeInfo}
 use Rattle.method_run.specs.FaultTexts.{kind_text}
 use Rattle.unit_builder.specs.Outcomes.{entries_of}
 use Rattle.unit_builder.specs.declared.entry.MethodEntry.{MethodEntry}
 use Rattle.check_driver.specs.CheckText.{Finding, Judged, Unjudged, all_counts, assembly_line, check_text, entry_lines, finding, finding_lines, method_line, verdict_lines, verdict_text}
 use Rattle.answer_lines.specs.Lines.{proved_text, summary_line}
-use Rattle.check_driver.specs.ReportText.{verdict_line}
+use Rattle.check_driver.specs.ReportText.{callee_of, verdict_line}
 use Rattle.answer_lines.specs.declared.lines.Counts.{Counts}
 use Rattle.check_driver.proofs.WholeLines.{as_line, as_lines}
 
@@ -19,8 +20,10 @@ use Rattle.check_driver.proofs.WholeLines.{as_line, as_lines}
 unfoldable pub method_said : ℕ → List ℕ → List ℕ → List ℕ
 method_said token name text = codes "method " ++ hex 8 token ++ codes " " ++ name ++ codes ": " ++ text
 
-unfoldable pub verdict_said : Verdict → List ℕ
-verdict_said v = codes "  IL_" ++ hex 4 v.obligation.at ++ codes " " ++ kind_text None v.obligation.kind ++ codes ": " ++ proved_text v.proved
+unfoldable pub verdict_said : List CalleeInfo → Verdict → List ℕ
+verdict_said callees v =
+    codes "  IL_" ++ hex 4 v.obligation.at ++ codes " " ++ kind_text (callee_of callees v.obligation.callee) v.obligation.kind
+    ++ codes ": " ++ proved_text v.proved
 
 -- The summary up to its last number.
 unfoldable pub summary_front : Counts → List ℕ
@@ -34,7 +37,7 @@ unfolding summary_front
 summary_said n = summary_front n ++ codes " proved"
 
 unfoldable pub verdicts_said : Finding → List (List ℕ)
-verdicts_said (Judged found) = map verdict_said found
+verdicts_said (Judged callees found) = map (verdict_said callees) found
 verdicts_said (Unjudged reason) = []
 
 unfoldable pub finding_said : ℕ → List ℕ → Finding → List (List ℕ)
@@ -52,17 +55,20 @@ lines_behind : (a b : List (List ℕ)) → as_lines (a ++ b) ≡ as_lines a ++ a
 lines_behind [] b = refl
 lines_behind (text ∷ a) b = ap (λ (l : List ℕ). as_line text ++ l) (lines_behind a b) ∙ sym (append_assoc (as_line text) (as_lines a) (as_lines b))
 
-verdict_is_line : (v : Verdict) → as_line (verdict_said v) ≡ verdict_line v
+verdict_is_line : (callees : List CalleeInfo) (v : Verdict) → as_line (verdict_said callees v) ≡ verdict_line callees v
 unfolding verdict_said
-verdict_is_line v = refl
+verdict_is_line callees v = refl
 
-verdicts_are_lines : (found : List Verdict) → as_lines (map verdict_said found) ≡ flat_map verdict_line found
-verdicts_are_lines [] = refl
-verdicts_are_lines (v ∷ found) = ap (λ (l : List ℕ). as_line (verdict_said v) ++ l) (verdicts_are_lines found) ∙ ap (λ (l : List ℕ). l ++ flat_map verdict_line found) (verdict_is_line v)
+verdicts_are_lines : (callees : List CalleeInfo) (found : List Verdict)
+    → as_lines (map (verdict_said callees) found) ≡ flat_map (verdict_line callees) found
+verdicts_are_lines callees [] = refl
+verdicts_are_lines callees (v ∷ found) =
+    ap (λ (l : List ℕ). as_line (verdict_said callees v) ++ l) (verdicts_are_lines callees found)
+    ∙ ap (λ (l : List ℕ). l ++ flat_map (verdict_line callees) found) (verdict_is_line callees v)
 
 said_of_finding : (found : Finding) → as_lines (verdicts_said found) ≡ verdict_lines found
 unfolding verdicts_said
-said_of_finding (Judged found) = verdicts_are_lines found
+said_of_finding (Judged callees found) = verdicts_are_lines callees found
 said_of_finding (Unjudged reason) = refl
 
 finding_is_lines : (token : ℕ) (name : List ℕ) (found : Finding) → as_lines (finding_said token name found) ≡ finding_lines token name found

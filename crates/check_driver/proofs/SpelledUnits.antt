@@ -1,47 +1,27 @@
 -- What is known of a unit's file whose report was begun.
-use Rattle.std.proofs.Common.{◌≡◌, ◌⊎◌, ℕ, ◌<◌, List, [], ◌∷◌, length, take, Vec, Global, Option, Some, None, option_map, refl, sym, ap, subst, ◌∙◌, inl, inr, length-take, arith}
+use Rattle.std.proofs.Common.{◌≡◌, ◌⊎◌, ℕ, ◌<◌, List, [], ◌∷◌, length, take, Vec, Global, Option, Some, None, sym, ap, subst, ◌∙◌, inl, inr, length-take, arith}
 use Rattle.std.proofs.lemmas.Bool.{cases_lt}
 use Rattle.std.proofs.lemmas.List.{take_all}
 use Rattle.std.proofs.lemmas.Option.{same_Some}
 use Rattle.cc_base.specs.Files.{Held, READ_LIMIT}
-use Rattle.cc_base.specs.LittleEndian.{IsBytes}
-use Rattle.cc_base.specs.Tests.{first_of}
-use Rattle.cc_base.proofs.TestLemmas.{none_here}
 use Rattle.cil_model.specs.declared.unit.Unit.{Unit as MethodUnit}
 use Rattle.command_words.specs.Words.{file_indexes, word_at, words_at}
 use Rattle.command_words.specs.declared.command.Command.{Command}
 use Rattle.command_words.specs.declared.command.Command.TheVariants as commands
 use Rattle.unit_form.specs.Spelling.{unit_bytes}
-use Rattle.unit_form.specs.UnitFields.{unit_fields}
-use Rattle.unit_form.proofs.UnitTaken.{unit_taken}
-use Rattle.method_unit.specs.BuiltUnits.{built_test, code_offset, first_built_fault}
-use Rattle.method_unit.specs.UnitFile.{code_tests_of, field_test, first_unit_fault, unit_of}
+use Rattle.method_unit.specs.UnitFile.{unit_of}
 use Rattle.method_unit.specs.Units.{IsUnit}
 use Rattle.check_driver.specs.Expected.{file_at}
 use Rattle.check_driver.specs.Met.{AreContents, AreUnder, IsContent, bytes_read}
 use Rattle.check_driver.specs.ProvedUnit.{AreSpelled, IfUnit, IsHeldSpelled}
 
--- ---- a file without a fault
-
-none_of : {X Y : Type 0} (f : X → Y) (x : Option X) → option_map f x ≡ None → x ≡ None
-none_of f None none = refl
-none_of f (Some x) none = absurd cc
-
-fields_pass : (bytes : List ℕ) → first_built_fault bytes ≡ None → first_of (unit_fields bytes).tests ≡ None
-unfolding first_built_fault first_unit_fault field_test
-fields_pass bytes none =
-    let all = none_here (first_unit_fault bytes) (built_test (code_offset bytes) (unit_of bytes) ∷ []) none in
-    none_of _ _ (none_here (field_test bytes) (code_tests_of (unit_fields bytes).value) all)
-
--- It is the spelling of the unit that is read of it.
-spelled_again : (bytes : List ℕ) → IsBytes bytes → first_built_fault bytes ≡ None → unit_bytes (unit_of bytes) ≡ bytes
-unfolding unit_of
-spelled_again bytes fits none =
-    (unit_taken bytes (unit_of bytes) fits (fields_pass bytes none)
-    (record { name = refl; result = refl; args = refl; locals = refl; max_stack = refl; callees = refl; code = refl })).spelled
-
-pub are_spelled : (bytes : List ℕ) (unit : MethodUnit) → length bytes < READ_LIMIT → IsBytes bytes → first_built_fault bytes ≡ None → unit ≡ unit_of bytes → IsUnit unit → AreSpelled bytes
-are_spelled bytes unit whole fits none same is_unit = record { whole = whole; is_unit = subst IsUnit same is_unit; spelled = spelled_again bytes fits none }
+pub are_spelled : (bytes : List ℕ) (unit : MethodUnit) → length bytes < READ_LIMIT → unit_bytes unit ≡ bytes → unit ≡ unit_of bytes
+    → IsUnit unit → AreSpelled bytes
+are_spelled bytes unit whole spelled same is_unit = record {
+  whole = whole;
+  is_unit = subst IsUnit same is_unit;
+  spelled = ap unit_bytes (sym same) ∙ spelled;
+}
 
 -- ---- what is held
 

@@ -5,10 +5,7 @@ use Rattle.std.specs.Str.{bytes_eq}
 use Rattle.asm_image.specs.Faults.{FirstBroken}
 use Rattle.asm_image.specs.declared.fault.AsmFault.{AsmFault}
 use Rattle.cc_base.specs.Files.{READ_LIMIT}
-use Rattle.cil_model.specs.declared.unit.Unit.{Unit as MethodUnit}
-use Rattle.method_unit.specs.BuiltUnits.{first_built_fault}
-use Rattle.method_unit.specs.NotBuilt.{not_built}
-use Rattle.method_unit.specs.UnitFile.{unit_of}
+use Rattle.method_unit.specs.UnitFile.{first_unit_fault, unit_of}
 use Rattle.method_unit.specs.declared.unit_fault.UnitFault.{UnitFault}
 use Rattle.unit_builder.specs.Outcomes.{entries_of}
 use Rattle.unit_builder.specs.declared.entry.MethodEntry.{MethodEntry}
@@ -38,13 +35,9 @@ distinct keys = unseen [] keys
 
 -- ---- the units of files
 
-abbrev pub key_if : Option ℕ → MethodUnit → List (List ℕ)
-key_if None unit = unit_bytes unit ∷ []
-key_if (Some at) unit = []
-
--- The unit of a method, where it is judged.
+-- The unit of a method, where it is analysed.
 abbrev pub outcome_key : Outcome → List (List ℕ)
-outcome_key (Analysed unit) = key_if (not_built unit) unit
+outcome_key (Analysed unit) = unit_bytes unit ∷ []
 outcome_key (Skipped reason) = []
 
 -- The units that are judged of these methods.
@@ -66,7 +59,7 @@ unit_asked bytes (Some fault) = []
 unit_asked bytes None = unit_bytes (unit_of bytes) ∷ []
 
 abbrev pub unit_file_asked : List ℕ → List (List ℕ)
-unit_file_asked bytes = if nat_le READ_LIMIT (length bytes) then [] else unit_asked bytes (first_built_fault bytes)
+unit_file_asked bytes = if nat_le READ_LIMIT (length bytes) then [] else unit_asked bytes (first_unit_fault bytes)
 
 -- ---- commands
 

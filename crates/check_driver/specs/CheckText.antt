@@ -1,10 +1,9 @@
 -- The report of an assembly.
-use Rattle.std.specs.Prelude.{ℕ, Bool, false, List, [], ◌++◌, length, map, fold, Option, Some, None, if◌then◌else◌, codes}
+use Rattle.std.specs.Prelude.{ℕ, Bool, false, List, [], ◌++◌, length, map, fold, if◌then◌else◌, codes}
 use Rattle.std.specs.List.{flat_map, list_all}
 use Rattle.cc_base.specs.Digits.{hex}
 use Rattle.cc_base.specs.Escapes.{escaped}
-use Rattle.cil_model.specs.declared.unit.Unit.{Unit as MethodUnit}
-use Rattle.method_unit.specs.NotBuilt.{not_built}
+use Rattle.cil_model.specs.declared.unit.CalleeInfo.{CalleeInfo}
 use Rattle.invariant_checker.specs.Counts.{all_proved, proved_count}
 use Rattle.invariant_checker.specs.declared.verdict.Verdict.{Verdict}
 use Rattle.unit_builder.specs.Outcomes.{entries_of}
@@ -13,34 +12,30 @@ use Rattle.unit_builder.specs.declared.entry.Outcome.{Outcome}
 use Rattle.unit_builder.specs.declared.entry.Outcome.TheVariants.{Analysed, Skipped}
 use Rattle.answer_lines.specs.Counting.{counts_plus, no_counts}
 use Rattle.check_driver.specs.Analysis.{unit_verdicts}
-use Rattle.check_driver.specs.ReasonText.{reason_text, unbuilt_text}
+use Rattle.check_driver.specs.ReasonText.{reason_text}
 use Rattle.answer_lines.specs.Lines.{proved_text, summary_line}
 use Rattle.check_driver.specs.ReportText.{verdict_line}
 use Rattle.answer_lines.specs.declared.lines.Counts.{Counts}
 
 -- ---- what is found of a method
 
--- The verdicts on its obligations, or the words that say why it is not analysed.
+-- Its callees and the verdicts on its obligations, or the words that say why it is not analysed.
 pub data Finding : Type 0 where
-  Judged : List Verdict → Finding
+  Judged : List CalleeInfo → List Verdict → Finding
   Unjudged : List ℕ → Finding
 
-abbrev pub judged_or : Option ℕ → MethodUnit → Finding
-judged_or None unit = Judged (unit_verdicts unit)
-judged_or (Some at) unit = Unjudged (unbuilt_text at)
-
 abbrev pub finding : Outcome → Finding
-finding (Analysed unit) = judged_or (not_built unit) unit
+finding (Analysed unit) = Judged unit.callees (unit_verdicts unit)
 finding (Skipped reason) = Unjudged (reason_text reason)
 
 -- ---- its lines
 
 abbrev pub verdict_text : Finding → List ℕ
-verdict_text (Judged found) = proved_text (all_proved found)
+verdict_text (Judged callees found) = proved_text (all_proved found)
 verdict_text (Unjudged reason) = codes "not analysed: " ++ reason
 
 abbrev pub verdict_lines : Finding → List ℕ
-verdict_lines (Judged found) = flat_map verdict_line found
+verdict_lines (Judged callees found) = flat_map (verdict_line callees) found
 verdict_lines (Unjudged reason) = []
 
 -- The line of a method: its token, its name, and what is found of it.
@@ -57,12 +52,12 @@ entry_lines entry = finding_lines entry.token.0 entry.name (finding entry.outcom
 -- ---- the whole
 
 abbrev pub is_proved : Finding → Bool
-is_proved (Judged found) = all_proved found
+is_proved (Judged callees found) = all_proved found
 is_proved (Unjudged reason) = false
 
 -- What one method adds to the counts.
 abbrev pub counts_of : Finding → Counts
-counts_of (Judged found) = record {
+counts_of (Judged callees found) = record {
   methods = 1;
   proved = if all_proved found then 1 else 0;
   unproved = if all_proved found then 0 else 1;

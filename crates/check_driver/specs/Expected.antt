@@ -14,7 +14,7 @@ use Rattle.cil_model.specs.Limits.{MAX_FILE_BYTES}
 use Rattle.cil_model.specs.declared.instruction.Instr.{Instr}
 use Rattle.cil_model.specs.declared.unit.Unit.{Unit as MethodUnit}
 use Rattle.method_unit.specs.Faults.{fault_at}
-use Rattle.method_unit.specs.BuiltUnits.{first_built_fault}
+use Rattle.method_unit.specs.UnitFile.{first_unit_fault}
 use Rattle.method_unit.specs.UnitFile.{unit_of}
 use Rattle.method_unit.specs.declared.unit_fault.UnitFault.{UnitFault}
 use Rattle.invariant_checker.specs.Counts.{all_proved}
@@ -47,7 +47,7 @@ unit_answer name bytes None = report_answer (unit_of bytes)
 abbrev pub unit_file_answer : List ℕ → List ℕ → Answer
 unit_file_answer name bytes =
     if nat_le READ_LIMIT (length bytes) then refused_answer name (codes "file too large") MAX_FILE_BYTES
-    else unit_answer name bytes (first_built_fault bytes)
+    else unit_answer name bytes (first_unit_fault bytes)
 
 -- The answer to `list FILE` for the bytes of the file, which have this first fault or none.
 abbrev pub list_answer : List ℕ → List ℕ → Option AsmFault → Answer

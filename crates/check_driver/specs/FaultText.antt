@@ -15,7 +15,6 @@ abbrev pub unit_fault_text : UnitFault → List ℕ
 unit_fault_text (units.Short at) = codes "unit short"
 unit_fault_text (units.Form at) = codes "unit form"
 unit_fault_text (units.Version at) = codes "unit version"
-unit_fault_text (units.NotBuilt at) = codes "unit not built"
 
 abbrev pub pe_fault_text : PeFault → List ℕ
 pe_fault_text (pe.TooShort at) = codes "file too short"

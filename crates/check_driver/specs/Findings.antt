@@ -2,22 +2,27 @@
 use Rattle.std.specs.Prelude.{ℕ, ◌*◌, ◌<◌, ◌≤◌, List, [], length}
 use Rattle.std.specs.List.{All}
 use Rattle.cil_model.specs.Limits.{MAX_CLAUSES, MAX_CODE_BYTES, MAX_INSTRUCTIONS}
+use Rattle.cil_model.specs.declared.unit.CalleeInfo.{CalleeInfo}
 use Rattle.invariant_checker.specs.declared.verdict.Verdict.{Verdict}
 use Rattle.asm_image.specs.declared.method_row.MethodRow.{MethodRow}
 use Rattle.check_driver.specs.CheckText.{Finding, Judged, Unjudged, finding_lines}
-use Rattle.check_driver.specs.ReasonText.{reason_text, unbuilt_text}
+use Rattle.check_driver.specs.ReasonText.{reason_text}
 use Rattle.check_driver.specs.declared.finding.Finding.{Finding as Found}
 use Rattle.check_driver.specs.declared.finding.Finding.TheVariants as founds
 
 abbrev pub told : Found → Finding
-told (founds.Judged found) = Judged found.items
-told (founds.Unbuilt at) = Unjudged (unbuilt_text at)
+told (founds.Judged found) = Judged found.callees found.verdicts.items
 told (founds.Skipped reason) = Unjudged (reason_text reason)
 
 -- The verdicts. Of a method that is not analysed there are none.
 abbrev pub verdicts_in : Finding → List Verdict
-verdicts_in (Judged found) = found
+verdicts_in (Judged callees found) = found
 verdicts_in (Unjudged reason) = []
+
+-- What its unit knows of the methods that it calls.
+abbrev pub callees_in : Finding → List CalleeInfo
+callees_in (Judged callees found) = callees
+callees_in (Unjudged reason) = []
 
 -- The verdicts are those of a unit that keeps the limits. An instruction has no more obligations than a method may have
 -- clauses.

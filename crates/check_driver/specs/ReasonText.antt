@@ -53,7 +53,3 @@ reason_text (reasons.Code fault) = code_reason fault
 reason_text (reasons.Clauses fault) = clause_reason fault
 reason_text (reasons.Token at) = placed (codes "N11 token") at
 reason_text (reasons.Kinds fault) = kind_reason fault
-
--- The analysis of what stands at this IL offset is not built.
-abbrev pub unbuilt_text : ℕ → List ℕ
-unbuilt_text at = placed (codes "N13 not built") at

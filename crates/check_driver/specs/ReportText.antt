@@ -1,17 +1,24 @@
 -- The lines of a unit's report.
-use Rattle.std.specs.Prelude.{ℕ, List, ◌++◌, length, None, if◌then◌else◌}
+use Rattle.std.specs.Prelude.{ℕ, List, ◌++◌, length, Option, if◌then◌else◌, slice_get}
 use Rattle.std.specs.List.{flat_map}
+use Rattle.std.specs.Option.{option_and_then}
 use Rattle.answer_lines.specs.Lines.{obligation_line, summary_line, unit_line}
 use Rattle.answer_lines.specs.declared.lines.Counts.{Counts}
+use Rattle.cil_model.specs.declared.unit.CalleeInfo.{CalleeInfo}
 use Rattle.cil_model.specs.declared.unit.Unit.{Unit as MethodUnit}
 use Rattle.invariant_checker.specs.Counts.{all_proved, proved_count}
 use Rattle.invariant_checker.specs.declared.verdict.Verdict.{Verdict}
 use Rattle.method_run.specs.FaultTexts.{kind_text}
 use Rattle.check_driver.specs.Analysis.{unit_verdicts}
 
--- The line of an obligation of a unit that calls no method.
-abbrev pub verdict_line : Verdict → List ℕ
-verdict_line v = obligation_line v.obligation.at (kind_text None v.obligation.kind) v.proved
+-- The one of these callees that a number names.
+abbrev pub callee_of : List CalleeInfo → Option ℕ → Option CalleeInfo
+callee_of callees number = option_and_then (slice_get callees) number
+
+-- The line of an obligation of a unit with these callees.
+abbrev pub verdict_line : List CalleeInfo → Verdict → List ℕ
+verdict_line callees v =
+    obligation_line v.obligation.at (kind_text (callee_of callees v.obligation.callee) v.obligation.kind) v.proved
 
 abbrev pub unit_counts : List Verdict → Counts
 unit_counts found = record {
@@ -26,4 +33,4 @@ unit_counts found = record {
 -- The report of a unit: its verdict, those of its obligations, and the summary.
 unfoldable pub unit_report : MethodUnit → List ℕ
 unit_report unit =
-    unit_line unit (all_proved (unit_verdicts unit)) ++ flat_map verdict_line (unit_verdicts unit) ++ summary_line (unit_counts (unit_verdicts unit))
+    unit_line unit (all_proved (unit_verdicts unit)) ++ flat_map (verdict_line unit.callees) (unit_verdicts unit) ++ summary_line (unit_counts (unit_verdicts unit))

@@ -4,11 +4,11 @@ ghost use Rattle.std.specs.Prelude.{◌≡◌, [], ◌∷◌, IfOk};
 ghost use Rattle.check_driver.specs.Analysis.{unit_verdicts};
 ghost use Rattle.check_driver.specs.Asked.{Asks};
 ghost use Rattle.check_driver.specs.Findings.{AreWithin};
-ghost use Rattle.method_unit.specs.BuiltUnits.{IsBuilt};
+ghost use Rattle.method_unit.specs.Units.{IsUnit};
 ghost use Rattle.unit_flow.specs.FlowOf.{flow_of};
 ghost use Rattle.unit_form.specs.Spelling.{unit_bytes};
 
-use cil_model::Unit;
+use cil_model::{CalleeInfo, List, Unit};
 use invariant_checker::{Verdict, judge};
 use std::alloc::{AllocError, Global};
 use unit_flow::UnitFlow;
@@ -16,7 +16,7 @@ use widening_engine::Finder;
 
 /// The unit with its graph and its kinds, each found once.
 pub fn find_flow(alloc: Global, unit: Unit) -> Result<UnitFlow, AllocError>
-    requires { IsBuilt unit }
+    requires { IsUnit unit }
     ensures flow { IfOk result (λ code. code ≡ flow_of unit) }
     ensures unit { IfOk result (λ code. code.unit ≡ unit) }
 {
@@ -29,7 +29,7 @@ pub fn judge_flow<D: Finder>(
     code: &UnitFlow,
     finder: &mut D,
 ) -> Result<Vec<Verdict>, AllocError>
-    requires built { IsBuilt code.now.unit }
+    requires unit { IsUnit code.now.unit }
     requires flow { code.now ≡ flow_of code.now.unit }
     ensures value { IfOk result (λ found. found.items ≡ unit_verdicts code.now.unit) }
     ensures within { IfOk result (λ found. AreWithin found.items) }
@@ -39,17 +39,31 @@ pub fn judge_flow<D: Finder>(
     judge(alloc, code, &invariant)
 }
 
-/// The same, of a unit without its flow.
+/// What is found of a unit.
+#[derive(Drop)]
+pub struct Judged {
+    /// What the unit knows of the methods that it calls.
+    pub callees: List<CalleeInfo>,
+    /// The verdicts on its obligations.
+    pub verdicts: Vec<Verdict>,
+}
+
+/// The same, of a unit without its flow, which is given up but for its callees.
 pub fn judge_unit<D: Finder>(
     alloc: Global,
     unit: Unit,
     finder: &mut D,
-) -> Result<Vec<Verdict>, AllocError>
-    requires { IsBuilt unit }
-    ensures value { IfOk result (λ found. found.items ≡ unit_verdicts unit) }
-    ensures within { IfOk result (λ found. AreWithin found.items) }
+) -> Result<Judged, AllocError>
+    requires { IsUnit unit }
+    ensures callees { IfOk result (λ found. found.callees ≡ unit.callees) }
+    ensures value { IfOk result (λ found. found.verdicts.items ≡ unit_verdicts unit) }
+    ensures within { IfOk result (λ found. AreWithin found.verdicts.items) }
     ensures asked { Asks (unit_bytes unit ∷ []) result (D.asked finder.old) (D.asked finder.new) }
 {
     let code = find_flow(alloc, unit)?;
-    judge_flow(alloc, &code, finder)
+    let verdicts = judge_flow(alloc, &code, finder)?;
+    Ok(Judged {
+        callees: code.unit.callees,
+        verdicts,
+    })
 }

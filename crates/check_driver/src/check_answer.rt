@@ -54,7 +54,7 @@ fn append_finding(
     ensures { OnOk result (joined lines.new.items ≡ joined lines.old.items ++ finding_lines method.now.token.0 method.now.name (told finding.now)) }
 {
     lines.push(method_line(alloc, method, finding)?)?;
-    append_verdict_lines(alloc, lines, finding.verdicts())?;
+    append_verdict_lines(alloc, lines, finding.callees(), finding.verdicts())?;
     Ok(())
 }
 

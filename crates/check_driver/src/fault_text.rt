@@ -17,7 +17,6 @@ pub fn unit_fault_text(fault: UnitFault) -> &'static [u8]
         UnitFault::Short(_) => b"unit short",
         UnitFault::Form(_) => b"unit form",
         UnitFault::Version(_) => b"unit version",
-        UnitFault::NotBuilt(_) => b"unit not built",
     }
 }
 

@@ -6,13 +6,14 @@ ghost use Rattle.check_driver.specs.CheckText.{counts_of, finding, is_proved, ve
 ghost use Rattle.answer_lines.specs.Counting.{AreBelow};
 ghost use Rattle.method_unit.specs.Units.{IsUnit};
 ghost use Rattle.unit_builder.specs.Outcomes.{IfAnalysed};
-ghost use Rattle.check_driver.specs.Findings.{IsWithin, told, verdicts_in};
+ghost use Rattle.check_driver.specs.Findings.{IsWithin, callees_in, told, verdicts_in};
 
+use crate::analysis::Judged;
 use crate::judged_units::JudgedUnits;
-use crate::reason_text::{append_skipped, append_unbuilt};
+use crate::reason_text::append_skipped;
 use answer_lines::{Counts, proved_text};
+use cil_model::CalleeInfo;
 use invariant_checker::{Verdict, all_proved, proved_count};
-use method_unit::not_built;
 use std::alloc::{AllocError, Global};
 use unit_builder::{Outcome, Reason};
 use widening_engine::Finder;
@@ -20,10 +21,8 @@ use widening_engine::Finder;
 /// What is found of a method.
 #[derive(Drop)]
 pub enum Finding {
-    /// The verdicts on its obligations.
-    Judged(Vec<Verdict>),
-    /// It is not analysed: the analysis of what stands at this IL offset is not built.
-    Unbuilt(u32),
+    /// It is analysed, and this is found of its unit.
+    Judged(Judged),
     /// It is not analysed for this reason.
     Skipped(Reason),
 }
@@ -45,10 +44,7 @@ impl Finding {
     {
         match outcome {
             Outcome::Skipped(reason) => Ok(Finding::Skipped(reason)),
-            Outcome::Analysed(unit) => match not_built(&unit) {
-                Some(at) => Ok(Finding::Unbuilt(at)),
-                None => Ok(Finding::Judged(judged.judge(alloc, unit, finder)?)),
-            },
+            Outcome::Analysed(unit) => Ok(Finding::Judged(judged.judge(alloc, unit, finder)?)),
         }
     }
 
@@ -57,8 +53,18 @@ impl Finding {
         ensures { result.now ≡ verdicts_in (told self.now) }
     {
         match self {
-            Finding::Judged(found) => found,
-            Finding::Unbuilt(_) | Finding::Skipped(_) => &[],
+            Finding::Judged(found) => &found.verdicts,
+            Finding::Skipped(_) => &[],
+        }
+    }
+
+    /// What the method's unit knows of those that it calls. Of a method that is not analysed that is nothing.
+    pub fn callees(&self) -> &[CalleeInfo]
+        ensures { result.now ≡ callees_in (told self.now) }
+    {
+        match self {
+            Finding::Judged(found) => found.callees.as_slice(),
+            Finding::Skipped(_) => &[],
         }
     }
 
@@ -67,8 +73,8 @@ impl Finding {
         ensures { result ≡ is_proved (told self.now) }
     {
         match self {
-            Finding::Judged(found) => all_proved(found),
-            Finding::Unbuilt(_) | Finding::Skipped(_) => false,
+            Finding::Judged(found) => all_proved(&found.verdicts),
+            Finding::Skipped(_) => false,
         }
     }
 
@@ -96,8 +102,7 @@ impl Finding {
         ensures { OnOk result (line.new.items ≡ line.old.items ++ verdict_text (told self.now)) }
     {
         match self {
-            Finding::Judged(found) => line.extend_from_slice(proved_text(all_proved(found))),
-            Finding::Unbuilt(at) => append_unbuilt(alloc, line, *at),
+            Finding::Judged(found) => line.extend_from_slice(proved_text(all_proved(&found.verdicts))),
             Finding::Skipped(reason) => append_skipped(alloc, line, *reason),
         }
     }

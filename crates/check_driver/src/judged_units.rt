@@ -5,10 +5,10 @@ ghost use Rattle.check_driver.specs.Analysis.{unit_verdicts};
 ghost use Rattle.check_driver.specs.Asked.{Asks, is_among, unseen};
 ghost use Rattle.check_driver.specs.Findings.{AreWithin};
 ghost use Rattle.check_driver.specs.JudgedUnits.{AreVerdictsOn};
-ghost use Rattle.method_unit.specs.BuiltUnits.{IsBuilt};
+ghost use Rattle.method_unit.specs.Units.{IsUnit};
 ghost use Rattle.unit_form.specs.Spelling.{unit_bytes};
 
-use crate::analysis::judge_unit;
+use crate::analysis::{Judged, judge_unit};
 use cil_model::Unit;
 use indexmap::IndexMap;
 use invariant_checker::Verdict;
@@ -66,7 +66,7 @@ impl JudgedUnits {
         Ok(())
     }
 
-    /// The verdicts on the obligations of a unit. The finder is asked only where no equal unit was judged before.
+    /// What is found of a unit. The finder is asked only where no equal unit was judged before.
     ///
     /// Cost: the unit's bytes are kept, with its verdicts.
     pub fn judge<D: Finder>(
@@ -74,20 +74,23 @@ impl JudgedUnits {
         alloc: Global,
         unit: Unit,
         finder: &mut D,
-    ) -> Result<Vec<Verdict>, AllocError>
-        requires { IsBuilt unit }
-        ensures value { IfOk result (λ found. found.items ≡ unit_verdicts unit) }
-        ensures within { IfOk result (λ found. AreWithin found.items) }
+    ) -> Result<Judged, AllocError>
+        requires { IsUnit unit }
+        ensures callees { IfOk result (λ found. found.callees ≡ unit.callees) }
+        ensures value { IfOk result (λ found. found.verdicts.items ≡ unit_verdicts unit) }
+        ensures within { IfOk result (λ found. AreWithin found.verdicts.items) }
         ensures judged { OnOk result (self.new ≡ self.old ++ unseen self.old (unit_bytes unit ∷ [])) }
         ensures asked { Asks (unseen self.old (unit_bytes unit ∷ [])) result (D.asked finder.old) (D.asked finder.new) }
     {
         let key = unit_bytes(alloc, &unit)?;
-        if let Some(found) = self.get(&key) {
-            return Vec::from_slice(alloc, found);
+        if let Some(known) = self.get(&key) {
+            return Ok(Judged {
+                verdicts: Vec::from_slice(alloc, known)?,
+                callees: unit.callees,
+            });
         }
         let found = judge_unit(alloc, unit, finder)?;
-        let again = Vec::from_slice(alloc, &found)?;
-        self.note(key, found)?;
-        Ok(again)
+        self.note(key, Vec::from_slice(alloc, &found.verdicts)?)?;
+        Ok(found)
     }
 }

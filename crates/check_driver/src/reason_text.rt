@@ -2,7 +2,7 @@
 
 ghost use Rattle.std.specs.Prelude.{◌≡◌, ◌++◌, OnOk, codes};
 ghost use Rattle.check_driver.specs.CheckText.{Unjudged, verdict_text};
-ghost use Rattle.check_driver.specs.ReasonText.{clause_reason, code_reason, kind_reason, opcode_text, placed, reason_text, unbuilt_text};
+ghost use Rattle.check_driver.specs.ReasonText.{clause_reason, code_reason, kind_reason, opcode_text, placed, reason_text};
 
 use cc_base::put_hex;
 use cil_model::TypeFault;
@@ -100,12 +100,4 @@ pub fn append_skipped(alloc: Global, text: &mut Vec<u8>, reason: Reason) -> Resu
     text.extend_from_slice(b"not analysed: ")?;
     append_reason(alloc, text, reason)?;
     Ok(())
-}
-
-/// Appends that a method is not analysed because the analysis of what stands at an IL offset is not built.
-pub fn append_unbuilt(alloc: Global, text: &mut Vec<u8>, at: u32) -> Result<(), AllocError>
-    ensures { OnOk result (text.new.items ≡ text.old.items ++ verdict_text (Unjudged (unbuilt_text at))) }
-{
-    text.extend_from_slice(b"not analysed: ")?;
-    append_placed(alloc, text, b"N13 not built", at)
 }

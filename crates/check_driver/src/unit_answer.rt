@@ -11,7 +11,8 @@ ghost use Rattle.answer_lines.specs.Outcome.{Gives};
 ghost use Rattle.check_driver.specs.ReportText.{unit_report};
 ghost use Rattle.invariant_checker.specs.Counts.{all_proved};
 ghost use Rattle.answer_lines.specs.Writing.{Writes, change_of};
-ghost use Rattle.method_unit.specs.BuiltUnits.{first_built_fault, IsBuilt};
+ghost use Rattle.method_unit.specs.UnitFile.{first_unit_fault};
+ghost use Rattle.method_unit.specs.Units.{IsUnit};
 ghost use Rattle.unit_form.specs.Spelling.{unit_bytes};
 
 use crate::analysis::{find_flow, judge_flow};
@@ -21,7 +22,7 @@ use answer_lines::{Interrupt, answer_refused, put_lines};
 use cc_base::{READ_LIMIT, Sink};
 use cil_model::{MAX_FILE_BYTES, Unit};
 use invariant_checker::all_proved;
-use method_unit::{UnitRefusal, read_built_unit};
+use method_unit::{UnitRefusal, read_unit};
 use std::alloc::Global;
 use widening_engine::Finder;
 
@@ -32,7 +33,7 @@ fn put_report<O: Sink, D: Finder>(
     out: &mut O,
     finder: &mut D,
 ) -> Result<bool, Interrupt>
-    requires { IsBuilt unit }
+    requires { IsUnit unit }
     ensures proved { IfOk result (λ proved. proved ≡ all_proved (unit_verdicts unit)) }
     ensures written { Writes result (change_of O.written O.faults out.old out.new) (unit_report unit) }
     ensures asked { Asks (unit_bytes unit ∷ []) result (D.asked finder.old) (D.asked finder.new) }
@@ -54,12 +55,12 @@ fn answer_unit<O: Sink, E: Sink, D: Finder>(
     finder: &mut D,
 ) -> Result<u8, Interrupt>
     requires { length bytes.now < READ_LIMIT }
-    ensures answer { Gives (unit_answer name.now bytes.now (first_built_fault bytes.now)) result
+    ensures answer { Gives (unit_answer name.now bytes.now (first_unit_fault bytes.now)) result
         (change_of O.written O.faults out.old out.new) (change_of E.written E.faults err.old err.new) }
-    ensures asked { Asks (unit_asked bytes.now (first_built_fault bytes.now)) result (D.asked finder.old) (D.asked finder.new) }
+    ensures asked { Asks (unit_asked bytes.now (first_unit_fault bytes.now)) result (D.asked finder.old) (D.asked finder.new) }
     ensures spelled { (O.written out.new ≡ O.written out.old) ⊎ AreSpelled bytes.now }
 {
-    match read_built_unit(alloc, bytes) {
+    match read_unit(alloc, bytes) {
         Err(UnitRefusal::NoMemory) => Err(Interrupt::NoMemory),
         Err(UnitRefusal::Bad(fault)) => {
             answer_refused(alloc, name, unit_fault_text(fault), fault.at(), err)

@@ -1,38 +1,54 @@
 //! Reports, as lists of lines.
 
-ghost use Rattle.std.specs.Prelude.{◌≡◌, ◌++◌, ◌<◌, ◌≤◌, length, All, IfOk, OnOk};
+ghost use Rattle.std.specs.Prelude.{◌≡◌, ◌++◌, ◌<◌, ◌≤◌, length, All, IfOk, OnOk, option_copied};
 ghost use Rattle.std.specs.List.{flat_map};
-ghost use Rattle.check_driver.specs.ReportText.{unit_report, verdict_line};
+ghost use Rattle.check_driver.specs.ReportText.{callee_of, unit_report, verdict_line};
 ghost use Rattle.check_driver.specs.Analysis.{unit_verdicts};
 ghost use Rattle.answer_lines.specs.Writing.{joined};
 
 use answer_lines::{Counts, obligation_line, summary_line, unit_line};
-use cil_model::Unit;
+use cil_model::{CalleeInfo, Unit};
 use invariant_checker::{Verdict, all_proved, proved_count};
 use method_run::append_kind;
 use std::alloc::{AllocError, Global};
 
-/// The line of an obligation.
-fn verdict_line(alloc: Global, verdict: Verdict) -> Result<Vec<u8>, AllocError>
+/// The one of these callees that a number names.
+fn callee_of(callees: &[CalleeInfo], number: Option<u16>) -> Option<&CalleeInfo>
+    ensures { option_copied result ≡ callee_of callees.now number }
+{
+    match number {
+        Some(number) => callees.get(usize::from(number)),
+        None => None,
+    }
+}
+
+/// The line of an obligation of a unit with these callees.
+fn verdict_line(
+    alloc: Global,
+    callees: &[CalleeInfo],
+    verdict: Verdict,
+) -> Result<Vec<u8>, AllocError>
     requires { verdict.obligation.at < 65536 }
-    ensures { IfOk result (λ line. line.items ≡ verdict_line verdict) }
+    ensures { IfOk result (λ line. line.items ≡ verdict_line callees.now verdict) }
 {
     let mut kind = Vec::new(alloc);
-    append_kind(alloc, &mut kind, None, verdict.obligation.kind)?;
+    let callee = callee_of(callees, verdict.obligation.callee);
+    append_kind(alloc, &mut kind, callee, verdict.obligation.kind)?;
     obligation_line(alloc, verdict.obligation.at, &kind, verdict.proved)
 }
 
-/// Appends the lines of obligations.
+/// Appends the lines of obligations of a unit with these callees.
 pub fn append_verdict_lines(
     alloc: Global,
     lines: &mut Vec<Vec<u8>>,
+    callees: &[CalleeInfo],
     found: &[Verdict],
 ) -> Result<(), AllocError>
     requires { All (λ verdict. verdict.obligation.at < 65536) found.now }
-    ensures { OnOk result (joined lines.new.items ≡ joined lines.old.items ++ flat_map verdict_line found.now) }
+    ensures { OnOk result (joined lines.new.items ≡ joined lines.old.items ++ flat_map (verdict_line callees.now) found.now) }
 {
     for verdict in found {
-        lines.push(verdict_line(alloc, *verdict)?)?;
+        lines.push(verdict_line(alloc, callees, *verdict)?)?;
     }
     Ok(())
 }
@@ -52,7 +68,7 @@ pub fn report_lines(
     let proved = all_proved(found);
     let mut lines = Vec::new(alloc);
     lines.push(unit_line(alloc, unit, proved)?)?;
-    append_verdict_lines(alloc, &mut lines, found)?;
+    append_verdict_lines(alloc, &mut lines, unit.callees.as_slice(), found)?;
     let counts = Counts {
         methods: 1,
         proved: u64::from(proved),

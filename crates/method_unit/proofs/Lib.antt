@@ -8,7 +8,3 @@ pub mod UnitAgain
 pub mod SpellingBytes
 pub mod UnitTaken
 pub mod ReadAnswers
-pub mod BuiltPlaces
-pub mod BuiltFaults
-pub mod BuiltParts
-pub mod BuiltAlone

@@ -1,11 +1,9 @@
 //! Methods in the unit form: a file for one method, with all that its check depends on.
 #![tactic(auto)]
 
-mod built;
 mod callee_order;
 mod equality;
 mod spelling;
-mod unbuilt;
 mod unit_clauses;
 mod unit_code;
 mod unit_fault;
@@ -14,6 +12,5 @@ mod unit_reader;
 
 pub use equality::same_unit;
 pub use spelling::unit_bytes;
-pub use unbuilt::not_built;
 pub use unit_fault::{UnitFault, UnitRefusal};
-pub use unit_reader::{read_built_unit, read_unit};
+pub use unit_reader::read_unit;

@@ -1,4 +1,4 @@
-//! Why a file is no built unit.
+//! Why a file is no unit.
 
 ghost use Rattle.std.specs.Prelude.{◌≡◌};
 ghost use Rattle.cc_base.specs.declared.refusal.Refusal.TheVariants.{Bad};
@@ -21,9 +21,6 @@ pub enum UnitFault {
     /// The file has another version of the form.
     #[error("unit version at {0:08x}")]
     Version(u32),
-    /// A field or an instruction whose analysis is not built.
-    #[error("unit not built at {0:08x}")]
-    NotBuilt(u32),
 }
 
 impl UnitFault {
@@ -32,10 +29,7 @@ impl UnitFault {
         ensures { result ≡ fault_at self }
     {
         match self {
-            UnitFault::Short(offset)
-            | UnitFault::Form(offset)
-            | UnitFault::Version(offset)
-            | UnitFault::NotBuilt(offset) => offset,
+            UnitFault::Short(offset) | UnitFault::Form(offset) | UnitFault::Version(offset) => offset,
         }
     }
 }

@@ -1,9 +1,9 @@
 //! Units, read from their files.
 
-ghost use Rattle.std.specs.Prelude.{◌≡◌, ℕ, ◌+◌, ◌<◌, ◌≤◌, ◌^◌, length, List, IfOk, Err, Some, None};
+ghost use Rattle.std.specs.Prelude.{◌≡◌, ℕ, ◌+◌, ◌<◌, ◌≤◌, ◌^◌, length, List, IfOk};
 ghost use Rattle.std.specs.List.{AllByRecursion};
 ghost use Rattle.cc_base.specs.LittleEndian.{IsBytes};
-ghost use Rattle.cc_base.specs.Tests.{first_of, GivesOnly, Judges, JudgesOrNoMemory};
+ghost use Rattle.cc_base.specs.Tests.{first_of, GivesOnly, JudgesOrNoMemory};
 ghost use Rattle.cil_model.specs.Bodies.{HasBody};
 ghost use Rattle.cil_model.specs.FitKinds.{AreDecoded, NeverStuck};
 ghost use Rattle.cil_model.specs.Passes.{KindsOf, Stacks};
@@ -15,14 +15,11 @@ ghost use Rattle.unit_form.specs.FieldsRead.{fields_told, IsCodeWithin};
 ghost use Rattle.unit_form.specs.Spelling.{unit_bytes};
 ghost use Rattle.unit_form.specs.UnitFields.{unit_fields};
 ghost use Rattle.il_decoder.specs.Decoding.{instructions_of};
-ghost use Rattle.method_unit.specs.BuiltUnits.{built_test, code_offset, first_built_fault, IsBuilt};
-ghost use Rattle.method_unit.specs.NotBuilt.{not_built};
 ghost use Rattle.method_unit.specs.UnitFile.{code_tests_of, field_test, first_unit_fault, instr_tests, unit_of};
 ghost use Rattle.method_unit.specs.UnitOf.{IsRead, IsUnitIn, IsUnitOf};
 ghost use Rattle.method_unit.specs.Units.{AreDecodedOf, HasKinds, IsUnit};
 
 use crate::callee_order::check_order;
-use crate::unbuilt::not_built;
 use crate::unit_clauses::{check_blocks, read_contracts};
 use crate::unit_code::{check_count, check_numbers, decode_code};
 use crate::unit_fault::{UnitFault, UnitRefusal};
@@ -109,35 +106,22 @@ fn unit_at(alloc: Global, fields: UnitFields<'_>) -> Result<Unit, UnitRefusal>
     })
 }
 
-/// The unit of a file, and where its code begins, or the first fault of the file.
-#[tactic(auto, using(cc_base::proofs::TestLemmas::first_tests), unfolding(crate::specs::UnitFile::first_unit_fault, crate::specs::BuiltUnits::code_offset))]
-fn read_first(alloc: Global, bytes: &[u8]) -> Result<(Unit, u32), UnitRefusal>
+/// The unit of a file, or the first fault of the file.
+#[tactic(auto, using(cc_base::proofs::TestLemmas::first_tests), unfolding(crate::specs::UnitFile::first_unit_fault))]
+fn read_first(alloc: Global, bytes: &[u8]) -> Result<Unit, UnitRefusal>
     requires short { length bytes.now ≤ 2147483647 }
-    ensures judged { JudgesOrNoMemory result (first_unit_fault bytes.now) (λ found. IsUnitIn bytes.now found.0) }
-    ensures base { IfOk result (λ found. (found.1 ≡ code_offset bytes.now) × (found.1 ≤ 2147483647)) }
+    ensures { JudgesOrNoMemory result (first_unit_fault bytes.now) (IsUnitIn bytes.now) }
 {
     let fields = fields_of(alloc, bytes)?;
-    let base = fields.code_offset;
-    let unit = unit_at(alloc, fields)?;
-    Ok((unit, base))
+    unit_at(alloc, fields)
 }
 
 /// The same, as what the bytes spell.
-fn read_known(alloc: Global, bytes: &[u8]) -> Result<(Unit, u32), UnitRefusal>
-    requires short { length bytes.now ≤ 2147483647 }
-    ensures judged { JudgesOrNoMemory result (first_unit_fault bytes.now) (λ found. IsRead bytes.now found.0) }
-    ensures base { IfOk result (λ found. (found.1 ≡ code_offset bytes.now) × (found.1 ≤ 2147483647)) }
-{
-    read_first(alloc, bytes)
-}
-
-/// The unit alone.
-fn read_alone(alloc: Global, bytes: &[u8]) -> Result<Unit, UnitRefusal>
+fn read_known(alloc: Global, bytes: &[u8]) -> Result<Unit, UnitRefusal>
     requires short { length bytes.now ≤ 2147483647 }
     ensures { JudgesOrNoMemory result (first_unit_fault bytes.now) (IsRead bytes.now) }
 {
-    let (unit, _base) = read_known(alloc, bytes)?;
-    Ok(unit)
+    read_first(alloc, bytes)
 }
 
 /// The unit that the bytes of a file spell, or the first fault of the file.
@@ -160,34 +144,5 @@ pub fn read_unit(alloc: Global, bytes: &[u8]) -> Result<Unit, UnitRefusal>
     // No run of it ever comes where nothing is defined.
     ensures runs { IfOk result NeverStuck }
 {
-    read_alone(alloc, bytes)
-}
-
-/// Tests that the analysis of a unit is built. Its code begins at the offset `base` of the file.
-#[tactic(auto, unfolding(crate::specs::BuiltUnits::built_test))]
-fn check_built(unit: &Unit, base: u32) -> Result<(), UnitFault>
-    requires unit { IsUnit unit.now }
-    requires small { base ≤ 2147483647 }
-    ensures { Judges result (built_test base unit.now) (λ _. not_built unit.now ≡ None) }
-{
-    match not_built(unit) {
-        Some(at) => Err(UnitFault::NotBuilt(base + at)),
-        None => Ok(()),
-    }
-}
-
-/// The unit that the bytes of a file spell, where its analysis is built; else the first fault of the file, or `NotBuilt` of
-/// the first thing that is not.
-///
-/// Cost: as `read_unit`.
-#[tactic(auto, using(crate::proofs::ReadAnswers::built_faults))]
-pub fn read_built_unit(alloc: Global, bytes: &[u8]) -> Result<Unit, UnitRefusal>
-    requires short { length bytes.now ≤ 2147483647 }
-    ensures built { IfOk result IsBuilt }
-    ensures judged { JudgesOrNoMemory result (first_built_fault bytes.now) (λ unit. unit ≡ unit_of bytes.now) }
-    ensures runs { IfOk result NeverStuck }
-{
-    let (unit, base) = read_known(alloc, bytes)?;
-    check_built(&unit, base)?;
-    Ok(unit)
+    read_known(alloc, bytes)
 }

@@ -50,15 +50,10 @@ const SIGNATURE_FAULTS: [(SigFault, &str, u32); 2] = [
     (SigFault::Form(0), "form at 00000000", 0),
 ];
 
-const UNIT_FAULTS: [(UnitFault, &str, u32); 4] = [
+const UNIT_FAULTS: [(UnitFault, &str, u32); 3] = [
     (UnitFault::Short(0x15), "unit short at 00000015", 0x15),
     (UnitFault::Form(2), "unit form at 00000002", 2),
     (UnitFault::Version(3), "unit version at 00000003", 3),
-    (
-        UnitFault::NotBuilt(0x16),
-        "unit not built at 00000016",
-        0x16,
-    ),
 ];
 
 const IL_FAULTS: [(IlFault, &str, u32); 4] = [

@@ -27,4 +27,5 @@ pub mod TokenLemmas
 pub mod VisitLemmas
 pub mod WalkLemmas
 pub mod WorldLemmas
+pub mod ReachedWorlds
 pub mod ReachExamples

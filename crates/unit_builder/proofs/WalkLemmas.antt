@@ -52,7 +52,7 @@ all-stays tokens calls token there =
     let extends = all-extends tokens calls in
     some_there (place_in (all_met tokens calls) token) found.0 (ap (λ ts. place_in ts token) extends.1 ∙ place-stays tokens extends.0 token found.0 found.1)
 
-all-there : (calls tokens : List ℕ) (token place : ℕ) → place < length calls → get_or calls place token ≡ token → IsSome (place_in (all_met tokens calls) token)
+pub all-there : (calls tokens : List ℕ) (token place : ℕ) → place < length calls → get_or calls place token ≡ token → IsSome (place_in (all_met tokens calls) token)
 all-there [] tokens token place lt is = absurd (omega arith)
 all-there (first ∷ calls) tokens token zero lt is =
     all-stays (met tokens first) calls token (subst (λ t. IsSome (place_in (met tokens t) token)) (sym is) (met-there tokens token))
@@ -75,7 +75,7 @@ met-each P tokens token old new = each (place_in tokens token) where
 met-longer : (tokens : List ℕ) (token : ℕ) → length tokens ≤ length (met tokens token)
 met-longer tokens token = let extends = met_extends tokens token in omega (arith, ap length extends.1, length-append tokens extends.0)
 
-all-each : (P : ℕ → ℕ → Type 0) (calls tokens : List ℕ) → ((place : ℕ) → place < length tokens → P place (get_or tokens place 0))
+pub all-each : (P : ℕ → ℕ → Type 0) (calls tokens : List ℕ) → ((place : ℕ) → place < length tokens → P place (get_or tokens place 0))
     → ((token : ℕ) → Contains calls token → (place : ℕ) → length tokens ≤ place → P place token)
     → (place : ℕ) → place < length (all_met tokens calls) → P place (get_or (all_met tokens calls) place 0)
 all-each P [] tokens old new = old

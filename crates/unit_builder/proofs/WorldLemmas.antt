@@ -1,5 +1,5 @@
 -- The world of a method, out of what was made of all that it reaches.
-use Rattle.std.proofs.Common.{◌≡◌, ℕ, zero, suc, ◌+◌, ◌-◌, ◌<◌, ◌==◌, Bool, true, false, not, ◌&&◌, ⊎_elim, cond, List, [], ◌∷◌, length, map, get_or, filter, filter_map, Contains, Option, Some, None, option_map, is_none, IsSome, Err, refl, sym, ap, ◌∙◌, subst, arith}
+use Rattle.std.proofs.Common.{◌≡◌, ◌↔◌, ℕ, zero, suc, ◌+◌, ◌-◌, ◌<◌, ◌==◌, Bool, true, false, not, ◌&&◌, ⊎_elim, cond, List, [], ◌∷◌, length, map, get_or, filter, filter_map, Contains, Option, Some, None, option_map, is_none, IsSome, Err, refl, sym, ap, ◌∙◌, subst, arith}
 use Rattle.std.specs.List.{AllByRecursion, cons_option, find}
 use Rattle.std.specs.Option.{option_and_then}
 use Rattle.std.proofs.lemmas.Bool.{and_parts, cases_lt, eq-eqb, eqb-true, ne_eqb, true≢false}
@@ -158,6 +158,49 @@ none_is : {X : Type 0} (found : Option X) → is_none found ≡ true → found �
 none_is None none = refl
 none_is (Some x) none = absurd cc
 
+-- ---- units that agree
+
+module _ (asm : List ℕ) (from : ℕ) (reached_is : (token : ℕ) → (is_reached asm from token ≡ true) ↔ Reaches (calls_of asm) from token)
+    (there_is : (token : ℕ) → is_reached asm from token ≡ true → IsSome (method_of asm (as_token token))) where
+  pub each_reached : AllByRecursion (λ token. is_reached asm from token ≡ true) (world_tokens asm from)
+  unfolding world_tokens
+  each_reached = (
+    (reached_is from).1 itself,
+    each_passes (λ token. is_reached asm from token ≡ true) (λ token. not (token == from) && is_reached asm from token) (tokens_in (methods_of asm))
+        (λ token passes. (and_parts (not (token == from)) (is_reached asm from token) passes).1),
+  )
+
+  in_order : (token : ℕ) → is_reached asm from token ≡ true → IsSome (place_in (world_tokens asm from) token)
+  unfolding world_tokens
+  in_order token reached = in_by (from == token) (place_in (filter (λ t. not (t == from) && is_reached asm from t) (tokens_in (methods_of asm))) token) (λ other. placed_filter (λ t. not (t == from) && is_reached asm from t) (tokens_in (methods_of asm)) token
+      (passes other)
+      (placed (tokens_in (methods_of asm)) token (token - first_method) (place_of asm token (there_is token reached)).0 (place_of asm token (there_is token reached)).1)) refl where
+        passes : (from == token) ≡ false → (not (token == from) && is_reached asm from token) ≡ true
+        passes other = rw (ne_eqb token from (λ same. true≢false (sym (eq-eqb from token (sym same)) ∙ other)), reached) refl
+
+        in_by : (b : Bool) (rest : Option ℕ) → ((from == token) ≡ false → IsSome rest) → (from == token) ≡ b → IsSome (cond b (Some 0) (option_map suc rest))
+        in_by true rest there is = refl
+        in_by false rest there is = placed_behind false rest (there is)
+
+  reached_placed : (token : ℕ) → IsSome (place_in (world_tokens asm from) token) → is_reached asm from token ≡ true
+  reached_placed token there =
+      let found = some_is (place_in (world_tokens asm from) token) there in
+      let at = place-tells (world_tokens asm from) token found.0 found.1 in
+      subst (λ t. is_reached asm from t ≡ true) at.1 (each-at (λ t. is_reached asm from t ≡ true) (world_tokens asm from) found.0 _ each_reached (slice_get-get_or (world_tokens asm from) found.0 0 at.0))
+
+  -- Where each method that is reached is analysed, and its unit is one, the units agree.
+  pub reached_agree : ((token : ℕ) → is_reached asm from token ≡ true → IsSome (unit_at asm token))
+      → ((token : ℕ) (unit : MethodUnit) → is_reached asm from token ≡ true → unit_at asm token ≡ Some unit → IsUnit unit) → Agree (world_of asm from)
+  unfolding world_of
+  reached_agree analysed runs =
+      agree (unit_at asm) (calls_of asm) (λ n. callee_info asm (as_token n)) (world_tokens asm from)
+      (each_weaker (λ token. is_reached asm from token ≡ true) (λ token. IsSome (unit_at asm token)) analysed (world_tokens asm from) each_reached)
+      (each_weaker (λ token. is_reached asm from token ≡ true) (λ token. AllByRecursion (λ called. IsSome (place_in (world_tokens asm from) called)) (calls_of asm token))
+      (λ token reached. each_contained (λ called. IsSome (place_in (world_tokens asm from) called)) (calls_of asm token)
+      (λ called there. in_order called ((reached_is called).1 (onward ((reached_is token).0 reached) there)))) (world_tokens asm from) each_reached)
+      (unit-callees asm)
+      (λ token unit there is. info-agrees asm token unit is (runs token unit (reached_placed token there) is))
+
 module _ (asm : List ℕ) (from : ℕ) (tokens : List ℕ) (visits : List (Option Visited)) (whole : IsWhole asm from tokens visits) where
   pub each_analysed : least_skipped asm from ≡ None → (token : ℕ) → Reaches (calls_of asm) from token → IsSome (unit_at asm token)
   unfolding least_skipped
@@ -211,14 +254,6 @@ module _ (asm : List ℕ) (from : ℕ) (tokens : List ℕ) (visits : List (Optio
   places-told order token None none some = absurd cc
   places-told order token (Some visited) told some = ap (λ calls. Some (places_in order calls)) told.callees
 
-  each_reached : AllByRecursion (λ token. is_reached asm from token ≡ true) (world_tokens asm from)
-  unfolding world_tokens
-  each_reached = (
-    (whole.reached from).1 itself,
-    each_passes (λ token. is_reached asm from token ≡ true) (λ token. not (token == from) && is_reached asm from token) (tokens_in (methods_of asm))
-        (λ token passes. (and_parts (not (token == from)) (is_reached asm from token) passes).1),
-  )
-
   pub world_is : (order : List ℕ) (units : List MethodUnit) (callee : List (List ℕ)) → least_skipped asm from ≡ None → order ≡ world_tokens asm from
       → units ≡ filter_map (unit_made tokens visits) order → callee ≡ filter_map (places_made order tokens visits) order → record { units = units; callee = callee } ≡ world_of asm from
   unfolding world_of
@@ -227,14 +262,14 @@ module _ (asm : List ℕ) (from : ℕ) (tokens : List ℕ) (visits : List (Optio
       units_are ∙ ap (filter_map (unit_made tokens visits)) order_is
       ∙ found_same (unit_made tokens visits) (unit_at asm) (world_tokens asm from)
       (each_weaker (λ token. is_reached asm from token ≡ true) (λ token. unit_made tokens visits token ≡ unit_at asm token)
-      (λ token reached. unit-told token (made tokens visits token) (tells-made token reached)) (world_tokens asm from) each_reached) in
+      (λ token reached. unit-told token (made tokens visits token) (tells-made token reached)) (world_tokens asm from) (each_reached asm from whole.reached whole.there)) in
       let callee_same : callee ≡ map (λ token. places_in (world_tokens asm from) (calls_of asm token)) (world_tokens asm from) =
       callee_are ∙ ap (λ ts. filter_map (places_made ts tokens visits) ts) order_is
       ∙ found_all (places_made (world_tokens asm from) tokens visits) (λ token. places_in (world_tokens asm from) (calls_of asm token)) (world_tokens asm from)
       (each_weaker (λ token. is_reached asm from token ≡ true)
       (λ token. places_made (world_tokens asm from) tokens visits token ≡ Some (places_in (world_tokens asm from) (calls_of asm token)))
       (λ token reached. places-told (world_tokens asm from) token (made tokens visits token) (tells-made token reached) (each_analysed none token ((whole.reached token).0 reached)))
-      (world_tokens asm from) each_reached) in
+      (world_tokens asm from) (each_reached asm from whole.reached whole.there)) in
       λ i. record { units = units_same i; callee = callee_same i }
 
   -- ---- what holds of the units
@@ -248,25 +283,7 @@ module _ (asm : List ℕ) (from : ℕ) (tokens : List ℕ) (visits : List (Optio
     of_slot (Some visited) told rest = (told.is_unit, rest)
 
   pub all_are_units : (order : List ℕ) (units : List MethodUnit) → order ≡ world_tokens asm from → units ≡ filter_map (unit_made tokens visits) order → AllByRecursion IsUnit units
-  all_are_units order units order_is units_are = rw (units_are, order_is) (run_found (world_tokens asm from) each_reached)
-
-  in_order : (token : ℕ) → is_reached asm from token ≡ true → IsSome (place_in (world_tokens asm from) token)
-  unfolding world_tokens
-  in_order token reached = in_by (from == token) (place_in (filter (λ t. not (t == from) && is_reached asm from t) (tokens_in (methods_of asm))) token) (λ other. placed_filter (λ t. not (t == from) && is_reached asm from t) (tokens_in (methods_of asm)) token
-      (passes other)
-      (placed (tokens_in (methods_of asm)) token (token - first_method) (place_of asm token (whole.there token reached)).0 (place_of asm token (whole.there token reached)).1)) refl where
-        passes : (from == token) ≡ false → (not (token == from) && is_reached asm from token) ≡ true
-        passes other = rw (ne_eqb token from (λ same. true≢false (sym (eq-eqb from token (sym same)) ∙ other)), reached) refl
-
-        in_by : (b : Bool) (rest : Option ℕ) → ((from == token) ≡ false → IsSome rest) → (from == token) ≡ b → IsSome (cond b (Some 0) (option_map suc rest))
-        in_by true rest there is = refl
-        in_by false rest there is = placed_behind false rest (there is)
-
-  reached_placed : (token : ℕ) → IsSome (place_in (world_tokens asm from) token) → is_reached asm from token ≡ true
-  reached_placed token there =
-      let found = some_is (place_in (world_tokens asm from) token) there in
-      let at = place-tells (world_tokens asm from) token found.0 found.1 in
-      subst (λ t. is_reached asm from t ≡ true) at.1 (each-at (λ t. is_reached asm from t ≡ true) (world_tokens asm from) found.0 _ each_reached (slice_get-get_or (world_tokens asm from) found.0 0 at.0))
+  all_are_units order units order_is units_are = rw (units_are, order_is) (run_found (world_tokens asm from) (each_reached asm from whole.reached whole.there))
 
   runs-told : (token : ℕ) (slot : Option Visited) → Tells asm token slot → (unit : MethodUnit) → unit_at asm token ≡ Some unit → IsUnit unit
   runs-told token None none unit is = absurd cc
@@ -276,13 +293,6 @@ module _ (asm : List ℕ) (from : ℕ) (tokens : List ℕ) (visits : List (Optio
   runs token unit reached is = runs-told token (made tokens visits token) (tells-made token reached) unit is
 
   pub agrees : least_skipped asm from ≡ None → Agree (world_of asm from)
-  unfolding world_of
   agrees none =
-      agree (unit_at asm) (calls_of asm) (λ n. callee_info asm (as_token n)) (world_tokens asm from)
-      (each_weaker (λ token. is_reached asm from token ≡ true) (λ token. IsSome (unit_at asm token))
-      (λ token reached. each_analysed none token ((whole.reached token).0 reached)) (world_tokens asm from) each_reached)
-      (each_weaker (λ token. is_reached asm from token ≡ true) (λ token. AllByRecursion (λ called. IsSome (place_in (world_tokens asm from) called)) (calls_of asm token))
-      (λ token reached. each_contained (λ called. IsSome (place_in (world_tokens asm from) called)) (calls_of asm token)
-      (λ called there. in_order called ((whole.reached called).1 (onward ((whole.reached token).0 reached) there)))) (world_tokens asm from) each_reached)
-      (unit-callees asm)
-      (λ token unit there is. info-agrees asm token unit is (runs token unit (reached_placed token there) is))
+      reached_agree asm from whole.reached whole.there
+      (λ token reached. each_analysed none token ((whole.reached token).0 reached)) runs

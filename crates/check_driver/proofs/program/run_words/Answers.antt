@@ -27,7 +27,7 @@ returns-clause-headline g c = λ held k bytes text method told assembly appended
     let words = words_bytes c.args.words.now in
     let answer = c.answer_words-answered.ensures.answer in
     let written = g.O.Sink.written in
-    headline_safe (g.F.Files.held c.args.files.now) words held k bytes text method answer.0 (written c.args.out.now) (written c.answer_words-answered.new.out)
+    headline_safe (g.F.Files.held c.args.files.now) words held k bytes text answer.0 (written c.args.out.now) (written c.answer_words-answered.new.out)
     (record {
       told_is = told;
       assembly = assembly;
@@ -36,7 +36,7 @@ returns-clause-headline g c = λ held k bytes text method told assembly appended
           (change_of written g.O.Sink.faults c.args.out.now c.answer_words-answered.new.out) _ answer.2;
       known = c.answer_words-answered.ensures.reportable;
       appended = appended;
-    }) has all
+    }) method has all
 
 pub returns-clause-single_unit : goal.returns-clause-single_unit
 returns-clause-single_unit g c = λ held bytes signature told asks prints.
@@ -72,7 +72,7 @@ returns-clause-checked g c = λ held k bytes text method told assembly appended 
     let words = words_bytes c.args.words.now in
     let answer = c.answer_words-answered.ensures.answer in
     let written = g.O.Sink.written in
-    let found = section_safe (g.F.Files.held c.args.files.now) words held k bytes text method answer.0 (written c.args.out.now) (written c.answer_words-answered.new.out)
+    section_safe (g.F.Files.held c.args.files.now) words held k bytes text answer.0 (written c.args.out.now) (written c.answer_words-answered.new.out)
     (record {
       told_is = told;
       assembly = assembly;
@@ -81,4 +81,4 @@ returns-clause-checked g c = λ held k bytes text method told assembly appended 
           (change_of written g.O.Sink.faults c.args.out.now c.answer_words-answered.new.out) _ answer.2;
       known = c.answer_words-answered.ensures.reportable;
       appended = appended;
-    }) has line in found.safe
+    }) method has line

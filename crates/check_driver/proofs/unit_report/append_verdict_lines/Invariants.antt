@@ -5,4 +5,4 @@ use Rattle.answer_lines.specs.Writing.{joined}
 use Rattle.check_driver.proofs.unit_report.append_verdict_lines.Given as goal
 
 abbrev pub invariant-loop-verdict : goal.invariant-loop-verdict
-invariant-loop-verdict l = joined l.lines.items ≡ joined l.initial.lines.items ++ flat_map verdict_line (take l.verdict-index l.found)
+invariant-loop-verdict l = joined l.lines.items ≡ joined l.initial.lines.items ++ flat_map (verdict_line l.callees) (take l.verdict-index l.found)

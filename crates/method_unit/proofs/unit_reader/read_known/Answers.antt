@@ -2,5 +2,5 @@ use Rattle.cc_base.proofs.ByteLemmas.{IsBytes-from_fits}
 use Rattle.method_unit.proofs.ReadAnswers.{known}
 use Rattle.method_unit.proofs.unit_reader.read_known.Goals as goal
 
-pub returns-clause-judged : goal.returns-clause-judged
-returns-clause-judged c = known (λ found. found.0) c.args.bytes.now c.read_first.result (IsBytes-from_fits c.args.bytes.now c.type_inv.bytes) c.read_first.ensures.judged
+pub returns : goal.returns
+returns c = known c.args.bytes.now c.read_first.result (IsBytes-from_fits c.args.bytes.now c.type_inv.bytes) c.read_first.ensures

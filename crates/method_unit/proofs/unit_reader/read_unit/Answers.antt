@@ -4,7 +4,7 @@ use Rattle.method_unit.proofs.UnitAgain.{one_unit}
 use Rattle.method_unit.proofs.unit_reader.read_unit.Goals as goal
 
 pub returns-clause-only : goal.returns-clause-only
-returns-clause-only c = only_read c.args.bytes.now c.read_alone.result c.read_alone.ensures
+returns-clause-only c = only_read c.args.bytes.now c.read_known.result c.read_known.ensures
 
 pub returns-clause-bytes : goal.returns-clause-bytes
 returns-clause-bytes c = spelling_is_bytes

@@ -3,7 +3,7 @@ use Rattle.std.proofs.lemmas.Result.{err_from_is_err_and}
 use Rattle.unit_form.specs.Spelling.{unit_bytes}
 use Rattle.check_driver.specs.Asked.{is_among}
 use Rattle.check_driver.proofs.Asking.{asks_none, asks_nothing}
-use Rattle.check_driver.proofs.BuiltUnits.{verdicts_again, verdicts_noted}
+use Rattle.check_driver.proofs.UnitVerdicts.{verdicts_again, verdicts_noted}
 use Rattle.check_driver.proofs.judged_units.JudgedUnits.judge.Goals as goal
 
 pub returns-in_err-key-clause-asked : goal.returns-in_err-key-clause-asked
@@ -14,7 +14,7 @@ returns-in_err-key-clause-asked g c =
 pub returns-in-Some-clause-value : goal.returns-in-Some-clause-value
 returns-in-Some-clause-value g c =
     let are = rw (c.deref.ensures.value, c.in_ok-key.ensures) at c.in-Some.ensures.value in
-    rw (← verdicts_again c.args.unit c.in-Some.found.now c.requires.is_unit are) c.from_slice.ensures.items
+    rw (← verdicts_again c.args.unit c.in-Some.found.now c.requires are) c.from_slice.ensures.items
 
 pub returns-in-Some-clause-asked : goal.returns-in-Some-clause-asked
 returns-in-Some-clause-asked g c =
@@ -23,4 +23,4 @@ returns-in-Some-clause-asked g c =
 
 pub note-requires-clause-judged : goal.note-requires-clause-judged
 note-requires-clause-judged g c =
-    rw c.in_ok-key.ensures (verdicts_noted c.args.unit c.in_ok-found.found.items c.requires.is_unit c.in_ok-found.ensures.value c.in_ok-found.ensures.within)
+    rw c.in_ok-key.ensures (verdicts_noted c.args.unit c.in_ok-found.found.items c.requires c.in_ok-found.ensures.value c.in_ok-found.ensures.within)

@@ -1,4 +1,4 @@
--- The flow of a unit that is built is lawful, and the unit is safe where each verdict on it is that of a proved obligation.
+-- The flow of a unit is lawful, and the unit is safe where each verdict on it is that of a proved obligation.
 use Rattle.std.proofs.Common.{◌≡◌, ◌*◌, ◌<◌, ◌≤◌, true, List, length, Result, Ok, Err, Vec, Global, refl, ap, ◌∙◌, subst, sym, arith}
 use Rattle.std.specs.Prelude.{All, IfOk}
 use Rattle.cil_model.specs.Limits.{MAX_CLAUSES}
@@ -10,7 +10,6 @@ use Rattle.invariant_checker.specs.Safety.{IsSafe}
 use Rattle.invariant_checker.specs.Verdicts.{verdicts}
 use Rattle.invariant_checker.specs.declared.verdict.Verdict.{Verdict}
 use Rattle.invariant_checker.proofs.Soundness.{proved_is_safe}
-use Rattle.method_unit.specs.BuiltUnits.{IsBuilt}
 use Rattle.method_unit.specs.Units.{IsUnit}
 use Rattle.method_unit.proofs.UnitAgain.{unit_again}
 use Rattle.state_facts.specs.StateFacts.{State}
@@ -26,15 +25,16 @@ use Rattle.check_driver.specs.JudgedUnits.{AreVerdictsOn}
 
 -- ---- its flow
 
-pub lawful_flow : (unit : MethodUnit) → IsBuilt unit → IsLawful (flow_of unit)
-lawful_flow unit built =
-    let well = built.is_unit.well_formed in
+pub lawful_flow : (unit : MethodUnit) → IsUnit unit → IsLawful (flow_of unit)
+lawful_flow unit is =
+    let well = is.well_formed in
     let typed = subst (KindsOf (shape_of unit) unit.instrs) (found_kinds unit well.runs.stacks well.runs.kinds) well.runs.kinds in
     record { formed = well; graph = refl; kinds = typed }
 
-pub built_is_safe : (unit : MethodUnit) → IsBuilt unit → all_proved (unit_verdicts unit) ≡ true → IsSafe unit
+pub proved_unit_safe : (unit : MethodUnit) → IsUnit unit → all_proved (unit_verdicts unit) ≡ true → IsSafe unit
 unfolding unit_verdicts
-built_is_safe unit built proved = proved_is_safe (flow_of unit) (limit_of (flow_of unit)) (lawful_flow unit built) proved
+proved_unit_safe unit is proved =
+    proved_is_safe (flow_of unit) (limit_of (flow_of unit)) (lawful_flow unit is) proved
 
 -- ---- its verdicts
 
