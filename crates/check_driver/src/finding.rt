@@ -102,7 +102,9 @@ impl Finding {
         ensures { OnOk result (line.new.items ≡ line.old.items ++ verdict_text (told self.now)) }
     {
         match self {
-            Finding::Judged(found) => line.extend_from_slice(proved_text(all_proved(&found.verdicts))),
+            Finding::Judged(found) => line.extend_from_slice(proved_text(all_proved(
+                &found.verdicts,
+            ))),
             Finding::Skipped(reason) => append_skipped(alloc, line, *reason),
         }
     }

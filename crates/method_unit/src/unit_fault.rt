@@ -29,7 +29,8 @@ impl UnitFault {
         ensures { result ≡ fault_at self }
     {
         match self {
-            UnitFault::Short(offset) | UnitFault::Form(offset) | UnitFault::Version(offset) => offset,
+            UnitFault::Short(offset) | UnitFault::Form(offset) | UnitFault::Version(offset) =>
+                offset,
         }
     }
 }

@@ -137,8 +137,8 @@ module _ (asm : List ℕ) (from : ℕ) (tokens : List ℕ) (n : ℕ) (way : IsOn
             (λ token called place after. calls-there asm (get_or tokens n 0) token called);
         near = all-each (λ place token. reaches_in nat_eq (calls_of asm) place from token ≡ true) calls tokens way.near
             (λ token called place after.
-                within_more nat_eq equal_numbers (calls_of asm) (suc n) place from token (omega (arith, after, next))
-                    (goes_on nat_eq equal_numbers (calls_of asm) n from (get_or tokens n 0) token (way.near n next) called));
+            within_more nat_eq equal_numbers (calls_of asm) (suc n) place from token (omega (arith, after, next))
+            (goes_on nat_eq equal_numbers (calls_of asm) n from (get_or tokens n 0) token (way.near n next) called));
         within = omega (arith, longer, next);
         closed = closed_more;
       }
@@ -188,8 +188,8 @@ goes_far asm from (suc left) tokens n way table enough =
     elim (cases_lt n (length tokens)) [
       | inl next ↦
           goes_far asm from left (all_met tokens (calls_of asm (get_or tokens n 0))) (suc n) (way_on asm from tokens n way next)
-              (more_met (length (methods_of asm)) (calls_of asm (get_or tokens n 0)) tokens table (calls_among asm from tokens n way next))
-              (omega (arith, enough))
+          (more_met (length (methods_of asm)) (calls_of asm (get_or tokens n 0)) tokens table (calls_among asm from tokens n way next))
+          (omega (arith, enough))
       | inr all ↦ reach asm from tokens n way (omega (arith, all)) few
     ]
 
