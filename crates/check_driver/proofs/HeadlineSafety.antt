@@ -90,7 +90,7 @@ named : (bytes : List ℕ) (token : ℕ) (method : MethodRow) → FirstBroken by
 named bytes token method whole is =
     let row = (row_there bytes (as_token token) method is).1 in
     let number = token_at bytes (row_of token - 1) method row in
-    let short = omega (arith, methods_long (metadata bytes), methods_are_few bytes whole) in
+    let short : length (methods_of bytes) < 2 ^ 23 = omega (arith, methods_long (metadata bytes), methods_are_few bytes whole) in
     let here = named-among bytes (as_token token) (subst IsSome (sym is) refl) in record {
       among = contained_at (methods_of bytes) (row_of token - 1) method row;
       token_is = number_is token (length (methods_of bytes)) method.token.0 here number short;

@@ -104,11 +104,11 @@ names_of (callee ∷ callees) all = (graphic_no_feed callee.name all.0.name.grap
 
 -- Nor has what is told of a callee.
 callee_no_feed : (callees : List CalleeInfo) (number : Option ℕ) → AreNamed callees → NoFeed (callee_text (callee_of callees number))
+unfolding signature_text
 callee_no_feed callees None named = refl
 callee_no_feed callees (Some number) named = at callees number named
   where
     at : (callees : List CalleeInfo) (number : ℕ) → AreNamed callees → NoFeed (callee_text (slice_get callees number))
-    unfolding signature_text
     at [] number named = refl
     at (callee ∷ callees) zero named =
         let opened = callee.name ++ codes "(" in

@@ -84,13 +84,15 @@ impl JudgedUnits {
     {
         let key = unit_bytes(alloc, &unit)?;
         if let Some(known) = self.get(&key) {
+            let verdicts = Vec::from_slice(alloc, known)?;
             return Ok(Judged {
-                verdicts: Vec::from_slice(alloc, known)?,
                 callees: unit.callees,
+                verdicts,
             });
         }
         let found = judge_unit(alloc, unit, finder)?;
-        self.note(key, Vec::from_slice(alloc, &found.verdicts)?)?;
+        let verdicts = Vec::from_slice(alloc, &found.verdicts)?;
+        self.note(key, verdicts)?;
         Ok(found)
     }
 }
