@@ -1,10 +1,10 @@
 //! What calls of methods and returns owe and give of contracts, in the state of the analysis.
 //!
 //! At a call the arguments lie on top of the stack, the last one uppermost. They are put into the places of the
-//! parameters (`put_args`). Each Requires of the callee is judged in the state that assumes those before it, and then
-//! all of them are assumed. What comes back is known by the callee's Ensures alone (`after_call`). At a return the
-//! result is put into its place (`put_result`), and each Ensures of the unit itself is judged in the state that assumes
-//! those before it.
+//! parameters (`put_args`). The callee's Requires are judged in turn, each with what the earlier ones say, and all of
+//! them hold from then on. What comes back is known by the callee's Ensures alone (`after_call`). At a return the result
+//! is put into its place (`put_result`), and the unit's own Ensures are judged in turn too: each with what the earlier
+//! ones say.
 //!
 //! specs/CallStates has what becomes of states, specs/CallForms what has to be there, and specs/Meaning what all of it
 //! says of points of runs.
