@@ -21,7 +21,6 @@ use Rattle.state_facts.specs.Forms.{AreRising, EndsBy, HasForm, IsArrayPlace, Is
 use Rattle.state_facts.specs.StateFacts.{StateFacts}
 use Rattle.abs_state.specs.StateParts.{StateParts, AreOrdered, AreParts, known_of}
 use Rattle.frame_names.specs.declared.reference.Reference.{Reference}
-use Rattle.state_facts.specs.declared.reference.Unknown.{Unknown}
 use Rattle.frame_names.specs.declared.var.Var.{Var}
 use Rattle.frame_names.specs.declared.var.Var.TheVariants as vars
 
@@ -68,7 +67,7 @@ place_decides places.Int = (λ is. absurd (true≢false (sym is)), λ is. elim i
 place_decides places.Bools = (λ is. tt, λ is. refl)
 place_decides places.Ints = (λ is. tt, λ is. refl)
 
-reference_decides : (symbols : ℕ) (r : Reference Unknown) → Decides (is_reference symbols r) (IsReference symbols r)
+reference_decides : (symbols : ℕ) (r : Reference) → Decides (is_reference symbols r) (IsReference symbols r)
 reference_decides symbols r = Decides-like _ (λ is. record { place = is.0; length_is = is.1 }) (λ is. (is.place, is.length_is))
     (Decides-and (is_array_place r.place) _ (place_decides r.place) (number_decides symbols r.length))
 

@@ -12,7 +12,6 @@ use Rattle.symbolic_values.specs.declared.def.Def.{Def}
 use Rattle.symbolic_values.specs.declared.def.Def.TheVariants.{Eq, Lt, LtUn, NullTest, Sub}
 use Rattle.abs_state.specs.StateParts.{StateParts}
 use Rattle.frame_names.specs.declared.reference.Reference.{Reference}
-use Rattle.state_facts.specs.declared.reference.Unknown.{Unknown}
 use Rattle.frame_names.specs.declared.var.Var.{Var}
 use Rattle.frame_names.specs.declared.var.Var.TheVariants as vars
 
@@ -39,7 +38,7 @@ is_array_place places.Bools = true
 is_array_place places.Ints = true
 is_array_place _ = false
 
-abbrev pub is_reference : ℕ → Reference Unknown → Bool
+abbrev pub is_reference : ℕ → Reference → Bool
 is_reference symbols r = is_array_place r.place && is_number symbols r.length
 
 abbrev pub is_def : (symbols references : ℕ) → Def → Bool

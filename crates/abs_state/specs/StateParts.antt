@@ -8,7 +8,6 @@ use Rattle.symbolic_values.specs.declared.def.Def.{Def}
 use Rattle.state_facts.specs.Forms.{HasForm}
 use Rattle.state_facts.specs.StateFacts.{StateFacts, State}
 use Rattle.frame_names.specs.declared.reference.Reference.{Reference}
-use Rattle.state_facts.specs.declared.reference.Unknown.{Unknown}
 use Rattle.frame_names.specs.declared.var.Var.{Var}
 
 -- Whether something is reached, what each variable has, the range of each symbol from 1 on, definitions, bounds, what is
@@ -19,7 +18,7 @@ pub record StateParts : Type 0 where
   pub ranges : List Interval
   pub definitions : List (ℕ × Def)
   pub bounds : List BoundRow
-  pub references : List (Reference Unknown)
+  pub references : List Reference
   pub apart : List Pair
 
 -- What is known where something is reached.

@@ -12,4 +12,4 @@ mod unknown_values;
 
 pub use parts::Parts;
 pub use state::AbsState;
-pub use state_facts::{Reference, Unknown, Var};
+pub use state_facts::{Reference, Var};

@@ -13,7 +13,7 @@ use frame_names::{Reference, Var};
 use interval_domain::Range;
 use number_facts::{Definitions, Numbers};
 use pentagon_domain::{BoundRow, Bounds};
-use state_facts::{Known, Unknown};
+use state_facts::Known;
 use std::alloc::Global;
 use std::marker::Model;
 use symbolic_values::Def;
@@ -32,7 +32,7 @@ pub struct Parts {
     /// How symbols lie to each other, rising by the first symbol, then by the second.
     pub bounds: Vec<BoundRow>,
     /// What is known of each reference, that of reference r at place r - 1.
-    pub references: Vec<Reference<Unknown>>,
+    pub references: Vec<Reference>,
     /// Which references are not the same array, lower first, in order.
     pub apart: Vec<(u32, u32)>,
 }
@@ -109,7 +109,7 @@ impl Sizes {
     }
 
     /// Returns whether a reference is one of an array, and its length is there.
-    fn has_reference(self, reference: &Reference<Unknown>) -> bool
+    fn has_reference(self, reference: &Reference) -> bool
         ensures { result ≡ tests.is_reference self.symbols reference.now }
     {
         matches!(reference.place, Place::Bools | Place::Ints) && self.has_number(reference.length)
@@ -151,7 +151,7 @@ impl Sizes {
     }
 
     /// Returns whether each reference is one of an array, and its length is there.
-    fn has_all_references(self, references: &[Reference<Unknown>]) -> bool
+    fn has_all_references(self, references: &[Reference]) -> bool
         ensures { result ≡ list_all (tests.is_reference self.symbols) references.now }
     {
         references.iter().all(|r| self.has_reference(r))

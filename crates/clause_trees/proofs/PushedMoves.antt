@@ -35,7 +35,6 @@ use Rattle.state_facts.specs.Forms.{HasForm, HasNumber, HasReference}
 use Rattle.state_facts.specs.Moves.{on_top, with_item, with_number}
 use Rattle.state_facts.specs.StateFacts.{StateFacts, nullness_at, reference_at}
 use Rattle.state_facts.specs.UnknownValues.{with_unknown, with_within}
-use Rattle.state_facts.specs.declared.reference.Unknown.{Unknown}
 use Rattle.state_facts.proofs.ComparisonForms.{comparison_form}
 use Rattle.state_facts.proofs.Growing.{Formed, one_longer}
 use Rattle.state_facts.proofs.MoveForms.{number_form}
@@ -210,7 +209,7 @@ slice_last : {X : Type 0} (xs : List X) (x : X) → slice_get (xs ++ x ∷ []) (
 slice_last [] x = refl
 slice_last (y ∷ xs) x = slice_last xs x
 
-earlier_places : (known after : StateFacts) (x : Reference Unknown) → after.references ≡ known.references ++ x ∷ []
+earlier_places : (known after : StateFacts) (x : Reference) → after.references ≡ known.references ++ x ∷ []
     → (r : ℕ)
     → r ≤ length known.references → place_in after r ≡ place_in known r
 unfolding reference_at
@@ -219,7 +218,7 @@ earlier_places known after x are (suc r) there =
     ap (λ l. option_map (λ reference. reference.place) (slice_get l r)) are
     ∙ ap (option_map (λ reference. reference.place)) (slice_left known.references x r (omega (arith, there)))
 
-last_place : (known after : StateFacts) (x : Reference Unknown) → after.references ≡ known.references ++ x ∷ []
+last_place : (known after : StateFacts) (x : Reference) → after.references ≡ known.references ++ x ∷ []
     → place_in after (length known.references + 1) ≡ Some x.place
 unfolding reference_at
 last_place known after x are =
@@ -235,7 +234,7 @@ array_pushed : (place : Place) (known : StateFacts) (o : Option Made)
 array_pushed place known None formed longer kind of_kind = tt
 array_pushed place known (Some made) formed longer kind of_kind =
     let after = returned known.apart place known made in
-    let x : Reference Unknown = record { place = place; nullness = May; length = made.expr; contents = record {} } in
+    let x : Reference = record { place = place; nullness = May; length = made.expr } in
     let size = one_longer known.references x in
     record {
       grown = record {

@@ -31,7 +31,6 @@ use Rattle.merged_states.specs.Laws.Frames.{alike_of, same_entry}
 use Rattle.merged_states.proofs.Formed.{merged_form}
 use Rattle.state_facts.specs.Forms.{HasForm, HasVar, IsArrayPlace, IsReference, IsVar}
 use Rattle.state_facts.specs.StateFacts.{StateFacts, State, both_of_same_place, reference_at}
-use Rattle.state_facts.specs.declared.reference.Unknown.{Unknown}
 use Rattle.clause_trees.specs.VariableKinds.{AreSameForms, HasSameForms, HasSameFormsIn, IsGrown, IsOfKind, IsOfPlace, IsOneOfKind, IsReadable, IsSameForm, place_in}
 use Rattle.clause_trees.specs.declared.reader.TreeEnv.{TreeEnv}
 use Rattle.clause_trees.proofs.PushedTrees.{reference_found}
@@ -146,7 +145,7 @@ readable_same env args result a b same readable = record {
 
 -- ---- states that may be joined
 
-alike_places : (o p : Option (Reference Unknown))
+alike_places : (o p : Option Reference)
     → option_map (λ reference. reference.place) p ≡ option_map (λ reference. reference.place) o
     → both_of_same_place o p ≡ true
 alike_places None p same = refl
@@ -166,8 +165,8 @@ same_like a b (_ ∷ vs) (_ ∷ ws) same = absurd (first_of (search, cc))
 
 -- ---- the place of a new reference
 
-new_place : (a b : List (Reference Unknown)) (keys : List Key) (lengths : List Expr) (j : ℕ)
-    → option_map (λ (x : Reference Unknown). x.place)
+new_place : (a b : List Reference) (keys : List Key) (lengths : List Expr) (j : ℕ)
+    → option_map (λ (x : Reference). x.place)
     (slice_get (map unknown_items (merged_references a b keys lengths)) j)
     ≡ option_map (λ (key : Key). one_place (frames.place_at a key.s) (frames.place_at b key.t)) (slice_get keys j)
 new_place a b [] lengths j = refl
@@ -178,12 +177,12 @@ place_of_frames : (known : StateFacts) (r : ℕ) → place_in known r ≡ frames
 place_of_frames known r = ap (option_map (λ reference. reference.place)) (same_entry known.references r) ∙ by
     (frames.reference_at known.references r)
   where
-    by : (o : Option (Reference Unknown)) → option_map (λ reference. reference.place) o ≡ frames.place_in o
+    by : (o : Option Reference) → option_map (λ reference. reference.place) o ≡ frames.place_in o
     by None = refl
     by (Some x) = refl
 
-void_absent : (symbols : ℕ) (xs : List (Reference Unknown)) (j : ℕ) → AllByRecursion (IsReference symbols) xs
-    → option_map (λ (x : Reference Unknown). x.place) (slice_get xs j) ≡ Some places.Void → ⊥
+void_absent : (symbols : ℕ) (xs : List Reference) (j : ℕ) → AllByRecursion (IsReference symbols) xs
+    → option_map (λ (x : Reference). x.place) (slice_get xs j) ≡ Some places.Void → ⊥
 void_absent symbols [] j all is = none-some places.Void is
 void_absent symbols (x ∷ xs) zero all is = not_void x.place all.0.place (same_Some x.place places.Void is)
   where
@@ -210,7 +209,7 @@ paired_place a b c keys lengths r s (suc j) form are one two same = by (slice_ge
     new : place_in c (suc j)
         ≡ option_map (λ (key : Key). one_place (frames.place_at a.references key.s)
         (frames.place_at b.references key.t)) (slice_get keys j)
-    new = ap (λ l. option_map (λ (x : Reference Unknown). x.place) (slice_get l j)) are ∙ new_place a.references
+    new = ap (λ l. option_map (λ (x : Reference). x.place) (slice_get l j)) are ∙ new_place a.references
         b.references keys lengths j
 
     by : (o : Option Key) → slice_get keys j ≡ o → place_in c (suc j) ≡ place_in a r

@@ -83,7 +83,7 @@ bound_so : (result : Bool) (new : SlotLists) (made : Option SlotLists) → resul
 bound_so true new made is made_is = made_is
 bound_so false new made is made_is = cc
 
-module _ {C : Type 0} (gap : Gaps) (a b : List (Reference C)) (xs ys : List Var) where
+module _ (gap : Gaps) (a b : List Reference) (xs ys : List Var) where
   -- One variable more is bound.
   pub vars_step : (old new : SlotLists) (result : Bool) (i : ℕ) (d e : Var) → i < length xs → length xs ≡ length ys → result ≡ true
       → (if result then Some new else None) ≡ with_var gap a b (get_or xs i d) (get_or ys i e) old
@@ -101,7 +101,7 @@ module _ {C : Type 0} (gap : Gaps) (a b : List (Reference C)) (xs ys : List Var)
 
 -- ---- references
 
-module _ {C : Type 0} (a b : List (Reference C)) (keys : List Key) (lengths : List Expr) where
+module _ (a b : List Reference) (keys : List Key) (lengths : List Expr) where
   -- One reference more.
   pub merged_step : (out : List MergedReference) (i : ℕ) (d : Key) (item : MergedReference) (le : Expr) → i < length keys → le ≡ first_expr (drop i lengths)
       → item ≡ merged_reference a b (get_or keys i d) le

@@ -38,12 +38,11 @@ use Rattle.merged_states.specs.Parts.{def_of_both, def_of_one, numbers_known, un
 use Rattle.state_facts.specs.StateFacts.{StateFacts}
 use Rattle.merged_states.specs.declared.merging.Merging.{Merging}
 use Rattle.merged_states.specs.declared.merging.Merging.TheVariants as rules
-use Rattle.state_facts.specs.declared.reference.Unknown.{Unknown}
 use Rattle.merged_states.proofs.PartsFormed.{IsThere, both_def_there, each_definition, numbers_there, one_def_there, pairs_upto, rising_from, vars_there}
 
 -- ---- types of references
 
-abbrev pub HasArrayPlace : List (Reference Unknown) → List (Reference Unknown) → Key → Type 0
+abbrev pub HasArrayPlace : List Reference → List Reference → Key → Type 0
 HasArrayPlace a b u = IsArrayPlace (one_place (place_at a u.s) (place_at b u.t))
 
 -- A reference has the type of an array, or is 0.
@@ -51,13 +50,13 @@ abbrev OkPlace : ℕ → Option Place → Type 0
 OkPlace r None = r ≡ 0
 OkPlace r (Some p) = IsArrayPlace p
 
-slot_ok : (symbols : ℕ) (references : List (Reference Unknown)) (i : ℕ) (r : ℕ) → AllByRecursion (IsReference symbols) references → i < length references
+slot_ok : (symbols : ℕ) (references : List Reference) (i : ℕ) (r : ℕ) → AllByRecursion (IsReference symbols) references → i < length references
     → OkPlace r (place_in (slice_get references i))
 slot_ok symbols [] i r all there = absurd (omega (arith, there))
 slot_ok symbols (known ∷ references) zero r all there = all.0.place
 slot_ok symbols (known ∷ references) (suc i) r all there = slot_ok symbols references i r all.1 (omega (arith, there))
 
-place_ok : (symbols : ℕ) (references : List (Reference Unknown)) (r : ℕ) → AllByRecursion (IsReference symbols) references → r ≤ length references
+place_ok : (symbols : ℕ) (references : List Reference) (r : ℕ) → AllByRecursion (IsReference symbols) references → r ≤ length references
     → OkPlace r (place_at references r)
 place_ok symbols references zero all there = refl
 place_ok symbols references (suc i) all there =
@@ -81,10 +80,10 @@ one_ok r q None (Some t) first second other = second
 one_ok r q None None first second other = absurd (false≢true (sym other ∙ both_zero r q first second))
 
 -- Unless it is a use of two nulls.
-abbrev UseHasPlace : List (Reference Unknown) → List (Reference Unknown) → Key → Type 0
+abbrev UseHasPlace : List Reference → List Reference → Key → Type 0
 UseHasPlace a b u = same_key u origin ≡ false → HasArrayPlace a b u
 
-uses_have : (n m : ℕ) (a b : List (Reference Unknown)) (xs ys : List ℕ) → AllByRecursion (IsReference n) a → AllByRecursion (IsReference m) b
+uses_have : (n m : ℕ) (a b : List Reference) (xs ys : List ℕ) → AllByRecursion (IsReference n) a → AllByRecursion (IsReference m) b
     → AllByRecursion (λ r. r ≤ length a) xs → AllByRecursion (λ r. r ≤ length b) ys
     → AllByRecursion (UseHasPlace a b) (uses_of (map as_expr xs) (map as_expr ys))
 uses_have n m a b [] ys first second there also = tt
@@ -92,7 +91,7 @@ uses_have n m a b (r ∷ xs) [] first second there also = tt
 uses_have n m a b (r ∷ xs) (q ∷ ys) first second there also =
     (one_ok r q (place_at a r) (place_at b q) (place_ok n a r first there.0) (place_ok m b q second also.0), uses_have n m a b xs ys first second there.1 also.1)
 
-keys_have : (a b : List (Reference Unknown)) (known us : List Key) → AllByRecursion (UseHasPlace a b) us → AllByRecursion (HasArrayPlace a b) known
+keys_have : (a b : List Reference) (known us : List Key) → AllByRecursion (UseHasPlace a b) us → AllByRecursion (HasArrayPlace a b) known
     → AllByRecursion (HasArrayPlace a b) (behind_first (first_uses same_key (origin ∷ known) us))
 keys_have a b known [] uses all = all
 keys_have a b known (u ∷ us) uses all =
@@ -119,7 +118,7 @@ pairs_have a b first second =
 
 -- ---- references
 
-references_formed : (symbols : ℕ) (a b : List (Reference Unknown)) (us : List Key) (lengths : List Expr) → AllByRecursion (HasArrayPlace a b) us
+references_formed : (symbols : ℕ) (a b : List Reference) (us : List Key) (lengths : List Expr) → AllByRecursion (HasArrayPlace a b) us
     → AllByRecursion (IsNumber symbols) lengths → AllByRecursion (IsReference symbols) (map unknown_items (merged_references a b us lengths))
 references_formed symbols a b [] lengths places all = tt
 references_formed symbols a b (u ∷ us) [] places all = (
@@ -129,7 +128,7 @@ references_formed symbols a b (u ∷ us) [] places all = (
 references_formed symbols a b (u ∷ us) (e ∷ lengths) places all =
     (record { place = places.0; length_is = all.0 }, references_formed symbols a b us lengths places.1 all.1)
 
-many : (a b : List (Reference Unknown)) (us : List Key) (lengths : List Expr) → length us ≡ length (map unknown_items (merged_references a b us lengths))
+many : (a b : List Reference) (us : List Key) (lengths : List Expr) → length us ≡ length (map unknown_items (merged_references a b us lengths))
 many a b [] lengths = refl
 many a b (u ∷ us) lengths = ap suc (many a b us (behind lengths))
 

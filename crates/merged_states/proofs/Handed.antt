@@ -11,7 +11,6 @@ use Rattle.number_spans.specs.declared.span.Span.{Span}
 use Rattle.symbolic_values.specs.Pairing.{AreNear, IsNear}
 use Rattle.state_facts.specs.Forms.{HasForm, IsReference, IsVar}
 use Rattle.state_facts.specs.StateFacts.{StateFacts}
-use Rattle.state_facts.specs.declared.reference.Unknown.{Unknown}
 use Rattle.merged_states.specs.Alike.{AreComparable}
 use Rattle.merged_states.specs.Laws.Frames.{alike_of}
 
@@ -27,17 +26,17 @@ near_numbers symbols references (vars.Number e ∷ vs) all = (all.0.near, near_n
 near_numbers symbols references (vars.Reference r ∷ vs) all = near_numbers symbols references vs all.1
 near_numbers symbols references (vars.Text ∷ vs) all = near_numbers symbols references vs all.1
 
-near_lengths : (symbols : ℕ) (rs : List (Reference Unknown)) → AllByRecursion (IsReference symbols) rs
-    → AllByRecursion (λ (r : Reference Unknown). IsNear r.length) rs
+near_lengths : (symbols : ℕ) (rs : List Reference) → AllByRecursion (IsReference symbols) rs
+    → AllByRecursion (λ (r : Reference). IsNear r.length) rs
 near_lengths symbols [] all = tt
 near_lengths symbols (r ∷ rs) all = (all.0.length_is.near, near_lengths symbols rs all.1)
 
 -- The frame of a state has near constants.
-pub near_frame : (known : StateFacts) (vs : List Var) (references : List (Reference Unknown)) → HasForm known → vs ≡ known.variables → references ≡ known.references
+pub near_frame : (known : StateFacts) (vs : List Var) (references : List Reference) → HasForm known → vs ≡ known.variables → references ≡ known.references
     → IsNearFrame vs references
 near_frame known vs references form vars_are references_are = record {
   numbers = subst (λ l. AreNear (numbers_of l)) (sym vars_are) (near_numbers _ _ known.variables form.variables);
-  lengths = subst (AllByRecursion (λ (r : Reference Unknown). IsNear r.length)) (sym references_are) (near_lengths _ known.references form.references);
+  lengths = subst (AllByRecursion (λ (r : Reference). IsNear r.length)) (sym references_are) (near_lengths _ known.references form.references);
 }
 
 pub comparable_alike : (a b : StateFacts) → AreComparable a b → AreAlike a.variables b.variables

@@ -17,7 +17,6 @@ use Rattle.symbolic_values.specs.Pairing.{Pairing}
 use Rattle.symbolic_values.specs.declared.def.Def.{Def}
 use Rattle.symbolic_values.specs.declared.pairs.Key.{Key}
 use Rattle.state_facts.specs.Assuming.{definition_at}
-use Rattle.state_facts.specs.declared.reference.Unknown.{Unknown}
 
 -- ---- numbers
 
@@ -69,5 +68,5 @@ def_of_one frames symbols references definitions u =
 -- ---- references
 
 -- A merged reference, of whose items nothing is known.
-abbrev pub unknown_items : MergedReference → Reference Unknown
-unknown_items r = record { place = r.place; nullness = r.nullness; length = r.length; contents = record {} }
+abbrev pub unknown_items : MergedReference → Reference
+unknown_items r = record { place = r.place; nullness = r.nullness; length = r.length }

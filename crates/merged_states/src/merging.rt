@@ -24,7 +24,7 @@ use frame_names::{
 };
 use merged_numbers::{Merged, Side, joined, normed, widened};
 use number_facts::{Definitions, Numbers};
-use state_facts::{Known, Unknown};
+use state_facts::Known;
 use std::alloc::Global;
 use symbolic_values::Key;
 
@@ -58,14 +58,13 @@ impl Merging {
 }
 
 /// A merged reference, of whose items nothing is known.
-fn reference_of(merged: &MergedReference) -> Reference<Unknown>
+fn reference_of(merged: &MergedReference) -> Reference
     ensures { result ≡ unknown_items merged.now }
 {
     Reference {
         place: merged.place,
         nullness: merged.nullness,
         length: merged.length,
-        contents: Unknown,
     }
 }
 
@@ -73,9 +72,9 @@ fn reference_of(merged: &MergedReference) -> Reference<Unknown>
 fn references_of(
     alloc: Global,
     frames: &PairedFrames,
-    a: &[Reference<Unknown>],
-    b: &[Reference<Unknown>],
-) -> Result<Vec<Reference<Unknown>>, NoMemory>
+    a: &[Reference],
+    b: &[Reference],
+) -> Result<Vec<Reference>, NoMemory>
     ensures { IfOk result (λ references. references.items ≡
         map unknown_items (merged_references a.now b.now frames.now.references.keys frames.now.lengths)) }
 {
@@ -88,7 +87,7 @@ fn known_of(
     frames: PairedFrames,
     numbers: Merged,
     definitions: Definitions,
-    references: Vec<Reference<Unknown>>,
+    references: Vec<Reference>,
     apart: Apart,
 ) -> Known
     ensures { result ≡ record {

@@ -23,7 +23,6 @@ use Rattle.state_facts.specs.Holds.{HasValue, HaveValues, length_in, IsSo, AreSo
 use Rattle.state_facts.specs.Keeps.{HoldsOn}
 use Rattle.state_facts.specs.StateFacts.{StateFacts, reference_at}
 use Rattle.frame_names.specs.declared.reference.Reference.{Reference}
-use Rattle.state_facts.specs.declared.reference.Unknown.{Unknown}
 use Rattle.frame_names.specs.declared.var.Var.{Var}
 use Rattle.frame_names.specs.declared.var.Var.TheVariants as vars
 use Rattle.state_facts.proofs.Searching.{reference_there}
@@ -99,7 +98,7 @@ length_kept (cell ∷ old) [] i kept there = elim kept [ ]
 length_kept (cell ∷ old) (now ∷ new) zero kept there = kept.1
 length_kept (cell ∷ old) (now ∷ new) (suc i) kept there = length_kept old new i kept.2 (omega (arith, there))
 
-so_kept : (old new : Heap) (number later : ℕ → ℤ) (symbols : ℕ) (r : Reference Unknown) (array : Option ℕ) → KeepsForms old new
+so_kept : (old new : Heap) (number later : ℕ → ℤ) (symbols : ℕ) (r : Reference) (array : Option ℕ) → KeepsForms old new
     → ((s : ℕ) → s ≤ symbols → later s ≡ number s) → IsReference symbols r → IsSo old number r array → IsSo new later r array
 so_kept old new number later symbols r None kept agrees is so = record {
   fits = tt;
@@ -113,22 +112,22 @@ so_kept old new number later symbols r (Some i) kept agrees is so = record {
       ∙ ap (λ (n : ℕ). pos n) (sym (length_kept old new i kept (has_there old r.place i so.fits)));
 }
 
-pub reference_of_form : (references : List (Reference Unknown)) (symbols r : ℕ) (x : Reference Unknown) → AllByRecursion (IsReference symbols) references
+pub reference_of_form : (references : List Reference) (symbols r : ℕ) (x : Reference) → AllByRecursion (IsReference symbols) references
     → reference_at references r ≡ Some x → IsReference symbols x
 unfolding reference_at
 reference_of_form references symbols zero x all is = absurd cc
 reference_of_form references symbols (suc r) x all is = found references r all is
   where
-    same : (y : Reference Unknown) → Some y ≡ Some x → y ≡ x
+    same : (y : Reference) → Some y ≡ Some x → y ≡ x
     same y is = cc
 
-    found : (xs : List (Reference Unknown)) (i : ℕ) → AllByRecursion (IsReference symbols) xs → slice_get xs i ≡ Some x → IsReference symbols x
+    found : (xs : List Reference) (i : ℕ) → AllByRecursion (IsReference symbols) xs → slice_get xs i ≡ Some x → IsReference symbols x
     found [] zero each there = absurd cc
     found [] (suc i) each there = absurd cc
     found (y ∷ xs) zero each there = subst (IsReference symbols) (same y there) each.0
     found (y ∷ xs) (suc i) each there = found xs i each.1 there
 
-pub references_agree : (old new : Heap) (symbols : ℕ) (number later : ℕ → ℤ) (array later_array : ℕ → Option ℕ) (references : List (Reference Unknown))
+pub references_agree : (old new : Heap) (symbols : ℕ) (number later : ℕ → ℤ) (array later_array : ℕ → Option ℕ) (references : List Reference)
     → Agree symbols (length references) number array later later_array → KeepsForms old new → AllByRecursion (IsReference symbols) references
     → AreSo old number array references → AreSo new later later_array references
 references_agree old new symbols number later array later_array references agree kept are so = λ r x is.

@@ -35,7 +35,6 @@ use Rattle.state_facts.specs.Moves.{with_array}
 use Rattle.state_facts.specs.StateFacts.{StateFacts, State, are_apart, both_of_same_place, nullness_at, of_same_place, reference_at}
 use Rattle.state_facts.specs.States as calls
 use Rattle.frame_names.specs.declared.reference.Reference.{Reference}
-use Rattle.state_facts.specs.declared.reference.Unknown.{Unknown}
 use Rattle.frame_names.specs.declared.var.Var.{Var}
 use Rattle.frame_names.specs.declared.var.Var.TheVariants as vars
 use Rattle.state_facts.proofs.Agreeing.{Agree, facts_agree, has_there, have_pushed, have_taken, pairs_agree, references_agree, values_agree}
@@ -63,17 +62,17 @@ new_same array count a = rw (self (count + 1)) refl
     self : (n : ℕ) → (n == n) ≡ true
     self n = grind arith
 
-got_of : (xs : List (Reference Unknown)) (x y : Reference Unknown) (i : ℕ) → slice_get (xs ++ x ∷ []) i ≡ Some y
+got_of : (xs : List Reference) (x y : Reference) (i : ℕ) → slice_get (xs ++ x ∷ []) i ≡ Some y
     → (slice_get xs i ≡ Some y) ⊎ ((i ≡ length xs) × (x ≡ y))
 got_of [] x y zero is = inr (refl, same x y is)
   where
-    same : (x y : Reference Unknown) → Some x ≡ Some y → x ≡ y
+    same : (x y : Reference) → Some x ≡ Some y → x ≡ y
     same x y is = cc
 got_of [] x y (suc i) is = absurd cc
 got_of (z ∷ xs) x y zero is = inl is
 got_of (z ∷ xs) x y (suc i) is = elim (got_of xs x y i is) [ inl there ↦ inl there | inr last ↦ inr (ap suc last.0, last.1) ]
 
-pub found_of : (xs : List (Reference Unknown)) (x y : Reference Unknown) (r : ℕ) → reference_at (xs ++ x ∷ []) r ≡ Some y
+pub found_of : (xs : List Reference) (x y : Reference) (r : ℕ) → reference_at (xs ++ x ∷ []) r ≡ Some y
     → (reference_at xs r ≡ Some y) ⊎ ((r ≡ length xs + 1) × (x ≡ y))
 unfolding reference_at
 found_of xs x y zero is = absurd cc
@@ -86,7 +85,7 @@ found_of xs x y (suc r) is = elim (got_of xs x y r is) [
     next m n is = omega (arith, is)
 
 -- All but the pairs that are apart is so of one reference more, which is null or this array.
-pub reference_holds : (known : StateFacts) (facts : Facts) (x : Reference Unknown) (apart : List Pair) (vs : List Value) (value : Value) (old new : Heap)
+pub reference_holds : (known : StateFacts) (facts : Facts) (x : Reference) (apart : List Pair) (vs : List Value) (value : Value) (old new : Heap)
     (number later : ℕ → ℤ) (array : ℕ → Option ℕ) (a : Option ℕ)
     → HasForm known → HoldsBy known vs old number array → KeepsForms old new → Grows known facts
     → ((s : ℕ) → s ≤ length known.facts.ranges → later s ≡ number s) → Holds facts later (λ r. is_no_array (array r)) → IsSo new later x a
@@ -116,19 +115,19 @@ reference_holds known facts x apart vs value old new number later array a form h
             (is ∙ ap (λ (o : Option ℕ). Some o) (sym (new_same array count a)));
         references = λ r y at. elim (found_of known.references x y r at) [
           | inl there ↦ before r y there
-          | inr last ↦ rw (last.0, new_same array count a) (subst (λ (z : Reference Unknown). IsSo new later z a) last.1 so)
+          | inr last ↦ rw (last.0, new_same array count a) (subst (λ (z : Reference). IsSo new later z a) last.1 so)
         ];
         apart = differ;
       };
     }
 
 -- a reference that is there is null or an array of the heap
-present : (xs : List (Reference Unknown)) (i : ℕ) → i < length xs → (x : Reference Unknown) × (slice_get xs i ≡ Some x)
+present : (xs : List Reference) (i : ℕ) → i < length xs → (x : Reference) × (slice_get xs i ≡ Some x)
 present [] i there = absurd (omega (arith, there))
 present (x ∷ xs) zero there = (x, refl)
 present (x ∷ xs) (suc i) there = present xs i (omega (arith, there))
 
-pub present_at : (xs : List (Reference Unknown)) (r : ℕ) → 0 < r → r ≤ length xs → (x : Reference Unknown) × (reference_at xs r ≡ Some x)
+pub present_at : (xs : List Reference) (r : ℕ) → 0 < r → r ≤ length xs → (x : Reference) × (reference_at xs r ≡ Some x)
 unfolding reference_at
 present_at xs zero least there = absurd (omega (arith, least))
 present_at xs (suc r) least there = present xs r (omega (arith, there))
@@ -163,7 +162,7 @@ place_is_itself places.Int = refl
 place_is_itself places.Bools = refl
 place_is_itself places.Ints = refl
 
-new_array_so : (known : StateFacts) (place : Place) (e : Expr) (heap : Heap) (cell : ArrayCell) (number : ℕ → ℤ) (x : Reference Unknown) → cell.place ≡ place
+new_array_so : (known : StateFacts) (place : Place) (e : Expr) (heap : Heap) (cell : ArrayCell) (number : ℕ → ℤ) (x : Reference) → cell.place ≡ place
     → x.place ≡ place → Agrees x.nullness false → x.length ≡ e → worth number e ≡ pos (length cell.items)
     → IsSo (heap ++ cell ∷ []) number x (Some (length heap))
 new_array_so known place e heap cell number x cell_is x_is agrees length_is is =
@@ -218,8 +217,8 @@ nullness_agrees known vs heap number array (suc r) holds there =
     rw found.1 (holds.references (suc r) found.0 found.1).agrees
 
 -- arrays of different types are not the same
-places_differ : (heap : Heap) (number : ℕ → ℤ) (a b : Option (Reference Unknown)) (i j : Option ℕ) (n : ℕ)
-    → ((x : Reference Unknown) → a ≡ Some x → IsSo heap number x i) → ((x : Reference Unknown) → b ≡ Some x → IsSo heap number x j)
+places_differ : (heap : Heap) (number : ℕ → ℤ) (a b : Option Reference) (i j : Option ℕ) (n : ℕ)
+    → ((x : Reference) → a ≡ Some x → IsSo heap number x i) → ((x : Reference) → b ≡ Some x → IsSo heap number x j)
     → both_of_same_place a b ≡ false → i ≡ Some n → j ≡ Some n → ⊥
 places_differ heap number None b i j n first second other is also = absurd (false≢true (sym other))
 places_differ heap number (Some x) None i j n first second other is also = absurd (false≢true (sym other))
@@ -323,7 +322,7 @@ call_differs known vs heap number array passed_vars xs a form holds are have pas
     result_differs known vs heap number array passed_vars xs n q holds are have (passed_or_new n a_is) there apart q_is)
 
 -- an array that a call gives, or null, with a length of its own
-pub result_so : (place : Place) (new : Heap) (later : ℕ → ℤ) (x : Reference Unknown) (a : Option ℕ) → x.place ≡ place → x.nullness ≡ May → FitsArray new place a
+pub result_so : (place : Place) (new : Heap) (later : ℕ → ℤ) (x : Reference) (a : Option ℕ) → x.place ≡ place → x.nullness ≡ May → FitsArray new place a
     → worth later x.length ≡ length_of_array new a → IsSo new later x a
 result_so place new later x a place_is nullness_is fits is = record {
   fits = subst (λ (p : Place). FitsArray new p a) (sym place_is) fits;

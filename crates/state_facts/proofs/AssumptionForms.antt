@@ -29,7 +29,6 @@ use Rattle.state_facts.specs.Forms.{IsNumber, IsVar, IsReference, HasForm}
 use Rattle.state_facts.specs.Moves.{IsNamedNumber}
 use Rattle.state_facts.specs.StateFacts.{StateFacts, length_at, length_of, nullness_at, reference_at}
 use Rattle.frame_names.specs.declared.reference.Reference.{Reference}
-use Rattle.state_facts.specs.declared.reference.Unknown.{Unknown}
 use Rattle.state_facts.specs.declared.test.Test.{Test}
 use Rattle.state_facts.specs.declared.test.Test.TheVariants.{Compares, IsNull}
 use Rattle.frame_names.specs.declared.var.Var.{Var}
@@ -138,8 +137,8 @@ compares_follows op a b holds known form first second =
     numbers_follow known (rule.assumed op known.facts a b holds) form (assumed_same op known.facts a b holds)
     (λ f is. form_where_ok {E = ℕ} op known.facts a b holds (Ok true) f first second (λ reached. is) refl)
 
-told_follows : (r : ℕ) (told : Nullness) (known : StateFacts) (o : Option (Reference Unknown)) → HasForm known
-    → ((x : Reference Unknown) → o ≡ Some x → IsReference (length known.facts.ranges) x) → Follows known (with_told known r told o)
+told_follows : (r : ℕ) (told : Nullness) (known : StateFacts) (o : Option Reference) → HasForm known
+    → ((x : Reference) → o ≡ Some x → IsReference (length known.facts.ranges) x) → Follows known (with_told known r told o)
 told_follows r told known None form is = record { form = form; symbols = omega arith }
 told_follows r told known (Some x) form is =
     let size = length-set known.references (r - 1) (record x { nullness = told }) in
@@ -255,7 +254,7 @@ assumed_form op vars.Text b holds known form first second = form
 pub length_number : (known : StateFacts) (r : ℕ) → HasForm known → r ≤ length known.references → IsNumber (length known.facts.ranges) (length_at known r)
 length_number known r form there = each (reference_at known.references r) (λ x so. reference_of_form known.references (length known.facts.ranges) r x form.references so)
   where
-    each : (o : Option (Reference Unknown)) → ((x : Reference Unknown) → o ≡ Some x → IsReference (length known.facts.ranges) x) → IsNumber (length known.facts.ranges) (length_of o)
+    each : (o : Option Reference) → ((x : Reference) → o ≡ Some x → IsReference (length known.facts.ranges) x) → IsNumber (length known.facts.ranges) (length_of o)
     each None is = record { there = omega arith; near = record { least = omega (arith, ints); greatest = omega (arith, ints) } }
     each (Some x) is = (is x refl).length_is
 

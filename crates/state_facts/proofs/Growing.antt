@@ -11,7 +11,6 @@ use Rattle.symbolic_values.specs.declared.def.Def.TheVariants.{Eq, Lt, LtUn, Nul
 use Rattle.state_facts.specs.Forms.{EndsBy, IsNumber, IsVar, IsReference, TestsOf, AreRising, HasForm}
 use Rattle.state_facts.specs.StateFacts.{StateFacts}
 use Rattle.frame_names.specs.declared.reference.Reference.{Reference}
-use Rattle.state_facts.specs.declared.reference.Unknown.{Unknown}
 use Rattle.frame_names.specs.declared.var.Var.{Var}
 use Rattle.frame_names.specs.declared.var.Var.TheVariants as vars
 
@@ -49,7 +48,7 @@ var_stays m n r q (vars.Number e) more others is = number_stays m n e more is
 var_stays m n r q (vars.Reference x) more others is = omega (arith, others, is)
 var_stays m n r q vars.Text more others is = tt
 
-reference_stays : (m n : ℕ) (r : Reference Unknown) → m ≤ n → IsReference m r → IsReference n r
+reference_stays : (m n : ℕ) (r : Reference) → m ≤ n → IsReference m r → IsReference n r
 reference_stays m n r more is = record { place = is.place; length_is = number_stays m n r.length more is.length_is }
 
 pub test_stays : (r q : ℕ) (def : Def) → r ≤ q → TestsOf r def → TestsOf q def
@@ -111,7 +110,7 @@ same_facts known form = record {
 }
 
 -- A reference more, over facts that grew, with other pairs.
-pub with_reference : (known : StateFacts) (facts : Facts) (r : Reference Unknown) (apart : List Pair) → HasForm known → Grows known facts
+pub with_reference : (known : StateFacts) (facts : Facts) (r : Reference) (apart : List Pair) → HasForm known → Grows known facts
     → IsReference (length facts.ranges) r → AllByRecursion (EndsBy (length known.references + 1)) apart
     → HasForm (record {
       variables = known.variables ++ vars.Reference (length known.references + 1) ∷ [];

@@ -33,7 +33,6 @@ use Rattle.state_facts.specs.Moves.{beside, greatest_item, in_variable, is_byte,
 use Rattle.state_facts.specs.StateFacts.{StateFacts, State, reference_at}
 use Rattle.state_facts.specs.States as calls
 use Rattle.frame_names.specs.declared.reference.Reference.{Reference}
-use Rattle.state_facts.specs.declared.reference.Unknown.{Unknown}
 use Rattle.frame_names.specs.declared.var.Var.{Var}
 use Rattle.frame_names.specs.declared.var.Var.TheVariants as vars
 use Rattle.state_facts.proofs.Agreeing.{have_pushed, have_set, have_taken, as_many, made_holds}
@@ -264,8 +263,8 @@ fits_item places.Bools places.Bools items n same fit there =
 place_same : (heap : Heap) (place : Place) (i : ℕ) (cell : ArrayCell) → slice_get heap i ≡ Some cell → has_array heap place i ≡ true → same_place cell.place place ≡ true
 place_same heap place i cell is has = subst (λ (o : Option ArrayCell). option_map_or (λ c. same_place c.place place) o false ≡ true) is has
 
-so_item : (heap : Heap) (number : ℕ → ℤ) (o : Option (Reference Unknown)) (i : ℕ) (cell : ArrayCell) (n : ℤ) → IsArray cell → slice_get heap i ≡ Some cell
-    → Contains cell.items n → ((x : Reference Unknown) → o ≡ Some x → IsSo heap number x (Some i)) → (least_item (place_of o) ≤ℤ n) × (n ≤ℤ greatest_item (place_of o))
+so_item : (heap : Heap) (number : ℕ → ℤ) (o : Option Reference) (i : ℕ) (cell : ArrayCell) (n : ℤ) → IsArray cell → slice_get heap i ≡ Some cell
+    → Contains cell.items n → ((x : Reference) → o ≡ Some x → IsSo heap number x (Some i)) → (least_item (place_of o) ≤ℤ n) × (n ≤ℤ greatest_item (place_of o))
 so_item heap number None i cell n is here there so = let fits = item_of cell.place cell.items n is.0 there in (omega (arith, ints, fits), omega (arith, ints, fits))
 so_item heap number (Some x) i cell n is here there so =
     fits_item x.place cell.place cell.items n (place_same heap x.place i cell here (so x refl).fits) is.0 there

@@ -7,7 +7,6 @@ use Rattle.state_facts.specs.Assuming.{definition_at}
 use Rattle.state_facts.specs.Calls.{apart_with}
 use Rattle.state_facts.specs.StateFacts.{reference_at}
 use Rattle.frame_names.specs.declared.reference.Reference.{Reference}
-use Rattle.state_facts.specs.declared.reference.Unknown.{Unknown}
 
 -- ---- definitions
 
@@ -31,7 +30,7 @@ pub ruleset definitions_found = (defined_here, defined_later, defined_nowhere)
 
 -- ---- references
 
-pub reference_there : (references : List (Reference Unknown)) (r : ℕ) (x : Reference Unknown) → reference_at references r ≡ Some x → (1 ≤ r) × (r - 1 < length references)
+pub reference_there : (references : List Reference) (r : ℕ) (x : Reference) → reference_at references r ≡ Some x → (1 ≤ r) × (r - 1 < length references)
 unfolding reference_at
 reference_there references zero x is = absurd cc
 reference_there references (suc r) x is = (omega arith, less r (length references) (inside references r is))
@@ -39,7 +38,7 @@ reference_there references (suc r) x is = (omega arith, less r (length reference
     less : (m n : ℕ) → m < n → suc m - 1 < n
     less m n lt = omega (arith, lt)
 
-    inside : (xs : List (Reference Unknown)) (i : ℕ) → slice_get xs i ≡ Some x → i < length xs
+    inside : (xs : List Reference) (i : ℕ) → slice_get xs i ≡ Some x → i < length xs
     inside [] zero there = absurd cc
     inside [] (suc i) there = absurd cc
     inside (y ∷ xs) zero there = omega arith

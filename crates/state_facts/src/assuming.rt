@@ -142,7 +142,6 @@ impl Known {
             place: reference.place,
             nullness: told,
             length: reference.length,
-            contents: reference.contents,
         };
     }
 

@@ -5,7 +5,6 @@ ghost use Rattle.std.specs.List.{list_all};
 ghost use Rattle.state_facts.specs.Calls as rule;
 
 use crate::known::Known;
-use crate::reference::Unknown;
 use alias_facts::{Apart, Nullness};
 use cil_model::Place;
 use domain_api::NoMemory;
@@ -66,7 +65,6 @@ impl Known {
             place,
             nullness: Nullness::May,
             length,
-            contents: Unknown,
         })?;
         self.variables.push(Var::Reference(r))?;
         self.apart = apart;

@@ -1,6 +1,6 @@
 //! The text of states.
 
-use abs_state::{AbsState, Parts, Reference, Unknown, Var};
+use abs_state::{AbsState, Parts, Reference, Var};
 use cil_model::Place;
 use fact_text::{
     Fact, add_range, append_bounds, append_definitions, append_ranges, append_reference, expr,
@@ -55,7 +55,7 @@ fn read_variables(parts: &mut Parts, text: &str) -> Result<(), Failure> {
 }
 
 /// What is known of the next reference: `r1 is int32[] not-null length s1`.
-fn next_reference(count: usize, text: &str) -> Result<Reference<Unknown>, Failure> {
+fn next_reference(count: usize, text: &str) -> Result<Reference, Failure> {
     let mut words = text.split_whitespace();
     let (Some(r), Some("is"), Some(of), Some(known), Some("length"), Some(length), None) = (
         words.next(),
@@ -76,7 +76,6 @@ fn next_reference(count: usize, text: &str) -> Result<Reference<Unknown>, Failur
         place: place(of).ok_or(Failure::Unread("a type"))?,
         nullness: nullness(known)?,
         length: expr(length)?,
-        contents: Unknown,
     })
 }
 
@@ -174,7 +173,7 @@ fn place_name(place: Place) -> &'static str {
 /// Appends what is known of each reference.
 fn append_references(
     text: &mut String,
-    references: &[Reference<Unknown>],
+    references: &[Reference],
 ) -> Result<(), AllocError> {
     for (index, known) in references.iter().enumerate() {
         separate_fact(text)?;

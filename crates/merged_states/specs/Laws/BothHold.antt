@@ -21,7 +21,6 @@ use Rattle.merged_states.specs.Merging.{NumberRule, merged_as, merged_by, merged
 use Rattle.merged_states.specs.Alike.{AreLike}
 use Rattle.merged_states.specs.Parts.{numbers_known}
 use Rattle.state_facts.specs.StateFacts.{StateFacts, both_of_same_place, reference_at}
-use Rattle.state_facts.specs.declared.reference.Unknown.{Unknown}
 use Rattle.merged_states.specs.Laws.Definitions.{both_says, one_says}
 use Rattle.merged_states.specs.Laws.MergedHolds.{SideSo, arrays_of, frame, frame_made, keys_are_int32, later_of, new_holds}
 use Rattle.merged_states.specs.Laws.References.{joined_differ, kept_differ}
@@ -73,7 +72,7 @@ widened_keeps false a b keys = widened_second keys (numbers_known a.facts) (numb
 
 -- ---- one state
 
-same_with_itself : (r : Option (Reference Unknown)) → both_of_same_place r r ≡ true
+same_with_itself : (r : Option Reference) → both_of_same_place r r ≡ true
 same_with_itself None = refl
 same_with_itself (Some known) = eq-eqb (place_number known.place) (place_number known.place) refl
 

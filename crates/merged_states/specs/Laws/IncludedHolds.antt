@@ -44,7 +44,6 @@ use Rattle.merged_states.specs.Inclusion.{all_follows, bound_expr, bound_referen
 use Rattle.merged_states.specs.Parts.{numbers_known}
 use Rattle.state_facts.specs.StateFacts as states
 use Rattle.state_facts.specs.StateFacts.{StateFacts}
-use Rattle.state_facts.specs.declared.reference.Unknown.{Unknown}
 use Rattle.merged_states.specs.Laws.BoundHolds.{BindingSo, binding_so}
 use Rattle.merged_states.specs.Laws.Definitions.{definition_so}
 use Rattle.merged_states.specs.Laws.Frames.{IsEntry, have_same, same_entry}
@@ -78,7 +77,7 @@ behind_first number [] s start = no_worth (number 0) start
 behind_first number (x ∷ xs) s start = later_same number xs s start
 
 -- Both ways to read a binding give the same numbers.
-same_numbers : (number : ℕ → ℤ) (a b : List (Reference Unknown)) (binding : FrameBinding) → number 0 ≡ pos 0
+same_numbers : (number : ℕ → ℤ) (a b : List Reference) (binding : FrameBinding) → number 0 ≡ pos 0
     → BindingSo number a b binding
     → behind_binding (drop 1 binding.symbols) number ≡ numbers_bound number binding
 same_numbers number a b binding start so = (λ i s. at s i)
@@ -211,7 +210,7 @@ null_known May array agrees is = absurd cc
 null_known NotNull array agrees is = absurd cc
 
 -- A reference that fits has the other's type, where it is an array.
-fitting_array : (heap : Heap) (number : ℕ → ℤ) (references : List (Reference Unknown)) (r : ℕ) (array : Option ℕ)
+fitting_array : (heap : Heap) (number : ℕ → ℤ) (references : List Reference) (r : ℕ) (array : Option ℕ)
     (p : Option Place) (t : Place)
     → place_at references r ≡ p → IsEntry heap number references r array
     → (is_null (nullness_at references r) || are_one_place p (Some t)) ≡ true → FitsArray heap t array
@@ -226,7 +225,7 @@ fitting_array heap number references r array p t at entry is = by (is_null (null
         fits_as heap t q array (sym ((Decides-eqb (place_number q) (place_number t)).0 fit)) (entry.fits q place)
 
 -- What is known of a reference is so of what it is bound to, from one place on.
-record IsFollowed (heap : Heap) (later : ℕ → ℤ) (known : Reference Unknown) (array : Option ℕ) : Type 0 where
+record IsFollowed (heap : Heap) (later : ℕ → ℤ) (known : Reference) (array : Option ℕ) : Type 0 where
   agrees : Agrees known.nullness (is_no_array array)
   length_is : worth later known.length ≡ length_of_array heap array
 
@@ -234,9 +233,9 @@ bound_at : (bound : List ℕ) (i : ℕ) → get_or (drop 1 bound) i 0 ≡ get_or
 bound_at [] i = refl
 bound_at (r ∷ bound) i = refl
 
-followed : (heap : Heap) (number : ℕ → ℤ) (array : ℕ → Option ℕ) (a b : List (Reference Unknown))
+followed : (heap : Heap) (number : ℕ → ℤ) (array : ℕ → Option ℕ) (a b : List Reference)
     (binding : FrameBinding) (bound : List ℕ) (i : ℕ)
-    (known : Reference Unknown) → ((r : ℕ) → IsEntry heap number a r (array r)) → all_entailed a b bound ≡ true
+    (known : Reference) → ((r : ℕ) → IsEntry heap number a r (array r)) → all_entailed a b bound ≡ true
     → AreLengthsBound number binding a b bound
     → slice_get b i ≡ Some known → IsFollowed heap (numbers_bound number binding) known (array (get_or bound i 0))
 followed heap number array a [] binding bound i known entries entail lengths at = absurd cc
@@ -256,7 +255,7 @@ followed heap number array a (first ∷ b) binding bound (suc i) known entries e
     (and_parts (entailed (nullness_at a (get_or bound 0 0)) first.nullness)
     (all_entailed a b (drop 1 bound)) entail).1 lengths.1 at)
 
-apart_kept : (heap : Heap) (number : ℕ → ℤ) (array : ℕ → Option ℕ) (a : List (Reference Unknown)) (kept : List Pair)
+apart_kept : (heap : Heap) (number : ℕ → ℤ) (array : ℕ → Option ℕ) (a : List Reference) (kept : List Pair)
     (bound : List ℕ) (pairs : List Pair)
     → ((r : ℕ) → IsEntry heap number a r (array r)) → AllDiffer array kept → all_apart a kept bound pairs ≡ true
     → AllDiffer (λ r. array (get_or bound r 0)) pairs
@@ -278,8 +277,8 @@ get_or_none [] i is = refl
 get_or_none (x ∷ xs) zero is = absurd cc
 get_or_none (x ∷ xs) (suc i) is = get_or_none xs i is
 
-bound_fits : (heap : Heap) (number : ℕ → ℤ) (array : ℕ → Option ℕ) (a b : List (Reference Unknown))
-    (binding : FrameBinding) (i : ℕ) (known : Reference Unknown)
+bound_fits : (heap : Heap) (number : ℕ → ℤ) (array : ℕ → Option ℕ) (a b : List Reference)
+    (binding : FrameBinding) (i : ℕ) (known : Reference)
     → array 0 ≡ None → ((r : ℕ) → IsEntry heap number a r (array r)) → BindingSo number a b binding
     → place_at b (suc i) ≡ Some known.place
     → FitsArray heap known.place (array (get_or binding.references (suc i) 0))
@@ -354,7 +353,7 @@ included_holds a b vs heap number array binding allowed so is follows = record {
         frames_have_same_lengths (gap a.facts) a.variables b.variables a.references b.references
         (length b.facts.ranges) (Some binding) (sym is) number keep
 
-    by : (r : ℕ) (known : Reference Unknown) → states.reference_at b.references r ≡ Some known
+    by : (r : ℕ) (known : Reference) → states.reference_at b.references r ≡ Some known
         → IsSo heap (numbers_bound number binding) known (arrays_bound array binding r)
     by zero known at = absurd cc
     by (suc i) known at =

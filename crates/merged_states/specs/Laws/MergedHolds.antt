@@ -43,7 +43,6 @@ use Rattle.merged_states.specs.Following.{AreNoneBeyond, AreOfMachine}
 use Rattle.merged_states.specs.Parts.{numbers_known, unknown_items}
 use Rattle.state_facts.specs.StateFacts as states
 use Rattle.state_facts.specs.StateFacts.{StateFacts, State}
-use Rattle.state_facts.specs.declared.reference.Unknown.{Unknown}
 use Rattle.merged_states.specs.Laws.Definitions.{definitions_so}
 use Rattle.merged_states.specs.Laws.Frames.{IsEntry, alike_of, both_fit, entries_so, have_same, key_lengths_fit, length_fits, same_entry, vars_fit}
 use Rattle.merged_states.specs.Laws.Numbers.{numbers_allowed, zero_is}
@@ -55,7 +54,7 @@ use Rattle.merged_states.specs.Laws.Uses.{AllFit, all_keys, exprs_near, keys_fit
 some_place : (p q : Place) → Some p ≡ Some q → p ≡ q
 some_place p q same = cc
 
-places_of : (x y : Option (Reference Unknown)) (p q : Place) → states.both_of_same_place x y ≡ true
+places_of : (x y : Option Reference) (p q : Place) → states.both_of_same_place x y ≡ true
     → place_in x ≡ Some p → place_in y ≡ Some q
     → place_number p ≡ place_number q
 places_of None y p q same first second = absurd cc
@@ -101,7 +100,7 @@ key_places a b like =
 
 -- ---- what a state that holds knows, as its parts
 
-pub record PartsSo (variables : List Var) (references : List (Reference Unknown)) (definitions : List (ℕ × Def))
+pub record PartsSo (variables : List Var) (references : List Reference) (definitions : List (ℕ × Def))
     (pairs : List Pair) (known : Known) (vs : List Value)
     (heap : Heap) (number : ℕ → ℤ) (array : ℕ → Option ℕ) : Type 0 where
   pub origin_is : number 0 ≡ pos 0

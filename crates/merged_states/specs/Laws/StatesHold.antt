@@ -31,7 +31,6 @@ use Rattle.merged_states.specs.Inclusion.{if_bound, is_included, is_included_kno
 use Rattle.merged_states.specs.Following.{AreNoneBeyond, AreOfMachine, Follows, HoldsOver, IsMachineNumber}
 use Rattle.state_facts.specs.StateFacts as states
 use Rattle.state_facts.specs.StateFacts.{StateFacts, State}
-use Rattle.state_facts.specs.declared.reference.Unknown.{Unknown}
 use Rattle.merged_states.specs.Laws.Frames.{same_entry}
 use Rattle.merged_states.specs.Laws.IncludedHolds.{included_holds}
 use Rattle.merged_states.specs.Laws.BothHold.{KeepsSide, joined_keeps, merged_holds, normal_holds, widened_keeps}
@@ -39,14 +38,14 @@ use Rattle.merged_states.specs.Laws.MergedHolds.{SideSo, arrays_of, later_of, pa
 
 -- ---- a choice in which references that are not there are null
 
-abbrev entry_array : Option (Reference Unknown) → Option ℕ → Option ℕ
+abbrev entry_array : Option Reference → Option ℕ → Option ℕ
 entry_array None array = None
 entry_array (Some known) array = array
 
 abbrev pub arrays_in : StateFacts → (ℕ → Option ℕ) → ℕ → Option ℕ
 arrays_in known array r = entry_array (states.reference_at known.references r) (array r)
 
-entry_there : (references : List (Reference Unknown)) (i : ℕ) (array : Option ℕ) → i < length references
+entry_there : (references : List Reference) (i : ℕ) (array : Option ℕ) → i < length references
     → entry_array (slice_get references i) array ≡ array
 entry_there [] i array there = absurd (omega (arith, there))
 entry_there (known ∷ references) zero array there = refl
@@ -58,7 +57,7 @@ unfolding states.reference_at
 there_stays known array zero none there = sym none
 there_stays known array (suc i) none there = entry_there known.references i (array (suc i)) (omega (arith, there))
 
-in_stays : (entry : Option (Reference Unknown)) (array : Option ℕ) (n : ℕ) → entry_array entry array ≡ Some n
+in_stays : (entry : Option Reference) (array : Option ℕ) (n : ℕ) → entry_array entry array ≡ Some n
     → array ≡ Some n
 in_stays None array n is = absurd cc
 in_stays (Some known) array n is = is

@@ -21,7 +21,6 @@ use Rattle.state_facts.specs.Comparing as comparing
 use Rattle.state_facts.specs.Forms.{HasForm, HasVar, IsArrayPlace}
 use Rattle.state_facts.specs.Moves.{beside, in_variable, on_top, placed, with_number, with_placed, with_put}
 use Rattle.state_facts.specs.StateFacts.{StateFacts, State, nullness_at, reference_at}
-use Rattle.state_facts.specs.declared.reference.Unknown.{Unknown}
 use Rattle.transfer_rules.specs.Forms.{FitKinds, FitsKind, HasKinds, is_of_place, kind_in}
 use Rattle.transfer_rules.specs.Laws.Fitting.{AreKinds, fit_pushed, fit_set, fit_stays, kind_stays, places_more, places_same}
 use Rattle.transfer_rules.specs.Laws.KindForms.{AreAlike, array_reference, own_place}
@@ -142,12 +141,12 @@ pub stored_keeps : (known : StateFacts) (o : Option Made) → KeepsFrame known (
 stored_keeps known None = tt
 stored_keeps known (Some made) = (refl, refl)
 
-new_last : (references : List (Reference Unknown)) (r : Reference Unknown)
+new_last : (references : List Reference) (r : Reference)
     → slice_get (references ++ r ∷ []) (length references) ≡ Some r
 new_last [] r = refl
 new_last (x ∷ references) r = new_last references r
 
-new_there : (references : List (Reference Unknown)) (r : Reference Unknown) (n : ℕ) → n ≡ suc (length references)
+new_there : (references : List Reference) (r : Reference) (n : ℕ) → n ≡ suc (length references)
     → reference_at (references ++ r ∷ []) n ≡ Some r
 unfolding reference_at
 new_there references r zero is = absurd (omega (arith, is))
@@ -157,7 +156,7 @@ new_there references r (suc n) is =
 
 -- One more reference of an array's type, and it on top.
 pub record HasArrayMore (place : Place) (before after : StateFacts) : Type 0 where
-  pub reference : Reference Unknown
+  pub reference : Reference
   pub variables : after.variables ≡ before.variables ++ vars.Reference (length before.references + 1) ∷ []
   pub references : after.references ≡ before.references ++ reference ∷ []
   pub place_is : reference.place ≡ place
@@ -189,7 +188,7 @@ array_more ks place known after has form array more =
     let found : reference_at after.references r ≡ Some more.reference =
     ap (λ rs. reference_at rs r) more.references ∙ new_there known.references more.reference r (omega arith) in
     let of : is_of_place after place r ≡ true =
-    ap (λ o. option_map_or (λ (x : Reference Unknown). same_place x.place place) o true) found
+    ap (λ o. option_map_or (λ (x : Reference). same_place x.place place) o true) found
     ∙ ap (λ p. same_place p place) more.place_is ∙ own_place place array in
     record {
       form = form;

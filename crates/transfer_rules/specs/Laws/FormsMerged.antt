@@ -32,7 +32,6 @@ use Rattle.merged_states.specs.declared.merging.Merging.TheVariants.{Join, Widen
 use Rattle.state_facts.specs.Forms.{HasForm, HasVar, IsArrayPlace}
 use Rattle.state_facts.specs.StateFacts as states
 use Rattle.state_facts.specs.StateFacts.{StateFacts, State, both_of_same_place}
-use Rattle.state_facts.specs.declared.reference.Unknown.{Unknown}
 use Rattle.symbolic_values.specs.Pairing.{origin}
 use Rattle.symbolic_values.specs.declared.def.Def.{Def}
 use Rattle.symbolic_values.specs.declared.pairs.Key.{Key}
@@ -47,7 +46,7 @@ use Rattle.transfer_rules.specs.Laws.KindForms.{zero_of_place}
 both_number : (m n k : ℕ) → (m == k) ≡ true → (n == k) ≡ true → (m == n) ≡ true
 both_number m n k first second = (Decides-eqb m n).1 ((Decides-eqb m k).0 first ∙ sym ((Decides-eqb n k).0 second))
 
-both_place : (place : Place) (x y : Option (Reference Unknown))
+both_place : (place : Place) (x y : Option Reference)
     → option_map_or (λ r. same_place r.place place) x true ≡ true
     → option_map_or (λ r. same_place r.place place) y true ≡ true → both_of_same_place x y ≡ true
 both_place place None y first second = refl
@@ -55,7 +54,7 @@ both_place place (Some x) None first second = refl
 both_place place (Some x) (Some y) first second =
     both_number (place_number x.place) (place_number y.place) (place_number place) first second
 
-no_place : (references others : List (Reference Unknown)) (r q : ℕ) → r ≡ 0
+no_place : (references others : List Reference) (r q : ℕ) → r ≡ 0
     → both_of_same_place (states.reference_at references r) (states.reference_at others q) ≡ true
 unfolding states.reference_at
 no_place references others zero q is = refl
@@ -109,12 +108,12 @@ fitting_like unit (Some stack) (Some a) (Some b) first second = record {
 -- ---- a merged reference
 
 -- The type of a merged reference is that of one of the two.
-record HasOnePlace (a b : List (Reference Unknown)) (u : Key) (o : Option (Reference Unknown)) : Type 0 where
-  reference : Reference Unknown
+record HasOnePlace (a b : List Reference) (u : Key) (o : Option Reference) : Type 0 where
+  reference : Reference
   is : o ≡ Some reference
   place_is : reference.place ≡ one_place (frames.place_at a u.s) (frames.place_at b u.t)
 
-merged_at : (a b : List (Reference Unknown)) (us : List Key) (lengths : List Expr) (i : ℕ) → i < length us
+merged_at : (a b : List Reference) (us : List Key) (lengths : List Expr) (i : ℕ) → i < length us
     → HasOnePlace a b (get_or us i origin) (slice_get (map unknown_items (merged_references a b us lengths)) i)
 merged_at a b [] lengths i below = absurd (omega (arith, below))
 merged_at a b (u ∷ us) lengths zero below = record { reference = _; is = refl; place_is = refl }
@@ -125,7 +124,7 @@ merged_at a b (u ∷ us) lengths (suc i) below =
 abbrev of_place : Place → Option Place → Bool
 of_place place found = option_map_or (λ p. same_place p place) found true
 
-read_place : (place : Place) (o : Option (Reference Unknown))
+read_place : (place : Place) (o : Option Reference)
     → option_map_or (λ r. same_place r.place place) o true ≡ of_place place (frames.place_in o)
 read_place place None = refl
 read_place place (Some r) = refl
@@ -134,7 +133,7 @@ read_at : (known : StateFacts) (place : Place) (r : ℕ) → is_of_place known p
     → of_place place (frames.place_at known.references r) ≡ true
 read_at known place r is =
     sym (read_place place (frames.reference_at known.references r))
-    ∙ ap (λ o. option_map_or (λ (x : Reference Unknown). same_place x.place place) o true)
+    ∙ ap (λ o. option_map_or (λ (x : Reference). same_place x.place place) o true)
     (sym (same_entry known.references r)) ∙ is
 
 either_place : (place : Place) (p q : Option Place) → of_place place p ≡ true → of_place place q ≡ true
@@ -173,9 +172,9 @@ unfolding states.reference_at
 new_place a b to us merged place i r q below r_is q_is first second =
     let u = get_or us i origin in
     let found = merged_at a.references b.references us merged.lengths i below in
-    ap (λ references. option_map_or (λ (x : Reference Unknown). same_place x.place place) (slice_get references i) true)
+    ap (λ references. option_map_or (λ (x : Reference). same_place x.place place) (slice_get references i) true)
     merged.references
-    ∙ ap (λ o. option_map_or (λ (x : Reference Unknown). same_place x.place place) o true) found.is
+    ∙ ap (λ o. option_map_or (λ (x : Reference). same_place x.place place) o true) found.is
     ∙ ap (λ p. same_place p place) found.place_is
     ∙ either_place place (frames.place_at a.references u.s) (frames.place_at b.references u.t)
     (read_at a place u.s (subst (λ n. is_of_place a place n ≡ true) (sym r_is) first))
@@ -268,7 +267,7 @@ all_fit a b to us m n l merged count (k ∷ ks) (w ∷ ws) (v ∷ vs) (q ∷ qs)
 
 -- ---- states in new names
 
-many : (a b : List (Reference Unknown)) (us : List Key) (lengths : List Expr)
+many : (a b : List Reference) (us : List Key) (lengths : List Expr)
     → length us ≡ length (map unknown_items (merged_references a b us lengths))
 many a b [] lengths = refl
 many a b (u ∷ us) lengths = ap suc (many a b us (behind lengths))

@@ -1,0 +1,7 @@
+pub mod Contents
+pub mod Storing
+pub mod Merging
+pub mod Ends
+pub mod Makings
+pub mod FormTest
+pub mod Meaning
