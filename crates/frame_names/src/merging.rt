@@ -46,12 +46,7 @@ fn expr_at(exprs: &[Expr], index: usize) -> Expr
 }
 
 /// What is known of the reference of a key.
-fn merged_reference(
-    a: &[Reference],
-    b: &[Reference],
-    key: &Key,
-    length: Expr,
-) -> MergedReference
+fn merged_reference(a: &[Reference], b: &[Reference], key: &Key, length: Expr) -> MergedReference
     ensures { result ≡ merged_reference a.now b.now key.now length }
 {
     MergedReference {

@@ -149,11 +149,7 @@ fn paired(alloc: Global, a: &Frame, b: &Frame) -> Result<Option<PairedFrames>, N
 /// and lengths of a state int32.
 ///
 /// Cost: that of pairing references and numbers, each once. `NoMemory` as there.
-pub fn pair_frames(
-    alloc: Global,
-    a: &Frame,
-    b: &Frame,
-) -> Result<Option<PairedFrames>, NoMemory>
+pub fn pair_frames(alloc: Global, a: &Frame, b: &Frame) -> Result<Option<PairedFrames>, NoMemory>
     requires alike { AreAlike a.now.vars.now b.now.vars.now }
     requires first { IsNearFrame a.now.vars.now a.now.references.now }
     requires second { IsNearFrame b.now.vars.now b.now.references.now }
@@ -182,11 +178,7 @@ fn own_pairs(alloc: Global, vars: &[Var]) -> Result<ReferencePairs, NoMemory>
 
 /// The numbers of a frame named together with themselves, and behind them the lengths of its references.
 #[tactic(auto, using(crate::proofs::FrameLemmas::same_exprs, crate::proofs::FrameLemmas::near_exprs, crate::proofs::FrameLemmas::alike_itself))]
-fn own_numbers(
-    alloc: Global,
-    references: &ReferencePairs,
-    frame: &Frame,
-) -> Result<Pairs, NoMemory>
+fn own_numbers(alloc: Global, references: &ReferencePairs, frame: &Frame) -> Result<Pairs, NoMemory>
     requires { IsNearFrame frame.now.vars.now frame.now.references.now }
     ensures { IfOk result (λ pairs. pairs ≡ pairing_by references.now.pairs
         frame.now.vars.now frame.now.references.now frame.now.vars.now frame.now.references.now) }
