@@ -148,6 +148,7 @@ fn is_same_known(a: &Known, b: &Known) -> bool
         && are_same_numbers(&a.numbers, &b.numbers)
         && are_same_references(&a.references, &b.references)
         && a.apart.same(&b.apart)
+        && a.contents.same(&b.contents)
 }
 
 impl AbsState {

@@ -7,6 +7,7 @@ ghost use Rattle.abs_state.specs.StateParts.{AreOrdered, AreParts, known_of, par
 
 use crate::state::AbsState;
 use alias_facts::Apart;
+use array_contents::Contents;
 use cil_model::Place;
 use domain_api::{Expr, NoMemory};
 use frame_names::{Reference, Var};
@@ -35,6 +36,8 @@ pub struct Parts {
     pub references: Vec<Reference>,
     /// Which references are not the same array, lower first, in order.
     pub apart: Vec<(u32, u32)>,
+    /// The segments of each reference, those of reference r at place r - 1.
+    pub contents: Contents,
 }
 
 impl Model for Parts {
@@ -50,6 +53,7 @@ impl Model for Parts {
       bounds = p.bounds.items;
       references = p.references.items;
       apart = p.apart.items;
+      contents = p.contents;
     } };
 }
 
@@ -213,6 +217,7 @@ impl Parts {
             && self.bounds.is_empty()
             && self.references.is_empty()
             && self.apart.is_empty()
+            && self.contents.segments.is_empty()
     }
 
     /// How many symbols and references there are.
@@ -244,14 +249,33 @@ impl Parts {
         ensures { result ≡ tests.has_references self.now }
     {
         let sizes = self.sizes();
-        sizes.has_all_references(&self.references) && sizes.has_pairs(&self.apart)
+        sizes.has_all_references(&self.references)
+            && sizes.has_pairs(&self.apart)
     }
 
     /// Returns whether ranges are of int32, and what is named is there.
-    fn has_form(&self) -> bool
-        ensures { result ≡ tests.has_form self.now }
+    fn names_known(&self) -> bool
+        ensures { result ≡ tests.names_known self.now }
     {
         self.has_numbers() && self.sizes().has_vars(&self.variables) && self.has_references()
+    }
+
+    /// Returns whether there are segments for each reference.
+    fn has_contents(&self, alloc: Global) -> Result<bool, NoMemory>
+        ensures { IfOk result (λ is. is ≡ tests.has_contents self.now) }
+    {
+        let lengths: Vec<Expr> = self.references.iter().map(|r| r.length).collect(alloc)?;
+        Ok(self.contents.are_formed(self.ranges.len(), lengths.as_slice()))
+    }
+
+    /// Returns whether the lists are of the form of a state's.
+    fn has_form(&self, alloc: Global) -> Result<bool, NoMemory>
+        ensures { IfOk result (λ is. is ≡ tests.has_form self.now) }
+    {
+        if !self.names_known() {
+            return Ok(false);
+        }
+        self.has_contents(alloc)
     }
 
     /// What is known by these lists, where something is reached. None where bounds or pairs are not in order.
@@ -277,6 +301,7 @@ impl Parts {
             },
             references: Vec::from_slice(alloc, self.references.as_slice())?,
             apart,
+            contents: self.contents.copy(alloc)?,
         }))
     }
 }
@@ -294,6 +319,7 @@ fn listed(alloc: Global, known: &Known) -> Result<Parts, NoMemory>
         bounds: Vec::from_slice(alloc, known.numbers.bounds.rows())?,
         references: Vec::from_slice(alloc, known.references.as_slice())?,
         apart: known.apart.pairs(alloc)?,
+        contents: known.contents.copy(alloc)?,
     })
 }
 
@@ -314,6 +340,7 @@ impl AbsState {
                 bounds: Vec::new(alloc),
                 references: Vec::new(alloc),
                 apart: Vec::new(alloc),
+                contents: Contents::new(alloc),
             }),
             Some(known) => listed(alloc, known),
         }
@@ -333,7 +360,7 @@ impl AbsState {
                 None
             });
         }
-        if !parts.has_form() {
+        if !parts.has_form(alloc)? {
             return Ok(None);
         }
         let Some(known) = parts.known(alloc)? else {

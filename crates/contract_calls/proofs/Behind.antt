@@ -221,6 +221,7 @@ less_keeps (Some known) first count below args more heap start long over =
             (have_dropped over.number over.array (first + count) known.variables all vs));
         references = over.holds.references;
         apart = over.holds.apart;
+        contents = over.holds.contents;
       };
     }
 

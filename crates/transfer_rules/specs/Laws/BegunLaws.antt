@@ -146,6 +146,7 @@ nothing_over heap = record {
     variables = tt;
     references = λ r known is. absurd (no_reference r known is);
     apart = tt;
+    contents = λ i segments is. absurd (none-some segments is);
   };
 }
 
@@ -203,6 +204,7 @@ both_over types (Some known) xs heap over =
             (zeros_have number array types (zero_is known.facts number so.facts.allowed) so.null);
         references = so.references;
         apart = so.apart;
+        contents = so.contents;
       };
     }
 
