@@ -11,5 +11,6 @@ mod steps;
 mod unknown_values;
 
 pub use parts::Parts;
+pub use array_contents::{Contents, Segs};
 pub use state::AbsState;
 pub use state_facts::{Reference, Var};
