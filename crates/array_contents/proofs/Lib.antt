@@ -1,2 +1,3 @@
+pub mod NamedBounds
+pub mod FormLaws
 pub mod HeldLaws
-pub mod MergeLaws
