@@ -19,7 +19,7 @@ use Rattle.state_facts.specs.Arithmetic.{with_result}
 use Rattle.state_facts.specs.Comparing.{null_known, null_tested, same_known, with_comparison, with_defined, with_known, with_null_known, with_null_test, with_same, with_same_known, with_tested, with_truth}
 use Rattle.state_facts.specs.Comparing as comparing
 use Rattle.state_facts.specs.Forms.{HasForm, HasVar, IsArrayPlace}
-use Rattle.state_facts.specs.Moves.{beside, in_variable, on_top, placed, with_number, with_placed, with_put}
+use Rattle.state_facts.specs.Moves.{beside, in_variable, int32_in, on_top, placed, with_item, with_number, with_one_of, with_placed, with_put, with_stored, with_written}
 use Rattle.state_facts.specs.StateFacts.{StateFacts, State, nullness_at, reference_at}
 use Rattle.transfer_rules.specs.Forms.{FitKinds, FitsKind, HasKinds, is_of_place, kind_in}
 use Rattle.transfer_rules.specs.Laws.Fitting.{AreKinds, fit_pushed, fit_set, fit_stays, kind_stays, places_more, places_same}
@@ -44,6 +44,10 @@ made_number known (Some made) = record { expr = made.expr; variables = refl; ref
 pub some_number : (lo hi : ℤ) (known : StateFacts) → GivesNumber known (with_number lo hi known)
 unfolding with_number
 some_number lo hi known = made_number known _
+
+pub item_number : (r : ℕ) (i : Expr) (known : StateFacts) → GivesNumber known (with_item r i known)
+unfolding with_item with_one_of
+item_number r i known = made_number known _
 
 pub result_number : (op : BinOp) (a b : Expr) (known : StateFacts) → GivesNumber known (with_result op a b known)
 unfolding with_result
@@ -137,9 +141,22 @@ abbrev pub KeepsFrame : StateFacts → State → Type 0
 KeepsFrame before None = Unit {0}
 KeepsFrame before (Some after) = (after.variables ≡ before.variables) × (after.references ≡ before.references)
 
-pub stored_keeps : (known : StateFacts) (o : Option Made) → KeepsFrame known (option_map (beside known) o)
-stored_keeps known None = tt
-stored_keeps known (Some made) = (refl, refl)
+written_keeps : (r : ℕ) (i : Expr) (known : StateFacts) (made : Made) → KeepsFrame known (with_written r i known made)
+unfolding with_written
+written_keeps r i known made = by (int32_in (range_of made.facts made.expr))
+  where
+    by : (o : Option Interval) → KeepsFrame known (option_map (λ range. with_items (beside known made)
+        (stored (gap made.facts) r i range (others known r) known.contents)) o)
+    by None = tt
+    by (Some range) = (refl, refl)
+
+pub stored_keeps : (r : ℕ) (i e : Expr) (known : StateFacts) → KeepsFrame known (with_stored r i e known)
+unfolding with_stored
+stored_keeps r i e known = by (placed known.facts e (item_place (place_at known r)))
+  where
+    by : (o : Option Made) → KeepsFrame known (option_and_then (with_written r i known) o)
+    by None = tt
+    by (Some made) = written_keeps r i known made
 
 new_last : (references : List Reference) (r : Reference)
     → slice_get (references ++ r ∷ []) (length references) ≡ Some r
