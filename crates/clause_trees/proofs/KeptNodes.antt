@@ -120,7 +120,7 @@ module _ (over heap : Heap) (kept : KeepsForms over heap) (is_heap : IsHeap heap
 counted : (n : ℤ) → int_le (pos 0) n ≡ true → n ≡ pos (unsigned_abs n)
 counted n above = omega (arith, ints, above)
 
-same_by_number : (p q : Place) → same_place p q ≡ true → p ≡ q
+pub same_by_number : (p q : Place) → same_place p q ≡ true → p ≡ q
 same_by_number places.Void places.Void is = refl
 same_by_number places.Bool places.Bool is = refl
 same_by_number places.Int places.Int is = refl

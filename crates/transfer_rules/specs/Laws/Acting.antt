@@ -1,12 +1,12 @@
 -- What is known behind an operation holds where the machine goes on by it.
 use Rattle.std.proofs.Common.{◌≡◌, ℕ, zero, suc, ◌+◌, ◌<◌, ℤ, pos, negsuc, ◌-ℤ◌, neg_ℤ, Bool, true, false, int_eq, int_le, int_lt, Option, Some, None, List, [], ◌∷◌, ◌++◌, length, get_or, Ok, Err, refl, sym, ap, subst, ◌∙◌, FitsSigned, w32, arith, length-append, inl, inr}
-use Rattle.std.specs.Prelude.{Result, reverse, set, slice_get, slice_set, unsigned_abs}
+use Rattle.std.specs.Prelude.{Result, replicate, reverse, set, slice_get, unsigned_abs}
 use Rattle.std.specs.List.{AllByRecursion}
 use Rattle.std.specs.Option.{option_map}
 use Rattle.std.proofs.lemmas.Bool.{cond_both, false≢true}
 use Rattle.std.proofs.lemmas.Bool.Decides.{Decides-int_eq}
 use Rattle.std.proofs.lemmas.Int.{ints, int_wrap_fits}
-use Rattle.std.proofs.lemmas.List.{length-replicate, length-set}
+use Rattle.std.proofs.lemmas.List.{length-replicate}
 use Rattle.std.proofs.lemmas.Option.{none-some, same_Some}
 use Rattle.cc_base.specs.Wrap.{wrap32}
 use Rattle.cil_model.specs.Arithmetic as machine
@@ -15,7 +15,7 @@ use Rattle.cil_model.specs.Comparisons.{comparison_of, compares_values, is_true,
 use Rattle.cil_model.specs.Effects as rows
 use Rattle.cil_model.specs.Effects.{Effect, GoesOn, Faults, Assumes, HasEffect, effects, effects_of, goes_on, goes_to}
 use Rattle.cil_model.specs.UnitCalls.{array_place, unit_call}
-use Rattle.cil_model.specs.Values.{Heap, IsHeap, IsValue, KeepsForms, put, same_place}
+use Rattle.cil_model.specs.Values.{Heap, IsHeap, IsValue, put, same_place}
 use Rattle.cil_model.specs.declared.instruction.BinOp.{BinOp}
 use Rattle.cil_model.specs.declared.instruction.BinOp.TheVariants as operators
 use Rattle.cil_model.specs.declared.instruction.CmpOp.{CmpOp}
@@ -35,7 +35,7 @@ use Rattle.cil_model.specs.declared.place.Place.{Place}
 use Rattle.cil_model.specs.declared.unit.Unit.{Unit as MethodUnit}
 use Rattle.cil_model.specs.declared.unit_numbers.UnitCall.{UnitCall}
 use Rattle.cil_model.specs.declared.unit_numbers.UnitCall.TheVariants as calls
-use Rattle.cil_model.proofs.HeapsKept.{keeps_others}
+use Rattle.clause_trees.proofs.KeptNodes.{same_by_number}
 use Rattle.frame_names.specs.declared.var.Var.{Var}
 use Rattle.frame_names.specs.declared.var.Var.TheVariants as vars
 use Rattle.machine_points.specs.Points.{IsPointOf}
@@ -561,7 +561,7 @@ module _ (unit : MethodUnit) (known : StateFacts) (f : Frame) (form : HasForm kn
   -- A number as it is stored in an array of the place that the instruction names.
   same_item : (cell : ArrayCell) (place : Place) (v : ℤ) → same_place cell.place place ≡ true
       → rows.item_of cell.place v ≡ rows.item_of place v
-  same_item cell place v same = ap (λ (p : Place). rows.item_of p v) (place_is cell.place place same)
+  same_item cell place v same = ap (λ (p : Place). rows.item_of p v) (same_by_number cell.place place same)
 
   item_stored : (place : Place) (stack : List Value) → Over stack → AllByRecursion (IsValue heap) stack
       → HasEffect (rows.stores place i f heap stack) (GoesOn g after) → Behind (on_three with_item_put known)
