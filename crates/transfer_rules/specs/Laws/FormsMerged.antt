@@ -5,6 +5,7 @@ use Rattle.std.specs.List.{AllByRecursion, list_all}
 use Rattle.std.specs.Option.{ForSome, option_and_then, option_map, option_map_or}
 use Rattle.std.proofs.lemmas.Bool.Decides.{Decides-eqb}
 use Rattle.std.proofs.lemmas.Option.{same_Some}
+use Rattle.array_contents.specs.Contents.{Contents}
 use Rattle.cil_model.specs.Places.{place_number}
 use Rattle.cil_model.specs.Values.{same_place}
 use Rattle.cil_model.specs.declared.place.Kind.{Kind}
@@ -26,8 +27,8 @@ use Rattle.merged_numbers.specs.Merging.{Outcome}
 use Rattle.merged_states.proofs.Formed.{HasArrayPlace, merged_form, normal_form, pairs_have}
 use Rattle.merged_states.specs.Alike.{AreLike, AreLikeStates, IsLike}
 use Rattle.merged_states.specs.Laws.Frames.{alike_of, same_entry}
-use Rattle.merged_states.specs.Merging.{NumberRule, join, known_as, merged_as, merged_by, merged_known, normal, normal_as, normal_by, normal_known, widen}
-use Rattle.merged_states.specs.Parts.{numbers_known, unknown_items}
+use Rattle.merged_states.specs.Merging.{Rule, join, joining, known_as, merged_as, merged_by, merged_known, normal, normal_as, normal_by, normal_known, widen, widening}
+use Rattle.merged_states.specs.Parts.{entry_of, numbers_known}
 use Rattle.merged_states.specs.declared.merging.Merging.TheVariants.{Join, Widening}
 use Rattle.state_facts.specs.Forms.{HasForm, HasVar, IsArrayPlace}
 use Rattle.state_facts.specs.StateFacts as states
@@ -114,7 +115,7 @@ record HasOnePlace (a b : List Reference) (u : Key) (o : Option Reference) : Typ
   place_is : reference.place ≡ one_place (frames.place_at a u.s) (frames.place_at b u.t)
 
 merged_at : (a b : List Reference) (us : List Key) (lengths : List Expr) (i : ℕ) → i < length us
-    → HasOnePlace a b (get_or us i origin) (slice_get (map unknown_items (merged_references a b us lengths)) i)
+    → HasOnePlace a b (get_or us i origin) (slice_get (map entry_of (merged_references a b us lengths)) i)
 merged_at a b [] lengths i below = absurd (omega (arith, below))
 merged_at a b (u ∷ us) lengths zero below = record { reference = _; is = refl; place_is = refl }
 merged_at a b (u ∷ us) lengths (suc i) below =
@@ -160,7 +161,7 @@ all_at P (u ∷ us) (suc i) all below = all_at P us i all.1 (omega (arith, below
 -- The references of a state in new names.
 record IsMergedOf (a b to : StateFacts) (us : List Key) : Type 0 where
   lengths : List Expr
-  references : to.references ≡ map unknown_items (merged_references a.references b.references us lengths)
+  references : to.references ≡ map entry_of (merged_references a.references b.references us lengths)
   arrays : AllByRecursion (HasArrayPlace a.references b.references) us
 
 new_place : (a b to : StateFacts) (us : List Key) (merged : IsMergedOf a b to us) (place : Place) (i r q : ℕ)
@@ -268,7 +269,7 @@ all_fit a b to us m n l merged count (k ∷ ks) (w ∷ ws) (v ∷ vs) (q ∷ qs)
 -- ---- states in new names
 
 many : (a b : List Reference) (us : List Key) (lengths : List Expr)
-    → length us ≡ length (map unknown_items (merged_references a b us lengths))
+    → length us ≡ length (map entry_of (merged_references a b us lengths))
 many a b [] lengths = refl
 many a b (u ∷ us) lengths = ap suc (many a b us (behind lengths))
 
@@ -280,17 +281,17 @@ named_is new f is = by (list_all is_near new.numbers.exprs) is
     by false same = absurd cc
 
 module _ (ks : List Kind) (a b : StateFacts) (first : HasKinds ks a) (second : HasKinds ks b) where
-  known_fits : (f : FramePairing) (outcome : Outcome) (def : Key → Option Def) (pairs : List Pair)
+  known_fits : (f : FramePairing) (outcome : Outcome) (def : Key → Option Def) (pairs : List Pair) (contents : Contents)
       → paired_frames a.variables a.references b.variables b.references ≡ Some f
-      → HasForm (known_as a b f outcome def pairs)
-      → HasKinds ks (known_as a b f outcome def pairs)
-  known_fits f outcome def pairs found form =
+      → HasForm (known_as a b f outcome def pairs contents)
+      → HasKinds ks (known_as a b f outcome def pairs contents)
+  known_fits f outcome def pairs contents found form =
       let like = like_kinds a b ks a.variables b.variables first.fit second.fit in
       let says : SaysBoth a.variables b.variables f =
       frames_say a.variables b.variables a.references b.references (Some f) (alike_of a b a.variables b.variables like)
       (sym found) in
       let us = f.references.keys in
-      let to = known_as a b f outcome def pairs in
+      let to = known_as a b f outcome def pairs contents in
       let names : named_frame a.variables (pairs_of a.variables b.variables)
       (pairing_by (pairs_of a.variables b.variables) a.variables a.references b.variables b.references) ≡ f =
       named_is _ f found in
@@ -315,7 +316,7 @@ each_fits : (ks : List Kind) (make : Outcome → StateFacts) (o : Option Outcome
 each_fits ks make None form fits = tt
 each_fits ks make (Some outcome) form fits = fits outcome (form (make outcome) refl)
 
-merged_fit : (ks : List Kind) (rule : NumberRule) (a b : StateFacts) → HasKinds ks a → HasKinds ks b
+merged_fit : (ks : List Kind) (rule : Rule) (a b : StateFacts) → HasKinds ks a → HasKinds ks b
     → ForSome (merged_known rule a b) HasForm
     → AreKinds ks (merged_known rule a b)
 merged_fit ks rule a b first second = by (paired_frames a.variables a.references b.variables b.references) refl
@@ -325,8 +326,8 @@ merged_fit ks rule a b first second = by (paired_frames a.variables a.references
         → AreKinds ks (option_and_then (merged_by rule a b) found)
     by None is form = tt
     by (Some f) is form =
-        each_fits ks (merged_as a b f) (rule f.numbers.keys (numbers_known a.facts) (numbers_known b.facts)) form
-        (λ outcome own. known_fits ks a b first second f outcome _ _ is own)
+        each_fits ks (merged_as rule.making a b f) (rule.numbers f.numbers.keys (numbers_known a.facts) (numbers_known b.facts)) form
+        (λ outcome own. known_fits ks a b first second f outcome _ _ _ is own)
 
 normal_fit : (ks : List Kind) (a : StateFacts) → HasKinds ks a → ForSome (normal_known a) HasForm
     → AreKinds ks (normal_known a)
@@ -336,7 +337,7 @@ normal_fit ks a has = by (paired_frames a.variables a.references a.variables a.r
         → ForSome (option_and_then (normal_by a) found) HasForm → AreKinds ks (option_and_then (normal_by a) found)
     by None is form = tt
     by (Some f) is form = each_fits ks (normal_as a f) (numbers.normed f.numbers.keys (numbers_known a.facts)) form
-        (λ outcome own. known_fits ks a a has has f outcome _ _ is own)
+        (λ outcome own. known_fits ks a a has has f outcome _ _ _ is own)
 
 pub join_fits : (unit : MethodUnit) (at : Option (List Kind)) (a b : State) → FitsStack unit at a → FitsStack unit at b
     → FitsStack unit at (join a b)
@@ -345,7 +346,7 @@ join_fits unit at (Some a) None first second = first
 join_fits unit None (Some a) (Some b) first second = elim first [ ]
 join_fits unit (Some stack) (Some a) (Some b) first second =
     over_stack unit stack (join (Some a) (Some b))
-    (merged_fit (kinds_over unit stack) numbers.joined a b first second (merged_form Join a b first.form second.form))
+    (merged_fit (kinds_over unit stack) joining a b first second (merged_form Join a b first.form second.form))
 
 pub widen_fits : (unit : MethodUnit) (at : Option (List Kind)) (a b : State) → FitsStack unit at a → FitsStack unit at b
     → FitsStack unit at (widen a b)
@@ -354,7 +355,7 @@ widen_fits unit at (Some a) None first second = first
 widen_fits unit None (Some a) (Some b) first second = elim first [ ]
 widen_fits unit (Some stack) (Some a) (Some b) first second =
     over_stack unit stack (widen (Some a) (Some b))
-    (merged_fit (kinds_over unit stack) numbers.widened a b first second
+    (merged_fit (kinds_over unit stack) widening a b first second
     (merged_form Widening a b first.form second.form))
 
 pub normal_fits : (unit : MethodUnit) (at : Option (List Kind)) (a : State) → FitsStack unit at a
