@@ -11,10 +11,12 @@ use Rattle.array_segments.proofs.StoreSteps.{added_form, changed_length, replace
 use Rattle.array_segments.proofs.WholeLaw.{whole_form}
 use Rattle.interval_domain.specs.Interval.{Interval}
 use Rattle.interval_domain.specs.Joins.{full, hull}
+use Rattle.number_spans.specs.Stored.{IsNarrow}
 use Rattle.array_contents.specs.Contents.{AreFormed, Contents, IsFormed, Segments, of_null}
 use Rattle.array_contents.specs.Storing.{Gaps, forgotten, forgotten_one, stored, strongly_at, weakly_each, weakly_one}
 use Rattle.array_contents.specs.declared.forgetting.Unknown.{Unknown}
 use Rattle.array_contents.proofs.NamedBounds.{AreNamed, each_weaker, stored_named}
+use Rattle.array_contents.proofs.NarrowContents.{strong_narrow, weak_narrow}
 
 -- ---- each reference
 
@@ -54,6 +56,7 @@ one_grows symbols more e one order formed = record {
   named = each_weaker (AreNamed symbols) (AreNamed more)
       (each_weaker (λ expr. expr.sym ≤ symbols) (λ expr. expr.sym ≤ more) (λ expr there. omega arith)) one.bounds
       formed.named;
+  narrow = formed.narrow;
 }
 
 pub formed_grows : (symbols more : ℕ) (lengths : List Expr) (contents : Contents) → symbols ≤ more
@@ -74,16 +77,17 @@ pushed_formed symbols (end ∷ lengths) (first ∷ contents) e one formed last =
     (formed.0, pushed_formed symbols lengths contents e one formed.1 last)
 
 pub whole_formed : (symbols : ℕ) (e : Expr) (range : Interval) (may_be_empty : Bool) → e.sym ≤ symbols
-    → IsFormed symbols e (whole e range may_be_empty)
-whole_formed symbols e range may_be_empty there = record {
+    → IsNarrow range → IsFormed symbols e (whole e range may_be_empty)
+whole_formed symbols e range may_be_empty there narrow = record {
   form = whole_form e range may_be_empty;
   ends = (0, omega arith, refl);
   named = ((omega arith, tt), ((there, tt), tt));
+  narrow = (narrow, tt);
 }
 
 -- ---- stores
 
-module _ (gap : Gaps) (symbols : ℕ) (at : Expr) (value : Interval) where
+module _ (gap : Gaps) (symbols : ℕ) (at : Expr) (value : Interval) (is_narrow : IsNarrow value) where
   strong_formed : at.sym ≤ symbols → (e : Expr) (one : Segments) → IsFormed symbols e one
       → IsFormed symbols e (strongly_stored hull full gap one at value)
   strong_formed there e one formed = record {
@@ -91,6 +95,7 @@ module _ (gap : Gaps) (symbols : ℕ) (at : Expr) (value : Interval) where
         (replaced_counted hull full gap one at value formed.form);
     ends = subst (Has e) (sym (last_stored hull full gap one at value formed.form)) formed.ends;
     named = stored_named hull symbols full gap one at value there formed.named;
+    narrow = strong_narrow gap one at value is_narrow formed.narrow;
   }
 
   set_formed : at.sym ≤ symbols → (lengths : List Expr) (contents : Contents) (i : ℕ)
@@ -117,6 +122,7 @@ module _ (gap : Gaps) (symbols : ℕ) (at : Expr) (value : Interval) where
         formed.form;
     ends = subst (Has e) (sym (last_added hull gap one at value)) formed.ends;
     named = formed.named;
+    narrow = weak_narrow gap one at value is_narrow formed.narrow;
   }
 
   weakly_formed : (others : List Bool) (lengths : List Expr) (contents : Contents)
@@ -129,33 +135,41 @@ module _ (gap : Gaps) (symbols : ℕ) (at : Expr) (value : Interval) where
       (weak_formed e one may_be formed.0, weakly_formed others lengths contents formed.1)
 
 pub stored_formed : (gap : Gaps) (symbols : ℕ) (lengths : List Expr) (contents : Contents) (r : ℕ) (at : Expr)
-    (value : Interval) (others : List Bool) → at.sym ≤ symbols → AreFormed symbols lengths contents
+    (value : Interval) (others : List Bool) → at.sym ≤ symbols → IsNarrow value
+    → AreFormed symbols lengths contents
     → AreFormed symbols lengths (stored gap r at value others contents)
-stored_formed gap symbols lengths contents r at value others there formed =
-    weakly_formed gap symbols at value others lengths (strongly_at gap r at value contents)
-    (strongly_formed gap symbols at value there lengths contents r formed)
+stored_formed gap symbols lengths contents r at value others there is_narrow formed =
+    weakly_formed gap symbols at value is_narrow others lengths (strongly_at gap r at value contents)
+    (strongly_formed gap symbols at value is_narrow there lengths contents r formed)
 
 -- ---- calls
 
+-- The range of what may have been changed is of int32.
+abbrev pub HasNarrowItems : Option Unknown → Type 0
+HasNarrowItems None = Unit {0}
+HasNarrowItems (Some array) = IsNarrow array.items
+
 forgotten_one_formed : (symbols : ℕ) (e : Expr) (one : Segments) (array : Option Unknown) → e.sym ≤ symbols
-    → ((unknown : Unknown) → array ≡ Some unknown → unknown.length ≡ e) → IsFormed symbols e one
-    → IsFormed symbols e (forgotten_one array one)
-forgotten_one_formed symbols e one None there same formed = formed
-forgotten_one_formed symbols e one (Some array) there same formed =
+    → ((unknown : Unknown) → array ≡ Some unknown → unknown.length ≡ e) → HasNarrowItems array
+    → IsFormed symbols e one → IsFormed symbols e (forgotten_one array one)
+forgotten_one_formed symbols e one None there same narrow formed = formed
+forgotten_one_formed symbols e one (Some array) there same narrow formed =
     subst (λ length. IsFormed symbols e (whole length array.items true)) (sym (same array refl))
-    (whole_formed symbols e array.items true there)
+    (whole_formed symbols e array.items true there narrow)
 
 pub forgotten_formed : (symbols : ℕ) (lengths : List Expr) (contents : Contents) (arrays : List (Option Unknown))
     → AllByRecursion (λ e. e.sym ≤ symbols) lengths
     → ((i : ℕ) (e : Expr) (array : Unknown) → slice_get lengths i ≡ Some e → slice_get arrays i ≡ Some (Some array)
     → array.length ≡ e)
+    → AllByRecursion HasNarrowItems arrays
     → AreFormed symbols lengths contents → AreFormed symbols lengths (forgotten arrays contents)
-forgotten_formed symbols lengths contents [] there same formed = formed
-forgotten_formed symbols [] [] (array ∷ arrays) there same formed = tt
-forgotten_formed symbols [] (one ∷ contents) (array ∷ arrays) there same formed = absurd formed
-forgotten_formed symbols (e ∷ lengths) [] (array ∷ arrays) there same formed = absurd formed
-forgotten_formed symbols (e ∷ lengths) (one ∷ contents) (array ∷ arrays) there same formed = (
-  forgotten_one_formed symbols e one array there.0 (λ unknown is. same 0 e unknown refl (ap Some is)) formed.0,
+forgotten_formed symbols lengths contents [] there same narrow formed = formed
+forgotten_formed symbols [] [] (array ∷ arrays) there same narrow formed = tt
+forgotten_formed symbols [] (one ∷ contents) (array ∷ arrays) there same narrow formed = absurd formed
+forgotten_formed symbols (e ∷ lengths) [] (array ∷ arrays) there same narrow formed = absurd formed
+forgotten_formed symbols (e ∷ lengths) (one ∷ contents) (array ∷ arrays) there same narrow formed = (
+  forgotten_one_formed symbols e one array there.0 (λ unknown is. same 0 e unknown refl (ap Some is)) narrow.0
+      formed.0,
   forgotten_formed symbols lengths contents arrays there.1
-      (λ i expr unknown is found. same (suc i) expr unknown is found) formed.1,
+      (λ i expr unknown is found. same (suc i) expr unknown is found) narrow.1 formed.1,
 )

@@ -1,3 +1,15 @@
+pub mod SameLists
+pub mod EachSteps
+pub mod FormSteps
+pub mod AtSteps
+pub mod StoringSteps
+pub mod MergingSteps
 pub mod NamedBounds
+pub mod KeptContents
+pub mod NarrowContents
+pub mod NarrowTest
 pub mod FormLaws
 pub mod HeldLaws
+pub mod MergeLaws
+pub mod MergedForms
+pub mod PairedLengths

@@ -19,16 +19,16 @@ module _ {X : Type 0} (P : X → Type 0) where
   each_rest [] all = tt
   each_rest (x ∷ xs) all = all.1
 
-  each_append : (xs ys : List X) → AllByRecursion P xs → AllByRecursion P ys → AllByRecursion P (xs ++ ys)
+  pub each_append : (xs ys : List X) → AllByRecursion P xs → AllByRecursion P ys → AllByRecursion P (xs ++ ys)
   each_append [] ys all more = more
   each_append (x ∷ xs) ys all more = (all.0, each_append xs ys all.1 more)
 
-  each_take : (n : ℕ) (xs : List X) → AllByRecursion P xs → AllByRecursion P (take n xs)
+  pub each_take : (n : ℕ) (xs : List X) → AllByRecursion P xs → AllByRecursion P (take n xs)
   each_take zero xs all = tt
   each_take (suc n) [] all = tt
   each_take (suc n) (x ∷ xs) all = (all.0, each_take n xs all.1)
 
-  each_drop : (n : ℕ) (xs : List X) → AllByRecursion P xs → AllByRecursion P (drop n xs)
+  pub each_drop : (n : ℕ) (xs : List X) → AllByRecursion P xs → AllByRecursion P (drop n xs)
   each_drop zero xs all = all
   each_drop (suc n) [] all = tt
   each_drop (suc n) (x ∷ xs) all = each_drop n xs all.1

@@ -1,10 +1,11 @@
 -- What is known of the items of references: the segments of each, from reference 1 on, in order.
-use Rattle.std.specs.Prelude.{◌≡◌, ℕ, zero, suc, ◌≤◌, ℤ, pos, List, [], ◌∷◌, get_or, slice_get, Some}
+use Rattle.std.specs.Prelude.{◌≡◌, ℕ, zero, suc, ◌≤◌, ℤ, pos, true, List, [], ◌∷◌, get_or, slice_get, Some}
 use Rattle.std.specs.List.{AllByRecursion}
 use Rattle.array_segments.specs.Meaning.{Holds}
 use Rattle.array_segments.specs.SegmentLists.{Has, HasForm, Lists, last_bound, whole, zero_expr}
 use Rattle.domain_api.specs.declared.expr.Expr.{Expr}
 use Rattle.interval_domain.specs.Interval.{Contains, Interval, one}
+use Rattle.number_spans.specs.Stored.{IsNarrow}
 
 -- The segments of one reference, whose items are in ranges.
 abbrev pub Segments : Type 0
@@ -24,11 +25,13 @@ segments_at contents (suc i) = get_or contents i of_null
 
 -- ---- the form
 
--- The segments have their form, end at the length, and name symbols that are there, of so many.
+-- The segments have their form, end at the length, name symbols that are there, of so many, and their ranges are of
+-- int32.
 pub record IsFormed (symbols : ℕ) (length : Expr) (segments : Segments) : Type 0 where
   pub form : HasForm segments
   pub ends : Has length (last_bound segments)
   pub named : AllByRecursion (AllByRecursion (λ e. e.sym ≤ symbols)) segments.bounds
+  pub narrow : AllByRecursion IsNarrow segments.contents
 
 -- There are segments for each of these lengths.
 abbrev pub AreFormed : ℕ → List Expr → Contents → Type 0

@@ -1,5 +1,6 @@
 pub mod Contents
 pub mod Storing
+pub mod Replacing
 pub mod Merging
 pub mod Ends
 pub mod Makings

@@ -6,7 +6,7 @@ use Rattle.array_segments.specs.SegmentLists.{zero_expr}
 use Rattle.array_segments.specs.Unifying.{unified}
 use Rattle.domain_api.specs.declared.expr.Expr.{Expr}
 use Rattle.interval_domain.specs.Interval.{Interval}
-use Rattle.interval_domain.specs.Joins.{full, hull, widened, within}
+use Rattle.interval_domain.specs.Joins.{full, hull, within}
 use Rattle.symbolic_values.specs.Names.{renamed}
 use Rattle.symbolic_values.specs.Pairing.{Pairing}
 use Rattle.symbolic_values.specs.declared.pairs.Key.{Key}

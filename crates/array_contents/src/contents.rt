@@ -1,12 +1,11 @@
 //! The segments of each reference.
 
-ghost use Rattle.std.specs.Prelude.{◌≡◌, ◌++◌, ◌∷◌, [], length, map, slice_get, IfOk, OnOk, OnErr, Some};
+ghost use Rattle.std.specs.Prelude.{◌≡◌, ◌++◌, ◌∷◌, [], map, IfOk, OnOk, OnErr};
 ghost use Rattle.array_segments.specs.SegmentLists.{whole};
 ghost use Rattle.array_segments.specs.Segments.{lists_of};
-ghost use Rattle.array_contents.specs.Contents.{of_null};
 
 use array_segments::Segs;
-use domain_api::{Expr, NoMemory, Values};
+use domain_api::{Expr, NoMemory};
 use interval_domain::Range;
 use std::alloc::Global;
 use std::marker::Model;
@@ -19,6 +18,8 @@ pub struct Contents {
 }
 
 impl Model for Contents {
+    ghost use Rattle.std.specs.Prelude.{map};
+    ghost use Rattle.array_segments.specs.Segments.{lists_of};
     ghost use Rattle.array_contents.specs.Contents as contents;
 
     ghost Value = { contents.Contents };
@@ -26,11 +27,16 @@ impl Model for Contents {
     ghost view = { λ c. map lists_of c.segments.items };
 }
 
-/// The segments of null.
-pub(crate) fn null_segments(alloc: Global) -> Result<Segs<Range>, NoMemory>
-    ensures { IfOk result (λ segs. lists_of segs ≡ of_null) }
+/// The same segments again.
+#[tactic(auto, using(array_segments::proofs::PlaceSteps::copied_more))]
+fn copied(alloc: Global, segments: &[Segs<Range>]) -> Result<Vec<Segs<Range>>, NoMemory>
+    ensures { IfOk result (λ again. map lists_of again.items ≡ map lists_of segments.now) }
 {
-    Segs::whole(alloc, Expr { sym: 0, k: 0 }, Range::constant(0), true)
+    let mut again = Vec::with_capacity(alloc, segments.len())?;
+    for one in segments {
+        again.push(one.copy(alloc)?)?;
+    }
+    Ok(again)
 }
 
 impl Contents {
@@ -51,10 +57,7 @@ impl Contents {
     pub fn copy(&self, alloc: Global) -> Result<Contents, NoMemory>
         ensures { IfOk result (λ again. again ≡ self.now) }
     {
-        let mut segments = Vec::with_capacity(alloc, self.segments.len())?;
-        for one in &self.segments {
-            segments.push(one.copy(alloc)?)?;
-        }
+        let segments = copied(alloc, &self.segments)?;
         Ok(Contents { segments })
     }
 

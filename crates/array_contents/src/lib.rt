@@ -8,6 +8,8 @@ mod form;
 mod inclusion;
 mod load;
 mod merging;
+mod narrow;
+mod reference;
 mod renaming;
 mod store;
 
