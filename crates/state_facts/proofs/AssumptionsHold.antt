@@ -198,6 +198,7 @@ facts_hold known vs heap number array (Some f) holds kept = record {
   variables = holds.variables;
   references = holds.references;
   apart = holds.apart;
+  contents = holds.contents;
 }
 
 compares_holds : (op : CmpOp) (a b : Expr) (so : Bool) (known : StateFacts) (vs : List Value) (heap : Heap) (number : ℕ → ℤ) (array : ℕ → Option ℕ)
@@ -265,6 +266,7 @@ told_holds r told known vs heap number array (Some x) holds is agrees = record {
   variables = holds.variables;
   references = told_so heap number array known.references r x told holds.references (is x refl) agrees;
   apart = holds.apart;
+  contents = holds.contents;
 }
 
 null_holds : (r : ℕ) (is : Bool) (known : StateFacts) (vs : List Value) (heap : Heap) (number : ℕ → ℤ) (array : ℕ → Option ℕ) → HoldsBy known vs heap number array

@@ -80,7 +80,9 @@ KeepsAssumed op a b holds before after =
 -- ---- arrays
 
 -- The array of a reference, and the index of one of its items that an expression is worth.
-pub record HasItem (heap : Heap) (number : ℕ → ℤ) (array : Option ℕ) (at : Expr) (i : ℕ) (cell : ArrayCell) (index : ℕ) : Type 0 where
+pub record HasItem
+    (heap : Heap) (number : ℕ → ℤ) (array : Option ℕ) (at : Expr) (i : ℕ) (cell : ArrayCell) (index : ℕ)
+    : Type 0 where
   pub array_is : array ≡ Some i
   pub cell_is : slice_get heap i ≡ Some cell
   pub index_is : worth number at ≡ pos index
@@ -113,8 +115,8 @@ abbrev pub listed : Option Value → List Value
 listed None = []
 listed (Some value) = value ∷ []
 
--- A call gives a value of its place, or none, and an array that it gives was passed or is new. Arrays that were not passed
--- keep their items.
+-- A call gives a value of its place, or none, and an array that it gives was passed or is new. Arrays that were not
+-- passed keep their items.
 abbrev pub KeepsCall : ℕ → ℕ → Place → State → State → Type 0
 KeepsCall first args place before after =
     (vs : List Value) (heap new : Heap) (number : ℕ → ℤ) (array : ℕ → Option ℕ) (result : Option Value)

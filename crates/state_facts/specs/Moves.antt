@@ -127,7 +127,8 @@ with_items known items = record known { contents = items }
 unfoldable pub with_written : ℕ → Expr → StateFacts → Made → Option StateFacts
 with_written r at known made =
     option_map
-    (λ range. with_items (beside known made) (contents.stored (gap made.facts) r at range (others known r) known.contents))
+    (λ range.
+    with_items (beside known made) (contents.stored (gap made.facts) r at range (others known r) known.contents))
     (int32_in (range_of made.facts made.expr))
 
 -- A number is stored into an array at an index, as it is put into an item's place.

@@ -12,8 +12,9 @@ use Rattle.number_spans.specs.Constants.{constant}
 use Rattle.frame_names.specs.declared.reference.Reference.{Reference}
 use Rattle.frame_names.specs.declared.var.Var.{Var}
 
--- What each variable has, what is known of symbols, what is known of each reference from 1 on, in order, which references
--- are not the same array, and what is known of the items of each. Symbol 0 is the number 0, and reference 0 is null.
+-- What each variable has, what is known of symbols, what is known of each reference from 1 on, in order, which
+-- references are not the same array, and what is known of the items of each. Symbol 0 is the number 0, and reference 0
+-- is null.
 pub record StateFacts : Type 0 where
   pub variables : List Var
   pub facts : Facts

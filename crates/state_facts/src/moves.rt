@@ -13,7 +13,7 @@ use frame_names::Var;
 use number_facts::Numbers;
 
 /// Returns whether the numbers of an expression are all numbers of bool.
-fn is_byte(numbers: &Numbers, e: Expr) -> bool
+pub(crate) fn is_byte(numbers: &Numbers, e: Expr) -> bool
     requires { IsNamed numbers.now e }
     ensures { result ≡ rule.is_byte (range_of numbers.now e) }
 {
@@ -23,7 +23,7 @@ fn is_byte(numbers: &Numbers, e: Expr) -> bool
 
 /// A number as it is put into a place.
 #[tactic(auto, unfolding(crate::specs::Moves::placed))]
-pub(crate) fn placed(numbers: &mut Numbers, e: Expr, place: Place) -> Result<Option<Expr>, NoMemory>
+fn placed(numbers: &mut Numbers, e: Expr, place: Place) -> Result<Option<Expr>, NoMemory>
     requires { IsNamed numbers.old e }
     ensures value { IfOk result (λ made. made ≡ expr_made (rule.placed numbers.old e place)) }
     ensures facts { OnOk result (numbers.new ≡ facts_made numbers.old (rule.placed numbers.old e place)) }
