@@ -1,5 +1,6 @@
 -- The tests of lists decide whether they are those of a state.
 use Rattle.std.proofs.Common.{◌≡◌, ℕ, ◌+◌, ◌≤◌, ◌<◌, ℤ, pos, negsuc, ◌≤ℤ◌, ◌<ℤ◌, Bool, true, false, ◌&&◌, int_le, int_lt, nat_le, Decides, Option, Some, None, List, [], ◌∷◌, length, refl, sym, ◌∙◌, arith}
+use Rattle.std.specs.Prelude.{IsTrue, ◌↔◌}
 use Rattle.std.specs.List.{AllByRecursion, list_all}
 use Rattle.std.proofs.lemmas.Bool.{true≢false, true_from_ne_false}
 use Rattle.std.proofs.lemmas.Bool.Decides.{Decides-and, Decides-like}
@@ -16,8 +17,10 @@ use Rattle.pentagon_domain.specs.declared.bound_row.BoundRow.{BoundRow}
 use Rattle.symbolic_values.specs.declared.def.Def.{Def}
 use Rattle.symbolic_values.specs.declared.def.Def.TheVariants.{Eq, Lt, LtUn, NullTest, Sub}
 use Rattle.alias_facts.specs.PairsOf.{Pair}
-use Rattle.abs_state.specs.FormTests.{is_inner, is_narrow, has, is_number, is_var, is_array_place, is_reference, is_def, is_definition, is_bound, is_pair, rise_from, are_rising, has_numbers, has_references, has_form}
-use Rattle.state_facts.specs.Forms.{AreRising, EndsBy, HasForm, IsArrayPlace, IsNumber, IsReference, IsVar, TestsOf}
+use Rattle.abs_state.specs.FormTests.{is_inner, is_narrow, has, is_number, is_var, is_array_place, is_reference, is_def, is_definition, is_bound, is_pair, rise_from, are_rising, has_numbers, has_references, names_known, has_contents, has_form}
+use Rattle.array_contents.proofs.FormSteps.{formed_then, formed_where}
+use Rattle.array_contents.specs.Contents.{AreFormed}
+use Rattle.state_facts.specs.Forms.{AreRising, EndsBy, HasForm, IsArrayPlace, IsNumber, IsReference, IsVar, TestsOf, lengths_of}
 use Rattle.state_facts.specs.StateFacts.{StateFacts}
 use Rattle.abs_state.specs.StateParts.{StateParts, AreOrdered, AreParts, known_of}
 use Rattle.frame_names.specs.declared.reference.Reference.{Reference}
@@ -152,6 +155,22 @@ both_all : (symbols references : ℕ) (definitions : List (ℕ × Def)) → AllB
 both_all symbols references [] named tests = tt
 both_all symbols references (d ∷ definitions) named tests = ((named.0.0, (named.0.1, tests.0)), both_all symbols references definitions named.1 tests.1)
 
+contents_decide : (parts : StateParts)
+    → Decides (has_contents parts) (AreFormed (length parts.ranges) (lengths_of parts.references) parts.contents)
+contents_decide parts =
+    let symbols = length parts.ranges in
+    (formed_then symbols (lengths_of parts.references) parts.contents, formed_where symbols (lengths_of parts.references) parts.contents)
+
+-- A test that tells whether there are segments for each reference is this one.
+pub contents_test : (parts : StateParts) (is : Bool)
+    → (IsTrue is ↔ AreFormed (length parts.ranges) (lengths_of parts.references) parts.contents) → is ≡ has_contents parts
+contents_test parts true told = sym ((contents_decide parts).1 (told.0 refl))
+contents_test parts false told = by (has_contents parts) refl
+  where
+    by : (b : Bool) → has_contents parts ≡ b → false ≡ b
+    by true is = told.1 ((contents_decide parts).0 is)
+    by false is = refl
+
 pub form_decides : (parts : StateParts) → Decides (has_form parts) (HasForm (known_of parts))
 unfolding has_numbers has_references
 form_decides parts =
@@ -159,18 +178,23 @@ form_decides parts =
     let references = length parts.references in
     Decides-like _
     (λ is. record {
-      narrow = is.0.0;
-      named = record { bounds = is.0.1.1.1; definitions = named_all symbols references parts.definitions is.0.1.1.0 };
-      rising = is.0.1.0;
-      tests = tests_all symbols references parts.definitions is.0.1.1.0;
-      variables = is.1.0;
-      references = is.1.1.0;
-      pairs = is.1.1.1;
+      narrow = is.0.0.0;
+      named = record { bounds = is.0.0.1.1.1; definitions = named_all symbols references parts.definitions is.0.0.1.1.0 };
+      rising = is.0.0.1.0;
+      tests = tests_all symbols references parts.definitions is.0.0.1.1.0;
+      variables = is.0.1.0;
+      references = is.0.1.1.0;
+      pairs = is.0.1.1.1;
+      contents = is.1;
     })
     (λ form. (
-      (form.narrow, (form.rising, (both_all symbols references parts.definitions form.named.definitions form.tests, form.named.bounds))),
-      (form.variables, (form.references, form.pairs)),
+      (
+        (form.narrow, (form.rising, (both_all symbols references parts.definitions form.named.definitions form.tests, form.named.bounds))),
+        (form.variables, (form.references, form.pairs)),
+      ),
+      form.contents,
     ))
+    (Decides-and (names_known parts) _
     (Decides-and (has_numbers parts) _
     (Decides-and (list_all is_narrow parts.ranges) _ (all_decide is_narrow IsNarrow narrow_decides parts.ranges)
     (Decides-and (are_rising parts.definitions) _ (rising_decides parts.definitions)
@@ -182,6 +206,7 @@ form_decides parts =
     (Decides-and (list_all (is_reference symbols) parts.references) _
     (all_decide (is_reference symbols) (IsReference symbols) (reference_decides symbols) parts.references)
     (all_decide (is_pair references) (EndsBy references) (pair_decides references) parts.apart))))
+    (contents_decide parts))
 
 pub formed : (parts : StateParts) (known : StateFacts) → known ≡ known_of parts → has_form parts ≡ true → HasForm known
 formed parts known is has = rw is ((form_decides parts).0 has)

@@ -249,8 +249,7 @@ impl Parts {
         ensures { result ≡ tests.has_references self.now }
     {
         let sizes = self.sizes();
-        sizes.has_all_references(&self.references)
-            && sizes.has_pairs(&self.apart)
+        sizes.has_all_references(&self.references) && sizes.has_pairs(&self.apart)
     }
 
     /// Returns whether ranges are of int32, and what is named is there.
@@ -261,11 +260,15 @@ impl Parts {
     }
 
     /// Returns whether there are segments for each reference.
+    #[tactic(auto, using(crate::proofs::PartForms::contents_test))]
     fn has_contents(&self, alloc: Global) -> Result<bool, NoMemory>
         ensures { IfOk result (λ is. is ≡ tests.has_contents self.now) }
     {
         let lengths: Vec<Expr> = self.references.iter().map(|r| r.length).collect(alloc)?;
-        Ok(self.contents.are_formed(self.ranges.len(), lengths.as_slice()))
+        Ok(
+            self.contents
+                .are_formed(self.ranges.len(), lengths.as_slice()),
+        )
     }
 
     /// Returns whether the lists are of the form of a state's.

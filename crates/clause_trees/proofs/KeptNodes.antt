@@ -37,7 +37,8 @@ use Rattle.state_facts.specs.StateFacts.{StateFacts, length_at, length_of}
 use Rattle.state_facts.specs.States as rule
 use Rattle.state_facts.proofs.Agreeing.{length_kept}
 use Rattle.state_facts.proofs.ComparisonsHold.{IsLike, compare_keeps, like_number, like_reference, like_text, unlike}
-use Rattle.state_facts.proofs.MovesHold.{load_keeps, push_keeps}
+use Rattle.state_facts.proofs.MovesHold.{push_keeps}
+use Rattle.state_facts.proofs.StoresHold.{load_keeps}
 use Rattle.state_facts.proofs.ResultsHold.{arith_keeps}
 use Rattle.state_facts.proofs.UnknownValues.{unknown_is_kept}
 use Rattle.state_obligations.specs.Conditions.{operator_conditions}

@@ -49,7 +49,8 @@ use Rattle.state_facts.specs.StateFacts.{StateFacts, State, length_at}
 use Rattle.state_facts.proofs.MoveForms.{popped_form}
 use Rattle.state_facts.proofs.ArraysHold.{new_array_keeps}
 use Rattle.state_facts.proofs.ComparisonsHold.{compare_keeps}
-use Rattle.state_facts.proofs.MovesHold.{load_keeps, push_keeps, store_keeps}
+use Rattle.state_facts.proofs.MovesHold.{push_keeps}
+use Rattle.state_facts.proofs.StoresHold.{load_keeps, store_keeps}
 use Rattle.state_obligations.proofs.ConditionLaws.{met_is_kept}
 use Rattle.state_obligations.specs.declared.condition.Condition.TheVariants as conditions
 use Rattle.symbolic_values.specs.Worth.{worth}
