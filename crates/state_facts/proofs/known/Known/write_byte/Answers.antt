@@ -1,6 +1,5 @@
 use Rattle.std.proofs.Common.{rules, ◌≡◌, Some, is_some, [], None, ap, sym, subst, ◌∙◌}
 use Rattle.std.specs.Prelude.{pos}
-use Rattle.domain_api.specs.declared.expr.Expr.{Expr}
 use Rattle.number_facts.specs.Facts.{Facts, IsNamed}
 use Rattle.number_facts.specs.Fresh.{expr_made, facts_made, fresh}
 use Rattle.state_facts.specs.StateFacts.{StateFacts}
