@@ -1,25 +1,24 @@
 -- The tests of lists decide whether they are those of a state.
-use Rattle.std.proofs.Common.{◌≡◌, ℕ, ◌+◌, ◌≤◌, ◌<◌, ℤ, pos, negsuc, ◌≤ℤ◌, ◌<ℤ◌, Bool, true, false, ◌&&◌, int_le, int_lt, nat_le, Decides, Option, Some, None, List, [], ◌∷◌, length, refl, sym, ◌∙◌, arith}
+use Rattle.std.proofs.Common.{◌≡◌, ℕ, ◌+◌, ◌≤◌, ◌<◌, ℤ, pos, negsuc, ◌≤ℤ◌, Bool, true, false, ◌&&◌, int_le, nat_le, Decides, List, [], ◌∷◌, length, refl, sym, ◌∙◌, arith}
 use Rattle.std.specs.Prelude.{IsTrue, ◌↔◌}
 use Rattle.std.specs.List.{AllByRecursion, list_all}
 use Rattle.std.proofs.lemmas.Bool.{true≢false, true_from_ne_false}
 use Rattle.std.proofs.lemmas.Bool.Decides.{Decides-and, Decides-like}
 use Rattle.std.proofs.lemmas.Int.{ints}
-use Rattle.cil_model.specs.Arithmetic.{LEAST, GREATEST}
 use Rattle.cil_model.specs.declared.place.Place.{Place}
 use Rattle.cil_model.specs.declared.place.Place.TheVariants as places
 use Rattle.domain_api.specs.declared.expr.Expr.{Expr}
-use Rattle.interval_domain.specs.Interval.{Interval}
 use Rattle.number_facts.specs.Holds.{Names, NamesOwn}
-use Rattle.number_spans.specs.Stored.{IsInner, IsNarrow}
 use Rattle.pentagon_domain.proofs.Allowing.{AreBelow}
 use Rattle.pentagon_domain.specs.declared.bound_row.BoundRow.{BoundRow}
 use Rattle.symbolic_values.specs.declared.def.Def.{Def}
 use Rattle.symbolic_values.specs.declared.def.Def.TheVariants.{Eq, Lt, LtUn, NullTest, Sub}
 use Rattle.alias_facts.specs.PairsOf.{Pair}
-use Rattle.abs_state.specs.FormTests.{is_inner, is_narrow, has, is_number, is_var, is_array_place, is_reference, is_def, is_definition, is_bound, is_pair, rise_from, are_rising, has_numbers, has_references, names_known, has_contents, has_form}
+use Rattle.abs_state.specs.FormTests.{has, is_number, is_var, is_array_place, is_reference, is_def, is_definition, is_bound, is_pair, rise_from, are_rising, has_numbers, has_references, names_known, has_contents, has_form}
 use Rattle.array_contents.proofs.FormSteps.{formed_then, formed_where}
+use Rattle.array_contents.proofs.NarrowTest.{all_narrow}
 use Rattle.array_contents.specs.Contents.{AreFormed}
+use Rattle.array_contents.specs.FormTest.{is_narrow}
 use Rattle.state_facts.specs.Forms.{AreRising, EndsBy, HasForm, IsArrayPlace, IsNumber, IsReference, IsVar, TestsOf, lengths_of}
 use Rattle.state_facts.specs.StateFacts.{StateFacts}
 use Rattle.abs_state.specs.StateParts.{StateParts, AreOrdered, AreParts, known_of}
@@ -32,24 +31,8 @@ use Rattle.frame_names.specs.declared.var.Var.TheVariants as vars
 le_decides : (m n : ℤ) → Decides (int_le m n) (m ≤ℤ n)
 le_decides m n = (λ is. grind (arith, ints, is), λ below. true_from_ne_false (int_le m n) (λ e. grind (arith, ints, below, e)))
 
-lt_decides : (m n : ℤ) → Decides (int_lt m n) (m <ℤ n)
-lt_decides m n = (λ is. grind (arith, ints, is), λ below. true_from_ne_false (int_lt m n) (λ e. grind (arith, ints, below, e)))
-
 at_most_decides : (m n : ℕ) → Decides (nat_le m n) (m ≤ n)
 at_most_decides m n = (λ is. grind (arith, is), λ below. true_from_ne_false (nat_le m n) (λ e. grind (arith, below, e)))
-
-inner_decides : (lo hi : ℤ) (hole : Option ℤ) → Decides (is_inner lo hi hole) (IsInner lo hi hole)
-inner_decides lo hi None = (λ is. tt, λ inner. refl)
-inner_decides lo hi (Some hole) = Decides-and (int_lt lo hole) (int_lt hole hi) (lt_decides lo hole) (lt_decides hole hi)
-
-narrow_decides : (r : Interval) → Decides (is_narrow r) (IsNarrow r)
-unfolding is_narrow
-narrow_decides r = Decides-like _
-    (λ is. record { least = is.0; ordered = is.1.0; greatest = is.1.1.0; inner = is.1.1.1 })
-    (λ narrow. (narrow.least, (narrow.ordered, (narrow.greatest, narrow.inner))))
-    (Decides-and (int_le LEAST r.lo) _ (le_decides LEAST r.lo)
-    (Decides-and (int_le r.lo r.hi) _ (le_decides r.lo r.hi)
-    (Decides-and (int_le r.hi GREATEST) _ (le_decides r.hi GREATEST) (inner_decides r.lo r.hi r.hole))))
 
 number_decides : (symbols : ℕ) (e : Expr) → Decides (is_number symbols e) (IsNumber symbols e)
 number_decides symbols e = Decides-like _
@@ -196,7 +179,7 @@ form_decides parts =
     ))
     (Decides-and (names_known parts) _
     (Decides-and (has_numbers parts) _
-    (Decides-and (list_all is_narrow parts.ranges) _ (all_decide is_narrow IsNarrow narrow_decides parts.ranges)
+    (Decides-and (list_all is_narrow parts.ranges) _ (all_narrow parts.ranges)
     (Decides-and (are_rising parts.definitions) _ (rising_decides parts.definitions)
     (Decides-and (list_all (is_definition symbols references) parts.definitions) _
     (all_decide (is_definition symbols references) (IsOwn symbols references) (definition_decides symbols references) parts.definitions)

@@ -1,13 +1,11 @@
 -- The forms of what is known, as tests.
-use Rattle.std.specs.Prelude.{ℕ, ◌+◌, ◌==◌, nat_le, ℤ, pos, negsuc, Bool, true, false, ◌&&◌, int_le, int_lt, List, [], ◌∷◌, Option, Some, None, length}
+use Rattle.std.specs.Prelude.{ℕ, ◌+◌, ◌==◌, nat_le, pos, negsuc, Bool, true, false, ◌&&◌, int_le, List, [], ◌∷◌, length}
 use Rattle.std.specs.List.{list_all}
 use Rattle.alias_facts.specs.PairsOf.{Pair}
-use Rattle.array_contents.specs.FormTest.{are_formed}
-use Rattle.cil_model.specs.Arithmetic.{LEAST, GREATEST}
+use Rattle.array_contents.specs.FormTest.{are_formed, is_narrow}
 use Rattle.cil_model.specs.declared.place.Place.{Place}
 use Rattle.cil_model.specs.declared.place.Place.TheVariants as places
 use Rattle.domain_api.specs.declared.expr.Expr.{Expr}
-use Rattle.interval_domain.specs.Interval.{Interval}
 use Rattle.pentagon_domain.specs.declared.bound_row.BoundRow.{BoundRow}
 use Rattle.symbolic_values.specs.declared.def.Def.{Def}
 use Rattle.symbolic_values.specs.declared.def.Def.TheVariants.{Eq, Lt, LtUn, NullTest, Sub}
@@ -16,13 +14,6 @@ use Rattle.state_facts.specs.Forms.{lengths_of}
 use Rattle.frame_names.specs.declared.reference.Reference.{Reference}
 use Rattle.frame_names.specs.declared.var.Var.{Var}
 use Rattle.frame_names.specs.declared.var.Var.TheVariants as vars
-
-abbrev pub is_inner : ℤ → ℤ → Option ℤ → Bool
-is_inner lo hi None = true
-is_inner lo hi (Some hole) = int_lt lo hole && int_lt hole hi
-
-unfoldable pub is_narrow : Interval → Bool
-is_narrow r = int_le LEAST r.lo && (int_le r.lo r.hi && (int_le r.hi GREATEST && is_inner r.lo r.hi r.hole))
 
 abbrev pub has : ℕ → Expr → Bool
 has symbols e = nat_le e.sym symbols

@@ -2,6 +2,7 @@
 
 ghost use Rattle.std.specs.Prelude.{◌≡◌, ◌↔◌, length, IfOk, IfSome, IsSome, Some};
 ghost use Rattle.std.specs.List.{list_all};
+ghost use Rattle.array_contents.specs.FormTest.{is_inner, is_narrow};
 ghost use Rattle.abs_state.specs.FormTests as tests;
 ghost use Rattle.abs_state.specs.StateParts.{AreOrdered, AreParts, known_of, parts_of};
 
@@ -59,7 +60,7 @@ impl Model for Parts {
 
 /// Returns whether a hole lies strictly between two ends.
 fn is_inner(lo: i64, hi: i64, hole: Option<i64>) -> bool
-    ensures { result ≡ tests.is_inner lo hi hole }
+    ensures { result ≡ is_inner lo hi hole }
 {
     match hole {
         None => true,
@@ -68,9 +69,9 @@ fn is_inner(lo: i64, hi: i64, hole: Option<i64>) -> bool
 }
 
 /// Returns whether the numbers of a range are int32, and there is one.
-#[tactic(auto, unfolding(crate::specs::FormTests::is_narrow))]
+#[tactic(auto, unfolding(array_contents::specs::FormTest::is_narrow))]
 fn is_narrow(range: &Range) -> bool
-    ensures { result ≡ tests.is_narrow range.now }
+    ensures { result ≡ is_narrow range.now }
 {
     let (lo, hi) = (range.lo(), range.hi());
     i64::from(i32::MIN) <= lo
@@ -185,7 +186,7 @@ impl Sizes {
 
 /// Returns whether the numbers of each range are int32.
 fn are_narrow(ranges: &[Range]) -> bool
-    ensures { result ≡ list_all tests.is_narrow ranges.now }
+    ensures { result ≡ list_all is_narrow ranges.now }
 {
     ranges.iter().all(is_narrow)
 }

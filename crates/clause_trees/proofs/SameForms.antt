@@ -12,6 +12,7 @@ use Rattle.cil_model.specs.declared.place.Place.{Place}
 use Rattle.cil_model.specs.declared.place.Place.TheVariants as places
 use Rattle.domain_api.specs.declared.expr.Expr.{Expr}
 use Rattle.frame_names.specs.Frames as frames
+use Rattle.frame_names.specs.Frames.{AreAlike}
 use Rattle.frame_names.specs.Meaning.{SaysBoth, Said, an_array, said}
 use Rattle.frame_names.specs.MergedReferences.{merged_references, one_place}
 use Rattle.frame_names.specs.PairedFrames.{FramePairing, behind, old_at, paired_frames}
@@ -299,9 +300,12 @@ joined_same a b first second same =
     by (paired_frames a.variables a.references b.variables b.references)
     (frames_say a.variables b.variables a.references b.references
     (paired_frames a.variables a.references b.variables b.references)
-    (alike_of a b a.variables b.variables (same_like a b a.variables b.variables same)) refl)
-    (merged_form rules.Join a b first second)
+    alike refl)
+    (merged_form rules.Join a b first second alike)
   where
+    alike : AreAlike a.variables b.variables
+    alike = alike_of a b a.variables b.variables (same_like a b a.variables b.variables same)
+
     by : (found : Option FramePairing) → IfSome found (SaysBoth a.variables b.variables)
         → ForSome (option_and_then (merged_by joining a b) found) HasForm
         → HasSameFormsIn a (option_and_then (merged_by joining a b) found)

@@ -10,7 +10,7 @@
 mod definitions;
 mod facts;
 mod nullness_names;
-mod segments;
+mod segment_text;
 mod words;
 
 pub use definitions::{append_definition, definition};
@@ -18,5 +18,5 @@ pub use facts::{
     Fact, add_range, append_bounds, append_definitions, append_ranges, read_fact, separate_fact,
 };
 pub use nullness_names::{nullness, nullness_name};
-pub use segments::{append_segments, segment, segments};
+pub use segment_text::{append_segments, segment, segments};
 pub use words::{append_reference, expr, exprs, reference, separate, symbol};

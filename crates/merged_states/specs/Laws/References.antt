@@ -24,7 +24,7 @@ use Rattle.symbolic_values.specs.Pairing.{origin}
 use Rattle.symbolic_values.specs.Worth.{worth}
 use Rattle.symbolic_values.specs.declared.pairs.Key.{Key}
 use Rattle.state_facts.specs.Holds.{AreSo, FitsArray, IsSo}
-use Rattle.merged_states.specs.Parts.{unknown_items}
+use Rattle.merged_states.specs.Parts.{entry_of}
 use Rattle.state_facts.specs.StateFacts as states
 use Rattle.merged_states.specs.Laws.Frames.{IsEntry}
 
@@ -80,7 +80,7 @@ new_so : (heap : Heap) (number later : ℕ → ℤ) (is_first : Bool) (a b : Lis
     (length : Expr) (array : Option ℕ)
     → HaveOnePlace a b u → OldEntry heap number is_first a b u array
     → worth later length ≡ worth number (length_at (if is_first then a else b) (old_of is_first u))
-    → IsSo heap later (unknown_items (merged_reference a b u length)) array
+    → IsSo heap later (entry_of (merged_reference a b u length)) array
 new_so heap number later is_first a b u length array same old worths = record {
   fits = new_fits heap number is_first a b u array (place_at a u.s) (place_at b u.t) refl refl same old;
   agrees = new_agrees heap number is_first a b u array old;
@@ -105,7 +105,7 @@ pub all_so : (heap : Heap) (number later : ℕ → ℤ) (is_first : Bool) (a b :
     (array : Key → Option ℕ) (us : List Key) (lengths : List Expr)
     → AllByRecursion (HaveOnePlace a b) us → AllByRecursion (λ u. OldEntry heap number is_first a b u (array u)) us
     → map (worth later) lengths ≡ map (λ u. worth number (length_at (if is_first then a else b) (old_of is_first u))) us
-    → AllSo heap later array us (map unknown_items (merged_references a b us lengths))
+    → AllSo heap later array us (map entry_of (merged_references a b us lengths))
 all_so heap number later is_first a b array [] lengths same old worths = tt
 all_so heap number later is_first a b array (u ∷ us) [] same old worths = absurd cc
 all_so heap number later is_first a b array (u ∷ us) (n ∷ lengths) same old worths = (

@@ -557,7 +557,7 @@ module _ (unit : MethodUnit) (known : StateFacts) (f : Frame) (form : HasForm kn
         cell_is = at;
         index_is = index.worth_is ∙ above;
         below = below_length;
-      }) (subst (FitsSigned w32) (sym value.worth_is) fits))))))) has
+      }) (subst (FitsSigned w32) (sym value.worth_is) fits)))))))) has
 
   -- A number as it is stored in an array of the place that the instruction names.
   same_item : (cell : ArrayCell) (place : Place) (v : ℤ) → same_place cell.place place ≡ true

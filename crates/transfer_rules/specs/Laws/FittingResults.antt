@@ -1,8 +1,9 @@
 -- One more number or array on top, one variable that changes, and what these leave of the kinds that fit.
 use Rattle.std.proofs.Common.{◌≡◌, ℕ, zero, suc, ◌+◌, ℤ, pos, Bool, true, List, [], ◌∷◌, ◌++◌, length, slice_get, Option, Some, None, refl, sym, ap, subst, ◌∙◌, arith}
 use Rattle.std.specs.Prelude.{set}
-use Rattle.std.specs.Option.{option_map, option_map_or}
+use Rattle.std.specs.Option.{option_and_then, option_map, option_map_or}
 use Rattle.std.proofs.lemmas.Bool.{false≢true}
+use Rattle.array_contents.specs.Storing.{stored}
 use Rattle.cil_model.specs.Kinds.{is_number}
 use Rattle.cil_model.specs.Values.{same_place}
 use Rattle.cil_model.specs.declared.instruction.BinOp.{BinOp}
@@ -13,13 +14,16 @@ use Rattle.domain_api.specs.declared.expr.Expr.{Expr}
 use Rattle.frame_names.specs.declared.reference.Reference.{Reference}
 use Rattle.frame_names.specs.declared.var.Var.{Var}
 use Rattle.frame_names.specs.declared.var.Var.TheVariants as vars
+use Rattle.interval_domain.specs.Interval.{Interval}
+use Rattle.number_facts.specs.Ends.{range_of}
 use Rattle.number_facts.specs.Fresh.{Made}
+use Rattle.number_facts.specs.Gaps.{gap}
 use Rattle.state_facts.proofs.Growing.{Formed}
 use Rattle.state_facts.specs.Arithmetic.{with_result}
 use Rattle.state_facts.specs.Comparing.{null_known, null_tested, same_known, with_comparison, with_defined, with_known, with_null_known, with_null_test, with_same, with_same_known, with_tested, with_truth}
 use Rattle.state_facts.specs.Comparing as comparing
 use Rattle.state_facts.specs.Forms.{HasForm, HasVar, IsArrayPlace}
-use Rattle.state_facts.specs.Moves.{beside, in_variable, int32_in, on_top, placed, with_item, with_number, with_one_of, with_placed, with_put, with_stored, with_written}
+use Rattle.state_facts.specs.Moves.{beside, in_variable, int32_in, item_place, on_top, others, place_at, placed, with_item, with_items, with_number, with_one_of, with_placed, with_put, with_stored, with_written}
 use Rattle.state_facts.specs.StateFacts.{StateFacts, State, nullness_at, reference_at}
 use Rattle.transfer_rules.specs.Forms.{FitKinds, FitsKind, HasKinds, is_of_place, kind_in}
 use Rattle.transfer_rules.specs.Laws.Fitting.{AreKinds, fit_pushed, fit_set, fit_stays, kind_stays, places_more, places_same}

@@ -339,6 +339,11 @@ normal_fit ks a has = by (paired_frames a.variables a.references a.variables a.r
     by (Some f) is form = each_fits ks (normal_as a f) (numbers.normed f.numbers.keys (numbers_known a.facts)) form
         (λ outcome own. known_fits ks a a has has f outcome _ _ _ is own)
 
+both_alike : (ks : List Kind) (a b : StateFacts) → HasKinds ks a → HasKinds ks b
+    → frames.AreAlike a.variables b.variables
+both_alike ks a b first second =
+    alike_of a b a.variables b.variables (like_kinds a b ks a.variables b.variables first.fit second.fit)
+
 pub join_fits : (unit : MethodUnit) (at : Option (List Kind)) (a b : State) → FitsStack unit at a → FitsStack unit at b
     → FitsStack unit at (join a b)
 join_fits unit at None b first second = second
@@ -346,7 +351,8 @@ join_fits unit at (Some a) None first second = first
 join_fits unit None (Some a) (Some b) first second = elim first [ ]
 join_fits unit (Some stack) (Some a) (Some b) first second =
     over_stack unit stack (join (Some a) (Some b))
-    (merged_fit (kinds_over unit stack) joining a b first second (merged_form Join a b first.form second.form))
+    (merged_fit (kinds_over unit stack) joining a b first second (merged_form Join a b first.form second.form
+    (both_alike (kinds_over unit stack) a b first second)))
 
 pub widen_fits : (unit : MethodUnit) (at : Option (List Kind)) (a b : State) → FitsStack unit at a → FitsStack unit at b
     → FitsStack unit at (widen a b)
@@ -356,7 +362,7 @@ widen_fits unit None (Some a) (Some b) first second = elim first [ ]
 widen_fits unit (Some stack) (Some a) (Some b) first second =
     over_stack unit stack (widen (Some a) (Some b))
     (merged_fit (kinds_over unit stack) widening a b first second
-    (merged_form Widening a b first.form second.form))
+    (merged_form Widening a b first.form second.form (both_alike (kinds_over unit stack) a b first second)))
 
 pub normal_fits : (unit : MethodUnit) (at : Option (List Kind)) (a : State) → FitsStack unit at a
     → FitsStack unit at (normal a)

@@ -4,7 +4,7 @@ use Rattle.state_facts.proofs.MoveForms.{item_form}
 use Rattle.abs_state.proofs.state.AbsState.push_item.Goals as goal
 
 pub invariant_of-self-else-not-branch : goal.invariant_of-self-else-not-branch
-invariant_of-self-else-not-branch c = λ x is. same_form _ x is (formed_new _ _ (item_form c.args.r c.in-Some.known (c.self.invariant _ c.in-Some.is)) (c.in_ok-load.ensures.ok (search rules)))
+invariant_of-self-else-not-branch c = λ x is. same_form _ x is (formed_new _ _ (item_form c.args.r c.args.at c.in-Some.known (c.self.invariant _ c.in-Some.is)) (c.in_ok-load.ensures.ok (search rules)))
 
 pub returns-then-not-branch-clause-form : goal.returns-then-not-branch-clause-form
 returns-then-not-branch-clause-form c = λ x is. c.self.invariant x (c.self.view_is ∙ is)

@@ -5,7 +5,8 @@ use Rattle.abs_state.proofs.state.AbsState.store_item.Goals as goal
 
 pub invariant_of-self-else-not-branch : goal.invariant_of-self-else-not-branch
 invariant_of-self-else-not-branch c = λ x is. same_form _ x is (formed_new _ _
-    (stored_form c.args.r c.args.value c.in-Some.known (c.self.invariant _ c.in-Some.is) (c.requires.value _ (sym c.self.view_is ∙ c.in-Some.is)))
+    (stored_form c.args.r c.args.at c.args.value c.in-Some.known (c.self.invariant _ c.in-Some.is)
+    (c.requires.index _ (sym c.self.view_is ∙ c.in-Some.is)) (c.requires.value _ (sym c.self.view_is ∙ c.in-Some.is)))
     (c.in_ok-store.ensures.ok (search rules)))
 
 pub returns-then-not-branch-clause-form : goal.returns-then-not-branch-clause-form
