@@ -201,17 +201,17 @@ known_formed a b frames outcome def pairs contents formed parts =
       narrow = formed.narrow;
       named = record {
         bounds = subst (λ n. AllByRecursion (AreBelow (n + 1)) outcome.bounds) count formed.named;
-        definitions = subst (λ n. AllByRecursion (NamesOwn n) (known_as a b frames outcome def pairs).facts.definitions) count
+        definitions = subst (λ n. AllByRecursion (NamesOwn n) (known_as a b frames outcome def pairs contents).facts.definitions) count
             (each_definition (NamesOwn (length frames.numbers.keys)) def 1 (1 + length frames.numbers.keys) frames.numbers.keys (omega arith)
             (λ s u d above below is. (omega (arith, below), (parts.defs u d is).names)));
       };
       rising = rising_from def 1 frames.numbers.keys;
-      tests = subst (λ n. AllByRecursion (λ d. TestsOf n d.1) (known_as a b frames outcome def pairs).facts.definitions) arrays
+      tests = subst (λ n. AllByRecursion (λ d. TestsOf n d.1) (known_as a b frames outcome def pairs contents).facts.definitions) arrays
           (each_definition (λ d. TestsOf (length frames.references.keys) d.1) def 1 (1 + length frames.numbers.keys) frames.numbers.keys (omega arith)
           (λ s u d above below is. (parts.defs u d is).tests));
       variables = subst (λ n. AllByRecursion (IsVar (length outcome.ranges) n) frames.vars) arrays
           (subst (λ n. AllByRecursion (IsVar n (length frames.references.keys)) frames.vars) count parts.variables);
-      references = subst (λ n. AllByRecursion (IsReference n) (known_as a b frames outcome def pairs).references) count
+      references = subst (λ n. AllByRecursion (IsReference n) (known_as a b frames outcome def pairs contents).references) count
           (references_formed (length frames.numbers.keys) a.references b.references frames.references.keys frames.lengths parts.places parts.lengths);
       pairs = subst (λ n. AllByRecursion (EndsBy n) pairs) arrays parts.upto;
       contents = subst (λ n. items.AreFormed n (lengths_of (known_as a b frames outcome def pairs contents).references) (if_numbered frames contents)) count

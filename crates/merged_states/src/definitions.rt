@@ -1,13 +1,13 @@
 //! Definitions of new symbols, each of which stands for a key.
 
-ghost use Rattle.std.specs.Prelude.{◌≡◌, ◌+◌, ◌++◌, [], map, IfOk, OnOk};
+ghost use Rattle.std.specs.Prelude.{◌≡◌, ◌+◌, ◌++◌, [], length, map, IfOk, OnOk};
 ghost use Rattle.symbolic_values.specs.Names as naming;
 ghost use Rattle.symbolic_values.specs.OwnNames.{own_names};
 ghost use Rattle.merged_states.specs.Parts as rule;
 
 use domain_api::{Expr, NoMemory};
 use frame_names::PairedFrames;
-use state_facts::definition_at;
+use state_facts::{Known, definition_at};
 use std::alloc::{AllocError, Global};
 use symbolic_values::{Def, Key};
 
@@ -144,25 +144,24 @@ impl Names<'_> {
     }
 }
 
-/// The definitions of a state in the names of its own first uses, given the names of its symbols, where it has so many
-/// references, with reference 0.
+/// The definitions of a state in the names of its own first uses, given the names of its symbols.
 ///
 /// Cost: for each key a pass over the definitions.
 pub(crate) fn renamed_definitions(
     alloc: Global,
     frames: &PairedFrames,
     symbols: &[Option<Expr>],
-    references: usize,
-    definitions: &[(u32, Def)],
+    a: &Known,
 ) -> Result<Vec<(u32, Def)>, NoMemory>
+    requires { symbols.now ≡ own_names frames.now.numbers (length a.now.facts.ranges + 1) }
     ensures { IfOk result (λ renamed. renamed.items ≡ rule.definitions_from
-        (rule.own_def symbols.now (rule.reference_names frames.now.references references) definitions.now) 1
-        frames.now.numbers.keys) }
+        (rule.def_of_one frames.now (length a.now.facts.ranges + 1) (length a.now.references + 1)
+        a.now.facts.definitions) 1 frames.now.numbers.keys) }
 {
     let names = Names {
         symbols,
-        references: reference_names(alloc, frames, references)?,
-        definitions,
+        references: reference_names(alloc, frames, a.references.len() + 1)?,
+        definitions: a.numbers.definitions.rows(),
     };
     names.renamed(alloc, frames.numbers.keys.as_slice())
 }

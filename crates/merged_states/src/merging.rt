@@ -243,13 +243,7 @@ fn named_as(
     let pairs = &frames.numbers;
     let names = pairs.names(alloc, a.numbers.ranges.len() + 1)?;
     let contents = contents_of_one(alloc, &frames, names.as_slice(), a)?;
-    let definitions = renamed_definitions(
-        alloc,
-        &frames,
-        names.as_slice(),
-        a.references.len() + 1,
-        a.numbers.definitions.rows(),
-    )?;
+    let definitions = renamed_definitions(alloc, &frames, names.as_slice(), a)?;
     let known = a.references.as_slice();
     let references = references_of(alloc, &frames, known, known)?;
     let keys = frames.references.pairs.keys.as_slice();
