@@ -1,6 +1,6 @@
 -- The tests of lists decide whether they are those of a state.
-use Rattle.std.proofs.Common.{◌≡◌, ℕ, ◌+◌, ◌≤◌, ◌<◌, ℤ, pos, negsuc, ◌≤ℤ◌, Bool, true, false, ◌&&◌, int_le, nat_le, Decides, List, [], ◌∷◌, length, refl, sym, ◌∙◌, arith}
-use Rattle.std.specs.Prelude.{IsTrue, ◌↔◌}
+use Rattle.std.proofs.Common.{◌≡◌, ℕ, ◌+◌, ◌≤◌, ◌<◌, ℤ, pos, negsuc, ◌≤ℤ◌, Bool, true, false, ◌&&◌, int_le, nat_le, Decides, List, [], ◌∷◌, length, refl, sym, subst, ◌∙◌, arith}
+use Rattle.std.specs.Prelude.{IsTrue, ◌↔◌, Result, Ok, Err, IfOk, Some}
 use Rattle.std.specs.List.{AllByRecursion, list_all}
 use Rattle.std.proofs.lemmas.Bool.{true≢false, true_from_ne_false}
 use Rattle.std.proofs.lemmas.Bool.Decides.{Decides-and, Decides-like}
@@ -21,7 +21,7 @@ use Rattle.array_contents.specs.Contents.{AreFormed}
 use Rattle.array_contents.specs.FormTest.{is_narrow}
 use Rattle.state_facts.specs.Forms.{AreRising, EndsBy, HasForm, IsArrayPlace, IsNumber, IsReference, IsVar, TestsOf, lengths_of}
 use Rattle.state_facts.specs.StateFacts.{StateFacts}
-use Rattle.abs_state.specs.StateParts.{StateParts, AreOrdered, AreParts, known_of}
+use Rattle.abs_state.specs.StateParts.{StateParts, AreOrdered, AreParts, known_of, parts_of}
 use Rattle.frame_names.specs.declared.reference.Reference.{Reference}
 use Rattle.frame_names.specs.declared.var.Var.{Var}
 use Rattle.frame_names.specs.declared.var.Var.TheVariants as vars
@@ -145,14 +145,17 @@ contents_decide parts =
     (formed_then symbols (lengths_of parts.references) parts.contents, formed_where symbols (lengths_of parts.references) parts.contents)
 
 -- A test that tells whether there are segments for each reference is this one.
-pub contents_test : (parts : StateParts) (is : Bool)
-    → (IsTrue is ↔ AreFormed (length parts.ranges) (lengths_of parts.references) parts.contents) → is ≡ has_contents parts
-contents_test parts true told = sym ((contents_decide parts).1 (told.0 refl))
-contents_test parts false told = by (has_contents parts) refl
+pub contents_test : (parts : StateParts) (lengths : List Expr) (is : Bool) → lengths ≡ lengths_of parts.references
+    → (IsTrue is ↔ AreFormed (length parts.ranges) lengths parts.contents) → is ≡ has_contents parts
+contents_test parts lengths is are told = told_by is (subst (λ l. IsTrue is ↔ AreFormed (length parts.ranges) l parts.contents) are told)
   where
-    by : (b : Bool) → has_contents parts ≡ b → false ≡ b
-    by true is = told.1 ((contents_decide parts).0 is)
-    by false is = refl
+    by : (b : Bool) → has_contents parts ≡ b → (AreFormed (length parts.ranges) (lengths_of parts.references) parts.contents → false ≡ true) → false ≡ b
+    by true so told = told ((contents_decide parts).0 so)
+    by false so told = refl
+
+    told_by : (is : Bool) → (IsTrue is ↔ AreFormed (length parts.ranges) (lengths_of parts.references) parts.contents) → is ≡ has_contents parts
+    told_by true told = sym ((contents_decide parts).1 (told.0 refl))
+    told_by false told = by (has_contents parts) refl told.1
 
 pub form_decides : (parts : StateParts) → Decides (has_form parts) (HasForm (known_of parts))
 unfolding has_numbers has_references
@@ -210,3 +213,12 @@ made_exactly parts reached has ordered = (
   },
   λ are. refl,
 )
+
+-- what is listed of a state in which something is reached are its parts
+pub listed_parts : {E : Type 0} (result : Result StateParts E) (known : StateFacts) → HasForm known
+    → IfOk result (λ parts. parts ≡ parts_of (Some known)) → IfOk result (λ parts. AreOrdered known) → IfOk result AreParts
+listed_parts (Ok parts) known form is ordered = subst AreParts (sym is) (record {
+  reached = λ here. record { form = form; ordered = ordered };
+  not_reached = λ not. absurd (true≢false not);
+})
+listed_parts (Err e) known form is ordered = tt

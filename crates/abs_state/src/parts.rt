@@ -1,8 +1,10 @@
 //! A state as lists, and back.
 
-ghost use Rattle.std.specs.Prelude.{◌≡◌, ◌↔◌, length, IfOk, IfSome, IsSome, Some};
+ghost use Rattle.std.specs.Prelude.{◌≡◌, ◌↔◌, length, IfOk, IfSome, IsSome, IsTrue, Some};
 ghost use Rattle.std.specs.List.{list_all};
+ghost use Rattle.array_contents.specs.Contents.{AreFormed};
 ghost use Rattle.array_contents.specs.FormTest.{is_inner, is_narrow};
+ghost use Rattle.state_facts.specs.Forms.{lengths_of};
 ghost use Rattle.abs_state.specs.FormTests as tests;
 ghost use Rattle.abs_state.specs.StateParts.{AreOrdered, AreParts, known_of, parts_of};
 
@@ -260,16 +262,26 @@ impl Parts {
         self.has_numbers() && self.sizes().has_vars(&self.variables) && self.has_references()
     }
 
+    /// The length of each reference.
+    fn lengths(&self, alloc: Global) -> Result<Vec<Expr>, NoMemory>
+        ensures { IfOk result (λ lengths. lengths.items ≡ lengths_of self.now.references) }
+    {
+        self.references.iter().map(|r| r.length).collect(alloc)
+    }
+
+    /// Returns whether there are segments for references of these lengths.
+    fn are_formed(&self, lengths: &[Expr]) -> bool
+        ensures { IsTrue result ↔ AreFormed (length self.now.ranges) lengths.now self.now.contents }
+    {
+        self.contents.are_formed(self.ranges.len(), lengths)
+    }
+
     /// Returns whether there are segments for each reference.
-    #[tactic(auto, using(crate::proofs::PartForms::contents_test))]
     fn has_contents(&self, alloc: Global) -> Result<bool, NoMemory>
         ensures { IfOk result (λ is. is ≡ tests.has_contents self.now) }
     {
-        let lengths: Vec<Expr> = self.references.iter().map(|r| r.length).collect(alloc)?;
-        Ok(
-            self.contents
-                .are_formed(self.ranges.len(), lengths.as_slice()),
-        )
+        let lengths = self.lengths(alloc)?;
+        Ok(self.are_formed(lengths.as_slice()))
     }
 
     /// Returns whether the lists are of the form of a state's.
@@ -364,7 +376,8 @@ impl AbsState {
                 None
             });
         }
-        if !parts.has_form(alloc)? {
+        let has_form = parts.has_form(alloc)?;
+        if !has_form {
             return Ok(None);
         }
         let Some(known) = parts.known(alloc)? else {

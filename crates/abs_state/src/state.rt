@@ -75,7 +75,7 @@ impl AbsState {
     }
 
     /// What each variable has, in order. None where nothing is reached.
-    fn variables(&self) -> &[Var]
+    pub(crate) fn variables(&self) -> &[Var]
         ensures value { result.now ≡ variables_in self.now }
         ensures form { ForSome self.now HasForm }
     {
@@ -97,6 +97,15 @@ impl AbsState {
         requires there { i < length (variables_in self.now) }
         ensures value { slice_get (variables_in self.now) i ≡ Some result }
         ensures form { ForSome self.now (λ known. HasVar known result) }
+    {
+        self.listed_var(i)
+    }
+
+    /// The same, by its rule.
+    fn listed_var(&self, i: u32) -> Var
+        requires there { i < length (variables_in self.now) }
+        ensures value { slice_get (variables_in self.now) i ≡ Some result }
+        ensures form { ForSome self.now HasForm }
     {
         self.variables()[i as usize]
     }

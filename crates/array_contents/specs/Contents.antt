@@ -45,4 +45,5 @@ AreFormed symbols _ _ = ⊥
 -- The segments of each reference hold of its items, where each symbol is a number.
 abbrev pub AreHeld : (ℕ → ℤ) → (ℕ → List ℤ) → Contents → Type 0
 AreHeld number items contents =
-    (i : ℕ) (segments : Segments) → slice_get contents i ≡ Some segments → Holds Contains number (items (suc i)) segments
+    (i : ℕ) (segments : Segments) → slice_get contents i ≡ Some segments
+    → Holds Contains number (items (suc i)) segments

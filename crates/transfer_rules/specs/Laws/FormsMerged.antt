@@ -326,7 +326,8 @@ merged_fit ks rule a b first second = by (paired_frames a.variables a.references
         → AreKinds ks (option_and_then (merged_by rule a b) found)
     by None is form = tt
     by (Some f) is form =
-        each_fits ks (merged_as rule.making a b f) (rule.numbers f.numbers.keys (numbers_known a.facts) (numbers_known b.facts)) form
+        each_fits ks (merged_as rule.making a b f)
+        (rule.numbers f.numbers.keys (numbers_known a.facts) (numbers_known b.facts)) form
         (λ outcome own. known_fits ks a b first second f outcome _ _ _ is own)
 
 normal_fit : (ks : List Kind) (a : StateFacts) → HasKinds ks a → ForSome (normal_known a) HasForm

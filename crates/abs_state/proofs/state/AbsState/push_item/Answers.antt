@@ -11,3 +11,12 @@ returns-then-not-branch-clause-form c = λ x is. c.self.invariant x (c.self.view
 
 pub returns-else-not-branch-clause-form : goal.returns-else-not-branch-clause-form
 returns-else-not-branch-clause-form c = λ x is. c.self.invariant x (c.self.view_is ∙ is)
+
+pub load-requires : goal.load-requires
+load-requires c = c.self.invariant _ c.in-Some.is
+
+pub invariant_of-self-in_err-load : goal.invariant_of-self-in_err-load
+invariant_of-self-in_err-load c = λ x is. same_form _ x is (rw c.in_err-load.ensures.err (c.self.invariant _ c.in-Some.is))
+
+pub returns-in_err-load-clause-form : goal.returns-in_err-load-clause-form
+returns-in_err-load-clause-form c = λ x is. c.self.invariant x (c.self.view_is ∙ is)
