@@ -13,7 +13,7 @@ use Rattle.array_contents.specs.declared.forgetting.Unknown.{Unknown}
 abbrev pub Gaps : Type 0
 Gaps = ℕ → ℕ → Option ℤ
 
--- A range that has the item of a reference at an index.
+-- The hull of the ranges of the segments that may have the item of a reference at an index.
 abbrev pub loaded_at : Gaps → Contents → ℕ → Expr → Interval
 loaded_at gap contents r at = loaded hull full gap (segments_at contents r) at
 

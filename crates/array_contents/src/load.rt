@@ -11,7 +11,7 @@ use array_segments::Segs;
 use domain_api::{Expr, Order, Values};
 use interval_domain::Range;
 
-/// A range that has the item of a reference at an index.
+/// The hull of the ranges of the segments that may have the item of a reference at an index.
 #[tactic(auto, using(crate::proofs::AtSteps::load_steps))]
 fn loaded<O: Order>(segments: &[Segs<Range>], order: &O, r: u32, at: Expr) -> Range
     requires form { AllByRecursion HasForm (map lists_of segments.now) }
@@ -28,8 +28,8 @@ fn loaded<O: Order>(segments: &[Segs<Range>], order: &O, r: u32, at: Expr) -> Ra
 }
 
 impl Contents {
-    /// A range that has the item of a reference at an index. It looks at each bound of the reference once, and takes no
-    /// memory.
+    /// The hull of the ranges of the segments that may have the item of a reference at an index. It looks at each bound
+    /// of the reference once, and takes no memory.
     pub fn load<O: Order>(&self, order: &O, r: u32, at: Expr) -> Range
         requires form { AllByRecursion HasForm self.now }
         ensures { result ≡ loaded_at (O.gap order.now) self.now r at }
