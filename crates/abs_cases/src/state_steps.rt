@@ -98,6 +98,7 @@ pub fn store(alloc: Global, state: &mut AbsState, argument: &str) -> Result<(), 
     let (r, at, e) = three_words(argument)?;
     let (r, at, e) = (reference(r)?, expr(at)?, expr(e)?);
     has_reference(alloc, state, r)?;
+    has_number(alloc, state, at)?;
     has_number(alloc, state, e)?;
     state.store(r, at, e)?;
     Ok(())

@@ -3,3 +3,4 @@ pub mod PartForms
 pub mod KeptWhereOk
 pub mod Judging
 pub mod AlikeVariables
+pub mod ThereVars

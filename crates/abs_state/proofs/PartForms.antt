@@ -1,27 +1,28 @@
 -- The tests of lists decide whether they are those of a state.
-use Rattle.std.proofs.Common.{◌≡◌, ℕ, ◌+◌, ◌≤◌, ◌<◌, ℤ, pos, negsuc, ◌≤ℤ◌, ◌<ℤ◌, Bool, true, false, ◌&&◌, int_le, int_lt, nat_le, Decides, Option, Some, None, List, [], ◌∷◌, length, refl, sym, ◌∙◌, arith}
+use Rattle.std.proofs.Common.{◌≡◌, ℕ, ◌+◌, ◌≤◌, ◌<◌, ℤ, pos, negsuc, ◌≤ℤ◌, Bool, true, false, ◌&&◌, int_le, nat_le, Decides, List, [], ◌∷◌, length, refl, sym, subst, ◌∙◌, arith}
+use Rattle.std.specs.Prelude.{IsTrue, ◌↔◌, Result, Ok, Err, IfOk, Some}
 use Rattle.std.specs.List.{AllByRecursion, list_all}
 use Rattle.std.proofs.lemmas.Bool.{true≢false, true_from_ne_false}
 use Rattle.std.proofs.lemmas.Bool.Decides.{Decides-and, Decides-like}
 use Rattle.std.proofs.lemmas.Int.{ints}
-use Rattle.cil_model.specs.Arithmetic.{LEAST, GREATEST}
 use Rattle.cil_model.specs.declared.place.Place.{Place}
 use Rattle.cil_model.specs.declared.place.Place.TheVariants as places
 use Rattle.domain_api.specs.declared.expr.Expr.{Expr}
-use Rattle.interval_domain.specs.Interval.{Interval}
 use Rattle.number_facts.specs.Holds.{Names, NamesOwn}
-use Rattle.number_spans.specs.Stored.{IsInner, IsNarrow}
 use Rattle.pentagon_domain.proofs.Allowing.{AreBelow}
 use Rattle.pentagon_domain.specs.declared.bound_row.BoundRow.{BoundRow}
 use Rattle.symbolic_values.specs.declared.def.Def.{Def}
 use Rattle.symbolic_values.specs.declared.def.Def.TheVariants.{Eq, Lt, LtUn, NullTest, Sub}
 use Rattle.alias_facts.specs.PairsOf.{Pair}
-use Rattle.abs_state.specs.FormTests.{is_inner, is_narrow, has, is_number, is_var, is_array_place, is_reference, is_def, is_definition, is_bound, is_pair, rise_from, are_rising, has_numbers, has_references, has_form}
-use Rattle.state_facts.specs.Forms.{AreRising, EndsBy, HasForm, IsArrayPlace, IsNumber, IsReference, IsVar, TestsOf}
+use Rattle.abs_state.specs.FormTests.{has, is_number, is_var, is_array_place, is_reference, is_def, is_definition, is_bound, is_pair, rise_from, are_rising, has_numbers, has_references, names_known, has_contents, has_form}
+use Rattle.array_contents.proofs.FormSteps.{formed_then, formed_where}
+use Rattle.array_contents.proofs.NarrowTest.{all_narrow}
+use Rattle.array_contents.specs.Contents.{AreFormed}
+use Rattle.array_contents.specs.FormTest.{is_narrow}
+use Rattle.state_facts.specs.Forms.{AreRising, EndsBy, HasForm, IsArrayPlace, IsNumber, IsReference, IsVar, TestsOf, lengths_of}
 use Rattle.state_facts.specs.StateFacts.{StateFacts}
-use Rattle.abs_state.specs.StateParts.{StateParts, AreOrdered, AreParts, known_of}
+use Rattle.abs_state.specs.StateParts.{StateParts, AreOrdered, AreParts, known_of, parts_of}
 use Rattle.frame_names.specs.declared.reference.Reference.{Reference}
-use Rattle.state_facts.specs.declared.reference.Unknown.{Unknown}
 use Rattle.frame_names.specs.declared.var.Var.{Var}
 use Rattle.frame_names.specs.declared.var.Var.TheVariants as vars
 
@@ -30,24 +31,8 @@ use Rattle.frame_names.specs.declared.var.Var.TheVariants as vars
 le_decides : (m n : ℤ) → Decides (int_le m n) (m ≤ℤ n)
 le_decides m n = (λ is. grind (arith, ints, is), λ below. true_from_ne_false (int_le m n) (λ e. grind (arith, ints, below, e)))
 
-lt_decides : (m n : ℤ) → Decides (int_lt m n) (m <ℤ n)
-lt_decides m n = (λ is. grind (arith, ints, is), λ below. true_from_ne_false (int_lt m n) (λ e. grind (arith, ints, below, e)))
-
 at_most_decides : (m n : ℕ) → Decides (nat_le m n) (m ≤ n)
 at_most_decides m n = (λ is. grind (arith, is), λ below. true_from_ne_false (nat_le m n) (λ e. grind (arith, below, e)))
-
-inner_decides : (lo hi : ℤ) (hole : Option ℤ) → Decides (is_inner lo hi hole) (IsInner lo hi hole)
-inner_decides lo hi None = (λ is. tt, λ inner. refl)
-inner_decides lo hi (Some hole) = Decides-and (int_lt lo hole) (int_lt hole hi) (lt_decides lo hole) (lt_decides hole hi)
-
-narrow_decides : (r : Interval) → Decides (is_narrow r) (IsNarrow r)
-unfolding is_narrow
-narrow_decides r = Decides-like _
-    (λ is. record { least = is.0; ordered = is.1.0; greatest = is.1.1.0; inner = is.1.1.1 })
-    (λ narrow. (narrow.least, (narrow.ordered, (narrow.greatest, narrow.inner))))
-    (Decides-and (int_le LEAST r.lo) _ (le_decides LEAST r.lo)
-    (Decides-and (int_le r.lo r.hi) _ (le_decides r.lo r.hi)
-    (Decides-and (int_le r.hi GREATEST) _ (le_decides r.hi GREATEST) (inner_decides r.lo r.hi r.hole))))
 
 number_decides : (symbols : ℕ) (e : Expr) → Decides (is_number symbols e) (IsNumber symbols e)
 number_decides symbols e = Decides-like _
@@ -68,7 +53,7 @@ place_decides places.Int = (λ is. absurd (true≢false (sym is)), λ is. elim i
 place_decides places.Bools = (λ is. tt, λ is. refl)
 place_decides places.Ints = (λ is. tt, λ is. refl)
 
-reference_decides : (symbols : ℕ) (r : Reference Unknown) → Decides (is_reference symbols r) (IsReference symbols r)
+reference_decides : (symbols : ℕ) (r : Reference) → Decides (is_reference symbols r) (IsReference symbols r)
 reference_decides symbols r = Decides-like _ (λ is. record { place = is.0; length_is = is.1 }) (λ is. (is.place, is.length_is))
     (Decides-and (is_array_place r.place) _ (place_decides r.place) (number_decides symbols r.length))
 
@@ -153,6 +138,25 @@ both_all : (symbols references : ℕ) (definitions : List (ℕ × Def)) → AllB
 both_all symbols references [] named tests = tt
 both_all symbols references (d ∷ definitions) named tests = ((named.0.0, (named.0.1, tests.0)), both_all symbols references definitions named.1 tests.1)
 
+contents_decide : (parts : StateParts)
+    → Decides (has_contents parts) (AreFormed (length parts.ranges) (lengths_of parts.references) parts.contents)
+contents_decide parts =
+    let symbols = length parts.ranges in
+    (formed_then symbols (lengths_of parts.references) parts.contents, formed_where symbols (lengths_of parts.references) parts.contents)
+
+-- A test that tells whether there are segments for each reference is this one.
+pub contents_test : (parts : StateParts) (lengths : List Expr) (is : Bool) → lengths ≡ lengths_of parts.references
+    → (IsTrue is ↔ AreFormed (length parts.ranges) lengths parts.contents) → is ≡ has_contents parts
+contents_test parts lengths is are told = told_by is (subst (λ l. IsTrue is ↔ AreFormed (length parts.ranges) l parts.contents) are told)
+  where
+    by : (b : Bool) → has_contents parts ≡ b → (AreFormed (length parts.ranges) (lengths_of parts.references) parts.contents → false ≡ true) → false ≡ b
+    by true so told = told ((contents_decide parts).0 so)
+    by false so told = refl
+
+    told_by : (is : Bool) → (IsTrue is ↔ AreFormed (length parts.ranges) (lengths_of parts.references) parts.contents) → is ≡ has_contents parts
+    told_by true told = sym ((contents_decide parts).1 (told.0 refl))
+    told_by false told = by (has_contents parts) refl told.1
+
 pub form_decides : (parts : StateParts) → Decides (has_form parts) (HasForm (known_of parts))
 unfolding has_numbers has_references
 form_decides parts =
@@ -160,20 +164,25 @@ form_decides parts =
     let references = length parts.references in
     Decides-like _
     (λ is. record {
-      narrow = is.0.0;
-      named = record { bounds = is.0.1.1.1; definitions = named_all symbols references parts.definitions is.0.1.1.0 };
-      rising = is.0.1.0;
-      tests = tests_all symbols references parts.definitions is.0.1.1.0;
-      variables = is.1.0;
-      references = is.1.1.0;
-      pairs = is.1.1.1;
+      narrow = is.0.0.0;
+      named = record { bounds = is.0.0.1.1.1; definitions = named_all symbols references parts.definitions is.0.0.1.1.0 };
+      rising = is.0.0.1.0;
+      tests = tests_all symbols references parts.definitions is.0.0.1.1.0;
+      variables = is.0.1.0;
+      references = is.0.1.1.0;
+      pairs = is.0.1.1.1;
+      contents = is.1;
     })
     (λ form. (
-      (form.narrow, (form.rising, (both_all symbols references parts.definitions form.named.definitions form.tests, form.named.bounds))),
-      (form.variables, (form.references, form.pairs)),
+      (
+        (form.narrow, (form.rising, (both_all symbols references parts.definitions form.named.definitions form.tests, form.named.bounds))),
+        (form.variables, (form.references, form.pairs)),
+      ),
+      form.contents,
     ))
+    (Decides-and (names_known parts) _
     (Decides-and (has_numbers parts) _
-    (Decides-and (list_all is_narrow parts.ranges) _ (all_decide is_narrow IsNarrow narrow_decides parts.ranges)
+    (Decides-and (list_all is_narrow parts.ranges) _ (all_narrow parts.ranges)
     (Decides-and (are_rising parts.definitions) _ (rising_decides parts.definitions)
     (Decides-and (list_all (is_definition symbols references) parts.definitions) _
     (all_decide (is_definition symbols references) (IsOwn symbols references) (definition_decides symbols references) parts.definitions)
@@ -183,6 +192,7 @@ form_decides parts =
     (Decides-and (list_all (is_reference symbols) parts.references) _
     (all_decide (is_reference symbols) (IsReference symbols) (reference_decides symbols) parts.references)
     (all_decide (is_pair references) (EndsBy references) (pair_decides references) parts.apart))))
+    (contents_decide parts))
 
 pub formed : (parts : StateParts) (known : StateFacts) → known ≡ known_of parts → has_form parts ≡ true → HasForm known
 formed parts known is has = rw is ((form_decides parts).0 has)
@@ -203,3 +213,12 @@ made_exactly parts reached has ordered = (
   },
   λ are. refl,
 )
+
+-- what is listed of a state in which something is reached are its parts
+pub listed_parts : {E : Type 0} (result : Result StateParts E) (known : StateFacts) → HasForm known
+    → IfOk result (λ parts. parts ≡ parts_of (Some known)) → IfOk result (λ parts. AreOrdered known) → IfOk result AreParts
+listed_parts (Ok parts) known form is ordered = subst AreParts (sym is) (record {
+  reached = λ here. record { form = form; ordered = ordered };
+  not_reached = λ not. absurd (true≢false not);
+})
+listed_parts (Err e) known form is ordered = tt

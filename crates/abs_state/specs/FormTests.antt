@@ -1,27 +1,19 @@
 -- The forms of what is known, as tests.
-use Rattle.std.specs.Prelude.{ℕ, ◌+◌, ◌==◌, nat_le, ℤ, pos, negsuc, Bool, true, false, ◌&&◌, int_le, int_lt, List, [], ◌∷◌, Option, Some, None, length}
+use Rattle.std.specs.Prelude.{ℕ, ◌+◌, ◌==◌, nat_le, pos, negsuc, Bool, true, false, ◌&&◌, int_le, List, [], ◌∷◌, length}
 use Rattle.std.specs.List.{list_all}
 use Rattle.alias_facts.specs.PairsOf.{Pair}
-use Rattle.cil_model.specs.Arithmetic.{LEAST, GREATEST}
+use Rattle.array_contents.specs.FormTest.{are_formed, is_narrow}
 use Rattle.cil_model.specs.declared.place.Place.{Place}
 use Rattle.cil_model.specs.declared.place.Place.TheVariants as places
 use Rattle.domain_api.specs.declared.expr.Expr.{Expr}
-use Rattle.interval_domain.specs.Interval.{Interval}
 use Rattle.pentagon_domain.specs.declared.bound_row.BoundRow.{BoundRow}
 use Rattle.symbolic_values.specs.declared.def.Def.{Def}
 use Rattle.symbolic_values.specs.declared.def.Def.TheVariants.{Eq, Lt, LtUn, NullTest, Sub}
 use Rattle.abs_state.specs.StateParts.{StateParts}
+use Rattle.state_facts.specs.Forms.{lengths_of}
 use Rattle.frame_names.specs.declared.reference.Reference.{Reference}
-use Rattle.state_facts.specs.declared.reference.Unknown.{Unknown}
 use Rattle.frame_names.specs.declared.var.Var.{Var}
 use Rattle.frame_names.specs.declared.var.Var.TheVariants as vars
-
-abbrev pub is_inner : ℤ → ℤ → Option ℤ → Bool
-is_inner lo hi None = true
-is_inner lo hi (Some hole) = int_lt lo hole && int_lt hole hi
-
-unfoldable pub is_narrow : Interval → Bool
-is_narrow r = int_le LEAST r.lo && (int_le r.lo r.hi && (int_le r.hi GREATEST && is_inner r.lo r.hi r.hole))
 
 abbrev pub has : ℕ → Expr → Bool
 has symbols e = nat_le e.sym symbols
@@ -39,7 +31,7 @@ is_array_place places.Bools = true
 is_array_place places.Ints = true
 is_array_place _ = false
 
-abbrev pub is_reference : ℕ → Reference Unknown → Bool
+abbrev pub is_reference : ℕ → Reference → Bool
 is_reference symbols r = is_array_place r.place && is_number symbols r.length
 
 abbrev pub is_def : (symbols references : ℕ) → Def → Bool
@@ -72,7 +64,7 @@ is_none xs = length xs == 0
 abbrev pub is_empty : StateParts → Bool
 is_empty parts =
     is_none parts.variables && (is_none parts.ranges && (is_none parts.definitions
-    && (is_none parts.bounds && (is_none parts.references && is_none parts.apart))))
+    && (is_none parts.bounds && (is_none parts.references && (is_none parts.apart && is_none parts.contents)))))
 
 -- Of symbols: ranges are of int32, definitions rise and name what is there, and so do bounds.
 unfoldable pub has_numbers : StateParts → Bool
@@ -91,5 +83,12 @@ has_references parts =
     list_all (is_reference (length parts.ranges)) parts.references
     && list_all (is_pair (length parts.references)) parts.apart
 
+abbrev pub names_known : StateParts → Bool
+names_known parts = has_numbers parts && (has_variables parts && has_references parts)
+
+-- There are segments for each reference.
+abbrev pub has_contents : StateParts → Bool
+has_contents parts = are_formed (length parts.ranges) (lengths_of parts.references) parts.contents
+
 abbrev pub has_form : StateParts → Bool
-has_form parts = has_numbers parts && (has_variables parts && has_references parts)
+has_form parts = names_known parts && has_contents parts

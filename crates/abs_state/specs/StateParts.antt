@@ -1,6 +1,7 @@
 -- A state as lists, and which lists are one.
 use Rattle.std.specs.Prelude.{◌≡◌, ℕ, Bool, true, false, List, [], Some, None}
 use Rattle.alias_facts.specs.PairsOf.{Pair, AreInOrder, AreProper}
+use Rattle.array_contents.specs.Contents.{Contents}
 use Rattle.interval_domain.specs.Interval.{Interval}
 use Rattle.pentagon_domain.specs.Rows.{AreBounds}
 use Rattle.pentagon_domain.specs.declared.bound_row.BoundRow.{BoundRow}
@@ -8,19 +9,19 @@ use Rattle.symbolic_values.specs.declared.def.Def.{Def}
 use Rattle.state_facts.specs.Forms.{HasForm}
 use Rattle.state_facts.specs.StateFacts.{StateFacts, State}
 use Rattle.frame_names.specs.declared.reference.Reference.{Reference}
-use Rattle.state_facts.specs.declared.reference.Unknown.{Unknown}
 use Rattle.frame_names.specs.declared.var.Var.{Var}
 
 -- Whether something is reached, what each variable has, the range of each symbol from 1 on, definitions, bounds, what is
--- known of each reference from 1 on, and which are apart.
+-- known of each reference from 1 on, which are apart, and the segments of each.
 pub record StateParts : Type 0 where
   pub reached : Bool
   pub variables : List Var
   pub ranges : List Interval
   pub definitions : List (ℕ × Def)
   pub bounds : List BoundRow
-  pub references : List (Reference Unknown)
+  pub references : List Reference
   pub apart : List Pair
+  pub contents : Contents
 
 -- What is known where something is reached.
 abbrev pub known_of : StateParts → StateFacts
@@ -29,6 +30,7 @@ known_of parts = record {
   facts = record { ranges = parts.ranges; definitions = parts.definitions; bounds = parts.bounds };
   references = parts.references;
   apart = parts.apart;
+  contents = parts.contents;
 }
 
 abbrev pub nothing_listed : StateParts
@@ -40,6 +42,7 @@ nothing_listed = record {
   bounds = [];
   references = [];
   apart = [];
+  contents = [];
 }
 
 -- The parts of a state. Where nothing is reached all lists are empty.
@@ -53,6 +56,7 @@ parts_of (Some known) = record {
   bounds = known.facts.bounds;
   references = known.references;
   apart = known.apart;
+  contents = known.contents;
 }
 
 -- Bounds and pairs are in order, each once.

@@ -7,7 +7,7 @@ use domain_api::Expr;
 use frame_names::{Reference, Var};
 use interval_domain::Range;
 use number_facts::Numbers;
-use state_facts::{Known, Unknown};
+use state_facts::Known;
 use symbolic_values::Def;
 
 /// Returns whether two ranges are equal.
@@ -65,7 +65,7 @@ fn is_same_definition(a: &(u32, Def), b: &(u32, Def)) -> bool
 }
 
 /// Returns whether the same is known of two references.
-fn is_same_reference(a: &Reference<Unknown>, b: &Reference<Unknown>) -> bool
+fn is_same_reference(a: &Reference, b: &Reference) -> bool
     ensures { IsTrue result ↔ (a.now ≡ b.now) }
 {
     a.place == b.place && a.nullness == b.nullness && is_same_expr(a.length, b.length)
@@ -117,7 +117,7 @@ fn are_same_definitions(a: &[(u32, Def)], b: &[(u32, Def)]) -> bool
 }
 
 /// Returns whether two lists of references are equal.
-fn are_same_references(a: &[Reference<Unknown>], b: &[Reference<Unknown>]) -> bool
+fn are_same_references(a: &[Reference], b: &[Reference]) -> bool
     ensures { IsTrue result ↔ (a.now ≡ b.now) }
 {
     if a.len() != b.len() {
@@ -148,6 +148,7 @@ fn is_same_known(a: &Known, b: &Known) -> bool
         && are_same_numbers(&a.numbers, &b.numbers)
         && are_same_references(&a.references, &b.references)
         && a.apart.same(&b.apart)
+        && a.contents.same(&b.contents)
 }
 
 impl AbsState {

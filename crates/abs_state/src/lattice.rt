@@ -5,7 +5,7 @@ ghost use Rattle.state_facts.specs.Holds.{HoldsAt};
 ghost use Rattle.merged_states.specs.Merging as states;
 ghost use Rattle.merged_states.specs.Alike.{AreLikeStates};
 ghost use Rattle.merged_states.specs.Inclusion.{is_included};
-ghost use Rattle.merged_states.specs.Rules.{number_rule};
+ghost use Rattle.merged_states.specs.Rules.{rule_of};
 ghost use Rattle.merged_states.specs.Laws.StatesHold as laws;
 
 use crate::state::AbsState;
@@ -19,7 +19,7 @@ impl AbsState {
     #[tactic(auto, using(merged_states::proofs::Handed::alike))]
     fn merged(&self, alloc: Global, rule: Merging, other: &AbsState) -> Result<AbsState, NoMemory>
         requires { AreLikeStates self.now other.now }
-        ensures { IfOk result (λ merged. merged ≡ states.merged (number_rule rule) self.now other.now) }
+        ensures { IfOk result (λ merged. merged ≡ states.merged (rule_of rule) self.now other.now) }
     {
         match (&self.known, &other.known) {
             (None, _) => other.copy(alloc),

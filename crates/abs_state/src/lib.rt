@@ -10,6 +10,7 @@ mod state;
 mod steps;
 mod unknown_values;
 
+pub use array_contents::{Contents, Segs};
 pub use parts::Parts;
 pub use state::AbsState;
-pub use state_facts::{Reference, Unknown, Var};
+pub use state_facts::{Reference, Var};

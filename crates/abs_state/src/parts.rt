@@ -1,19 +1,23 @@
 //! A state as lists, and back.
 
-ghost use Rattle.std.specs.Prelude.{◌≡◌, ◌↔◌, length, IfOk, IfSome, IsSome, Some};
+ghost use Rattle.std.specs.Prelude.{◌≡◌, ◌↔◌, length, IfOk, IfSome, IsSome, IsTrue, Some};
 ghost use Rattle.std.specs.List.{list_all};
+ghost use Rattle.array_contents.specs.Contents.{AreFormed};
+ghost use Rattle.array_contents.specs.FormTest.{is_inner, is_narrow};
+ghost use Rattle.state_facts.specs.Forms.{lengths_of};
 ghost use Rattle.abs_state.specs.FormTests as tests;
 ghost use Rattle.abs_state.specs.StateParts.{AreOrdered, AreParts, known_of, parts_of};
 
 use crate::state::AbsState;
 use alias_facts::Apart;
+use array_contents::Contents;
 use cil_model::Place;
 use domain_api::{Expr, NoMemory};
 use frame_names::{Reference, Var};
 use interval_domain::Range;
 use number_facts::{Definitions, Numbers};
 use pentagon_domain::{BoundRow, Bounds};
-use state_facts::{Known, Unknown};
+use state_facts::Known;
 use std::alloc::Global;
 use std::marker::Model;
 use symbolic_values::Def;
@@ -32,9 +36,11 @@ pub struct Parts {
     /// How symbols lie to each other, rising by the first symbol, then by the second.
     pub bounds: Vec<BoundRow>,
     /// What is known of each reference, that of reference r at place r - 1.
-    pub references: Vec<Reference<Unknown>>,
+    pub references: Vec<Reference>,
     /// Which references are not the same array, lower first, in order.
     pub apart: Vec<(u32, u32)>,
+    /// The segments of each reference, those of reference r at place r - 1.
+    pub contents: Contents,
 }
 
 impl Model for Parts {
@@ -50,12 +56,13 @@ impl Model for Parts {
       bounds = p.bounds.items;
       references = p.references.items;
       apart = p.apart.items;
+      contents = p.contents;
     } };
 }
 
 /// Returns whether a hole lies strictly between two ends.
 fn is_inner(lo: i64, hi: i64, hole: Option<i64>) -> bool
-    ensures { result ≡ tests.is_inner lo hi hole }
+    ensures { result ≡ is_inner lo hi hole }
 {
     match hole {
         None => true,
@@ -64,9 +71,9 @@ fn is_inner(lo: i64, hi: i64, hole: Option<i64>) -> bool
 }
 
 /// Returns whether the numbers of a range are int32, and there is one.
-#[tactic(auto, unfolding(crate::specs::FormTests::is_narrow))]
+#[tactic(auto, unfolding(array_contents::specs::FormTest::is_narrow))]
 fn is_narrow(range: &Range) -> bool
-    ensures { result ≡ tests.is_narrow range.now }
+    ensures { result ≡ is_narrow range.now }
 {
     let (lo, hi) = (range.lo(), range.hi());
     i64::from(i32::MIN) <= lo
@@ -109,7 +116,7 @@ impl Sizes {
     }
 
     /// Returns whether a reference is one of an array, and its length is there.
-    fn has_reference(self, reference: &Reference<Unknown>) -> bool
+    fn has_reference(self, reference: &Reference) -> bool
         ensures { result ≡ tests.is_reference self.symbols reference.now }
     {
         matches!(reference.place, Place::Bools | Place::Ints) && self.has_number(reference.length)
@@ -151,7 +158,7 @@ impl Sizes {
     }
 
     /// Returns whether each reference is one of an array, and its length is there.
-    fn has_all_references(self, references: &[Reference<Unknown>]) -> bool
+    fn has_all_references(self, references: &[Reference]) -> bool
         ensures { result ≡ list_all (tests.is_reference self.symbols) references.now }
     {
         references.iter().all(|r| self.has_reference(r))
@@ -181,7 +188,7 @@ impl Sizes {
 
 /// Returns whether the numbers of each range are int32.
 fn are_narrow(ranges: &[Range]) -> bool
-    ensures { result ≡ list_all tests.is_narrow ranges.now }
+    ensures { result ≡ list_all is_narrow ranges.now }
 {
     ranges.iter().all(is_narrow)
 }
@@ -213,6 +220,7 @@ impl Parts {
             && self.bounds.is_empty()
             && self.references.is_empty()
             && self.apart.is_empty()
+            && self.contents.segments.is_empty()
     }
 
     /// How many symbols and references there are.
@@ -248,10 +256,42 @@ impl Parts {
     }
 
     /// Returns whether ranges are of int32, and what is named is there.
-    fn has_form(&self) -> bool
-        ensures { result ≡ tests.has_form self.now }
+    fn names_known(&self) -> bool
+        ensures { result ≡ tests.names_known self.now }
     {
         self.has_numbers() && self.sizes().has_vars(&self.variables) && self.has_references()
+    }
+
+    /// The length of each reference.
+    fn lengths(&self, alloc: Global) -> Result<Vec<Expr>, NoMemory>
+        ensures { IfOk result (λ lengths. lengths.items ≡ lengths_of self.now.references) }
+    {
+        self.references.iter().map(|r| r.length).collect(alloc)
+    }
+
+    /// Returns whether there are segments for references of these lengths.
+    fn are_formed(&self, lengths: &[Expr]) -> bool
+        ensures { IsTrue result ↔ AreFormed (length self.now.ranges) lengths.now self.now.contents }
+    {
+        self.contents.are_formed(self.ranges.len(), lengths)
+    }
+
+    /// Returns whether there are segments for each reference.
+    fn has_contents(&self, alloc: Global) -> Result<bool, NoMemory>
+        ensures { IfOk result (λ is. is ≡ tests.has_contents self.now) }
+    {
+        let lengths = self.lengths(alloc)?;
+        Ok(self.are_formed(lengths.as_slice()))
+    }
+
+    /// Returns whether the lists are of the form of a state's.
+    fn has_form(&self, alloc: Global) -> Result<bool, NoMemory>
+        ensures { IfOk result (λ is. is ≡ tests.has_form self.now) }
+    {
+        if !self.names_known() {
+            return Ok(false);
+        }
+        self.has_contents(alloc)
     }
 
     /// What is known by these lists, where something is reached. None where bounds or pairs are not in order.
@@ -277,6 +317,7 @@ impl Parts {
             },
             references: Vec::from_slice(alloc, self.references.as_slice())?,
             apart,
+            contents: self.contents.copy(alloc)?,
         }))
     }
 }
@@ -294,6 +335,7 @@ fn listed(alloc: Global, known: &Known) -> Result<Parts, NoMemory>
         bounds: Vec::from_slice(alloc, known.numbers.bounds.rows())?,
         references: Vec::from_slice(alloc, known.references.as_slice())?,
         apart: known.apart.pairs(alloc)?,
+        contents: known.contents.copy(alloc)?,
     })
 }
 
@@ -314,6 +356,7 @@ impl AbsState {
                 bounds: Vec::new(alloc),
                 references: Vec::new(alloc),
                 apart: Vec::new(alloc),
+                contents: Contents::new(alloc),
             }),
             Some(known) => listed(alloc, known),
         }
@@ -333,7 +376,8 @@ impl AbsState {
                 None
             });
         }
-        if !parts.has_form() {
+        let has_form = parts.has_form(alloc)?;
+        if !has_form {
             return Ok(None);
         }
         let Some(known) = parts.known(alloc)? else {

@@ -75,7 +75,7 @@ impl AbsState {
     }
 
     /// What each variable has, in order. None where nothing is reached.
-    fn variables(&self) -> &[Var]
+    pub(crate) fn variables(&self) -> &[Var]
         ensures value { result.now ≡ variables_in self.now }
         ensures form { ForSome self.now HasForm }
     {
@@ -97,6 +97,15 @@ impl AbsState {
         requires there { i < length (variables_in self.now) }
         ensures value { slice_get (variables_in self.now) i ≡ Some result }
         ensures form { ForSome self.now (λ known. HasVar known result) }
+    {
+        self.listed_var(i)
+    }
+
+    /// The same, by its rule.
+    fn listed_var(&self, i: u32) -> Var
+        requires there { i < length (variables_in self.now) }
+        ensures value { slice_get (variables_in self.now) i ≡ Some result }
+        ensures form { ForSome self.now HasForm }
     {
         self.variables()[i as usize]
     }
@@ -240,30 +249,34 @@ impl AbsState {
         self.assume_comparison(op, a, b, holds)
     }
 
-    /// Pushes the item of an array at an index. Nothing is known of what arrays hold: it may be any number of the
-    /// array's type.
-    pub fn load(&mut self, r: u32, _at: Expr) -> Result<(), NoMemory>
+    /// Pushes the item of an array at an index: a number that the segments have which may lie there.
+    ///
+    /// Cost: a look at each bound of the reference.
+    pub fn load(&mut self, r: u32, at: Expr) -> Result<(), NoMemory>
         requires { ForSome self.old (λ known. HasReference known r) }
-        ensures ok { OnOk result (self.new ≡ rule.load r self.old) }
-        ensures keeps { OnOk result (KeepsLoad r self.old self.new) }
+        ensures ok { OnOk result (self.new ≡ rule.load r at self.old) }
+        ensures keeps { OnOk result (KeepsLoad r at self.old self.new) }
         ensures err { OnErr result (self.new ≡ self.old) }
     {
-        self.push_item(r)
+        self.push_item(r, at)
     }
 
-    /// Stores a number into an array at an index. Nothing is known of what arrays hold: no variable and no reference
-    /// changes.
-    pub fn store(&mut self, r: u32, _at: Expr, value: Expr) -> Result<(), NoMemory>
+    /// Stores a number into an array at an index. The segments of the reference have it there, and those of each
+    /// reference that may be the same array may have it.
+    ///
+    /// Cost: a test of each reference, and a look at each bound of those that may be the same array.
+    pub fn store(&mut self, r: u32, at: Expr, value: Expr) -> Result<(), NoMemory>
         requires there { ForSome self.old (λ known. HasReference known r) }
+        requires index { ForSome self.old (λ known. HasNumber known at) }
         requires value { ForSome self.old (λ known. HasNumber known value) }
-        ensures ok { OnOk result (self.new ≡ rule.store r value self.old) }
-        ensures keeps { OnOk result (KeepsStore self.old self.new) }
+        ensures ok { OnOk result (self.new ≡ rule.store r at value self.old) }
+        ensures keeps { OnOk result (KeepsStore r at value self.old self.new) }
         ensures err { OnErr result (self.new ≡ self.old) }
     {
-        self.store_item(r, value)
+        self.store_item(r, at, value)
     }
 
-    /// Pushes a new array of this type and length.
+    /// Pushes a new array of this type and length, whose items are 0.
     pub fn new_array(&mut self, place: Place, length: Expr) -> Result<(), NoMemory>
         requires place { IsArrayPlace place }
         requires length { ForSome self.old (λ known. HasNumber known length) }
@@ -274,8 +287,8 @@ impl AbsState {
         self.push_array(place, length)
     }
 
-    /// Pushes what a call gives to which so many variables were passed, from the first one on: a value of this type, or
-    /// nothing.
+    /// A call to which so many variables were passed, from the first one on, came back: of each array that may be one of
+    /// those that were passed the items are forgotten, and what it gives is pushed, a value of this type, or nothing.
     pub fn forget(&mut self, first: u32, args: u32, place: Place) -> Result<(), NoMemory>
         requires { ForSome self.old (λ known. first + args ≤ length known.variables) }
         ensures ok { OnOk result (self.new ≡ rule.forget first args place self.old) }

@@ -121,34 +121,35 @@ impl AbsState {
         Ok(())
     }
 
-    /// Pushes an item of an array.
-    pub(crate) fn push_item(&mut self, r: u32) -> Result<(), NoMemory>
+    /// Pushes the item of an array at an index.
+    pub(crate) fn push_item(&mut self, r: u32, at: Expr) -> Result<(), NoMemory>
         requires { ForSome self.old (λ known. HasReference known r) }
-        ensures ok { OnOk result (self.new ≡ rule.load r self.old) }
+        ensures ok { OnOk result (self.new ≡ rule.load r at self.old) }
         ensures err { OnErr result (self.new ≡ self.old) }
         ensures form { ForSome self.old HasForm }
     {
         let Some(known) = &mut self.known else {
             return Ok(());
         };
-        if !known.load(r)? {
+        if !known.load(r, at)? {
             self.known = None;
         }
         Ok(())
     }
 
-    /// Stores a number into an array.
-    pub(crate) fn store_item(&mut self, r: u32, value: Expr) -> Result<(), NoMemory>
+    /// Stores a number into an array at an index.
+    pub(crate) fn store_item(&mut self, r: u32, at: Expr, value: Expr) -> Result<(), NoMemory>
         requires there { ForSome self.old (λ known. HasReference known r) }
+        requires index { ForSome self.old (λ known. HasNumber known at) }
         requires value { ForSome self.old (λ known. HasNumber known value) }
-        ensures ok { OnOk result (self.new ≡ rule.store r value self.old) }
+        ensures ok { OnOk result (self.new ≡ rule.store r at value self.old) }
         ensures err { OnErr result (self.new ≡ self.old) }
         ensures form { ForSome self.old HasForm }
     {
         let Some(known) = &mut self.known else {
             return Ok(());
         };
-        if !known.store(r, value)? {
+        if !known.store(r, at, value)? {
             self.known = None;
         }
         Ok(())

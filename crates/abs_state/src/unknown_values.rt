@@ -20,11 +20,17 @@ impl AbsState {
         ensures value { result ≡ slice_get (reverse (variables_in self.now)) above }
         ensures form { IfSome result (λ v. ForSome self.now (λ known. HasVar known v)) }
     {
-        let Some(known) = &self.known else {
-            return None;
-        };
-        let below = known.variables.len().checked_sub(above)?;
-        known.variables.get(below.checked_sub(1)?).copied()
+        self.listed_from_top(above)
+    }
+
+    /// The same, by its rule.
+    fn listed_from_top(&self, above: usize) -> Option<Var>
+        ensures value { result ≡ slice_get (reverse (variables_in self.now)) above }
+        ensures form { ForSome self.now HasForm }
+    {
+        let variables = self.variables();
+        let below = variables.len().checked_sub(above)?;
+        variables.get(below.checked_sub(1)?).copied()
     }
 
     /// What the variable of a list index has. None where there is no such variable, and where nothing is reached.
@@ -32,10 +38,15 @@ impl AbsState {
         ensures value { result ≡ slice_get (variables_in self.now) i }
         ensures form { IfSome result (λ v. ForSome self.now (λ known. HasVar known v)) }
     {
-        let Some(known) = &self.known else {
-            return None;
-        };
-        known.variables.get(i as usize).copied()
+        self.listed_at(i)
+    }
+
+    /// The same, by its rule.
+    fn listed_at(&self, i: u64) -> Option<Var>
+        ensures value { result ≡ slice_get (variables_in self.now) i }
+        ensures form { ForSome self.now HasForm }
+    {
+        self.variables().get(i as usize).copied()
     }
 
     /// The type of the arrays that a reference may be. That of reference 0 does not matter.

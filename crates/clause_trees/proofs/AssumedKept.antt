@@ -20,7 +20,7 @@ use Rattle.cil_model.specs.declared.place.Place.{Place}
 use Rattle.merged_numbers.specs.Merging as numbers
 use Rattle.merged_states.specs.Alike.{AreLikeStates}
 use Rattle.merged_states.specs.Following.{AreOfMachine, HoldsOver, IsMachineNumber}
-use Rattle.merged_states.specs.Merging.{join}
+use Rattle.merged_states.specs.Merging.{join, joining}
 use Rattle.merged_states.specs.Laws.BothHold.{joined_keeps}
 use Rattle.merged_states.specs.Laws.StatesHold.{merged_over}
 use Rattle.state_facts.specs.Forms.{HasForm}
@@ -128,13 +128,13 @@ join_first : (known : StateFacts) (o p : State) (vs : List Value) (heap : Heap) 
     → HasSameFormsIn known o
     → HasSameFormsIn known p → HoldsOver o vs heap → HoldsOver (join o p) vs heap
 join_first known o p vs heap machine first second over =
-    merged_over true numbers.joined o p (joined_keeps true) (like_states known o p first second) vs heap machine over
+    merged_over true joining o p (joined_keeps true) (like_states known o p first second) vs heap machine over
 
 join_second : (known : StateFacts) (o p : State) (vs : List Value) (heap : Heap) → AreOfMachine vs heap
     → HasSameFormsIn known o
     → HasSameFormsIn known p → HoldsOver p vs heap → HoldsOver (join o p) vs heap
 join_second known o p vs heap machine first second over =
-    merged_over false numbers.joined o p (joined_keeps false) (like_states known o p first second) vs heap machine over
+    merged_over false joining o p (joined_keeps false) (like_states known o p first second) vs heap machine over
 
 -- ---- trees
 

@@ -1,9 +1,8 @@
 -- What nodes keep: where operands have values of which the machine makes a value, what is pushed has it.
 use Rattle.std.proofs.Common.{◌≡◌, ◌≢◌, ℕ, zero, suc, ◌<◌, ℤ, pos, negsuc, ◌≤ℤ◌, ◌<ℤ◌, ◌-ℤ◌, neg_ℤ, int_le, unsigned_abs, Bool, true, false, ◌&&◌, List, [], ◌∷◌, ◌++◌, length, slice_get, Option, Some, None, FitsSigned, w32, Result, Ok, Err, refl, ap, subst, sym, ◌∙◌, arith}
-use Rattle.std.specs.Prelude.{Contains, option_map}
+use Rattle.std.specs.Prelude.{option_map}
 use Rattle.std.specs.Option.{option_map_or}
 use Rattle.std.proofs.lemmas.Int.{int_wrap_fits, ints}
-use Rattle.std.proofs.lemmas.List.Elements.{Contains-get_or}
 use Rattle.std.proofs.lemmas.Option.{get_or_from_slice_get, none-some, same_Some, slice_get_within}
 use Rattle.cc_base.specs.Wrap.{wrap32}
 use Rattle.cil_model.specs.Arithmetic.{operated, operated_one, truth}
@@ -38,7 +37,8 @@ use Rattle.state_facts.specs.StateFacts.{StateFacts, length_at, length_of}
 use Rattle.state_facts.specs.States as rule
 use Rattle.state_facts.proofs.Agreeing.{length_kept}
 use Rattle.state_facts.proofs.ComparisonsHold.{IsLike, compare_keeps, like_number, like_reference, like_text, unlike}
-use Rattle.state_facts.proofs.MovesHold.{load_keeps, push_keeps}
+use Rattle.state_facts.proofs.MovesHold.{push_keeps}
+use Rattle.state_facts.proofs.StoresHold.{load_keeps}
 use Rattle.state_facts.proofs.ResultsHold.{arith_keeps}
 use Rattle.state_facts.proofs.UnknownValues.{unknown_is_kept}
 use Rattle.state_obligations.specs.Conditions.{operator_conditions}
@@ -118,12 +118,10 @@ module _ (over heap : Heap) (kept : KeepsForms over heap) (is_heap : IsHeap heap
 
 -- ---- items
 
-contains_item : (items : List ℤ) (k : ℕ) (n : ℤ) → slice_get items k ≡ Some n → Contains items n
-contains_item items k n is =
-    subst (Contains items) (get_or_from_slice_get items k n (pos 0) is)
-    (Contains-get_or items k (pos 0) (slice_get_within items k n is))
+counted : (n : ℤ) → int_le (pos 0) n ≡ true → n ≡ pos (unsigned_abs n)
+counted n above = omega (arith, ints, above)
 
-same_by_number : (p q : Place) → same_place p q ≡ true → p ≡ q
+pub same_by_number : (p q : Place) → same_place p q ≡ true → p ≡ q
 same_by_number places.Void places.Void is = refl
 same_by_number places.Bool places.Bool is = refl
 same_by_number places.Int places.Int is = refl
@@ -148,17 +146,23 @@ index_within items n item above is =
 module _ (over heap : Heap) (kept : KeepsForms over heap) (is_heap : IsHeap heap) (is_over : IsHeap over) (time : Time)
     (now : time ≡ Now → over ≡ heap) where
   -- what is pushed, behind the conditions
-  item_pushed : (x : StateFacts) (place : Place) (r : ℕ) (y z is : Value) (vs : List Value) (number : ℕ → ℤ)
-      (array : ℕ → Option ℕ)
-      (item : IsItem over place y z is) → HasForm x → HoldsBy x vs heap number array → array r ≡ Some item.array
-      → (t : Time) → t ≡ time → HoldsOn (Some x) (push_item t place r (Some x))
+  item_pushed : (x : StateFacts) (place : Place) (r : ℕ) (i : Expr) (y z is : Value) (vs : List Value)
+      (number : ℕ → ℤ) (array : ℕ → Option ℕ)
+      (item : IsItem over place y z is) → HasForm x → HasReference x r → HoldsBy x vs heap number array
+      → array r ≡ Some item.array → item.index ≡ worth number i
+      → (t : Time) → t ≡ time → HoldsOn (Some x) (push_item t place r i (Some x))
       (vs ++ values.Int item.item ∷ []) heap number array
-  item_pushed x place r y z is vs number array item form holds at Now same =
-      load_keeps r (Some x) (for_known x HasForm form) vs heap number array item.array item.cell item.item holds is_heap
-      at
-      (subst (λ h. slice_get h item.array ≡ Some item.cell) (now (sym same)) item.cell_is)
-      (contains_item item.cell.items (unsigned_abs item.index) item.item item.item_is)
-  item_pushed x place r y z is vs number array item form holds at Entry same =
+  item_pushed x place r i y z is vs number array item form there holds at index Now same =
+      subst (λ n. HoldsOn (Some x) (push_item Now place r i (Some x)) (vs ++ values.Int n ∷ []) heap number array)
+      (get_or_from_slice_get item.cell.items (unsigned_abs item.index) item.item (pos 0) item.item_is)
+      (load_keeps r i (Some x) (for_known x HasForm form) (for_known x (λ known. HasReference known r) there) vs heap
+      number array item.array item.cell (unsigned_abs item.index) holds is_heap (record {
+        array_is = at;
+        cell_is = subst (λ h. slice_get h item.array ≡ Some item.cell) (now (sym same)) item.cell_is;
+        index_is = sym index ∙ counted item.index item.not_negative;
+        below = slice_get_within item.cell.items (unsigned_abs item.index) item.item item.item_is;
+      }))
+  item_pushed x place r i y z is vs number array item form there holds at index Entry same =
       unknown_is_kept (item_place place) (Some x) (for_known x HasForm form) vs heap number array (values.Int item.item)
       holds is_heap
       (subst (λ p. FitsPlace heap (item_place p) (values.Int item.item))
@@ -180,7 +184,7 @@ module _ (over heap : Heap) (kept : KeepsForms over heap) (is_heap : IsHeap heap
       ap (length_of_array heap) at ∙ ap (λ n. pos n)
       (same_length over heap kept is_heap item.array item.cell item.cell_is) in
       let int32 = subst (FitsSigned w32) index fits in
-      owed_kept known (operations.Element r i) (push_item time place r) vs (vs ++ is ∷ []) heap number array form
+      owed_kept known (operations.Element r i) (push_item time place r i) vs (vs ++ is ∷ []) heap number array form
       (first, (second, ((first, second), tt))) is_heap holds (tt, (int32, (int32, tt))) (
         (λ none. none-some item.array (sym none ∙ at)),
         (
@@ -193,8 +197,9 @@ module _ (over heap : Heap) (kept : KeepsForms over heap) (is_heap : IsHeap heap
         ),
       )
       (λ x stays still.
-      subst (λ v. HoldsOn (Some x) (push_item time place r (Some x)) (vs ++ v ∷ []) heap number array) item.value_is
-      (item_pushed x place r y z is vs number array item stays.form still at time refl))
+      subst (λ v. HoldsOn (Some x) (push_item time place r i (Some x)) (vs ++ v ∷ []) heap number array) item.value_is
+      (item_pushed x place r i y z is vs number array item stays.form
+      (var_there known x (vars.Reference r) (stays_grown known x stays) first) still at index time refl))
 
   pub element_node : (known : StateFacts) (place : Place) (v w : Var) (y z is : Value) (vs : List Value)
       (number : ℕ → ℤ)

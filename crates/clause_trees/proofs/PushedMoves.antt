@@ -32,13 +32,12 @@ use Rattle.state_facts.specs.Arithmetic.{with_result}
 use Rattle.state_facts.specs.Calls.{returned, with_returned}
 use Rattle.state_facts.specs.Comparing.{is_equality, null_known, null_tested, same_known, with_comparison, with_defined, with_known, with_null_known, with_null_test, with_same, with_same_known, with_tested, with_truth}
 use Rattle.state_facts.specs.Forms.{HasForm, HasNumber, HasReference}
-use Rattle.state_facts.specs.Moves.{on_top, with_item, with_number}
+use Rattle.state_facts.specs.Moves.{on_top, with_item, with_number, with_one_of}
 use Rattle.state_facts.specs.StateFacts.{StateFacts, nullness_at, reference_at}
 use Rattle.state_facts.specs.UnknownValues.{with_unknown, with_within}
-use Rattle.state_facts.specs.declared.reference.Unknown.{Unknown}
 use Rattle.state_facts.proofs.ComparisonForms.{comparison_form}
 use Rattle.state_facts.proofs.Growing.{Formed, one_longer}
-use Rattle.state_facts.proofs.MoveForms.{number_form}
+use Rattle.state_facts.proofs.MoveForms.{item_form, number_form}
 use Rattle.state_facts.proofs.ResultForms.{with_result_form}
 use Rattle.state_facts.proofs.UnknownValues.{unknown_form, within_form}
 use Rattle.clause_trees.specs.VariableKinds.{IsOfKind, IsPushed, IsPushedIn, place_in}
@@ -129,9 +128,13 @@ number_pushed lo hi known form = by (number_form lo hi known form)
     by : Formed (with_number lo hi known) → IsPushedIn known kinds.Int (with_number lo hi known)
     by formed = each_pushed known _ formed (fresh_longer known.facts lo hi None [])
 
-pub item_pushed : (r : ℕ) (known : StateFacts) → HasForm known → IsPushedIn known kinds.Int (with_item r known)
-unfolding with_item
-item_pushed r known form = number_pushed _ _ known form
+pub item_pushed : (r : ℕ) (i : Expr) (known : StateFacts) → HasForm known
+    → IsPushedIn known kinds.Int (with_item r i known)
+unfolding with_item with_one_of
+item_pushed r i known form = by (item_form r i known form)
+  where
+    by : Formed (with_item r i known) → IsPushedIn known kinds.Int (with_item r i known)
+    by formed = each_pushed known _ formed (fresh_longer known.facts _ _ _ [])
 
 pub within_pushed : (r : Span) (known : StateFacts) → HasForm known → IsPushedIn known kinds.Int (with_within r known)
 unfolding with_within
@@ -210,7 +213,7 @@ slice_last : {X : Type 0} (xs : List X) (x : X) → slice_get (xs ++ x ∷ []) (
 slice_last [] x = refl
 slice_last (y ∷ xs) x = slice_last xs x
 
-earlier_places : (known after : StateFacts) (x : Reference Unknown) → after.references ≡ known.references ++ x ∷ []
+earlier_places : (known after : StateFacts) (x : Reference) → after.references ≡ known.references ++ x ∷ []
     → (r : ℕ)
     → r ≤ length known.references → place_in after r ≡ place_in known r
 unfolding reference_at
@@ -219,7 +222,7 @@ earlier_places known after x are (suc r) there =
     ap (λ l. option_map (λ reference. reference.place) (slice_get l r)) are
     ∙ ap (option_map (λ reference. reference.place)) (slice_left known.references x r (omega (arith, there)))
 
-last_place : (known after : StateFacts) (x : Reference Unknown) → after.references ≡ known.references ++ x ∷ []
+last_place : (known after : StateFacts) (x : Reference) → after.references ≡ known.references ++ x ∷ []
     → place_in after (length known.references + 1) ≡ Some x.place
 unfolding reference_at
 last_place known after x are =
@@ -235,7 +238,7 @@ array_pushed : (place : Place) (known : StateFacts) (o : Option Made)
 array_pushed place known None formed longer kind of_kind = tt
 array_pushed place known (Some made) formed longer kind of_kind =
     let after = returned known.apart place known made in
-    let x : Reference Unknown = record { place = place; nullness = May; length = made.expr; contents = record {} } in
+    let x : Reference = record { place = place; nullness = May; length = made.expr } in
     let size = one_longer known.references x in
     record {
       grown = record {

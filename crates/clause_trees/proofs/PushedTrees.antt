@@ -18,7 +18,6 @@ use Rattle.number_spans.specs.Constants.{constant}
 use Rattle.state_facts.specs.Forms.{HasForm, HasVar}
 use Rattle.state_facts.specs.Moves.{place_at, place_of, pushed}
 use Rattle.state_facts.specs.StateFacts.{StateFacts, State, reference_at}
-use Rattle.state_facts.specs.declared.reference.Unknown.{Unknown}
 use Rattle.state_facts.specs.UnknownValues as unknown
 use Rattle.state_facts.proofs.AssumptionForms.{named_var}
 use Rattle.state_obligations.specs.Following.{StaysThere, StaysThereIn}
@@ -54,12 +53,12 @@ IsSeenIf kind (Some s) = IsSeen kind s
 
 -- What a reference has that is there.
 pub reference_found : (known : StateFacts) (r : ℕ) → suc r ≤ length known.references
-    → (x : Reference Unknown) × (reference_at known.references (suc r) ≡ Some x)
+    → (x : Reference) × (reference_at known.references (suc r) ≡ Some x)
 unfolding reference_at
 reference_found known r there = found known.references r there
   where
-    found : (xs : List (Reference Unknown)) (i : ℕ) → suc i ≤ length xs
-        → (x : Reference Unknown) × (slice_get xs i ≡ Some x)
+    found : (xs : List Reference) (i : ℕ) → suc i ≤ length xs
+        → (x : Reference) × (slice_get xs i ≡ Some x)
     found [] i inside = absurd (omega (arith, inside))
     found (x ∷ xs) zero inside = (x, refl)
     found (x ∷ xs) (suc i) inside = found xs i (omega (arith, inside))

@@ -155,22 +155,22 @@ item_is_number places.Bool = refl
 item_is_number places.Int = refl
 item_is_number places.Ints = refl
 
-pushed_item : (time : Time) (place : Place) (r : ℕ) (x : StateFacts) → HasForm x
-    → IsPushedIn x kinds.Int (push_item time place r (Some x))
-pushed_item Now place r x form = item_pushed r x form
-pushed_item Entry place r x form = unknown_pushed (item_place place) kinds.Int x form (item_is_number place)
+pushed_item : (time : Time) (place : Place) (r : ℕ) (i : Expr) (x : StateFacts) → HasForm x
+    → IsPushedIn x kinds.Int (push_item time place r i (Some x))
+pushed_item Now place r i x form = item_pushed r i x form
+pushed_item Entry place r i x form = unknown_pushed (item_place place) kinds.Int x form (item_is_number place)
 
-no_item : (time : Time) (place : Place) (r : ℕ) → push_item time place r None ≡ None
-no_item Now place r = refl
-no_item Entry place r = refl
+no_item : (time : Time) (place : Place) (r : ℕ) (i : Expr) → push_item time place r i None ≡ None
+no_item Now place r i = refl
+no_item Entry place r i = refl
 
 pub element_pushed : (time : Time) (place : Place) (known : StateFacts) (v w : Var) → HasForm known → HasVar known v
     → HasVar known w
     → IsPushedIn known kinds.Int (element_value time place v w known).state
 element_pushed time place known (vars.Reference r) (vars.Number i) form first second =
-    owed_pushed known (operations.Element r i) kinds.Int (push_item time place r) form
+    owed_pushed known (operations.Element r i) kinds.Int (push_item time place r i) form
     (first, (second, ((first, second), tt)))
-    (no_item time place r) (λ x stays. pushed_item time place r x stays.form)
+    (no_item time place r i) (λ x stays. pushed_item time place r i x stays.form)
 element_pushed time place known (vars.Reference r) (vars.Reference q) form first second = tt
 element_pushed time place known (vars.Reference r) vars.Text form first second = tt
 element_pushed time place known (vars.Number e) w form first second = tt

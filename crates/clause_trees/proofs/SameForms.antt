@@ -12,6 +12,7 @@ use Rattle.cil_model.specs.declared.place.Place.{Place}
 use Rattle.cil_model.specs.declared.place.Place.TheVariants as places
 use Rattle.domain_api.specs.declared.expr.Expr.{Expr}
 use Rattle.frame_names.specs.Frames as frames
+use Rattle.frame_names.specs.Frames.{AreAlike}
 use Rattle.frame_names.specs.Meaning.{SaysBoth, Said, an_array, said}
 use Rattle.frame_names.specs.MergedReferences.{merged_references, one_place}
 use Rattle.frame_names.specs.PairedFrames.{FramePairing, behind, old_at, paired_frames}
@@ -21,17 +22,17 @@ use Rattle.frame_names.specs.declared.var.Var.TheVariants as vars
 use Rattle.frame_names.proofs.SaidLaws.{frames_say}
 use Rattle.symbolic_values.specs.Pairing.{origin}
 use Rattle.symbolic_values.specs.declared.pairs.Key.{Key}
+use Rattle.interval_domain.specs.Joins.{hull}
 use Rattle.merged_numbers.specs.Merging as numbers
 use Rattle.merged_numbers.specs.Merging.{Outcome}
 use Rattle.merged_states.specs.Alike.{AreComparable, AreLike}
-use Rattle.merged_states.specs.Merging.{join, merged_as, merged_by, merged_known}
-use Rattle.merged_states.specs.Parts.{numbers_known, unknown_items}
+use Rattle.merged_states.specs.Merging.{join, joining, merged_as, merged_by, merged_known}
+use Rattle.merged_states.specs.Parts.{entry_of, numbers_known}
 use Rattle.merged_states.specs.declared.merging.Merging.TheVariants as rules
 use Rattle.merged_states.specs.Laws.Frames.{alike_of, same_entry}
 use Rattle.merged_states.proofs.Formed.{merged_form}
 use Rattle.state_facts.specs.Forms.{HasForm, HasVar, IsArrayPlace, IsReference, IsVar}
 use Rattle.state_facts.specs.StateFacts.{StateFacts, State, both_of_same_place, reference_at}
-use Rattle.state_facts.specs.declared.reference.Unknown.{Unknown}
 use Rattle.clause_trees.specs.VariableKinds.{AreSameForms, HasSameForms, HasSameFormsIn, IsGrown, IsOfKind, IsOfPlace, IsOneOfKind, IsReadable, IsSameForm, place_in}
 use Rattle.clause_trees.specs.declared.reader.TreeEnv.{TreeEnv}
 use Rattle.clause_trees.proofs.PushedTrees.{reference_found}
@@ -146,7 +147,7 @@ readable_same env args result a b same readable = record {
 
 -- ---- states that may be joined
 
-alike_places : (o p : Option (Reference Unknown))
+alike_places : (o p : Option Reference)
     → option_map (λ reference. reference.place) p ≡ option_map (λ reference. reference.place) o
     → both_of_same_place o p ≡ true
 alike_places None p same = refl
@@ -166,9 +167,9 @@ same_like a b (_ ∷ vs) (_ ∷ ws) same = absurd (first_of (search, cc))
 
 -- ---- the place of a new reference
 
-new_place : (a b : List (Reference Unknown)) (keys : List Key) (lengths : List Expr) (j : ℕ)
-    → option_map (λ (x : Reference Unknown). x.place)
-    (slice_get (map unknown_items (merged_references a b keys lengths)) j)
+new_place : (a b : List Reference) (keys : List Key) (lengths : List Expr) (j : ℕ)
+    → option_map (λ (x : Reference). x.place)
+    (slice_get (map entry_of (merged_references a b keys lengths)) j)
     ≡ option_map (λ (key : Key). one_place (frames.place_at a key.s) (frames.place_at b key.t)) (slice_get keys j)
 new_place a b [] lengths j = refl
 new_place a b (key ∷ keys) lengths zero = refl
@@ -178,12 +179,12 @@ place_of_frames : (known : StateFacts) (r : ℕ) → place_in known r ≡ frames
 place_of_frames known r = ap (option_map (λ reference. reference.place)) (same_entry known.references r) ∙ by
     (frames.reference_at known.references r)
   where
-    by : (o : Option (Reference Unknown)) → option_map (λ reference. reference.place) o ≡ frames.place_in o
+    by : (o : Option Reference) → option_map (λ reference. reference.place) o ≡ frames.place_in o
     by None = refl
     by (Some x) = refl
 
-void_absent : (symbols : ℕ) (xs : List (Reference Unknown)) (j : ℕ) → AllByRecursion (IsReference symbols) xs
-    → option_map (λ (x : Reference Unknown). x.place) (slice_get xs j) ≡ Some places.Void → ⊥
+void_absent : (symbols : ℕ) (xs : List Reference) (j : ℕ) → AllByRecursion (IsReference symbols) xs
+    → option_map (λ (x : Reference). x.place) (slice_get xs j) ≡ Some places.Void → ⊥
 void_absent symbols [] j all is = none-some places.Void is
 void_absent symbols (x ∷ xs) zero all is = not_void x.place all.0.place (same_Some x.place places.Void is)
   where
@@ -201,7 +202,7 @@ places_agree (Some place) q same valid = refl
 
 -- A new reference has the type that its references have on both sides.
 paired_place : (a b c : StateFacts) (keys : List Key) (lengths : List Expr) (r s q : ℕ) → HasForm c
-    → c.references ≡ map unknown_items (merged_references a.references b.references keys lengths)
+    → c.references ≡ map entry_of (merged_references a.references b.references keys lengths)
     → old_at true keys q ≡ r → old_at false keys q ≡ s → place_in b s ≡ place_in a r → place_in c q ≡ place_in a r
 unfolding reference_at
 paired_place a b c keys lengths r s zero form are one two same = sym (first_place a r (sym one))
@@ -210,7 +211,7 @@ paired_place a b c keys lengths r s (suc j) form are one two same = by (slice_ge
     new : place_in c (suc j)
         ≡ option_map (λ (key : Key). one_place (frames.place_at a.references key.s)
         (frames.place_at b.references key.t)) (slice_get keys j)
-    new = ap (λ l. option_map (λ (x : Reference Unknown). x.place) (slice_get l j)) are ∙ new_place a.references
+    new = ap (λ l. option_map (λ (x : Reference). x.place) (slice_get l j)) are ∙ new_place a.references
         b.references keys lengths j
 
     by : (o : Option Key) → slice_get keys j ≡ o → place_in c (suc j) ≡ place_in a r
@@ -240,7 +241,7 @@ paired_place a b c keys lengths r s (suc j) form are one two same = by (slice_ge
 
 -- Variables that say what those of both sides do, by the references that they were.
 module _ (a b c : StateFacts) (keys : List Key) (lengths : List Expr) (form : HasForm c)
-    (are : c.references ≡ map unknown_items (merged_references a.references b.references keys lengths))
+    (are : c.references ≡ map entry_of (merged_references a.references b.references keys lengths))
     (number later : ℕ → ℤ) (other more : ℕ → ℤ) where
   abbrev Says : Bool → (ℕ → ℤ) → (ℕ → ℤ) → Var → Var → Type 0
   Says is_first number later new old =
@@ -280,31 +281,34 @@ module _ (a b c : StateFacts) (keys : List Key) (lengths : List Expr) (form : Ha
   all_say (v ∷ vs) [] us same first second = elim same [ ]
 
 merged_same : (a b : StateFacts) (f : FramePairing) (o : Option Outcome) → AreSameForms a b a.variables b.variables
-    → SaysBoth a.variables b.variables f → ForSome (option_map (merged_as a b f) o) HasForm
-    → HasSameFormsIn a (option_map (merged_as a b f) o)
+    → SaysBoth a.variables b.variables f → ForSome (option_map (merged_as hull a b f) o) HasForm
+    → HasSameFormsIn a (option_map (merged_as hull a b f) o)
 merged_same a b f None same says form = tt
 merged_same a b f (Some outcome) same says form =
-    let made = form (merged_as a b f outcome) refl in
+    let made = form (merged_as hull a b f outcome) refl in
     record {
       form = made;
-      variables = all_say a b (merged_as a b f outcome) f.references.keys f.lengths made refl (λ s. pos 0) _
+      variables = all_say a b (merged_as hull a b f outcome) f.references.keys f.lengths made refl (λ s. pos 0) _
           (λ s. pos 0) _
           a.variables b.variables f.vars same (says true (λ s. pos 0) (λ r. Some r))
           (says false (λ s. pos 0) (λ r. Some r));
     }
 
 joined_same : (a b : StateFacts) → HasForm a → HasForm b → AreSameForms a b a.variables b.variables
-    → HasSameFormsIn a (merged_known numbers.joined a b)
+    → HasSameFormsIn a (merged_known joining a b)
 joined_same a b first second same =
     by (paired_frames a.variables a.references b.variables b.references)
     (frames_say a.variables b.variables a.references b.references
     (paired_frames a.variables a.references b.variables b.references)
-    (alike_of a b a.variables b.variables (same_like a b a.variables b.variables same)) refl)
-    (merged_form rules.Join a b first second)
+    alike refl)
+    (merged_form rules.Join a b first second alike)
   where
+    alike : AreAlike a.variables b.variables
+    alike = alike_of a b a.variables b.variables (same_like a b a.variables b.variables same)
+
     by : (found : Option FramePairing) → IfSome found (SaysBoth a.variables b.variables)
-        → ForSome (option_and_then (merged_by numbers.joined a b) found) HasForm
-        → HasSameFormsIn a (option_and_then (merged_by numbers.joined a b) found)
+        → ForSome (option_and_then (merged_by joining a b) found) HasForm
+        → HasSameFormsIn a (option_and_then (merged_by joining a b) found)
     by None says form = tt
     by (Some f) says form =
         merged_same a b f (numbers.joined f.numbers.keys (numbers_known a.facts) (numbers_known b.facts)) same says form
@@ -324,7 +328,7 @@ pub join_same : (known : StateFacts) (o p : State) → HasSameFormsIn known o �
 join_same known None p first second = second
 join_same known (Some a) None first second = first
 join_same known (Some a) (Some b) first second =
-    same_forms_on known a (merged_known numbers.joined a b) first
+    same_forms_on known a (merged_known joining a b) first
     (joined_same a b first.form second.form
     (all_on a known b a.variables known.variables b.variables
     (all_swap known a known.variables a.variables first.variables) second.variables))

@@ -14,7 +14,6 @@ use Rattle.frame_names.specs.declared.var.Var.TheVariants as vars
 use Rattle.state_facts.specs.Forms.{HasForm, HasVar, IsVar}
 use Rattle.state_facts.specs.Moves.{popped, pushed}
 use Rattle.state_facts.specs.StateFacts.{StateFacts, State, reference_at}
-use Rattle.state_facts.specs.declared.reference.Unknown.{Unknown}
 use Rattle.state_facts.proofs.Growing.{one_longer, var_stays}
 use Rattle.state_facts.proofs.MoveForms.{popped_form, pushed_form}
 use Rattle.state_obligations.specs.Following.{StaysThere, shape_of}
@@ -48,7 +47,7 @@ unfolding reference_at
 place_by_shape known r = by (slice_get known.references r) ∙ ap (option_map (λ shape. shape.0))
     (sym (slice_get-map shape_of known.references r))
   where
-    by : (o : Option (Reference Unknown))
+    by : (o : Option Reference)
         → option_map (λ reference. reference.place) o ≡ option_map (λ shape. shape.0) (option_map shape_of o)
     by None = refl
     by (Some x) = refl

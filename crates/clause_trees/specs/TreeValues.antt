@@ -105,13 +105,13 @@ length_value (vars.Reference r) known = owing (operations.Length r) (push_length
 length_value _ known = refused
 
 -- The items at a method's entry are not known.
-abbrev pub push_item : Time → Place → ℕ → State → State
-push_item Now place r state = rule.load r state
-push_item Entry place r state = unknown.push_unknown (item_place place) state
+abbrev pub push_item : Time → Place → ℕ → Expr → State → State
+push_item Now place r i state = rule.load r i state
+push_item Entry place r i state = unknown.push_unknown (item_place place) state
 
 abbrev pub element_value : Time → Place → Var → Var → Step
 element_value time place (vars.Reference r) (vars.Number i) known =
-    owing (operations.Element r i) (push_item time place r) known
+    owing (operations.Element r i) (push_item time place r i) known
 element_value time place _ _ known = refused
 
 abbrev pub arithmetic : BinOp → Expr → Expr → Step

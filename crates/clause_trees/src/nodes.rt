@@ -107,7 +107,7 @@ fn push_item(
     i: Expr,
 ) -> Result<(), NoMemory>
     requires there { ForSome state.old (λ known. HasReference known r) }
-    ensures { OnOk result (state.new ≡ rule.push_item time place r state.old) }
+    ensures { OnOk result (state.new ≡ rule.push_item time place r i state.old) }
 {
     match time {
         Time::Now => state.load(r, i),

@@ -6,7 +6,7 @@ use Rattle.std.specs.Option.{ForSome, option_map}
 use Rattle.std.proofs.lemmas.List.{drop_at, length-append, reverse-append, take_at}
 use Rattle.std.proofs.lemmas.Option.{none-some, same_Some}
 use Rattle.alias_facts.specs.PairsOf.{Pair}
-use Rattle.cil_model.specs.Calls.{FitsResult, FreeReturn, IsPassedOrNew}
+use Rattle.cil_model.specs.Calls.{FitsResult, FreeReturn, IsPassedOrNew, KeepsArrays}
 use Rattle.cil_model.specs.Clauses.{Reading, clauses_of}
 use Rattle.cil_model.specs.Kinds.{kind_of}
 use Rattle.cil_model.specs.Values.{FitsPlace, Heap, IsValue, KeepsForms}
@@ -34,8 +34,8 @@ use Rattle.number_facts.specs.Fresh.{Made, fresh}
 use Rattle.state_facts.proofs.Agreeing.{have_taken}
 use Rattle.state_facts.proofs.ArraysHold.{call_keeps}
 use Rattle.state_facts.proofs.Growing.{Formed}
-use Rattle.state_facts.proofs.MoveForms.{call_form}
-use Rattle.state_facts.specs.Calls.{returned, with_call, with_returned}
+use Rattle.state_facts.proofs.MoveForms.{result_form, without_form}
+use Rattle.state_facts.specs.Calls.{passed, returned, with_call, with_result, with_returned, without_items}
 use Rattle.state_facts.specs.Forms.{HasForm}
 use Rattle.state_facts.specs.Holds.{HaveValues, variables_of}
 use Rattle.state_facts.specs.Keeps.{listed}
@@ -89,18 +89,42 @@ array_pushed apart place kind known is formed =
     apart_pushed known.apart apart place kind known (fresh known.facts (pos 0) (pos 2147483647) None []) is formed
 
 -- What a call gives is of its kind.
+pub result_pushed : (first count : ℕ) (place : Place) (kind : Kind) (known : StateFacts) → HasForm known
+    → kind_of place ≡ Some kind → IsPushedIn known kind (with_result first count place known)
+unfolding with_result with_unknown
+result_pushed first count places.Void kind known form is = absurd (none-some kind is)
+result_pushed first count places.Bool kind known form is = unknown_pushed places.Bool kind known form is
+result_pushed first count places.Int kind known form is = unknown_pushed places.Int kind known form is
+result_pushed first count places.Bools kind known form is =
+    array_pushed _ places.Bools kind known (unknown_pushed places.Bools kind known form is)
+    (result_form first count places.Bools known form tt)
+result_pushed first count places.Ints kind known form is =
+    array_pushed _ places.Ints kind known (unknown_pushed places.Ints kind known form is)
+    (result_form first count places.Ints known form tt)
+
+-- What is pushed on a state whose items were forgotten is pushed on what it was before.
+forgotten_pushed : (passed : List Var) (known : StateFacts) (kind : Kind) (o : State)
+    → IsPushedIn (without_items passed known) kind o → IsPushedIn known kind o
+forgotten_pushed passed known kind None is = tt
+forgotten_pushed passed known kind (Some after) is = record {
+  grown = record {
+    form = is.grown.form;
+    symbols = is.grown.symbols;
+    references = is.grown.references;
+    places = is.grown.places;
+  };
+  top = is.top;
+  variables_are = is.variables_are;
+  of_kind = is.of_kind;
+}
+
 pub call_pushed : (first count : ℕ) (place : Place) (kind : Kind) (known : StateFacts) → HasForm known
     → kind_of place ≡ Some kind → IsPushedIn known kind (with_call first count place known)
-unfolding with_call with_unknown
-call_pushed first count places.Void kind known form is = absurd (none-some kind is)
-call_pushed first count places.Bool kind known form is = unknown_pushed places.Bool kind known form is
-call_pushed first count places.Int kind known form is = unknown_pushed places.Int kind known form is
-call_pushed first count places.Bools kind known form is =
-    array_pushed _ places.Bools kind known (unknown_pushed places.Bools kind known form is)
-    (call_form first count places.Bools known form)
-call_pushed first count places.Ints kind known form is =
-    array_pushed _ places.Ints kind known (unknown_pushed places.Ints kind known form is)
-    (call_form first count places.Ints known form)
+unfolding with_call
+call_pushed first count place kind known form is =
+    forgotten_pushed (passed first count known) known kind _
+    (result_pushed first count place kind (without_items (passed first count known) known)
+    (without_form (passed first count known) known form) is)
 
 -- ---- what Ensures read is there
 
@@ -140,9 +164,15 @@ call_readable : (first count : ℕ) (args : List Place) (place : Place) (known :
     → first + count ≡ length known.variables → IsReadable (record { args = first; result = None }) args place known
     → ForSome (with_call first count place known)
     (IsReadable (record { args = first; result = result_at place (first + count) }) args place)
-unfolding with_call
+unfolding with_call with_result
 call_readable first count args places.Void known top readable = λ x at.
-    subst (IsReadable (record { args = first; result = None }) args places.Void) (same_Some known x at) readable
+    subst (IsReadable (record { args = first; result = None }) args places.Void)
+    (same_Some (without_items (passed first count known) known) x at)
+    (record {
+      form = without_form (passed first count known) known readable.form;
+      args_fit = readable.args_fit;
+      result_fits = readable.result_fits;
+    })
 call_readable first count args places.Bool known top readable =
     one_readable first (first + count) args places.Bool kinds.Int known (with_call first count places.Bool known)
     (call_pushed first count places.Bool kinds.Int known readable.form refl) top refl readable
@@ -221,6 +251,7 @@ less_keeps (Some known) first count below args more heap start long over =
             (have_dropped over.number over.array (first + count) known.variables all vs));
         references = over.holds.references;
         apart = over.holds.apart;
+        contents = over.holds.contents;
       };
     }
 
@@ -334,7 +365,7 @@ forgotten_keeps callee state p args new result form here free =
     ap (take count) (drop_at (below_args callee.args p) args first (sym here.first))
     ∙ take_whole args count here.long in
     let kept = call_keeps first count callee.result state form vs p.heap new here.over.number here.over.array result
-    here.over.holds free.heap_is free.keeps.forms free.fits
+    here.over.holds free.heap_is (subst (KeepsArrays p.heap new) (sym taken) free.keeps) free.fits
     (subst (λ l. IsPassedOrNew p.heap l result) (sym taken) free.passed_or_new) in
     record { number = kept.later; array = kept.later_array; holds = kept.holds }
   where

@@ -22,7 +22,8 @@ use Rattle.clause_trees.specs.VariableKinds.{AreSameForms, HasSameFormsIn, IsGro
 use Rattle.frame_names.specs.declared.var.Var.{Var}
 use Rattle.frame_names.specs.declared.var.Var.TheVariants as vars
 use Rattle.state_facts.proofs.Growing.{grown, same_facts}
-use Rattle.state_facts.specs.Calls.{with_call}
+use Rattle.state_facts.specs.Calls.{passed, with_call, with_result, without_items}
+use Rattle.state_facts.proofs.MoveForms.{without_form}
 use Rattle.state_facts.specs.Forms.{HasForm, IsVar}
 use Rattle.state_facts.specs.StateFacts.{StateFacts, State}
 use Rattle.contract_calls.specs.Arguments.{first_of}
@@ -69,20 +70,25 @@ pushed_over place kind known None one is = tt
 pushed_over place kind known (Some after) one is =
     record { grown = is.grown; top = is.top ∷ []; variables_are = is.variables_are; many = sym one }
 
-nothing_over : (known : StateFacts) (o : State) → o ≡ Some known → HasForm known → IsOverIn places.Void known o
-nothing_over known None is form = absurd (none-some known is)
-nothing_over known (Some after) is form =
-    subst (IsOver places.Void known) (sym (same_Some after known is)) (record {
-      grown = grown_itself known form;
-      top = [];
-      variables_are = sym (append-nil known.variables);
-      many = refl;
-    })
+-- Where nothing is given, items alone are forgotten.
+nothing_over : (passed : List Var) (known : StateFacts) → HasForm known
+    → IsOver places.Void known (without_items passed known)
+nothing_over passed known form = record {
+  grown = record {
+    form = without_form passed known form;
+    symbols = omega arith;
+    references = omega arith;
+    places = λ r there. refl;
+  };
+  top = [];
+  variables_are = sym (append-nil known.variables);
+  many = refl;
+}
 
 call_over : (first count : ℕ) (place : Place) (known : StateFacts) → HasForm known
     → IsOverIn place known (with_call first count place known)
-unfolding with_call
-call_over first count places.Void known form = nothing_over known (with_call first count places.Void known) refl form
+unfolding with_call with_result
+call_over first count places.Void known form = nothing_over (passed first count known) known form
 call_over first count places.Bool known form =
     pushed_over places.Bool kinds.Int known (with_call first count places.Bool known) refl
     (call_pushed first count places.Bool kinds.Int known form refl)

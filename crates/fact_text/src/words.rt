@@ -2,11 +2,20 @@
 
 use domain_api::Expr;
 use rule_text::{Failure, number};
-use std::alloc::AllocError;
+use std::alloc::{AllocError, Global};
 
 /// The number of a word: `7`, or `s2+7`.
 pub fn expr(word: &str) -> Result<Expr, Failure> {
     number(word).ok_or(Failure::Unread("a number"))
+}
+
+/// The numbers of a list of words.
+pub fn exprs(alloc: Global, text: &str) -> Result<Vec<Expr>, Failure> {
+    let mut exprs = Vec::new(alloc);
+    for word in text.split_whitespace() {
+        exprs.push(expr(word)?)?;
+    }
+    Ok(exprs)
 }
 
 /// What stands behind a letter: the number of a symbol or of a reference.
@@ -33,4 +42,12 @@ pub fn append_reference(text: &mut String, r: u32) -> Result<(), AllocError> {
         0 => text.push_str("null"),
         _ => write!(text, "r{r}"),
     }
+}
+
+/// Appends what stands between an item and the one before it.
+pub fn separate(text: &mut String, index: usize, between: &str) -> Result<(), AllocError> {
+    if index > 0 {
+        text.push_str(between)?;
+    }
+    Ok(())
 }

@@ -138,28 +138,27 @@ reference_slot_bound array fit r q slots new (Some (Some bound)) at is = by (r =
           array_is = record { bound = bound; there = at; same = ap array (sym ((Decides-eqb r bound).0 same)) };
         })
 
-module _ {C : Type 0} where
-  null_bound : (a : List (Reference C)) (array : ℕ → Option ℕ) (r q : ℕ) (slots new : References) (null : Bool) → NullsAreNull a array
-      → is_null (nullness_at a r) ≡ null → q ≡ 0 → slice_get slots 0 ≡ Some (Some 0) → (if null then Some slots else None) ≡ Some new
-      → IsReferenceBound array slots new q r
-  null_bound a array r q slots new false nulls is zero_is zero_there made = cc
-  null_bound a array r q slots new true nulls is zero_is zero_there made =
-      let made_is : slots ≡ new = cc in
-      subst (λ l. IsReferenceBound array slots l q r) made_is (record {
-        stays = λ s x there. there;
-        array_is = record { bound = 0; there = ap (slice_get slots) zero_is ∙ zero_there; same = nulls 0 refl ∙ sym (nulls r is) };
-      })
+null_bound : (a : List Reference) (array : ℕ → Option ℕ) (r q : ℕ) (slots new : References) (null : Bool) → NullsAreNull a array
+    → is_null (nullness_at a r) ≡ null → q ≡ 0 → slice_get slots 0 ≡ Some (Some 0) → (if null then Some slots else None) ≡ Some new
+    → IsReferenceBound array slots new q r
+null_bound a array r q slots new false nulls is zero_is zero_there made = cc
+null_bound a array r q slots new true nulls is zero_is zero_there made =
+    let made_is : slots ≡ new = cc in
+    subst (λ l. IsReferenceBound array slots l q r) made_is (record {
+      stays = λ s x there. there;
+      array_is = record { bound = 0; there = ap (slice_get slots) zero_is ∙ zero_there; same = nulls 0 refl ∙ sym (nulls r is) };
+    })
 
-  -- Where a reference is bound, it is the array that it is bound to, and what was bound before stays bound.
-  reference_bound : (a b : List (Reference C)) (array : ℕ → Option ℕ) (r q : ℕ) (slots new : References) → NullsAreNull a array
-      → slice_get slots 0 ≡ Some (Some 0) → with_reference a b r q slots ≡ Some new → IsReferenceBound array slots new q r
-  reference_bound a b array r q slots new nulls zero_there is = by (q == 0) refl is
-    where
-      by : (zero_is : Bool) → (q == 0) ≡ zero_is
-          → (if zero_is then (if is_null (nullness_at a r) then Some slots else None) else reference_in_slot (fits a b r q) slots r q (slice_get slots q)) ≡ Some new
-          → IsReferenceBound array slots new q r
-      by true zero_is made = null_bound a array r q slots new (is_null (nullness_at a r)) nulls refl ((Decides-eqb q 0).0 zero_is) zero_there made
-      by false zero_is made = reference_slot_bound array (fits a b r q) r q slots new (slice_get slots q) refl made
+-- Where a reference is bound, it is the array that it is bound to, and what was bound before stays bound.
+reference_bound : (a b : List Reference) (array : ℕ → Option ℕ) (r q : ℕ) (slots new : References) → NullsAreNull a array
+    → slice_get slots 0 ≡ Some (Some 0) → with_reference a b r q slots ≡ Some new → IsReferenceBound array slots new q r
+reference_bound a b array r q slots new nulls zero_there is = by (q == 0) refl is
+  where
+    by : (zero_is : Bool) → (q == 0) ≡ zero_is
+        → (if zero_is then (if is_null (nullness_at a r) then Some slots else None) else reference_in_slot (fits a b r q) slots r q (slice_get slots q)) ≡ Some new
+        → IsReferenceBound array slots new q r
+    by true zero_is made = null_bound a array r q slots new (is_null (nullness_at a r)) nulls refl ((Decides-eqb q 0).0 zero_is) zero_there made
+    by false zero_is made = reference_slot_bound array (fits a b r q) r q slots new (slice_get slots q) refl made
 
 -- ---- variables
 
@@ -212,7 +211,7 @@ record AreVarsBound (number : ℕ → ℤ) (array : ℕ → Option ℕ) (old new
   stay : BothStay old new
   say : AllSay number array new xs ys
 
-module _ {C : Type 0} (gap : Gaps) (number : ℕ → ℤ) (array : ℕ → Option ℕ) (a b : List (Reference C)) (keep : KeepGaps gap number) (nulls : NullsAreNull a array) where
+module _ (gap : Gaps) (number : ℕ → ℤ) (array : ℕ → Option ℕ) (a b : List Reference) (keep : KeepGaps gap number) (nulls : NullsAreNull a array) where
   number_var : (e f : Expr) (old new : SlotLists) (made : Option Symbols) → with_number gap e f old.symbols ≡ made
       → option_map (with_symbols old.references) made ≡ Some new → IsVarBound number array old new (vars.Number e) (vars.Number f)
   number_var e f old new None at is = cc
@@ -270,11 +269,11 @@ module _ {C : Type 0} (gap : Gaps) (number : ℕ → ℤ) (array : ℕ → Optio
 
   -- ---- lengths
 
-  length_stays : (known : Reference C) (slot : Option ℕ) (old new : Symbols) → with_length gap a known slot old ≡ Some new → Stays old new
+  length_stays : (known : Reference) (slot : Option ℕ) (old new : Symbols) → with_length gap a known slot old ≡ Some new → Stays old new
   length_stays known None old new is = cc
   length_stays known (Some r) old new is = (number_bound gap number (length_at a r) known.length old new keep is).stays
 
-  lengths_stay : (rest : List (Reference C)) (slots : References) (old new : Symbols) → with_lengths gap a rest slots old ≡ Some new → Stays old new
+  lengths_stay : (rest : List Reference) (slots : References) (old new : Symbols) → with_lengths gap a rest slots old ≡ Some new → Stays old new
   lengths_stay [] slots old new is = let new_is : old ≡ new = cc in subst (Stays old) new_is (λ s x there. there)
   lengths_stay (known ∷ rest) slots old new is = by (λ next made. lengths_stay rest (drop 1 slots) next new made) (with_length gap a known (get_or slots 0 None) old) refl is
     where
@@ -365,40 +364,39 @@ both_are symbols references (Some s) (Some r) binding first second is =
     let binding_is : record { symbols = s; references = r } ≡ binding = cc in
     subst (AreFilled symbols references) binding_is (record { symbols_are = first; references_are = second })
 
-module _ {C : Type 0} where
-  bound_says : (gap : Gaps) (a_vars b_vars : List Var) (a b : List (Reference C)) (count : ℕ) (binding : FrameBinding)
-      → bound_frames gap a_vars a b_vars b count ≡ Some binding → SaysSame gap a_vars a b_vars binding
-  bound_says gap a_vars b_vars a b count binding is = λ number array keep nulls.
-      let start = free_slots count (length b) in
-      by number array keep nulls (with_vars gap a b a_vars b_vars start) refl is
-    where
-      at_end : (number : ℕ → ℤ) (array : ℕ → Option ℕ) → KeepGaps gap number → NullsAreNull a array → (slots : SlotLists) → AllSay number array slots a_vars b_vars
-          → (symbols : Option Symbols) → with_lengths gap a b (drop 1 slots.references) slots.symbols ≡ symbols
-          → option_and_then (filled_with slots.references) symbols ≡ Some binding
-          → map (said (numbers_bound number binding) (arrays_bound array binding)) b_vars ≡ map (said number array) a_vars
-      at_end number array keep nulls slots say None at made = cc
-      at_end number array keep nulls slots say (Some symbols) at made =
-          let are = both_are symbols slots.references (all_filled symbols) (all_filled slots.references) binding refl refl made in
-          let later : SlotLists = record { symbols = symbols; references = slots.references } in
-          let stay : BothStay slots later = record {
-            symbols = lengths_stay gap number array a b keep nulls b (drop 1 slots.references) slots.symbols symbols at;
-            references = λ s x there. there;
-          } in
-          all_filled_say number array later binding a_vars b_vars are.symbols_are are.references_are (all_later number array slots later a_vars b_vars stay say)
+bound_says : (gap : Gaps) (a_vars b_vars : List Var) (a b : List Reference) (count : ℕ) (binding : FrameBinding)
+    → bound_frames gap a_vars a b_vars b count ≡ Some binding → SaysSame gap a_vars a b_vars binding
+bound_says gap a_vars b_vars a b count binding is = λ number array keep nulls.
+    let start = free_slots count (length b) in
+    by number array keep nulls (with_vars gap a b a_vars b_vars start) refl is
+  where
+    at_end : (number : ℕ → ℤ) (array : ℕ → Option ℕ) → KeepGaps gap number → NullsAreNull a array → (slots : SlotLists) → AllSay number array slots a_vars b_vars
+        → (symbols : Option Symbols) → with_lengths gap a b (drop 1 slots.references) slots.symbols ≡ symbols
+        → option_and_then (filled_with slots.references) symbols ≡ Some binding
+        → map (said (numbers_bound number binding) (arrays_bound array binding)) b_vars ≡ map (said number array) a_vars
+    at_end number array keep nulls slots say None at made = cc
+    at_end number array keep nulls slots say (Some symbols) at made =
+        let are = both_are symbols slots.references (all_filled symbols) (all_filled slots.references) binding refl refl made in
+        let later : SlotLists = record { symbols = symbols; references = slots.references } in
+        let stay : BothStay slots later = record {
+          symbols = lengths_stay gap number array a b keep nulls b (drop 1 slots.references) slots.symbols symbols at;
+          references = λ s x there. there;
+        } in
+        all_filled_say number array later binding a_vars b_vars are.symbols_are are.references_are (all_later number array slots later a_vars b_vars stay say)
 
-      by : (number : ℕ → ℤ) (array : ℕ → Option ℕ) → KeepGaps gap number → NullsAreNull a array → (found : Option SlotLists)
-          → with_vars gap a b a_vars b_vars (free_slots count (length b)) ≡ found → option_and_then (filled gap a b) found ≡ Some binding
-          → map (said (numbers_bound number binding) (arrays_bound array binding)) b_vars ≡ map (said number array) a_vars
-      by number array keep nulls None at made = cc
-      by number array keep nulls (Some slots) at made =
-          at_end number array keep nulls slots (vars_bound gap number array a b keep nulls a_vars b_vars (free_slots count (length b)) slots refl at).say
-          (with_lengths gap a b (drop 1 slots.references) slots.symbols) refl made
+    by : (number : ℕ → ℤ) (array : ℕ → Option ℕ) → KeepGaps gap number → NullsAreNull a array → (found : Option SlotLists)
+        → with_vars gap a b a_vars b_vars (free_slots count (length b)) ≡ found → option_and_then (filled gap a b) found ≡ Some binding
+        → map (said (numbers_bound number binding) (arrays_bound array binding)) b_vars ≡ map (said number array) a_vars
+    by number array keep nulls None at made = cc
+    by number array keep nulls (Some slots) at made =
+        at_end number array keep nulls slots (vars_bound gap number array a b keep nulls a_vars b_vars (free_slots count (length b)) slots refl at).say
+        (with_lengths gap a b (drop 1 slots.references) slots.symbols) refl made
 
-  -- By the numbers and arrays of the first state, the variables of the second say what those of the first say.
-  pub frames_say_same : (gap : Gaps) (a_vars b_vars : List Var) (a b : List (Reference C)) (count : ℕ) (found : Option FrameBinding)
-      → found ≡ bound_frames gap a_vars a b_vars b count → IfSome found (SaysSame gap a_vars a b_vars)
-  frames_say_same gap a_vars b_vars a b count None is = tt
-  frames_say_same gap a_vars b_vars a b count (Some binding) is = bound_says gap a_vars b_vars a b count binding (sym is)
+-- By the numbers and arrays of the first state, the variables of the second say what those of the first say.
+pub frames_say_same : (gap : Gaps) (a_vars b_vars : List Var) (a b : List Reference) (count : ℕ) (found : Option FrameBinding)
+    → found ≡ bound_frames gap a_vars a b_vars b count → IfSome found (SaysSame gap a_vars a b_vars)
+frames_say_same gap a_vars b_vars a b count None is = tt
+frames_say_same gap a_vars b_vars a b count (Some binding) is = bound_says gap a_vars b_vars a b count binding (sym is)
 
 -- ---- lengths
 
@@ -410,22 +408,22 @@ worth_filled : (number : ℕ → ℤ) (symbols : Symbols) (binding : FrameBindin
 worth_filled number symbols binding f n filled_is is =
     ap (λ bound. bound_worth number bound +ℤ f.k) (filled_at symbols binding.symbols f.sym is.bound zero_bound filled_is is.there) ∙ is.same
 
-module _ {C : Type 0} (gap : Gaps) (number : ℕ → ℤ) (a : List (Reference C)) (keep : KeepGaps gap number) where
-  record IsLength (known : Reference C) (slot : Option ℕ) (symbols : Symbols) : Type 0 where
+module _ (gap : Gaps) (number : ℕ → ℤ) (a : List Reference) (keep : KeepGaps gap number) where
+  record IsLength (known : Reference) (slot : Option ℕ) (symbols : Symbols) : Type 0 where
     reference : ℕ
     slot_is : slot ≡ Some reference
     worth_is : IsWorth number symbols known.length (worth number (length_at a reference))
 
-  abbrev AreLengths : List (Reference C) → References → Symbols → Type 0
+  abbrev AreLengths : List Reference → References → Symbols → Type 0
   AreLengths [] slots symbols = Unit {0}
   AreLengths (known ∷ rest) slots symbols = IsLength known (get_or slots 0 None) symbols × AreLengths rest (drop 1 slots) symbols
 
-  one_length : (known : Reference C) (slot : Option ℕ) (old new : Symbols) → with_length gap a known slot old ≡ Some new → IsLength known slot new
+  one_length : (known : Reference) (slot : Option ℕ) (old new : Symbols) → with_length gap a known slot old ≡ Some new → IsLength known slot new
   one_length known None old new is = cc
   one_length known (Some r) old new is =
       record { reference = r; slot_is = refl; worth_is = (number_bound gap number (length_at a r) known.length old new keep is).worth_is }
 
-  are_lengths : (rest : List (Reference C)) (slots : References) (old new : Symbols) → with_lengths gap a rest slots old ≡ Some new → AreLengths rest slots new
+  are_lengths : (rest : List Reference) (slots : References) (old new : Symbols) → with_lengths gap a rest slots old ≡ Some new → AreLengths rest slots new
   are_lengths [] slots old new is = tt
   are_lengths (known ∷ rest) slots old new is =
       by (λ next made. are_lengths rest (drop 1 slots) next new made) (with_length gap a known (get_or slots 0 None) old) refl is
@@ -445,7 +443,7 @@ module _ {C : Type 0} (gap : Gaps) (number : ℕ → ℤ) (a : List (Reference C
             rest_are next made,
           )
 
-  are_bound : (rest : List (Reference C)) (slots : References) (bound : List ℕ) (symbols : Symbols) (binding : FrameBinding) → all_filled symbols ≡ Some binding.symbols
+  are_bound : (rest : List Reference) (slots : References) (bound : List ℕ) (symbols : Symbols) (binding : FrameBinding) → all_filled symbols ≡ Some binding.symbols
       → all_filled slots ≡ Some bound → AreLengths rest slots symbols → AreLengthsBound number binding a rest bound
   are_bound [] slots bound symbols binding filled_is bound_is are = tt
   are_bound (known ∷ rest) slots bound symbols binding filled_is bound_is are = (
@@ -454,28 +452,27 @@ module _ {C : Type 0} (gap : Gaps) (number : ℕ → ℤ) (a : List (Reference C
     are_bound rest (drop 1 slots) (drop 1 bound) symbols binding filled_is (filled_behind slots bound bound_is) are.1,
   )
 
-module _ {C : Type 0} where
-  bound_lengths : (gap : Gaps) (a_vars b_vars : List Var) (a b : List (Reference C)) (count : ℕ) (binding : FrameBinding)
-      → bound_frames gap a_vars a b_vars b count ≡ Some binding → HasSameLengths gap a b binding
-  bound_lengths gap a_vars b_vars a b count binding is = λ number keep. by number keep (with_vars gap a b a_vars b_vars (free_slots count (length b))) is
-    where
-      at_end : (number : ℕ → ℤ) → KeepGaps gap number → (slots : SlotLists) (symbols : Option Symbols)
-          → with_lengths gap a b (drop 1 slots.references) slots.symbols ≡ symbols → option_and_then (filled_with slots.references) symbols ≡ Some binding
-          → AreLengthsBound number binding a b (drop 1 binding.references)
-      at_end number keep slots None at made = cc
-      at_end number keep slots (Some symbols) at made =
-          let are = both_are symbols slots.references (all_filled symbols) (all_filled slots.references) binding refl refl made in
-          are_bound gap number a keep b (drop 1 slots.references) (drop 1 binding.references) symbols binding are.symbols_are
-          (filled_behind slots.references binding.references are.references_are)
-          (are_lengths gap number a keep b (drop 1 slots.references) slots.symbols symbols at)
+bound_lengths : (gap : Gaps) (a_vars b_vars : List Var) (a b : List Reference) (count : ℕ) (binding : FrameBinding)
+    → bound_frames gap a_vars a b_vars b count ≡ Some binding → HasSameLengths gap a b binding
+bound_lengths gap a_vars b_vars a b count binding is = λ number keep. by number keep (with_vars gap a b a_vars b_vars (free_slots count (length b))) is
+  where
+    at_end : (number : ℕ → ℤ) → KeepGaps gap number → (slots : SlotLists) (symbols : Option Symbols)
+        → with_lengths gap a b (drop 1 slots.references) slots.symbols ≡ symbols → option_and_then (filled_with slots.references) symbols ≡ Some binding
+        → AreLengthsBound number binding a b (drop 1 binding.references)
+    at_end number keep slots None at made = cc
+    at_end number keep slots (Some symbols) at made =
+        let are = both_are symbols slots.references (all_filled symbols) (all_filled slots.references) binding refl refl made in
+        are_bound gap number a keep b (drop 1 slots.references) (drop 1 binding.references) symbols binding are.symbols_are
+        (filled_behind slots.references binding.references are.references_are)
+        (are_lengths gap number a keep b (drop 1 slots.references) slots.symbols symbols at)
 
-      by : (number : ℕ → ℤ) → KeepGaps gap number → (found : Option SlotLists) → option_and_then (filled gap a b) found ≡ Some binding
-          → AreLengthsBound number binding a b (drop 1 binding.references)
-      by number keep None made = cc
-      by number keep (Some slots) made = at_end number keep slots (with_lengths gap a b (drop 1 slots.references) slots.symbols) refl made
+    by : (number : ℕ → ℤ) → KeepGaps gap number → (found : Option SlotLists) → option_and_then (filled gap a b) found ≡ Some binding
+        → AreLengthsBound number binding a b (drop 1 binding.references)
+    by number keep None made = cc
+    by number keep (Some slots) made = at_end number keep slots (with_lengths gap a b (drop 1 slots.references) slots.symbols) refl made
 
-  -- By the numbers of the first state, the lengths of the second are worth what those are of what its references are bound to.
-  pub frames_have_same_lengths : (gap : Gaps) (a_vars b_vars : List Var) (a b : List (Reference C)) (count : ℕ) (found : Option FrameBinding)
-      → found ≡ bound_frames gap a_vars a b_vars b count → IfSome found (HasSameLengths gap a b)
-  frames_have_same_lengths gap a_vars b_vars a b count None is = tt
-  frames_have_same_lengths gap a_vars b_vars a b count (Some binding) is = bound_lengths gap a_vars b_vars a b count binding (sym is)
+-- By the numbers of the first state, the lengths of the second are worth what those are of what its references are bound to.
+pub frames_have_same_lengths : (gap : Gaps) (a_vars b_vars : List Var) (a b : List Reference) (count : ℕ) (found : Option FrameBinding)
+    → found ≡ bound_frames gap a_vars a b_vars b count → IfSome found (HasSameLengths gap a b)
+frames_have_same_lengths gap a_vars b_vars a b count None is = tt
+frames_have_same_lengths gap a_vars b_vars a b count (Some binding) is = bound_lengths gap a_vars b_vars a b count binding (sym is)

@@ -68,39 +68,38 @@ near_append : (es fs : List Expr) → AreNear es → AreNear fs → AreNear (es 
 near_append [] fs first second = second
 near_append (e ∷ es) fs first second = (first.0, near_append es fs first.1 second)
 
-module _ {C : Type 0} where
-  near_slot : (references : List (Reference C)) (place : ℕ) → AllByRecursion (λ known. IsNear known.length) references
-      → IsNear (length_in (slice_get references place))
-  near_slot [] place all = zero_is_near
-  near_slot (known ∷ references) zero all = all.0
-  near_slot (known ∷ references) (suc place) all = near_slot references place all.1
+near_slot : (references : List Reference) (place : ℕ) → AllByRecursion (λ known. IsNear known.length) references
+    → IsNear (length_in (slice_get references place))
+near_slot [] place all = zero_is_near
+near_slot (known ∷ references) zero all = all.0
+near_slot (known ∷ references) (suc place) all = near_slot references place all.1
 
-  near_length : (references : List (Reference C)) (r : ℕ) → AllByRecursion (λ known. IsNear known.length) references → IsNear (length_at references r)
-  near_length references r all = by (r == 0)
-    where
-      by : (none : Bool) → IsNear (length_in (if none then None else slice_get references (r - 1)))
-      by true = zero_is_near
-      by false = near_slot references (r - 1) all
+near_length : (references : List Reference) (r : ℕ) → AllByRecursion (λ known. IsNear known.length) references → IsNear (length_at references r)
+near_length references r all = by (r == 0)
+  where
+    by : (none : Bool) → IsNear (length_in (if none then None else slice_get references (r - 1)))
+    by true = zero_is_near
+    by false = near_slot references (r - 1) all
 
-  near_lengths : (references : List (Reference C)) (is_first : Bool) (keys : List Key) → AllByRecursion (λ known. IsNear known.length) references
-      → AreNear (map (λ key. length_at references (old_of is_first key)) keys)
-  near_lengths references is_first [] all = tt
-  near_lengths references is_first (key ∷ keys) all = (near_length references (old_of is_first key) all, near_lengths references is_first keys all)
+near_lengths : (references : List Reference) (is_first : Bool) (keys : List Key) → AllByRecursion (λ known. IsNear known.length) references
+    → AreNear (map (λ key. length_at references (old_of is_first key)) keys)
+near_lengths references is_first [] all = tt
+near_lengths references is_first (key ∷ keys) all = (near_length references (old_of is_first key) all, near_lengths references is_first keys all)
 
-  -- What is paired of a frame whose constants are near is near.
-  pub near_exprs : (vs : List Var) (references : List (Reference C)) (is_first : Bool) (keys : List Key) → IsNearFrame vs references
-      → AreNear (exprs_of vs references is_first keys)
-  near_exprs vs references is_first keys near = near_append (numbers_of vs) _ near.numbers (near_lengths references is_first keys near.lengths)
+-- What is paired of a frame whose constants are near is near.
+pub near_exprs : (vs : List Var) (references : List Reference) (is_first : Bool) (keys : List Key) → IsNearFrame vs references
+    → AreNear (exprs_of vs references is_first keys)
+near_exprs vs references is_first keys near = near_append (numbers_of vs) _ near.numbers (near_lengths references is_first keys near.lengths)
 
-  -- As many expressions are paired on either side.
-  pub same_exprs : (a b : List Var) (known other : List (Reference C)) (first second : Bool) (keys : List Key) → AreAlike a b
-      → length (exprs_of a known first keys) ≡ length (exprs_of b other second keys)
-  same_exprs a b known other first second keys alike =
-      omega (
-        arith,
-        same_numbers a b alike,
-        length-append (numbers_of a) (map (λ key. length_at known (old_of first key)) keys),
-        length-append (numbers_of b) (map (λ key. length_at other (old_of second key)) keys),
-        length-map keys (λ key. length_at known (old_of first key)),
-        length-map keys (λ key. length_at other (old_of second key)),
-      )
+-- As many expressions are paired on either side.
+pub same_exprs : (a b : List Var) (known other : List Reference) (first second : Bool) (keys : List Key) → AreAlike a b
+    → length (exprs_of a known first keys) ≡ length (exprs_of b other second keys)
+same_exprs a b known other first second keys alike =
+    omega (
+      arith,
+      same_numbers a b alike,
+      length-append (numbers_of a) (map (λ key. length_at known (old_of first key)) keys),
+      length-append (numbers_of b) (map (λ key. length_at other (old_of second key)) keys),
+      length-map keys (λ key. length_at known (old_of first key)),
+      length-map keys (λ key. length_at other (old_of second key)),
+    )

@@ -12,7 +12,7 @@ use Rattle.frame_names.specs.declared.merging.MergedReference.{MergedReference}
 use Rattle.frame_names.specs.declared.reference.Reference.{Reference}
 use Rattle.frame_names.specs.declared.var.Var.{Var}
 use Rattle.frame_names.specs.ApartPairs.{pairs_by, with_row}
-use Rattle.frame_names.specs.Binding.{Gaps, SlotLists, with_var, with_vars}
+use Rattle.frame_names.specs.Binding.{Gaps, References, SlotLists, Symbols, with_length, with_lengths, with_var, with_vars}
 use Rattle.frame_names.specs.MergedReferences.{merged_reference, merged_references}
 use Rattle.frame_names.specs.PairedFrames.{behind, first_expr}
 
@@ -83,7 +83,7 @@ bound_so : (result : Bool) (new : SlotLists) (made : Option SlotLists) → resul
 bound_so true new made is made_is = made_is
 bound_so false new made is made_is = cc
 
-module _ {C : Type 0} (gap : Gaps) (a b : List (Reference C)) (xs ys : List Var) where
+module _ (gap : Gaps) (a b : List Reference) (xs ys : List Var) where
   -- One variable more is bound.
   pub vars_step : (old new : SlotLists) (result : Bool) (i : ℕ) (d e : Var) → i < length xs → length xs ≡ length ys → result ≡ true
       → (if result then Some new else None) ≡ with_var gap a b (get_or xs i d) (get_or ys i e) old
@@ -99,9 +99,25 @@ module _ {C : Type 0} (gap : Gaps) (a b : List (Reference C)) (xs ys : List Var)
       let there : length ys ≤ i = omega (arith, all, same) in
       sym (ap (λ vs. with_vars gap a b vs (drop i ys) slots) (drop_all i xs all) ∙ ap (λ vs. with_vars gap a b [] vs slots) (drop_all i ys there))
 
+-- ---- lengths
+
+unbound_so : (result : Bool) (new : Symbols) (made : Option Symbols) → result ≡ false → (if result then Some new else None) ≡ made → None ≡ made
+unbound_so true new made is made_is = absurd cc
+unbound_so false new made is made_is = made_is
+
+-- The length of the next reference cannot be bound.
+pub lengths_stop : (gap : Gaps) (a b : List Reference) (slots : References) (symbols new : Symbols) (slot : Option ℕ) (result : Bool) (i : ℕ) (d : Reference)
+    → i < length b → slot ≡ get_or slots i None → result ≡ false
+    → (if result then Some new else None) ≡ with_length gap a (get_or b i d) slot symbols
+    → None ≡ with_lengths gap a (drop i b) (drop i slots) symbols
+lengths_stop gap a b slots symbols new slot result i d below slot_is is made =
+    ap (option_and_then (with_lengths gap a (drop (i + 1) b) (drop 1 (drop i slots))))
+    (unbound_so result new _ is made ∙ ap (λ o. with_length gap a (get_or b i d) o symbols) (slot_is ∙ sym (head_drop slots i None)))
+    ∙ sym (ap (λ rest. with_lengths gap a rest (drop i slots) symbols) (drop_next b i d below))
+
 -- ---- references
 
-module _ {C : Type 0} (a b : List (Reference C)) (keys : List Key) (lengths : List Expr) where
+module _ (a b : List Reference) (keys : List Key) (lengths : List Expr) where
   -- One reference more.
   pub merged_step : (out : List MergedReference) (i : ℕ) (d : Key) (item : MergedReference) (le : Expr) → i < length keys → le ≡ first_expr (drop i lengths)
       → item ≡ merged_reference a b (get_or keys i d) le

@@ -76,35 +76,33 @@ append_fit : (number : ℕ → ℤ) (es fs : List Expr) → AllByRecursion (λ (
 append_fit number [] fs first second = second
 append_fit number (e ∷ es) fs first second = (first.0, append_fit number es fs first.1 second)
 
-module _ {C : Type 0} where
-  lengths_fit : (number : ℕ → ℤ) (known : List (Reference C)) (is_first : Bool) (keys : List Key) → ((r : ℕ) → IsInt32 (worth number (length_at known r)))
-      → AllByRecursion (λ (e : Expr). IsInt32 (worth number e)) (map (λ key. length_at known (old_of is_first key)) keys)
-  lengths_fit number known is_first [] all = tt
-  lengths_fit number known is_first (key ∷ keys) all = (all (old_of is_first key), lengths_fit number known is_first keys all)
+lengths_fit : (number : ℕ → ℤ) (known : List Reference) (is_first : Bool) (keys : List Key) → ((r : ℕ) → IsInt32 (worth number (length_at known r)))
+    → AllByRecursion (λ (e : Expr). IsInt32 (worth number e)) (map (λ key. length_at known (old_of is_first key)) keys)
+lengths_fit number known is_first [] all = tt
+lengths_fit number known is_first (key ∷ keys) all = (all (old_of is_first key), lengths_fit number known is_first keys all)
 
-  exprs_fit : (number : ℕ → ℤ) (vs : List Var) (known : List (Reference C)) (is_first : Bool) (keys : List Key) → AreInt32s number vs known
-      → AllByRecursion (λ (e : Expr). IsInt32 (worth number e)) (exprs_of vs known is_first keys)
-  exprs_fit number vs known is_first keys fit =
-      append_fit number (numbers_of vs) (map (λ key. length_at known (old_of is_first key)) keys) fit.numbers (lengths_fit number known is_first keys fit.lengths)
+exprs_fit : (number : ℕ → ℤ) (vs : List Var) (known : List Reference) (is_first : Bool) (keys : List Key) → AreInt32s number vs known
+    → AllByRecursion (λ (e : Expr). IsInt32 (worth number e)) (exprs_of vs known is_first keys)
+exprs_fit number vs known is_first keys fit =
+    append_fit number (numbers_of vs) (map (λ key. length_at known (old_of is_first key)) keys) fit.numbers (lengths_fit number known is_first keys fit.lengths)
 
-  frames_near : (is_first : Bool) (number : ℕ → ℤ) (a b : List Var) (known other : List (Reference C)) (references : Pairing) → AreAlike a b
-      → AreInt32s number (if is_first then a else b) (if is_first then known else other)
-      → list_all is_near (pairing_by references a known b other).exprs ≡ true
-  frames_near true number a b known other references alike fit =
-      paired_near true number (exprs_of a known true references.keys) (exprs_of b other false references.keys) fit.zero_is
-      (same_exprs a b known other true false references.keys alike) (exprs_fit number a known true references.keys fit)
-  frames_near false number a b known other references alike fit =
-      paired_near false number (exprs_of a known true references.keys) (exprs_of b other false references.keys) fit.zero_is
-      (same_exprs a b known other true false references.keys alike) (exprs_fit number b other false references.keys fit)
+frames_near : (is_first : Bool) (number : ℕ → ℤ) (a b : List Var) (known other : List Reference) (references : Pairing) → AreAlike a b
+    → AreInt32s number (if is_first then a else b) (if is_first then known else other)
+    → list_all is_near (pairing_by references a known b other).exprs ≡ true
+frames_near true number a b known other references alike fit =
+    paired_near true number (exprs_of a known true references.keys) (exprs_of b other false references.keys) fit.zero_is
+    (same_exprs a b known other true false references.keys alike) (exprs_fit number a known true references.keys fit)
+frames_near false number a b known other references alike fit =
+    paired_near false number (exprs_of a known true references.keys) (exprs_of b other false references.keys) fit.zero_is
+    (same_exprs a b known other true false references.keys alike) (exprs_fit number b other false references.keys fit)
 
 some_near : (new : FramePairing) (found : Option FramePairing) (near : Bool) → found ≡ (if near then Some new else None) → near ≡ true → IsSome found
 some_near new found true is near = subst IsSome (sym is) refl
 some_near new found false is near = cc
 
-module _ {C : Type 0} where
-  -- Where all variables and lengths of a side are int32, there is an answer.
-  pub frames_there : (a b : List Var) (known other : List (Reference C)) (found : Option FramePairing) (is_first : Bool) (number : ℕ → ℤ) → AreAlike a b
-      → found ≡ paired_frames a known b other → AreInt32s number (if is_first then a else b) (if is_first then known else other) → IsSome found
-  frames_there a b known other found is_first number alike is fit =
-      some_near (named_frame a (pairs_of a b) (pairing_by (pairs_of a b) a known b other)) found
-      (list_all is_near (pairing_by (pairs_of a b) a known b other).exprs) is (frames_near is_first number a b known other (pairs_of a b) alike fit)
+-- Where all variables and lengths of a side are int32, there is an answer.
+pub frames_there : (a b : List Var) (known other : List Reference) (found : Option FramePairing) (is_first : Bool) (number : ℕ → ℤ) → AreAlike a b
+    → found ≡ paired_frames a known b other → AreInt32s number (if is_first then a else b) (if is_first then known else other) → IsSome found
+frames_there a b known other found is_first number alike is fit =
+    some_near (named_frame a (pairs_of a b) (pairing_by (pairs_of a b) a known b other)) found
+    (list_all is_near (pairing_by (pairs_of a b) a known b other).exprs) is (frames_near is_first number a b known other (pairs_of a b) alike fit)

@@ -113,49 +113,48 @@ same_count : (is_first : Bool) (a b : List Var) → AreAlike a b → (number : �
 same_count true a b alike number = sym (length-map (numbers_of a) (worth number))
 same_count false a b alike number = same_numbers a b alike ∙ sym (length-map (numbers_of b) (worth number))
 
-module _ {C : Type 0} where
-  lengths_worth : (is_first : Bool) (number : ℕ → ℤ) (known : List (Reference C)) (keys : List Key)
-      → map (worth number) (map (λ key. length_at known (old_of is_first key)) keys) ≡ map (λ key. worth number (length_at known (old_of is_first key))) keys
-  lengths_worth is_first number known [] = refl
-  lengths_worth is_first number known (key ∷ keys) = ap (λ l. worth number (length_at known (old_of is_first key)) ∷ l) (lengths_worth is_first number known keys)
+lengths_worth : (is_first : Bool) (number : ℕ → ℤ) (known : List Reference) (keys : List Key)
+    → map (worth number) (map (λ key. length_at known (old_of is_first key)) keys) ≡ map (λ key. worth number (length_at known (old_of is_first key))) keys
+lengths_worth is_first number known [] = refl
+lengths_worth is_first number known (key ∷ keys) = ap (λ l. worth number (length_at known (old_of is_first key)) ∷ l) (lengths_worth is_first number known keys)
 
-  side_worth : (is_first : Bool) (number : ℕ → ℤ) (a b : List Var) (known other : List (Reference C)) (keys : List Key)
-      → map (worth number) (if is_first then exprs_of a known true keys else exprs_of b other false keys)
-      ≡ map (worth number) (numbers_of (if is_first then a else b)) ++ map (λ key. worth number (length_at (if is_first then known else other) (old_of is_first key))) keys
-  side_worth true number a b known other keys =
-      map-append (worth number) (numbers_of a) _ ∙ ap (λ l. map (worth number) (numbers_of a) ++ l) (lengths_worth true number known keys)
-  side_worth false number a b known other keys =
-      map-append (worth number) (numbers_of b) _ ∙ ap (λ l. map (worth number) (numbers_of b) ++ l) (lengths_worth false number other keys)
+side_worth : (is_first : Bool) (number : ℕ → ℤ) (a b : List Var) (known other : List Reference) (keys : List Key)
+    → map (worth number) (if is_first then exprs_of a known true keys else exprs_of b other false keys)
+    ≡ map (worth number) (numbers_of (if is_first then a else b)) ++ map (λ key. worth number (length_at (if is_first then known else other) (old_of is_first key))) keys
+side_worth true number a b known other keys =
+    map-append (worth number) (numbers_of a) _ ∙ ap (λ l. map (worth number) (numbers_of a) ++ l) (lengths_worth true number known keys)
+side_worth false number a b known other keys =
+    map-append (worth number) (numbers_of b) _ ∙ ap (λ l. map (worth number) (numbers_of b) ++ l) (lengths_worth false number other keys)
 
-  -- The new numbers are worth what the numbers of a side are, and behind them its lengths.
-  numbers_worth : (is_first : Bool) (number : ℕ → ℤ) (a b : List Var) (known other : List (Reference C)) (references : Pairing) → AreAlike a b
-      → map (worth (behind_uses is_first number (origin ∷ (pairing_by references a known b other).keys))) (pairing_by references a known b other).exprs
-      ≡ map (worth number) (numbers_of (if is_first then a else b))
-      ++ map (λ key. worth number (length_at (if is_first then known else other) (old_of is_first key))) references.keys
-  numbers_worth is_first number a b known other references alike =
-      paired_worth is_first number (exprs_of a known true references.keys) (exprs_of b other false references.keys)
-      (same_exprs a b known other true false references.keys alike)
-      ∙ side_worth is_first number a b known other references.keys
+-- The new numbers are worth what the numbers of a side are, and behind them its lengths.
+numbers_worth : (is_first : Bool) (number : ℕ → ℤ) (a b : List Var) (known other : List Reference) (references : Pairing) → AreAlike a b
+    → map (worth (behind_uses is_first number (origin ∷ (pairing_by references a known b other).keys))) (pairing_by references a known b other).exprs
+    ≡ map (worth number) (numbers_of (if is_first then a else b))
+    ++ map (λ key. worth number (length_at (if is_first then known else other) (old_of is_first key))) references.keys
+numbers_worth is_first number a b known other references alike =
+    paired_worth is_first number (exprs_of a known true references.keys) (exprs_of b other false references.keys)
+    (same_exprs a b known other true false references.keys alike)
+    ∙ side_worth is_first number a b known other references.keys
 
-  named_says : (a b : List Var) (known other : List (Reference C)) → AreAlike a b
-      → SaysBoth a b (named_frame a (pairs_of a b) (pairing_by (pairs_of a b) a known b other))
-  named_says a b known other alike = λ is_first number array.
-      said_new number _ array _ a (if is_first then a else b) (pairing_by (pairs_of a b) a known b other).exprs (pairs_of a b).exprs _
-      (alike_side is_first a b alike) (numbers_worth is_first number a b known other (pairs_of a b) alike)
-      (paired_old is_first array (map as_expr (references_of a)) (map as_expr (references_of b)) (references_of a) (references_of b) refl refl (same_references a b alike)
-      ∙ arrays_of is_first array a b)
+named_says : (a b : List Var) (known other : List Reference) → AreAlike a b
+    → SaysBoth a b (named_frame a (pairs_of a b) (pairing_by (pairs_of a b) a known b other))
+named_says a b known other alike = λ is_first number array.
+    said_new number _ array _ a (if is_first then a else b) (pairing_by (pairs_of a b) a known b other).exprs (pairs_of a b).exprs _
+    (alike_side is_first a b alike) (numbers_worth is_first number a b known other (pairs_of a b) alike)
+    (paired_old is_first array (map as_expr (references_of a)) (map as_expr (references_of b)) (references_of a) (references_of b) refl refl (same_references a b alike)
+    ∙ arrays_of is_first array a b)
 
-  named_lengths : (a b : List Var) (known other : List (Reference C)) → AreAlike a b
-      → HasBothLengths known other (named_frame a (pairs_of a b) (pairing_by (pairs_of a b) a known b other))
-  named_lengths a b known other alike = λ is_first number.
-      let numbers = pairing_by (pairs_of a b) a known b other in
-      let later = behind_uses is_first number (origin ∷ numbers.keys) in
-      let front = map (worth number) (numbers_of (if is_first then a else b)) in
-      let more = map (λ (key : Key). worth number (length_at (if is_first then known else other) (old_of is_first key))) (pairs_of a b).keys in
-      sym (drop-map (worth later) (length (numbers_of a)) numbers.exprs)
-      ∙ ap (drop (length (numbers_of a))) (numbers_worth is_first number a b known other (pairs_of a b) alike)
-      ∙ ap (λ n. drop n (front ++ more)) (same_count is_first a b alike number)
-      ∙ drop-append_seam front more
+named_lengths : (a b : List Var) (known other : List Reference) → AreAlike a b
+    → HasBothLengths known other (named_frame a (pairs_of a b) (pairing_by (pairs_of a b) a known b other))
+named_lengths a b known other alike = λ is_first number.
+    let numbers = pairing_by (pairs_of a b) a known b other in
+    let later = behind_uses is_first number (origin ∷ numbers.keys) in
+    let front = map (worth number) (numbers_of (if is_first then a else b)) in
+    let more = map (λ (key : Key). worth number (length_at (if is_first then known else other) (old_of is_first key))) (pairs_of a b).keys in
+    sym (drop-map (worth later) (length (numbers_of a)) numbers.exprs)
+    ∙ ap (drop (length (numbers_of a))) (numbers_worth is_first number a b known other (pairs_of a b) alike)
+    ∙ ap (λ n. drop n (front ++ more)) (same_count is_first a b alike number)
+    ∙ drop-append_seam front more
 
 if_near_some : (P : FramePairing → Type 0) (new : FramePairing) (found : Option FramePairing) → found ≡ if_near new → P new → IfSome found P
 if_near_some P new found is holds = subst (λ f. IfSome f P) (sym is) (by (list_all is_near new.numbers.exprs))
@@ -164,13 +163,12 @@ if_near_some P new found is holds = subst (λ f. IfSome f P) (sym is) (by (list_
     by true = holds
     by false = tt
 
-module _ {C : Type 0} where
-  -- The new variables say what those of each side say.
-  pub frames_say : (a b : List Var) (known other : List (Reference C)) (found : Option FramePairing) → AreAlike a b
-      → found ≡ paired_frames a known b other → IfSome found (SaysBoth a b)
-  frames_say a b known other found alike is = if_near_some (SaysBoth a b) (named_frame a (pairs_of a b) (pairing_by (pairs_of a b) a known b other)) found is (named_says a b known other alike)
+-- The new variables say what those of each side say.
+pub frames_say : (a b : List Var) (known other : List Reference) (found : Option FramePairing) → AreAlike a b
+    → found ≡ paired_frames a known b other → IfSome found (SaysBoth a b)
+frames_say a b known other found alike is = if_near_some (SaysBoth a b) (named_frame a (pairs_of a b) (pairing_by (pairs_of a b) a known b other)) found is (named_says a b known other alike)
 
-  -- The new lengths are worth what those of each side are.
-  pub frames_have_lengths : (a b : List Var) (known other : List (Reference C)) (found : Option FramePairing) → AreAlike a b
-      → found ≡ paired_frames a known b other → IfSome found (HasBothLengths known other)
-  frames_have_lengths a b known other found alike is = if_near_some (HasBothLengths known other) (named_frame a (pairs_of a b) (pairing_by (pairs_of a b) a known b other)) found is (named_lengths a b known other alike)
+-- The new lengths are worth what those of each side are.
+pub frames_have_lengths : (a b : List Var) (known other : List Reference) (found : Option FramePairing) → AreAlike a b
+    → found ≡ paired_frames a known b other → IfSome found (HasBothLengths known other)
+frames_have_lengths a b known other found alike is = if_near_some (HasBothLengths known other) (named_frame a (pairs_of a b) (pairing_by (pairs_of a b) a known b other)) found is (named_lengths a b known other alike)

@@ -39,15 +39,14 @@ of_one_place : (p q : Option Place) (place : Place) → p ≡ Some place → q �
 of_one_place p q place first second differ =
     true≢false (sym (itself (place_number place)) ∙ sym (ap (λ x. are_one_place x q) first ∙ ap (are_one_place (Some place)) second) ∙ differ)
 
-module _ {C : Type 0} where
-  -- References that a state tells not to be the same array are not.
-  pub told_differ : (known : List (Reference C)) (pairs : List Pair) (array : ℕ → Option ℕ) (place : ℕ → Place) (r q : ℕ) → AreNulls known array
-      → ArePlaces known array place → AllDiffer array pairs → cannot_be_same known pairs r q ≡ true → Differ array r q
-  told_differ known pairs array place r q nulls places differ is =
-      must_differ_sound array r q (contains pairs (ordered r q)) (are_one_place (place_at known r) (place_at known q)) (nullness_at known r) (nullness_at known q)
-      (λ kept. contained_differ pairs array r q kept differ)
-      (λ other. λ n first second. of_one_place (place_at known r) (place_at known q) (place n) (places r n first) (places q n second) other)
-      (nulls r) (nulls q) is
+-- References that a state tells not to be the same array are not.
+pub told_differ : (known : List Reference) (pairs : List Pair) (array : ℕ → Option ℕ) (place : ℕ → Place) (r q : ℕ) → AreNulls known array
+    → ArePlaces known array place → AllDiffer array pairs → cannot_be_same known pairs r q ≡ true → Differ array r q
+told_differ known pairs array place r q nulls places differ is =
+    must_differ_sound array r q (contains pairs (ordered r q)) (are_one_place (place_at known r) (place_at known q)) (nullness_at known r) (nullness_at known q)
+    (λ kept. contained_differ pairs array r q kept differ)
+    (λ other. λ n first second. of_one_place (place_at known r) (place_at known q) (place n) (places r n first) (places q n second) other)
+    (nulls r) (nulls q) is
 
 -- ---- pairs of new references
 
@@ -70,20 +69,19 @@ module _ (array : ℕ → Option ℕ) (test : ℕ → ℕ → Bool) (sound : (r 
   pairs_differ : (count : ℕ) → AllDiffer array (pairs_by test count)
   pairs_differ count = rows_differ (range_with_len 1 count) [] tt
 
-module _ {C : Type 0} where
-  both_differ : (keys : List Key) (a : List (Reference C)) (a_pairs : List Pair) (b : List (Reference C)) (b_pairs : List Pair)
-      → DifferOnBoth keys a a_pairs b b_pairs (joined_apart keys a a_pairs b b_pairs)
-  both_differ keys a a_pairs b b_pairs true array place nulls places differ =
-      pairs_differ (arrays_by true array keys) (are_apart_in_both keys a a_pairs b b_pairs)
-      (λ r q is. told_differ a a_pairs array place (old_at true keys r) (old_at true keys q) nulls places differ (both_of _ _ is).0) (length keys)
-  both_differ keys a a_pairs b b_pairs false array place nulls places differ =
-      pairs_differ (arrays_by false array keys) (are_apart_in_both keys a a_pairs b b_pairs)
-      (λ r q is. told_differ b b_pairs array place (old_at false keys r) (old_at false keys q) nulls places differ (both_of _ _ is).1) (length keys)
+both_differ : (keys : List Key) (a : List Reference) (a_pairs : List Pair) (b : List Reference) (b_pairs : List Pair)
+    → DifferOnBoth keys a a_pairs b b_pairs (joined_apart keys a a_pairs b b_pairs)
+both_differ keys a a_pairs b b_pairs true array place nulls places differ =
+    pairs_differ (arrays_by true array keys) (are_apart_in_both keys a a_pairs b b_pairs)
+    (λ r q is. told_differ a a_pairs array place (old_at true keys r) (old_at true keys q) nulls places differ (both_of _ _ is).0) (length keys)
+both_differ keys a a_pairs b b_pairs false array place nulls places differ =
+    pairs_differ (arrays_by false array keys) (are_apart_in_both keys a a_pairs b b_pairs)
+    (λ r q is. told_differ b b_pairs array place (old_at false keys r) (old_at false keys q) nulls places differ (both_of _ _ is).1) (length keys)
 
-  -- As a clause says it.
-  pub joined_differ : (keys : List Key) (a : List (Reference C)) (a_pairs : List Pair) (b : List (Reference C)) (b_pairs pairs : List Pair)
-      → pairs ≡ joined_apart keys a a_pairs b b_pairs → DifferOnBoth keys a a_pairs b b_pairs pairs
-  joined_differ keys a a_pairs b b_pairs pairs is = subst (DifferOnBoth keys a a_pairs b b_pairs) (sym is) (both_differ keys a a_pairs b b_pairs)
+-- As a clause says it.
+pub joined_differ : (keys : List Key) (a : List Reference) (a_pairs : List Pair) (b : List Reference) (b_pairs pairs : List Pair)
+    → pairs ≡ joined_apart keys a a_pairs b b_pairs → DifferOnBoth keys a a_pairs b b_pairs pairs
+joined_differ keys a a_pairs b b_pairs pairs is = subst (DifferOnBoth keys a a_pairs b b_pairs) (sym is) (both_differ keys a a_pairs b b_pairs)
 
 pub kept_differ : (keys : List Key) (kept pairs : List Pair) → pairs ≡ kept_apart keys kept → DifferAsKept keys kept pairs
 kept_differ keys kept pairs is =
@@ -92,42 +90,40 @@ kept_differ keys kept pairs is =
 
 -- ---- merged references
 
-module _ {C : Type 0} where
-  both_nulls : (a b : List (Reference C)) (keys : List Key) (lengths : List Expr) → AreNullsOnBoth a b (merged_references a b keys lengths)
-  both_nulls a b [] lengths is_first array nulls = tt
-  both_nulls a b (key ∷ keys) lengths true array nulls =
-      (joined_left (nullness_at a key.s) (nullness_at b key.t) _ (nulls key.s), both_nulls a b keys (behind lengths) true array nulls)
-  both_nulls a b (key ∷ keys) lengths false array nulls =
-      (joined_right (nullness_at a key.s) (nullness_at b key.t) _ (nulls key.t), both_nulls a b keys (behind lengths) false array nulls)
+both_nulls : (a b : List Reference) (keys : List Key) (lengths : List Expr) → AreNullsOnBoth a b (merged_references a b keys lengths)
+both_nulls a b [] lengths is_first array nulls = tt
+both_nulls a b (key ∷ keys) lengths true array nulls =
+    (joined_left (nullness_at a key.s) (nullness_at b key.t) _ (nulls key.s), both_nulls a b keys (behind lengths) true array nulls)
+both_nulls a b (key ∷ keys) lengths false array nulls =
+    (joined_right (nullness_at a key.s) (nullness_at b key.t) _ (nulls key.t), both_nulls a b keys (behind lengths) false array nulls)
 
-  pub merged_nulls : (a b : List (Reference C)) (keys : List Key) (lengths : List Expr) (merged : List MergedReference)
-      → merged ≡ merged_references a b keys lengths → AreNullsOnBoth a b merged
-  merged_nulls a b keys lengths merged is = subst (AreNullsOnBoth a b) (sym is) (both_nulls a b keys lengths)
+pub merged_nulls : (a b : List Reference) (keys : List Key) (lengths : List Expr) (merged : List MergedReference)
+    → merged ≡ merged_references a b keys lengths → AreNullsOnBoth a b merged
+merged_nulls a b keys lengths merged is = subst (AreNullsOnBoth a b) (sym is) (both_nulls a b keys lengths)
 
-module _ {C : Type 0} where
-  one_of_both : (a b : List (Reference C)) (key : Key) (place : Place) (first : Option Place) → AgreeOnPlace a b key → place_at a key.s ≡ first
-      → place_at b key.t ≡ Some place → one_place first (place_at b key.t) ≡ place
-  one_of_both a b key place None agree first second = ap (one_place None) second
-  one_of_both a b key place (Some p) agree first second = agree p place first second
+one_of_both : (a b : List Reference) (key : Key) (place : Place) (first : Option Place) → AgreeOnPlace a b key → place_at a key.s ≡ first
+    → place_at b key.t ≡ Some place → one_place first (place_at b key.t) ≡ place
+one_of_both a b key place None agree first second = ap (one_place None) second
+one_of_both a b key place (Some p) agree first second = agree p place first second
 
-  both_places : (a b : List (Reference C)) (keys : List Key) (lengths : List Expr) → ArePlacesOnBoth a b keys (merged_references a b keys lengths)
-  both_places a b [] lengths is_first array place agree places = tt
-  both_places a b (key ∷ keys) lengths true array place agree places = (
-    λ n is. ap (λ first. one_place first (place_at b key.t)) (places key.s n is),
-    both_places a b keys (behind lengths) true array place agree.1 places,
-  )
-  both_places a b (key ∷ keys) lengths false array place agree places = (
-    λ n is. one_of_both a b key (place n) (place_at a key.s) agree.0 refl (places key.t n is),
-    both_places a b keys (behind lengths) false array place agree.1 places,
-  )
+both_places : (a b : List Reference) (keys : List Key) (lengths : List Expr) → ArePlacesOnBoth a b keys (merged_references a b keys lengths)
+both_places a b [] lengths is_first array place agree places = tt
+both_places a b (key ∷ keys) lengths true array place agree places = (
+  λ n is. ap (λ first. one_place first (place_at b key.t)) (places key.s n is),
+  both_places a b keys (behind lengths) true array place agree.1 places,
+)
+both_places a b (key ∷ keys) lengths false array place agree places = (
+  λ n is. one_of_both a b key (place n) (place_at a key.s) agree.0 refl (places key.t n is),
+  both_places a b keys (behind lengths) false array place agree.1 places,
+)
 
-  pub merged_places : (a b : List (Reference C)) (keys : List Key) (lengths : List Expr) (merged : List MergedReference)
-      → merged ≡ merged_references a b keys lengths → ArePlacesOnBoth a b keys merged
-  merged_places a b keys lengths merged is = subst (ArePlacesOnBoth a b keys) (sym is) (both_places a b keys lengths)
+pub merged_places : (a b : List Reference) (keys : List Key) (lengths : List Expr) (merged : List MergedReference)
+    → merged ≡ merged_references a b keys lengths → ArePlacesOnBoth a b keys merged
+merged_places a b keys lengths merged is = subst (ArePlacesOnBoth a b keys) (sym is) (both_places a b keys lengths)
 
 -- ---- the keys of paired variables
 
-module _ {C : Type 0} (known other : List (Reference C)) where
+module _ (known other : List Reference) where
   uses_agree : (a b : List Var) → AreAlike a b → AreOfOnePlace known other a b
       → AllByRecursion (AgreeOnPlace known other) (uses_of (map as_expr (references_of a)) (map as_expr (references_of b)))
   uses_agree [] [] alike places = tt
@@ -167,19 +163,18 @@ module _ {C : Type 0} (known other : List (Reference C)) where
 
 -- ---- a bound state
 
-module _ {C : Type 0} where
-  pub entailed_bound : (a b : List (Reference C)) (bound : List ℕ) (array : ℕ → Option ℕ) → all_entailed a b bound ≡ true → AreNulls a array
-      → AgreeBound array b bound
-  entailed_bound a [] bound array all nulls = tt
-  entailed_bound a (known ∷ b) bound array all nulls =
-      let both = both_of (entailed (nullness_at a (get_or bound 0 0)) known.nullness) (all_entailed a b (drop 1 bound)) all in
-      (entailed_agrees (nullness_at a (get_or bound 0 0)) known.nullness _ both.0 (nulls (get_or bound 0 0)), entailed_bound a b (drop 1 bound) array both.1 nulls)
+pub entailed_bound : (a b : List Reference) (bound : List ℕ) (array : ℕ → Option ℕ) → all_entailed a b bound ≡ true → AreNulls a array
+    → AgreeBound array b bound
+entailed_bound a [] bound array all nulls = tt
+entailed_bound a (known ∷ b) bound array all nulls =
+    let both = both_of (entailed (nullness_at a (get_or bound 0 0)) known.nullness) (all_entailed a b (drop 1 bound)) all in
+    (entailed_agrees (nullness_at a (get_or bound 0 0)) known.nullness _ both.0 (nulls (get_or bound 0 0)), entailed_bound a b (drop 1 bound) array both.1 nulls)
 
-  pub apart_bound : (a : List (Reference C)) (kept : List Pair) (bound : List ℕ) (pairs : List Pair) → all_apart a kept bound pairs ≡ true
-      → DifferBound a kept bound pairs
-  apart_bound a kept bound [] all = λ array place nulls places differ. tt
-  apart_bound a kept bound (p ∷ pairs) all = λ array place nulls places differ.
-      let both = both_of (cannot_be_same a kept (get_or bound p.0 0) (get_or bound p.1 0)) (all_apart a kept bound pairs) all in (
-        told_differ a kept array place (get_or bound p.0 0) (get_or bound p.1 0) nulls places differ both.0,
-        apart_bound a kept bound pairs both.1 array place nulls places differ,
-      )
+pub apart_bound : (a : List Reference) (kept : List Pair) (bound : List ℕ) (pairs : List Pair) → all_apart a kept bound pairs ≡ true
+    → DifferBound a kept bound pairs
+apart_bound a kept bound [] all = λ array place nulls places differ. tt
+apart_bound a kept bound (p ∷ pairs) all = λ array place nulls places differ.
+    let both = both_of (cannot_be_same a kept (get_or bound p.0 0) (get_or bound p.1 0)) (all_apart a kept bound pairs) all in (
+      told_differ a kept array place (get_or bound p.0 0) (get_or bound p.1 0) nulls places differ both.0,
+      apart_bound a kept bound pairs both.1 array place nulls places differ,
+    )

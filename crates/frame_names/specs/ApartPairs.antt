@@ -11,7 +11,7 @@ use Rattle.frame_names.specs.declared.reference.Reference.{Reference}
 -- ---- what a state tells
 
 -- Two references of a state cannot be the same array: they are kept apart, their types differ, or one is null.
-abbrev pub cannot_be_same : {C : Type 0} → List (Reference C) → List Pair → ℕ → ℕ → Bool
+abbrev pub cannot_be_same : List Reference → List Pair → ℕ → ℕ → Bool
 cannot_be_same known pairs r q =
     must_differ (contains pairs (ordered r q)) (are_one_place (place_at known r) (place_at known q))
     (nullness_at known r) (nullness_at known q)
@@ -34,16 +34,15 @@ with_row test pairs higher = fold (with_test test higher) pairs (range_with_len 
 abbrev pub pairs_by : (ℕ → ℕ → Bool) → ℕ → List Pair
 pairs_by test count = fold (with_row test) [] (range_with_len 1 count)
 
-module _ {C : Type 0} where
-  -- Two new references cannot be the same array on either side.
-  abbrev pub are_apart_in_both : List Key → List (Reference C) → List Pair → List (Reference C) → List Pair
-      → ℕ → ℕ → Bool
-  are_apart_in_both keys a a_pairs b b_pairs r q =
-      cannot_be_same a a_pairs (old_at true keys r) (old_at true keys q)
-      && cannot_be_same b b_pairs (old_at false keys r) (old_at false keys q)
+-- Two new references cannot be the same array on either side.
+abbrev pub are_apart_in_both : List Key → List Reference → List Pair → List Reference → List Pair
+    → ℕ → ℕ → Bool
+are_apart_in_both keys a a_pairs b b_pairs r q =
+    cannot_be_same a a_pairs (old_at true keys r) (old_at true keys q)
+    && cannot_be_same b b_pairs (old_at false keys r) (old_at false keys q)
 
-  abbrev pub joined_apart : List Key → List (Reference C) → List Pair → List (Reference C) → List Pair → List Pair
-  joined_apart keys a a_pairs b b_pairs = pairs_by (are_apart_in_both keys a a_pairs b b_pairs) (length keys)
+abbrev pub joined_apart : List Key → List Reference → List Pair → List Reference → List Pair → List Pair
+joined_apart keys a a_pairs b b_pairs = pairs_by (are_apart_in_both keys a a_pairs b b_pairs) (length keys)
 
 -- Two new references were kept apart on the first side.
 abbrev pub were_kept : List Key → List Pair → ℕ → ℕ → Bool

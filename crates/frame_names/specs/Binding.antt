@@ -67,43 +67,42 @@ with_symbols references symbols = record { symbols = symbols; references = refer
 abbrev pub with_references : Symbols → References → SlotLists
 with_references symbols references = record { symbols = symbols; references = references }
 
-module _ {C : Type 0} where
-  -- A reference of the other state is null, or of a type that is there.
-  abbrev pub fits : List (Reference C) → List (Reference C) → ℕ → ℕ → Bool
-  fits a b r q = is_null (nullness_at a r) || are_one_place (place_at a r) (place_at b q)
+-- A reference of the other state is null, or of a type that is there.
+abbrev pub fits : List Reference → List Reference → ℕ → ℕ → Bool
+fits a b r q = is_null (nullness_at a r) || are_one_place (place_at a r) (place_at b q)
 
-  -- A reference of the other state is one of this state. Reference 0 asks for one that is null.
-  abbrev pub with_reference : List (Reference C) → List (Reference C) → ℕ → ℕ → References → Option References
-  with_reference a b r q slots =
-      if q == 0 then (if is_null (nullness_at a r) then Some slots else None)
-      else reference_in_slot (fits a b r q) slots r q (slice_get slots q)
+-- A reference of the other state is one of this state. Reference 0 asks for one that is null.
+abbrev pub with_reference : List Reference → List Reference → ℕ → ℕ → References → Option References
+with_reference a b r q slots =
+    if q == 0 then (if is_null (nullness_at a r) then Some slots else None)
+    else reference_in_slot (fits a b r q) slots r q (slice_get slots q)
 
-  -- ---- variables, and then lengths
+-- ---- variables, and then lengths
 
-  abbrev pub with_var : Gaps → List (Reference C) → List (Reference C) → Var → Var → SlotLists → Option SlotLists
-  with_var gap a b (vars.Number e) (vars.Number f) slots =
-      option_map (with_symbols slots.references) (with_number gap e f slots.symbols)
-  with_var gap a b (vars.Reference r) (vars.Reference q) slots =
-      option_map (with_references slots.symbols) (with_reference a b r q slots.references)
-  with_var gap a b vars.Text vars.Text slots = Some slots
-  with_var gap a b _ _ slots = None
+abbrev pub with_var : Gaps → List Reference → List Reference → Var → Var → SlotLists → Option SlotLists
+with_var gap a b (vars.Number e) (vars.Number f) slots =
+    option_map (with_symbols slots.references) (with_number gap e f slots.symbols)
+with_var gap a b (vars.Reference r) (vars.Reference q) slots =
+    option_map (with_references slots.symbols) (with_reference a b r q slots.references)
+with_var gap a b vars.Text vars.Text slots = Some slots
+with_var gap a b _ _ slots = None
 
-  abbrev pub with_vars : Gaps → List (Reference C) → List (Reference C) → List Var → List Var → SlotLists
-      → Option SlotLists
-  with_vars gap a b [] [] slots = Some slots
-  with_vars gap a b (x ∷ xs) (y ∷ ys) slots = option_and_then (with_vars gap a b xs ys) (with_var gap a b x y slots)
-  with_vars gap a b _ _ slots = None
+abbrev pub with_vars : Gaps → List Reference → List Reference → List Var → List Var → SlotLists
+    → Option SlotLists
+with_vars gap a b [] [] slots = Some slots
+with_vars gap a b (x ∷ xs) (y ∷ ys) slots = option_and_then (with_vars gap a b xs ys) (with_var gap a b x y slots)
+with_vars gap a b _ _ slots = None
 
-  -- The length of what a reference is bound to. One that is not bound fails.
-  abbrev pub with_length : Gaps → List (Reference C) → Reference C → Option ℕ → Symbols → Option Symbols
-  with_length gap a known None symbols = None
-  with_length gap a known (Some r) symbols = with_number gap (length_at a r) known.length symbols
+-- The length of what a reference is bound to. One that is not bound fails.
+abbrev pub with_length : Gaps → List Reference → Reference → Option ℕ → Symbols → Option Symbols
+with_length gap a known None symbols = None
+with_length gap a known (Some r) symbols = with_number gap (length_at a r) known.length symbols
 
-  -- The lengths of the references from 1 on, with the slots of these.
-  abbrev pub with_lengths : Gaps → List (Reference C) → List (Reference C) → References → Symbols → Option Symbols
-  with_lengths gap a [] slots symbols = Some symbols
-  with_lengths gap a (known ∷ b) slots symbols =
-      option_and_then (with_lengths gap a b (drop 1 slots)) (with_length gap a known (get_or slots 0 None) symbols)
+-- The lengths of the references from 1 on, with the slots of these.
+abbrev pub with_lengths : Gaps → List Reference → List Reference → References → Symbols → Option Symbols
+with_lengths gap a [] slots symbols = Some symbols
+with_lengths gap a (known ∷ b) slots symbols =
+    option_and_then (with_lengths gap a b (drop 1 slots)) (with_length gap a known (get_or slots 0 None) symbols)
 
 -- ---- the whole
 
@@ -132,15 +131,14 @@ both_filled _ _ = None
 abbrev pub filled_with : References → Symbols → Option FrameBinding
 filled_with references symbols = both_filled (all_filled symbols) (all_filled references)
 
-module _ {C : Type 0} where
-  -- The lengths, and then no slot may be free.
-  abbrev pub filled : Gaps → List (Reference C) → List (Reference C) → SlotLists → Option FrameBinding
-  filled gap a b slots =
-      option_and_then (filled_with slots.references) (with_lengths gap a b (drop 1 slots.references) slots.symbols)
+-- The lengths, and then no slot may be free.
+abbrev pub filled : Gaps → List Reference → List Reference → SlotLists → Option FrameBinding
+filled gap a b slots =
+    option_and_then (filled_with slots.references) (with_lengths gap a b (drop 1 slots.references) slots.symbols)
 
-  -- The variables in order, then the lengths of references, bind the second frame, which has so many symbols, to the
-  -- first.
-  abbrev pub bound_frames : Gaps → List Var → List (Reference C) → List Var → List (Reference C) → ℕ
-      → Option FrameBinding
-  bound_frames gap a_vars a b_vars b symbols =
-      option_and_then (filled gap a b) (with_vars gap a b a_vars b_vars (free_slots symbols (length b)))
+-- The variables in order, then the lengths of references, bind the second frame, which has so many symbols, to the
+-- first.
+abbrev pub bound_frames : Gaps → List Var → List Reference → List Var → List Reference → ℕ
+    → Option FrameBinding
+bound_frames gap a_vars a b_vars b symbols =
+    option_and_then (filled gap a b) (with_vars gap a b a_vars b_vars (free_slots symbols (length b)))

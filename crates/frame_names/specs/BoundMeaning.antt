@@ -28,23 +28,23 @@ abbrev pub KeepGaps : Gaps → (ℕ → ℤ) → Type 0
 KeepGaps gap number = (s t : ℕ) (k : ℤ) → gap s t ≡ Some k → (number s +ℤ k) ≤ℤ number t
 
 -- What is known to be null is.
-abbrev pub NullsAreNull : {C : Type 0} → List (Reference C) → (ℕ → Option ℕ) → Type 0
+abbrev pub NullsAreNull : List Reference → (ℕ → Option ℕ) → Type 0
 NullsAreNull a array = (r : ℕ) → is_null (nullness_at a r) ≡ true → array r ≡ None
 
 -- By the numbers and arrays of the first state, the variables of the second say what those of the first say.
-abbrev pub SaysSame : {C : Type 0} → Gaps → List Var → List (Reference C) → List Var → FrameBinding → Type 0
+abbrev pub SaysSame : Gaps → List Var → List Reference → List Var → FrameBinding → Type 0
 SaysSame gap a_vars a b_vars binding =
     (number : ℕ → ℤ) (array : ℕ → Option ℕ) → KeepGaps gap number → NullsAreNull a array
     → map (said (numbers_bound number binding) (arrays_bound array binding)) b_vars ≡ map (said number array) a_vars
 
 -- The lengths of the second state's references, from 1 on, are worth what those are of what they are bound to.
-abbrev pub AreLengthsBound : {C : Type 0} → (ℕ → ℤ) → FrameBinding → List (Reference C) → List (Reference C) → List ℕ
+abbrev pub AreLengthsBound : (ℕ → ℤ) → FrameBinding → List Reference → List Reference → List ℕ
     → Type 0
 AreLengthsBound number binding a [] bound = Unit {0}
 AreLengthsBound number binding a (known ∷ b) bound =
     (worth (numbers_bound number binding) known.length ≡ worth number (length_at a (get_or bound 0 0)))
     × AreLengthsBound number binding a b (drop 1 bound)
 
-abbrev pub HasSameLengths : {C : Type 0} → Gaps → List (Reference C) → List (Reference C) → FrameBinding → Type 0
+abbrev pub HasSameLengths : Gaps → List Reference → List Reference → FrameBinding → Type 0
 HasSameLengths gap a b binding =
     (number : ℕ → ℤ) → KeepGaps gap number → AreLengthsBound number binding a b (drop 1 binding.references)

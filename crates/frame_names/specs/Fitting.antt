@@ -11,7 +11,7 @@ pub record IsInt32 (n : ℤ) : Type 0 where
   pub greatest : n ≤ℤ pos 2147483647
 
 -- Symbol 0 is worth 0, and the numbers of variables and the lengths of references are int32.
-pub record AreInt32s {C : Type 0} (number : ℕ → ℤ) (vs : List Var) (known : List (Reference C)) : Type 0 where
+pub record AreInt32s (number : ℕ → ℤ) (vs : List Var) (known : List Reference) : Type 0 where
   pub zero_is : number 0 ≡ pos 0
   pub numbers : AllByRecursion (λ e. IsInt32 (worth number e)) (numbers_of vs)
   pub lengths : (r : ℕ) → IsInt32 (worth number (length_at known r))

@@ -42,35 +42,34 @@ AreAlike _ _ = ⊥
 
 -- ---- references. Reference 0, and one that is not there, is null, has the length 0, and is of no place
 
-module _ {C : Type 0} where
-  abbrev pub reference_at : List (Reference C) → ℕ → Option (Reference C)
-  reference_at references r = if r == 0 then None else slice_get references (r - 1)
+abbrev pub reference_at : List Reference → ℕ → Option Reference
+reference_at references r = if r == 0 then None else slice_get references (r - 1)
 
-  abbrev pub length_in : Option (Reference C) → Expr
-  length_in None = record { sym = 0; k = pos 0 }
-  length_in (Some known) = known.length
+abbrev pub length_in : Option Reference → Expr
+length_in None = record { sym = 0; k = pos 0 }
+length_in (Some known) = known.length
 
-  abbrev pub nullness_in : Option (Reference C) → Nullness
-  nullness_in None = nullness.Null
-  nullness_in (Some known) = known.nullness
+abbrev pub nullness_in : Option Reference → Nullness
+nullness_in None = nullness.Null
+nullness_in (Some known) = known.nullness
 
-  abbrev pub place_in : Option (Reference C) → Option Place
-  place_in None = None
-  place_in (Some known) = Some known.place
+abbrev pub place_in : Option Reference → Option Place
+place_in None = None
+place_in (Some known) = Some known.place
 
-  abbrev pub length_at : List (Reference C) → ℕ → Expr
-  length_at references r = length_in (reference_at references r)
+abbrev pub length_at : List Reference → ℕ → Expr
+length_at references r = length_in (reference_at references r)
 
-  abbrev pub nullness_at : List (Reference C) → ℕ → Nullness
-  nullness_at references r = nullness_in (reference_at references r)
+abbrev pub nullness_at : List Reference → ℕ → Nullness
+nullness_at references r = nullness_in (reference_at references r)
 
-  abbrev pub place_at : List (Reference C) → ℕ → Option Place
-  place_at references r = place_in (reference_at references r)
+abbrev pub place_at : List Reference → ℕ → Option Place
+place_at references r = place_in (reference_at references r)
 
-  -- The constants of numbers and lengths are those of -2^32 to 2^32.
-  pub record IsNearFrame (vs : List Var) (references : List (Reference C)) : Type 0 where
-    pub numbers : AreNear (numbers_of vs)
-    pub lengths : AllByRecursion (λ known. IsNear known.length) references
+-- The constants of numbers and lengths are those of -2^32 to 2^32.
+pub record IsNearFrame (vs : List Var) (references : List Reference) : Type 0 where
+  pub numbers : AreNear (numbers_of vs)
+  pub lengths : AllByRecursion (λ known. IsNear known.length) references
 
 abbrev pub are_one_place : Option Place → Option Place → Bool
 are_one_place (Some a) (Some b) = place_number a == place_number b

@@ -37,7 +37,7 @@ SaysBoth a b new =
     ≡ map (said number array) (if is_first then a else b)
 
 -- The new lengths are worth what the lengths of the paired references are on each side.
-abbrev pub HasBothLengths : {C : Type 0} → List (Reference C) → List (Reference C) → FramePairing → Type 0
+abbrev pub HasBothLengths : List Reference → List Reference → FramePairing → Type 0
 HasBothLengths a b new =
     (is_first : Bool) (number : ℕ → ℤ)
     → map (worth (numbers_behind is_first number new)) new.lengths

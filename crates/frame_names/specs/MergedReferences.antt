@@ -16,18 +16,17 @@ one_place (Some a) b = a
 one_place None (Some b) = b
 one_place None None = Void
 
-module _ {C : Type 0} where
-  abbrev pub merged_reference : List (Reference C) → List (Reference C) → Key → Expr → MergedReference
-  merged_reference a b key length = record {
-    first = key.s;
-    second = key.t;
-    place = one_place (place_at a key.s) (place_at b key.t);
-    nullness = joined (nullness_at a key.s) (nullness_at b key.t);
-    length = length;
-  }
+abbrev pub merged_reference : List Reference → List Reference → Key → Expr → MergedReference
+merged_reference a b key length = record {
+  first = key.s;
+  second = key.t;
+  place = one_place (place_at a key.s) (place_at b key.t);
+  nullness = joined (nullness_at a key.s) (nullness_at b key.t);
+  length = length;
+}
 
-  -- Each paired reference, with the next of the new lengths.
-  abbrev pub merged_references : List (Reference C) → List (Reference C) → List Key → List Expr → List MergedReference
-  merged_references a b [] lengths = []
-  merged_references a b (key ∷ keys) lengths =
-      merged_reference a b key (first_expr lengths) ∷ merged_references a b keys (behind lengths)
+-- Each paired reference, with the next of the new lengths.
+abbrev pub merged_references : List Reference → List Reference → List Key → List Expr → List MergedReference
+merged_references a b [] lengths = []
+merged_references a b (key ∷ keys) lengths =
+    merged_reference a b key (first_expr lengths) ∷ merged_references a b keys (behind lengths)

@@ -56,14 +56,13 @@ named_frame vs references numbers = record {
   lengths = drop (length (numbers_of vs)) numbers.exprs;
 }
 
-module _ {C : Type 0} where
-  -- The numbers of a side's variables, and then the lengths of its references that are paired.
-  abbrev pub exprs_of : List Var → List (Reference C) → Bool → List Key → List Expr
-  exprs_of vs references is_first keys = numbers_of vs ++ map (λ key. length_at references (old_of is_first key)) keys
+-- The numbers of a side's variables, and then the lengths of its references that are paired.
+abbrev pub exprs_of : List Var → List Reference → Bool → List Key → List Expr
+exprs_of vs references is_first keys = numbers_of vs ++ map (λ key. length_at references (old_of is_first key)) keys
 
-  abbrev pub pairing_by : Pairing → List Var → List (Reference C) → List Var → List (Reference C) → Pairing
-  pairing_by references a known b other =
-      paired (exprs_of a known true references.keys) (exprs_of b other false references.keys)
+abbrev pub pairing_by : Pairing → List Var → List Reference → List Var → List Reference → Pairing
+pairing_by references a known b other =
+    paired (exprs_of a known true references.keys) (exprs_of b other false references.keys)
 
 -- The constant is one of -2^32 to 2^32.
 abbrev pub is_near : Expr → Bool
@@ -73,8 +72,7 @@ is_near e = int_le (negsuc 4294967295) e.k && int_le e.k (pos 4294967296)
 abbrev pub if_near : FramePairing → Option FramePairing
 if_near new = if list_all is_near new.numbers.exprs then Some new else None
 
-module _ {C : Type 0} where
-  -- The references of the variables are paired first. Then the numbers are: those of the variables, and behind them
-  -- the lengths of the paired references.
-  abbrev pub paired_frames : List Var → List (Reference C) → List Var → List (Reference C) → Option FramePairing
-  paired_frames a known b other = if_near (named_frame a (pairs_of a b) (pairing_by (pairs_of a b) a known b other))
+-- The references of the variables are paired first. Then the numbers are: those of the variables, and behind them
+-- the lengths of the paired references.
+abbrev pub paired_frames : List Var → List Reference → List Var → List Reference → Option FramePairing
+paired_frames a known b other = if_near (named_frame a (pairs_of a b) (pairing_by (pairs_of a b) a known b other))

@@ -13,7 +13,7 @@ use std::alloc::{AllocError, Global};
 use symbolic_values::Key;
 
 /// Returns whether two references of a state cannot be the same array.
-pub(crate) fn cannot_be_same<C>(known: &[Reference<C>], apart: &Apart, r: u32, q: u32) -> bool
+pub(crate) fn cannot_be_same(known: &[Reference], apart: &Apart, r: u32, q: u32) -> bool
     ensures { result ≡ cannot_be_same known.now apart.now r q }
 {
     let same_place = are_one_place(place_of(known, r), place_of(known, q));
@@ -47,15 +47,15 @@ fn key_of(keys: &[Key], reference: u32) -> Key
 
 /// The references of two states, and what is kept of them.
 #[derive(Drop)]
-struct Sides<'a, C> {
+struct Sides<'a> {
     keys: &'a [Key],
-    a: &'a [Reference<C>],
+    a: &'a [Reference],
     a_apart: &'a Apart,
-    b: &'a [Reference<C>],
+    b: &'a [Reference],
     b_apart: &'a Apart,
 }
 
-impl<'a, C> Sides<'a, C> {
+impl<'a> Sides<'a> {
     /// Returns whether two new references cannot be the same array on either side.
     fn are_apart(&self, r: u32, q: u32) -> bool
         ensures { result ≡ are_apart_in_both self.now.keys.now self.now.a.now self.now.a_apart.now
@@ -100,7 +100,7 @@ fn last_of(keys: &[Key]) -> Result<u32, NoMemory>
     }
 }
 
-impl<'a, C> Sides<'a, C> {
+impl<'a> Sides<'a> {
     /// The pairs of new references that cannot be the same array on either side.
     fn pairs(&self, alloc: Global) -> Result<Apart, NoMemory>
         ensures { IfOk result (λ apart. apart ≡ joined_apart self.now.keys.now self.now.a.now
@@ -119,12 +119,12 @@ impl<'a, C> Sides<'a, C> {
 /// types differ, or one is null. Given are the keys of the paired references.
 ///
 /// Cost: each two references are looked at.
-pub fn joined_apart<C>(
+pub fn joined_apart(
     alloc: Global,
     keys: &[Key],
-    a: &[Reference<C>],
+    a: &[Reference],
     a_apart: &Apart,
-    b: &[Reference<C>],
+    b: &[Reference],
     b_apart: &Apart,
 ) -> Result<Apart, NoMemory>
     ensures value { IfOk result (λ apart. apart ≡ joined_apart keys.now a.now a_apart.now b.now b_apart.now) }

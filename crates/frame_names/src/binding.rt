@@ -43,13 +43,13 @@ fn slot_at(slots: &[Option<u32>], index: usize) -> Option<u32>
 
 /// Two states' tables of references, and how the symbols of the first lie to each other.
 #[derive(Drop)]
-struct Tables<'a, O, C> {
+struct Tables<'a, O> {
     order: &'a O,
-    a: &'a [Reference<C>],
-    b: &'a [Reference<C>],
+    a: &'a [Reference],
+    b: &'a [Reference],
 }
 
-impl<'a, O: Order, C> Tables<'a, O, C> {
+impl<'a, O: Order> Tables<'a, O> {
     /// Binds a variable of the second state to what the first has there. Returns false where it cannot be.
     fn bind_var(&self, slots: &mut Slots, x: Var, y: Var) -> bool
         ensures { (if result then Some slots.new else None)
@@ -87,7 +87,7 @@ impl<'a, O: Order, C> Tables<'a, O, C> {
     fn bind_length(
         &self,
         symbols: &mut [Option<Bound>],
-        known: &Reference<C>,
+        known: &Reference,
         slot: Option<u32>,
     ) -> bool
         ensures { (if result then Some symbols.new else None)
@@ -131,11 +131,11 @@ fn filled(alloc: Global, slots: &Slots) -> Result<Option<Binding>, NoMemory>
 }
 
 /// Binds the frame of a state to that of another.
-fn bound<O: Order, C>(
+fn bound<O: Order>(
     alloc: Global,
     order: &O,
-    a: &Frame<C>,
-    b: &Frame<C>,
+    a: &Frame,
+    b: &Frame,
     symbols: usize,
 ) -> Result<Option<Binding>, NoMemory>
     requires alike { AreAlike a.now.vars.now b.now.vars.now }
@@ -175,11 +175,11 @@ fn bound<O: Order, C>(
 /// meets one that may be an array, or where a symbol or a reference stays unbound.
 ///
 /// Cost: two gaps for each variable and length.
-pub fn bind_frames<O: Order, C>(
+pub fn bind_frames<O: Order>(
     alloc: Global,
     order: &O,
-    a: &Frame<C>,
-    b: &Frame<C>,
+    a: &Frame,
+    b: &Frame,
     symbols: usize,
 ) -> Result<Option<Binding>, NoMemory>
     requires alike { AreAlike a.now.vars.now b.now.vars.now }

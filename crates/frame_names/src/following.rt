@@ -23,7 +23,7 @@ fn reference_at(bound: &[u32], index: usize) -> u32
 
 /// Returns whether what is known of each reference is known of what it is bound to, from reference 1 on.
 #[tactic(auto, using(crate::proofs::ListSteps::head_drop, crate::proofs::ListSteps::next_drop))]
-fn are_entailed<C>(a: &[Reference<C>], b: &[Reference<C>], bound: &[u32]) -> bool
+fn are_entailed(a: &[Reference], b: &[Reference], bound: &[u32]) -> bool
     ensures { result ≡ all_entailed a.now b.now bound.now }
 {
     for index in 0..b.len() {
@@ -35,7 +35,7 @@ fn are_entailed<C>(a: &[Reference<C>], b: &[Reference<C>], bound: &[u32]) -> boo
 }
 
 /// Returns whether what is known of each reference is known of what it is bound to.
-fn all_entailed<C>(a: &[Reference<C>], b: &[Reference<C>], binding: &Binding) -> bool
+fn all_entailed(a: &[Reference], b: &[Reference], binding: &Binding) -> bool
     ensures { result ≡ all_entailed a.now b.now (drop 1 binding.now.references) }
 {
     let bound = binding.references.get(1..).unwrap_or(&[]);
@@ -44,7 +44,7 @@ fn all_entailed<C>(a: &[Reference<C>], b: &[Reference<C>], binding: &Binding) ->
 
 /// Returns whether the first state knows, of what each reference of the second is bound to, what the second knows of it
 /// being null.
-pub fn nullness_follows<C>(a: &[Reference<C>], b: &[Reference<C>], binding: &Binding) -> bool
+pub fn nullness_follows(a: &[Reference], b: &[Reference], binding: &Binding) -> bool
     ensures value { result ≡ all_entailed a.now b.now (drop 1 binding.now.references) }
     ensures agree { IsTrue result → (array : ℕ → Option ℕ) → AreNulls a.now array →
         AgreeBound array b.now (drop 1 binding.now.references) }
@@ -53,7 +53,7 @@ pub fn nullness_follows<C>(a: &[Reference<C>], b: &[Reference<C>], binding: &Bin
 }
 
 /// Returns whether what the references of each pair are bound to cannot be the same array.
-fn are_apart<C>(a: &[Reference<C>], apart: &Apart, bound: &[u32], pairs: &[(u32, u32)]) -> bool
+fn are_apart(a: &[Reference], apart: &Apart, bound: &[u32], pairs: &[(u32, u32)]) -> bool
     ensures { result ≡ all_apart a.now apart.now bound.now pairs.now }
 {
     pairs.iter().all(|pair| cannot_be_same(
@@ -66,9 +66,9 @@ fn are_apart<C>(a: &[Reference<C>], apart: &Apart, bound: &[u32], pairs: &[(u32,
 
 /// Returns whether what the references of each pair that the second state keeps apart are bound to cannot be the same
 /// array in the first.
-fn all_apart<C>(
+fn all_apart(
     alloc: Global,
-    a: &[Reference<C>],
+    a: &[Reference],
     a_apart: &Apart,
     b_apart: &Apart,
     binding: &Binding,
@@ -83,9 +83,9 @@ fn all_apart<C>(
 /// array in the first.
 ///
 /// Cost: each pair of the second state is looked at.
-pub fn apart_follows<C>(
+pub fn apart_follows(
     alloc: Global,
-    a: &[Reference<C>],
+    a: &[Reference],
     a_apart: &Apart,
     b_apart: &Apart,
     binding: &Binding,

@@ -12,11 +12,11 @@ use symbolic_values::Key;
 
 /// What a state knows of its variables and references.
 #[derive(Drop)]
-pub struct Frame<'a, C> {
+pub struct Frame<'a> {
     /// The variables, in order.
     pub vars: &'a [Var],
     /// The references from 1 on, in order.
-    pub references: &'a [Reference<C>],
+    pub references: &'a [Reference],
 }
 
 /// The references of variables, in order.
@@ -48,9 +48,9 @@ fn old_of(is_first: bool, key: &Key) -> u32
 }
 
 /// The lengths of paired references in one of the states.
-fn lengths_of<C>(
+fn lengths_of(
     alloc: Global,
-    table: &[Reference<C>],
+    table: &[Reference],
     is_first: bool,
     keys: &[Key],
 ) -> Result<Vec<Expr>, NoMemory>
@@ -62,7 +62,7 @@ fn lengths_of<C>(
         .collect(alloc)
 }
 
-impl<'a, C> Frame<'a, C> {
+impl<'a> Frame<'a> {
     /// The numbers of the variables, and behind them the lengths of paired references. This is the first of the paired
     /// states, or the second.
     pub(crate) fn exprs(

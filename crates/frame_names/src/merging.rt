@@ -46,12 +46,7 @@ fn expr_at(exprs: &[Expr], index: usize) -> Expr
 }
 
 /// What is known of the reference of a key.
-fn merged_reference<C>(
-    a: &[Reference<C>],
-    b: &[Reference<C>],
-    key: &Key,
-    length: Expr,
-) -> MergedReference
+fn merged_reference(a: &[Reference], b: &[Reference], key: &Key, length: Expr) -> MergedReference
     ensures { result ≡ merged_reference a.now b.now key.now length }
 {
     MergedReference {
@@ -65,12 +60,12 @@ fn merged_reference<C>(
 
 /// What is known of each reference of a key, with the length at the same place.
 #[tactic(auto, using(crate::proofs::ListSteps::behind_drop))]
-fn all_merged<C>(
+fn all_merged(
     alloc: Global,
     keys: &[Key],
     lengths: &[Expr],
-    a: &[Reference<C>],
-    b: &[Reference<C>],
+    a: &[Reference],
+    b: &[Reference],
 ) -> Result<Vec<MergedReference>, NoMemory>
     ensures { IfOk result (λ merged. merged.items ≡ merged_references a.now b.now keys.now lengths.now) }
 {
@@ -82,11 +77,11 @@ fn all_merged<C>(
 }
 
 /// What is known of each new reference, in order.
-fn new_references<C>(
+fn new_references(
     alloc: Global,
     frames: &PairedFrames,
-    a: &[Reference<C>],
-    b: &[Reference<C>],
+    a: &[Reference],
+    b: &[Reference],
 ) -> Result<Vec<MergedReference>, NoMemory>
     ensures { IfOk result (λ merged. merged.items ≡
         merged_references a.now b.now frames.now.references.keys frames.now.lengths) }
@@ -97,11 +92,11 @@ fn new_references<C>(
 
 /// What is known of each new reference, in order: what it was in both states, the type of one of the two that has one,
 /// whether it may be null where it was the one or the other, and the new length.
-pub fn merged_references<C>(
+pub fn merged_references(
     alloc: Global,
     frames: &PairedFrames,
-    a: &[Reference<C>],
-    b: &[Reference<C>],
+    a: &[Reference],
+    b: &[Reference],
 ) -> Result<Vec<MergedReference>, NoMemory>
     ensures value { IfOk result (λ merged. merged.items ≡
         merged_references a.now b.now frames.now.references.keys frames.now.lengths) }

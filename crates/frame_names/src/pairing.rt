@@ -59,11 +59,11 @@ fn pairs_of(alloc: Global, a: &[Var], b: &[Var]) -> Result<ReferencePairs, NoMem
 
 /// The numbers of two frames named together, and behind them the lengths of paired references.
 #[tactic(auto, using(crate::proofs::FrameLemmas::same_exprs, crate::proofs::FrameLemmas::near_exprs, crate::proofs::FrameLemmas::alike_itself))]
-fn numbers_by<C>(
+fn numbers_by(
     alloc: Global,
     references: &ReferencePairs,
-    a: &Frame<C>,
-    b: &Frame<C>,
+    a: &Frame,
+    b: &Frame,
 ) -> Result<Pairs, NoMemory>
     requires alike { AreAlike a.now.vars.now b.now.vars.now }
     requires first { IsNearFrame a.now.vars.now a.now.references.now }
@@ -130,7 +130,7 @@ fn if_near(
 }
 
 /// The frames of two states named together.
-fn paired<C>(alloc: Global, a: &Frame<C>, b: &Frame<C>) -> Result<Option<PairedFrames>, NoMemory>
+fn paired(alloc: Global, a: &Frame, b: &Frame) -> Result<Option<PairedFrames>, NoMemory>
     requires alike { AreAlike a.now.vars.now b.now.vars.now }
     requires first { IsNearFrame a.now.vars.now a.now.references.now }
     requires second { IsNearFrame b.now.vars.now b.now.references.now }
@@ -149,11 +149,7 @@ fn paired<C>(alloc: Global, a: &Frame<C>, b: &Frame<C>) -> Result<Option<PairedF
 /// and lengths of a state int32.
 ///
 /// Cost: that of pairing references and numbers, each once. `NoMemory` as there.
-pub fn pair_frames<C>(
-    alloc: Global,
-    a: &Frame<C>,
-    b: &Frame<C>,
-) -> Result<Option<PairedFrames>, NoMemory>
+pub fn pair_frames(alloc: Global, a: &Frame, b: &Frame) -> Result<Option<PairedFrames>, NoMemory>
     requires alike { AreAlike a.now.vars.now b.now.vars.now }
     requires first { IsNearFrame a.now.vars.now a.now.references.now }
     requires second { IsNearFrame b.now.vars.now b.now.references.now }
@@ -182,11 +178,7 @@ fn own_pairs(alloc: Global, vars: &[Var]) -> Result<ReferencePairs, NoMemory>
 
 /// The numbers of a frame named together with themselves, and behind them the lengths of its references.
 #[tactic(auto, using(crate::proofs::FrameLemmas::same_exprs, crate::proofs::FrameLemmas::near_exprs, crate::proofs::FrameLemmas::alike_itself))]
-fn own_numbers<C>(
-    alloc: Global,
-    references: &ReferencePairs,
-    frame: &Frame<C>,
-) -> Result<Pairs, NoMemory>
+fn own_numbers(alloc: Global, references: &ReferencePairs, frame: &Frame) -> Result<Pairs, NoMemory>
     requires { IsNearFrame frame.now.vars.now frame.now.references.now }
     ensures { IfOk result (λ pairs. pairs ≡ pairing_by references.now.pairs
         frame.now.vars.now frame.now.references.now frame.now.vars.now frame.now.references.now) }
@@ -202,7 +194,7 @@ fn own_numbers<C>(
 }
 
 /// The frame of a state named together with itself.
-fn own<C>(alloc: Global, frame: &Frame<C>) -> Result<Option<PairedFrames>, NoMemory>
+fn own(alloc: Global, frame: &Frame) -> Result<Option<PairedFrames>, NoMemory>
     requires { IsNearFrame frame.now.vars.now frame.now.references.now }
     ensures { IfOk result (λ frames. frames ≡ paired_frames frame.now.vars.now frame.now.references.now
         frame.now.vars.now frame.now.references.now) }
@@ -215,7 +207,7 @@ fn own<C>(alloc: Global, frame: &Frame<C>) -> Result<Option<PairedFrames>, NoMem
 /// The frame of a state in the names of its own first uses: the state paired with itself.
 ///
 /// None, cost and `NoMemory`: as of `pair_frames`.
-pub fn name_frame<C>(alloc: Global, frame: &Frame<C>) -> Result<Option<PairedFrames>, NoMemory>
+pub fn name_frame(alloc: Global, frame: &Frame) -> Result<Option<PairedFrames>, NoMemory>
     requires { IsNearFrame frame.now.vars.now frame.now.references.now }
     ensures value { IfOk result (λ frames. frames ≡ paired_frames frame.now.vars.now frame.now.references.now
         frame.now.vars.now frame.now.references.now) }

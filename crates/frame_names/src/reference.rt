@@ -11,19 +11,17 @@ use domain_api::Expr;
 ///
 /// Reference r stands at place r - 1 of a table. Reference 0 is null and has no entry.
 #[derive(Clone, Copy, Debug, PartialEq, Eq)]
-pub struct Reference<C> {
+pub struct Reference {
     /// The type of the array.
     pub place: Place,
     /// Whether it may be null.
     pub nullness: Nullness,
     /// The length.
     pub length: Expr,
-    /// What stands for the items.
-    pub contents: C,
 }
 
 /// The length of a reference: 0 where it has no entry.
-pub(crate) fn length_of<C>(references: &[Reference<C>], reference: u32) -> Expr
+pub(crate) fn length_of(references: &[Reference], reference: u32) -> Expr
     ensures { result ≡ length_at references.now reference }
 {
     let zero = Expr { sym: 0, k: 0 };
@@ -37,7 +35,7 @@ pub(crate) fn length_of<C>(references: &[Reference<C>], reference: u32) -> Expr
 }
 
 /// What is known of a reference being null. One without an entry is null.
-pub(crate) fn nullness_of<C>(references: &[Reference<C>], reference: u32) -> Nullness
+pub(crate) fn nullness_of(references: &[Reference], reference: u32) -> Nullness
     ensures { result ≡ nullness_at references.now reference }
 {
     if reference == 0 {
@@ -50,7 +48,7 @@ pub(crate) fn nullness_of<C>(references: &[Reference<C>], reference: u32) -> Nul
 }
 
 /// The type of a reference, if it has an entry.
-pub(crate) fn place_of<C>(references: &[Reference<C>], reference: u32) -> Option<Place>
+pub(crate) fn place_of(references: &[Reference], reference: u32) -> Option<Place>
     ensures { result ≡ place_at references.now reference }
 {
     if reference == 0 {

@@ -128,7 +128,7 @@ pub(crate) fn bind_number<O: Order>(
 }
 
 /// Returns whether a reference of another state is null, or of the type of one of this state.
-fn fits<C>(a: &[Reference<C>], b: &[Reference<C>], r: u32, q: u32) -> bool
+fn fits(a: &[Reference], b: &[Reference], r: u32, q: u32) -> bool
     ensures { result ≡ fits a.now b.now r q }
 {
     nullness_of(a, r) == Nullness::Null || are_one_place(place_of(a, r), place_of(b, q))
@@ -136,9 +136,9 @@ fn fits<C>(a: &[Reference<C>], b: &[Reference<C>], r: u32, q: u32) -> bool
 
 /// Binds a reference of another state to one of this state: it is the first and fits, or is what is bound. Reference 0
 /// asks for one that is null. Returns false where this is not so, or the reference is not there.
-pub(crate) fn bind_reference<C>(
-    a: &[Reference<C>],
-    b: &[Reference<C>],
+pub(crate) fn bind_reference(
+    a: &[Reference],
+    b: &[Reference],
     slots: &mut [Option<u32>],
     r: u32,
     q: u32,

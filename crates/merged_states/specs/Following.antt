@@ -6,7 +6,6 @@ use Rattle.cil_model.specs.Comparisons.{number_of}
 use Rattle.cil_model.specs.Values.{Heap, IsHeap}
 use Rattle.cil_model.specs.declared.machine.Value.{Value}
 use Rattle.frame_names.specs.Frames.{reference_at}
-use Rattle.state_facts.specs.Forms.{HasForm}
 use Rattle.state_facts.specs.Holds.{HoldsIn}
 use Rattle.state_facts.specs.StateFacts.{StateFacts, State}
 
@@ -29,9 +28,9 @@ pub record HoldsOver (state : State) (vs : List Value) (heap : Heap) : Type 0 wh
 abbrev pub Follows : State → State → Type 0
 Follows a b = (vs : List Value) (heap : Heap) → AreOfMachine vs heap → HoldsOver a vs heap → HoldsOver b vs heap
 
--- A yes tells that the second state follows from the first, where the first has its form.
+-- A yes tells that the second state follows from the first.
 abbrev pub TellsFollowing : StateFacts → StateFacts → Bool → Type 0
-TellsFollowing a b answer = answer ≡ true → HasForm a → Follows (Some a) (Some b)
+TellsFollowing a b answer = answer ≡ true → Follows (Some a) (Some b)
 
 -- References that are not there are null.
 abbrev pub AreNoneBeyond : StateFacts → (ℕ → Option ℕ) → Type 0

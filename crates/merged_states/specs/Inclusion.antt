@@ -2,6 +2,7 @@
 use Rattle.std.specs.Prelude.{ℕ, ◌==◌, pos, ◌-ℤ◌, Bool, true, false, ◌&&◌, List, length, map, drop, get_or, Option, Some, None, if◌then◌else◌}
 use Rattle.std.specs.List.{list_all}
 use Rattle.std.specs.Ordering.{int_eq}
+use Rattle.array_contents.specs.Merging as items
 use Rattle.domain_api.specs.declared.expr.Expr.{Expr}
 use Rattle.frame_names.specs.Binding.{FrameBinding, bound_frames}
 use Rattle.frame_names.specs.Following.{all_apart, all_entailed}
@@ -66,6 +67,13 @@ definitions_follow a b binding =
 abbrev pub numbers_follow : StateFacts → StateFacts → FrameBinding → Bool
 numbers_follow a b binding = included (numbers_known a.facts) (drop 1 binding.symbols) b.facts.ranges b.facts.bounds
 
+-- ---- items
+
+-- What the second state knows of the items of references from 1 on is known of what they are bound to.
+abbrev pub items_follow : StateFacts → StateFacts → FrameBinding → Bool
+items_follow a b binding =
+    items.included (gap a.facts) (symbol_names binding) a.contents (drop 1 binding.references) b.contents
+
 -- ---- the whole
 
 -- All that the second state knows of what is bound is known in the first.
@@ -73,7 +81,8 @@ abbrev pub all_follows : StateFacts → StateFacts → FrameBinding → Bool
 all_follows a b binding =
     all_entailed a.references b.references (drop 1 binding.references)
     && (numbers_follow a b binding
-    && (definitions_follow a b binding && all_apart a.references a.apart binding.references b.apart))
+    && (definitions_follow a b binding
+    && (all_apart a.references a.apart binding.references b.apart && items_follow a b binding)))
 
 abbrev pub if_bound : StateFacts → StateFacts → Option FrameBinding → Bool
 if_bound a b None = false

@@ -2,6 +2,8 @@ pub mod Numbers
 pub mod Uses
 pub mod Frames
 pub mod References
+pub mod Lengths
+pub mod Items
 pub mod Definitions
 pub mod MergedHolds
 pub mod BothHold

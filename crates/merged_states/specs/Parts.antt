@@ -1,12 +1,17 @@
 -- What becomes of the parts of states in new names: numbers, definitions and references.
-use Rattle.std.specs.Prelude.{ℕ, suc, ◌+◌, pos, Bool, ◌&&◌, List, [], ◌∷◌, length, map, Option, Some, None, if◌then◌else◌}
+use Rattle.std.specs.Prelude.{ℕ, suc, ◌+◌, nat_le, pos, Bool, true, ◌&&◌, List, [], ◌∷◌, length, map, Option, Some, None, if◌then◌else◌}
 use Rattle.std.specs.Option.{option_and_then}
 use Rattle.std.specs.List.{range_with_len}
 use Rattle.std.specs.Ordering.{int_eq}
+use Rattle.array_contents.specs.Contents.{Contents, Segments}
+use Rattle.array_contents.specs.Merging as items
+use Rattle.array_contents.specs.Merging.{Making}
+use Rattle.array_segments.specs.SegmentLists.{whole}
 use Rattle.domain_api.specs.declared.expr.Expr.{Expr}
 use Rattle.frame_names.specs.PairedFrames.{FramePairing}
 use Rattle.frame_names.specs.declared.merging.MergedReference.{MergedReference}
 use Rattle.frame_names.specs.declared.reference.Reference.{Reference}
+use Rattle.interval_domain.specs.Joins.{full}
 use Rattle.merged_numbers.specs.Known.{Known}
 use Rattle.number_facts.specs.Ends.{span_at}
 use Rattle.number_facts.specs.Facts.{Facts}
@@ -17,7 +22,6 @@ use Rattle.symbolic_values.specs.Pairing.{Pairing}
 use Rattle.symbolic_values.specs.declared.def.Def.{Def}
 use Rattle.symbolic_values.specs.declared.pairs.Key.{Key}
 use Rattle.state_facts.specs.Assuming.{definition_at}
-use Rattle.state_facts.specs.declared.reference.Unknown.{Unknown}
 
 -- ---- numbers
 
@@ -68,6 +72,28 @@ def_of_one frames symbols references definitions u =
 
 -- ---- references
 
--- A merged reference, of whose items nothing is known.
-abbrev pub unknown_items : MergedReference → Reference Unknown
-unknown_items r = record { place = r.place; nullness = r.nullness; length = r.length; contents = record {} }
+-- What the table has of a merged reference.
+abbrev pub entry_of : MergedReference → Reference
+entry_of r = record { place = r.place; nullness = r.nullness; length = r.length }
+
+-- ---- items of new references
+
+-- What both states know of the items of each, given how two ranges become one.
+abbrev pub contents_of_both : Making → FramePairing → Contents → Contents → Contents
+contents_of_both making frames a b = items.merged making frames.numbers a b frames.references.keys frames.lengths
+
+-- What a state of so many symbols, with symbol 0, knows of the items of each, in new names.
+abbrev pub contents_of_one : FramePairing → ℕ → Contents → Contents
+contents_of_one frames symbols a = items.renamed_each (own_names frames.numbers symbols) a frames.references.keys
+
+-- Each new symbol has a number of 32 bits.
+abbrev pub are_numbered : FramePairing → Bool
+are_numbered frames = nat_le (length frames.numbers.keys) 4294967295
+
+-- An array of this length, of whose items nothing is known.
+abbrev pub unknown_array : Expr → Segments
+unknown_array length = whole length full true
+
+-- What is known of items, where each symbol has a number of 32 bits. Else it is no more than the lengths of arrays.
+abbrev pub if_numbered : FramePairing → Contents → Contents
+if_numbered frames contents = if are_numbered frames then contents else map unknown_array frames.lengths

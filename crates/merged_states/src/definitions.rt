@@ -1,13 +1,13 @@
 //! Definitions of new symbols, each of which stands for a key.
 
-ghost use Rattle.std.specs.Prelude.{◌≡◌, ◌+◌, ◌++◌, [], map, IfOk, OnOk};
+ghost use Rattle.std.specs.Prelude.{◌≡◌, ◌+◌, ◌++◌, [], length, map, IfOk, OnOk};
 ghost use Rattle.symbolic_values.specs.Names as naming;
 ghost use Rattle.symbolic_values.specs.OwnNames.{own_names};
 ghost use Rattle.merged_states.specs.Parts as rule;
 
 use domain_api::{Expr, NoMemory};
 use frame_names::PairedFrames;
-use state_facts::definition_at;
+use state_facts::{Known, definition_at};
 use std::alloc::{AllocError, Global};
 use symbolic_values::{Def, Key};
 
@@ -92,7 +92,7 @@ pub(crate) fn definitions_of_both(
 /// The new names of a state's symbols and references, and its definitions.
 #[derive(Drop)]
 struct Names<'a> {
-    symbols: Vec<Option<Expr>>,
+    symbols: &'a [Option<Expr>],
     references: Vec<Option<u32>>,
     definitions: &'a [(u32, Def)],
 }
@@ -123,21 +123,17 @@ fn reference_names(
 impl Names<'_> {
     /// The definition of a key's symbol, which is the key's first constant above the old one.
     fn def_of(&self, key: &Key) -> Option<Def>
-        ensures { result ≡ rule.own_def self.now.symbols.items self.now.references.items
+        ensures { result ≡ rule.own_def self.now.symbols.now self.now.references.items
             self.now.definitions.now key.now }
     {
         let def = definition_at(self.definitions, key.s)?;
-        def.renamed_above(
-            key.first,
-            self.symbols.as_slice(),
-            self.references.as_slice(),
-        )
+        def.renamed_above(key.first, self.symbols, self.references.as_slice())
     }
 
     /// The definitions in new names.
     fn renamed(&self, alloc: Global, keys: &[Key]) -> Result<Vec<(u32, Def)>, NoMemory>
         ensures { IfOk result (λ definitions. definitions.items ≡ rule.definitions_from
-            (rule.own_def self.now.symbols.items self.now.references.items self.now.definitions.now) 1 keys.now) }
+            (rule.own_def self.now.symbols.now self.now.references.items self.now.definitions.now) 1 keys.now) }
     {
         let mut definitions = Vec::with_capacity(alloc, self.definitions.len())?;
         for place in 0..keys.len() {
@@ -148,24 +144,24 @@ impl Names<'_> {
     }
 }
 
-/// The definitions of a state in the names of its own first uses, where it has so many symbols and references, with
-/// symbol 0 and reference 0.
+/// The definitions of a state in the names of its own first uses, given the names of its symbols.
 ///
 /// Cost: for each key a pass over the definitions.
 pub(crate) fn renamed_definitions(
     alloc: Global,
     frames: &PairedFrames,
-    symbols: usize,
-    references: usize,
-    definitions: &[(u32, Def)],
+    symbols: &[Option<Expr>],
+    a: &Known,
 ) -> Result<Vec<(u32, Def)>, NoMemory>
+    requires { symbols.now ≡ own_names frames.now.numbers (length a.now.facts.ranges + 1) }
     ensures { IfOk result (λ renamed. renamed.items ≡ rule.definitions_from
-        (rule.def_of_one frames.now symbols references definitions.now) 1 frames.now.numbers.keys) }
+        (rule.def_of_one frames.now (length a.now.facts.ranges + 1) (length a.now.references + 1)
+        a.now.facts.definitions) 1 frames.now.numbers.keys) }
 {
     let names = Names {
-        symbols: frames.numbers.names(alloc, symbols)?,
-        references: reference_names(alloc, frames, references)?,
-        definitions,
+        symbols,
+        references: reference_names(alloc, frames, a.references.len() + 1)?,
+        definitions: a.numbers.definitions.rows(),
     };
     names.renamed(alloc, frames.numbers.keys.as_slice())
 }

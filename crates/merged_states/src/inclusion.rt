@@ -3,6 +3,7 @@
 ghost use Rattle.std.specs.Prelude.{◌≡◌, get_or, IfOk, None};
 ghost use Rattle.std.specs.List.{list_all};
 ghost use Rattle.frame_names.specs.Frames.{AreAlike};
+ghost use Rattle.state_facts.specs.Forms.{HasForm};
 ghost use Rattle.merged_states.specs.Following.{TellsFollowing};
 ghost use Rattle.merged_states.specs.Inclusion as rule;
 
@@ -107,14 +108,15 @@ fn definitions_follow(
     a: &Known,
     b: &Known,
     binding: &Binding,
+    symbols: &[Option<Expr>],
 ) -> Result<bool, NoMemory>
+    requires { symbols.now ≡ rule.symbol_names binding.now }
     ensures { IfOk result (λ follow. follow ≡ rule.definitions_follow a.now b.now binding.now) }
 {
-    let symbols = symbol_names(alloc, binding)?;
     let references = reference_names(alloc, binding)?;
     Ok(all_follow(
         a.numbers.definitions.rows(),
-        symbols.as_slice(),
+        symbols,
         references.as_slice(),
         b.numbers.definitions.rows(),
     ))
@@ -135,8 +137,28 @@ fn numbers_follow(alloc: Global, a: &Known, b: &Known, binding: &Binding) -> Res
     ))
 }
 
+/// Returns whether what the second state knows of items is known of what their references are bound to.
+fn items_follow(
+    alloc: Global,
+    a: &Known,
+    b: &Known,
+    binding: &Binding,
+    symbols: &[Option<Expr>],
+) -> Result<bool, NoMemory>
+    requires first { HasForm a.now }
+    requires second { HasForm b.now }
+    requires symbols { symbols.now ≡ rule.symbol_names binding.now }
+    ensures { IfOk result (λ follow. follow ≡ rule.items_follow a.now b.now binding.now) }
+{
+    let bound = binding.references.get(1..).unwrap_or(&[]);
+    a.contents
+        .includes(alloc, &a.numbers, symbols, bound, &b.contents)
+}
+
 /// Returns whether the first state knows all that the second knows of what is bound.
 fn all_follows(alloc: Global, a: &Known, b: &Known, binding: &Binding) -> Result<bool, NoMemory>
+    requires first { HasForm a.now }
+    requires second { HasForm b.now }
     ensures { IfOk result (λ follows. follows ≡ rule.all_follows a.now b.now binding.now) }
 {
     let (first, second) = (a.references.as_slice(), b.references.as_slice());
@@ -146,15 +168,21 @@ fn all_follows(alloc: Global, a: &Known, b: &Known, binding: &Binding) -> Result
     if !numbers_follow(alloc, a, b, binding)? {
         return Ok(false);
     }
-    if !definitions_follow(alloc, a, b, binding)? {
+    let symbols = symbol_names(alloc, binding)?;
+    if !definitions_follow(alloc, a, b, binding, symbols.as_slice())? {
         return Ok(false);
     }
-    apart_follows(alloc, first, &a.apart, &b.apart, binding)
+    if !apart_follows(alloc, first, &a.apart, &b.apart, binding)? {
+        return Ok(false);
+    }
+    items_follow(alloc, a, b, binding, symbols.as_slice())
 }
 
 /// Returns whether the frame of the second state can be bound to that of the first, and all follows then.
 fn is_included(alloc: Global, a: &Known, b: &Known) -> Result<bool, NoMemory>
-    requires { AreAlike a.now.variables b.now.variables }
+    requires first { HasForm a.now }
+    requires second { HasForm b.now }
+    requires alike { AreAlike a.now.variables b.now.variables }
     ensures { IfOk result (λ is. is ≡ rule.is_included_known a.now b.now) }
 {
     let symbols = b.numbers.ranges.len();
@@ -167,9 +195,12 @@ fn is_included(alloc: Global, a: &Known, b: &Known) -> Result<bool, NoMemory>
 /// Returns whether the first state says at least as much as the second, where both are reached: each variable and
 /// length of the second is bound to what the first has there, and all that the second knows is known of what is bound.
 ///
-/// Cost: two gaps for each variable and length, a search for each bound and definition, and a look at each pair.
+/// Cost: two gaps for each variable and length, a search for each bound and definition, a look at each pair, and for
+/// each reference that of comparing what is known of its items.
 pub fn includes(alloc: Global, a: &Known, b: &Known) -> Result<bool, NoMemory>
-    requires { AreAlike a.now.variables b.now.variables }
+    requires first { HasForm a.now }
+    requires second { HasForm b.now }
+    requires alike { AreAlike a.now.variables b.now.variables }
     ensures value { IfOk result (λ is. is ≡ rule.is_included_known a.now b.now) }
     ensures holds { IfOk result (TellsFollowing a.now b.now) }
 {

@@ -3,6 +3,7 @@
 
 mod definitions;
 mod inclusion;
+mod items;
 mod merging;
 mod sides;
 

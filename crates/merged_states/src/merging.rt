@@ -2,8 +2,10 @@
 
 ghost use Rattle.std.specs.Prelude.{◌≡◌, ◌+◌, length, map, IfOk, Some, option_map};
 ghost use Rattle.std.specs.Option.{ForSome};
+ghost use Rattle.array_contents.specs.Makings as makings;
 ghost use Rattle.frame_names.specs.Frames.{AreAlike};
 ghost use Rattle.frame_names.specs.MergedReferences.{merged_references};
+ghost use Rattle.frame_names.specs.PairedFrames.{paired_frames};
 ghost use Rattle.merged_numbers.specs.Known.{known};
 ghost use Rattle.merged_numbers.specs.Meaning.{AreMeasured};
 ghost use Rattle.merged_numbers.specs.Merging as outcomes;
@@ -12,11 +14,14 @@ ghost use Rattle.merged_states.specs.Alike.{AreComparable};
 ghost use Rattle.merged_states.specs.Following.{Follows};
 ghost use Rattle.merged_states.specs.Merging as states;
 ghost use Rattle.merged_states.specs.Rules as merges;
-ghost use Rattle.merged_states.specs.Parts.{numbers_known, unknown_items};
+ghost use Rattle.merged_states.specs.Parts as parts;
+ghost use Rattle.merged_states.specs.Parts.{numbers_known};
 
 use crate::definitions::{definitions_of_both, renamed_definitions};
+use crate::items::{contents_of_both, contents_of_one};
 use crate::sides::{frame_of, side_of};
 use alias_facts::Apart;
+use array_contents::{Contents, Making};
 use domain_api::NoMemory;
 use frame_names::{
     MergedReference, PairedFrames, Reference, joined_apart, kept_apart, merged_references,
@@ -24,7 +29,7 @@ use frame_names::{
 };
 use merged_numbers::{Merged, Side, joined, normed, widened};
 use number_facts::{Definitions, Numbers};
-use state_facts::{Known, Unknown};
+use state_facts::Known;
 use std::alloc::Global;
 use symbolic_values::Key;
 
@@ -48,24 +53,33 @@ impl Merging {
     ) -> Result<Option<Merged>, NoMemory>
         requires first { AreMeasured a.now.spans.now }
         requires second { AreMeasured b.now.spans.now }
-        ensures { IfOk result (λ made. made ≡ merges.number_rule self keys.now (known a.now) (known b.now)) }
+        ensures { IfOk result (λ made. made ≡ (merges.rule_of self).numbers keys.now (known a.now) (known b.now)) }
     {
         match self {
             Merging::Join => joined(alloc, keys, a, b),
             Merging::Widening => widened(alloc, keys, a, b),
         }
     }
+
+    /// How two ranges of items become one.
+    fn making(self) -> Making
+        ensures { makings.making result ≡ (merges.rule_of self).making }
+    {
+        match self {
+            Merging::Join => Making::Hull,
+            Merging::Widening => Making::Widening,
+        }
+    }
 }
 
-/// A merged reference, of whose items nothing is known.
-fn reference_of(merged: &MergedReference) -> Reference<Unknown>
-    ensures { result ≡ unknown_items merged.now }
+/// What the table has of a merged reference.
+fn entry_of(merged: &MergedReference) -> Reference
+    ensures { result ≡ parts.entry_of merged.now }
 {
     Reference {
         place: merged.place,
         nullness: merged.nullness,
         length: merged.length,
-        contents: Unknown,
     }
 }
 
@@ -73,14 +87,14 @@ fn reference_of(merged: &MergedReference) -> Reference<Unknown>
 fn references_of(
     alloc: Global,
     frames: &PairedFrames,
-    a: &[Reference<Unknown>],
-    b: &[Reference<Unknown>],
-) -> Result<Vec<Reference<Unknown>>, NoMemory>
+    a: &[Reference],
+    b: &[Reference],
+) -> Result<Vec<Reference>, NoMemory>
     ensures { IfOk result (λ references. references.items ≡
-        map unknown_items (merged_references a.now b.now frames.now.references.keys frames.now.lengths)) }
+        map parts.entry_of (merged_references a.now b.now frames.now.references.keys frames.now.lengths)) }
 {
     let merged = merged_references(alloc, frames, a, b)?;
-    merged.iter().map(|one| reference_of(one)).collect(alloc)
+    merged.iter().map(|one| entry_of(one)).collect(alloc)
 }
 
 /// What is known of new symbols and references.
@@ -88,14 +102,16 @@ fn known_of(
     frames: PairedFrames,
     numbers: Merged,
     definitions: Definitions,
-    references: Vec<Reference<Unknown>>,
+    references: Vec<Reference>,
     apart: Apart,
+    contents: Contents,
 ) -> Known
     ensures { result ≡ record {
       variables = frames.vars;
       facts = record { ranges = numbers.ranges; definitions = definitions; bounds = numbers.bounds };
       references = references.items;
       apart = apart;
+      contents = contents;
     } }
 {
     Known {
@@ -107,6 +123,7 @@ fn known_of(
         },
         references,
         apart,
+        contents,
     }
 }
 
@@ -120,7 +137,7 @@ fn numbers_of_both(
     b: &Known,
 ) -> Result<Option<Merged>, NoMemory>
     ensures { IfOk result (λ made. made ≡
-        merges.number_rule rule keys.now (numbers_known a.now.facts) (numbers_known b.now.facts)) }
+        (merges.rule_of rule).numbers keys.now (numbers_known a.now.facts) (numbers_known b.now.facts)) }
 {
     let first = a.numbers.spans(alloc)?;
     let second = b.numbers.spans(alloc)?;
@@ -135,13 +152,20 @@ fn numbers_of_both(
 /// What both states know in the names of their frames, given what they know of numbers.
 fn merged_as(
     alloc: Global,
+    rule: Merging,
     frames: PairedFrames,
     numbers: Merged,
     a: &Known,
     b: &Known,
 ) -> Result<Known, NoMemory>
-    ensures { IfOk result (λ known. known ≡ states.merged_as a.now b.now frames numbers) }
+    requires first { HasForm a.now }
+    requires second { HasForm b.now }
+    requires alike { AreAlike a.now.variables b.now.variables }
+    requires paired { paired_frames a.now.variables a.now.references b.now.variables b.now.references ≡ Some frames }
+    ensures { IfOk result (λ known. known ≡
+        states.merged_as (merges.rule_of rule).making a.now b.now frames numbers) }
 {
+    let contents = contents_of_both(alloc, rule.making(), &frames, a, b)?;
     let definitions = definitions_of_both(
         alloc,
         &frames,
@@ -153,7 +177,7 @@ fn merged_as(
     let keys = frames.references.pairs.keys.as_slice();
     let apart = joined_apart(alloc, keys, first, &a.apart, second, &b.apart)?;
     let definitions = Definitions::of_rows(alloc, definitions)?;
-    Ok(known_of(frames, numbers, definitions, references, apart))
+    Ok(known_of(frames, numbers, definitions, references, apart, contents))
 }
 
 /// What both states know.
@@ -166,7 +190,7 @@ fn known_of_both(
     requires first { HasForm a.now }
     requires second { HasForm b.now }
     requires alike { AreAlike a.now.variables b.now.variables }
-    ensures { IfOk result (λ known. known ≡ states.merged_known (merges.number_rule rule) a.now b.now) }
+    ensures { IfOk result (λ known. known ≡ states.merged_known (merges.rule_of rule) a.now b.now) }
 {
     let Some(frames) = pair_frames(alloc, &frame_of(a), &frame_of(b))? else {
         return Ok(None);
@@ -175,7 +199,7 @@ fn known_of_both(
     let Some(numbers) = numbers_of_both(alloc, rule, pairs.keys.as_slice(), a, b)? else {
         return Ok(None);
     };
-    let known = merged_as(alloc, frames, numbers, a, b)?;
+    let known = merged_as(alloc, rule, frames, numbers, a, b)?;
     Ok(Some(known))
 }
 
@@ -188,7 +212,7 @@ pub fn merged(alloc: Global, rule: Merging, a: &Known, b: &Known) -> Result<Opti
     requires first { HasForm a.now }
     requires second { HasForm b.now }
     requires alike { AreAlike a.now.variables b.now.variables }
-    ensures value { IfOk result (λ known. known ≡ states.merged_known (merges.number_rule rule) a.now b.now) }
+    ensures value { IfOk result (λ known. known ≡ states.merged_known (merges.rule_of rule) a.now b.now) }
     ensures form { IfOk result (λ known. ForSome known HasForm) }
     ensures left { AreComparable a.now b.now → IfOk result (Follows (Some a.now)) }
     ensures right { AreComparable a.now b.now → IfOk result (Follows (Some b.now)) }
@@ -212,21 +236,20 @@ fn named_as(
     numbers: Merged,
     a: &Known,
 ) -> Result<Known, NoMemory>
+    requires form { HasForm a.now }
+    requires paired { paired_frames a.now.variables a.now.references a.now.variables a.now.references ≡ Some frames }
     ensures { IfOk result (λ known. known ≡ states.normal_as a.now frames numbers) }
 {
-    let definitions = renamed_definitions(
-        alloc,
-        &frames,
-        a.numbers.ranges.len() + 1,
-        a.references.len() + 1,
-        a.numbers.definitions.rows(),
-    )?;
+    let pairs = &frames.numbers;
+    let names = pairs.names(alloc, a.numbers.ranges.len() + 1)?;
+    let contents = contents_of_one(alloc, &frames, names.as_slice(), a)?;
+    let definitions = renamed_definitions(alloc, &frames, names.as_slice(), a)?;
     let known = a.references.as_slice();
     let references = references_of(alloc, &frames, known, known)?;
     let keys = frames.references.pairs.keys.as_slice();
     let apart = kept_apart(alloc, keys, &a.apart)?;
     let definitions = Definitions::of_rows(alloc, definitions)?;
-    Ok(known_of(frames, numbers, definitions, references, apart))
+    Ok(known_of(frames, numbers, definitions, references, apart, contents))
 }
 
 /// What a state knows in the names of its own first uses.

@@ -6,10 +6,10 @@ ghost use Rattle.merged_numbers.specs.Known.{known};
 use frame_names::Frame;
 use merged_numbers::Side;
 use number_spans::Span;
-use state_facts::{Known, Unknown};
+use state_facts::Known;
 
 /// The variables and references of a state.
-pub(crate) fn frame_of(state: &Known) -> Frame<Unknown>
+pub(crate) fn frame_of(state: &Known) -> Frame
     ensures variables { result.vars.now ≡ state.now.variables }
     ensures references { result.references.now ≡ state.now.references }
 {

@@ -1,9 +1,10 @@
 -- What is found among rows that rise.
-use Rattle.std.proofs.Common.{◌≡◌, ℕ, zero, suc, ◌<◌, ◌≤◌, ◌==◌, nat_le, Bool, true, false, List, [], ◌∷◌, length, get_or, take, drop, filter, Some, None, refl, ap, ◌∙◌, arith, inl, inr}
+use Rattle.std.proofs.Common.{◌≡◌, ℕ, zero, suc, ◌+◌, ◌<◌, ◌≤◌, ◌==◌, nat_le, nat_lt, Bool, true, false, List, [], ◌∷◌, length, get_or, take, drop, filter, Some, None, refl, ap, ◌∙◌, arith, inl, inr}
 use Rattle.std.specs.List.{AllByRecursion, AllWithin}
 use Rattle.std.specs.List.Sorted.{IsPartitionedBy, IsNonDecreasingBy}
 use Rattle.std.proofs.lemmas.Bool.{cases_Bool, cases_order, and_parts, eq-eqb, ne_eqb, le-leb, lt-leb}
 use Rattle.std.proofs.lemmas.Bool.Decides.{nat_tests}
+use Rattle.std.proofs.lemmas.List.{get_or_default}
 use Rattle.pentagon_domain.specs.declared.bound_row.BoundRow.{BoundRow}
 use Rattle.pentagon_domain.specs.Rows.{is_before, is_of, is_found, StandsBefore, AreBounds, stored, place_of}
 
@@ -60,6 +61,18 @@ place_is (row ∷ rows) s t (suc i) le front behind =
     (place_is rows s t i (omega (arith, le)) (λ k d low high. front (suc k) d (omega arith) (omega (arith, high)))
     (λ k d low high. behind (suc k) d (omega (arith, low)) (omega (arith, high)))))
 
+pub none_before : (rows : List BoundRow) (s t : ℕ) → length rows ≡ 0 → length rows ≡ place_of rows s t
+none_before [] s t none = refl
+none_before (row ∷ rows) s t none = absurd (omega (arith, none))
+
+-- Where the last row stands before them, all do.
+pub all_before : (rows : List BoundRow) (s t i : ℕ) (d : BoundRow) → AreBounds rows → i + 1 ≡ length rows → is_before (get_or rows i d) s t ≡ true
+    → length rows ≡ place_of rows s t
+all_before rows s t i d form last before =
+    place_is rows s t (length rows) (omega arith)
+    (λ k e low high. partitioned rows s t form k i e (omega (arith, last, high)) (omega (arith, last)) (rw (get_or_default rows i e d (omega (arith, last))) before))
+    (λ k e low high. absurd (omega (arith, low, high)))
+
 -- ---- the rows of one symbol
 
 rise_more : (row : BoundRow) (rows : List BoundRow) → AllByRecursion (StandsBefore row) rows → IsNonDecreasingBy (λ row. row.s) rows
@@ -100,6 +113,22 @@ passing_rest p (x ∷ xs) (suc k) le front behind =
     rw (front zero x (omega arith) (omega arith))
     (passing_rest p xs k (omega (arith, le)) (λ j d low high. front (suc j) d (omega arith) (omega (arith, high)))
     (λ j d low high. behind (suc j) d (omega (arith, low)) (omega (arith, high))))
+
+-- Where the last row before a place goes from a symbol below a number, all before the place do.
+pub low_before : (rows : List BoundRow) (n last place : ℕ) (e : BoundRow) → IsNonDecreasingBy (λ row. row.s) rows → last + 1 ≡ place → last < length rows
+    → nat_lt (get_or rows last e).s n ≡ true → AllWithin (λ row. nat_lt row.s n ≡ true) rows 0 place
+low_before rows n last place e rise is inside below = λ k d low high.
+    let here : nat_lt (get_or rows last d).s n ≡ true = rw (get_or_default rows last e d inside) at below in
+    let up : (get_or rows k d).s ≤ (get_or rows last d).s = rise k last d (omega (arith, is, high)) inside in
+    grind (arith, nat_tests)
+
+-- Where the row at a place goes from no symbol below a number, none behind it does.
+pub high_from : (rows : List BoundRow) (n place : ℕ) (e : BoundRow) → IsNonDecreasingBy (λ row. row.s) rows → place < length rows
+    → nat_le n (get_or rows place e).s ≡ true → AllWithin (λ row. nat_lt row.s n ≡ false) rows place (length rows)
+high_from rows n place e rise inside above = λ k d low high.
+    let here : nat_le n (get_or rows place d).s ≡ true = rw (get_or_default rows place e d inside) at above in
+    let up : (get_or rows place d).s ≤ (get_or rows k d).s = rise place k d low high in
+    grind (arith, nat_tests)
 
 -- Items from a number on and up to it are those of the number.
 pub from_and_up_to : {X : Type 0} (n : X → ℕ) (xs : List X) (s : ℕ) → filter (λ x. nat_le (n x) s) (filter (λ x. nat_le s (n x)) xs) ≡ filter (λ x. n x == s) xs

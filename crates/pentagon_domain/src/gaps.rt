@@ -9,6 +9,7 @@ ghost use Rattle.pentagon_domain.specs.Reach.{reach};
 
 use crate::bound_row::BoundRow;
 use crate::bounds::Bounds;
+use crate::search::{Guess, rows_near};
 use domain_api::Order;
 
 /// An exact number as a gap of 64 bits.
@@ -62,14 +63,50 @@ pub fn raised_gap(gap: Option<i64>, exact: i128) -> Option<i64>
     greater_of(gap, exact)
 }
 
-/// Raises the gap to one symbol.
-fn raise(gaps: &mut [Option<i64>], t: u32, exact: i128)
+/// Returns whether a constant exceeds a gap, as each does that is not known.
+fn exceeds(k: i64, gap: Option<i64>) -> bool
+    ensures { greater_gap gap (Some k) ≡ (if result then Some k else gap) }
+{
+    match gap {
+        None => true,
+        Some(known) => known < k,
+    }
+}
+
+/// The sum of two constants, as a gap of 64 bits.
+#[tactic(auto, unfolding(crate::specs::Gaps::cut))]
+fn cut_sum(a: i64, b: i64) -> Option<i64>
+    ensures { result ≡ cut (a +ℤ b) }
+{
+    if a < 0 {
+        return if b < i64::MIN - a { None } else { Some(a + b) };
+    }
+    if i64::MAX - a < b {
+        Some(i64::MAX)
+    } else {
+        Some(a + b)
+    }
+}
+
+/// Raises a gap by the sum of two constants. It is written where it changes alone.
+fn raise_gap(gap: &mut Option<i64>, a: i64, b: i64)
+    ensures { gap.new ≡ greater_gap gap.old (cut (a +ℤ b)) }
+{
+    if let Some(sum) = cut_sum(a, b) {
+        if exceeds(sum, *gap) {
+            *gap = Some(sum);
+        }
+    }
+}
+
+/// Raises the gap to one symbol by the sum of two constants.
+fn raise(gaps: &mut [Option<i64>], t: u32, a: i64, b: i64)
     ensures { EachIndex gaps.new (λ i. slice_index_or gaps.new i None ≡
-        (if t == i then greater_gap (slice_index_or gaps.old i None) (cut exact) else slice_index_or gaps.old i None)) }
+        (if t == i then greater_gap (slice_index_or gaps.old i None) (cut (a +ℤ b)) else slice_index_or gaps.old i None)) }
 {
     let place = t as usize;
     if place < gaps.len() {
-        gaps[place] = greater_of(gaps[place], exact);
+        raise_gap(&mut gaps[place], a, b);
     }
 }
 
@@ -79,7 +116,7 @@ fn raise_all(gaps: &mut [Option<i64>], rows: &[BoundRow], k: i64)
         greater_gap (slice_index_or gaps.old t None) (reach k rows.now t)) }
 {
     for row in rows {
-        raise(gaps, row.t, sum_of(k, row.k));
+        raise(gaps, row.t, k, row.k);
     }
 }
 
@@ -93,7 +130,7 @@ fn clear(gaps: &mut [Option<i64>])
 }
 
 impl Bounds {
-    ghost use Rattle.pentagon_domain.specs.Rows.{stored};
+    ghost use Rattle.pentagon_domain.specs.Rows.{AreBounds, rows_from, stored};
     ghost use Rattle.pentagon_domain.specs.Gaps.{Allows, LiesAbove, gap, gap_with};
 
     /// The gap of two symbols where from the number of the first to that of the second it is known to be
@@ -126,13 +163,22 @@ impl Bounds {
         }
     }
 
+    /// The rows that go from a symbol, where it is guessed where they are.
+    fn rows_near(&self, s: u32, guess: &mut Guess) -> &[BoundRow]
+        ensures value { result.now ≡ rows_from self.now s }
+        ensures form { AreBounds self.now }
+    {
+        rows_near(self.rows(), s, guess)
+    }
+
     /// Raises the gap to each symbol by what bounds say behind those of a symbol.
     fn raise_behind(&self, firsts: &[BoundRow], gaps: &mut [Option<i64>])
         ensures { EachIndex gaps.new (λ t. slice_index_or gaps.new t None ≡
             greater_gap (slice_index_or gaps.old t None) (option_and_then cut (greatest_sum self.now firsts.now t))) }
     {
+        let mut guess = Guess { end: 0, count: 0 };
         for first in firsts {
-            raise_all(gaps, self.rows_from(first.t), first.k);
+            raise_all(gaps, self.rows_near(first.t, &mut guess), first.k);
         }
     }
 

@@ -1,7 +1,7 @@
 //! The rules on references.
 
-use crate::words::{reference, separate};
 use alias_facts::{Apart, Nullness};
+use fact_text::{reference, separate};
 use rule_text::{Failure, asked, check, check_yes, two_words};
 use std::alloc::{AllocError, Global};
 

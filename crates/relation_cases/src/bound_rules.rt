@@ -1,7 +1,8 @@
 //! The rules on bounds and gaps.
 
-use crate::words::{expr, number_text, separate, symbol};
+use crate::words::number_text;
 use domain_api::{Expr, Order};
+use fact_text::{expr, separate, symbol};
 use pentagon_domain::{BoundRow, Bounds, raised_gap};
 use rule_text::{Failure, append_number, asked, check, check_yes, three_words, two_words};
 use std::alloc::{AllocError, Global};

@@ -1,8 +1,8 @@
 //! The rules on definitions of symbols.
 
 use crate::name_rules::two_sides;
-use crate::words::{expr, reference};
 use domain_api::Expr;
+use fact_text::{expr, reference};
 use rule_text::{Failure, append_number, asked, check};
 use std::alloc::{AllocError, Global};
 use symbolic_values::{Def, Pairs, ReferencePairs};

@@ -4,8 +4,9 @@ ghost use Rattle.std.specs.Prelude.{◌≡◌, true, length, OnOk};
 ghost use Rattle.std.specs.List.{AllByRecursion};
 ghost use Rattle.symbolic_values.specs.Pairing.{AreNear, IsNear};
 
-use crate::words::{expr, expr_text, exprs, reference, separate};
+use crate::words::expr_text;
 use domain_api::Expr;
+use fact_text::{expr, exprs, reference, separate};
 use rule_text::{Failure, append_number, asked, check, two_words};
 use std::alloc::{AllocError, Global};
 use symbolic_values::{Env, Pairs, ReferencePairs, first_use_order, pair_up, renamed};

@@ -1,10 +1,10 @@
 //! The rules on segments of arrays.
 
 use crate::segment_tests::{ends_pair, formed, has_next, keeps_end, zero_stays};
-use crate::segment_text::{check_segments, segment, segments};
-use crate::words::expr;
+use crate::segment_text::check_segments;
 use array_segments::Segs;
 use domain_api::Expr;
+use fact_text::{expr, segment, segments};
 use interval_domain::Range;
 use number_facts::{Definitions, Numbers};
 use pentagon_domain::Bounds;

@@ -4,9 +4,13 @@ use Rattle.std.proofs.Common.{◌≡◌, ℕ, zero, suc, ◌≤◌, ◌<◌, ℤ
 use Rattle.std.specs.Prelude.{set, take, slice_get}
 use Rattle.std.specs.List.{AllByRecursion}
 use Rattle.std.proofs.lemmas.Bool.{false≢true}
+use Rattle.std.proofs.lemmas.List.{length-map}
 use Rattle.alias_facts.specs.Arrays.{AllDiffer, is_no_array}
 use Rattle.alias_facts.specs.PairsOf.{Pair}
-use Rattle.cil_model.proofs.HeapsKept.{has_array-kept}
+use Rattle.array_contents.proofs.FormLaws.{formed_length}
+use Rattle.array_contents.proofs.HeldLaws.{held_agree}
+use Rattle.array_contents.specs.Contents.{AreHeld, Contents}
+use Rattle.cil_model.proofs.HeapsKept.{has_array-kept, keeps_itself}
 use Rattle.cil_model.specs.Values.{Heap, KeepsForms, has_array}
 use Rattle.cil_model.specs.declared.machine.Value.{Value}
 use Rattle.cil_model.specs.declared.place.Place.{Place}
@@ -18,12 +22,12 @@ use Rattle.symbolic_values.specs.Worth.{worth}
 use Rattle.symbolic_values.specs.declared.def.Def.{Def}
 use Rattle.symbolic_values.specs.declared.def.Def.TheVariants.{Eq, Lt, LtUn, NullTest, Sub}
 use Rattle.number_facts.specs.Holds.{is_below}
-use Rattle.state_facts.specs.Forms.{EndsBy, IsVar, IsReference, TestsOf, HasForm}
-use Rattle.state_facts.specs.Holds.{HasValue, HaveValues, length_in, IsSo, AreSo, HoldsBy}
+use Rattle.state_facts.specs.Forms.{EndsBy, IsVar, IsReference, TestsOf, HasForm, lengths_of}
+use Rattle.state_facts.specs.Holds.{HasValue, HaveValues, length_in, IsSo, AreSo, HoldsBy, items_of_array}
 use Rattle.state_facts.specs.Keeps.{HoldsOn}
+use Rattle.state_facts.specs.Moves.{with_items}
 use Rattle.state_facts.specs.StateFacts.{StateFacts, reference_at}
 use Rattle.frame_names.specs.declared.reference.Reference.{Reference}
-use Rattle.state_facts.specs.declared.reference.Unknown.{Unknown}
 use Rattle.frame_names.specs.declared.var.Var.{Var}
 use Rattle.frame_names.specs.declared.var.Var.TheVariants as vars
 use Rattle.state_facts.proofs.Searching.{reference_there}
@@ -99,7 +103,7 @@ length_kept (cell ∷ old) [] i kept there = elim kept [ ]
 length_kept (cell ∷ old) (now ∷ new) zero kept there = kept.1
 length_kept (cell ∷ old) (now ∷ new) (suc i) kept there = length_kept old new i kept.2 (omega (arith, there))
 
-so_kept : (old new : Heap) (number later : ℕ → ℤ) (symbols : ℕ) (r : Reference Unknown) (array : Option ℕ) → KeepsForms old new
+so_kept : (old new : Heap) (number later : ℕ → ℤ) (symbols : ℕ) (r : Reference) (array : Option ℕ) → KeepsForms old new
     → ((s : ℕ) → s ≤ symbols → later s ≡ number s) → IsReference symbols r → IsSo old number r array → IsSo new later r array
 so_kept old new number later symbols r None kept agrees is so = record {
   fits = tt;
@@ -113,22 +117,22 @@ so_kept old new number later symbols r (Some i) kept agrees is so = record {
       ∙ ap (λ (n : ℕ). pos n) (sym (length_kept old new i kept (has_there old r.place i so.fits)));
 }
 
-pub reference_of_form : (references : List (Reference Unknown)) (symbols r : ℕ) (x : Reference Unknown) → AllByRecursion (IsReference symbols) references
+pub reference_of_form : (references : List Reference) (symbols r : ℕ) (x : Reference) → AllByRecursion (IsReference symbols) references
     → reference_at references r ≡ Some x → IsReference symbols x
 unfolding reference_at
 reference_of_form references symbols zero x all is = absurd cc
 reference_of_form references symbols (suc r) x all is = found references r all is
   where
-    same : (y : Reference Unknown) → Some y ≡ Some x → y ≡ x
+    same : (y : Reference) → Some y ≡ Some x → y ≡ x
     same y is = cc
 
-    found : (xs : List (Reference Unknown)) (i : ℕ) → AllByRecursion (IsReference symbols) xs → slice_get xs i ≡ Some x → IsReference symbols x
+    found : (xs : List Reference) (i : ℕ) → AllByRecursion (IsReference symbols) xs → slice_get xs i ≡ Some x → IsReference symbols x
     found [] zero each there = absurd cc
     found [] (suc i) each there = absurd cc
     found (y ∷ xs) zero each there = subst (IsReference symbols) (same y there) each.0
     found (y ∷ xs) (suc i) each there = found xs i each.1 there
 
-pub references_agree : (old new : Heap) (symbols : ℕ) (number later : ℕ → ℤ) (array later_array : ℕ → Option ℕ) (references : List (Reference Unknown))
+pub references_agree : (old new : Heap) (symbols : ℕ) (number later : ℕ → ℤ) (array later_array : ℕ → Option ℕ) (references : List Reference)
     → Agree symbols (length references) number array later later_array → KeepsForms old new → AllByRecursion (IsReference symbols) references
     → AreSo old number array references → AreSo new later later_array references
 references_agree old new symbols number later array later_array references agree kept are so = λ r x is.
@@ -171,31 +175,73 @@ facts_agree facts number references is_null later_null agrees tests holds = reco
   definitions = defined_agree number references is_null later_null facts.definitions agrees tests holds.definitions;
 }
 
+-- ---- items
+
+-- there are as many references as lengths of them
+as_many_lengths : (references : List Reference) → length (lengths_of references) ≡ length references
+as_many_lengths references = length-map references (λ (r : Reference). r.length)
+
+pub contents_agree : (known : StateFacts) (number later : ℕ → ℤ) (items after : ℕ → List ℤ) → HasForm known
+    → ((s : ℕ) → s ≤ length known.facts.ranges → later s ≡ number s) → ((r : ℕ) → r ≤ length known.references → after r ≡ items r)
+    → AreHeld number items known.contents → AreHeld later after known.contents
+contents_agree known number later items after form agrees same held =
+    held_agree (length known.facts.ranges) (lengths_of known.references) known.contents number later items after form.contents agrees
+    (λ r there. same r (subst (λ (n : ℕ). r ≤ n) (as_many_lengths known.references) there)) held
+
+pub as_many_contents : (known : StateFacts) → HasForm known → length known.contents ≡ length known.references
+as_many_contents known form =
+    sym (formed_length (length known.facts.ranges) (lengths_of known.references) known.contents form.contents) ∙ as_many_lengths known.references
+
 -- ---- a number that was made
 
 numbers_agree : (known : StateFacts) (number later : ℕ → ℤ) (array : ℕ → Option ℕ) → ((s : ℕ) → s ≤ length known.facts.ranges → later s ≡ number s)
     → Agree (length known.facts.ranges) (length known.references) number array later array
 numbers_agree known number later array agrees = record { numbers = agrees; arrays = λ r there. refl }
 
--- over a heap whose arrays keep their types and lengths, with other variables
-pub made_holds : (known : StateFacts) (made : Made) (variables : List Var) (xs ys : List Value) (old new : Heap) (number : ℕ → ℤ) (array : ℕ → Option ℕ) (n : ℤ)
-    → HasForm known → HoldsBy known xs old number array → KeepsForms old new → HoldsWith known.facts made.facts number (λ r. is_no_array (array r)) made.expr n
+-- over the same heap, with other variables
+pub made_by : (known : StateFacts) (made : Made) (variables : List Var) (xs ys : List Value) (heap : Heap) (number : ℕ → ℤ) (array : ℕ → Option ℕ) (n : ℤ)
+    → HasForm known → HoldsBy known xs heap number array → (more : HoldsWith known.facts made.facts number (λ r. is_no_array (array r)) made.expr n)
     → ((later : ℕ → ℤ) → HaveValues later array known.variables xs → worth later made.expr ≡ n → HaveValues later array variables ys)
-    → HoldsOn (Some known) (Some (record known { variables = variables; facts = made.facts })) ys new number array
-made_holds known made variables xs ys old new number array n form holds kept more have =
+    → HoldsBy (record known { variables = variables; facts = made.facts }) ys heap more.later array
+made_by known made variables xs ys heap number array n form holds more have =
     let agree = numbers_agree known number more.later array more.agrees in
     record {
-      later = more.later;
-      later_array = array;
-      agrees = more.agrees;
-      agrees_arrays = λ r there. refl;
-      holds = record {
-        null = holds.null;
-        facts = more.holds;
-        variables = have more.later
-            (values_agree (length known.facts.ranges) (length known.references) number more.later array array known.variables xs agree form.variables holds.variables)
-            more.is;
-        references = references_agree old new (length known.facts.ranges) number more.later array array known.references agree kept form.references holds.references;
-        apart = holds.apart;
-      };
+      null = holds.null;
+      facts = more.holds;
+      variables = have more.later
+          (values_agree (length known.facts.ranges) (length known.references) number more.later array array known.variables xs agree form.variables holds.variables)
+          more.is;
+      references = references_agree heap heap (length known.facts.ranges) number more.later array array known.references agree (keeps_itself heap) form.references
+          holds.references;
+      apart = holds.apart;
+      contents = contents_agree known number more.later (λ r. items_of_array heap (array r)) (λ r. items_of_array heap (array r)) form more.agrees (λ r there. refl)
+          holds.contents;
     }
+
+pub made_holds : (known : StateFacts) (made : Made) (variables : List Var) (xs ys : List Value) (heap : Heap) (number : ℕ → ℤ) (array : ℕ → Option ℕ) (n : ℤ)
+    → HasForm known → HoldsBy known xs heap number array → HoldsWith known.facts made.facts number (λ r. is_no_array (array r)) made.expr n
+    → ((later : ℕ → ℤ) → HaveValues later array known.variables xs → worth later made.expr ≡ n → HaveValues later array variables ys)
+    → HoldsOn (Some known) (Some (record known { variables = variables; facts = made.facts })) ys heap number array
+made_holds known made variables xs ys heap number array n form holds more have = record {
+  later = more.later;
+  later_array = array;
+  agrees = more.agrees;
+  agrees_arrays = λ r there. refl;
+  holds = made_by known made variables xs ys heap number array n form holds more have;
+}
+
+-- ---- another heap
+
+-- Over a heap whose arrays keep their types and lengths, and of other segments that hold there.
+pub over_heap : (known : StateFacts) (items : Contents) (vs : List Value) (old new : Heap) (number : ℕ → ℤ) (array : ℕ → Option ℕ) → HasForm known
+    → HoldsBy known vs old number array → KeepsForms old new → AreHeld number (λ r. items_of_array new (array r)) items
+    → HoldsBy (with_items known items) vs new number array
+over_heap known items vs old new number array form holds kept held = record {
+  null = holds.null;
+  facts = holds.facts;
+  variables = holds.variables;
+  references = references_agree old new (length known.facts.ranges) number number array array known.references
+      (record { numbers = λ s there. refl; arrays = λ r there. refl }) kept form.references holds.references;
+  apart = holds.apart;
+  contents = held;
+}

@@ -1,12 +1,13 @@
 -- What is assumed keeps the form of what is known.
-use Rattle.std.proofs.Common.{◌≡◌, ℕ, zero, suc, ◌==◌, ◌-◌, ◌≤◌, ℤ, pos, ◌+ℤ◌, ◌-ℤ◌, Bool, true, false, ◌&&◌, int_eq, Option, Some, None, List, [], ◌∷◌, length, refl, subst, ◌∙◌, arith}
-use Rattle.std.specs.Prelude.{if◌then◌else◌, Ok}
+use Rattle.std.proofs.Common.{◌≡◌, ℕ, zero, suc, ◌==◌, ◌-◌, ◌≤◌, ℤ, pos, ◌+ℤ◌, ◌-ℤ◌, Bool, true, false, ◌&&◌, int_eq, Option, Some, None, List, [], ◌∷◌, length, refl, sym, ap, subst, ◌∙◌, arith}
+use Rattle.std.specs.Prelude.{if◌then◌else◌, Ok, set, slice_get}
 use Rattle.std.specs.List.{AllByRecursion}
 use Rattle.std.specs.Option.{option_map, option_and_then}
 use Rattle.std.proofs.lemmas.Bool.{cond_both}
 use Rattle.std.proofs.lemmas.Int.{ints}
 use Rattle.std.proofs.lemmas.List.{length-set}
 use Rattle.alias_facts.specs.declared.nullness.Nullness.{Nullness}
+use Rattle.array_contents.specs.Contents.{AreFormed}
 use Rattle.cil_model.specs.declared.instruction.CmpOp.{CmpOp}
 use Rattle.cil_model.specs.declared.instruction.CmpOp.TheVariants as comparisons
 use Rattle.domain_api.specs.declared.expr.Expr.{Expr}
@@ -25,11 +26,10 @@ use Rattle.symbolic_values.specs.declared.def.Def.{Def}
 use Rattle.symbolic_values.specs.declared.def.Def.TheVariants.{Eq, Lt, LtUn, NullTest, Sub}
 use Rattle.state_facts.specs.Assuming.{IsNamedTest, AreNamedTests, assumed, contradicts, definition_at, following, is_equality, null_if, symbol_told, told_by, told_of, with_facts, with_null, with_null_tested, with_nullness, with_steps, with_test, with_told}
 use Rattle.state_facts.specs.Comparing.{null_tested}
-use Rattle.state_facts.specs.Forms.{IsNumber, IsVar, IsReference, HasForm}
+use Rattle.state_facts.specs.Forms.{IsNumber, IsVar, IsReference, HasForm, lengths_of}
 use Rattle.state_facts.specs.Moves.{IsNamedNumber}
 use Rattle.state_facts.specs.StateFacts.{StateFacts, length_at, length_of, nullness_at, reference_at}
 use Rattle.frame_names.specs.declared.reference.Reference.{Reference}
-use Rattle.state_facts.specs.declared.reference.Unknown.{Unknown}
 use Rattle.state_facts.specs.declared.test.Test.{Test}
 use Rattle.state_facts.specs.declared.test.Test.TheVariants.{Compares, IsNull}
 use Rattle.frame_names.specs.declared.var.Var.{Var}
@@ -138,11 +138,27 @@ compares_follows op a b holds known form first second =
     numbers_follow known (rule.assumed op known.facts a b holds) form (assumed_same op known.facts a b holds)
     (λ f is. form_where_ok {E = ℕ} op known.facts a b holds (Ok true) f first second (λ reached. is) refl)
 
-told_follows : (r : ℕ) (told : Nullness) (known : StateFacts) (o : Option (Reference Unknown)) → HasForm known
-    → ((x : Reference Unknown) → o ≡ Some x → IsReference (length known.facts.ranges) x) → Follows known (with_told known r told o)
+lengths_set : (references : List Reference) (i : ℕ) (x y : Reference) → slice_get references i ≡ Some x → y.length ≡ x.length
+    → lengths_of (set references i y) ≡ lengths_of references
+lengths_set [] i x y there same = refl
+lengths_set (r ∷ references) zero x y there same =
+    ap (λ (e : Expr). e ∷ lengths_of references) (same ∙ ap (λ (q : Reference). q.length) (sym (is_it r x there)))
+  where
+    is_it : (r x : Reference) → Some r ≡ Some x → r ≡ x
+    is_it r x is = cc
+lengths_set (r ∷ references) (suc i) x y there same = ap (λ (es : List Expr). r.length ∷ es) (lengths_set references i x y there same)
+
+before_it : (references : List Reference) (r : ℕ) (x : Reference) → reference_at references r ≡ Some x → slice_get references (r - 1) ≡ Some x
+unfolding reference_at
+before_it references zero x there = absurd cc
+before_it references (suc r) x there = let same : suc r - 1 ≡ r = omega arith in rw same there
+
+told_follows : (r : ℕ) (told : Nullness) (known : StateFacts) (o : Option Reference) → HasForm known
+    → ((x : Reference) → o ≡ Some x → reference_at known.references r ≡ Some x) → Follows known (with_told known r told o)
 told_follows r told known None form is = record { form = form; symbols = omega arith }
 told_follows r told known (Some x) form is =
     let size = length-set known.references (r - 1) (record x { nullness = told }) in
+    let x_is = reference_of_form known.references (length known.facts.ranges) r x form.references (is x refl) in
     record {
       form = record {
         narrow = form.narrow;
@@ -151,8 +167,10 @@ told_follows r told known (Some x) form is =
         tests = rw size form.tests;
         variables = rw size form.variables;
         references = all_set (IsReference (length known.facts.ranges)) known.references (r - 1) (record x { nullness = told }) form.references
-            (record { place = (is x refl).place; length_is = (is x refl).length_is });
+            (record { place = x_is.place; length_is = x_is.length_is });
         pairs = rw size form.pairs;
+        contents = subst (λ (lengths : List Expr). AreFormed (length known.facts.ranges) lengths known.contents)
+            (sym (lengths_set known.references (r - 1) x (record x { nullness = told }) (before_it known.references r x (is x refl)) refl)) form.contents;
       };
       symbols = omega arith;
     }
@@ -161,8 +179,7 @@ null_follows : (r : ℕ) (is : Bool) (known : StateFacts) → HasForm known → 
 unfolding with_null with_nullness
 null_follows r is known form =
     cond_both (contradicts (nullness_at known r) is) _ _ (EachFollows known) (λ e. tt)
-    (λ e. told_follows r (null_if is) known (reference_at known.references r) form
-    (λ x so. reference_of_form known.references (length known.facts.ranges) r x form.references so))
+    (λ e. told_follows r (null_if is) known (reference_at known.references r) form (λ x so. so))
 
 pub test_follows : (test : Test) (known : StateFacts) → HasForm known → IsNamedTest known test → EachFollows known (with_test test known)
 unfolding with_test
@@ -255,7 +272,7 @@ assumed_form op vars.Text b holds known form first second = form
 pub length_number : (known : StateFacts) (r : ℕ) → HasForm known → r ≤ length known.references → IsNumber (length known.facts.ranges) (length_at known r)
 length_number known r form there = each (reference_at known.references r) (λ x so. reference_of_form known.references (length known.facts.ranges) r x form.references so)
   where
-    each : (o : Option (Reference Unknown)) → ((x : Reference Unknown) → o ≡ Some x → IsReference (length known.facts.ranges) x) → IsNumber (length known.facts.ranges) (length_of o)
+    each : (o : Option Reference) → ((x : Reference) → o ≡ Some x → IsReference (length known.facts.ranges) x) → IsNumber (length known.facts.ranges) (length_of o)
     each None is = record { there = omega arith; near = record { least = omega (arith, ints); greatest = omega (arith, ints) } }
     each (Some x) is = (is x refl).length_is
 

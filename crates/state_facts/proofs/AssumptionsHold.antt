@@ -39,7 +39,6 @@ use Rattle.state_facts.specs.Keeps.{KeepsAssumed}
 use Rattle.state_facts.specs.StateFacts.{StateFacts, State, nullness_at, reference_at}
 use Rattle.state_facts.specs.States as calls
 use Rattle.frame_names.specs.declared.reference.Reference.{Reference}
-use Rattle.state_facts.specs.declared.reference.Unknown.{Unknown}
 use Rattle.state_facts.specs.declared.test.Test.{Test}
 use Rattle.state_facts.specs.declared.test.Test.TheVariants.{Compares, IsNull}
 use Rattle.frame_names.specs.declared.var.Var.{Var}
@@ -199,6 +198,7 @@ facts_hold known vs heap number array (Some f) holds kept = record {
   variables = holds.variables;
   references = holds.references;
   apart = holds.apart;
+  contents = holds.contents;
 }
 
 compares_holds : (op : CmpOp) (a b : Expr) (so : Bool) (known : StateFacts) (vs : List Value) (heap : Heap) (number : ℕ → ℤ) (array : ℕ → Option ℕ)
@@ -224,7 +224,7 @@ agrees_told b true so = so
 agrees_told b false so = so
 
 -- one of the references at an index is this one, or as before
-got_set : (xs : List (Reference Unknown)) (i j : ℕ) (x y : Reference Unknown) → slice_get (set xs i x) j ≡ Some y → ((i ≡ j) × (x ≡ y)) ⊎ (slice_get xs j ≡ Some y)
+got_set : (xs : List Reference) (i j : ℕ) (x y : Reference) → slice_get (set xs i x) j ≡ Some y → ((i ≡ j) × (x ≡ y)) ⊎ (slice_get xs j ≡ Some y)
 got_set [] i j x y is = inr is
 got_set (z ∷ xs) zero zero x y is = inl (refl, same is)
   where
@@ -234,7 +234,7 @@ got_set (z ∷ xs) zero (suc j) x y is = inr is
 got_set (z ∷ xs) (suc i) zero x y is = inr is
 got_set (z ∷ xs) (suc i) (suc j) x y is = elim (got_set xs i j x y is) [ inl here ↦ inl (ap suc here.0, here.1) | inr other ↦ inr other ]
 
-told_so : (heap : Heap) (number : ℕ → ℤ) (array : ℕ → Option ℕ) (references : List (Reference Unknown)) (r : ℕ) (x : Reference Unknown) (told : Nullness)
+told_so : (heap : Heap) (number : ℕ → ℤ) (array : ℕ → Option ℕ) (references : List Reference) (r : ℕ) (x : Reference) (told : Nullness)
     → AreSo heap number array references → reference_at references r ≡ Some x → Agrees told (is_no_array (array r))
     → AreSo heap number array (set references (r - 1) (record x { nullness = told }))
 unfolding reference_at
@@ -247,7 +247,7 @@ told_so heap number array references (suc r) x told so at agrees = each
       | inl here ↦
           let old = so (suc r) x at in
           let same : r ≡ q = before r q here.0 in
-          subst (λ (z : Reference Unknown). IsSo heap number z (array (suc q))) here.1
+          subst (λ (z : Reference). IsSo heap number z (array (suc q))) here.1
           (subst (λ (n : ℕ). IsSo heap number (record x { nullness = told }) (array (suc n))) same
           (record { fits = old.fits; agrees = agrees; length_is = old.length_is }))
       | inr other ↦ so (suc q) y other
@@ -256,8 +256,8 @@ told_so heap number array references (suc r) x told so at agrees = each
         before : (m n : ℕ) → suc m - 1 ≡ n → m ≡ n
         before m n is = omega (arith, is)
 
-told_holds : (r : ℕ) (told : Nullness) (known : StateFacts) (vs : List Value) (heap : Heap) (number : ℕ → ℤ) (array : ℕ → Option ℕ) (o : Option (Reference Unknown))
-    → HoldsBy known vs heap number array → ((x : Reference Unknown) → o ≡ Some x → reference_at known.references r ≡ Some x)
+told_holds : (r : ℕ) (told : Nullness) (known : StateFacts) (vs : List Value) (heap : Heap) (number : ℕ → ℤ) (array : ℕ → Option ℕ) (o : Option Reference)
+    → HoldsBy known vs heap number array → ((x : Reference) → o ≡ Some x → reference_at known.references r ≡ Some x)
     → Agrees told (is_no_array (array r)) → HoldsBy (with_told known r told o) vs heap number array
 told_holds r told known vs heap number array None holds is agrees = holds
 told_holds r told known vs heap number array (Some x) holds is agrees = record {
@@ -266,6 +266,7 @@ told_holds r told known vs heap number array (Some x) holds is agrees = record {
   variables = holds.variables;
   references = told_so heap number array known.references r x told holds.references (is x refl) agrees;
   apart = holds.apart;
+  contents = holds.contents;
 }
 
 null_holds : (r : ℕ) (is : Bool) (known : StateFacts) (vs : List Value) (heap : Heap) (number : ℕ → ℤ) (array : ℕ → Option ℕ) → HoldsBy known vs heap number array
@@ -430,7 +431,7 @@ following_true (IsNull r flag) known number array form holds is = tt
 -- ---- steps
 
 -- as many references behind a test
-null_count : (r : ℕ) (told : Nullness) (known : StateFacts) (o : Option (Reference Unknown)) → length (with_told known r told o).references ≡ length known.references
+null_count : (r : ℕ) (told : Nullness) (known : StateFacts) (o : Option Reference) → length (with_told known r told o).references ≡ length known.references
 null_count r told known None = refl
 null_count r told known (Some x) = length-set known.references (r - 1) (record x { nullness = told })
 

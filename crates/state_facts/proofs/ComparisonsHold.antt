@@ -8,7 +8,6 @@ use Rattle.alias_facts.specs.Arrays.{is_no_array}
 use Rattle.alias_facts.specs.NullnessOf.{Agrees}
 use Rattle.alias_facts.specs.declared.nullness.Nullness.{Nullness}
 use Rattle.alias_facts.specs.declared.nullness.Nullness.TheVariants.{May, NotNull, Null}
-use Rattle.cil_model.proofs.HeapsKept.{keeps_itself}
 use Rattle.cil_model.specs.Arithmetic.{compares, truth}
 use Rattle.cil_model.specs.Comparisons.{comparison_of, compares_values, number_of, pushed_comparison, reference_of, same_reference}
 use Rattle.cil_model.specs.Values.{Heap, IsValue}
@@ -89,8 +88,8 @@ unfolding with_truth
 truth_keeps op a b known vs heap number array cmp so form holds first second one two is comes =
     let made = compared op known.facts a b in
     let more = truth_where_ok {E = ℕ} op known.facts a b (Ok made.expr) made.facts first second refl refl number (λ r. is_no_array (array r)) cmp form.named is holds.facts one two in
-    made_holds known made (known.variables ++ vars.Number made.expr ∷ []) vs (vs ++ values.Int (truth so) ∷ []) heap heap number array
-    (truth (compares cmp (worth number a) (worth number b))) form holds (keeps_itself heap) more
+    made_holds known made (known.variables ++ vars.Number made.expr ∷ []) vs (vs ++ values.Int (truth so) ∷ []) heap number array
+    (truth (compares cmp (worth number a) (worth number b))) form holds more
     (λ later have worth_is. have_pushed later array known.variables vs (vars.Number made.expr) (values.Int (truth so)) have
     (ap (λ (t : Bool). Some (truth t)) (sym comes) ∙ ap (λ (n : ℤ). Some n) (sym worth_is)))
 
@@ -196,8 +195,7 @@ test_keeps : (r : ℕ) (is so : Bool) (known : StateFacts) (vs : List Value) (he
 unfolding with_defined
 test_keeps r is so known vs heap number array form holds so_is =
     let made = noted known.facts (between (pos 0) (pos 1)) (Is (NullTest r is) ∷ []) in
-    made_holds known made (known.variables ++ vars.Number made.expr ∷ []) vs (vs ++ values.Int (truth so) ∷ []) heap heap number array (truth so) form holds
-    (keeps_itself heap)
+    made_holds known made (known.variables ++ vars.Number made.expr ∷ []) vs (vs ++ values.Int (truth so) ∷ []) heap number array (truth so) form holds
     (noted_holds known.facts number (λ q. is_no_array (array q)) (between (pos 0) (pos 1)) (Is (NullTest r is) ∷ []) (truth so) holds.facts form.named (bit_allows so)
     (own_number number (length known.facts.ranges + 1) (truth so) ∙ ap truth so_is, tt))
     (λ later have worth_is. have_pushed later array known.variables vs (vars.Number made.expr) (values.Int (truth so)) have (ap (λ (n : ℤ). Some n) (sym worth_is)))
@@ -261,7 +259,7 @@ same_keeps : (is so : Bool) (known : StateFacts) (vs : List Value) (heap : Heap)
     → HoldsOn (Some known) (with_same_known is known o) (vs ++ values.Int (truth so) ∷ []) heap number array
 same_keeps is so known vs heap number array same None form holds tells so_is =
     let fits = bit_allows so in
-    number_keeps (pos 0) (pos 1) (truth so) known vs heap heap number array (values.Int (truth so)) form holds (keeps_itself heap) refl
+    number_keeps (pos 0) (pos 1) (truth so) known vs heap number array (values.Int (truth so)) form holds refl
     (omega (arith, ints, fits.above, fits.below)) fits.above fits.below
 same_keeps is so known vs heap number array same (Some told) form holds tells so_is =
     known_keeps told is so known vs heap number array holds (so_is ∙ ap (λ (b : Bool). same_flag b is) (sym (tells told refl)))

@@ -1,17 +1,19 @@
 -- More symbols and references: what was there stays there.
-use Rattle.std.proofs.Common.{◌≡◌, ℕ, zero, suc, ◌+◌, ◌≤◌, Option, Some, None, List, [], ◌∷◌, ◌++◌, length, refl, subst, arith}
+use Rattle.std.proofs.Common.{◌≡◌, ℕ, zero, suc, ◌+◌, ◌≤◌, Option, Some, None, List, [], ◌∷◌, ◌++◌, length, refl, sym, subst, arith}
 use Rattle.std.specs.Prelude.{set, take}
 use Rattle.std.specs.List.{AllByRecursion}
+use Rattle.std.proofs.lemmas.List.{map_push}
+use Rattle.array_contents.proofs.FormLaws.{formed_grows, pushed_formed}
+use Rattle.array_contents.specs.Contents.{AreFormed, IsFormed, Segments}
 use Rattle.domain_api.specs.declared.expr.Expr.{Expr}
 use Rattle.alias_facts.specs.PairsOf.{Pair}
 use Rattle.number_facts.specs.Facts.{Facts}
 use Rattle.number_facts.specs.Holds.{KeepsForm}
 use Rattle.symbolic_values.specs.declared.def.Def.{Def}
 use Rattle.symbolic_values.specs.declared.def.Def.TheVariants.{Eq, Lt, LtUn, NullTest, Sub}
-use Rattle.state_facts.specs.Forms.{EndsBy, IsNumber, IsVar, IsReference, TestsOf, AreRising, HasForm}
+use Rattle.state_facts.specs.Forms.{EndsBy, IsNumber, IsVar, IsReference, TestsOf, AreRising, HasForm, lengths_of}
 use Rattle.state_facts.specs.StateFacts.{StateFacts}
 use Rattle.frame_names.specs.declared.reference.Reference.{Reference}
-use Rattle.state_facts.specs.declared.reference.Unknown.{Unknown}
 use Rattle.frame_names.specs.declared.var.Var.{Var}
 use Rattle.frame_names.specs.declared.var.Var.TheVariants as vars
 
@@ -49,7 +51,7 @@ var_stays m n r q (vars.Number e) more others is = number_stays m n e more is
 var_stays m n r q (vars.Reference x) more others is = omega (arith, others, is)
 var_stays m n r q vars.Text more others is = tt
 
-reference_stays : (m n : ℕ) (r : Reference Unknown) → m ≤ n → IsReference m r → IsReference n r
+reference_stays : (m n : ℕ) (r : Reference) → m ≤ n → IsReference m r → IsReference n r
 reference_stays m n r more is = record { place = is.place; length_is = number_stays m n r.length more is.length_is }
 
 pub test_stays : (r q : ℕ) (def : Def) → r ≤ q → TestsOf r def → TestsOf q def
@@ -94,6 +96,7 @@ grown known facts variables form grows are = record {
   references = all_weaker (IsReference (length known.facts.ranges)) (IsReference (length facts.ranges)) known.references
       (λ r is. reference_stays (length known.facts.ranges) (length facts.ranges) r grows.form.there is) form.references;
   pairs = form.pairs;
+  contents = formed_grows (length known.facts.ranges) (length facts.ranges) (lengths_of known.references) known.contents grows.form.there form.contents;
 }
 
 pub variables_stay : (known : StateFacts) (facts : Facts) → HasForm known → Grows known facts
@@ -110,16 +113,17 @@ same_facts known form = record {
   tests = form.tests;
 }
 
--- A reference more, over facts that grew, with other pairs.
-pub with_reference : (known : StateFacts) (facts : Facts) (r : Reference Unknown) (apart : List Pair) → HasForm known → Grows known facts
-    → IsReference (length facts.ranges) r → AllByRecursion (EndsBy (length known.references + 1)) apart
+-- A reference more, over facts that grew, with its segments and with other pairs.
+pub with_reference : (known : StateFacts) (facts : Facts) (r : Reference) (apart : List Pair) (one : Segments) → HasForm known → Grows known facts
+    → IsReference (length facts.ranges) r → AllByRecursion (EndsBy (length known.references + 1)) apart → IsFormed (length facts.ranges) r.length one
     → HasForm (record {
       variables = known.variables ++ vars.Reference (length known.references + 1) ∷ [];
       facts = facts;
       references = known.references ++ r ∷ [];
       apart = apart;
+      contents = known.contents ++ one ∷ [];
     })
-with_reference known facts r apart form grows is pairs =
+with_reference known facts r apart one form grows is pairs formed =
     let size = one_longer known.references r in
     let one_more : length known.references ≤ length known.references + 1 = omega arith in
     let before = grown known facts known.variables form grows (variables_stay known facts form grows) in
@@ -136,4 +140,7 @@ with_reference known facts r apart form grows is pairs =
           (omega arith));
       references = all_pushed (IsReference (length facts.ranges)) known.references r before.references is;
       pairs = rw size pairs;
+      contents = subst (λ (lengths : List Expr). AreFormed (length facts.ranges) lengths (known.contents ++ one ∷ []))
+          (sym (map_push (λ (x : Reference). x.length) known.references r))
+          (pushed_formed (length facts.ranges) (lengths_of known.references) known.contents r.length one before.contents formed);
     }

@@ -4,10 +4,13 @@ pub mod MadeNumbers
 pub mod MoveForms
 pub mod ComparisonForms
 pub mod AssumptionForms
+pub mod ArrayItems
 pub mod Agreeing
 pub mod Stepping
 pub mod MovesHold
 pub mod ArraysHold
+pub mod StoresHold
+pub mod Writing
 pub mod ComparisonsHold
 pub mod AssumptionsHold
 pub mod ResultForms

@@ -46,17 +46,20 @@ noted_so facts r narrow = cond_both (int_eq r.lo r.hi) _ _ (λ (m : Made). IsNot
       number = record { there = omega (arith, size); near = record { least = omega (arith, ints); greatest = omega (arith, ints) } };
     })
 
-pub each_noted : (facts : Facts) (o : Option Interval) → SomeNarrow o → KeepsForm facts (facts_made facts (option_map (λ r. noted facts r []) o))
+each_noted : (facts : Facts) (o : Option Interval) → SomeNarrow o → KeepsForm facts (facts_made facts (option_map (λ r. noted facts r []) o))
     → EachMade facts (option_map (λ r. noted facts r []) o)
 each_noted facts None narrow kept = tt
 each_noted facts (Some r) narrow kept =
     let so = noted_so facts r narrow in record { form = kept; definitions = so.definitions; number = so.number }
 
-pub fresh_made : (facts : Facts) (lo hi : ℤ) → EachMade facts (fresh facts lo hi None [])
+pub within_made : (facts : Facts) (lo hi : ℤ) (hole : Option ℤ) → EachMade facts (fresh facts lo hi hole [])
 unfolding fresh
-fresh_made facts lo hi =
-    each_noted facts _ (range_without_narrow (int_max lo LEAST) (int_min hi GREATEST) None (omega (arith, ints, clamps)) (omega (arith, ints, clamps)))
-    (fresh_form facts lo hi None)
+within_made facts lo hi hole =
+    each_noted facts _ (range_without_narrow (int_max lo LEAST) (int_min hi GREATEST) hole (omega (arith, ints, clamps)) (omega (arith, ints, clamps)))
+    (fresh_form facts lo hi hole)
+
+pub fresh_made : (facts : Facts) (lo hi : ℤ) → EachMade facts (fresh facts lo hi None [])
+fresh_made facts lo hi = within_made facts lo hi None
 
 pub made_grows : (known : StateFacts) (made : Made) → HasForm known → IsMade known.facts made → Grows known made.facts
 made_grows known made form is = record { form = is.form; rising = rw is.definitions form.rising; tests = rw is.definitions form.tests }

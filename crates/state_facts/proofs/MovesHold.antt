@@ -1,19 +1,15 @@
 -- What pushes, pops, puts, loads and stores keep.
-use Rattle.std.proofs.Common.{◌≡◌, ◌≢◌, ℕ, ◌-◌, ℤ, pos, negsuc, ◌≤ℤ◌, Bool, true, false, int_le, Option, Some, None, List, [], ◌∷◌, ◌++◌, length, FitsSigned, w32, refl, sym, ap, subst, ◌∙◌, arith}
-use Rattle.std.specs.Prelude.{Contains, set, take, slice_get, Ok}
+use Rattle.std.proofs.Common.{◌≡◌, ◌≢◌, ℕ, ◌-◌, ℤ, pos, negsuc, ◌≤ℤ◌, Bool, true, int_le, Option, Some, None, List, [], ◌∷◌, ◌++◌, length, FitsSigned, w32, refl, sym, ap, subst, ◌∙◌, arith}
+use Rattle.std.specs.Prelude.{set, take, Ok}
 use Rattle.std.specs.Int.{int_rem_euclid}
-use Rattle.std.specs.List.{AllByRecursion}
-use Rattle.std.specs.Option.{ForSome, option_map, option_map_or}
-use Rattle.std.proofs.lemmas.Bool.{and_parts, cond_both, false≢true}
+use Rattle.std.specs.Option.{ForSome, option_map}
+use Rattle.std.proofs.lemmas.Bool.{and_parts, cond_both}
 use Rattle.std.proofs.lemmas.Int.{ints}
-use Rattle.std.proofs.lemmas.List.Elements.{All-contains, All-from_recursion}
 use Rattle.alias_facts.specs.Arrays.{is_no_array}
 use Rattle.cil_model.proofs.ArithmeticFits.{low_bits_are_byte}
-use Rattle.cil_model.proofs.HeapsKept.{keeps_itself, array_of_heap}
 use Rattle.cil_model.specs.Comparisons.{number_of, reference_of}
 use Rattle.cil_model.specs.Values as machine
 use Rattle.cil_model.specs.Values.{FitItems, Heap, IsArray, IsByte, IsHeap, KeepsForms, has_array, same_place}
-use Rattle.cil_model.specs.declared.machine.ArrayCell.{ArrayCell}
 use Rattle.cil_model.specs.declared.machine.Value.{Value}
 use Rattle.cil_model.specs.declared.machine.Value.TheVariants as values
 use Rattle.cil_model.specs.declared.place.Place.{Place}
@@ -27,16 +23,15 @@ use Rattle.number_facts.specs.Fresh.{Made, expr_made, facts_made, fresh}
 use Rattle.number_facts.specs.Holds.{AreNamed, Holds, HoldsWith, YieldsSome}
 use Rattle.symbolic_values.specs.Worth.{worth}
 use Rattle.state_facts.specs.Forms.{HasForm, IsNumber, IsVar}
-use Rattle.state_facts.specs.Holds.{HasValue, HaveValues, HoldsBy, IsSo}
-use Rattle.state_facts.specs.Keeps.{HoldsOn, KeepsLoad, KeepsPop, KeepsPush, KeepsPut, KeepsStore}
-use Rattle.state_facts.specs.Moves.{beside, greatest_item, in_variable, is_byte, item_place, least_item, on_top, place_at, place_of, placed, popped, with_item, with_number, with_placed, with_put, with_stored}
-use Rattle.state_facts.specs.StateFacts.{StateFacts, State, reference_at}
+use Rattle.state_facts.specs.Holds.{HasValue, HaveValues, HoldsBy}
+use Rattle.state_facts.specs.Keeps.{HoldsOn, KeepsPop, KeepsPush, KeepsPut}
+use Rattle.state_facts.specs.Moves.{in_variable, is_byte, on_top, placed, popped, with_number, with_placed, with_put}
+use Rattle.state_facts.specs.StateFacts.{StateFacts, State}
 use Rattle.state_facts.specs.States as calls
-use Rattle.frame_names.specs.declared.reference.Reference.{Reference}
-use Rattle.state_facts.specs.declared.reference.Unknown.{Unknown}
 use Rattle.frame_names.specs.declared.var.Var.{Var}
 use Rattle.frame_names.specs.declared.var.Var.TheVariants as vars
 use Rattle.state_facts.proofs.Agreeing.{have_pushed, have_set, have_taken, as_many, made_holds}
+use Rattle.state_facts.proofs.ArrayItems.{byte_fits}
 
 -- ---- pushes and pops
 
@@ -48,6 +43,7 @@ push_keeps v (Some known) = λ vs heap number array value holds has. record {
   variables = have_pushed number array known.variables vs v value holds.variables has;
   references = holds.references;
   apart = holds.apart;
+  contents = holds.contents;
 }
 
 pub pop_keeps : (state : State) → KeepsPop state (calls.pop state)
@@ -62,6 +58,7 @@ pop_keeps (Some known) = λ vs heap number array holds.
           (have_taken number array (length known.variables - 1) known.variables vs holds.variables);
       references = holds.references;
       apart = holds.apart;
+      contents = holds.contents;
     }
 
 -- ---- numbers that are made
@@ -81,16 +78,23 @@ pub each_yields : (facts : Facts) (o : Option Made) (number : ℕ → ℤ) (is_n
 each_yields facts None number is_null n P yields next = elim yields [ ]
 each_yields facts (Some made) number is_null n P yields next = next made yields
 
-pub number_keeps : (lo hi n : ℤ) (known : StateFacts) (vs : List Value) (heap new : Heap) (number : ℕ → ℤ) (array : ℕ → Option ℕ) (value : Value)
-    → HasForm known → HoldsBy known vs heap number array → KeepsForms heap new → number_of value ≡ Some n → FitsSigned w32 n → lo ≤ℤ n → n ≤ℤ hi
-    → HoldsOn (Some known) (with_number lo hi known) (vs ++ value ∷ []) new number array
-unfolding with_number
-number_keeps lo hi n known vs heap new number array value form holds kept is fits above below =
-    each_yields known.facts (fresh known.facts lo hi None []) number (λ r. is_no_array (array r)) n
-    (λ o. HoldsOn (Some known) (option_map (on_top known) o) (vs ++ value ∷ []) new number array)
-    (fresh_yields known.facts lo hi n number (λ r. is_no_array (array r)) form.named holds.facts fits above below)
-    (λ made more. made_holds known made (known.variables ++ vars.Number made.expr ∷ []) vs (vs ++ value ∷ []) heap new number array n form holds kept more
+-- a number that is made is pushed
+pub top_keeps : (n : ℤ) (known : StateFacts) (o : Option Made) (vs : List Value) (heap : Heap) (number : ℕ → ℤ) (array : ℕ → Option ℕ) (value : Value)
+    → HasForm known → HoldsBy known vs heap number array → number_of value ≡ Some n
+    → YieldsSome known.facts (facts_made known.facts o) number (λ r. is_no_array (array r)) (expr_made o) n
+    → HoldsOn (Some known) (option_map (on_top known) o) (vs ++ value ∷ []) heap number array
+top_keeps n known o vs heap number array value form holds is yields =
+    each_yields known.facts o number (λ r. is_no_array (array r)) n (λ o. HoldsOn (Some known) (option_map (on_top known) o) (vs ++ value ∷ []) heap number array) yields
+    (λ made more. made_holds known made (known.variables ++ vars.Number made.expr ∷ []) vs (vs ++ value ∷ []) heap number array n form holds more
     (λ later have worth_is. have_pushed later array known.variables vs (vars.Number made.expr) value have (is ∙ ap (λ (m : ℤ). Some m) (sym worth_is))))
+
+pub number_keeps : (lo hi n : ℤ) (known : StateFacts) (vs : List Value) (heap : Heap) (number : ℕ → ℤ) (array : ℕ → Option ℕ) (value : Value)
+    → HasForm known → HoldsBy known vs heap number array → number_of value ≡ Some n → FitsSigned w32 n → lo ≤ℤ n → n ≤ℤ hi
+    → HoldsOn (Some known) (with_number lo hi known) (vs ++ value ∷ []) heap number array
+unfolding with_number
+number_keeps lo hi n known vs heap number array value form holds is fits above below =
+    top_keeps n known (fresh known.facts lo hi None []) vs heap number array value form holds is
+    (fresh_yields known.facts lo hi n number (λ r. is_no_array (array r)) form.named holds.facts fits above below)
 
 -- ---- puts
 
@@ -98,7 +102,7 @@ stays_byte : (n : ℤ) → pos 0 ≤ℤ n → n ≤ℤ pos 255 → int_rem_eucli
 stays_byte (pos n) above below = omega (arith, ints, below)
 stays_byte (negsuc n) above below = absurd (omega (arith, ints, above))
 
-same_with : (facts : Facts) (number : ℕ → ℤ) (is_null : ℕ → Bool) (e : Expr) (n : ℤ) → Holds facts number is_null → worth number e ≡ n
+pub same_with : (facts : Facts) (number : ℕ → ℤ) (is_null : ℕ → Bool) (e : Expr) (n : ℤ) → Holds facts number is_null → worth number e ≡ n
     → HoldsWith facts facts number is_null e n
 same_with facts number is_null e n holds is = record { later = number; agrees = λ s there. refl; holds = holds; is = is }
 
@@ -108,9 +112,6 @@ in_byte facts number is_null e there holds is =
     let parts = and_parts (int_le (pos 0) (range_of facts e).lo) _ is in
     let has = range_has facts number e holds.allowed there in
     sym (stays_byte (worth number e) (omega (arith, ints, parts.0, has.above)) (omega (arith, ints, parts.1, has.below)))
-
-byte_fits : (n : ℤ) → IsByte n → FitsSigned w32 n
-byte_fits n is = omega (arith, ints, is.0, is.1)
 
 -- a byte that is made is the low byte of what is put
 pub byte_placed : (known : StateFacts) (e : Expr) (number : ℕ → ℤ) (is_null : ℕ → Bool) (P : Option Made → Type 0) → HasForm known → IsNamed known.facts e
@@ -134,7 +135,7 @@ put_number_keeps : (known : StateFacts) (i : ℕ) (made : Made) (vs : List Value
     → HoldsWith known.facts made.facts number (λ r. is_no_array (array r)) made.expr n
     → HoldsOn (Some known) (Some (in_variable known i made)) (set vs i value) heap number array
 put_number_keeps known i made vs heap number array n value form holds is more =
-    made_holds known made (set known.variables i (vars.Number made.expr)) vs (set vs i value) heap heap number array n form holds (keeps_itself heap) more
+    made_holds known made (set known.variables i (vars.Number made.expr)) vs (set vs i value) heap number array n form holds more
     (λ later have worth_is. have_set later array known.variables vs i (vars.Number made.expr) value have (is ∙ ap (λ (m : ℤ). Some m) (sym worth_is)))
 
 same_value : (x y : Value) → Some x ≡ Some y → x ≡ y
@@ -215,6 +216,7 @@ set_keeps i v known vs heap number array value holds has =
       variables = have_set number array known.variables vs i v value holds.variables has;
       references = holds.references;
       apart = holds.apart;
+      contents = holds.contents;
     })
 
 with_put_keeps : (i : ℕ) (v : Var) (place : Place) (known : StateFacts) (vs : List Value) (heap : Heap) (number : ℕ → ℤ) (array : ℕ → Option ℕ) (value stored : Value)
@@ -234,83 +236,3 @@ pub put_keeps : (i : ℕ) (v : Var) (place : Place) (state : State) → ForSome 
 put_keeps i v place None form named = λ vs heap number array value stored holds has is. elim holds [ ]
 put_keeps i v place (Some known) form named = λ vs heap number array value stored holds has is.
     with_put_keeps i v place known vs heap number array value stored (form known refl) (named known refl) holds has is
-
--- ---- loads
-
-contained : {X : Type 0} (P : X → Type 0) (xs : List X) (x : X) → AllByRecursion P xs → Contains xs x → P x
-contained P xs x all there = All-contains P xs x (All-from_recursion P xs all) there
-
-item_of : (place : Place) (items : List ℤ) (n : ℤ) → FitItems place items → Contains items n → FitsSigned w32 n
-item_of places.Void items n fit there = elim fit [ ]
-item_of places.Bool items n fit there = elim fit [ ]
-item_of places.Int items n fit there = elim fit [ ]
-item_of places.Bools items n fit there = byte_fits n (contained IsByte items n fit there)
-item_of places.Ints items n fit there = contained (FitsSigned w32) items n fit there
-
--- what an item of an array of this type may be
-fits_item : (place own : Place) (items : List ℤ) (n : ℤ) → same_place own place ≡ true → FitItems own items → Contains items n
-    → (least_item place ≤ℤ n) × (n ≤ℤ greatest_item place)
-fits_item places.Void own items n same fit there = let is = item_of own items n fit there in (omega (arith, ints, is), omega (arith, ints, is))
-fits_item places.Bool own items n same fit there = let is = item_of own items n fit there in (omega (arith, ints, is), omega (arith, ints, is))
-fits_item places.Int own items n same fit there = let is = item_of own items n fit there in (omega (arith, ints, is), omega (arith, ints, is))
-fits_item places.Ints own items n same fit there = let is = item_of own items n fit there in (omega (arith, ints, is), omega (arith, ints, is))
-fits_item places.Bools places.Void items n same fit there = elim fit [ ]
-fits_item places.Bools places.Bool items n same fit there = elim fit [ ]
-fits_item places.Bools places.Int items n same fit there = elim fit [ ]
-fits_item places.Bools places.Ints items n same fit there = absurd (false≢true same)
-fits_item places.Bools places.Bools items n same fit there =
-    let is : IsByte n = contained IsByte items n fit there in (is.0, omega (arith, ints, is.1))
-
-place_same : (heap : Heap) (place : Place) (i : ℕ) (cell : ArrayCell) → slice_get heap i ≡ Some cell → has_array heap place i ≡ true → same_place cell.place place ≡ true
-place_same heap place i cell is has = subst (λ (o : Option ArrayCell). option_map_or (λ c. same_place c.place place) o false ≡ true) is has
-
-so_item : (heap : Heap) (number : ℕ → ℤ) (o : Option (Reference Unknown)) (i : ℕ) (cell : ArrayCell) (n : ℤ) → IsArray cell → slice_get heap i ≡ Some cell
-    → Contains cell.items n → ((x : Reference Unknown) → o ≡ Some x → IsSo heap number x (Some i)) → (least_item (place_of o) ≤ℤ n) × (n ≤ℤ greatest_item (place_of o))
-so_item heap number None i cell n is here there so = let fits = item_of cell.place cell.items n is.0 there in (omega (arith, ints, fits), omega (arith, ints, fits))
-so_item heap number (Some x) i cell n is here there so =
-    fits_item x.place cell.place cell.items n (place_same heap x.place i cell here (so x refl).fits) is.0 there
-
-pub load_keeps : (r : ℕ) (state : State) → ForSome state HasForm → KeepsLoad r state (calls.load r state)
-unfolding with_item
-load_keeps r None form = λ vs heap number array i cell n holds is_heap is here there. elim holds [ ]
-load_keeps r (Some known) form = λ vs heap number array i cell n holds is_heap is here there.
-    let one = array_of_heap heap i cell is_heap here in
-    let ends = so_item heap number (reference_at known.references r) i cell n one here there
-    (λ x so. subst (λ (a : Option ℕ). IsSo heap number x a) is (holds.references r x so)) in
-    number_keeps (least_item (place_at known r)) (greatest_item (place_at known r)) n known vs heap heap number array (values.Int n) (form known refl) holds
-    (keeps_itself heap) refl (item_of cell.place cell.items n one.0 there) ends.0 ends.1
-
--- ---- stores
-
-stored_made : (known : StateFacts) (made : Made) (vs : List Value) (heap new : Heap) (number : ℕ → ℤ) (array : ℕ → Option ℕ) (n : ℤ) → HasForm known
-    → HoldsBy known vs heap number array → KeepsForms heap new → HoldsWith known.facts made.facts number (λ r. is_no_array (array r)) made.expr n
-    → HoldsOn (Some known) (Some (beside known made)) vs new number array
-stored_made known made vs heap new number array n form holds kept more =
-    made_holds known made known.variables vs vs heap new number array n form holds kept more (λ later have worth_is. have)
-
-stored_into : (place : Place) (known : StateFacts) (e : Expr) (vs : List Value) (heap new : Heap) (number : ℕ → ℤ) (array : ℕ → Option ℕ) → HasForm known
-    → IsNumber (length known.facts.ranges) e → HoldsBy known vs heap number array → KeepsForms heap new
-    → HoldsOn (Some known) (option_map (beside known) (placed known.facts e (item_place place))) vs new number array
-unfolding placed
-stored_into places.Bools known e vs heap new number array form named holds kept =
-    byte_placed known e number (λ r. is_no_array (array r)) (λ o. HoldsOn (Some known) (option_map (beside known) o) vs new number array) form named.there holds.facts
-    (λ made more. stored_made known made vs heap new number array _ form holds kept more)
-stored_into places.Void known e vs heap new number array form named holds kept =
-    stored_made known (record { expr = e; facts = known.facts }) vs heap new number array (worth number e) form holds kept
-    (same_with known.facts number (λ r. is_no_array (array r)) e (worth number e) holds.facts refl)
-stored_into places.Bool known e vs heap new number array form named holds kept =
-    stored_made known (record { expr = e; facts = known.facts }) vs heap new number array (worth number e) form holds kept
-    (same_with known.facts number (λ r. is_no_array (array r)) e (worth number e) holds.facts refl)
-stored_into places.Int known e vs heap new number array form named holds kept =
-    stored_made known (record { expr = e; facts = known.facts }) vs heap new number array (worth number e) form holds kept
-    (same_with known.facts number (λ r. is_no_array (array r)) e (worth number e) holds.facts refl)
-stored_into places.Ints known e vs heap new number array form named holds kept =
-    stored_made known (record { expr = e; facts = known.facts }) vs heap new number array (worth number e) form holds kept
-    (same_with known.facts number (λ r. is_no_array (array r)) e (worth number e) holds.facts refl)
-
-pub store_keeps : (r : ℕ) (e : Expr) (state : State) → ForSome state HasForm → ForSome state (λ known. IsNumber (length known.facts.ranges) e)
-    → KeepsStore state (calls.store r e state)
-unfolding with_stored
-store_keeps r e None form named = λ vs heap new number array holds kept. elim holds [ ]
-store_keeps r e (Some known) form named = λ vs heap new number array holds kept.
-    stored_into (place_at known r) known e vs heap new number array (form known refl) (named known refl) holds kept

@@ -3,7 +3,6 @@ use Rattle.std.proofs.Common.{◌≡◌, ℕ, ℤ, Option, Some, None, List, [],
 use Rattle.std.specs.Prelude.{Ok}
 use Rattle.std.specs.Option.{ForSome, option_map}
 use Rattle.alias_facts.specs.Arrays.{is_no_array}
-use Rattle.cil_model.proofs.HeapsKept.{keeps_itself}
 use Rattle.cil_model.specs.Arithmetic.{operated}
 use Rattle.cil_model.specs.Values.{Heap}
 use Rattle.cil_model.specs.declared.instruction.BinOp.{BinOp}
@@ -55,8 +54,8 @@ result_so op a b known vs heap number array first second n form one two holds ha
     (λ o. HoldsOn (Some known) (option_map (on_top known) o) (vs ++ values.Int n ∷ []) heap number array)
     (result_keeps op known.facts a b one.there two.there form.narrow number (λ r. is_no_array (array r)) n form.named holds.facts so.fit
     (ap (λ (m : ℤ). operated op m (worth number b)) (sym so.first_is) ∙ ap (λ (m : ℤ). operated op first m) (sym so.second_is) ∙ gives))
-    (λ made more. made_holds known made (known.variables ++ vars.Number made.expr ∷ []) vs (vs ++ values.Int n ∷ []) heap heap number array n form holds
-    (keeps_itself heap) more
+    (λ made more. made_holds known made (known.variables ++ vars.Number made.expr ∷ []) vs (vs ++ values.Int n ∷ []) heap number array n form holds
+    more
     (λ later values_are worth_is. have_pushed later array known.variables vs (vars.Number made.expr) (values.Int n) values_are (ap (λ (m : ℤ). Some m) (sym worth_is))))
 
 pub arith_keeps : (op : BinOp) (a b : Expr) (state : State) → ForSome state HasForm → ForSome state (λ known. HasNumber known a)

@@ -1,12 +1,12 @@
 -- The int32 of a span whose ends and hole are brought to 64 bits.
-use Rattle.std.proofs.Common.{◌≡◌, ℤ, pos, negsuc, ◌≤ℤ◌, ◌<ℤ◌, Bool, true, false, ◌||◌, int_le, int_lt, Option, Some, None, [], inl, inr, refl, sym, ap, ◌∙◌, arith}
+use Rattle.std.proofs.Common.{◌≡◌, ℤ, pos, negsuc, ◌≤ℤ◌, ◌<ℤ◌, true, ◌||◌, int_le, int_lt, Option, Some, None, [], inl, inr, refl, sym, ap, ◌∙◌, arith}
 use Rattle.std.specs.Int.{int_min, int_max}
 use Rattle.std.specs.Option.{option_map}
 use Rattle.std.proofs.lemmas.Bool.{cases_Bool}
 use Rattle.std.proofs.lemmas.Int.{ints, clamps}
 use Rattle.cil_model.specs.Arithmetic.{LEAST, GREATEST}
 use Rattle.interval_domain.specs.Arithmetic.{near}
-use Rattle.interval_domain.specs.Interval.{between, without}
+use Rattle.interval_domain.specs.Interval.{without}
 use Rattle.number_spans.proofs.NoNumbers.{none_below}
 use Rattle.number_spans.specs.Stored.{range_without}
 use Rattle.number_facts.specs.Facts.{Facts}

@@ -1,55 +1,41 @@
 -- Values of which little is known: their form, and what they keep.
-use Rattle.std.proofs.Common.{◌≡◌, ℕ, ◌+◌, ◌≤◌, ℤ, pos, ◌≤ℤ◌, Option, Some, None, List, [], ◌∷◌, ◌++◌, length, FitsSigned, w32, refl, sym, ap, ◌∙◌, arith}
+use Rattle.std.proofs.Common.{ℕ, ◌+◌, ℤ, pos, Option, Some, None, List, [], ◌∷◌, ◌++◌, length, FitsSigned, w32, refl, arith}
 use Rattle.std.specs.Prelude.{Ok}
-use Rattle.std.specs.Int.{int_min, int_max}
-use Rattle.std.specs.Option.{ForSome, option_map}
-use Rattle.std.proofs.lemmas.Int.{ints, clamps}
+use Rattle.std.specs.Option.{ForSome}
+use Rattle.std.proofs.lemmas.Int.{ints}
 use Rattle.alias_facts.specs.Arrays.{is_no_array}
-use Rattle.cil_model.proofs.HeapsKept.{keeps_itself}
 use Rattle.cil_model.specs.Arithmetic.{LEAST, GREATEST}
-use Rattle.cil_model.specs.Comparisons.{reference_of}
 use Rattle.cil_model.specs.Values.{FitsPlace, Heap, IsHeap}
 use Rattle.cil_model.specs.declared.machine.Value.{Value}
 use Rattle.cil_model.specs.declared.machine.Value.TheVariants as values
 use Rattle.cil_model.specs.declared.place.Place.{Place}
 use Rattle.cil_model.specs.declared.place.Place.TheVariants as places
-use Rattle.frame_names.specs.declared.var.Var.TheVariants as vars
-use Rattle.number_facts.proofs.Forms.{fresh_form}
 use Rattle.number_facts.proofs.NewSymbols.{fresh_where_ok}
-use Rattle.number_facts.specs.Facts.{Facts}
 use Rattle.number_facts.specs.Fresh.{expr_made, facts_made, fresh}
 use Rattle.number_facts.specs.Holds.{YieldsSome}
-use Rattle.number_spans.proofs.NarrowRanges.{range_without_narrow}
 use Rattle.number_spans.specs.Spans.{Has}
 use Rattle.number_spans.specs.declared.span.Span.{Span}
-use Rattle.symbolic_values.specs.Worth.{worth}
-use Rattle.state_facts.specs.Calls.{returned, with_returned}
+use Rattle.state_facts.specs.Calls.{with_returned}
 use Rattle.state_facts.specs.Forms.{HasForm, IsArrayPlace}
-use Rattle.state_facts.specs.Holds.{FitsArray, HoldsBy, length_of_array}
+use Rattle.state_facts.specs.Holds.{HoldsBy}
 use Rattle.state_facts.specs.Keeps.{HoldsOn}
 use Rattle.state_facts.specs.Moves.{on_top}
 use Rattle.state_facts.specs.StateFacts.{StateFacts, State}
 use Rattle.state_facts.specs.UnknownValues as rule
 use Rattle.state_facts.specs.UnknownValues.{KeepsUnknown, KeepsWithin, with_unknown, with_within}
-use Rattle.state_facts.proofs.Agreeing.{have_pushed, made_holds, pairs_agree}
-use Rattle.state_facts.proofs.ArraysHold.{array_long, byte_value, each_made_yields, earlier_same, fitting_value, number_value, reference_holds, result_so, with_one}
+use Rattle.state_facts.proofs.Agreeing.{pairs_agree}
+use Rattle.state_facts.proofs.ArraysHold.{byte_value, earlier_same, fitting_value, number_value, returned_keeps, with_one}
 use Rattle.state_facts.proofs.Growing.{Formed}
-use Rattle.state_facts.proofs.MadeNumbers.{EachMade, each_formed, each_noted, fresh_made, made_grows, on_top_form}
+use Rattle.state_facts.proofs.MadeNumbers.{each_formed, made_grows, on_top_form, within_made}
 use Rattle.state_facts.proofs.MoveForms.{more_ends, number_form, returned_form}
-use Rattle.state_facts.proofs.MovesHold.{each_yields, fresh_yields, number_keeps}
+use Rattle.state_facts.proofs.MovesHold.{number_keeps, top_keeps}
 
 -- ---- their form
-
-within_made : (facts : Facts) (r : Span) → EachMade facts (fresh facts r.lo r.hi r.hole [])
-unfolding fresh
-within_made facts r =
-    each_noted facts _ (range_without_narrow (int_max r.lo LEAST) (int_min r.hi GREATEST) r.hole (omega (arith, ints, clamps)) (omega (arith, ints, clamps)))
-    (fresh_form facts r.lo r.hi r.hole)
 
 pub within_form : (r : Span) (known : StateFacts) → HasForm known → Formed (with_within r known)
 unfolding with_within
 within_form r known form =
-    each_formed known.facts (fresh known.facts r.lo r.hi r.hole []) (on_top known) (within_made known.facts r)
+    each_formed known.facts (fresh known.facts r.lo r.hi r.hole []) (on_top known) (within_made known.facts r.lo r.hi r.hole)
     (λ made is. on_top_form known made form (made_grows known made form is) is.number)
 
 pub unknown_form : (place : Place) (known : StateFacts) → HasForm known → Formed (with_unknown place known)
@@ -76,12 +62,8 @@ within_so : (r : Span) (n : ℤ) (known : StateFacts) (vs : List Value) (heap : 
     → HoldsOn (Some known) (with_within r known) (vs ++ values.Int n ∷ []) heap number array
 unfolding with_within
 within_so r n known vs heap number array form holds fits has =
-    each_yields known.facts (fresh known.facts r.lo r.hi r.hole []) number (λ q. is_no_array (array q)) n
-    (λ o. HoldsOn (Some known) (option_map (on_top known) o) (vs ++ values.Int n ∷ []) heap number array)
+    top_keeps n known (fresh known.facts r.lo r.hi r.hole []) vs heap number array (values.Int n) form holds refl
     (within_yields r n known vs heap number array form holds fits has)
-    (λ made more. made_holds known made (known.variables ++ vars.Number made.expr ∷ []) vs (vs ++ values.Int n ∷ []) heap heap number array n form holds
-    (keeps_itself heap) more
-    (λ later have is. have_pushed later array known.variables vs (vars.Number made.expr) (values.Int n) have (ap (λ (m : ℤ). Some m) (sym is))))
 
 pub within_is_kept : (r : Span) (state : State) → ForSome state HasForm → KeepsWithin r state (rule.push_within r state)
 within_is_kept r None form = λ vs heap number array n holds fits has. elim holds [ ]
@@ -91,30 +73,15 @@ within_is_kept r (Some known) form = λ vs heap number array n holds fits has.
 -- ---- values of a type
 
 -- an array that may be each one that is there, or null, with a length of its own
-array_so : (place : Place) (known : StateFacts) (vs : List Value) (heap : Heap) (number : ℕ → ℤ) (array : ℕ → Option ℕ) (value : Value) (a : Option ℕ)
-    → HasForm known → IsArrayPlace place → HoldsBy known vs heap number array → FitsArray heap place a → reference_of value ≡ Some a
-    → (pos 0 ≤ℤ length_of_array heap a) × (length_of_array heap a ≤ℤ pos 2147483647)
-    → HoldsOn (Some known) (with_returned known.apart place known) (vs ++ value ∷ []) heap number array
-unfolding with_returned
-array_so place known vs heap number array value a form fits_place holds fits is ends =
-    let count = length known.references in
-    each_made_yields known (fresh known.facts (pos 0) (pos 2147483647) None []) number (λ r. is_no_array (array r)) (length_of_array heap a)
-    (λ o. HoldsOn (Some known) (option_map (returned known.apart place known) o) (vs ++ value ∷ []) heap number array)
-    (fresh_made known.facts (pos 0) (pos 2147483647))
-    (fresh_yields known.facts (pos 0) (pos 2147483647) (length_of_array heap a) number (λ r. is_no_array (array r)) form.named holds.facts
-    (omega (arith, ints, ends.0, ends.1)) ends.0 ends.1)
-    (λ made is_made more.
-    reference_holds known made.facts _ known.apart vs value heap heap number more.later array a form holds (keeps_itself heap) (made_grows known made form is_made)
-    more.agrees more.holds (result_so place heap more.later _ a refl refl fits more.is) is
-    (pairs_agree (length known.facts.ranges) count number number array (with_one array (count + 1) a) known.apart
-    (record { numbers = λ s there. refl; arrays = λ r there. earlier_same array count a r there }) form.pairs holds.apart))
-
 any_array : (place : Place) (known : StateFacts) (vs : List Value) (heap : Heap) (number : ℕ → ℤ) (array : ℕ → Option ℕ) (value : Value)
     → HasForm known → IsArrayPlace place → HoldsBy known vs heap number array → IsHeap heap → FitsPlace heap place value
     → HoldsOn (Some known) (with_returned known.apart place known) (vs ++ value ∷ []) heap number array
 any_array place known vs heap number array value form fits_place holds is_heap fits =
+    let count = length known.references in
     let found = fitting_value heap place value fits_place fits in
-    array_so place known vs heap number array value found.0 form fits_place holds found.2 found.1 (array_long heap found.0 is_heap)
+    returned_keeps place known known.apart vs value heap number array found.0 form holds is_heap found.2 found.1
+    (pairs_agree (length known.facts.ranges) count number number array (with_one array (count + 1) found.0) known.apart
+    (record { numbers = λ s there. refl; arrays = λ r there. earlier_same array count found.0 r there }) form.pairs holds.apart)
 
 unknown_so : (place : Place) (known : StateFacts) (vs : List Value) (heap : Heap) (number : ℕ → ℤ) (array : ℕ → Option ℕ) (value : Value)
     → HasForm known → HoldsBy known vs heap number array → IsHeap heap → FitsPlace heap place value
@@ -123,11 +90,11 @@ unfolding with_unknown
 unknown_so places.Void known vs heap number array value form holds is_heap fits = elim fits [ ]
 unknown_so places.Bool known vs heap number array value form holds is_heap fits =
     let found = byte_value heap value fits in
-    number_keeps (pos 0) (pos 255) found.0 known vs heap heap number array value form holds (keeps_itself heap) found.1
+    number_keeps (pos 0) (pos 255) found.0 known vs heap number array value form holds found.1
     (omega (arith, ints, found.2.0, found.2.1)) found.2.0 (omega (arith, ints, found.2.1))
 unknown_so places.Int known vs heap number array value form holds is_heap fits =
     let found = number_value heap value fits in
-    number_keeps LEAST GREATEST found.0 known vs heap heap number array value form holds (keeps_itself heap) found.1 found.2
+    number_keeps LEAST GREATEST found.0 known vs heap number array value form holds found.1 found.2
     (omega (arith, ints, found.2)) (omega (arith, ints, found.2))
 unknown_so places.Bools known vs heap number array value form holds is_heap fits =
     any_array places.Bools known vs heap number array value form tt holds is_heap fits

@@ -17,7 +17,6 @@ use Rattle.symbolic_values.specs.declared.def.Def.TheVariants.{Eq, Lt, LtUn, Nul
 use Rattle.state_facts.specs.Comparing.{null_tested}
 use Rattle.state_facts.specs.StateFacts.{StateFacts, nullness_at, reference_at}
 use Rattle.frame_names.specs.declared.reference.Reference.{Reference}
-use Rattle.state_facts.specs.declared.reference.Unknown.{Unknown}
 use Rattle.state_facts.specs.declared.test.Test.{Test}
 use Rattle.state_facts.specs.declared.test.Test.TheVariants.{Compares, IsNull}
 use Rattle.frame_names.specs.declared.var.Var.{Var}
@@ -34,7 +33,7 @@ contradicts May is = false
 contradicts NotNull is = is
 contradicts Null is = same_flag is false
 
-abbrev pub with_told : StateFacts → ℕ → Nullness → Option (Reference Unknown) → StateFacts
+abbrev pub with_told : StateFacts → ℕ → Nullness → Option Reference → StateFacts
 with_told known r told None = known
 with_told known r told (Some reference) =
     record known { references = set known.references (r - 1) (record reference { nullness = told }) }

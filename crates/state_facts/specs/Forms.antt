@@ -1,7 +1,8 @@
 -- The form of what is known: it speaks of what is there.
-use Rattle.std.specs.Prelude.{ℕ, ◌<◌, ◌≤◌, List, [], ◌∷◌, length}
+use Rattle.std.specs.Prelude.{ℕ, ◌<◌, ◌≤◌, List, [], ◌∷◌, length, map}
 use Rattle.std.specs.List.{AllByRecursion}
 use Rattle.alias_facts.specs.PairsOf.{Pair}
+use Rattle.array_contents.specs.Contents.{AreFormed}
 use Rattle.cil_model.specs.declared.place.Place.{Place}
 use Rattle.cil_model.specs.declared.place.Place.TheVariants as places
 use Rattle.domain_api.specs.declared.expr.Expr.{Expr}
@@ -12,7 +13,6 @@ use Rattle.symbolic_values.specs.declared.def.Def.{Def}
 use Rattle.symbolic_values.specs.declared.def.Def.TheVariants.{NullTest}
 use Rattle.state_facts.specs.StateFacts.{StateFacts}
 use Rattle.frame_names.specs.declared.reference.Reference.{Reference}
-use Rattle.state_facts.specs.declared.reference.Unknown.{Unknown}
 use Rattle.frame_names.specs.declared.var.Var.{Var}
 use Rattle.frame_names.specs.declared.var.Var.TheVariants as vars
 
@@ -32,7 +32,7 @@ IsArrayPlace places.Bools = Unit {0}
 IsArrayPlace places.Ints = Unit {0}
 IsArrayPlace _ = ⊥
 
-pub record IsReference (symbols : ℕ) (r : Reference Unknown) : Type 0 where
+pub record IsReference (symbols : ℕ) (r : Reference) : Type 0 where
   pub place : IsArrayPlace r.place
   pub length_is : IsNumber symbols r.length
 
@@ -50,7 +50,11 @@ AreRising (d ∷ definitions) = AllByRecursion (λ later. d.0 < later.0) definit
 abbrev pub EndsBy : ℕ → Pair → Type 0
 EndsBy references p = (p.0 ≤ references) × (p.1 ≤ references)
 
--- Ranges are of int32, and what is named is there.
+-- The length of each reference.
+abbrev pub lengths_of : List Reference → List Expr
+lengths_of references = map (λ r. r.length) references
+
+-- Ranges are of int32, what is named is there, and there are segments for each reference.
 pub record HasForm (known : StateFacts) : Type 0 where
   pub narrow : AreNarrow known.facts
   pub named : AreNamed known.facts
@@ -59,6 +63,7 @@ pub record HasForm (known : StateFacts) : Type 0 where
   pub variables : AllByRecursion (IsVar (length known.facts.ranges) (length known.references)) known.variables
   pub references : AllByRecursion (IsReference (length known.facts.ranges)) known.references
   pub pairs : AllByRecursion (EndsBy (length known.references)) known.apart
+  pub contents : AreFormed (length known.facts.ranges) (lengths_of known.references) known.contents
 
 -- What is handed to a call is there.
 abbrev pub HasVar : StateFacts → Var → Type 0

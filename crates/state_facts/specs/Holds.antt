@@ -2,6 +2,7 @@
 use Rattle.std.specs.Prelude.{◌≡◌, ℕ, ℤ, pos, true, List, [], ◌∷◌, ◌++◌, length, reverse, slice_get, Option, Some, None}
 use Rattle.std.specs.Option.{option_map_or}
 use Rattle.alias_facts.specs.Arrays.{AllDiffer, is_no_array}
+use Rattle.array_contents.specs.Contents.{AreHeld}
 use Rattle.alias_facts.specs.NullnessOf.{Agrees}
 use Rattle.cil_model.specs.Comparisons.{number_of, reference_of}
 use Rattle.cil_model.specs.Values.{Heap, has_array}
@@ -15,7 +16,6 @@ use Rattle.number_facts.specs.Holds.{Holds}
 use Rattle.symbolic_values.specs.Worth.{worth}
 use Rattle.state_facts.specs.StateFacts.{StateFacts, State, reference_at}
 use Rattle.frame_names.specs.declared.reference.Reference.{Reference}
-use Rattle.state_facts.specs.declared.reference.Unknown.{Unknown}
 use Rattle.frame_names.specs.declared.var.Var.{Var}
 use Rattle.frame_names.specs.declared.var.Var.TheVariants as vars
 
@@ -48,14 +48,24 @@ FitsArray heap place None = Unit {0}
 FitsArray heap place (Some i) = has_array heap place i ≡ true
 
 -- What is known of a reference is so, where it is null or this array.
-pub record IsSo (heap : Heap) (number : ℕ → ℤ) (r : Reference Unknown) (array : Option ℕ) : Type 0 where
+pub record IsSo (heap : Heap) (number : ℕ → ℤ) (r : Reference) (array : Option ℕ) : Type 0 where
   pub fits : FitsArray heap r.place array
   pub agrees : Agrees r.nullness (is_no_array array)
   pub length_is : worth number r.length ≡ length_of_array heap array
 
-abbrev pub AreSo : Heap → (ℕ → ℤ) → (ℕ → Option ℕ) → List (Reference Unknown) → Type 0
+abbrev pub AreSo : Heap → (ℕ → ℤ) → (ℕ → Option ℕ) → List Reference → Type 0
 AreSo heap number array references =
-    (r : ℕ) (known : Reference Unknown) → reference_at references r ≡ Some known → IsSo heap number known (array r)
+    (r : ℕ) (known : Reference) → reference_at references r ≡ Some known → IsSo heap number known (array r)
+
+-- ---- items
+
+abbrev pub items_in : Heap → ℕ → List ℤ
+items_in heap i = option_map_or (λ cell. cell.items) (slice_get heap i) []
+
+-- Null has no items.
+abbrev pub items_of_array : Heap → Option ℕ → List ℤ
+items_of_array heap None = []
+items_of_array heap (Some i) = items_in heap i
 
 -- ---- states
 
@@ -67,6 +77,7 @@ pub record HoldsBy (known : StateFacts) (vs : List Value) (heap : Heap) (number 
   pub variables : HaveValues number array known.variables vs
   pub references : AreSo heap number array known.references
   pub apart : AllDiffer array known.apart
+  pub contents : AreHeld number (λ r. items_of_array heap (array r)) known.contents
 
 abbrev pub HoldsIn : State → List Value → Heap → (ℕ → ℤ) → (ℕ → Option ℕ) → Type 0
 HoldsIn None vs heap number array = ⊥

@@ -1,11 +1,14 @@
 -- What each call keeps: where a state holds by a choice, the state after it holds by that choice, or by one that says
 -- more.
-use Rattle.std.specs.Prelude.{◌≡◌, ℕ, ◌-◌, ◌≤◌, ℤ, pos, Bool, List, [], ◌∷◌, ◌++◌, Contains, length, take, drop, set, slice_get, Option, Some, None}
+use Rattle.std.specs.Prelude.{◌≡◌, ℕ, ◌-◌, ◌<◌, ◌≤◌, ℤ, pos, Bool, List, [], ◌∷◌, ◌++◌, FitsSigned, get_or, length, take, drop, set, slice_get, Option, Some, None}
+use Rattle.std.specs.Int.{w32}
+use Rattle.std.specs.List.{AllByRecursion}
 use Rattle.cil_model.specs.Arithmetic.{truth}
-use Rattle.cil_model.specs.Calls.{FitsResult, IsPassedOrNew}
+use Rattle.cil_model.specs.Calls.{FitsResult, IsPassedOrNew, KeepsArrays}
 use Rattle.cil_model.specs.Comparisons.{comparison_of, compares_values, pushed_comparison}
+use Rattle.cil_model.specs.Effects.{item_of, with_item}
 use Rattle.cil_model.specs.Values as machine
-use Rattle.cil_model.specs.Values.{Heap, IsHeap, IsValue, KeepsForms}
+use Rattle.cil_model.specs.Values.{Heap, IsHeap, IsValue}
 use Rattle.cil_model.specs.declared.instruction.BinOp.{BinOp}
 use Rattle.cil_model.specs.declared.instruction.CmpOp.{CmpOp}
 use Rattle.cil_model.specs.declared.machine.ArrayCell.{ArrayCell}
@@ -76,37 +79,48 @@ KeepsAssumed op a b holds before after =
 
 -- ---- arrays
 
--- Each item of the array may be what is pushed.
-abbrev pub KeepsLoad : ℕ → State → State → Type 0
-KeepsLoad r before after =
-    (vs : List Value) (heap : Heap) (number : ℕ → ℤ) (array : ℕ → Option ℕ) (i : ℕ) (cell : ArrayCell) (n : ℤ)
-    → HoldsIn before vs heap number array → IsHeap heap → array r ≡ Some i → slice_get heap i ≡ Some cell
-    → Contains cell.items n
-    → HoldsOn before after (vs ++ values.Int n ∷ []) heap number array
+-- The array of a reference, and the index of one of its items that an expression is worth.
+pub record HasItem
+    (heap : Heap) (number : ℕ → ℤ) (array : Option ℕ) (at : Expr) (i : ℕ) (cell : ArrayCell) (index : ℕ)
+    : Type 0 where
+  pub array_is : array ≡ Some i
+  pub cell_is : slice_get heap i ≡ Some cell
+  pub index_is : worth number at ≡ pos index
+  pub below : index < length cell.items
 
--- Arrays may hold other items.
-abbrev pub KeepsStore : State → State → Type 0
-KeepsStore before after =
-    (vs : List Value) (heap new : Heap) (number : ℕ → ℤ) (array : ℕ → Option ℕ) → HoldsIn before vs heap number array
-    → KeepsForms heap new → HoldsOn before after vs new number array
+-- The item at the index is what is pushed.
+abbrev pub KeepsLoad : ℕ → Expr → State → State → Type 0
+KeepsLoad r at before after =
+    (vs : List Value) (heap : Heap) (number : ℕ → ℤ) (array : ℕ → Option ℕ) (i : ℕ) (cell : ArrayCell) (index : ℕ)
+    → HoldsIn before vs heap number array → IsHeap heap → HasItem heap number (array r) at i cell index
+    → HoldsOn before after (vs ++ values.Int (get_or cell.items index (pos 0)) ∷ []) heap number array
+
+-- The item at the index becomes the number, as the machine stores it in an array of this type.
+abbrev pub KeepsStore : ℕ → Expr → Expr → State → State → Type 0
+KeepsStore r at value before after =
+    (vs : List Value) (heap : Heap) (number : ℕ → ℤ) (array : ℕ → Option ℕ) (i : ℕ) (cell : ArrayCell) (index : ℕ)
+    → HoldsIn before vs heap number array → IsHeap heap → HasItem heap number (array r) at i cell index
+    → FitsSigned w32 (worth number value)
+    → HoldsOn before after vs (with_item heap i cell index (item_of cell.place (worth number value))) number array
 
 -- An array of this type and length comes behind the others.
 abbrev pub KeepsNewArray : Place → Expr → State → State → Type 0
 KeepsNewArray place length_is before after =
     (vs : List Value) (heap : Heap) (number : ℕ → ℤ) (array : ℕ → Option ℕ) (cell : ArrayCell)
     → HoldsIn before vs heap number array
-    → cell.place ≡ place → worth number length_is ≡ pos (length cell.items)
+    → cell.place ≡ place → worth number length_is ≡ pos (length cell.items) → AllByRecursion (λ n. n ≡ pos 0) cell.items
     → HoldsOn before after (vs ++ values.Array (length heap) ∷ []) (heap ++ cell ∷ []) number array
 
 abbrev pub listed : Option Value → List Value
 listed None = []
 listed (Some value) = value ∷ []
 
--- A call gives a value of its place, or none, and an array that it gives was passed or is new.
+-- A call gives a value of its place, or none, and an array that it gives was passed or is new. Arrays that were not
+-- passed keep their items.
 abbrev pub KeepsCall : ℕ → ℕ → Place → State → State → Type 0
 KeepsCall first args place before after =
     (vs : List Value) (heap new : Heap) (number : ℕ → ℤ) (array : ℕ → Option ℕ) (result : Option Value)
     → HoldsIn before vs heap number array
-    → IsHeap new → KeepsForms heap new → FitsResult new place result
+    → IsHeap new → KeepsArrays heap new (take args (drop first vs)) → FitsResult new place result
     → IsPassedOrNew heap (take args (drop first vs)) result
     → HoldsOn before after (vs ++ listed result) new number array

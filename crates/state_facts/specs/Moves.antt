@@ -1,19 +1,27 @@
 -- What moves do to what is known. None: nothing is reached then.
-use Rattle.std.specs.Prelude.{ℕ, ◌+◌, ◌-◌, ℤ, pos, Bool, ◌&&◌, int_le, [], ◌∷◌, ◌++◌, length, take, set, Option, Some, None, if◌then◌else◌}
-use Rattle.std.specs.Option.{option_map}
+use Rattle.std.specs.Prelude.{ℕ, ◌+◌, ◌-◌, ◌==◌, ℤ, pos, Bool, not, ◌&&◌, ◌||◌, int_le, List, [], ◌∷◌, ◌++◌, length, map, take, set, Option, Some, None, if◌then◌else◌}
+use Rattle.std.specs.Int.{int_max, int_min}
+use Rattle.std.specs.List.{range_with_len}
+use Rattle.std.specs.Option.{option_and_then, option_map}
 use Rattle.alias_facts.specs.PairsOf.{with_all_before}
 use Rattle.alias_facts.specs.declared.nullness.Nullness.TheVariants.{NotNull}
+use Rattle.array_contents.specs.Contents.{Contents}
+use Rattle.array_contents.specs.Storing as contents
+use Rattle.array_segments.specs.SegmentLists.{whole}
 use Rattle.cil_model.specs.Arithmetic.{LEAST, GREATEST}
 use Rattle.cil_model.specs.declared.place.Place.{Place}
 use Rattle.cil_model.specs.declared.place.Place.TheVariants as places
 use Rattle.domain_api.specs.declared.expr.Expr.{Expr}
+use Rattle.interval_domain.specs.Interval.{Interval, one}
 use Rattle.number_facts.specs.Ends.{range_of}
 use Rattle.number_facts.specs.Facts.{Facts, IsNamed}
 use Rattle.number_facts.specs.Fresh.{Made, fresh}
+use Rattle.number_facts.specs.Gaps.{gap, less}
+use Rattle.number_spans.specs.Constants.{constant}
+use Rattle.number_spans.specs.Stored.{range_without}
 use Rattle.number_spans.specs.declared.span.Span.{Span}
-use Rattle.state_facts.specs.StateFacts.{StateFacts, reference_at}
+use Rattle.state_facts.specs.StateFacts.{StateFacts, are_apart, reference_at}
 use Rattle.frame_names.specs.declared.reference.Reference.{Reference}
-use Rattle.state_facts.specs.declared.reference.Unknown.{Unknown}
 use Rattle.frame_names.specs.declared.var.Var.{Var}
 use Rattle.frame_names.specs.declared.var.Var.TheVariants as vars
 
@@ -68,7 +76,7 @@ IsNamedNumber known _ = Unit {0}
 -- ---- arrays
 
 -- The type of a reference. That of reference 0 does not matter.
-abbrev pub place_of : Option (Reference Unknown) → Place
+abbrev pub place_of : Option Reference → Place
 place_of None = places.Ints
 place_of (Some r) = r.place
 
@@ -84,9 +92,13 @@ abbrev pub greatest_item : Place → ℤ
 greatest_item places.Bools = pos 255
 greatest_item _ = GREATEST
 
--- An item of an array is on top.
-unfoldable pub with_item : ℕ → StateFacts → Option StateFacts
-with_item r known = with_number (least_item (place_at known r)) (greatest_item (place_at known r)) known
+-- A number of a range is on top.
+unfoldable pub with_one_of : Interval → StateFacts → Option StateFacts
+with_one_of r known = option_map (on_top known) (fresh known.facts r.lo r.hi r.hole [])
+
+-- The item of an array at an index is on top.
+unfoldable pub with_item : ℕ → Expr → StateFacts → Option StateFacts
+with_item r at known = with_one_of (contents.loaded_at (gap known.facts) known.contents r at) known
 
 abbrev pub item_place : Place → Place
 item_place places.Bools = places.Bool
@@ -95,16 +107,46 @@ item_place _ = places.Int
 abbrev pub beside : StateFacts → Made → StateFacts
 beside known made = record known { facts = made.facts }
 
--- A number is stored into an array, as it is put into an item's place. Nothing is known of what arrays hold.
-unfoldable pub with_stored : ℕ → Expr → StateFacts → Option StateFacts
-with_stored r value known = option_map (beside known) (placed known.facts value (item_place (place_at known r)))
+-- The int32 that a number may be. None where there is none.
+unfoldable pub int32_in : Span → Option Interval
+int32_in r = range_without (int_max r.lo LEAST) (int_min r.hi GREATEST) r.hole
 
--- A new array is on top. It is none of those that were there before.
+-- Another reference may be the same array.
+abbrev pub may_be : StateFacts → ℕ → ℕ → Bool
+may_be known r q = not (q == r || are_apart known r q)
+
+-- Those of the references from 1 on.
+abbrev pub others : StateFacts → ℕ → List Bool
+others known r = map (may_be known r) (range_with_len 1 (length known.references))
+
+abbrev pub with_items : StateFacts → Contents → StateFacts
+with_items known items = record known { contents = items }
+
+-- A number that was made is stored at an index: into the array that the reference is, and perhaps into each that may be
+-- the same one.
+unfoldable pub with_written : ℕ → Expr → StateFacts → Made → Option StateFacts
+with_written r at known made =
+    option_map
+    (λ range.
+    with_items (beside known made) (contents.stored (gap made.facts) r at range (others known r) known.contents))
+    (int32_in (range_of made.facts made.expr))
+
+-- A number is stored into an array at an index, as it is put into an item's place.
+unfoldable pub with_stored : ℕ → Expr → Expr → StateFacts → Option StateFacts
+with_stored r at value known =
+    option_and_then (with_written r at known) (placed known.facts value (item_place (place_at known r)))
+
+-- A number may be 0.
+abbrev pub may_be_zero : Facts → Expr → Bool
+may_be_zero facts e = not (less facts (constant (pos 0)) e)
+
+-- A new array is on top, whose items are 0. It is none of those that were there before.
 unfoldable pub with_array : Place → Expr → StateFacts → StateFacts
 with_array place length_is known = record {
   variables = known.variables ++ vars.Reference (length known.references + 1) ∷ [];
   facts = known.facts;
   references = known.references
-      ++ record { place = place; nullness = NotNull; length = length_is; contents = record {} } ∷ [];
+      ++ record { place = place; nullness = NotNull; length = length_is } ∷ [];
   apart = with_all_before (length known.references + 1) known.apart;
+  contents = known.contents ++ whole length_is (one (pos 0)) (may_be_zero known.facts length_is) ∷ [];
 }

@@ -31,11 +31,11 @@ compare op a b state = option_and_then (with_comparison op a b) state
 abbrev pub assume : CmpOp → Var → Var → Bool → State → State
 assume op a b holds state = option_and_then (assumed op a b holds) state
 
-abbrev pub load : ℕ → State → State
-load r state = option_and_then (with_item r) state
+abbrev pub load : ℕ → Expr → State → State
+load r at state = option_and_then (with_item r at) state
 
-abbrev pub store : ℕ → Expr → State → State
-store r value state = option_and_then (with_stored r value) state
+abbrev pub store : ℕ → Expr → Expr → State → State
+store r at value state = option_and_then (with_stored r at value) state
 
 abbrev pub new_array : Place → Expr → State → State
 new_array place length_is state = option_map (with_array place length_is) state

@@ -1,5 +1,5 @@
 -- What is known where a value comes of which little is known. None: nothing is reached then.
-use Rattle.std.specs.Prelude.{◌≡◌, ℕ, ℤ, pos, List, [], ◌∷◌, ◌++◌, Option, Some, None, FitsSigned, if◌then◌else◌}
+use Rattle.std.specs.Prelude.{ℕ, ℤ, pos, List, [], ◌∷◌, ◌++◌, Option, Some, None, FitsSigned, if◌then◌else◌}
 use Rattle.std.specs.Int.{w32}
 use Rattle.std.specs.Option.{option_and_then, option_map}
 use Rattle.cil_model.specs.Arithmetic.{LEAST, GREATEST}

@@ -142,7 +142,6 @@ impl Known {
             place: reference.place,
             nullness: told,
             length: reference.length,
-            contents: reference.contents,
         };
     }
 
@@ -193,7 +192,7 @@ impl Known {
 
     /// A test is so, and what follows from it by definitions, in so many steps. False: nothing is reached. After an
     /// error numbers alone may have changed.
-    #[tactic(auto, using(crate::proofs::AssumptionForms::ready_behind), unfolding(crate::specs::Assuming::with_steps))]
+    #[tactic(auto, unfolding(crate::specs::Assuming::with_steps))]
     fn assume_steps(&mut self, steps: u32, test: Option<Test>) -> Result<bool, NoMemory>
         requires form { HasForm self.old }
         requires named { rule.AreNamedTests self.old test }

@@ -3,8 +3,8 @@
 ghost use Rattle.std.specs.Prelude.{◌≡◌, ◌≢◌, ◌+◌, ◌≤◌, ◌<◌, length, slice_get, Some, IfOk, OnOk, OnErr};
 ghost use Rattle.state_facts.specs.StateFacts as rule;
 
-use crate::reference::Unknown;
 use alias_facts::{Apart, Nullness};
+use array_contents::Contents;
 use cil_model::Place;
 use domain_api::{Expr, NoMemory};
 use frame_names::{Reference, Var};
@@ -21,9 +21,11 @@ pub struct Known {
     /// What is known of symbols, of which expressions speak.
     pub numbers: Numbers,
     /// What is known of each reference, that of reference r at place r - 1.
-    pub references: Vec<Reference<Unknown>>,
+    pub references: Vec<Reference>,
     /// Which references are known not to be the same array.
     pub apart: Apart,
+    /// What is known of the items of each reference, that of reference r at place r - 1.
+    pub contents: Contents,
 }
 
 impl Model for Known {
@@ -36,6 +38,7 @@ impl Model for Known {
       facts = k.numbers;
       references = k.references.items;
       apart = k.apart;
+      contents = k.contents;
     } };
 }
 
@@ -53,12 +56,13 @@ impl Known {
             numbers: self.numbers.copy(alloc)?,
             references: Vec::from_slice(alloc, self.references.as_slice())?,
             apart: self.apart.copy(alloc)?,
+            contents: self.contents.copy(alloc)?,
         })
     }
 
     /// What is known of a reference. None for reference 0, which is null.
     #[tactic(auto, unfolding(crate::specs::StateFacts::reference_at))]
-    pub fn reference_at(&self, r: u32) -> Option<Reference<Unknown>>
+    pub fn reference_at(&self, r: u32) -> Option<Reference>
         ensures { result ≡ rule.reference_at self.now.references r }
     {
         if r == 0 {

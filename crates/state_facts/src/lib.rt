@@ -2,16 +2,15 @@
 #![tactic(auto)]
 
 mod arithmetic;
+mod arrays;
 mod assuming;
 mod calls;
 mod comparing;
 mod known;
 mod moves;
-mod reference;
 mod test;
 mod unknown_values;
 
 pub use assuming::definition_at;
 pub use frame_names::{Reference, Var};
 pub use known::Known;
-pub use reference::Unknown;

@@ -1,4 +1,4 @@
-//! Moves: pushes, pops, puts, loads and new arrays.
+//! Moves: pushes, pops and puts.
 
 ghost use Rattle.std.specs.Prelude.{◌≡◌, ◌<◌, ◌≤◌, true, length, IfOk, OnOk, OnErr, Some, is_some};
 ghost use Rattle.number_facts.specs.Facts.{IsNamed};
@@ -7,15 +7,13 @@ ghost use Rattle.number_facts.specs.Fresh.{expr_made, facts_made};
 ghost use Rattle.state_facts.specs.Moves as rule;
 
 use crate::known::Known;
-use crate::reference::Unknown;
-use alias_facts::Nullness;
 use cil_model::Place;
 use domain_api::{Expr, NoMemory};
-use frame_names::{Reference, Var};
+use frame_names::Var;
 use number_facts::Numbers;
 
 /// Returns whether the numbers of an expression are all numbers of bool.
-fn is_byte(numbers: &Numbers, e: Expr) -> bool
+pub(crate) fn is_byte(numbers: &Numbers, e: Expr) -> bool
     requires { IsNamed numbers.now e }
     ensures { result ≡ rule.is_byte (range_of numbers.now e) }
 {
@@ -34,27 +32,6 @@ fn placed(numbers: &mut Numbers, e: Expr, place: Place) -> Result<Option<Expr>, 
     match place {
         Place::Bool if !is_byte(numbers, e) => numbers.fresh(0, 255, None),
         _ => Ok(Some(e)),
-    }
-}
-
-/// The least and the greatest number that an item of an array of this place may be.
-fn item_ends(place: Place) -> (i64, i64)
-    ensures least { result.0 ≡ rule.least_item place }
-    ensures greatest { result.1 ≡ rule.greatest_item place }
-{
-    match place {
-        Place::Bools => (0, 255),
-        _ => (i64::from(i32::MIN), i64::from(i32::MAX)),
-    }
-}
-
-/// The type of the items of an array of this place.
-fn item_place(place: Place) -> Place
-    ensures { result ≡ rule.item_place place }
-{
-    match place {
-        Place::Bools => Place::Bool,
-        _ => Place::Int,
     }
 }
 
@@ -132,72 +109,5 @@ impl Known {
                 Ok(true)
             }
         }
-    }
-
-    /// The type of a reference. That of reference 0 does not matter.
-    pub fn place(&self, r: u32) -> Place
-        ensures { result ≡ rule.place_at self.now r }
-    {
-        match self.reference_at(r) {
-            None => Place::Ints,
-            Some(reference) => reference.place,
-        }
-    }
-
-    /// Pushes an item of array r: a number from 0 to 255 of an array of bool, else an int32. False: nothing is reached.
-    ///
-    /// # Errors
-    ///
-    /// Want of memory leaves what was known.
-    #[tactic(auto, unfolding(crate::specs::Moves::with_item))]
-    pub fn load(&mut self, r: u32) -> Result<bool, NoMemory>
-        ensures reached { IfOk result (λ reached. reached ≡ is_some (rule.with_item r self.old)) }
-        ensures ok { IfOk result (λ reached. reached ≡ true → rule.with_item r self.old ≡ Some self.new) }
-        ensures err { OnErr result (self.new ≡ self.old) }
-    {
-        let (lo, hi) = item_ends(self.place(r));
-        self.push_number(lo, hi)
-    }
-
-    /// Stores a number into array r. Nothing is known of what arrays hold, so that no variable and no reference changes.
-    /// False: nothing is reached.
-    ///
-    /// # Errors
-    ///
-    /// Want of memory leaves what was known.
-    #[tactic(auto, unfolding(crate::specs::Moves::with_stored))]
-    pub fn store(&mut self, r: u32, value: Expr) -> Result<bool, NoMemory>
-        requires { IsNamed self.old.facts value }
-        ensures reached { IfOk result (λ reached. reached ≡ is_some (rule.with_stored r value self.old)) }
-        ensures ok { IfOk result (λ reached. reached ≡ true → rule.with_stored r value self.old ≡ Some self.new) }
-        ensures err { OnErr result (self.new ≡ self.old) }
-    {
-        let place = item_place(self.place(r));
-        let made = placed(&mut self.numbers, value, place)?;
-        Ok(made.is_some())
-    }
-
-    /// Pushes a new array of this type and length in items. It is not null, and none of the references that are there.
-    ///
-    /// # Errors
-    ///
-    /// Want of memory leaves what was known.
-    #[tactic(auto, unfolding(crate::specs::Moves::with_array))]
-    pub fn new_array(&mut self, place: Place, length: Expr) -> Result<(), NoMemory>
-        ensures ok { OnOk result (self.new ≡ rule.with_array place length self.old) }
-        ensures err { OnErr result (self.new ≡ self.old) }
-    {
-        let r = self.next_reference()?;
-        self.variables.reserve(1)?;
-        self.references.reserve(1)?;
-        self.apart.set_apart_from_earlier(r)?;
-        self.references.push(Reference {
-            place,
-            nullness: Nullness::NotNull,
-            length,
-            contents: Unknown,
-        })?;
-        self.variables.push(Var::Reference(r))?;
-        Ok(())
     }
 }

@@ -36,7 +36,6 @@ use Rattle.state_facts.specs.Comparing.{is_not_null}
 use Rattle.state_facts.specs.Forms.{HasForm, HasNumber, HasReference, HasVar}
 use Rattle.state_facts.specs.Holds.{HoldsBy, HoldsIn, length_in, length_of_array}
 use Rattle.state_facts.specs.StateFacts.{StateFacts, State, length_at, length_of, nullness_at, reference_at}
-use Rattle.state_facts.specs.declared.reference.Unknown.{Unknown}
 use Rattle.state_obligations.proofs.Following.{number_still, not_negative_follows}
 use Rattle.state_obligations.proofs.Nearest.{near_int32}
 use Rattle.state_obligations.specs.Assumed.{amount, assumed_by, compared, differing, is_just, no_division_overflow, not_negative}
@@ -70,7 +69,7 @@ length_is known vs heap number array zero holds there =
     constant_is known vs heap number array (pos 0) holds ∙ sym (ap (length_of_array heap) holds.null)
 length_is known vs heap number array (suc r) holds there =
     let found = present_at known.references (suc r) (omega arith) there in
-    ap (λ (o : Option (Reference Unknown)). worth number (length_of o)) found.1
+    ap (λ (o : Option Reference). worth number (length_of o)) found.1
     ∙ (holds.references (suc r) found.0 found.1).length_is
 
 cell_short : (heap : Heap) (i : ℕ) → IsHeap heap → length_in heap i ≤ 2147483647

@@ -28,7 +28,6 @@ use Rattle.state_facts.specs.Comparing.{null_tested}
 use Rattle.state_facts.specs.Forms.{HasForm, HasNumber, HasReference, HasVar}
 use Rattle.state_facts.specs.Moves.{IsNamedNumber}
 use Rattle.state_facts.specs.StateFacts.{StateFacts, State, length_at, nullness_at, reference_at}
-use Rattle.state_facts.specs.declared.reference.Unknown.{Unknown}
 use Rattle.state_obligations.specs.Assumed.{amount, assumed_by, compared, differing, is_just, no_division_overflow, not_negative}
 use Rattle.state_obligations.specs.Conditions.{AreThere, IsThere}
 use Rattle.state_obligations.specs.Following.{StaysThere, StaysThereIn, shape_of}
@@ -114,7 +113,7 @@ set_same f (z ∷ xs) zero x y is same = ap (λ h. h ∷ map f xs) (same ∙ ap 
     first a b e = cc
 set_same f (z ∷ xs) (suc i) x y is same = ap (λ t. f z ∷ t) (set_same f xs i x y is same)
 
-told_same : (r : ℕ) (told : Nullness) (known : StateFacts) (x : Reference Unknown)
+told_same : (r : ℕ) (told : Nullness) (known : StateFacts) (x : Reference)
     → reference_at known.references r ≡ Some x
     → map shape_of (set known.references (r - 1) (record x { nullness = told })) ≡ map shape_of known.references
 unfolding reference_at
@@ -158,7 +157,7 @@ then_after : (known : StateFacts) (o : State) (f : StateFacts → State) → IsA
 then_after known None f after rest = tt
 then_after known (Some x) f after rest = after_on known x (f x) after (rest x after)
 
-told_after : (r : ℕ) (told : Nullness) (known : StateFacts) (o : Option (Reference Unknown)) → AreNamed known.facts
+told_after : (r : ℕ) (told : Nullness) (known : StateFacts) (o : Option Reference) → AreNamed known.facts
     → reference_at known.references r ≡ o
     → IsAfter known (with_told known r told o)
 told_after r told known None named is = after_itself known named

@@ -5,10 +5,9 @@ use Rattle.domain_api.specs.declared.expr.Expr.{Expr}
 use Rattle.frame_names.specs.declared.reference.Reference.{Reference}
 use Rattle.state_facts.specs.Forms.{HasForm}
 use Rattle.state_facts.specs.StateFacts.{StateFacts, State}
-use Rattle.state_facts.specs.declared.reference.Unknown.{Unknown}
 
 -- The type and the length of a reference.
-abbrev pub shape_of : Reference Unknown → Place × Expr
+abbrev pub shape_of : Reference → Place × Expr
 shape_of r = (r.place, r.length)
 
 -- What was there is there still: no symbol is lost, variables are as they were, and each reference has its type and its

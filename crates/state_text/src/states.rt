@@ -1,11 +1,13 @@
 //! The text of states.
 
-use abs_state::{AbsState, Parts, Reference, Unknown, Var};
+use abs_state::{AbsState, Contents, Parts, Reference, Segs, Var};
 use cil_model::Place;
+use domain_api::{Expr, Values};
 use fact_text::{
-    Fact, add_range, append_bounds, append_definitions, append_ranges, append_reference, expr,
-    nullness, nullness_name, read_fact, reference, separate_fact,
+    Fact, add_range, append_bounds, append_definitions, append_ranges, append_reference,
+    append_segments, expr, nullness, nullness_name, read_fact, reference, segments, separate_fact,
 };
+use interval_domain::Range;
 use rule_text::{Failure, append_number, operand, place};
 use std::alloc::{AllocError, Global};
 
@@ -55,7 +57,7 @@ fn read_variables(parts: &mut Parts, text: &str) -> Result<(), Failure> {
 }
 
 /// What is known of the next reference: `r1 is int32[] not-null length s1`.
-fn next_reference(count: usize, text: &str) -> Result<Reference<Unknown>, Failure> {
+fn next_reference(count: usize, text: &str) -> Result<Reference, Failure> {
     let mut words = text.split_whitespace();
     let (Some(r), Some("is"), Some(of), Some(known), Some("length"), Some(length), None) = (
         words.next(),
@@ -76,20 +78,47 @@ fn next_reference(count: usize, text: &str) -> Result<Reference<Unknown>, Failur
         place: place(of).ok_or(Failure::Unread("a type"))?,
         nullness: nullness(known)?,
         length: expr(length)?,
-        contents: Unknown,
     })
 }
 
-/// Adds a fact: one of symbols, `r1 is int32[] not-null length s1`, or `r1 apart r2`.
+/// All that an item of an array of this type may be.
+fn all_items(place: Place) -> Range {
+    match (place, Range::new(0, 255)) {
+        (Place::Bools, Some(bytes)) => bytes,
+        _ => Range::full(),
+    }
+}
+
+/// The segments of an array of whose items nothing is known.
+fn unknown_segments(alloc: Global, place: Place, length: Expr) -> Result<Segs<Range>, AllocError> {
+    Segs::whole(alloc, length, all_items(place), true)
+}
+
+/// Adds the next reference, with its segments where these are told: `r1 is int32[] not-null length s1 {0} 0..9 {s1}`.
+fn add_reference(parts: &mut Parts, text: &str) -> Result<(), Failure> {
+    let (text, told) = match text.split_once('{') {
+        None => (text, None),
+        Some((text, told)) => (text, Some(told)),
+    };
+    let next = next_reference(parts.references.len(), text)?;
+    let alloc = *parts.references.allocator();
+    let segs = match told {
+        None => unknown_segments(alloc, next.place, next.length)?,
+        Some(told) => segments(alloc, told)?,
+    };
+    parts.references.push(next)?;
+    parts.contents.segments.push(segs)?;
+    Ok(())
+}
+
+/// Adds a fact: one of symbols, what is known of a reference, or `r1 apart r2`.
 fn add_fact(parts: &mut Parts, text: &str) -> Result<(), Failure> {
     if let Some((r, q)) = text.split_once(" apart ") {
         parts.apart.push((reference(r)?, reference(q)?))?;
         return Ok(());
     }
     if text.starts_with('r') {
-        let next = next_reference(parts.references.len(), text)?;
-        parts.references.push(next)?;
-        return Ok(());
+        return add_reference(parts, text);
     }
     match read_fact(text)? {
         Fact::Range(s, range) => add_range(&mut parts.ranges, s, range)?,
@@ -109,6 +138,7 @@ fn nothing_listed(alloc: Global) -> Parts {
         bounds: Vec::new(alloc),
         references: Vec::new(alloc),
         apart: Vec::new(alloc),
+        contents: Contents::new(alloc),
     }
 }
 
@@ -171,12 +201,32 @@ fn place_name(place: Place) -> &'static str {
     }
 }
 
-/// Appends what is known of each reference.
-fn append_references(
+/// The text of segments.
+fn segments_text(alloc: Global, segs: &Segs<Range>) -> Result<String, AllocError> {
+    let mut text = String::new(alloc);
+    append_segments(&mut text, segs)?;
+    Ok(text)
+}
+
+/// Appends the segments of a reference, unless they are those of an array of whose items nothing is known.
+fn append_contents(
+    alloc: Global,
     text: &mut String,
-    references: &[Reference<Unknown>],
+    known: &Reference,
+    segs: &Segs<Range>,
 ) -> Result<(), AllocError> {
-    for (index, known) in references.iter().enumerate() {
+    let told = segments_text(alloc, segs)?;
+    let unknown = segments_text(alloc, &unknown_segments(alloc, known.place, known.length)?)?;
+    if told == unknown {
+        return Ok(());
+    }
+    text.push(' ')?;
+    text.push_str(told.as_str())
+}
+
+/// Appends what is known of each reference.
+fn append_references(alloc: Global, text: &mut String, parts: &Parts) -> Result<(), AllocError> {
+    for (index, known) in parts.references.iter().enumerate() {
         separate_fact(text)?;
         write!(text, "r{} is ", index.saturating_add(1))?;
         text.push_str(place_name(known.place))?;
@@ -184,6 +234,9 @@ fn append_references(
         text.push_str(nullness_name(known.nullness))?;
         text.push_str(" length ")?;
         append_number(text, known.length)?;
+        if let Some(segs) = parts.contents.segments.get(index) {
+            append_contents(alloc, text, known, segs)?;
+        }
     }
     Ok(())
 }
@@ -210,7 +263,7 @@ pub fn state_text(alloc: Global, state: &AbsState) -> Result<String, AllocError>
     append_ranges(&mut text, parts.ranges.as_slice())?;
     append_bounds(&mut text, parts.bounds.as_slice())?;
     append_definitions(&mut text, parts.definitions.as_slice())?;
-    append_references(&mut text, parts.references.as_slice())?;
+    append_references(alloc, &mut text, &parts)?;
     append_apart(&mut text, parts.apart.as_slice())?;
     Ok(text)
 }

@@ -204,21 +204,21 @@ pub made_here : (number : ℕ) (type : Option Place) (o : Option Var) (state aft
     → made ≡ over_one (with_new type) o after → made ≡ option_and_then (on_one (with_new (array_place number))) state
 made_here number type o state after made is took over = over ∙ ap (λ (t : Option Place). over_one (with_new t) o after) is ∙ sym (took (with_new (array_place number)))
 
-over_item : (r : ℕ) (i : Expr) (after : State) → states.load r after ≡ option_and_then (with_item_of (vars.Reference r) (vars.Number i)) after
+over_item : (r : ℕ) (i : Expr) (after : State) → states.load r i after ≡ option_and_then (with_item_of (vars.Reference r) (vars.Number i)) after
 over_item r i None = refl
 over_item r i (Some known) = refl
 
 pub item_is : (r : ℕ) (i : Expr) (state after : State) → TookTwo (Some (vars.Reference r, vars.Number i)) state after
-    → states.load r after ≡ option_and_then (on_two with_item_of) state
+    → states.load r i after ≡ option_and_then (on_two with_item_of) state
 item_is r i state after took = over_item r i after ∙ sym (took with_item_of)
 
 over_stored : (r : ℕ) (i value : Expr) (after : State)
-    → states.store r value after ≡ option_and_then (with_number_put value (vars.Reference r) (vars.Number i)) after
+    → states.store r i value after ≡ option_and_then (with_number_put value (vars.Reference r) (vars.Number i)) after
 over_stored r i value None = refl
 over_stored r i value (Some known) = refl
 
 pub number_stored : (r : ℕ) (i value : Expr) (state after : State) → TookTwo (Some (vars.Reference r, vars.Number i)) state after
-    → states.store r value after ≡ option_and_then (on_two (with_number_put value)) state
+    → states.store r i value after ≡ option_and_then (on_two (with_number_put value)) state
 number_stored r i value state after took = over_stored r i value after ∙ sym (took (with_number_put value))
 
 pub stored_over : (value : Expr) (state between : State) → Took (Some (vars.Number value)) state between

@@ -18,7 +18,6 @@ use Rattle.frame_names.specs.declared.var.Var.TheVariants as vars
 use Rattle.number_spans.specs.Constants.{constant}
 use Rattle.state_facts.specs.Forms.{HasForm, HasReference, HasVar}
 use Rattle.state_facts.specs.StateFacts.{StateFacts, State, reference_at, variables_in}
-use Rattle.state_facts.specs.declared.reference.Unknown.{Unknown}
 use Rattle.transfer_rules.specs.FitTests.{fit_frame, fit_from, fit_stack, fits_kind, fits_there, is_null_or}
 use Rattle.transfer_rules.specs.Flow.{Fits}
 use Rattle.transfer_rules.specs.Forms.{FitKinds, FitsKind, FitsStack, HasKinds, is_of_place, kind_in, kinds_over}
@@ -28,9 +27,9 @@ use Rattle.unit_flow.specs.declared.unit_flow.UnitFlow.{UnitFlow}
 -- ---- one variable
 
 -- any reference
-some_reference : Reference Unknown
+some_reference : Reference
 some_reference =
-    record { place = places.Ints; nullness = NotNull; length = constant (pos 0); contents = record {} }
+    record { place = places.Ints; nullness = NotNull; length = constant (pos 0) }
 
 same_place_of : (place : Place) (r : ℕ) (known : StateFacts) → HasReference known r
     → is_null_or place r known ≡ is_of_place known place r

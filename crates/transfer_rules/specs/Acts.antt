@@ -100,11 +100,11 @@ with_length (vars.Reference r) known = given (vars.Number (length_at known r)) k
 with_length v known = None
 
 abbrev pub with_item_of : Var → Var → StateFacts → State
-with_item_of (vars.Reference r) (vars.Number i) known = with_item r known
+with_item_of (vars.Reference r) (vars.Number i) known = with_item r i known
 with_item_of v w known = None
 
 abbrev pub with_item_put : Var → Var → Var → StateFacts → State
-with_item_put (vars.Reference r) (vars.Number i) (vars.Number value) known = with_stored r value known
+with_item_put (vars.Reference r) (vars.Number i) (vars.Number value) known = with_stored r i value known
 with_item_put v w value known = None
 
 -- The same of a number that is there.

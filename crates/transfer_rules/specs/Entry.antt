@@ -30,6 +30,7 @@ no_variables = record {
   facts = record { ranges = []; definitions = []; bounds = [] };
   references = [];
   apart = [];
+  contents = [];
 }
 
 -- Values of these types come on top, in order, of which no more is known. Each is apart from the others in its symbols,

@@ -15,7 +15,7 @@ ghost use Rattle.transfer_rules.specs.Laws.BegunLaws.{entry_kinds};
 ghost use Rattle.transfer_rules.specs.Laws.EntryLaws.{IsTestOf};
 ghost use Rattle.transfer_rules.specs.Laws.Fitting.{AreKinds};
 
-use abs_state::{AbsState, Parts, Var};
+use abs_state::{AbsState, Contents, Parts, Var};
 use cil_model::{Clause, ClauseKind, Place, Unit};
 use clause_trees::{TreeEnv, assume_tree};
 use domain_api::NoMemory;
@@ -34,6 +34,7 @@ pub(crate) fn no_variables(alloc: Global) -> Result<AbsState, NoMemory>
         bounds: Vec::new(alloc),
         references: Vec::new(alloc),
         apart: Vec::new(alloc),
+        contents: Contents::new(alloc),
     };
     match AbsState::of_parts(alloc, &parts)? {
         Some(state) => Ok(state),

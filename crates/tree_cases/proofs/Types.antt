@@ -17,12 +17,11 @@ use Rattle.frame_names.specs.declared.reference.Reference.{Reference}
 use Rattle.state_facts.specs.Forms.{HasForm}
 use Rattle.state_facts.specs.Moves.{place_at, place_of}
 use Rattle.state_facts.specs.StateFacts.{StateFacts, State, reference_at, variables_in}
-use Rattle.state_facts.specs.declared.reference.Unknown.{Unknown}
 use Rattle.tree_cases.specs.Types.{AreOfTypes, IsOfKindOf, IsOfType, IsResultOf}
 
 -- ---- one variable
 
-reference_of : (place : Place) (found : Option (Reference Unknown)) → place_of found ≡ place
+reference_of : (place : Place) (found : Option Reference) → place_of found ≡ place
     → IsOfPlace place (option_map (λ reference. reference.place) found)
 reference_of place None is = tt
 reference_of place (Some reference) is = is

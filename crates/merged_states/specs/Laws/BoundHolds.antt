@@ -1,19 +1,19 @@
 -- What the symbols and references of a state that is bound to another are bound to.
-use Rattle.std.proofs.Common.{◌≡◌, ℕ, zero, suc, ◌==◌, ℤ, pos, ◌+ℤ◌, Bool, true, false, List, [], ◌∷◌, drop, length, set, slice_get, get_or, replicate, Option, Some, None, FitsSigned, w32, refl, sym, ap, ◌∙◌, subst, arith}
+use Rattle.std.proofs.Common.{◌≡◌, ℕ, zero, suc, ◌==◌, ◌≤◌, ℤ, pos, ◌+ℤ◌, Bool, true, false, List, [], ◌∷◌, drop, length, set, slice_get, get_or, replicate, Option, Some, None, FitsSigned, w32, refl, sym, ap, ◌∙◌, subst, arith}
 use Rattle.std.specs.Prelude.{if◌then◌else◌}
 use Rattle.std.specs.Option.{option_and_then, option_map}
+use Rattle.std.specs.List.{AllByRecursion}
 use Rattle.domain_api.specs.declared.expr.Expr.{Expr}
 use Rattle.alias_facts.specs.NullnessOf.{is_null}
 use Rattle.frame_names.specs.Binding.{FrameBinding, Gaps, References, SlotLists, Symbols, all_filled, both_filled, bound_by, bound_frames, expr_of, filled, filled_with, fits, free_slots, is_equal, number_in_slot, reference_in_slot, with_length, with_lengths, with_number, with_reference, with_references, with_symbols, with_var, with_vars}
 use Rattle.frame_names.specs.BoundMeaning.{KeepGaps, zero_bound}
-use Rattle.frame_names.specs.Frames.{length_at, nullness_at, numbers_of}
+use Rattle.frame_names.specs.Frames.{length_at, nullness_at, numbers_of, references_of}
 use Rattle.frame_names.specs.declared.reference.Reference.{Reference}
 use Rattle.frame_names.specs.declared.slots.Bound.{Bound}
 use Rattle.frame_names.specs.declared.var.Var.{Var}
 use Rattle.frame_names.specs.declared.var.Var.TheVariants as vars
 use Rattle.frame_names.proofs.BindingLaws.{number_bound}
 use Rattle.symbolic_values.specs.Worth.{worth}
-use Rattle.state_facts.specs.declared.reference.Unknown.{Unknown}
 use Rattle.merged_states.specs.Laws.Uses.{AllFit}
 
 -- ---- slots
@@ -97,16 +97,22 @@ number_so gap number e f symbols new keep own so made = record {
 
 -- ---- references
 
+-- A reference fits one of the other state, and is there.
+pub record IsFitting (a b : List Reference) (q r : ℕ) : Type 0 where
+  pub fit : fits a b r q ≡ true
+  pub there : r ≤ length a
+
 -- What a reference is bound to: reference 0 to reference 0, and another to one that fits.
-abbrev pub IsBoundWell : List (Reference Unknown) → List (Reference Unknown) → ℕ → ℕ → Type 0
+abbrev pub IsBoundWell : List Reference → List Reference → ℕ → ℕ → Type 0
 IsBoundWell a b zero r = r ≡ 0
-IsBoundWell a b (suc q) r = fits a b r (suc q) ≡ true
+IsBoundWell a b (suc q) r = IsFitting a b (suc q) r
 
-well_by : (a b : List (Reference Unknown)) (r q : ℕ) → (q == 0) ≡ false → fits a b r q ≡ true → IsBoundWell a b q r
-well_by a b r zero other fit = absurd cc
-well_by a b r (suc q) other fit = fit
+well_by : (a b : List Reference) (r q : ℕ) → (q == 0) ≡ false → r ≤ length a → fits a b r q ≡ true
+    → IsBoundWell a b q r
+well_by a b r zero other there fit = absurd cc
+well_by a b r (suc q) other there fit = record { fit = fit; there = there }
 
-reference_slot_so : (a b : List (Reference Unknown)) (r q : ℕ) (slots new : References) (fit : Bool)
+reference_slot_so : (a b : List Reference) (r q : ℕ) (slots new : References) (fit : Bool)
     (slot : Option (Option ℕ)) → (fit ≡ true → IsBoundWell a b q r)
     → SlotsSo (IsBoundWell a b) slots → reference_in_slot fit slots r q slot ≡ Some new → SlotsSo (IsBoundWell a b) new
 reference_slot_so a b r q slots new fit None own so made = absurd cc
@@ -120,10 +126,10 @@ reference_slot_so a b r q slots new fit (Some (Some bound)) own so made = by (r 
     by true is = subst (SlotsSo (IsBoundWell a b)) (same_some slots new is) so
     by false is = absurd cc
 
-reference_so : (a b : List (Reference Unknown)) (r q : ℕ) (slots new : References) → SlotsSo (IsBoundWell a b) slots
-    → with_reference a b r q slots ≡ Some new
+reference_so : (a b : List Reference) (r q : ℕ) (slots new : References) → r ≤ length a
+    → SlotsSo (IsBoundWell a b) slots → with_reference a b r q slots ≡ Some new
     → SlotsSo (IsBoundWell a b) new
-reference_so a b r q slots new so made = by (q == 0) refl made
+reference_so a b r q slots new there so made = by (q == 0) refl made
   where
     at_zero : (null : Bool) → (if null then Some slots else None) ≡ Some new → SlotsSo (IsBoundWell a b) new
     at_zero true is = subst (SlotsSo (IsBoundWell a b)) (same_some slots new is) so
@@ -135,7 +141,8 @@ reference_so a b r q slots new so made = by (q == 0) refl made
         → SlotsSo (IsBoundWell a b) new
     by true none is = at_zero (is_null (nullness_at a r)) is
     by false other is =
-        reference_slot_so a b r q slots new (fits a b r q) (slice_get slots q) (λ fit. well_by a b r q other fit) so is
+        reference_slot_so a b r q slots new (fits a b r q) (slice_get slots q)
+        (λ fit. well_by a b r q other there fit) so is
 
 set_first : (slots : References) (q : ℕ) (y : Option ℕ) → (q == 0) ≡ false
     → slice_get (set slots q y) 0 ≡ slice_get slots 0
@@ -144,7 +151,7 @@ set_first [] (suc q) y other = refl
 set_first (o ∷ slots) (suc q) y other = refl
 
 -- Reference 0 stays what it is bound to.
-reference_first : (a b : List (Reference Unknown)) (r q : ℕ) (slots new : References)
+reference_first : (a b : List Reference) (r q : ℕ) (slots new : References)
     → slice_get slots 0 ≡ Some (Some 0) → with_reference a b r q slots ≡ Some new
     → slice_get new 0 ≡ Some (Some 0)
 reference_first a b r q slots new first made = by (q == 0) refl made
@@ -171,12 +178,12 @@ reference_first a b r q slots new first made = by (q == 0) refl made
 
 -- ---- variables, and then lengths
 
-pub record BothSo (number : ℕ → ℤ) (a b : List (Reference Unknown)) (slots : SlotLists) : Type 0 where
+pub record BothSo (number : ℕ → ℤ) (a b : List Reference) (slots : SlotLists) : Type 0 where
   pub symbols : SymbolsSo number slots.symbols
   pub references : SlotsSo (IsBoundWell a b) slots.references
   pub first : slice_get slots.references 0 ≡ Some (Some 0)
 
-module _ (gap : Gaps) (number : ℕ → ℤ) (a b : List (Reference Unknown)) (keep : KeepGaps gap number) where
+module _ (gap : Gaps) (number : ℕ → ℤ) (a b : List Reference) (keep : KeepGaps gap number) where
   number_var : (old new : SlotLists) (e f : Expr) (made : Option Symbols) → FitsSigned w32 (worth number e)
       → BothSo number a b old
       → with_number gap e f old.symbols ≡ made → option_map (with_symbols old.references) made ≡ Some new
@@ -190,15 +197,15 @@ module _ (gap : Gaps) (number : ℕ → ℤ) (a b : List (Reference Unknown)) (k
         first = so.first;
       })
 
-  reference_var : (old new : SlotLists) (r q : ℕ) (made : Option References) → BothSo number a b old
+  reference_var : (old new : SlotLists) (r q : ℕ) (made : Option References) → r ≤ length a → BothSo number a b old
       → with_reference a b r q old.references ≡ made → option_map (with_references old.symbols) made ≡ Some new
       → BothSo number a b new
-  reference_var old new r q None so found is = absurd cc
-  reference_var old new r q (Some references) so found is =
+  reference_var old new r q None there so found is = absurd cc
+  reference_var old new r q (Some references) there so found is =
       subst (BothSo number a b) (same_some (with_references old.symbols references) new is)
       (record {
         symbols = so.symbols;
-        references = reference_so a b r q old.references references so.references found;
+        references = reference_so a b r q old.references references there so.references found;
         first = reference_first a b r q old.references references so.first found;
       })
 
@@ -210,36 +217,38 @@ module _ (gap : Gaps) (number : ℕ → ℤ) (a b : List (Reference Unknown)) (k
   var_step xs ys new None rest so made = absurd cc
   var_step xs ys new (Some next) rest so made = rest next (so next refl) made
 
-  vars_so : (xs ys : List Var) (old new : SlotLists) → AllFit number (numbers_of xs) → BothSo number a b old
+  vars_so : (xs ys : List Var) (old new : SlotLists) → AllFit number (numbers_of xs)
+      → AllByRecursion (λ r. r ≤ length a) (references_of xs) → BothSo number a b old
       → with_vars gap a b xs ys old ≡ Some new
       → BothSo number a b new
-  vars_so [] [] old new fit so made = subst (BothSo number a b) (same_some old new made) so
-  vars_so [] (y ∷ ys) old new fit so made = absurd cc
-  vars_so (x ∷ xs) [] old new fit so made = absurd cc
-  vars_so (vars.Number e ∷ xs) (vars.Number f ∷ ys) old new fit so made =
+  vars_so [] [] old new fit there so made = subst (BothSo number a b) (same_some old new made) so
+  vars_so [] (y ∷ ys) old new fit there so made = absurd cc
+  vars_so (x ∷ xs) [] old new fit there so made = absurd cc
+  vars_so (vars.Number e ∷ xs) (vars.Number f ∷ ys) old new fit there so made =
       var_step xs ys new (with_var gap a b (vars.Number e) (vars.Number f) old)
-      (λ next have is. vars_so xs ys next new fit.1 have is)
+      (λ next have is. vars_so xs ys next new fit.1 there have is)
       (λ slots is. number_var old slots e f (with_number gap e f old.symbols) fit.0 so refl is) made
-  vars_so (vars.Reference r ∷ xs) (vars.Reference q ∷ ys) old new fit so made =
+  vars_so (vars.Reference r ∷ xs) (vars.Reference q ∷ ys) old new fit there so made =
       var_step xs ys new (with_var gap a b (vars.Reference r) (vars.Reference q) old)
-      (λ next have is. vars_so xs ys next new fit have is)
-      (λ slots is. reference_var old slots r q (with_reference a b r q old.references) so refl is) made
-  vars_so (vars.Text ∷ xs) (vars.Text ∷ ys) old new fit so made = vars_so xs ys old new fit so made
-  vars_so (vars.Number e ∷ xs) (vars.Reference q ∷ ys) old new fit so made = absurd cc
-  vars_so (vars.Number e ∷ xs) (vars.Text ∷ ys) old new fit so made = absurd cc
-  vars_so (vars.Reference r ∷ xs) (vars.Number f ∷ ys) old new fit so made = absurd cc
-  vars_so (vars.Reference r ∷ xs) (vars.Text ∷ ys) old new fit so made = absurd cc
-  vars_so (vars.Text ∷ xs) (vars.Number f ∷ ys) old new fit so made = absurd cc
-  vars_so (vars.Text ∷ xs) (vars.Reference q ∷ ys) old new fit so made = absurd cc
+      (λ next have is. vars_so xs ys next new fit there.1 have is)
+      (λ slots is. reference_var old slots r q (with_reference a b r q old.references) there.0 so refl is)
+      made
+  vars_so (vars.Text ∷ xs) (vars.Text ∷ ys) old new fit there so made = vars_so xs ys old new fit there so made
+  vars_so (vars.Number e ∷ xs) (vars.Reference q ∷ ys) old new fit there so made = absurd cc
+  vars_so (vars.Number e ∷ xs) (vars.Text ∷ ys) old new fit there so made = absurd cc
+  vars_so (vars.Reference r ∷ xs) (vars.Number f ∷ ys) old new fit there so made = absurd cc
+  vars_so (vars.Reference r ∷ xs) (vars.Text ∷ ys) old new fit there so made = absurd cc
+  vars_so (vars.Text ∷ xs) (vars.Number f ∷ ys) old new fit there so made = absurd cc
+  vars_so (vars.Text ∷ xs) (vars.Reference q ∷ ys) old new fit there so made = absurd cc
 
-  length_so : (known : Reference Unknown) (slot : Option ℕ) (symbols new : Symbols)
+  length_so : (known : Reference) (slot : Option ℕ) (symbols new : Symbols)
       → ((r : ℕ) → FitsSigned w32 (worth number (length_at a r)))
       → SymbolsSo number symbols → with_length gap a known slot symbols ≡ Some new → SymbolsSo number new
   length_so known None symbols new fit so made = absurd cc
   length_so known (Some r) symbols new fit so made =
       number_so gap number (length_at a r) known.length symbols new keep (fit r) so made
 
-  lengths_step : (rest : List (Reference Unknown)) (slots : References) (new : Symbols) (next : Option Symbols)
+  lengths_step : (rest : List Reference) (slots : References) (new : Symbols) (next : Option Symbols)
       → ((symbols : Symbols) → SymbolsSo number symbols → with_lengths gap a rest slots symbols ≡ Some new
       → SymbolsSo number new)
       → ((symbols : Symbols) → next ≡ Some symbols → SymbolsSo number symbols)
@@ -248,7 +257,7 @@ module _ (gap : Gaps) (number : ℕ → ℤ) (a b : List (Reference Unknown)) (k
   lengths_step rest slots new None later so made = absurd cc
   lengths_step rest slots new (Some next) later so made = later next (so next refl) made
 
-  lengths_so : (rest : List (Reference Unknown)) (slots : References) (symbols new : Symbols)
+  lengths_so : (rest : List Reference) (slots : References) (symbols new : Symbols)
       → ((r : ℕ) → FitsSigned w32 (worth number (length_at a r)))
       → SymbolsSo number symbols → with_lengths gap a rest slots symbols ≡ Some new → SymbolsSo number new
   lengths_so [] slots symbols new fit so made = subst (SymbolsSo number) (same_some symbols new made) so
@@ -260,7 +269,7 @@ module _ (gap : Gaps) (number : ℕ → ℤ) (a b : List (Reference Unknown)) (k
 -- ---- the whole
 
 -- What the symbols and references of a state are bound to.
-pub record BindingSo (number : ℕ → ℤ) (a b : List (Reference Unknown)) (binding : FrameBinding) : Type 0 where
+pub record BindingSo (number : ℕ → ℤ) (a b : List Reference) (binding : FrameBinding) : Type 0 where
   pub origin_is : get_or binding.symbols 0 zero_bound ≡ zero_bound
   pub fit : (s : ℕ) (x : Bound) → slice_get binding.symbols s ≡ Some x → FitsSigned w32 (worth number x.value)
   pub null : get_or binding.references 0 0 ≡ 0
@@ -280,7 +289,7 @@ free_symbols_so number count references start = record { origin_is = refl; fit =
         (same_some zero_bound x (same_some (Some zero_bound) (Some x) there)) (origin_fits number start)
     all (suc s) x there = free_so (λ n (y : Bound). FitsSigned w32 (worth number y.value)) count s x there
 
-free_references_so : (a b : List (Reference Unknown)) (count references : ℕ)
+free_references_so : (a b : List Reference) (count references : ℕ)
     → SlotsSo (IsBoundWell a b) (free_slots count references).references
 free_references_so a b count references zero r there = sym (same_some 0 r (same_some (Some 0) (Some r) there))
 free_references_so a b count references (suc q) r there = free_so (λ n. IsBoundWell a b (suc n)) references q r there
@@ -300,7 +309,7 @@ both_are symbols references (Some s) (Some r) binding first second is =
     subst (AreFilled symbols references) (same_some (record { symbols = s; references = r }) binding is)
     (record { symbols_are = first; references_are = second })
 
-filled_so : (number : ℕ → ℤ) (a b : List (Reference Unknown)) (symbols : Symbols) (references : References)
+filled_so : (number : ℕ → ℤ) (a b : List Reference) (symbols : Symbols) (references : References)
     (binding : FrameBinding) → SymbolsSo number symbols
     → SlotsSo (IsBoundWell a b) references → slice_get references 0 ≡ Some (Some 0)
     → AreFilled symbols references binding → BindingSo number a b binding
@@ -324,11 +333,12 @@ filled_so number a b symbols references binding so well zero_there are = record 
             ∙ same_some y x (same_some (Some y) (Some x) there)
 
 -- What a state's frame is bound to, where values and lengths of the other are worth int32.
-pub binding_so : (gap : Gaps) (number : ℕ → ℤ) (a_vars b_vars : List Var) (a b : List (Reference Unknown))
+pub binding_so : (gap : Gaps) (number : ℕ → ℤ) (a_vars b_vars : List Var) (a b : List Reference)
     (count : ℕ) (binding : FrameBinding) → KeepGaps gap number
-    → number 0 ≡ pos 0 → AllFit number (numbers_of a_vars) → ((r : ℕ) → FitsSigned w32 (worth number (length_at a r)))
+    → number 0 ≡ pos 0 → AllFit number (numbers_of a_vars) → AllByRecursion (λ r. r ≤ length a) (references_of a_vars)
+    → ((r : ℕ) → FitsSigned w32 (worth number (length_at a r)))
     → bound_frames gap a_vars a b_vars b count ≡ Some binding → BindingSo number a b binding
-binding_so gap number a_vars b_vars a b count binding keep start fit lengths is =
+binding_so gap number a_vars b_vars a b count binding keep start fit there lengths is =
     by (with_vars gap a b a_vars b_vars (free_slots count (length b))) refl is
   where
     at_end : (slots : SlotLists) (symbols : Option Symbols) → BothSo number a b slots
@@ -347,7 +357,7 @@ binding_so gap number a_vars b_vars a b count binding keep start fit lengths is 
     by None at made = absurd cc
     by (Some slots) at made =
         at_end slots (with_lengths gap a b (drop 1 slots.references) slots.symbols)
-        (vars_so gap number a b keep a_vars b_vars (free_slots count (length b)) slots fit
+        (vars_so gap number a b keep a_vars b_vars (free_slots count (length b)) slots fit there
         (record {
           symbols = free_symbols_so number count (length b) start;
           references = free_references_so a b count

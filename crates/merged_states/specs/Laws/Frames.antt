@@ -28,7 +28,6 @@ use Rattle.merged_states.specs.Alike.{AreLike}
 use Rattle.merged_states.specs.Following.{AreNoneBeyond, IsMachineNumber}
 use Rattle.state_facts.specs.StateFacts as states
 use Rattle.state_facts.specs.StateFacts.{StateFacts}
-use Rattle.state_facts.specs.declared.reference.Unknown.{Unknown}
 use Rattle.merged_states.specs.Laws.Uses.{AllFit}
 
 -- ---- variables
@@ -114,7 +113,7 @@ one_back : (r : ℕ) → r ≡ suc r - 1
 one_back r = omega arith
 
 -- Both tables of references are read alike.
-pub same_entry : (references : List (Reference Unknown)) (r : ℕ)
+pub same_entry : (references : List Reference) (r : ℕ)
     → states.reference_at references r ≡ frames.reference_at references r
 unfolding states.reference_at
 same_entry references zero = refl
@@ -138,7 +137,7 @@ length_fits heap None arrays = none_fits
 length_fits heap (Some i) arrays = few_fits (holds.length_in heap i) (few_items heap i arrays)
 
 -- What is so of a reference: of one that is not there, that it is null.
-pub record IsEntry (heap : Heap) (number : ℕ → ℤ) (references : List (Reference Unknown)) (r : ℕ)
+pub record IsEntry (heap : Heap) (number : ℕ → ℤ) (references : List Reference) (r : ℕ)
     (array : Option ℕ) : Type 0 where
   pub length_is : worth number (length_at references r) ≡ length_of_array heap array
   pub agrees : Agrees (nullness_at references r) (is_no_array array)
@@ -151,7 +150,7 @@ no_length n is = omega (arith, ints, is)
 some_place : (a b : Place) → Some a ≡ Some b → a ≡ b
 some_place a b same = cc
 
-no_entry : (heap : Heap) (number : ℕ → ℤ) (references : List (Reference Unknown)) (r : ℕ) (array : Option ℕ)
+no_entry : (heap : Heap) (number : ℕ → ℤ) (references : List Reference) (r : ℕ) (array : Option ℕ)
     → number 0 ≡ pos 0 → array ≡ None
     → frames.reference_at references r ≡ None → IsEntry heap number references r array
 no_entry heap number references r array start none at = record {
@@ -165,8 +164,8 @@ no_entry heap number references r array start none at = record {
     none_is : (place : Place) → None ≡ Some place → ⊥
     none_is place is = cc
 
-an_entry : (heap : Heap) (number : ℕ → ℤ) (references : List (Reference Unknown)) (r : ℕ) (array : Option ℕ)
-    (known : Reference Unknown)
+an_entry : (heap : Heap) (number : ℕ → ℤ) (references : List Reference) (r : ℕ) (array : Option ℕ)
+    (known : Reference)
     → IsSo heap number known array → frames.reference_at references r ≡ Some known
     → IsEntry heap number references r array
 an_entry heap number references r array known so at = record {
@@ -186,13 +185,13 @@ pub entries_so : (heap : Heap) (known : StateFacts) (number : ℕ → ℤ) (arra
     → AreNoneBeyond known array → IsEntry heap number known.references r (array r)
 entries_so heap known number array r start so beyond = by (frames.reference_at known.references r) refl
   where
-    by : (entry : Option (Reference Unknown)) → frames.reference_at known.references r ≡ entry
+    by : (entry : Option Reference) → frames.reference_at known.references r ≡ entry
         → IsEntry heap number known.references r (array r)
     by None at = no_entry heap number known.references r (array r) start (beyond r at) at
     by (Some one) at =
         an_entry heap number known.references r (array r) one (so r one (same_entry known.references r ∙ at)) at
 
-pub key_lengths_fit : (is_first : Bool) (references : List (Reference Unknown)) (number : ℕ → ℤ) (us : List Key)
+pub key_lengths_fit : (is_first : Bool) (references : List Reference) (number : ℕ → ℤ) (us : List Key)
     → ((r : ℕ) → FitsSigned w32 (worth number (length_at references r)))
     → AllFit number (map (λ u. length_at references (old_of is_first u)) us)
 key_lengths_fit is_first references number [] fit = tt

@@ -1,5 +1,5 @@
 -- What is included holds: where a state holds, so does one that it is included in.
-use Rattle.std.proofs.Common.{◌≡◌, ℕ, zero, suc, ◌==◌, ℤ, pos, ◌+ℤ◌, ◌-ℤ◌, Bool, true, false, ◌&&◌, ◌||◌, List, [], ◌∷◌, drop, length, map, slice_get, get_or, Option, Some, None, FitsSigned, w32, refl, sym, ap, ◌∙◌, subst, arith}
+use Rattle.std.proofs.Common.{◌≡◌, ℕ, zero, suc, ◌==◌, ◌≤◌, ℤ, pos, ◌+ℤ◌, ◌-ℤ◌, Bool, true, false, ◌&&◌, ◌||◌, List, [], ◌∷◌, drop, length, map, slice_get, get_or, Option, Some, None, FitsSigned, w32, refl, sym, ap, ◌∙◌, subst, arith}
 use Rattle.std.specs.Prelude.{if◌then◌else◌, option_map}
 use Rattle.std.specs.List.{AllByRecursion, list_all}
 use Rattle.std.specs.Ordering.{int_eq}
@@ -14,6 +14,9 @@ use Rattle.alias_facts.specs.declared.nullness.Nullness.{Nullness}
 use Rattle.alias_facts.specs.declared.nullness.Nullness.TheVariants.{May, NotNull, Null}
 use Rattle.alias_facts.specs.PairsOf.{Pair}
 use Rattle.alias_facts.proofs.NullnessLaws.{entailed_agrees}
+use Rattle.array_contents.specs.Contents.{AreHeld}
+use Rattle.array_contents.proofs.FormLaws.{formed_each}
+use Rattle.array_contents.proofs.MergeLaws.{included_held}
 use Rattle.cil_model.specs.Places.{place_number}
 use Rattle.cil_model.specs.Values.{Heap}
 use Rattle.cil_model.specs.declared.machine.Value.{Value}
@@ -39,15 +42,17 @@ use Rattle.symbolic_values.specs.declared.def.Def.{Def}
 use Rattle.symbolic_values.specs.declared.def.Def.TheVariants.{Eq, Lt, LtUn, NullTest, Sub}
 use Rattle.symbolic_values.proofs.MeaningLaws.{fitting_is, renamed_told}
 use Rattle.state_facts.specs.Assuming.{definition_at}
-use Rattle.state_facts.specs.Holds.{FitsArray, HoldsBy, IsSo, length_of_array}
-use Rattle.merged_states.specs.Inclusion.{all_follows, bound_expr, bound_references, def_bound, def_follows, definitions_follow, numbers_follow, reference_bound, same_def, same_defs, same_expr, symbol_names}
+use Rattle.state_facts.specs.Forms.{HasForm, lengths_of}
+use Rattle.state_facts.specs.Holds.{FitsArray, HoldsBy, IsSo, items_of_array, length_of_array}
+use Rattle.merged_states.specs.Inclusion.{all_follows, bound_expr, bound_references, def_bound, def_follows, definitions_follow, items_follow, numbers_follow, reference_bound, same_def, same_defs, same_expr, symbol_names}
 use Rattle.merged_states.specs.Parts.{numbers_known}
 use Rattle.state_facts.specs.StateFacts as states
 use Rattle.state_facts.specs.StateFacts.{StateFacts}
-use Rattle.state_facts.specs.declared.reference.Unknown.{Unknown}
 use Rattle.merged_states.specs.Laws.BoundHolds.{BindingSo, binding_so}
 use Rattle.merged_states.specs.Laws.Definitions.{definition_so}
 use Rattle.merged_states.specs.Laws.Frames.{IsEntry, have_same, same_entry}
+use Rattle.merged_states.specs.Laws.Items.{items_long}
+use Rattle.merged_states.specs.Laws.Lengths.{contents_count, references_there}
 use Rattle.merged_states.specs.Laws.MergedHolds.{SideSo, new_allowed}
 use Rattle.merged_states.specs.Laws.References.{cannot_differ, fits_as, none_fits}
 
@@ -78,7 +83,7 @@ behind_first number [] s start = no_worth (number 0) start
 behind_first number (x ∷ xs) s start = later_same number xs s start
 
 -- Both ways to read a binding give the same numbers.
-same_numbers : (number : ℕ → ℤ) (a b : List (Reference Unknown)) (binding : FrameBinding) → number 0 ≡ pos 0
+same_numbers : (number : ℕ → ℤ) (a b : List Reference) (binding : FrameBinding) → number 0 ≡ pos 0
     → BindingSo number a b binding
     → behind_binding (drop 1 binding.symbols) number ≡ numbers_bound number binding
 same_numbers number a b binding start so = (λ i s. at s i)
@@ -211,7 +216,7 @@ null_known May array agrees is = absurd cc
 null_known NotNull array agrees is = absurd cc
 
 -- A reference that fits has the other's type, where it is an array.
-fitting_array : (heap : Heap) (number : ℕ → ℤ) (references : List (Reference Unknown)) (r : ℕ) (array : Option ℕ)
+fitting_array : (heap : Heap) (number : ℕ → ℤ) (references : List Reference) (r : ℕ) (array : Option ℕ)
     (p : Option Place) (t : Place)
     → place_at references r ≡ p → IsEntry heap number references r array
     → (is_null (nullness_at references r) || are_one_place p (Some t)) ≡ true → FitsArray heap t array
@@ -226,7 +231,7 @@ fitting_array heap number references r array p t at entry is = by (is_null (null
         fits_as heap t q array (sym ((Decides-eqb (place_number q) (place_number t)).0 fit)) (entry.fits q place)
 
 -- What is known of a reference is so of what it is bound to, from one place on.
-record IsFollowed (heap : Heap) (later : ℕ → ℤ) (known : Reference Unknown) (array : Option ℕ) : Type 0 where
+record IsFollowed (heap : Heap) (later : ℕ → ℤ) (known : Reference) (array : Option ℕ) : Type 0 where
   agrees : Agrees known.nullness (is_no_array array)
   length_is : worth later known.length ≡ length_of_array heap array
 
@@ -234,9 +239,9 @@ bound_at : (bound : List ℕ) (i : ℕ) → get_or (drop 1 bound) i 0 ≡ get_or
 bound_at [] i = refl
 bound_at (r ∷ bound) i = refl
 
-followed : (heap : Heap) (number : ℕ → ℤ) (array : ℕ → Option ℕ) (a b : List (Reference Unknown))
+followed : (heap : Heap) (number : ℕ → ℤ) (array : ℕ → Option ℕ) (a b : List Reference)
     (binding : FrameBinding) (bound : List ℕ) (i : ℕ)
-    (known : Reference Unknown) → ((r : ℕ) → IsEntry heap number a r (array r)) → all_entailed a b bound ≡ true
+    (known : Reference) → ((r : ℕ) → IsEntry heap number a r (array r)) → all_entailed a b bound ≡ true
     → AreLengthsBound number binding a b bound
     → slice_get b i ≡ Some known → IsFollowed heap (numbers_bound number binding) known (array (get_or bound i 0))
 followed heap number array a [] binding bound i known entries entail lengths at = absurd cc
@@ -256,7 +261,7 @@ followed heap number array a (first ∷ b) binding bound (suc i) known entries e
     (and_parts (entailed (nullness_at a (get_or bound 0 0)) first.nullness)
     (all_entailed a b (drop 1 bound)) entail).1 lengths.1 at)
 
-apart_kept : (heap : Heap) (number : ℕ → ℤ) (array : ℕ → Option ℕ) (a : List (Reference Unknown)) (kept : List Pair)
+apart_kept : (heap : Heap) (number : ℕ → ℤ) (array : ℕ → Option ℕ) (a : List Reference) (kept : List Pair)
     (bound : List ℕ) (pairs : List Pair)
     → ((r : ℕ) → IsEntry heap number a r (array r)) → AllDiffer array kept → all_apart a kept bound pairs ≡ true
     → AllDiffer (λ r. array (get_or bound r 0)) pairs
@@ -278,8 +283,8 @@ get_or_none [] i is = refl
 get_or_none (x ∷ xs) zero is = absurd cc
 get_or_none (x ∷ xs) (suc i) is = get_or_none xs i is
 
-bound_fits : (heap : Heap) (number : ℕ → ℤ) (array : ℕ → Option ℕ) (a b : List (Reference Unknown))
-    (binding : FrameBinding) (i : ℕ) (known : Reference Unknown)
+bound_fits : (heap : Heap) (number : ℕ → ℤ) (array : ℕ → Option ℕ) (a b : List Reference)
+    (binding : FrameBinding) (i : ℕ) (known : Reference)
     → array 0 ≡ None → ((r : ℕ) → IsEntry heap number a r (array r)) → BindingSo number a b binding
     → place_at b (suc i) ≡ Some known.place
     → FitsArray heap known.place (array (get_or binding.references (suc i) 0))
@@ -294,23 +299,51 @@ bound_fits heap number array a b binding i known none entries so place = by (sli
         subst (λ n. FitsArray heap known.place (array n))
         (sym (get_or_from_slice_get binding.references (suc i) r 0 at))
         (fitting_array heap number a r (array r) (place_at a r) known.place refl (entries r)
-        (ap (λ q. is_null (nullness_at a r) || are_one_place (place_at a r) q) (sym place) ∙ so.well (suc i) r at))
+        (ap (λ q. is_null (nullness_at a r) || are_one_place (place_at a r) q) (sym place)
+        ∙ (so.well (suc i) r at).fit))
+
+-- What a reference is bound to is there.
+bound_there : (number : ℕ → ℤ) (a b : List Reference) (binding : FrameBinding) (i : ℕ)
+    → BindingSo number a b binding → get_or binding.references (suc i) 0 ≤ length a
+bound_there number a b binding i so = by (slice_get binding.references (suc i)) refl
+  where
+    by : (slot : Option ℕ) → slice_get binding.references (suc i) ≡ slot
+        → get_or binding.references (suc i) 0 ≤ length a
+    by None at = let none = get_or_none binding.references (suc i) at in omega (arith, none)
+    by (Some r) at =
+        subst (λ n. n ≤ length a) (sym (get_or_from_slice_get binding.references (suc i) r 0 at))
+        (so.well (suc i) r at).there
+
+-- ---- items
+
+-- The reference of a length.
+record IsLengthOf (references : List Reference) (i : ℕ) (e : Expr) : Type 0 where
+  known : Reference
+  at : slice_get references i ≡ Some known
+  is : known.length ≡ e
+
+length_of_slot : (references : List Reference) (i : ℕ) (e : Expr) → slice_get (lengths_of references) i ≡ Some e
+    → IsLengthOf references i e
+length_of_slot [] i e is = absurd cc
+length_of_slot (known ∷ references) zero e is = record { known = known; at = refl; is = same_some known.length e is }
+length_of_slot (known ∷ references) (suc i) e is =
+    let rest = length_of_slot references i e is in record { known = rest.known; at = rest.at; is = rest.is }
 
 -- Where a state holds, so does one that is bound to it and of which all follows, by the choice behind the binding.
 pub included_holds : (a b : StateFacts) (vs : List Value) (heap : Heap) (number : ℕ → ℤ) (array : ℕ → Option ℕ)
-    (binding : FrameBinding) → AllowsNumbers a.facts number
+    (binding : FrameBinding) → HasForm a → HasForm b → AllowsNumbers a.facts number
     → SideSo true a a vs heap number array
     → bound_frames (gap a.facts) a.variables a.references b.variables b.references (length b.facts.ranges)
     ≡ Some binding
     → all_follows a b binding ≡ true → HoldsBy b vs heap (numbers_bound number binding) (arrays_bound array binding)
 unfolding states.reference_at
-included_holds a b vs heap number array binding allowed so is follows = record {
+included_holds a b vs heap number array binding form other allowed so is follows = record {
   null = ap array bound.null ∙ so.null;
   facts = record {
     allowed =
         new_allowed b.facts (record { ranges = b.facts.ranges; bounds = b.facts.bounds })
         (numbers_bound number binding) refl refl
-        (ap (bound_worth number) bound.origin_is ∙ zero_less (number 0) so.origin_is)
+        zero_is
         (subst (numbers.IsSo (record { ranges = b.facts.ranges; bounds = b.facts.bounds }))
         (same_numbers number a.references b.references binding so.origin_is bound)
         (included_so (numbers_known a.facts) (drop 1 binding.symbols) b.facts.ranges b.facts.bounds _ refl number
@@ -323,7 +356,8 @@ included_holds a b vs heap number array binding allowed so is follows = record {
       (frames_say_same (gap a.facts) a.variables b.variables a.references b.references (length b.facts.ranges)
       (Some binding) (sym is) number array keep nulls) so.have;
   references = λ r known at. by r known at;
-  apart = apart_kept heap number array a.references a.apart binding.references b.apart so.entries so.differ third.1;
+  apart = apart_kept heap number array a.references a.apart binding.references b.apart so.entries so.differ fourth.0;
+  contents = items_so;
 }
   where
     keep : KeepGaps (gap a.facts) number
@@ -335,26 +369,35 @@ included_holds a b vs heap number array binding allowed so is follows = record {
     bound : BindingSo number a.references b.references binding
     bound =
         binding_so (gap a.facts) number a.variables b.variables a.references b.references (length b.facts.ranges)
-        binding keep so.origin_is so.fit so.lengths is
+        binding keep so.origin_is so.fit
+        (references_there (length a.facts.ranges) (length a.references) a.variables form.variables) so.lengths is
+
+    zero_is : numbers_bound number binding 0 ≡ pos 0
+    zero_is = ap (bound_worth number) bound.origin_is ∙ zero_less (number 0) so.origin_is
 
     first : (all_entailed a.references b.references (drop 1 binding.references) ≡ true)
-        × ((numbers_follow a b binding &&
-        (definitions_follow a b binding && all_apart a.references a.apart binding.references b.apart)) ≡ true)
+        × ((numbers_follow a b binding && (definitions_follow a b binding
+        && (all_apart a.references a.apart binding.references b.apart && items_follow a b binding))) ≡ true)
     first = and_parts (all_entailed a.references b.references (drop 1 binding.references)) _ follows
 
     second : (numbers_follow a b binding ≡ true)
-        × ((definitions_follow a b binding && all_apart a.references a.apart binding.references b.apart) ≡ true)
+        × ((definitions_follow a b binding
+        && (all_apart a.references a.apart binding.references b.apart && items_follow a b binding)) ≡ true)
     second = and_parts (numbers_follow a b binding) _ first.1
 
-    third : (definitions_follow a b binding ≡ true) × (all_apart a.references a.apart binding.references b.apart ≡ true)
+    third : (definitions_follow a b binding ≡ true)
+        × ((all_apart a.references a.apart binding.references b.apart && items_follow a b binding) ≡ true)
     third = and_parts (definitions_follow a b binding) _ second.1
+
+    fourth : (all_apart a.references a.apart binding.references b.apart ≡ true) × (items_follow a b binding ≡ true)
+    fourth = and_parts (all_apart a.references a.apart binding.references b.apart) _ third.1
 
     lengths_bound : AreLengthsBound number binding a.references b.references (drop 1 binding.references)
     lengths_bound =
         frames_have_same_lengths (gap a.facts) a.variables b.variables a.references b.references
         (length b.facts.ranges) (Some binding) (sym is) number keep
 
-    by : (r : ℕ) (known : Reference Unknown) → states.reference_at b.references r ≡ Some known
+    by : (r : ℕ) (known : Reference) → states.reference_at b.references r ≡ Some known
         → IsSo heap (numbers_bound number binding) known (arrays_bound array binding r)
     by zero known at = absurd cc
     by (suc i) known at =
@@ -368,3 +411,25 @@ included_holds a b vs heap number array binding allowed so is follows = record {
               subst (λ r. Agrees known.nullness (is_no_array (array r))) (bound_at binding.references i) here.agrees;
           length_is = here.length_is ∙ ap (λ r. length_of_array heap (array r)) (bound_at binding.references i);
         }
+
+    new_length : (i : ℕ) (e : Expr) → slice_get (lengths_of b.references) i ≡ Some e
+        → worth (numbers_bound number binding) e
+        ≡ pos (length (items_of_array heap (arrays_bound array binding (suc i))))
+    new_length i e is =
+        let slot = length_of_slot b.references i e is in
+        ap (worth (numbers_bound number binding)) (sym slot.is) ∙ (by (suc i) slot.known slot.at).length_is
+        ∙ items_long heap (arrays_bound array binding (suc i))
+
+    items_so : AreHeld (numbers_bound number binding) (λ r. items_of_array heap (arrays_bound array binding r))
+        b.contents
+    items_so =
+        included_held (gap a.facts) (symbol_names binding) a.contents b.contents (drop 1 binding.references)
+        (length b.facts.ranges) (lengths_of b.references) number (numbers_bound number binding)
+        (λ r. items_of_array heap (array r)) (λ r. items_of_array heap (arrays_bound array binding r))
+        (formed_each (length a.facts.ranges) (lengths_of a.references) a.contents form.contents) other.contents keep
+        (λ s name at. sym (names_at number binding.symbols s name at)) so.origin_is zero_is
+        (ap (items_of_array heap) so.null)
+        (λ i inside. subst (λ r. r ≤ length a.contents) (sym (bound_at binding.references i))
+        (subst (λ n. get_or binding.references (suc i) 0 ≤ n) (contents_count a form)
+        (bound_there number a.references b.references binding i bound)))
+        (λ i. ap (λ r. items_of_array heap (array r)) (sym (bound_at binding.references i))) new_length so.held fourth.1

@@ -1,5 +1,5 @@
 -- Where a state holds, what it is in new names holds too: the two states that are made one, and the normal form.
-use Rattle.std.proofs.Common.{◌≡◌, ℕ, zero, suc, ◌+◌, ◌≤◌, ℤ, pos, Bool, true, false, List, [], ◌∷◌, length, map, get_or, Option, Some, None, FitsSigned, w32, refl, sym, ap, ◌∙◌, subst, arith}
+use Rattle.std.proofs.Common.{◌≡◌, ℕ, zero, suc, ◌+◌, ◌≤◌, ℤ, pos, Bool, true, false, List, [], ◌∷◌, length, map, get_or, slice_get, Option, Some, None, FitsSigned, w32, refl, sym, ap, ◌∙◌, subst, arith}
 use Rattle.std.specs.Prelude.{if◌then◌else◌}
 use Rattle.std.specs.List.{AllByRecursion, list_all}
 use Rattle.std.proofs.lemmas.Bool.Decides.{Decides-eqb}
@@ -7,8 +7,9 @@ use Rattle.std.proofs.lemmas.Int.{ints}
 use Rattle.domain_api.specs.declared.expr.Expr.{Expr}
 use Rattle.alias_facts.specs.Arrays.{AllDiffer, is_no_array}
 use Rattle.alias_facts.specs.PairsOf.{Pair}
+use Rattle.array_contents.specs.Contents.{AreHeld, Contents}
 use Rattle.cil_model.specs.Places.{place_number}
-use Rattle.cil_model.specs.Values.{Heap}
+use Rattle.cil_model.specs.Values.{Heap, IsHeap}
 use Rattle.cil_model.specs.declared.machine.Value.{Value}
 use Rattle.cil_model.specs.declared.place.Place.{Place}
 use Rattle.frame_names.specs.Frames.{AreAlike, length_at, numbers_of, place_in, references_of}
@@ -36,16 +37,16 @@ use Rattle.symbolic_values.specs.Worth.{behind_uses, worth, worth_of_use}
 use Rattle.symbolic_values.specs.declared.def.Def.{Def}
 use Rattle.symbolic_values.specs.declared.pairs.Key.{Key}
 use Rattle.symbolic_values.proofs.WorthLaws.{zero_behind}
-use Rattle.state_facts.specs.Holds.{AreSo, HaveValues, HoldsBy}
+use Rattle.state_facts.specs.Holds.{AreSo, HaveValues, HoldsBy, items_of_array, length_of_array}
 use Rattle.merged_states.specs.Merging.{known_as}
 use Rattle.merged_states.specs.Alike.{AreLike}
 use Rattle.merged_states.specs.Following.{AreNoneBeyond, AreOfMachine}
-use Rattle.merged_states.specs.Parts.{numbers_known, unknown_items}
+use Rattle.merged_states.specs.Parts.{are_numbered, entry_of, if_numbered, numbers_known, unknown_array}
 use Rattle.state_facts.specs.StateFacts as states
 use Rattle.state_facts.specs.StateFacts.{StateFacts, State}
-use Rattle.state_facts.specs.declared.reference.Unknown.{Unknown}
 use Rattle.merged_states.specs.Laws.Definitions.{definitions_so}
 use Rattle.merged_states.specs.Laws.Frames.{IsEntry, alike_of, both_fit, entries_so, have_same, key_lengths_fit, length_fits, same_entry, vars_fit}
+use Rattle.merged_states.specs.Laws.Items.{each_worth, items_full, items_long, unknown_held}
 use Rattle.merged_states.specs.Laws.Numbers.{numbers_allowed, zero_is}
 use Rattle.merged_states.specs.Laws.References.{HaveOnePlace, OldEntry, all_so, are_so}
 use Rattle.merged_states.specs.Laws.Uses.{AllFit, all_keys, exprs_near, keys_fit}
@@ -55,7 +56,7 @@ use Rattle.merged_states.specs.Laws.Uses.{AllFit, all_keys, exprs_near, keys_fit
 some_place : (p q : Place) → Some p ≡ Some q → p ≡ q
 some_place p q same = cc
 
-places_of : (x y : Option (Reference Unknown)) (p q : Place) → states.both_of_same_place x y ≡ true
+places_of : (x y : Option Reference) (p q : Place) → states.both_of_same_place x y ≡ true
     → place_in x ≡ Some p → place_in y ≡ Some q
     → place_number p ≡ place_number q
 places_of None y p q same first second = absurd cc
@@ -101,8 +102,8 @@ key_places a b like =
 
 -- ---- what a state that holds knows, as its parts
 
-pub record PartsSo (variables : List Var) (references : List (Reference Unknown)) (definitions : List (ℕ × Def))
-    (pairs : List Pair) (known : Known) (vs : List Value)
+pub record PartsSo (variables : List Var) (references : List Reference) (definitions : List (ℕ × Def))
+    (pairs : List Pair) (contents : Contents) (known : Known) (vs : List Value)
     (heap : Heap) (number : ℕ → ℤ) (array : ℕ → Option ℕ) : Type 0 where
   pub origin_is : number 0 ≡ pos 0
   pub null : array 0 ≡ None
@@ -113,12 +114,14 @@ pub record PartsSo (variables : List Var) (references : List (Reference Unknown)
   pub lengths : (r : ℕ) → FitsSigned w32 (worth number (length_at references r))
   pub entries : (r : ℕ) → IsEntry heap number references r (array r)
   pub differ : AllDiffer array pairs
+  pub held : AreHeld number (λ r. items_of_array heap (array r)) contents
+  pub arrays : IsHeap heap
 
 pub parts_so : (known : StateFacts) (vs : List Value) (heap : Heap) (number : ℕ → ℤ) (array : ℕ → Option ℕ)
     → HoldsBy known vs heap number array
     → AreNoneBeyond known array → AreOfMachine vs heap
-    → PartsSo known.variables known.references known.facts.definitions known.apart (numbers_known known.facts) vs
-    heap number array
+    → PartsSo known.variables known.references known.facts.definitions known.apart known.contents
+    (numbers_known known.facts) vs heap number array
 parts_so known vs heap number array so beyond machine =
     let start : number 0 ≡ pos 0 = zero_is known.facts number so.facts.allowed in
     record {
@@ -134,6 +137,8 @@ parts_so known vs heap number array so beyond machine =
           (length_fits heap (array r) machine.arrays);
       entries = λ r. entries_so heap known number array r start so.references beyond;
       differ = so.apart;
+      held = so.contents;
+      arrays = machine.arrays;
     }
 
 -- The parts of one of two states.
@@ -141,6 +146,7 @@ abbrev pub SideSo : Bool → StateFacts → StateFacts → List Value → Heap �
 SideSo is_first a b vs heap number array =
     PartsSo (if is_first then a.variables else b.variables) (if is_first then a.references else b.references)
     (if is_first then a.facts.definitions else b.facts.definitions) (if is_first then a.apart else b.apart)
+    (if is_first then a.contents else b.contents)
     (if is_first then numbers_known a.facts else numbers_known b.facts) vs heap number array
 
 -- ---- the frame
@@ -148,7 +154,7 @@ SideSo is_first a b vs heap number array =
 pub pairing : StateFacts → StateFacts → Pairing
 pairing a b = pairing_by (pairs_of a.variables b.variables) a.variables a.references b.variables b.references
 
-pub frame : StateFacts → StateFacts → FramePairing
+unfoldable pub frame : StateFacts → StateFacts → FramePairing
 frame a b =
     named_frame a.variables (pairs_of a.variables b.variables)
     (pairing_by (pairs_of a.variables b.variables) a.variables a.references b.variables b.references)
@@ -234,7 +240,7 @@ references_so : (is_first : Bool) (a b : StateFacts) (vs : List Value) (heap : H
     (array : ℕ → Option ℕ) → AreLike a b a.variables b.variables
     → SideSo is_first a b vs heap number array
     → AreSo heap (later_of is_first a b number) (arrays_of is_first a b array)
-    (map unknown_items (merged_references a.references b.references (frame a b).references.keys (frame a b).lengths))
+    (map entry_of (merged_references a.references b.references (frame a b).references.keys (frame a b).lengths))
 unfolding frame
 references_so is_first a b vs heap number array like so =
     are_so heap (later_of is_first a b number) array is_first (pairs_of a.variables b.variables).keys _
@@ -243,6 +249,40 @@ references_so is_first a b vs heap number array like so =
     (pairs_of a.variables b.variables).keys (frame a b).lengths (key_places a b like)
     (old_entries is_first a b vs heap number array (pairs_of a.variables b.variables).keys so)
     (lengths_worth is_first a b vs heap number array (alike_of a b a.variables b.variables like) so))
+
+-- ---- items
+
+new_lengths : (is_first : Bool) (a b : StateFacts) (vs : List Value) (heap : Heap) (number : ℕ → ℤ)
+    (array : ℕ → Option ℕ) → AreAlike a.variables b.variables
+    → SideSo is_first a b vs heap number array → (i : ℕ) (e : Expr) → slice_get (frame a b).lengths i ≡ Some e
+    → worth (later_of is_first a b number) e
+    ≡ pos (length (items_of_array heap (arrays_of is_first a b array (suc i))))
+new_lengths is_first a b vs heap number array alike so i e is =
+    let old : ℕ = old_of is_first (get_or (frame a b).references.keys i origin) in
+    each_worth (later_of is_first a b number)
+    (λ u. worth number (length_at (if is_first then a.references else b.references) (old_of is_first u)))
+    (frame a b).lengths (frame a b).references.keys (lengths_worth is_first a b vs heap number array alike so) i e is
+    ∙ (so.entries old).length_is ∙ items_long heap (array old)
+
+-- What is known of items, or no more than lengths where symbols have no numbers of 32 bits.
+items_so : (is_first : Bool) (a b : StateFacts) (vs : List Value) (heap : Heap) (number : ℕ → ℤ)
+    (array : ℕ → Option ℕ) (contents : Contents) → AreAlike a.variables b.variables
+    → SideSo is_first a b vs heap number array
+    → (are_numbered (frame a b) ≡ true → AreHeld (later_of is_first a b number)
+    (λ r. items_of_array heap (arrays_of is_first a b array r)) contents)
+    → AreHeld (later_of is_first a b number) (λ r. items_of_array heap (arrays_of is_first a b array r))
+    (if_numbered (frame a b) contents)
+items_so is_first a b vs heap number array contents alike so held = by (are_numbered (frame a b)) refl
+  where
+    by : (numbered : Bool) → are_numbered (frame a b) ≡ numbered
+        → AreHeld (later_of is_first a b number) (λ r. items_of_array heap (arrays_of is_first a b array r))
+        (if numbered then contents else map unknown_array (frame a b).lengths)
+    by true is = held is
+    by false is =
+        unknown_held (later_of is_first a b number) (λ r. items_of_array heap (arrays_of is_first a b array r))
+        (frame a b).lengths (zero_behind is_first number (frame a b).numbers.keys ∙ so.origin_is)
+        (new_lengths is_first a b vs heap number array alike so)
+        (λ r. items_full heap (arrays_of is_first a b array r) so.arrays)
 
 -- ---- the whole
 
@@ -286,15 +326,18 @@ names_later is_first a b number i = one_behind is_first number (frame a b).numbe
 -- What both states know in new names holds of what one of them holds of.
 pub new_holds : (is_first : Bool) (a b : StateFacts) (vs : List Value) (heap : Heap) (number : ℕ → ℤ)
     (array : ℕ → Option ℕ) (outcome : Outcome) (def : Key → Option Def)
-    (pairs : List Pair) → AreLike a b a.variables b.variables → SideSo is_first a b vs heap number array
+    (pairs : List Pair) (contents : Contents) → AreLike a b a.variables b.variables
+    → SideSo is_first a b vs heap number array
     → numbers.IsSo outcome (later_of is_first a b number)
     → ((u : Key) (d : Def) → def u ≡ Some d
     → worth_of_use is_first number u ≡ told is_below (later_of is_first a b number)
     (λ r. is_no_array (arrays_of is_first a b array r)) d)
     → AllDiffer (arrays_of is_first a b array) pairs
-    → HoldsBy (known_as a b (frame a b) outcome def pairs) vs heap (later_of is_first a b number)
+    → (are_numbered (frame a b) ≡ true → AreHeld (later_of is_first a b number)
+    (λ r. items_of_array heap (arrays_of is_first a b array r)) contents)
+    → HoldsBy (known_as a b (frame a b) outcome def pairs contents) vs heap (later_of is_first a b number)
     (arrays_of is_first a b array)
-new_holds is_first a b vs heap number array outcome def pairs like so numbers_so says differ = record {
+new_holds is_first a b vs heap number array outcome def pairs contents like so numbers_so says differ held = record {
   null = null_stays is_first a b array so.null;
   facts = record {
     allowed =
@@ -308,4 +351,6 @@ new_holds is_first a b vs heap number array outcome def pairs like so numbers_so
   variables = vars_have is_first a b vs heap number array (alike_of a b a.variables b.variables like) so;
   references = references_so is_first a b vs heap number array like so;
   apart = differ;
+  contents =
+      items_so is_first a b vs heap number array contents (alike_of a b a.variables b.variables like) so held;
 }

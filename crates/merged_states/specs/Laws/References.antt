@@ -24,15 +24,14 @@ use Rattle.symbolic_values.specs.Pairing.{origin}
 use Rattle.symbolic_values.specs.Worth.{worth}
 use Rattle.symbolic_values.specs.declared.pairs.Key.{Key}
 use Rattle.state_facts.specs.Holds.{AreSo, FitsArray, IsSo}
-use Rattle.merged_states.specs.Parts.{unknown_items}
+use Rattle.merged_states.specs.Parts.{entry_of}
 use Rattle.state_facts.specs.StateFacts as states
-use Rattle.state_facts.specs.declared.reference.Unknown.{Unknown}
 use Rattle.merged_states.specs.Laws.Frames.{IsEntry}
 
 -- ---- one new reference
 
 -- Where both old references have a type, it is one.
-abbrev pub HaveOnePlace : List (Reference Unknown) → List (Reference Unknown) → Key → Type 0
+abbrev pub HaveOnePlace : List Reference → List Reference → Key → Type 0
 HaveOnePlace a b u = (p q : Place) → place_at a u.s ≡ Some p → place_at b u.t ≡ Some q → place_number p ≡ place_number q
 
 has_as : (heap : Heap) (p q : Place) (i : ℕ) → place_number p ≡ place_number q → has_array heap p i ≡ has_array heap q i
@@ -49,11 +48,11 @@ none_fits heap p None is = tt
 none_fits heap p (Some i) is = absurd cc
 
 -- The old reference of a side, as the side's state has it.
-abbrev pub OldEntry : Heap → (ℕ → ℤ) → Bool → List (Reference Unknown) → List (Reference Unknown) → Key → Option ℕ
+abbrev pub OldEntry : Heap → (ℕ → ℤ) → Bool → List Reference → List Reference → Key → Option ℕ
     → Type 0
 OldEntry heap number is_first a b u array = IsEntry heap number (if is_first then a else b) (old_of is_first u) array
 
-new_fits : (heap : Heap) (number : ℕ → ℤ) (is_first : Bool) (a b : List (Reference Unknown)) (u : Key)
+new_fits : (heap : Heap) (number : ℕ → ℤ) (is_first : Bool) (a b : List Reference) (u : Key)
     (array : Option ℕ) (p q : Option Place)
     → place_at a u.s ≡ p → place_at b u.t ≡ q → HaveOnePlace a b u → OldEntry heap number is_first a b u array
     → FitsArray heap (one_place p q) array
@@ -68,7 +67,7 @@ new_fits heap number false a b u array None (Some q) first second same old = old
 new_fits heap number false a b u array None None first second same old =
     none_fits heap (one_place None None) array (old.absent second)
 
-new_agrees : (heap : Heap) (number : ℕ → ℤ) (is_first : Bool) (a b : List (Reference Unknown)) (u : Key)
+new_agrees : (heap : Heap) (number : ℕ → ℤ) (is_first : Bool) (a b : List Reference) (u : Key)
     (array : Option ℕ)
     → OldEntry heap number is_first a b u array
     → Agrees (joined (nullness_at a u.s) (nullness_at b u.t)) (is_no_array array)
@@ -77,11 +76,11 @@ new_agrees heap number true a b u array old =
 new_agrees heap number false a b u array old =
     joined_right (nullness_at a u.s) (nullness_at b u.t) (is_no_array array) old.agrees
 
-new_so : (heap : Heap) (number later : ℕ → ℤ) (is_first : Bool) (a b : List (Reference Unknown)) (u : Key)
+new_so : (heap : Heap) (number later : ℕ → ℤ) (is_first : Bool) (a b : List Reference) (u : Key)
     (length : Expr) (array : Option ℕ)
     → HaveOnePlace a b u → OldEntry heap number is_first a b u array
     → worth later length ≡ worth number (length_at (if is_first then a else b) (old_of is_first u))
-    → IsSo heap later (unknown_items (merged_reference a b u length)) array
+    → IsSo heap later (entry_of (merged_reference a b u length)) array
 new_so heap number later is_first a b u length array same old worths = record {
   fits = new_fits heap number is_first a b u array (place_at a u.s) (place_at b u.t) refl refl same old;
   agrees = new_agrees heap number is_first a b u array old;
@@ -91,7 +90,7 @@ new_so heap number later is_first a b u length array same old worths = record {
 -- ---- all of them
 
 -- What is known of each new reference is so of what its key stands for.
-abbrev pub AllSo : Heap → (ℕ → ℤ) → (Key → Option ℕ) → List Key → List (Reference Unknown) → Type 0
+abbrev pub AllSo : Heap → (ℕ → ℤ) → (Key → Option ℕ) → List Key → List Reference → Type 0
 AllSo heap number array (u ∷ us) (r ∷ rs) = IsSo heap number r (array u) × AllSo heap number array us rs
 AllSo heap number array [] [] = Unit {0}
 AllSo heap number array _ _ = ⊥
@@ -102,11 +101,11 @@ cons_head x y xs ys same = cc
 cons_tail : {X : Type 0} (x y : X) (xs ys : List X) → x ∷ xs ≡ y ∷ ys → xs ≡ ys
 cons_tail x y xs ys same = cc
 
-pub all_so : (heap : Heap) (number later : ℕ → ℤ) (is_first : Bool) (a b : List (Reference Unknown))
+pub all_so : (heap : Heap) (number later : ℕ → ℤ) (is_first : Bool) (a b : List Reference)
     (array : Key → Option ℕ) (us : List Key) (lengths : List Expr)
     → AllByRecursion (HaveOnePlace a b) us → AllByRecursion (λ u. OldEntry heap number is_first a b u (array u)) us
     → map (worth later) lengths ≡ map (λ u. worth number (length_at (if is_first then a else b) (old_of is_first u))) us
-    → AllSo heap later array us (map unknown_items (merged_references a b us lengths))
+    → AllSo heap later array us (map entry_of (merged_references a b us lengths))
 all_so heap number later is_first a b array [] lengths same old worths = tt
 all_so heap number later is_first a b array (u ∷ us) [] same old worths = absurd cc
 all_so heap number later is_first a b array (u ∷ us) (n ∷ lengths) same old worths = (
@@ -120,8 +119,8 @@ all_so heap number later is_first a b array (u ∷ us) (n ∷ lengths) same old 
       (map (λ u. worth number (length_at (if is_first then a else b) (old_of is_first u))) us) worths),
 )
 
-so_at : (heap : Heap) (number : ℕ → ℤ) (array : Key → Option ℕ) (us : List Key) (rs : List (Reference Unknown))
-    (place : ℕ) (known : Reference Unknown)
+so_at : (heap : Heap) (number : ℕ → ℤ) (array : Key → Option ℕ) (us : List Key) (rs : List Reference)
+    (place : ℕ) (known : Reference)
     → AllSo heap number array us rs → slice_get rs place ≡ Some known
     → IsSo heap number known (array (get_or us place origin))
 so_at heap number array [] [] place known all at = absurd cc
@@ -130,12 +129,12 @@ so_at heap number array (u ∷ us) [] place known all at = absurd all
 so_at heap number array (u ∷ us) (r ∷ rs) zero known all at =
     subst (λ k. IsSo heap number k (array u)) (same_some r known at) all.0
   where
-    same_some : (x y : Reference Unknown) → Some x ≡ Some y → x ≡ y
+    same_some : (x y : Reference) → Some x ≡ Some y → x ≡ y
     same_some x y same = cc
 so_at heap number array (u ∷ us) (r ∷ rs) (suc place) known all at = so_at heap number array us rs place known all.1 at
 
 pub are_so : (heap : Heap) (number : ℕ → ℤ) (array : ℕ → Option ℕ) (is_first : Bool) (us : List Key)
-    (rs : List (Reference Unknown))
+    (rs : List Reference)
     → AllSo heap number (λ u. array (old_of is_first u)) us rs
     → AreSo heap number (λ r. array (old_at is_first us r)) rs
 unfolding states.reference_at
@@ -191,7 +190,7 @@ places_differ heap p q i first second = by (slice_get heap i) first second
         (sym ((Decides-eqb (place_number cell.place) (place_number p)).0 one)
         ∙ (Decides-eqb (place_number cell.place) (place_number q)).0 two)
 
-apart_places : (heap : Heap) (number : ℕ → ℤ) (references : List (Reference Unknown)) (array : ℕ → Option ℕ)
+apart_places : (heap : Heap) (number : ℕ → ℤ) (references : List Reference) (array : ℕ → Option ℕ)
     (r q : ℕ) (p t : Option Place)
     → place_at references r ≡ p → place_at references q ≡ t → IsEntry heap number references r (array r)
     → IsEntry heap number references q (array q)
@@ -213,7 +212,7 @@ apart_places heap number references array r q (Some p) (Some t) first second one
     (subst (FitsArray heap t) also (two.fits t second))) ∙ other)
 
 -- What cannot be the same array in a state is not.
-pub cannot_differ : (heap : Heap) (number : ℕ → ℤ) (references : List (Reference Unknown)) (array : ℕ → Option ℕ)
+pub cannot_differ : (heap : Heap) (number : ℕ → ℤ) (references : List Reference) (array : ℕ → Option ℕ)
     (pairs : List Pair) (r q : ℕ)
     → ((x : ℕ) → IsEntry heap number references x (array x)) → AllDiffer array pairs
     → cannot_be_same references pairs r q ≡ true → Differ array r q
@@ -226,7 +225,7 @@ cannot_differ heap number references array pairs r q entries all is =
     (entries r).agrees (entries q).agrees is
 
 -- What cannot be the same array on either side is not on each.
-pub joined_differ : (heap : Heap) (number : ℕ → ℤ) (is_first : Bool) (a b : List (Reference Unknown))
+pub joined_differ : (heap : Heap) (number : ℕ → ℤ) (is_first : Bool) (a b : List Reference)
     (a_pairs b_pairs : List Pair) (array : ℕ → Option ℕ) (keys : List Key)
     → ((x : ℕ) → IsEntry heap number (if is_first then a else b) x (array x))
     → AllDiffer array (if is_first then a_pairs else b_pairs)

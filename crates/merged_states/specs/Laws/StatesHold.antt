@@ -4,8 +4,10 @@ use Rattle.std.specs.Prelude.{if◌then◌else◌}
 use Rattle.std.specs.Option.{ForSome}
 use Rattle.std.specs.List.{AllByRecursion}
 use Rattle.std.proofs.lemmas.Int.{ints}
+use Rattle.std.proofs.lemmas.List.{length-map}
 use Rattle.alias_facts.specs.Arrays.{AllDiffer, is_no_array}
 use Rattle.alias_facts.specs.PairsOf.{Pair}
+use Rattle.array_contents.proofs.HeldLaws.{held_agree}
 use Rattle.cil_model.proofs.Lists.{all_reverse}
 use Rattle.cil_model.specs.Values.{Heap, IsValue}
 use Rattle.cil_model.specs.declared.machine.Value.{Value}
@@ -16,22 +18,20 @@ use Rattle.frame_names.specs.declared.reference.Reference.{Reference}
 use Rattle.frame_names.specs.declared.var.Var.{Var}
 use Rattle.frame_names.specs.declared.var.Var.TheVariants as vars
 use Rattle.machine_points.specs.declared.point.Point.{Point}
-use Rattle.merged_numbers.specs.Merging as numbers
 use Rattle.number_facts.specs.Gaps.{gap}
 use Rattle.number_facts.specs.Holds.{IsDefined, is_below}
 use Rattle.symbolic_values.specs.Meaning.{told, truth}
 use Rattle.symbolic_values.specs.Names.{same_flag}
 use Rattle.symbolic_values.specs.declared.def.Def.{Def}
 use Rattle.symbolic_values.specs.declared.def.Def.TheVariants.{Eq, Lt, LtUn, NullTest, Sub}
-use Rattle.state_facts.specs.Forms.{HasForm, IsVar, TestsOf}
-use Rattle.state_facts.specs.Holds.{AreSo, HaveValues, HoldsAt, HoldsBy, IsSo, variables_of}
-use Rattle.merged_states.specs.Merging.{NumberRule, join, merged, normal, widen}
+use Rattle.state_facts.specs.Forms.{HasForm, IsVar, TestsOf, lengths_of}
+use Rattle.state_facts.specs.Holds.{AreSo, HaveValues, HoldsAt, HoldsBy, IsSo, items_of_array, variables_of}
+use Rattle.merged_states.specs.Merging.{Rule, join, joining, merged, normal, widen, widening}
 use Rattle.merged_states.specs.Alike.{AreComparable, AreLikeStates}
 use Rattle.merged_states.specs.Inclusion.{if_bound, is_included, is_included_known}
 use Rattle.merged_states.specs.Following.{AreNoneBeyond, AreOfMachine, Follows, HoldsOver, IsMachineNumber}
 use Rattle.state_facts.specs.StateFacts as states
 use Rattle.state_facts.specs.StateFacts.{StateFacts, State}
-use Rattle.state_facts.specs.declared.reference.Unknown.{Unknown}
 use Rattle.merged_states.specs.Laws.Frames.{same_entry}
 use Rattle.merged_states.specs.Laws.IncludedHolds.{included_holds}
 use Rattle.merged_states.specs.Laws.BothHold.{KeepsSide, joined_keeps, merged_holds, normal_holds, widened_keeps}
@@ -39,14 +39,14 @@ use Rattle.merged_states.specs.Laws.MergedHolds.{SideSo, arrays_of, later_of, pa
 
 -- ---- a choice in which references that are not there are null
 
-abbrev entry_array : Option (Reference Unknown) → Option ℕ → Option ℕ
+abbrev entry_array : Option Reference → Option ℕ → Option ℕ
 entry_array None array = None
 entry_array (Some known) array = array
 
 abbrev pub arrays_in : StateFacts → (ℕ → Option ℕ) → ℕ → Option ℕ
 arrays_in known array r = entry_array (states.reference_at known.references r) (array r)
 
-entry_there : (references : List (Reference Unknown)) (i : ℕ) (array : Option ℕ) → i < length references
+entry_there : (references : List Reference) (i : ℕ) (array : Option ℕ) → i < length references
     → entry_array (slice_get references i) array ≡ array
 entry_there [] i array there = absurd (omega (arith, there))
 entry_there (known ∷ references) zero array there = refl
@@ -58,7 +58,7 @@ unfolding states.reference_at
 there_stays known array zero none there = sym none
 there_stays known array (suc i) none there = entry_there known.references i (array (suc i)) (omega (arith, there))
 
-in_stays : (entry : Option (Reference Unknown)) (array : Option ℕ) (n : ℕ) → entry_array entry array ≡ Some n
+in_stays : (entry : Option Reference) (array : Option ℕ) (n : ℕ) → entry_array entry array ≡ Some n
     → array ≡ Some n
 in_stays None array n is = absurd cc
 in_stays (Some known) array n is = is
@@ -133,6 +133,13 @@ holds_within known vs heap number array form so = record {
   variables = values_stay known number array known.variables vs so.null form.variables so.variables;
   references = references_still known heap number array so.references;
   apart = differ_stays known array known.apart so.apart;
+  contents =
+      held_agree (length known.facts.ranges) (lengths_of known.references) known.contents number number
+      (λ r. items_of_array heap (array r)) (λ r. items_of_array heap (arrays_in known array r)) form.contents
+      (λ s there. refl)
+      (λ r there. ap (items_of_array heap)
+      (there_stays known array r so.null (omega (arith, there, length-map known.references (λ r. r.length)))))
+      so.contents;
 }
 
 pub none_beyond : (known : StateFacts) (array : ℕ → Option ℕ) → AreNoneBeyond known (arrays_in known array)
@@ -147,25 +154,25 @@ side_so known vs heap number array form machine so =
     parts_so known vs heap number (arrays_in known array) (holds_within known vs heap number array form so)
     (none_beyond known array) machine
 
-known_over : (is_first : Bool) (rule : NumberRule) (a b : StateFacts) → KeepsSide is_first rule a b → AreComparable a b
+known_over : (is_first : Bool) (rule : Rule) (a b : StateFacts) → KeepsSide is_first rule a b → AreComparable a b
     → Follows (Some (if is_first then a else b)) (merged rule (Some a) (Some b))
 known_over true rule a b keeps like vs heap machine over = record {
   number = later_of true a b over.number;
   array = arrays_of true a b (arrays_in a over.array);
   holds =
-      merged_holds true rule a b vs heap over.number (arrays_in a over.array) keeps like.variables
+      merged_holds true rule a b vs heap over.number (arrays_in a over.array) keeps like
       (side_so a vs heap over.number over.array like.first machine over.holds);
 }
 known_over false rule a b keeps like vs heap machine over = record {
   number = later_of false a b over.number;
   array = arrays_of false a b (arrays_in b over.array);
   holds =
-      merged_holds false rule a b vs heap over.number (arrays_in b over.array) keeps like.variables
+      merged_holds false rule a b vs heap over.number (arrays_in b over.array) keeps like
       (side_so b vs heap over.number over.array like.second machine over.holds);
 }
 
 -- Both as one hold wherever one of them does.
-pub merged_over : (is_first : Bool) (rule : NumberRule) (a b : State)
+pub merged_over : (is_first : Bool) (rule : Rule) (a b : State)
     → ((x y : StateFacts) → KeepsSide is_first rule x y) → AreLikeStates a b
     → Follows (if is_first then a else b) (merged rule a b)
 merged_over true rule None b keeps like vs heap machine over = absurd over.holds
@@ -183,13 +190,14 @@ normal_over a form vs heap machine over = record {
   number = later_of true a a over.number;
   array = arrays_of true a a (arrays_in a over.array);
   holds =
-      normal_holds a vs heap over.number (arrays_in a over.array)
+      normal_holds a vs heap over.number (arrays_in a over.array) form
       (side_so a vs heap over.number over.array form machine over.holds);
 }
 
 -- What a reached state is included in holds wherever the state does.
-pub known_included : (a b : StateFacts) → HasForm a → is_included_known a b ≡ true → Follows (Some a) (Some b)
-known_included a b form is vs heap machine over =
+pub known_included : (a b : StateFacts) → HasForm a → HasForm b → is_included_known a b ≡ true
+    → Follows (Some a) (Some b)
+known_included a b form other is vs heap machine over =
     by (bound_frames (gap a.facts) a.variables a.references b.variables b.references (length b.facts.ranges)) refl is
   where
     by : (found : Option FrameBinding)
@@ -199,7 +207,8 @@ known_included a b form is vs heap machine over =
     by (Some binding) at follows = record {
       number = numbers_bound over.number binding;
       array = arrays_bound (arrays_in a over.array) binding;
-      holds = included_holds a b vs heap over.number (arrays_in a over.array) binding over.holds.facts.allowed
+      holds = included_holds a b vs heap over.number (arrays_in a over.array) binding form other
+          over.holds.facts.allowed
           (side_so a vs heap over.number over.array form machine over.holds) at follows;
     }
 
@@ -207,7 +216,8 @@ known_included a b form is vs heap machine over =
 pub included_over : (a b : State) → AreLikeStates a b → is_included a b ≡ true → Follows a b
 included_over None b like is vs heap machine over = absurd over.holds
 included_over (Some a) None like is vs heap machine over = absurd cc
-included_over (Some a) (Some b) like is vs heap machine over = known_included a b like.first is vs heap machine over
+included_over (Some a) (Some b) like is vs heap machine over =
+    known_included a b like.first like.second is vs heap machine over
 
 -- ---- points
 
@@ -249,17 +259,17 @@ at_point a b p follows at =
     record { machine = machine; frame = record { number = over.number; array = over.array; holds = over.holds } }
 
 pub join_left : (a b : State) (p : Point) → AreLikeStates a b → HoldsAt a p → HoldsAt (join a b) p
-join_left a b p like at = at_point a (join a b) p (merged_over true numbers.joined a b (joined_keeps true) like) at
+join_left a b p like at = at_point a (join a b) p (merged_over true joining a b (joined_keeps true) like) at
 
 pub join_right : (a b : State) (p : Point) → AreLikeStates a b → HoldsAt b p → HoldsAt (join a b) p
-join_right a b p like at = at_point b (join a b) p (merged_over false numbers.joined a b (joined_keeps false) like) at
+join_right a b p like at = at_point b (join a b) p (merged_over false joining a b (joined_keeps false) like) at
 
 pub widen_left : (a b : State) (p : Point) → AreLikeStates a b → HoldsAt a p → HoldsAt (widen a b) p
-widen_left a b p like at = at_point a (widen a b) p (merged_over true numbers.widened a b (widened_keeps true) like) at
+widen_left a b p like at = at_point a (widen a b) p (merged_over true widening a b (widened_keeps true) like) at
 
 pub widen_right : (a b : State) (p : Point) → AreLikeStates a b → HoldsAt b p → HoldsAt (widen a b) p
 widen_right a b p like at =
-    at_point b (widen a b) p (merged_over false numbers.widened a b (widened_keeps false) like) at
+    at_point b (widen a b) p (merged_over false widening a b (widened_keeps false) like) at
 
 pub leq_holds : (a b : State) (p : Point) → AreLikeStates a b → is_included a b ≡ true → HoldsAt a p → HoldsAt b p
 leq_holds a b p like is at = at_point a b p (included_over a b like is) at

@@ -1,12 +1,12 @@
 -- What is known behind an operation holds where the machine goes on by it.
 use Rattle.std.proofs.Common.{◌≡◌, ℕ, zero, suc, ◌+◌, ◌<◌, ℤ, pos, negsuc, ◌-ℤ◌, neg_ℤ, Bool, true, false, int_eq, int_le, int_lt, Option, Some, None, List, [], ◌∷◌, ◌++◌, length, get_or, Ok, Err, refl, sym, ap, subst, ◌∙◌, FitsSigned, w32, arith, length-append, inl, inr}
-use Rattle.std.specs.Prelude.{Result, reverse, set, slice_get, slice_set, unsigned_abs}
+use Rattle.std.specs.Prelude.{Result, replicate, reverse, set, slice_get, unsigned_abs}
 use Rattle.std.specs.List.{AllByRecursion}
 use Rattle.std.specs.Option.{option_map}
 use Rattle.std.proofs.lemmas.Bool.{cond_both, false≢true}
 use Rattle.std.proofs.lemmas.Bool.Decides.{Decides-int_eq}
 use Rattle.std.proofs.lemmas.Int.{ints, int_wrap_fits}
-use Rattle.std.proofs.lemmas.List.{length-replicate, length-set}
+use Rattle.std.proofs.lemmas.List.{length-replicate}
 use Rattle.std.proofs.lemmas.Option.{none-some, same_Some}
 use Rattle.cc_base.specs.Wrap.{wrap32}
 use Rattle.cil_model.specs.Arithmetic as machine
@@ -15,7 +15,7 @@ use Rattle.cil_model.specs.Comparisons.{comparison_of, compares_values, is_true,
 use Rattle.cil_model.specs.Effects as rows
 use Rattle.cil_model.specs.Effects.{Effect, GoesOn, Faults, Assumes, HasEffect, effects, effects_of, goes_on, goes_to}
 use Rattle.cil_model.specs.UnitCalls.{array_place, unit_call}
-use Rattle.cil_model.specs.Values.{Heap, IsHeap, IsValue, KeepsForms, put, same_place}
+use Rattle.cil_model.specs.Values.{Heap, IsHeap, IsValue, put, same_place}
 use Rattle.cil_model.specs.declared.instruction.BinOp.{BinOp}
 use Rattle.cil_model.specs.declared.instruction.BinOp.TheVariants as operators
 use Rattle.cil_model.specs.declared.instruction.CmpOp.{CmpOp}
@@ -35,7 +35,7 @@ use Rattle.cil_model.specs.declared.place.Place.{Place}
 use Rattle.cil_model.specs.declared.unit.Unit.{Unit as MethodUnit}
 use Rattle.cil_model.specs.declared.unit_numbers.UnitCall.{UnitCall}
 use Rattle.cil_model.specs.declared.unit_numbers.UnitCall.TheVariants as calls
-use Rattle.cil_model.proofs.HeapsKept.{keeps_others}
+use Rattle.clause_trees.proofs.KeptNodes.{same_by_number}
 use Rattle.frame_names.specs.declared.var.Var.{Var}
 use Rattle.frame_names.specs.declared.var.Var.TheVariants as vars
 use Rattle.machine_points.specs.Points.{IsPointOf}
@@ -44,12 +44,13 @@ use Rattle.number_spans.specs.Constants.{constant}
 use Rattle.state_facts.specs.Forms.{HasForm, HasNumber, HasReference, HasVar}
 use Rattle.state_facts.specs.Holds.{HasValue, HoldsBy, HoldsIn, length_of_array, variables_of}
 use Rattle.state_facts.specs.Keeps.{HoldsOn}
-use Rattle.state_facts.specs.Moves.{popped, pushed}
+use Rattle.state_facts.specs.Moves.{popped, pushed, with_item, with_stored}
 use Rattle.state_facts.specs.StateFacts.{StateFacts, State, length_at}
 use Rattle.state_facts.proofs.MoveForms.{popped_form}
 use Rattle.state_facts.proofs.ArraysHold.{new_array_keeps}
 use Rattle.state_facts.proofs.ComparisonsHold.{compare_keeps}
-use Rattle.state_facts.proofs.MovesHold.{load_keeps, push_keeps, store_keeps}
+use Rattle.state_facts.proofs.MovesHold.{push_keeps}
+use Rattle.state_facts.proofs.StoresHold.{load_keeps, store_keeps}
 use Rattle.state_obligations.proofs.ConditionLaws.{met_is_kept}
 use Rattle.state_obligations.specs.declared.condition.Condition.TheVariants as conditions
 use Rattle.symbolic_values.specs.Worth.{worth}
@@ -381,6 +382,10 @@ module _ (unit : MethodUnit) (known : StateFacts) (f : Frame) (form : HasForm kn
       many : (m : ℤ) → int_lt m (pos 0) ≡ false → m ≡ pos (unsigned_abs m)
       many m high = omega (arith, ints, high)
 
+      all_zeros : (k : ℕ) → AllByRecursion (λ (m : ℤ). m ≡ pos 0) (replicate k (pos 0))
+      all_zeros zero = tt
+      all_zeros (suc k) = (refl, all_zeros k)
+
       room : int_lt n (pos 0) ≡ false → HasEffect (goes_on i f (heap ++ cell ∷ []) (Array (length heap) ∷ rest))
           (GoesOn g after) → Behind (on_one (with_new (Some place)) known)
       room high more =
@@ -396,7 +401,8 @@ module _ (unit : MethodUnit) (known : StateFacts) (f : Frame) (form : HasForm kn
           (rw one.is
           (new_array_keeps place one.expr (Some below) (for_some HasForm below top.form) (over f rest) heap number
           array cell top.rest refl
-          (one.worth_is ∙ many n high ∙ ap (λ (k : ℕ). pos k) (sym (length-replicate (unsigned_abs n) (pos 0))))))))
+          (one.worth_is ∙ many n high ∙ ap (λ (k : ℕ). pos k) (sym (length-replicate (unsigned_abs n) (pos 0))))
+          (all_zeros (unsigned_abs n))))))
           more
 
   number_made : (place : Place) (o : Option ℤ) (value : Value) (rest : List Value) → Over (value ∷ rest)
@@ -444,31 +450,41 @@ module _ (unit : MethodUnit) (known : StateFacts) (f : Frame) (form : HasForm kn
   length_so (Null ∷ rest) holds has = elim has [ inl same ↦ absurd cc | inr none ↦ elim none [ ] ]
   length_so _ holds has = elim has [ ]
 
-  -- What is done at an index of an array of the type that is there.
+  -- What is done at an index of an array of the type that is there, which is one of its items'.
+  record IsDoneAt (cell : ArrayCell) (n : ℤ) (done : List Effect) : Type 0 where
+    index_is : n ≡ pos (unsigned_abs n)
+    below : unsigned_abs n < length cell.items
+    goes : HasEffect done (GoesOn g after)
+
   at_index_so : (cell : ArrayCell) (n : ℤ) (done : List Effect)
-      → HasEffect (rows.at_index cell n done) (GoesOn g after) → HasEffect done (GoesOn g after)
+      → HasEffect (rows.at_index cell n done) (GoesOn g after) → IsDoneAt cell n done
   at_index_so cell n done has =
-      cond_both (int_lt n (pos 0)) _ _ (λ (es : List Effect). HasEffect es (GoesOn g after)
-      → HasEffect done (GoesOn g after))
+      cond_both (int_lt n (pos 0)) _ _ (λ (es : List Effect). HasEffect es (GoesOn g after) → IsDoneAt cell n done)
       (λ low goes. elim goes [ inl same ↦ absurd cc | inr none ↦ elim none [ ] ])
       (λ low. cond_both (int_le (pos (length cell.items)) n) _ _
-      (λ (es : List Effect). HasEffect es (GoesOn g after) → HasEffect done (GoesOn g after))
-      (λ high goes. elim goes [ inl same ↦ absurd cc | inr none ↦ elim none [ ] ]) (λ high goes. goes)) has
+      (λ (es : List Effect). HasEffect es (GoesOn g after) → IsDoneAt cell n done)
+      (λ high goes. elim goes [ inl same ↦ absurd cc | inr none ↦ elim none [ ] ])
+      (λ high goes. record {
+        index_is = omega (arith, ints, low);
+        below = omega (arith, ints, low, high);
+        goes = goes;
+      })) has
 
   of_place_so : (place : Place) (o : Option ArrayCell) (done : ArrayCell → List Effect) (state : State)
-      → ((cell : ArrayCell) → o ≡ Some cell → HasEffect (done cell) (GoesOn g after) → Behind state)
+      → ((cell : ArrayCell) → same_place cell.place place ≡ true → o ≡ Some cell
+      → HasEffect (done cell) (GoesOn g after) → Behind state)
       → HasEffect (rows.of_place place o done) (GoesOn g after) → Behind state
   of_place_so place None done state so has = elim has [ ]
   of_place_so place (Some cell) done state so has =
       cond_both (same_place cell.place place) _ _ (λ (es : List Effect). HasEffect es (GoesOn g after) → Behind state)
-      (λ same goes. so cell refl goes)
+      (λ same goes. so cell same refl goes)
       (λ other goes. elim goes [ ]) has
 
   item_so : (n : ℤ) (a : ℕ) (rest : List Value) (cell : ArrayCell) (o : Option ℤ) → Over (Int n ∷ Array a ∷ rest)
-      → slice_get heap a ≡ Some cell → slice_get cell.items (unsigned_abs n) ≡ o
+      → n ≡ pos (unsigned_abs n) → slice_get heap a ≡ Some cell → slice_get cell.items (unsigned_abs n) ≡ o
       → HasEffect (rows.pushes i f heap rest (option_map Int o)) (GoesOn g after) → Behind (on_two with_item_of known)
-  item_so n a rest cell None holds at item_is has = elim has [ ]
-  item_so n a rest cell (Some item) holds at item_is has =
+  item_so n a rest cell None holds above at item_is has = elim has [ ]
+  item_so n a rest cell (Some item) holds above at item_is has =
       top_so (on_two with_item_of known) (Int item) rest heap
       (on_two_over (λ (s : State). HoldsOn (Some known) s (over f rest ++ Int item ∷ []) heap number array)
       with_item_of known f (Int n) (Array a) rest heap number array form holds
@@ -481,15 +497,18 @@ module _ (unit : MethodUnit) (known : StateFacts) (f : Frame) (form : HasForm kn
       from_popped known state (over f rest ++ Int item ∷ []) heap number array
       (from_popped (popped known) state (over f rest ++ Int item ∷ []) heap number array
       (rw (one.is, index.is)
-      (load_keeps one.reference (Some below) (for_some HasForm below lower.form) (over f rest) heap number array a cell
-      item lower.rest is_heap one.array_is at (
-        unsigned_abs n,
-        place_below cell.items (unsigned_abs n) item item_is,
-        got_there cell.items (unsigned_abs n) item
-            item_is,
-      )))))) has
+      (subst (λ (m : ℤ). HoldsOn (Some below) (with_item one.reference index.expr below) (over f rest ++ Int m ∷ [])
+      heap number array) (got_there cell.items (unsigned_abs n) item item_is)
+      (load_keeps one.reference index.expr (Some below) (for_some HasForm below lower.form)
+      (for_some (λ (x : StateFacts). HasReference x one.reference) below one.there)
+      (over f rest) heap number array a cell (unsigned_abs n) lower.rest is_heap (record {
+        array_is = one.array_is;
+        cell_is = at;
+        index_is = index.worth_is ∙ above;
+        below = place_below cell.items (unsigned_abs n) item item_is;
+      }))))))) has
     where
-      got_there : (xs : List ℤ) (k : ℕ) (x : ℤ) → slice_get xs k ≡ Some x → get_or xs k x ≡ x
+      got_there : (xs : List ℤ) (k : ℕ) (x : ℤ) → slice_get xs k ≡ Some x → get_or xs k (pos 0) ≡ x
       got_there [] k x is = absurd (none-some x is)
       got_there (y ∷ xs) zero x is = same_Some y x is
       got_there (y ∷ xs) (suc k) x is = got_there xs k x is
@@ -500,13 +519,17 @@ module _ (unit : MethodUnit) (known : StateFacts) (f : Frame) (form : HasForm kn
   item_loaded place (Int n ∷ Array a ∷ rest) holds has =
       of_place_so place (slice_get heap a) (λ cell. rows.at_index cell n
       (rows.pushes i f heap rest (rows.item_value cell n))) (on_two with_item_of known)
-      (λ cell at goes. item_so n a rest cell (slice_get cell.items (unsigned_abs n)) holds at refl
-      (at_index_so cell n (rows.pushes i f heap rest (rows.item_value cell n)) goes)) has
+      (λ cell same at goes.
+      let done = at_index_so cell n (rows.pushes i f heap rest (rows.item_value cell n)) goes in
+      item_so n a rest cell (slice_get cell.items (unsigned_abs n)) holds done.index_is at refl done.goes) has
   item_loaded place _ holds has = elim has [ ]
 
-  item_put : (v n : ℤ) (a : ℕ) (rest : List Value) (new : Heap) → Over (Int v ∷ Int n ∷ Array a ∷ rest)
-      → KeepsForms heap new → HasEffect (goes_on i f new rest) (GoesOn g after) → Behind (on_three with_item_put known)
-  item_put v n a rest new holds kept has =
+  item_put : (v n : ℤ) (a : ℕ) (rest : List Value) (cell : ArrayCell) (new : Heap)
+      → Over (Int v ∷ Int n ∷ Array a ∷ rest) → FitsSigned w32 v → slice_get heap a ≡ Some cell
+      → n ≡ pos (unsigned_abs n) → unsigned_abs n < length cell.items
+      → rows.with_item heap a cell (unsigned_abs n) (rows.item_of cell.place v) ≡ new
+      → HasEffect (goes_on i f new rest) (GoesOn g after) → Behind (on_three with_item_put known)
+  item_put v n a rest cell new holds fits at above below_length new_is has =
       goes_so f (on_three with_item_put known) (i.at + i.size) rest new
       (on_three_over (λ (s : State). HoldsOn (Some known) s (over f rest) new number array) with_item_put known f
       (Int v) (Int n) (Array a) rest heap number array form holds
@@ -522,25 +545,39 @@ module _ (unit : MethodUnit) (known : StateFacts) (f : Frame) (form : HasForm kn
       (from_popped (popped known) state (over f rest) new number array
       (from_popped (popped (popped known)) state (over f rest) new number array
       (rw (one.is, index.is, value.is)
-      (store_keeps one.reference value.expr (Some below) (for_some HasForm below lower.form)
+      (subst (λ (h : Heap). HoldsOn (Some below) (with_stored one.reference index.expr value.expr below) (over f rest) h
+      number array)
+      (ap (λ (m : ℤ). rows.with_item heap a cell (unsigned_abs n) (rows.item_of cell.place m)) value.worth_is ∙ new_is)
+      (store_keeps one.reference index.expr value.expr (Some below) (for_some HasForm below lower.form)
+      (for_some (λ (x : StateFacts). HasReference x one.reference) below one.there)
+      (for_some (λ (x : StateFacts). HasNumber x index.expr) below index.there)
       (for_some (λ (x : StateFacts). HasNumber x value.expr) below value.there)
-      (over f rest) heap new number array lower.rest kept)))))) has
+      (over f rest) heap number array a cell (unsigned_abs n) lower.rest is_heap (record {
+        array_is = one.array_is;
+        cell_is = at;
+        index_is = index.worth_is ∙ above;
+        below = below_length;
+      }) (subst (FitsSigned w32) (sym value.worth_is) fits)))))))) has
 
-  item_stored : (place : Place) (stack : List Value) → Over stack
+  -- A number as it is stored in an array of the place that the instruction names.
+  same_item : (cell : ArrayCell) (place : Place) (v : ℤ) → same_place cell.place place ≡ true
+      → rows.item_of cell.place v ≡ rows.item_of place v
+  same_item cell place v same = ap (λ (p : Place). rows.item_of p v) (same_by_number cell.place place same)
+
+  item_stored : (place : Place) (stack : List Value) → Over stack → AllByRecursion (IsValue heap) stack
       → HasEffect (rows.stores place i f heap stack) (GoesOn g after) → Behind (on_three with_item_put known)
-  item_stored place (Int v ∷ Int n ∷ Null ∷ rest) holds has =
+  item_stored place (Int v ∷ Int n ∷ Null ∷ rest) holds are has =
       elim has [ inl same ↦ absurd cc | inr none ↦ elim none [ ] ]
-  item_stored place (Int v ∷ Int n ∷ Array a ∷ rest) holds has =
+  item_stored place (Int v ∷ Int n ∷ Array a ∷ rest) holds are has =
       of_place_so place (slice_get heap a)
       (λ cell. rows.at_index cell n (goes_on i f (rows.with_item heap a cell (unsigned_abs n) (rows.item_of place v))
       rest)) (on_three with_item_put known)
-      (λ cell at goes. item_put v n a rest (rows.with_item heap a cell (unsigned_abs n) (rows.item_of place v)) holds
-      (keeps_others heap a cell (record cell { items = slice_set cell.items (unsigned_abs n) (rows.item_of place v) })
-      at refl
-      (length-set cell.items (unsigned_abs n) (rows.item_of place v)))
-      (at_index_so cell n (goes_on i f (rows.with_item heap a cell (unsigned_abs n) (rows.item_of place v)) rest)
-      goes)) has
-  item_stored place _ holds has = elim has [ ]
+      (λ cell same at goes.
+      let new = rows.with_item heap a cell (unsigned_abs n) (rows.item_of place v) in
+      let done = at_index_so cell n (goes_on i f new rest) goes in
+      item_put v n a rest cell new holds are.0 at done.index_is done.below
+      (ap (rows.with_item heap a cell (unsigned_abs n)) (same_item cell place v same)) done.goes) has
+  item_stored place _ holds are has = elim has [ ]
 
   -- ---- Assert and Assume
 
@@ -672,7 +709,7 @@ module _ (unit : MethodUnit) (known : StateFacts) (f : Frame) (form : HasForm kn
   acted_so (ops.NewArray type) holds are has = array_so (array_place type) f.stack holds has
   acted_so ops.Length holds are has = length_so f.stack holds has
   acted_so (ops.LoadElem place) holds are has = item_loaded place f.stack holds has
-  acted_so (ops.StoreElem place) holds are has = item_stored place f.stack holds has
+  acted_so (ops.StoreElem place) holds are has = item_stored place f.stack holds are has
 
 -- What is known behind an instruction holds where it goes on, by a choice that is as before for what was there.
 pub act_keeps : (unit : MethodUnit) (i : Instr) (p q : Point) (known : StateFacts) (number : ℕ → ℤ)

@@ -23,7 +23,6 @@ use Rattle.state_facts.specs.Forms.{HasForm, HasVar}
 use Rattle.state_facts.specs.Holds.{HaveValues}
 use Rattle.state_facts.specs.StateFacts.{StateFacts, State, reference_at}
 use Rattle.state_facts.specs.UnknownValues.{push_unknown}
-use Rattle.state_facts.specs.declared.reference.Unknown.{Unknown}
 use Rattle.transfer_rules.specs.Entry.{begun, no_variables, twice, with_more, with_unknown, zero_in}
 use Rattle.transfer_rules.specs.Forms.{FitKinds, FitsKind, FitsStack, HasKinds, kind_in}
 use Rattle.transfer_rules.specs.Laws.Fitting.{AreKinds, fit_both, fit_stays, over_stack, places_same}
@@ -132,7 +131,7 @@ unfolding range_at
 no_range zero there = record { above = omega (arith, ints); below = omega (arith, ints); no_hole = λ none. cc }
 no_range (suc s) there = absurd (omega (arith, there))
 
-no_reference : (r : ℕ) (known : Reference Unknown) → reference_at [] r ≡ Some known → ⊥
+no_reference : (r : ℕ) (known : Reference) → reference_at [] r ≡ Some known → ⊥
 unfolding reference_at
 no_reference zero known is = none-some known is
 no_reference (suc r) known is = none-some known is
@@ -147,6 +146,7 @@ nothing_over heap = record {
     variables = tt;
     references = λ r known is. absurd (no_reference r known is);
     apart = tt;
+    contents = λ i segments is. absurd (none-some segments is);
   };
 }
 
@@ -204,6 +204,7 @@ both_over types (Some known) xs heap over =
             (zeros_have number array types (zero_is known.facts number so.facts.allowed) so.null);
         references = so.references;
         apart = so.apart;
+        contents = so.contents;
       };
     }
 

@@ -33,7 +33,6 @@ use Rattle.frame_names.specs.declared.var.Var.{Var}
 use Rattle.frame_names.specs.declared.var.Var.TheVariants as vars
 use Rattle.state_facts.specs.Forms.{HasVar}
 use Rattle.state_facts.specs.StateFacts.{StateFacts, State, reference_at}
-use Rattle.state_facts.specs.declared.reference.Unknown.{Unknown}
 use Rattle.transfer_rules.specs.Acts.{after_callee}
 use Rattle.transfer_rules.specs.Forms.{FitKinds, FitsKind, FitsStack, HasKinds, kind_in, kinds_over}
 use Rattle.transfer_rules.specs.Owed.{CanCallIt}
@@ -99,9 +98,9 @@ of_places known (place ∷ types) (k ∷ ks) (v ∷ vs) took fits =
 
 -- ---- what a call gives
 
-of_type : (place : Place) (o : Option (Reference Unknown)) → same_place place place ≡ true
-    → IsOfPlace place (option_map (λ (r : Reference Unknown). r.place) o)
-    → option_map_or (λ (r : Reference Unknown). same_place r.place place) o true ≡ true
+of_type : (place : Place) (o : Option Reference) → same_place place place ≡ true
+    → IsOfPlace place (option_map (λ (r : Reference). r.place) o)
+    → option_map_or (λ (r : Reference). same_place r.place place) o true ≡ true
 of_type place None own of = refl
 of_type place (Some r) own of = ap (λ (p : Place). same_place p place) of ∙ own
 

@@ -21,7 +21,6 @@ use Rattle.state_facts.proofs.MoveForms.{popped_form, pushed_form}
 use Rattle.state_facts.specs.Forms.{HasVar}
 use Rattle.state_facts.specs.Moves.{popped, pushed}
 use Rattle.state_facts.specs.StateFacts.{StateFacts, State, reference_at}
-use Rattle.state_facts.specs.declared.reference.Unknown.{Unknown}
 use Rattle.state_obligations.specs.Following.{StaysThere, shape_of}
 use Rattle.transfer_rules.specs.Forms.{FitKinds, FitsKind, FitsStack, HasKinds, is_of_place, kind_in, kinds_over}
 use Rattle.transfer_rules.specs.Operands.{Rule, on_one, on_two, on_three, with_one}
@@ -34,14 +33,14 @@ PlacesStay before after =
     (place : Place) (r : ℕ) → r ≤ length before.references → is_of_place before place r ≡ true
     → is_of_place after place r ≡ true
 
-abbrev of_place : Place → Option (Reference Unknown) → Bool
+abbrev of_place : Place → Option Reference → Bool
 of_place place found = option_map_or (λ reference. same_place reference.place place) found true
 
 pub places_same : (before after : StateFacts) → after.references ≡ before.references → PlacesStay before after
 places_same before after same = λ place r there is.
     subst (λ references. of_place place (reference_at references r) ≡ true) (sym same) is
 
-shaped : (xs ys : List (Reference Unknown)) (i : ℕ) (place : Place) → map shape_of ys ≡ map shape_of xs
+shaped : (xs ys : List Reference) (i : ℕ) (place : Place) → map shape_of ys ≡ map shape_of xs
     → of_place place (slice_get xs i) ≡ true → of_place place (slice_get ys i) ≡ true
 shaped xs [] i place same is = refl
 shaped [] (y ∷ ys) i place same is = absurd cc
@@ -57,7 +56,7 @@ shaped (x ∷ xs) (y ∷ ys) (suc i) place same is = shaped xs ys i place tail i
     tail : map shape_of ys ≡ map shape_of xs
     tail = cc
 
-shape_stays : (xs ys : List (Reference Unknown)) (r : ℕ) (place : Place) → map shape_of ys ≡ map shape_of xs
+shape_stays : (xs ys : List Reference) (r : ℕ) (place : Place) → map shape_of ys ≡ map shape_of xs
     → of_place place (reference_at xs r) ≡ true → of_place place (reference_at ys r) ≡ true
 unfolding reference_at
 shape_stays xs ys zero place same is = refl
@@ -67,14 +66,14 @@ pub places_shaped : (before after : StateFacts) → map shape_of after.reference
     → PlacesStay before after
 places_shaped before after same = λ place r there is. shape_stays before.references after.references r place same is
 
-longer : (xs more : List (Reference Unknown)) (r : ℕ) → r ≤ length xs → reference_at (xs ++ more) r ≡ reference_at xs r
+longer : (xs more : List Reference) (r : ℕ) → r ≤ length xs → reference_at (xs ++ more) r ≡ reference_at xs r
 unfolding reference_at
 longer xs more zero there = refl
 longer [] more (suc r) there = absurd (omega (arith, there))
 longer (x ∷ xs) more (suc zero) there = refl
 longer (x ∷ xs) more (suc (suc r)) there = longer xs more (suc r) (omega (arith, there))
 
-pub places_more : (before after : StateFacts) (more : List (Reference Unknown))
+pub places_more : (before after : StateFacts) (more : List Reference)
     → after.references ≡ before.references ++ more
     → PlacesStay before after
 places_more before after more same = λ place r there is.

@@ -1,8 +1,9 @@
 -- One more number or array on top, one variable that changes, and what these leave of the kinds that fit.
 use Rattle.std.proofs.Common.{◌≡◌, ℕ, zero, suc, ◌+◌, ℤ, pos, Bool, true, List, [], ◌∷◌, ◌++◌, length, slice_get, Option, Some, None, refl, sym, ap, subst, ◌∙◌, arith}
 use Rattle.std.specs.Prelude.{set}
-use Rattle.std.specs.Option.{option_map, option_map_or}
+use Rattle.std.specs.Option.{option_and_then, option_map, option_map_or}
 use Rattle.std.proofs.lemmas.Bool.{false≢true}
+use Rattle.array_contents.specs.Storing.{stored}
 use Rattle.cil_model.specs.Kinds.{is_number}
 use Rattle.cil_model.specs.Values.{same_place}
 use Rattle.cil_model.specs.declared.instruction.BinOp.{BinOp}
@@ -13,15 +14,17 @@ use Rattle.domain_api.specs.declared.expr.Expr.{Expr}
 use Rattle.frame_names.specs.declared.reference.Reference.{Reference}
 use Rattle.frame_names.specs.declared.var.Var.{Var}
 use Rattle.frame_names.specs.declared.var.Var.TheVariants as vars
+use Rattle.interval_domain.specs.Interval.{Interval}
+use Rattle.number_facts.specs.Ends.{range_of}
 use Rattle.number_facts.specs.Fresh.{Made}
+use Rattle.number_facts.specs.Gaps.{gap}
 use Rattle.state_facts.proofs.Growing.{Formed}
 use Rattle.state_facts.specs.Arithmetic.{with_result}
 use Rattle.state_facts.specs.Comparing.{null_known, null_tested, same_known, with_comparison, with_defined, with_known, with_null_known, with_null_test, with_same, with_same_known, with_tested, with_truth}
 use Rattle.state_facts.specs.Comparing as comparing
 use Rattle.state_facts.specs.Forms.{HasForm, HasVar, IsArrayPlace}
-use Rattle.state_facts.specs.Moves.{beside, in_variable, on_top, placed, with_number, with_placed, with_put}
+use Rattle.state_facts.specs.Moves.{beside, in_variable, int32_in, item_place, on_top, others, place_at, placed, with_item, with_items, with_number, with_one_of, with_placed, with_put, with_stored, with_written}
 use Rattle.state_facts.specs.StateFacts.{StateFacts, State, nullness_at, reference_at}
-use Rattle.state_facts.specs.declared.reference.Unknown.{Unknown}
 use Rattle.transfer_rules.specs.Forms.{FitKinds, FitsKind, HasKinds, is_of_place, kind_in}
 use Rattle.transfer_rules.specs.Laws.Fitting.{AreKinds, fit_pushed, fit_set, fit_stays, kind_stays, places_more, places_same}
 use Rattle.transfer_rules.specs.Laws.KindForms.{AreAlike, array_reference, own_place}
@@ -45,6 +48,10 @@ made_number known (Some made) = record { expr = made.expr; variables = refl; ref
 pub some_number : (lo hi : ℤ) (known : StateFacts) → GivesNumber known (with_number lo hi known)
 unfolding with_number
 some_number lo hi known = made_number known _
+
+pub item_number : (r : ℕ) (i : Expr) (known : StateFacts) → GivesNumber known (with_item r i known)
+unfolding with_item with_one_of
+item_number r i known = made_number known _
 
 pub result_number : (op : BinOp) (a b : Expr) (known : StateFacts) → GivesNumber known (with_result op a b known)
 unfolding with_result
@@ -138,16 +145,29 @@ abbrev pub KeepsFrame : StateFacts → State → Type 0
 KeepsFrame before None = Unit {0}
 KeepsFrame before (Some after) = (after.variables ≡ before.variables) × (after.references ≡ before.references)
 
-pub stored_keeps : (known : StateFacts) (o : Option Made) → KeepsFrame known (option_map (beside known) o)
-stored_keeps known None = tt
-stored_keeps known (Some made) = (refl, refl)
+written_keeps : (r : ℕ) (i : Expr) (known : StateFacts) (made : Made) → KeepsFrame known (with_written r i known made)
+unfolding with_written
+written_keeps r i known made = by (int32_in (range_of made.facts made.expr))
+  where
+    by : (o : Option Interval) → KeepsFrame known (option_map (λ range. with_items (beside known made)
+        (stored (gap made.facts) r i range (others known r) known.contents)) o)
+    by None = tt
+    by (Some range) = (refl, refl)
 
-new_last : (references : List (Reference Unknown)) (r : Reference Unknown)
+pub stored_keeps : (r : ℕ) (i e : Expr) (known : StateFacts) → KeepsFrame known (with_stored r i e known)
+unfolding with_stored
+stored_keeps r i e known = by (placed known.facts e (item_place (place_at known r)))
+  where
+    by : (o : Option Made) → KeepsFrame known (option_and_then (with_written r i known) o)
+    by None = tt
+    by (Some made) = written_keeps r i known made
+
+new_last : (references : List Reference) (r : Reference)
     → slice_get (references ++ r ∷ []) (length references) ≡ Some r
 new_last [] r = refl
 new_last (x ∷ references) r = new_last references r
 
-new_there : (references : List (Reference Unknown)) (r : Reference Unknown) (n : ℕ) → n ≡ suc (length references)
+new_there : (references : List Reference) (r : Reference) (n : ℕ) → n ≡ suc (length references)
     → reference_at (references ++ r ∷ []) n ≡ Some r
 unfolding reference_at
 new_there references r zero is = absurd (omega (arith, is))
@@ -157,7 +177,7 @@ new_there references r (suc n) is =
 
 -- One more reference of an array's type, and it on top.
 pub record HasArrayMore (place : Place) (before after : StateFacts) : Type 0 where
-  pub reference : Reference Unknown
+  pub reference : Reference
   pub variables : after.variables ≡ before.variables ++ vars.Reference (length before.references + 1) ∷ []
   pub references : after.references ≡ before.references ++ reference ∷ []
   pub place_is : reference.place ≡ place
@@ -189,7 +209,7 @@ array_more ks place known after has form array more =
     let found : reference_at after.references r ≡ Some more.reference =
     ap (λ rs. reference_at rs r) more.references ∙ new_there known.references more.reference r (omega arith) in
     let of : is_of_place after place r ≡ true =
-    ap (λ o. option_map_or (λ (x : Reference Unknown). same_place x.place place) o true) found
+    ap (λ o. option_map_or (λ (x : Reference). same_place x.place place) o true) found
     ∙ ap (λ p. same_place p place) more.place_is ∙ own_place place array in
     record {
       form = form;

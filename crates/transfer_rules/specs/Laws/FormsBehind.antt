@@ -52,7 +52,7 @@ use Rattle.transfer_rules.specs.Laws.CalledForms.{IsWithin, called_fits, found_c
 use Rattle.transfer_rules.specs.Laws.Fitting.{AreKinds, over_stack, IsOperand, fit_at, fit_last, fit_pushed, has_stayed, one_taken, operand_before, over_more, over_popped, over_pushed, there_at, three_taken, two_taken}
 use Rattle.transfer_rules.specs.Operands.{Rule, on_condition, on_one, on_three, on_two, with_one}
 use Rattle.transfer_rules.specs.Laws.KindForms.{IsReferenceVar, alike_of, array_kind, merged_fits, number_fits, pushed_form, reference_fits, taken_fits, when_same}
-use Rattle.transfer_rules.specs.Laws.FittingResults.{GivesNumber, array_more, comparison_number, frame_kept, number_more, one_set, put_sets, result_number, some_number, stored_keeps}
+use Rattle.transfer_rules.specs.Laws.FittingResults.{GivesNumber, array_more, comparison_number, frame_kept, item_number, number_more, one_set, put_sets, result_number, stored_keeps}
 
 -- ---- states
 
@@ -343,7 +343,7 @@ module _ (unit : MethodUnit) where
       → FitsStack unit (Some (Int ∷ stack)) (with_item_of v w x)
   unfolding with_item
   item_fits (vars.Reference r) (vars.Number i) stack x is fits has =
-      gives_number stack x (with_item r x) has (item_form r x has.form) (some_number _ _ x)
+      gives_number stack x (with_item r i x) has (item_form r i x has.form) (item_number r i x)
   item_fits (vars.Reference r) (vars.Reference q) stack x is fits has = elim fits [ ]
   item_fits (vars.Reference r) vars.Text stack x is fits has = elim fits [ ]
   item_fits (vars.Number e) w stack x is fits has = elim is [ ]
@@ -361,20 +361,20 @@ module _ (unit : MethodUnit) where
       second.fits last))
   read_fits place _ after known typed has = absurd (none-some after typed)
 
-  write_fits : (u v w : Var) (stack : List Kind) (x : StateFacts) → IsReferenceVar u → FitsKind x Int v
+  write_fits : (u v w : Var) (stack : List Kind) (x : StateFacts) → IsReferenceVar u → IsOperand x Int v
       → IsOperand x Int w
       → HasKinds (kinds_over unit stack) x → FitsStack unit (Some stack) (with_item_put u v w x)
-  unfolding with_stored
-  write_fits (vars.Reference r) (vars.Number i) (vars.Number value) stack x is fits own has =
-      over_stack unit stack (with_stored r value x)
-      (frame_kept (kinds_over unit stack) x (with_stored r value x) has (stored_form r value x has.form own.there)
-      (stored_keeps x _))
-  write_fits (vars.Reference r) (vars.Number i) (vars.Reference q) stack x is fits own has = elim own.fits [ ]
-  write_fits (vars.Reference r) (vars.Number i) vars.Text stack x is fits own has = elim own.fits [ ]
-  write_fits (vars.Reference r) (vars.Reference q) w stack x is fits own has = elim fits [ ]
-  write_fits (vars.Reference r) vars.Text w stack x is fits own has = elim fits [ ]
-  write_fits (vars.Number e) v w stack x is fits own has = elim is [ ]
-  write_fits vars.Text v w stack x is fits own has = elim is [ ]
+  write_fits (vars.Reference r) (vars.Number i) (vars.Number value) stack x is index own has =
+      over_stack unit stack (with_stored r i value x)
+      (frame_kept (kinds_over unit stack) x (with_stored r i value x) has
+      (stored_form r i value x has.form index.there own.there)
+      (stored_keeps r i value x))
+  write_fits (vars.Reference r) (vars.Number i) (vars.Reference q) stack x is index own has = elim own.fits [ ]
+  write_fits (vars.Reference r) (vars.Number i) vars.Text stack x is index own has = elim own.fits [ ]
+  write_fits (vars.Reference r) (vars.Reference q) w stack x is index own has = elim index.fits [ ]
+  write_fits (vars.Reference r) vars.Text w stack x is index own has = elim index.fits [ ]
+  write_fits (vars.Number e) v w stack x is index own has = elim is [ ]
+  write_fits vars.Text v w stack x is index own has = elim is [ ]
 
   written_fits : (place : Place) (stack after : List Kind) (known : StateFacts)
       → kinds.behind_store place stack ≡ Some after
@@ -386,7 +386,7 @@ module _ (unit : MethodUnit) where
       (λ s. FitsStack unit (Some s) (with_item_put lowest lower upper x)) both.1
       (write_fits lowest lower upper rest x
       (reference_fits x array lowest (and_parts (is_reference array) (takes place array) both.0).0 first.fits)
-      second.fits
+      second
       third last))
   written_fits place _ after known typed has = absurd (none-some after typed)
 

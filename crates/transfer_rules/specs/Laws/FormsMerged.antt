@@ -5,6 +5,7 @@ use Rattle.std.specs.List.{AllByRecursion, list_all}
 use Rattle.std.specs.Option.{ForSome, option_and_then, option_map, option_map_or}
 use Rattle.std.proofs.lemmas.Bool.Decides.{Decides-eqb}
 use Rattle.std.proofs.lemmas.Option.{same_Some}
+use Rattle.array_contents.specs.Contents.{Contents}
 use Rattle.cil_model.specs.Places.{place_number}
 use Rattle.cil_model.specs.Values.{same_place}
 use Rattle.cil_model.specs.declared.place.Kind.{Kind}
@@ -26,13 +27,12 @@ use Rattle.merged_numbers.specs.Merging.{Outcome}
 use Rattle.merged_states.proofs.Formed.{HasArrayPlace, merged_form, normal_form, pairs_have}
 use Rattle.merged_states.specs.Alike.{AreLike, AreLikeStates, IsLike}
 use Rattle.merged_states.specs.Laws.Frames.{alike_of, same_entry}
-use Rattle.merged_states.specs.Merging.{NumberRule, join, known_as, merged_as, merged_by, merged_known, normal, normal_as, normal_by, normal_known, widen}
-use Rattle.merged_states.specs.Parts.{numbers_known, unknown_items}
+use Rattle.merged_states.specs.Merging.{Rule, join, joining, known_as, merged_as, merged_by, merged_known, normal, normal_as, normal_by, normal_known, widen, widening}
+use Rattle.merged_states.specs.Parts.{entry_of, numbers_known}
 use Rattle.merged_states.specs.declared.merging.Merging.TheVariants.{Join, Widening}
 use Rattle.state_facts.specs.Forms.{HasForm, HasVar, IsArrayPlace}
 use Rattle.state_facts.specs.StateFacts as states
 use Rattle.state_facts.specs.StateFacts.{StateFacts, State, both_of_same_place}
-use Rattle.state_facts.specs.declared.reference.Unknown.{Unknown}
 use Rattle.symbolic_values.specs.Pairing.{origin}
 use Rattle.symbolic_values.specs.declared.def.Def.{Def}
 use Rattle.symbolic_values.specs.declared.pairs.Key.{Key}
@@ -47,7 +47,7 @@ use Rattle.transfer_rules.specs.Laws.KindForms.{zero_of_place}
 both_number : (m n k : ℕ) → (m == k) ≡ true → (n == k) ≡ true → (m == n) ≡ true
 both_number m n k first second = (Decides-eqb m n).1 ((Decides-eqb m k).0 first ∙ sym ((Decides-eqb n k).0 second))
 
-both_place : (place : Place) (x y : Option (Reference Unknown))
+both_place : (place : Place) (x y : Option Reference)
     → option_map_or (λ r. same_place r.place place) x true ≡ true
     → option_map_or (λ r. same_place r.place place) y true ≡ true → both_of_same_place x y ≡ true
 both_place place None y first second = refl
@@ -55,7 +55,7 @@ both_place place (Some x) None first second = refl
 both_place place (Some x) (Some y) first second =
     both_number (place_number x.place) (place_number y.place) (place_number place) first second
 
-no_place : (references others : List (Reference Unknown)) (r q : ℕ) → r ≡ 0
+no_place : (references others : List Reference) (r q : ℕ) → r ≡ 0
     → both_of_same_place (states.reference_at references r) (states.reference_at others q) ≡ true
 unfolding states.reference_at
 no_place references others zero q is = refl
@@ -109,13 +109,13 @@ fitting_like unit (Some stack) (Some a) (Some b) first second = record {
 -- ---- a merged reference
 
 -- The type of a merged reference is that of one of the two.
-record HasOnePlace (a b : List (Reference Unknown)) (u : Key) (o : Option (Reference Unknown)) : Type 0 where
-  reference : Reference Unknown
+record HasOnePlace (a b : List Reference) (u : Key) (o : Option Reference) : Type 0 where
+  reference : Reference
   is : o ≡ Some reference
   place_is : reference.place ≡ one_place (frames.place_at a u.s) (frames.place_at b u.t)
 
-merged_at : (a b : List (Reference Unknown)) (us : List Key) (lengths : List Expr) (i : ℕ) → i < length us
-    → HasOnePlace a b (get_or us i origin) (slice_get (map unknown_items (merged_references a b us lengths)) i)
+merged_at : (a b : List Reference) (us : List Key) (lengths : List Expr) (i : ℕ) → i < length us
+    → HasOnePlace a b (get_or us i origin) (slice_get (map entry_of (merged_references a b us lengths)) i)
 merged_at a b [] lengths i below = absurd (omega (arith, below))
 merged_at a b (u ∷ us) lengths zero below = record { reference = _; is = refl; place_is = refl }
 merged_at a b (u ∷ us) lengths (suc i) below =
@@ -125,7 +125,7 @@ merged_at a b (u ∷ us) lengths (suc i) below =
 abbrev of_place : Place → Option Place → Bool
 of_place place found = option_map_or (λ p. same_place p place) found true
 
-read_place : (place : Place) (o : Option (Reference Unknown))
+read_place : (place : Place) (o : Option Reference)
     → option_map_or (λ r. same_place r.place place) o true ≡ of_place place (frames.place_in o)
 read_place place None = refl
 read_place place (Some r) = refl
@@ -134,7 +134,7 @@ read_at : (known : StateFacts) (place : Place) (r : ℕ) → is_of_place known p
     → of_place place (frames.place_at known.references r) ≡ true
 read_at known place r is =
     sym (read_place place (frames.reference_at known.references r))
-    ∙ ap (λ o. option_map_or (λ (x : Reference Unknown). same_place x.place place) o true)
+    ∙ ap (λ o. option_map_or (λ (x : Reference). same_place x.place place) o true)
     (sym (same_entry known.references r)) ∙ is
 
 either_place : (place : Place) (p q : Option Place) → of_place place p ≡ true → of_place place q ≡ true
@@ -161,7 +161,7 @@ all_at P (u ∷ us) (suc i) all below = all_at P us i all.1 (omega (arith, below
 -- The references of a state in new names.
 record IsMergedOf (a b to : StateFacts) (us : List Key) : Type 0 where
   lengths : List Expr
-  references : to.references ≡ map unknown_items (merged_references a.references b.references us lengths)
+  references : to.references ≡ map entry_of (merged_references a.references b.references us lengths)
   arrays : AllByRecursion (HasArrayPlace a.references b.references) us
 
 new_place : (a b to : StateFacts) (us : List Key) (merged : IsMergedOf a b to us) (place : Place) (i r q : ℕ)
@@ -173,9 +173,9 @@ unfolding states.reference_at
 new_place a b to us merged place i r q below r_is q_is first second =
     let u = get_or us i origin in
     let found = merged_at a.references b.references us merged.lengths i below in
-    ap (λ references. option_map_or (λ (x : Reference Unknown). same_place x.place place) (slice_get references i) true)
+    ap (λ references. option_map_or (λ (x : Reference). same_place x.place place) (slice_get references i) true)
     merged.references
-    ∙ ap (λ o. option_map_or (λ (x : Reference Unknown). same_place x.place place) o true) found.is
+    ∙ ap (λ o. option_map_or (λ (x : Reference). same_place x.place place) o true) found.is
     ∙ ap (λ p. same_place p place) found.place_is
     ∙ either_place place (frames.place_at a.references u.s) (frames.place_at b.references u.t)
     (read_at a place u.s (subst (λ n. is_of_place a place n ≡ true) (sym r_is) first))
@@ -268,8 +268,8 @@ all_fit a b to us m n l merged count (k ∷ ks) (w ∷ ws) (v ∷ vs) (q ∷ qs)
 
 -- ---- states in new names
 
-many : (a b : List (Reference Unknown)) (us : List Key) (lengths : List Expr)
-    → length us ≡ length (map unknown_items (merged_references a b us lengths))
+many : (a b : List Reference) (us : List Key) (lengths : List Expr)
+    → length us ≡ length (map entry_of (merged_references a b us lengths))
 many a b [] lengths = refl
 many a b (u ∷ us) lengths = ap suc (many a b us (behind lengths))
 
@@ -281,17 +281,17 @@ named_is new f is = by (list_all is_near new.numbers.exprs) is
     by false same = absurd cc
 
 module _ (ks : List Kind) (a b : StateFacts) (first : HasKinds ks a) (second : HasKinds ks b) where
-  known_fits : (f : FramePairing) (outcome : Outcome) (def : Key → Option Def) (pairs : List Pair)
+  known_fits : (f : FramePairing) (outcome : Outcome) (def : Key → Option Def) (pairs : List Pair) (contents : Contents)
       → paired_frames a.variables a.references b.variables b.references ≡ Some f
-      → HasForm (known_as a b f outcome def pairs)
-      → HasKinds ks (known_as a b f outcome def pairs)
-  known_fits f outcome def pairs found form =
+      → HasForm (known_as a b f outcome def pairs contents)
+      → HasKinds ks (known_as a b f outcome def pairs contents)
+  known_fits f outcome def pairs contents found form =
       let like = like_kinds a b ks a.variables b.variables first.fit second.fit in
       let says : SaysBoth a.variables b.variables f =
       frames_say a.variables b.variables a.references b.references (Some f) (alike_of a b a.variables b.variables like)
       (sym found) in
       let us = f.references.keys in
-      let to = known_as a b f outcome def pairs in
+      let to = known_as a b f outcome def pairs contents in
       let names : named_frame a.variables (pairs_of a.variables b.variables)
       (pairing_by (pairs_of a.variables b.variables) a.variables a.references b.variables b.references) ≡ f =
       named_is _ f found in
@@ -316,7 +316,7 @@ each_fits : (ks : List Kind) (make : Outcome → StateFacts) (o : Option Outcome
 each_fits ks make None form fits = tt
 each_fits ks make (Some outcome) form fits = fits outcome (form (make outcome) refl)
 
-merged_fit : (ks : List Kind) (rule : NumberRule) (a b : StateFacts) → HasKinds ks a → HasKinds ks b
+merged_fit : (ks : List Kind) (rule : Rule) (a b : StateFacts) → HasKinds ks a → HasKinds ks b
     → ForSome (merged_known rule a b) HasForm
     → AreKinds ks (merged_known rule a b)
 merged_fit ks rule a b first second = by (paired_frames a.variables a.references b.variables b.references) refl
@@ -326,8 +326,9 @@ merged_fit ks rule a b first second = by (paired_frames a.variables a.references
         → AreKinds ks (option_and_then (merged_by rule a b) found)
     by None is form = tt
     by (Some f) is form =
-        each_fits ks (merged_as a b f) (rule f.numbers.keys (numbers_known a.facts) (numbers_known b.facts)) form
-        (λ outcome own. known_fits ks a b first second f outcome _ _ is own)
+        each_fits ks (merged_as rule.making a b f)
+        (rule.numbers f.numbers.keys (numbers_known a.facts) (numbers_known b.facts)) form
+        (λ outcome own. known_fits ks a b first second f outcome _ _ _ is own)
 
 normal_fit : (ks : List Kind) (a : StateFacts) → HasKinds ks a → ForSome (normal_known a) HasForm
     → AreKinds ks (normal_known a)
@@ -337,7 +338,12 @@ normal_fit ks a has = by (paired_frames a.variables a.references a.variables a.r
         → ForSome (option_and_then (normal_by a) found) HasForm → AreKinds ks (option_and_then (normal_by a) found)
     by None is form = tt
     by (Some f) is form = each_fits ks (normal_as a f) (numbers.normed f.numbers.keys (numbers_known a.facts)) form
-        (λ outcome own. known_fits ks a a has has f outcome _ _ is own)
+        (λ outcome own. known_fits ks a a has has f outcome _ _ _ is own)
+
+both_alike : (ks : List Kind) (a b : StateFacts) → HasKinds ks a → HasKinds ks b
+    → frames.AreAlike a.variables b.variables
+both_alike ks a b first second =
+    alike_of a b a.variables b.variables (like_kinds a b ks a.variables b.variables first.fit second.fit)
 
 pub join_fits : (unit : MethodUnit) (at : Option (List Kind)) (a b : State) → FitsStack unit at a → FitsStack unit at b
     → FitsStack unit at (join a b)
@@ -346,7 +352,8 @@ join_fits unit at (Some a) None first second = first
 join_fits unit None (Some a) (Some b) first second = elim first [ ]
 join_fits unit (Some stack) (Some a) (Some b) first second =
     over_stack unit stack (join (Some a) (Some b))
-    (merged_fit (kinds_over unit stack) numbers.joined a b first second (merged_form Join a b first.form second.form))
+    (merged_fit (kinds_over unit stack) joining a b first second (merged_form Join a b first.form second.form
+    (both_alike (kinds_over unit stack) a b first second)))
 
 pub widen_fits : (unit : MethodUnit) (at : Option (List Kind)) (a b : State) → FitsStack unit at a → FitsStack unit at b
     → FitsStack unit at (widen a b)
@@ -355,8 +362,8 @@ widen_fits unit at (Some a) None first second = first
 widen_fits unit None (Some a) (Some b) first second = elim first [ ]
 widen_fits unit (Some stack) (Some a) (Some b) first second =
     over_stack unit stack (widen (Some a) (Some b))
-    (merged_fit (kinds_over unit stack) numbers.widened a b first second
-    (merged_form Widening a b first.form second.form))
+    (merged_fit (kinds_over unit stack) widening a b first second
+    (merged_form Widening a b first.form second.form (both_alike (kinds_over unit stack) a b first second)))
 
 pub normal_fits : (unit : MethodUnit) (at : Option (List Kind)) (a : State) → FitsStack unit at a
     → FitsStack unit at (normal a)

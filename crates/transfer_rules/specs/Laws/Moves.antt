@@ -22,7 +22,6 @@ use Rattle.state_facts.specs.Holds.{HasValue, HoldsBy, HoldsIn, length_of_array}
 use Rattle.state_facts.specs.Keeps.{HoldsOn}
 use Rattle.state_facts.specs.Moves.{popped}
 use Rattle.state_facts.specs.StateFacts.{StateFacts, State, length_at, length_of, reference_at}
-use Rattle.state_facts.specs.declared.reference.Unknown.{Unknown}
 use Rattle.state_facts.proofs.Agreeing.{as_many}
 use Rattle.state_facts.proofs.ArraysHold.{present_at}
 use Rattle.state_facts.proofs.MovesHold.{put_keeps}
@@ -76,7 +75,7 @@ length_is known vs heap number array zero holds there =
     constant_is known vs heap number array (pos 0) holds ∙ sym (ap (length_of_array heap) holds.null)
 length_is known vs heap number array (suc r) holds there =
     let found = present_at known.references (suc r) (omega arith) there in
-    ap (λ (o : Option (Reference Unknown)). worth number (length_of o)) found.1
+    ap (λ (o : Option Reference). worth number (length_of o)) found.1
     ∙ (holds.references (suc r) found.0 found.1).length_is
 
 -- ---- puts

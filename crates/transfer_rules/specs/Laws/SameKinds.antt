@@ -16,7 +16,6 @@ use Rattle.frame_names.specs.declared.var.Var.{Var}
 use Rattle.frame_names.specs.declared.var.Var.TheVariants as vars
 use Rattle.state_facts.specs.Forms.{HasVar}
 use Rattle.state_facts.specs.StateFacts.{StateFacts, State, reference_at}
-use Rattle.state_facts.specs.declared.reference.Unknown.{Unknown}
 use Rattle.transfer_rules.specs.Forms.{FitKinds, FitsKind, HasKinds, is_of_place, kind_in}
 use Rattle.transfer_rules.specs.Laws.Fitting.{AreKinds}
 
@@ -25,7 +24,7 @@ use Rattle.transfer_rules.specs.Laws.Fitting.{AreKinds}
 of_place : Place → Option Place → Bool
 of_place place found = option_map_or (λ p. same_place p place) found true
 
-read_place : (place : Place) (o : Option (Reference Unknown))
+read_place : (place : Place) (o : Option Reference)
     → option_map_or (λ r. same_place r.place place) o true ≡ option_map_or (λ p. same_place p place)
     (option_map (λ r. r.place) o) true
 read_place place None = refl
@@ -43,8 +42,8 @@ unfolding reference_at
 null_only known zero none there = refl
 null_only known (suc q) none there = absurd (by known.references q none (omega (arith, there)))
   where
-    by : (references : List (Reference Unknown)) (i : ℕ)
-        → option_map (λ (r : Reference Unknown). r.place) (slice_get references i) ≡ None
+    by : (references : List Reference) (i : ℕ)
+        → option_map (λ (r : Reference). r.place) (slice_get references i) ≡ None
         → i < length references → ⊥
     by [] i none below = omega (arith, below)
     by (x ∷ references) zero none below = none-some x.place (sym none)
@@ -105,12 +104,12 @@ bools_place : (place : Place) → same_place place places.Bools ≡ true → pla
 bools_place places.Bools is = refl
 bools_place _ is = absurd (false≢true is)
 
-ints_in : (o : Option (Reference Unknown)) → option_map_or (λ r. same_place r.place places.Ints) o true ≡ true
+ints_in : (o : Option Reference) → option_map_or (λ r. same_place r.place places.Ints) o true ≡ true
     → IsOfPlace places.Ints (option_map (λ r. r.place) o)
 ints_in None is = tt
 ints_in (Some r) is = ints_place r.place is
 
-bools_in : (o : Option (Reference Unknown)) → option_map_or (λ r. same_place r.place places.Bools) o true ≡ true
+bools_in : (o : Option Reference) → option_map_or (λ r. same_place r.place places.Bools) o true ≡ true
     → IsOfPlace places.Bools (option_map (λ r. r.place) o)
 bools_in None is = tt
 bools_in (Some r) is = bools_place r.place is

@@ -174,6 +174,7 @@ top_as known f old new rest heap number array holds same =
           (have_pushed number array end.first (over f rest) end.last new end.have (same end.last end.has)));
       references = holds.references;
       apart = holds.apart;
+      contents = holds.contents;
     }
 
 -- ---- operands by their forms

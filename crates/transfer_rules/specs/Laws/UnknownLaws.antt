@@ -112,6 +112,7 @@ nothing_known = record {
   variables = tt;
   references = tt;
   pairs = tt;
+  contents = tt;
 }
 
 pub no_kinds : HasKinds [] no_variables

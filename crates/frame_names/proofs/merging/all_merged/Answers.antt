@@ -4,7 +4,7 @@ use Rattle.frame_names.proofs.ListSteps.{merged_step}
 use Rattle.frame_names.proofs.merging.all_merged.Goals as goal
 
 pub loop-index-preserved : goal.loop-index-preserved
-loop-index-preserved g c =
+loop-index-preserved c =
     ap (λ l. l ++ merged_references c.args.a.now c.args.b.now (drop (c.loop-index.index + 1) c.args.keys.now) (drop (c.loop-index.index + 1) c.args.lengths.now))
     c.in_ok-push.ensures.items
     ∙ merged_step c.args.a.now c.args.b.now c.args.keys.now c.args.lengths.now c.loop-index.merged.items c.loop-index.index _ c.merged_reference.result

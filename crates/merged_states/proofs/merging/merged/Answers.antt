@@ -4,7 +4,8 @@ use Rattle.merged_states.proofs.merging.merged.Goals as goal
 
 pub returns-clause-form : goal.returns-clause-form
 returns-clause-form c =
-    IfOk-weaker c.known_of_both.result _ _ (λ known is. both_formed c.args.rule c.args.a.now c.args.b.now known c.requires.first c.requires.second is)
+    IfOk-weaker c.known_of_both.result _ _
+    (λ known is. both_formed c.args.rule c.args.a.now c.args.b.now known c.requires.first c.requires.second c.requires.alike is)
     c.known_of_both.ensures
 
 pub returns-clause-left : goal.returns-clause-left

@@ -1,5 +1,4 @@
 use Rattle.std.proofs.Common.{◌<◌, length, w64, to_z, of_z, get_or, None, pos, arith, rules, FitsSigned}
-use Rattle.std.specs.Int.{w128}
 use Rattle.std.proofs.lemmas.Int.{to_z-of_z}
 use Rattle.pentagon_domain.specs.declared.bound_row.BoundRow.{BoundRow}
 use Rattle.pentagon_domain.proofs.Reaches.{reach_more, reached_all}
@@ -11,8 +10,7 @@ loop-row-preserved c = λ t inside.
     let none : BoundRow = record { s = 0; t = 0; k = pos 0 } in
     let row : BoundRow = get_or c.args.rows.now c.loop-row.row-index none in
     let fits : FitsSigned w64 row.k = search rules in
-    let sum_fits : FitsSigned w128 c.sum_of.result = search rules in
-    let raised = rw (to_z-of_z w128 c.sum_of.result sum_fits, c.sum_of.ensures, to_z-of_z w64 row.k fits) at (c.raise.ensures t inside) in
+    let raised = rw (to_z-of_z w64 row.k fits) at (c.raise.ensures t inside) in
     reach_more (to_z w64 (of_z w64 c.args.k)) c.args.rows.now c.loop-row.row-index t (get_or c.loop-row.gaps t None) (get_or c.raise.new.gaps t None) _ none
     c.loop-row-test.true raised (c.loop-row.invariant t before)
 

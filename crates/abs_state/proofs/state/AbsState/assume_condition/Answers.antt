@@ -13,3 +13,12 @@ returns-then-not-branch-clause-form c = λ x is. c.self.invariant x (c.self.view
 
 pub returns-else-not-branch-clause-form : goal.returns-else-not-branch-clause-form
 returns-else-not-branch-clause-form c = λ x is. c.self.invariant x (c.self.view_is ∙ is)
+
+pub assume-requires-clause-form : goal.assume-requires-clause-form
+assume-requires-clause-form c = c.self.invariant _ c.in-Some.is
+
+pub invariant_of-self-in_err-assume : goal.invariant_of-self-in_err-assume
+invariant_of-self-in_err-assume c = λ x is. same_form _ x is c.in_err-assume.ensures.form
+
+pub returns-in_err-assume-clause-form : goal.returns-in_err-assume-clause-form
+returns-in_err-assume-clause-form c = λ x is. c.self.invariant x (c.self.view_is ∙ is)

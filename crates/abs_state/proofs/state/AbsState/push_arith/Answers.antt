@@ -1,6 +1,6 @@
 use Rattle.std.proofs.Common.{rules, sym, ◌∙◌}
 use Rattle.state_facts.proofs.Growing.{same_form, formed_new}
-use Rattle.state_facts.proofs.ResultForms.{with_result_form}
+use Rattle.state_facts.proofs.ResultForms.{is_there, with_result_form}
 use Rattle.abs_state.proofs.state.AbsState.push_arith.Goals as goal
 
 pub invariant_of-self-else-not-branch : goal.invariant_of-self-else-not-branch
@@ -14,3 +14,17 @@ returns-then-not-branch-clause-form c = λ x is. c.self.invariant x (c.self.view
 
 pub returns-else-not-branch-clause-form : goal.returns-else-not-branch-clause-form
 returns-else-not-branch-clause-form c = λ x is. c.self.invariant x (c.self.view_is ∙ is)
+
+pub arith-requires-clause-first : goal.arith-requires-clause-first
+arith-requires-clause-first c =
+    is_there c.in-Some.known c.args.a (c.requires.first _ (sym c.self.view_is ∙ c.in-Some.is))
+
+pub arith-requires-clause-second : goal.arith-requires-clause-second
+arith-requires-clause-second c =
+    is_there c.in-Some.known c.args.b (c.requires.second _ (sym c.self.view_is ∙ c.in-Some.is))
+
+pub invariant_of-self-in_err-arith : goal.invariant_of-self-in_err-arith
+invariant_of-self-in_err-arith c = λ x is. same_form _ x is (rw c.in_err-arith.ensures.err (c.self.invariant _ c.in-Some.is))
+
+pub returns-in_err-arith-clause-form : goal.returns-in_err-arith-clause-form
+returns-in_err-arith-clause-form c = λ x is. c.self.invariant x (c.self.view_is ∙ is)

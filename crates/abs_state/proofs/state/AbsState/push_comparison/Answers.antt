@@ -14,3 +14,9 @@ returns-then-not-branch-clause-form c = λ x is. c.self.invariant x (c.self.view
 
 pub returns-else-not-branch-clause-form : goal.returns-else-not-branch-clause-form
 returns-else-not-branch-clause-form c = λ x is. c.self.invariant x (c.self.view_is ∙ is)
+
+pub invariant_of-self-in_err-compare : goal.invariant_of-self-in_err-compare
+invariant_of-self-in_err-compare c = λ x is. same_form _ x is (rw c.in_err-compare.ensures.err (c.self.invariant _ c.in-Some.is))
+
+pub returns-in_err-compare-clause-form : goal.returns-in_err-compare-clause-form
+returns-in_err-compare-clause-form c = λ x is. c.self.invariant x (c.self.view_is ∙ is)

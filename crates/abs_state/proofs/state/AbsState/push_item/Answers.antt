@@ -4,10 +4,19 @@ use Rattle.state_facts.proofs.MoveForms.{item_form}
 use Rattle.abs_state.proofs.state.AbsState.push_item.Goals as goal
 
 pub invariant_of-self-else-not-branch : goal.invariant_of-self-else-not-branch
-invariant_of-self-else-not-branch c = λ x is. same_form _ x is (formed_new _ _ (item_form c.args.r c.in-Some.known (c.self.invariant _ c.in-Some.is)) (c.in_ok-load.ensures.ok (search rules)))
+invariant_of-self-else-not-branch c = λ x is. same_form _ x is (formed_new _ _ (item_form c.args.r c.args.at c.in-Some.known (c.self.invariant _ c.in-Some.is)) (c.in_ok-load.ensures.ok (search rules)))
 
 pub returns-then-not-branch-clause-form : goal.returns-then-not-branch-clause-form
 returns-then-not-branch-clause-form c = λ x is. c.self.invariant x (c.self.view_is ∙ is)
 
 pub returns-else-not-branch-clause-form : goal.returns-else-not-branch-clause-form
 returns-else-not-branch-clause-form c = λ x is. c.self.invariant x (c.self.view_is ∙ is)
+
+pub load-requires : goal.load-requires
+load-requires c = c.self.invariant _ c.in-Some.is
+
+pub invariant_of-self-in_err-load : goal.invariant_of-self-in_err-load
+invariant_of-self-in_err-load c = λ x is. same_form _ x is (rw c.in_err-load.ensures.err (c.self.invariant _ c.in-Some.is))
+
+pub returns-in_err-load-clause-form : goal.returns-in_err-load-clause-form
+returns-in_err-load-clause-form c = λ x is. c.self.invariant x (c.self.view_is ∙ is)

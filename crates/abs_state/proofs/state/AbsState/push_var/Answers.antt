@@ -8,3 +8,10 @@ invariant_of-self-2 c = λ x is. same_form _ x is (rw c.in_ok-push.ensures.ok (p
 
 pub returns-clause-form : goal.returns-clause-form
 returns-clause-form c = λ x is. c.self.invariant x (c.self.view_is ∙ is)
+
+pub invariant_of-self-in_err-push : goal.invariant_of-self-in_err-push
+invariant_of-self-in_err-push c =
+    λ x is. same_form _ x is (rw c.in_err-push.ensures.err (c.self.invariant _ c.in-Some.is))
+
+pub returns-in_err-push-clause-form : goal.returns-in_err-push-clause-form
+returns-in_err-push-clause-form c = λ x is. c.self.invariant x (c.self.view_is ∙ is)

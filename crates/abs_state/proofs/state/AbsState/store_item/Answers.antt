@@ -5,7 +5,8 @@ use Rattle.abs_state.proofs.state.AbsState.store_item.Goals as goal
 
 pub invariant_of-self-else-not-branch : goal.invariant_of-self-else-not-branch
 invariant_of-self-else-not-branch c = λ x is. same_form _ x is (formed_new _ _
-    (stored_form c.args.r c.args.value c.in-Some.known (c.self.invariant _ c.in-Some.is) (c.requires.value _ (sym c.self.view_is ∙ c.in-Some.is)))
+    (stored_form c.args.r c.args.at c.args.value c.in-Some.known (c.self.invariant _ c.in-Some.is)
+    (c.requires.index _ (sym c.self.view_is ∙ c.in-Some.is)) (c.requires.value _ (sym c.self.view_is ∙ c.in-Some.is)))
     (c.in_ok-store.ensures.ok (search rules)))
 
 pub returns-then-not-branch-clause-form : goal.returns-then-not-branch-clause-form
@@ -13,3 +14,18 @@ returns-then-not-branch-clause-form c = λ x is. c.self.invariant x (c.self.view
 
 pub returns-else-not-branch-clause-form : goal.returns-else-not-branch-clause-form
 returns-else-not-branch-clause-form c = λ x is. c.self.invariant x (c.self.view_is ∙ is)
+
+pub store-requires-clause-form : goal.store-requires-clause-form
+store-requires-clause-form c = c.self.invariant _ c.in-Some.is
+
+pub store-requires-clause-index : goal.store-requires-clause-index
+store-requires-clause-index c = c.requires.index _ (sym c.self.view_is ∙ c.in-Some.is)
+
+pub store-requires-clause-value : goal.store-requires-clause-value
+store-requires-clause-value c = c.requires.value _ (sym c.self.view_is ∙ c.in-Some.is)
+
+pub invariant_of-self-in_err-store : goal.invariant_of-self-in_err-store
+invariant_of-self-in_err-store c = λ x is. same_form _ x is (rw c.in_err-store.ensures.err (c.self.invariant _ c.in-Some.is))
+
+pub returns-in_err-store-clause-form : goal.returns-in_err-store-clause-form
+returns-in_err-store-clause-form c = λ x is. c.self.invariant x (c.self.view_is ∙ is)

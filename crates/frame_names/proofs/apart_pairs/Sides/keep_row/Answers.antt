@@ -4,7 +4,7 @@ use Rattle.frame_names.proofs.ListSteps.{row_step}
 use Rattle.frame_names.proofs.apart_pairs.Sides.keep_row.Goals as goal
 
 pub loop-lower-preserved : goal.loop-lower-preserved
-loop-lower-preserved g c =
+loop-lower-preserved c =
     let self = c.args.self.now in
     record {
       so_far = row_step (with_test (are_apart_in_both self.keys.now self.a.now self.a_apart.now self.b.now self.b_apart.now) c.args.higher) c.args.apart.now

@@ -10,9 +10,9 @@ loop-first-preserved c = λ t inside.
     let none : BoundRow = record { s = 0; t = 0; k = pos 0 } in
     let first : BoundRow = get_or c.args.firsts.now c.loop-first.first-index none in
     let fits : FitsSigned w64 first.k = search rules in
-    let raised = rw (to_z-of_z w64 first.k fits, c.rows_from.ensures.value) at (c.raise_all.ensures t inside) in
+    let raised = rw (to_z-of_z w64 first.k fits, c.rows_near.ensures.value) at (c.raise_all.ensures t inside) in
     behind_step c.args.self.now c.args.firsts.now c.loop-first.first-index t (get_or c.loop-first.gaps t None) (get_or c.raise_all.new.gaps t None) _ none
-    c.rows_from.ensures.form c.loop-first-test.true raised (c.loop-first.invariant t before)
+    c.rows_near.ensures.form c.loop-first-test.true raised (c.loop-first.invariant t before)
 
 pub returns : goal.returns
 returns c = λ t inside. behind_all c.args.self.now c.args.firsts.now c.loop-first.first-index t _ _ c.loop-first-test.false (c.loop-first.invariant t inside)

@@ -1,6 +1,15 @@
-use Rattle.std.proofs.Common.{rules, arith}
+use Rattle.std.proofs.Common.{rules, ◌<◌, ◌-◌, sym, subst, arith}
+use Rattle.state_facts.specs.Assuming.{AreNamedTests}
+use Rattle.state_facts.proofs.AssumptionForms.{ready_behind}
 use Rattle.state_facts.proofs.Stepping.{steps_reached, steps_ok, steps_err}
 use Rattle.state_facts.proofs.known.Known.+assume_steps.Goals as goal
+
+pub assume_steps-requires : goal.assume_steps-requires
+assume_steps-requires t c =
+    let less : c.args.steps - 1 < t = search rules in
+    let named = subst (AreNamedTests c.args.self.now) c.in-Some.is c.requires.named in
+    let ready = ready_behind c.in-Some.test c.args.self.now c.assume_test.new.self c.requires.form named (c.in_ok-assume_test.ensures.ok (search rules)) in
+    (less, (ready.form, subst (AreNamedTests c.assume_test.new.self) (sym c.following-next.ensures) ready.named))
 
 pub returns-clause-reached : goal.returns-clause-reached
 returns-clause-reached t c =

@@ -2,7 +2,7 @@ use Rattle.std.proofs.Common.{rules}
 use Rattle.std.proofs.lemmas.List.Sorted.{IsPartitionPoint-from_clause}
 use Rattle.pentagon_domain.specs.Rows.{is_before}
 use Rattle.pentagon_domain.proofs.Searches.{partitioned, place_is}
-use Rattle.pentagon_domain.proofs.search.place_of.Goals as goal
+use Rattle.pentagon_domain.proofs.search.place_among.Goals as goal
 
 pub returns-clause-value : goal.returns-clause-value
 returns-clause-value c =
