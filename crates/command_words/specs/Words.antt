@@ -29,7 +29,7 @@ abbrev pub file_command : List ℕ → ℕ → Option Command
 file_command word index =
     if bytes_eq word (codes "unit") then Some (commands.Unit index)
     else if bytes_eq word (codes "list") then Some (commands.List index)
-    else if bytes_eq word (codes "check") then Some (commands.Check index)
+    else if bytes_eq word (codes "check") then Some (commands.Check index false)
     else None
 
 -- The command of two words: `unit FILE`, `list FILE` or `check FILE`.
@@ -39,6 +39,17 @@ command_of_two word file = if is_name_word file then file_command word 1 else No
 -- The command that shows the instructions of a method.
 abbrev pub il_command : List ℕ → List ℕ → Option Command
 il_command file method = if is_name_word file && is_name_word method then Some (commands.Il 1 2) else None
+
+-- The command that reports on the file that a word names, and shows what was found of it.
+abbrev pub shown_command : List ℕ → ℕ → Option Command
+shown_command file index = if is_name_word file then Some (commands.Check index true) else None
+
+-- The command whose words are a file and `--show`, in any order.
+abbrev pub check_command : List ℕ → List ℕ → Option Command
+check_command first second =
+    if bytes_eq first (codes "--show") then shown_command second 2
+    else if bytes_eq second (codes "--show") then shown_command first 1
+    else None
 
 -- The greatest seed, and the most methods that are generated.
 abbrev pub MAX_SEED : ℕ
@@ -55,10 +66,11 @@ gen_told _ _ = None
 abbrev pub gen_command : List ℕ → List ℕ → Option Command
 gen_command seed count = gen_told (number_of_word MAX_SEED seed) (number_of_word MAX_METHODS count)
 
--- The command of three words: `il FILE METHOD` or `gen SEED COUNT`.
+-- The command of three words: `il FILE METHOD`, `check FILE --show`, `check --show FILE` or `gen SEED COUNT`.
 unfoldable pub command_of_three : List ℕ → List ℕ → List ℕ → Option Command
 command_of_three word first second =
     if bytes_eq word (codes "il") then il_command first second
+    else if bytes_eq word (codes "check") then check_command first second
     else if bytes_eq word (codes "gen") then gen_command first second
     else None
 
@@ -132,7 +144,7 @@ abbrev pub file_indexes : Command → List ℕ
 file_indexes (commands.Unit file) = file ∷ []
 file_indexes (commands.List file) = file ∷ []
 file_indexes (commands.Il file method) = file ∷ []
-file_indexes (commands.Check file) = file ∷ []
+file_indexes (commands.Check file show) = file ∷ []
 file_indexes (commands.Run run) = run.file ∷ []
 file_indexes (commands.Gen seed count) = []
 
@@ -141,7 +153,7 @@ abbrev pub checked_indexes : Command → List ℕ
 checked_indexes (commands.Unit file) = []
 checked_indexes (commands.List file) = []
 checked_indexes (commands.Il file method) = []
-checked_indexes (commands.Check file) = file ∷ []
+checked_indexes (commands.Check file show) = file ∷ []
 checked_indexes (commands.Run run) = []
 checked_indexes (commands.Gen seed count) = []
 
@@ -150,7 +162,7 @@ abbrev pub used_indexes : Command → List ℕ
 used_indexes (commands.Unit file) = file ∷ []
 used_indexes (commands.List file) = file ∷ []
 used_indexes (commands.Il file method) = file ∷ method ∷ []
-used_indexes (commands.Check file) = file ∷ []
+used_indexes (commands.Check file show) = file ∷ []
 used_indexes (commands.Run run) = run.file ∷ run.method ∷ []
 used_indexes (commands.Gen seed count) = []
 

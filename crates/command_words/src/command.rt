@@ -2,7 +2,7 @@
 
 ghost use Rattle.std.specs.Prelude.{◌≡◌, ◌+◌, ◌<◌, ◌≤◌, ◌^◌, All, IfSome, IsTrue, length, string_bytes};
 ghost use Rattle.std.specs.List.{list_all};
-ghost use Rattle.command_words.specs.Words.{HasArguments, IfGen, IfRun, args_end, command_of, command_of_three, command_of_two, file_indexes, gen_command, il_command, is_name_word, names_run, run_args, run_command, run_steps, tells_steps, used_indexes, word_at, words_bytes};
+ghost use Rattle.command_words.specs.Words.{HasArguments, IfGen, IfRun, args_end, check_command, command_of, command_of_three, command_of_two, file_indexes, gen_command, il_command, is_name_word, names_run, run_args, run_command, run_steps, shown_command, tells_steps, used_indexes, word_at, words_bytes};
 ghost use Rattle.run_arguments.specs.Arguments as arguments;
 
 use run_arguments::{is_argument, read_number};
@@ -18,8 +18,13 @@ pub enum Command {
     List(u32),
     /// The instructions of a method: the file of its assembly, then the method.
     Il(u32, u32),
-    /// The report of the assembly in a file.
-    Check(u32),
+    /// The report of the assembly in a file, and whether it shows the invariant of each method.
+    Check {
+        /// The index of the word that names the file.
+        file: u32,
+        /// True where the report shows the invariants.
+        show: bool,
+    },
     /// A run of a method.
     Run(RunWords),
     /// The summary of the report of an assembly that is generated: its seed, then the number of its methods.
@@ -48,7 +53,7 @@ impl Command {
             Command::Unit(file)
             | Command::List(file)
             | Command::Il(file, _)
-            | Command::Check(file)
+            | Command::Check { file, .. }
             | Command::Run(RunWords { file, .. }) => slice::from_ref(file),
             Command::Gen(_, _) => &[],
         }
@@ -76,7 +81,10 @@ fn command_of_two(word: &str, file: &str) -> Option<Command>
     match word {
         "unit" => Some(Command::Unit(1)),
         "list" => Some(Command::List(1)),
-        "check" => Some(Command::Check(1)),
+        "check" => Some(Command::Check {
+            file: 1,
+            show: false,
+        }),
         _ => None,
     }
 }
@@ -91,6 +99,43 @@ fn il_command(file: &str, method: &str) -> Option<Command>
         return Some(Command::Il(1, 2));
     }
     None
+}
+
+/// The command that reports on the file that the word at an index names, and shows invariants.
+fn shown_command(file: &str, index: u32) -> Option<Command>
+    requires { index < 3 }
+    ensures inside { IfSome result (λ command. All (λ index. index < 3) (used_indexes command)) }
+    ensures no_run { IfSome result (λ command. IfRun command (λ run. ⊥)) }
+    ensures few { IfSome result (λ command. IfGen command (λ seed count. count ≤ 10000)) }
+    ensures command { result ≡ shown_command file.now index }
+{
+    if is_name_word(file) {
+        return Some(Command::Check {
+            file: index,
+            show: true,
+        });
+    }
+    None
+}
+
+/// The word that asks for invariants.
+const SHOW: &str = "--show";
+
+/// The command that reports on a file and shows invariants, where one of two words asks for that and the other may name
+/// a file.
+fn check_command(first: &str, second: &str) -> Option<Command>
+    ensures inside { IfSome result (λ command. All (λ index. index < 3) (used_indexes command)) }
+    ensures no_run { IfSome result (λ command. IfRun command (λ run. ⊥)) }
+    ensures few { IfSome result (λ command. IfGen command (λ seed count. count ≤ 10000)) }
+    ensures command { result ≡ check_command first.now second.now }
+{
+    if first == SHOW {
+        shown_command(second, 2)
+    } else if second == SHOW {
+        shown_command(first, 1)
+    } else {
+        None
+    }
 }
 
 /// The greatest seed that the words may give.
@@ -124,6 +169,7 @@ fn command_of_three(word: &str, first: &str, second: &str) -> Option<Command>
 {
     match word {
         "il" => il_command(first, second),
+        "check" => check_command(first, second),
         "gen" => gen_command(first, second),
         _ => None,
     }
