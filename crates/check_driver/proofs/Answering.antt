@@ -58,11 +58,12 @@ il_cut name method bytes limit is past =
     let cut = large_first (take limit bytes) (omega (arith, length-take limit bytes)) in
     rw (whole, cut) refl
 
-abbrev check_file_answer : List ℕ → List ℕ → Answer
-check_file_answer name bytes = check_answer name bytes (FirstBroken bytes)
+abbrev check_file_answer : List ℕ → Bool → List ℕ → Answer
+check_file_answer name show bytes = check_answer name show bytes (FirstBroken bytes)
 
-check_cut : (name bytes : List ℕ) (limit : ℕ) → limit ≡ READ_LIMIT → READ_LIMIT ≤ length bytes → check_file_answer name bytes ≡ check_file_answer name (take limit bytes)
-check_cut name bytes limit is past =
+check_cut : (name : List ℕ) (show : Bool) (bytes : List ℕ) (limit : ℕ) → limit ≡ READ_LIMIT → READ_LIMIT ≤ length bytes
+    → check_file_answer name show bytes ≡ check_file_answer name show (take limit bytes)
+check_cut name show bytes limit is past =
     let whole = large_first bytes past in
     let cut = large_first (take limit bytes) (omega (arith, length-take limit bytes)) in
     rw (whole, cut) refl
@@ -109,7 +110,8 @@ bytes_alike (commands.List file) words met read h = first_alike (list_file_answe
 bytes_alike (commands.Il file method) words met read h =
     first_alike (il_file_answer (word_at words file) (word_at words method)) met read
     (λ bytes past. il_cut (word_at words file) (word_at words method) bytes READ_LIMIT refl past) h
-bytes_alike (commands.Check file) words met read h = first_alike (check_file_answer (word_at words file)) met read (λ bytes past. check_cut (word_at words file) bytes READ_LIMIT refl past) h
+bytes_alike (commands.Check file show) words met read h =
+    first_alike (check_file_answer (word_at words file) show) met read (λ bytes past. check_cut (word_at words file) show bytes READ_LIMIT refl past) h
 bytes_alike (commands.Gen seed count) words met read h = refl
 bytes_alike (commands.Run run) words met read h =
     first_alike (run_bytes_answer (word_at words run.file) (word_at words run.method) (args_told run words) run.steps) met read
@@ -134,7 +136,7 @@ check_asked_cut bytes limit is past =
 asked_alike : (command : Command) (met : List (Option (List ℕ))) (read : List (Vec ℕ Global)) → AreContents met read
     → bytes_asked command (contents met) ≡ bytes_asked command (bytes_read read)
 asked_alike (commands.Unit file) met read h = first_alike unit_file_asked met read (λ bytes past. unit_asked_cut bytes READ_LIMIT refl past) h
-asked_alike (commands.Check file) met read h = first_alike check_file_asked met read (λ bytes past. check_asked_cut bytes READ_LIMIT refl past) h
+asked_alike (commands.Check file show) met read h = first_alike check_file_asked met read (λ bytes past. check_asked_cut bytes READ_LIMIT refl past) h
 asked_alike (commands.List file) met read h = refl
 asked_alike (commands.Il file method) met read h = refl
 asked_alike (commands.Run run) met read h = refl

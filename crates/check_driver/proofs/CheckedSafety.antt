@@ -1,5 +1,5 @@
 -- Where the line that tells a method to be proved was printed in the report of its assembly, the method is safe.
-use Rattle.std.proofs.Common.{◌≡◌, ◌⊎◌, ℕ, List, [], ◌∷◌, ◌++◌, Option, Some, None, codes, refl, sym, ap, subst, ◌∙◌, get_or, arith, inl, inr}
+use Rattle.std.proofs.Common.{◌≡◌, ◌⊎◌, ℕ, Bool, List, [], ◌∷◌, ◌++◌, Option, Some, None, codes, refl, sym, ap, subst, ◌∙◌, get_or, arith, inl, inr}
 use Rattle.std.specs.Prelude.{Contains, IfSome}
 use Rattle.std.proofs.lemmas.List.{append_cancel_left}
 use Rattle.std.proofs.lemmas.Option.{same_Some}
@@ -38,22 +38,22 @@ something_printed old new method same prints =
     no_line line.before line.behind method (nothing ∙ line.is)
 
 -- What is met is the file.
-check_asked : (words : List (List ℕ)) (file : ℕ) (held : Held) (bytes : List ℕ) (met : List (Option (List ℕ))) → held (word_at words file) ≡ Some bytes
-    → command_of words ≡ Some (commands.Check file) → AreUnder (Some held) (words_at words (file ∷ [])) met
-    → expected words met ≡ check_answer (word_at words file) bytes (FirstBroken bytes)
-check_asked words file held bytes (under ∷ []) at command (is, last) =
+check_asked : (words : List (List ℕ)) (file : ℕ) (show : Bool) (held : Held) (bytes : List ℕ) (met : List (Option (List ℕ))) → held (word_at words file) ≡ Some bytes
+    → command_of words ≡ Some (commands.Check file show) → AreUnder (Some held) (words_at words (file ∷ [])) met
+    → expected words met ≡ check_answer (word_at words file) show bytes (FirstBroken bytes)
+check_asked words file show held bytes (under ∷ []) at command (is, last) =
     let met_is : under ≡ Some bytes = sym (is held refl) ∙ at in
-    ap (command_answer words (under ∷ [])) command ∙ ap (λ (u : Option (List ℕ)). files_answer (commands.Check file) words (u ∷ [])) met_is
-check_asked words file held bytes [] at command h = absurd h
-check_asked words file held bytes (under ∷ other ∷ met) at command h = absurd h.1
+    ap (command_answer words (under ∷ [])) command ∙ ap (λ (u : Option (List ℕ)). files_answer (commands.Check file show) words (u ∷ [])) met_is
+check_asked words file show held bytes [] at command h = absurd h
+check_asked words file show held bytes (under ∷ other ∷ met) at command h = absurd h.1
 
 -- What was printed begins the report.
 front_of_check : (words : List (List ℕ)) (held : Held) (bytes : List ℕ) (met : List (Option (List ℕ))) (text : List ℕ) (asks : AsksToCheck words held bytes)
-    → AreUnder (Some held) (file_names words) met → FirstBroken bytes ≡ None → IsFront text (Answer.out (expected words met)) → IsFront text (check_text (word_at words asks.file) bytes)
+    → AreUnder (Some held) (file_names words) met → FirstBroken bytes ≡ None → IsFront text (Answer.out (expected words met)) → IsFront text (check_text (word_at words asks.file) asks.show bytes)
 front_of_check words held bytes met text asks under accepted front =
     let name = word_at words asks.file in
     let here = subst (λ (command : Option Command). AreUnder (Some held) (command_files words command) met) asks.command under in
-    let answer = check_asked words asks.file held bytes met asks.is_held asks.command here ∙ ap (check_answer name bytes) accepted in
+    let answer = check_asked words asks.file asks.show held bytes met asks.is_held asks.command here ∙ ap (check_answer name asks.show bytes) accepted in
     subst (λ (a : Answer). IsFront text a.out) answer front
 
 pub known_of : (told : Option Held) (words : List (List ℕ)) (held : Held) (bytes : List ℕ) → told ≡ Some held → AsksToCheck words held bytes
@@ -74,4 +74,4 @@ printed_checked told words held bytes method met old new told_is asks under (fro
     let here = subst (λ (t : Option Held). AreUnder t (file_names words) met) told_is under in
     let same : front ≡ prints.text = same_appended old new front prints.before prints.text adds prints.was prints.is in
     let begins = front_of_check words held bytes met prints.text asks here can.accepted (subst (λ (t : List ℕ). IsFront t (Answer.out (expected words met))) same is_front) in
-    printed_method name bytes prints.text method can.accepted can.runnable can.below has prints.line begins
+    printed_method name asks.show bytes prints.text method can.accepted can.runnable has prints.line begins

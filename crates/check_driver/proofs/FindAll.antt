@@ -1,5 +1,5 @@
 -- What is found of one method after another.
-use Rattle.std.proofs.Common.{◌≡◌, ℕ, zero, suc, ◌+◌, ◌<◌, ◌≤◌, List, [], ◌∷◌, ◌++◌, length, map, take, Some, slice_get, refl, ap, sym, ◌∙◌, arith}
+use Rattle.std.proofs.Common.{◌≡◌, ℕ, Bool, zero, suc, ◌+◌, ◌<◌, ◌≤◌, List, [], ◌∷◌, ◌++◌, length, map, take, Some, slice_get, refl, ap, sym, ◌∙◌, arith}
 use Rattle.std.specs.List.{AllByRecursion}
 use Rattle.std.proofs.lemmas.List.{length-map, map-append}
 use Rattle.asm_image.specs.Rows.{methods_of}
@@ -7,8 +7,8 @@ use Rattle.asm_image.specs.declared.method_row.MethodRow.{MethodRow}
 use Rattle.method_unit.specs.Units.{IsUnit}
 use Rattle.unit_builder.specs.Outcomes.{IfAnalysed, entries_of, entry_of, outcome_of}
 use Rattle.unit_builder.specs.declared.entry.MethodEntry.{MethodEntry}
-use Rattle.check_driver.specs.CheckText.{finding, findings}
-use Rattle.check_driver.specs.Findings.{told}
+use Rattle.check_driver.specs.CheckText.{all_shown, finding, findings, outcome_shown}
+use Rattle.check_driver.specs.Findings.{shown_in, told}
 use Rattle.check_driver.specs.declared.finding.Finding.{Finding as Found}
 
 -- The element at a place is the last of those up to it.
@@ -31,6 +31,14 @@ pub found_next : (asm : List ℕ) (methods : List MethodRow) (n : ℕ) (method :
 found_next asm methods n method found one next so_far is =
     map-append told found (one ∷ [])
     ∙ rw (so_far, is) (sym (ap (λ (l : List MethodRow). findings (map (entry_of asm) l)) next ∙ ap findings (map-append (entry_of asm) (take n methods) (method ∷ [])) ∙ map-append (λ (e : MethodEntry). finding e.outcome) (map (entry_of asm) (take n methods)) (entry_of asm method ∷ [])))
+
+pub shown_next : (asm : List ℕ) (show : Bool) (methods : List MethodRow) (n : ℕ) (method : MethodRow) (found : List Found) (one : Found)
+    → take (n + 1) methods ≡ take n methods ++ method ∷ [] → map shown_in found ≡ all_shown show (map (entry_of asm) (take n methods))
+    → shown_in one ≡ outcome_shown show (outcome_of asm method)
+    → map shown_in (found ++ one ∷ []) ≡ all_shown show (map (entry_of asm) (take (n + 1) methods))
+shown_next asm show methods n method found one next so_far is =
+    map-append shown_in found (one ∷ [])
+    ∙ rw (so_far, is) (sym (ap (λ (l : List MethodRow). all_shown show (map (entry_of asm) l)) next ∙ ap (all_shown show) (map-append (entry_of asm) (take n methods) (method ∷ [])) ∙ map-append (λ (e : MethodEntry). outcome_shown show e.outcome) (map (entry_of asm) (take n methods)) (entry_of asm method ∷ [])))
 
 abbrev pub AreKnown : List ℕ → List MethodRow → Type 0
 AreKnown asm methods = AllByRecursion (λ entry. IfAnalysed entry.outcome IsUnit) (map (entry_of asm) methods)

@@ -180,7 +180,7 @@ asks_to_check words held k bytes is = by_command (command_of words) refl is.kth
     only_file file (suc k) same = absurd cc
 
     by_command : (command : Option Command) → command_of words ≡ command → slice_get (checked_files words command) k ≡ Some is.name → AsksToCheck words held bytes
-    by_command (Some (commands.Check file)) same kth = record { file = file; command = same; is_held = ap held (only_file file k kth) ∙ is.is_held }
+    by_command (Some (commands.Check file show)) same kth = record { file = file; show = show; command = same; is_held = ap held (only_file file k kth) ∙ is.is_held }
     by_command (Some (commands.Unit file)) same kth = absurd (none-some is.name kth)
     by_command (Some (commands.List file)) same kth = absurd (none-some is.name kth)
     by_command (Some (commands.Il file method)) same kth = absurd (none-some is.name kth)

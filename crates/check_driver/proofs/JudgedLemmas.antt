@@ -1,4 +1,4 @@
--- The map that holds the verdicts on units.
+-- The map that holds what is found of units.
 use Rattle.std.proofs.Common.{◌≡◌, ℕ, Bool, true, false, ◌||◌, List, [], ◌∷◌, ◌++◌, map, cond, Option, Some, Vec, Global, refl, sym, ap, subst, ◌∙◌}
 use Rattle.std.specs.Prelude.{is_some}
 use Rattle.std.specs.Map.{lookup}
@@ -6,17 +6,19 @@ use Rattle.std.specs.Str.{bytes_eq}
 use Rattle.std.proofs.lemmas.List.{map-append}
 use Rattle.std.proofs.lemmas.Slice.Eq.{bytes_eq-Decides}
 use Rattle.indexmap.specs.IndexMap.{insert_entry}
-use Rattle.invariant_checker.specs.declared.verdict.Verdict.{Verdict}
 use Rattle.check_driver.specs.Asked.{is_among}
-use Rattle.check_driver.specs.JudgedUnits.{AreJudged, AreVerdictsOn}
+use Rattle.check_driver.specs.Findings.{IsFoundOf}
+use Rattle.check_driver.specs.JudgedUnits.{AreJudged}
+use Rattle.check_driver.specs.declared.judgement.Judgement.{Judgement}
+use Rattle.method_unit.specs.UnitFile.{unit_of}
 
 abbrev pub Entries : Type 0
-Entries = List (Vec ℕ Global × Vec Verdict Global)
+Entries = List (Vec ℕ Global × Judgement)
 
 abbrev pub keys_in : Entries → List (List ℕ)
 keys_in entries = map (λ entry. entry.0.items) entries
 
-abbrev pub found_at : List ℕ → Entries → Option (Vec Verdict Global)
+abbrev pub found_at : List ℕ → Entries → Option (Judgement)
 found_at key entries = lookup (λ other. bytes_eq key other.items) entries
 
 pub among_found : (key : List ℕ) (entries : Entries) → is_some (found_at key entries) ≡ is_among (keys_in entries) key
@@ -28,26 +30,27 @@ among_found key (entry ∷ entries) = by_test (bytes_eq key entry.0.items) (amon
     by_test true later = refl
     by_test false later = later
 
-pub is_there : (key : List ℕ) (entries : Entries) (seen : List (List ℕ)) (got : Option (Vec Verdict Global)) → got ≡ found_at key entries → keys_in entries ≡ seen
+pub is_there : (key : List ℕ) (entries : Entries) (seen : List (List ℕ)) (got : Option (Judgement)) → got ≡ found_at key entries → keys_in entries ≡ seen
     → is_some got ≡ is_among seen key
 is_there key entries seen got is view = ap is_some is ∙ among_found key entries ∙ ap (λ (s : List (List ℕ)). is_among s key) view
 
-pub found_judged : (key : List ℕ) (entries : Entries) (found : Vec Verdict Global) → AreJudged entries → found_at key entries ≡ Some found → AreVerdictsOn key found.items
-found_judged key [] found judged is = absurd cc
-found_judged key (entry ∷ entries) found judged is = by_test (bytes_eq key entry.0.items) refl (found_judged key entries found judged.1) is
+pub found_judged : (show : Bool) (key : List ℕ) (entries : Entries) (found : Judgement) → AreJudged show entries → found_at key entries ≡ Some found
+    → IsFoundOf show (unit_of key) found
+found_judged show key [] found judged is = absurd cc
+found_judged show key (entry ∷ entries) found judged is = by_test (bytes_eq key entry.0.items) refl (found_judged show key entries found judged.1) is
   where
-    by_test : (same : Bool) → bytes_eq key entry.0.items ≡ same → (found_at key entries ≡ Some found → AreVerdictsOn key found.items)
-        → cond same (Some entry.1) (found_at key entries) ≡ Some found → AreVerdictsOn key found.items
+    by_test : (same : Bool) → bytes_eq key entry.0.items ≡ same → (found_at key entries ≡ Some found → IsFoundOf show (unit_of key) found)
+        → cond same (Some entry.1) (found_at key entries) ≡ Some found → IsFoundOf show (unit_of key) found
     by_test true same later is =
-        let verdicts : entry.1 ≡ found = cc in
+        let its : entry.1 ≡ found = cc in
         let keys : entry.0.items ≡ key = sym ((bytes_eq-Decides key entry.0.items).0 same) in
-        subst (λ (v : Vec Verdict Global). AreVerdictsOn key v.items) verdicts (subst (λ (k : List ℕ). AreVerdictsOn k entry.1.items) keys judged.0)
+        subst (λ (f : Judgement). IsFoundOf show (unit_of key) f) its (subst (λ (k : List ℕ). IsFoundOf show (unit_of k) entry.1) keys judged.0)
     by_test false same later is = later is
 
-abbrev pub inserted : Entries → Vec ℕ Global → Vec Verdict Global → Entries
+abbrev pub inserted : Entries → Vec ℕ Global → Judgement → Entries
 inserted entries key found = insert_entry (λ a b. bytes_eq a.items b.items) entries key found
 
-pub inserted_last : (entries : Entries) (key : Vec ℕ Global) (found : Vec Verdict Global) → is_among (keys_in entries) key.items ≡ false
+pub inserted_last : (entries : Entries) (key : Vec ℕ Global) (found : Judgement) → is_among (keys_in entries) key.items ≡ false
     → inserted entries key found ≡ entries ++ (key, found) ∷ []
 inserted_last [] key found new = refl
 inserted_last (entry ∷ entries) key found new = by_test (bytes_eq key.items entry.0.items) new (inserted_last entries key found)
@@ -58,18 +61,20 @@ inserted_last (entry ∷ entries) key found new = by_test (bytes_eq key.items en
     by_test true new later = absurd cc
     by_test false new later = ap (λ (es : Entries). entry ∷ es) (later new)
 
-pub judged_push : (entries : Entries) (key : Vec ℕ Global) (found : Vec Verdict Global) → AreJudged entries → AreVerdictsOn key.items found.items → AreJudged (entries ++ (key, found) ∷ [])
-judged_push [] key found judged is = (is, tt)
-judged_push (entry ∷ entries) key found judged is = (judged.0, judged_push entries key found judged.1 is)
+pub judged_push : (show : Bool) (entries : Entries) (key : Vec ℕ Global) (found : Judgement) → AreJudged show entries → IsFoundOf show (unit_of key.items) found
+    → AreJudged show (entries ++ (key, found) ∷ [])
+judged_push show [] key found judged is = (is, tt)
+judged_push show (entry ∷ entries) key found judged is = (judged.0, judged_push show entries key found judged.1 is)
 
 -- What is noted last.
-pub noted_last : (old new : Entries) (key : Vec ℕ Global) (found : Vec Verdict Global) (seen : List (List ℕ)) → keys_in old ≡ seen → is_among seen key.items ≡ false
+pub noted_last : (old new : Entries) (key : Vec ℕ Global) (found : Judgement) (seen : List (List ℕ)) → keys_in old ≡ seen → is_among seen key.items ≡ false
     → new ≡ inserted old key found → new ≡ old ++ (key, found) ∷ []
 noted_last old new key found seen view absent is = is ∙ inserted_last old key found (rw view absent)
 
-pub keys_noted : (old new : Entries) (key : Vec ℕ Global) (found : Vec Verdict Global) (seen : List (List ℕ)) → keys_in old ≡ seen → new ≡ old ++ (key, found) ∷ []
+pub keys_noted : (old new : Entries) (key : Vec ℕ Global) (found : Judgement) (seen : List (List ℕ)) → keys_in old ≡ seen → new ≡ old ++ (key, found) ∷ []
     → keys_in new ≡ seen ++ key.items ∷ []
 keys_noted old new key found seen view is = ap keys_in is ∙ map-append (λ entry. entry.0.items) old ((key, found) ∷ []) ∙ ap (λ (s : List (List ℕ)). s ++ key.items ∷ []) view
 
-pub judged_noted : (old new : Entries) (key : Vec ℕ Global) (found : Vec Verdict Global) → new ≡ old ++ (key, found) ∷ [] → AreJudged old → AreVerdictsOn key.items found.items → AreJudged new
-judged_noted old new key found is judged verdicts = rw is (judged_push old key found judged verdicts)
+pub judged_noted : (show : Bool) (old new : Entries) (key : Vec ℕ Global) (found : Judgement) → new ≡ old ++ (key, found) ∷ [] → AreJudged show old
+    → IsFoundOf show (unit_of key.items) found → AreJudged show new
+judged_noted show old new key found is judged its = rw is (judged_push show old key found judged its)

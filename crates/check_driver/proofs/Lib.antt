@@ -16,6 +16,7 @@ pub mod Plain
 pub mod WholeLines
 pub mod PlainTexts
 pub mod Reported
+pub mod ShownLines
 pub mod ReportTexts
 pub mod FewMethods
 pub mod PrintedMethods

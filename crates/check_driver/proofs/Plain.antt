@@ -109,9 +109,9 @@ of_il : (name method bytes : List ℕ) (fault : Option AsmFault) → IsOfBytes (
 of_il name method bytes None = of_found bytes (find_of bytes method)
 of_il name method bytes (Some fault) = of_refused
 
-of_check : (name bytes : List ℕ) (fault : Option AsmFault) → IsOfBytes (check_answer name bytes fault).status
-of_check name bytes None = of_report (all_methods_proved bytes)
-of_check name bytes (Some fault) = of_refused
+of_check : (name : List ℕ) (show : Bool) (bytes : List ℕ) (fault : Option AsmFault) → IsOfBytes (check_answer name show bytes fault).status
+of_check name show bytes None = of_report (all_methods_proved bytes)
+of_check name show bytes (Some fault) = of_refused
 
 of_stop : (stop : Stop) → IsOfBytes (end_status stop)
 of_stop (stops.Returned value) = of_few 0 (omega arith)
@@ -165,7 +165,7 @@ of_bytes : (command : Command) (words files : List (List ℕ)) → IsOfBytes (by
 of_bytes (commands.Unit file) words files = of_unit_file (word_at words file) (file_at files 0)
 of_bytes (commands.List file) words files = of_list (word_at words file) (file_at files 0) (FirstBroken (file_at files 0))
 of_bytes (commands.Il file method) words files = of_il (word_at words file) (word_at words method) (file_at files 0) (FirstBroken (file_at files 0))
-of_bytes (commands.Check file) words files = of_check (word_at words file) (file_at files 0) (FirstBroken (file_at files 0))
+of_bytes (commands.Check file show) words files = of_check (word_at words file) show (file_at files 0) (FirstBroken (file_at files 0))
 of_bytes (commands.Run run) words files =
     of_run_file (word_at words run.file) (word_at words run.method) (args_told run words) run.steps (file_at files 0) (FirstBroken (file_at files 0))
 of_bytes (commands.Gen seed count) words files = of_report (all_methods_proved (generated_file seed count))

@@ -19,7 +19,8 @@ use Rattle.unit_builder.specs.declared.entry.Outcome.TheVariants.{Analysed, Skip
 use Rattle.check_driver.specs.CheckText.{Finding, Judged, Unjudged, finding, is_proved, verdict_text}
 use Rattle.check_driver.specs.Checked.{IsSafeMethod}
 use Rattle.answer_lines.specs.Lines.{proved_text}
-use Rattle.check_driver.proofs.Reported.{entry_said, finding_said, method_said, verdict_said, verdicts_said}
+use Rattle.check_driver.proofs.Reported.{entry_said, finding_said, method_said, shown_said, verdict_said, verdicts_said}
+use Rattle.check_driver.proofs.ShownLines.{no_shown_line}
 use Rattle.cc_base.proofs.DigitLemmas.{length-hex}
 
 -- ---- members of lists
@@ -127,29 +128,38 @@ unfolding verdicts_said
 none_of_finding (Judged callees found) token name text has = no_verdict callees found token name text has
 none_of_finding (Unjudged reason) token name text has = none_contained _ has
 
+none_of_shown : (show : Bool) (outcome : Outcome) (token : ℕ) (name text : List ℕ) → Contains (shown_said show outcome) (method_said token name text) → ⊥
+unfolding shown_said method_said
+none_of_shown show outcome token name text has = no_shown_line show outcome _ refl has
+
 -- ---- the line among those of some rows
 
 -- What is told of the method of a row.
 unfoldable pub row_said : List ℕ → ℕ → List ℕ
 row_said asm row = let method = method_row (metadata asm) row in method_said method.token.0 method.name (verdict_text (finding (outcome_of asm method)))
 
-pub among_rows : (asm : List ℕ) (rows : List ℕ) (token : ℕ) (name text : List ℕ)
-    → Contains (flat_map entry_said (map (entry_of asm) (map (method_row (metadata asm)) rows))) (method_said token name text)
+pub among_rows : (asm : List ℕ) (show : Bool) (rows : List ℕ) (token : ℕ) (name text : List ℕ)
+    → Contains (flat_map (entry_said show) (map (entry_of asm) (map (method_row (metadata asm)) rows))) (method_said token name text)
     → (row : ℕ) × Contains rows row × (row_said asm row ≡ method_said token name text)
 unfolding entry_said finding_said row_said
-among_rows asm [] token name text has = absurd (none_contained _ has)
-among_rows asm (row ∷ rows) token name text has =
+among_rows asm show [] token name text has = absurd (none_contained _ has)
+among_rows asm show (row ∷ rows) token name text has =
     let line = method_said token name text in
     let method = method_row (metadata asm) row in
     let found = finding (outcome_of asm method) in
-    elim (contains_behind (entry_said (entry_of asm method)) (flat_map entry_said (map (entry_of asm) (map (method_row (metadata asm)) rows))) line has) [
+    let said = row_said asm row ∷ verdicts_said found in
+    elim (contains_behind (said ++ shown_said show (outcome_of asm method)) (flat_map (entry_said show) (map (entry_of asm) (map (method_row (metadata asm)) rows))) line has) [
       | inl here ↦
-          elim (contains_first (row_said asm row) line (verdicts_said found) here) [
-            | inl same ↦ (row, (0, omega arith, refl), same)
-            | inr verdict ↦ absurd (none_of_finding found token name text verdict)
+          elim (contains_behind said (shown_said show (outcome_of asm method)) line here) [
+            | inl among ↦
+                elim (contains_first (row_said asm row) line (verdicts_said found) among) [
+                  | inl same ↦ (row, (0, omega arith, refl), same)
+                  | inr verdict ↦ absurd (none_of_finding found token name text verdict)
+                ]
+            | inr shown ↦ absurd (none_of_shown show (outcome_of asm method) token name text shown)
           ]
       | inr later ↦
-          let there = among_rows asm rows token name text later in
+          let there = among_rows asm show rows token name text later in
           (there.0, (suc there.1.0, omega (arith, there.1.1), there.1.2), there.2)
     ]
 

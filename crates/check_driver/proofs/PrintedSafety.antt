@@ -1,5 +1,5 @@
 -- A method is safe whose line in the report of its assembly tells it to be proved.
-use Rattle.std.proofs.Common.{◌≡◌, ℕ, zero, suc, ◌+◌, ◌<◌, ◌^◌, List, [], ◌∷◌, ◌++◌, map, get_or, None, refl, sym, ap, subst, ◌∙◌, append_assoc, inl, inr, codes, arith}
+use Rattle.std.proofs.Common.{◌≡◌, ℕ, zero, suc, ◌+◌, ◌<◌, ◌^◌, Bool, List, [], ◌∷◌, ◌++◌, map, get_or, None, refl, sym, ap, subst, ◌∙◌, append_assoc, inl, inr, codes, arith}
 use Rattle.std.specs.Prelude.{Contains}
 use Rattle.std.specs.List.{AllByRecursion, flat_map, range_with_len}
 use Rattle.asm_image.specs.Cells.{method_count}
@@ -14,7 +14,6 @@ use Rattle.unit_builder.specs.Outcomes.{IfAnalysed, entries_of, entry_of, outcom
 use Rattle.unit_builder.specs.declared.entry.MethodEntry.{MethodEntry}
 use Rattle.check_driver.specs.CheckText.{all_counts, check_text, finding, method_line, verdict_text}
 use Rattle.check_driver.specs.Checked.{AreRunnable, HasLine, IsSafeMethod}
-use Rattle.answer_lines.specs.Counting.{AreBelow}
 use Rattle.check_driver.proofs.FewMethods.{methods_are_few}
 use Rattle.check_driver.proofs.PrintedMethods.{among_rows, contains_behind, contains_first, behind_digits, none_contained, proved_tells, row_said, safe_by, same_said, same_text}
 use Rattle.check_driver.proofs.Reported.{entry_said, method_said, report_is_lines, report_said, summary_front, summary_said}
@@ -54,35 +53,36 @@ range_below first (suc count) row has =
 -- ---- the line
 
 -- A whole line of a prefix of the report is one of its lines.
-line_of_report : (name bytes text line : List ℕ) → AllByRecursion IsOneLine (report_said name bytes) → IsOneLine line → HasLine text (as_line line) → IsFront text (check_text name bytes)
-    → Contains (report_said name bytes) line
-line_of_report name bytes text line all one has (rest, is) =
-    let aligned : as_lines (report_said name bytes) ≡ has.before ++ (as_line line ++ (has.behind ++ rest)) =
-    report_is_lines name bytes ∙ is ∙ ap (λ (l : List ℕ). l ++ rest) has.is ∙ append_assoc has.before (as_line line ++ has.behind) rest
+line_of_report : (name : List ℕ) (show : Bool) (bytes text line : List ℕ) → AllByRecursion IsOneLine (report_said name show bytes) → IsOneLine line → HasLine text (as_line line)
+    → IsFront text (check_text name show bytes) → Contains (report_said name show bytes) line
+line_of_report name show bytes text line all one has (rest, is) =
+    let aligned : as_lines (report_said name show bytes) ≡ has.before ++ (as_line line ++ (has.behind ++ rest)) =
+    report_is_lines name show bytes ∙ is ∙ ap (λ (l : List ℕ). l ++ rest) has.is ∙ append_assoc has.before (as_line line ++ has.behind) rest
     ∙ ap (λ (l : List ℕ). has.before ++ l) (append_assoc (as_line line) has.behind rest) in
-    line_among (report_said name bytes) has.before line (has.behind ++ rest) all one has.begins aligned
+    line_among (report_said name show bytes) has.before line (has.behind ++ rest) all one has.begins aligned
 
-report_one_line : (name bytes : List ℕ) → AreRunnable bytes → AreBelow (2 ^ 63) (all_counts (entries_of bytes)) → AllByRecursion IsOneLine (report_said name bytes)
+report_one_line : (name : List ℕ) (show : Bool) (bytes : List ℕ) → AreRunnable bytes
+    → AllByRecursion IsOneLine (report_said name show bytes)
 unfolding report_said entries_of rows_of
-report_one_line name bytes runnable below = (
+report_one_line name show bytes runnable = (
   assembly_one_line name,
-  all_behind IsOneLine (flat_map entry_said (entries_of bytes)) (summary_said (all_counts (entries_of bytes)) ∷ [])
-      (rows_one_line bytes (range_with_len 1 (method_count (metadata bytes))) runnable) (summary_one_line (all_counts (entries_of bytes)) below, tt),
+  all_behind IsOneLine (flat_map (entry_said show) (entries_of bytes)) (summary_said (all_counts (entries_of bytes)) ∷ [])
+      (rows_one_line bytes show (range_with_len 1 (method_count (metadata bytes))) runnable) (summary_one_line (all_counts (entries_of bytes)), tt),
 )
 
 -- The line of a method among those of a report is that of a row.
-row_of_report : (name bytes : List ℕ) (token : ℕ) (method text : List ℕ) → Contains (report_said name bytes) (method_said token method text)
+row_of_report : (name : List ℕ) (show : Bool) (bytes : List ℕ) (token : ℕ) (method text : List ℕ) → Contains (report_said name show bytes) (method_said token method text)
     → (row : ℕ) × Contains (range_with_len 1 (method_count (metadata bytes))) row × (row_said bytes row ≡ method_said token method text)
 unfolding report_said entries_of rows_of summary_said summary_front method_said
-row_of_report name bytes token method text has =
+row_of_report name show bytes token method text has =
     let line = method_said token method text in
-    let said = flat_map entry_said (entries_of bytes) in
+    let said = flat_map (entry_said show) (entries_of bytes) in
     let summary = summary_said (all_counts (entries_of bytes)) in
     elim (contains_first (codes "assembly " ++ escaped name) line (said ++ summary ∷ []) has) [
       | inl same ↦ absurd (let letters : 97 ≡ 109 = ap (λ (l : List ℕ). get_or l 0 0) same in omega (arith, letters))
       | inr later ↦
           elim (contains_behind said (summary ∷ []) line later) [
-            | inl here ↦ among_rows bytes (range_with_len 1 (method_count (metadata bytes))) token method text here
+            | inl here ↦ among_rows bytes show (range_with_len 1 (method_count (metadata bytes))) token method text here
             | inr last ↦
                 elim (contains_first summary line [] last) [
                   | inl same ↦ absurd (let letters : 115 ≡ 109 = ap (λ (l : List ℕ). get_or l 0 0) same in omega (arith, letters))
@@ -108,10 +108,10 @@ same_row bytes row other text small few e =
           (subst (λ (r : ℕ). behind_digits (method_row (metadata bytes) r).name (verdict_text (finding (outcome_of bytes (method_row (metadata bytes) r)))) ≡ behind_digits mine.name text) same both.1),
     )
 
-pub printed_method : (name bytes text : List ℕ) (method : MethodRow) → FirstBroken bytes ≡ None → AreRunnable bytes → AreBelow (2 ^ 63) (all_counts (entries_of bytes))
-    → Contains (methods_of bytes) method → HasLine text (method_line method.token.0 method.name (codes "proved")) → IsFront text (check_text name bytes) → IsSafeMethod bytes method
+pub printed_method : (name : List ℕ) (show : Bool) (bytes text : List ℕ) (method : MethodRow) → FirstBroken bytes ≡ None → AreRunnable bytes
+    → Contains (methods_of bytes) method → HasLine text (method_line method.token.0 method.name (codes "proved")) → IsFront text (check_text name show bytes) → IsSafeMethod bytes method
 unfolding entries_of rows_of row_said method_said method_row
-printed_method name bytes text method whole runnable below has line front =
+printed_method name show bytes text method whole runnable has line front =
     let md = metadata bytes in
     let rows = range_with_len 1 (method_count md) in
     let mine = contains_map (method_row md) rows method has in
@@ -119,9 +119,9 @@ printed_method name bytes text method whole runnable below has line front =
     let row = mine.0 in
     let is_line : HasLine text (as_line (method_said (method_row md row).token.0 (method_row md row).name (codes "proved"))) =
     subst (λ (m : MethodRow). HasLine text (method_line m.token.0 m.name (codes "proved"))) (sym mine.2) line in
-    let found = line_of_report name bytes text (method_said (method_row md row).token.0 (method_row md row).name (codes "proved"))
-    (report_one_line name bytes runnable below) (proved_one_line (method_row md row).token.0 md row) is_line front in
-    let told = row_of_report name bytes (method_row md row).token.0 (method_row md row).name (codes "proved") found in
+    let found = line_of_report name show bytes text (method_said (method_row md row).token.0 (method_row md row).name (codes "proved"))
+    (report_one_line name show bytes runnable) (proved_one_line (method_row md row).token.0 md row) is_line front in
+    let told = row_of_report name show bytes (method_row md row).token.0 (method_row md row).name (codes "proved") found in
     let same = same_row bytes row told.0 (codes "proved") (omega (arith, few, range_below 1 (method_count md) row mine.1)) (omega (arith, few, range_below 1 (method_count md) told.0 told.1)) told.2 in
     let is_runnable = all_at (λ (entry : MethodEntry). IfAnalysed entry.outcome IsUnit) (entry_of bytes) (methods_of bytes) (method_row md row) runnable (subst (Contains (methods_of bytes)) (sym mine.2) has) in
     subst (IsSafeMethod bytes) mine.2

@@ -26,7 +26,8 @@ use Rattle.check_driver.specs.ReportText.{unit_counts, unit_report, verdict_line
 use Rattle.check_driver.specs.Sections.{lines_of}
 use Rattle.check_driver.proofs.CheckedSafety.{same_appended}
 use Rattle.check_driver.proofs.LinesOf.{first_line}
-use Rattle.check_driver.proofs.PlainTexts.{NoFeed, graphic_no_feed, no_feed_behind, one_line, parameters_no_feed}
+use Rattle.invariant_text.proofs.PlainTexts.{NoFeed, no_feed_behind}
+use Rattle.check_driver.proofs.PlainTexts.{graphic_no_feed, one_line, parameters_no_feed}
 use Rattle.check_driver.proofs.PrintedMethods.{same_parts}
 use Rattle.check_driver.proofs.ReportTexts.{proved_no_feed}
 use Rattle.check_driver.proofs.WholeLines.{IsOneLine, same_first}

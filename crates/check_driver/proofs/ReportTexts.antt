@@ -29,14 +29,15 @@ use Rattle.unit_builder.specs.declared.entry.Outcome.{Outcome}
 use Rattle.unit_builder.specs.declared.entry.Outcome.TheVariants.{Analysed, Skipped}
 use Rattle.unit_builder.specs.declared.reason.Reason.{Reason}
 use Rattle.unit_builder.specs.declared.reason.Reason.TheVariants as reasons
-use Rattle.check_driver.specs.CheckText.{Finding, Judged, Unjudged, finding, verdict_text}
-use Rattle.answer_lines.specs.Counting.{AreBelow}
+use Rattle.check_driver.specs.CheckText.{Finding, Judged, Unjudged, finding, outcome_shown, verdict_text}
 use Rattle.check_driver.specs.ReportText.{callee_of}
 use Rattle.check_driver.specs.ReasonText.{clause_reason, code_reason, kind_reason, opcode_text, placed, reason_text}
 use Rattle.answer_lines.specs.Lines.{proved_text}
 use Rattle.answer_lines.specs.declared.lines.Counts.{Counts}
-use Rattle.check_driver.proofs.PlainTexts.{NoFeed, decimal_no_feed, escaped_no_feed, graphic_no_feed, hex_no_feed, label_no_feed, name_no_feed, no_feed_behind, number_no_feed, one_line, parameters_no_feed}
-use Rattle.check_driver.proofs.Reported.{entry_said, finding_said, method_said, summary_front, summary_said, verdict_said, verdicts_said}
+use Rattle.invariant_text.proofs.PlainTexts.{NoFeed, hex_no_feed, label_no_feed, no_feed_behind, number_no_feed}
+use Rattle.check_driver.proofs.PlainTexts.{escaped_no_feed, graphic_no_feed, name_no_feed, one_line, parameters_no_feed}
+use Rattle.check_driver.proofs.LinesOf.{lines_one_line}
+use Rattle.check_driver.proofs.Reported.{entry_said, finding_said, method_said, shown_said, summary_front, summary_said, verdict_said, verdicts_said}
 use Rattle.check_driver.proofs.WholeLines.{IsOneLine}
 
 -- ---- reasons
@@ -168,36 +169,38 @@ all_behind P [] b all others = others
 all_behind P (x ∷ a) b all others = (all.0, all_behind P a b all.1 others)
 
 -- The lines of the methods of some rows.
-pub rows_one_line : (asm : List ℕ) (rows : List ℕ)
+pub rows_one_line : (asm : List ℕ) (show : Bool) (rows : List ℕ)
     → AllByRecursion (λ entry. IfAnalysed entry.outcome IsUnit) (map (entry_of asm) (map (method_row (metadata asm)) rows))
-    → AllByRecursion IsOneLine (flat_map entry_said (map (entry_of asm) (map (method_row (metadata asm)) rows)))
-unfolding entry_said finding_said method_row
-rows_one_line asm [] runnable = tt
-rows_one_line asm (row ∷ rows) runnable =
+    → AllByRecursion IsOneLine (flat_map (entry_said show) (map (entry_of asm) (map (method_row (metadata asm)) rows)))
+unfolding entry_said finding_said shown_said method_row
+rows_one_line asm show [] runnable = tt
+rows_one_line asm show (row ∷ rows) runnable =
     let method = method_row (metadata asm) row in
     let found = finding (outcome_of asm method) in
     let text = verdict_text found in
     let first = one_line (method_said method.token.0 method.name text) (method_no_feed method.token.0 method.name text (name_no_feed (metadata asm) row) (finding_no_feed (outcome_of asm method))) in
-    all_behind IsOneLine (entry_said (entry_of asm method)) (flat_map entry_said (map (entry_of asm) (map (method_row (metadata asm)) rows))) (first, said_one_line (outcome_of asm method) runnable.0) (rows_one_line asm rows runnable.1)
+    let own = all_behind IsOneLine (method_said method.token.0 method.name text ∷ verdicts_said found) (shown_said show (outcome_of asm method))
+    (first, said_one_line (outcome_of asm method) runnable.0) (lines_one_line (outcome_shown show (outcome_of asm method))) in
+    all_behind IsOneLine (entry_said show (entry_of asm method)) (flat_map (entry_said show) (map (entry_of asm) (map (method_row (metadata asm)) rows))) own (rows_one_line asm show rows runnable.1)
 
-number_behind : (front : List ℕ) (n : ℕ) (what : List ℕ) → n < 2 ^ 63 → NoFeed front → NoFeed what → NoFeed (front ++ decimal n ++ what)
-number_behind front n what small none other =
-    no_feed_behind (front ++ decimal n) what (no_feed_behind front (decimal n) none (decimal_no_feed n (omega (arith, small)))) other
+number_behind : (front : List ℕ) (n : ℕ) (what : List ℕ) → NoFeed front → NoFeed what → NoFeed (front ++ decimal n ++ what)
+number_behind front n what none other =
+    no_feed_behind (front ++ decimal n) what (no_feed_behind front (decimal n) none (number_no_feed n)) other
 
-pub summary_one_line : (n : Counts) → AreBelow (2 ^ 63) n → IsOneLine (summary_said n)
+pub summary_one_line : (n : Counts) → IsOneLine (summary_said n)
 unfolding summary_said summary_front
-summary_one_line n below =
+summary_one_line n =
     let methods = codes "summary: " ++ decimal n.methods ++ codes " methods, " in
     let proved = methods ++ decimal n.proved ++ codes " proved, " in
     let unproved = proved ++ decimal n.unproved ++ codes " unproved, " in
     let skipped = unproved ++ decimal n.skipped ++ codes " not analysed, " in
     let obligations = skipped ++ decimal n.obligations ++ codes " obligations, " in
-    let first = number_behind (codes "summary: ") n.methods (codes " methods, ") below.methods refl refl in
-    let second = number_behind methods n.proved (codes " proved, ") below.proved first refl in
-    let third = number_behind proved n.unproved (codes " unproved, ") below.unproved second refl in
-    let fourth = number_behind unproved n.skipped (codes " not analysed, ") below.skipped third refl in
-    let fifth = number_behind skipped n.obligations (codes " obligations, ") below.obligations fourth refl in
-    one_line (summary_said n) (number_behind obligations n.proved_obligations (codes " proved") below.proved_obligations fifth refl)
+    let first = number_behind (codes "summary: ") n.methods (codes " methods, ") refl refl in
+    let second = number_behind methods n.proved (codes " proved, ") first refl in
+    let third = number_behind proved n.unproved (codes " unproved, ") second refl in
+    let fourth = number_behind unproved n.skipped (codes " not analysed, ") third refl in
+    let fifth = number_behind skipped n.obligations (codes " obligations, ") fourth refl in
+    one_line (summary_said n) (number_behind obligations n.proved_obligations (codes " proved") fifth refl)
 
 pub assembly_one_line : (name : List ℕ) → IsOneLine (codes "assembly " ++ escaped name)
 assembly_one_line name = one_line (codes "assembly " ++ escaped name) (no_feed_behind (codes "assembly ") (escaped name) refl (escaped_no_feed name))

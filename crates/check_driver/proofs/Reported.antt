@@ -1,5 +1,5 @@
 -- The report of an assembly is lines, and the lines that begin with `method` are those of its methods.
-use Rattle.std.proofs.Common.{◌≡◌, ℕ, List, [], ◌∷◌, ◌++◌, map, refl, sym, ap, ◌∙◌, append_assoc, append-nil, codes}
+use Rattle.std.proofs.Common.{◌≡◌, ℕ, Bool, List, [], ◌∷◌, ◌++◌, map, refl, sym, ap, ◌∙◌, append_assoc, append-nil, codes}
 use Rattle.std.specs.List.{flat_map}
 use Rattle.std.specs.Fmt.{decimal}
 use Rattle.cc_base.specs.Digits.{hex}
@@ -9,10 +9,13 @@ use Rattle.cil_model.specs.declared.unit.CalleeInfo.{CalleeInfo}
 use Rattle.method_run.specs.FaultTexts.{kind_text}
 use Rattle.unit_builder.specs.Outcomes.{entries_of}
 use Rattle.unit_builder.specs.declared.entry.MethodEntry.{MethodEntry}
-use Rattle.check_driver.specs.CheckText.{Finding, Judged, Unjudged, all_counts, assembly_line, check_text, entry_lines, finding, finding_lines, method_line, verdict_lines, verdict_text}
+use Rattle.unit_builder.specs.declared.entry.Outcome.{Outcome}
+use Rattle.check_driver.specs.CheckText.{Finding, Judged, Unjudged, all_counts, assembly_line, check_text, entry_lines, finding, finding_lines, method_line, outcome_shown, verdict_lines, verdict_text}
 use Rattle.answer_lines.specs.Lines.{proved_text, summary_line}
 use Rattle.check_driver.specs.ReportText.{callee_of, verdict_line}
 use Rattle.answer_lines.specs.declared.lines.Counts.{Counts}
+use Rattle.check_driver.specs.Sections.{lines_of}
+use Rattle.check_driver.proofs.ShownLines.{shown_are_lines}
 use Rattle.check_driver.proofs.WholeLines.{as_line, as_lines}
 
 -- ---- the texts of the lines, without their line feeds
@@ -43,11 +46,16 @@ verdicts_said (Unjudged reason) = []
 unfoldable pub finding_said : ℕ → List ℕ → Finding → List (List ℕ)
 finding_said token name found = method_said token name (verdict_text found) ∷ verdicts_said found
 
-unfoldable pub entry_said : MethodEntry → List (List ℕ)
-entry_said entry = finding_said entry.token.0 entry.name (finding entry.outcome)
+-- What is shown of an invariant.
+unfoldable pub shown_said : Bool → Outcome → List (List ℕ)
+shown_said show outcome = lines_of (outcome_shown show outcome)
 
-unfoldable pub report_said : List ℕ → List ℕ → List (List ℕ)
-report_said name bytes = (codes "assembly " ++ escaped name) ∷ (flat_map entry_said (entries_of bytes) ++ summary_said (all_counts (entries_of bytes)) ∷ [])
+unfoldable pub entry_said : Bool → MethodEntry → List (List ℕ)
+entry_said show entry = finding_said entry.token.0 entry.name (finding entry.outcome) ++ shown_said show entry.outcome
+
+unfoldable pub report_said : List ℕ → Bool → List ℕ → List (List ℕ)
+report_said name show bytes =
+    (codes "assembly " ++ escaped name) ∷ (flat_map (entry_said show) (entries_of bytes) ++ summary_said (all_counts (entries_of bytes)) ∷ [])
 
 -- ---- lines of lists
 
@@ -75,13 +83,19 @@ finding_is_lines : (token : ℕ) (name : List ℕ) (found : Finding) → as_line
 unfolding finding_said method_said
 finding_is_lines token name found = ap (λ (l : List ℕ). method_line token name (verdict_text found) ++ l) (said_of_finding found)
 
-entries_are_lines : (entries : List MethodEntry) → as_lines (flat_map entry_said entries) ≡ flat_map entry_lines entries
-unfolding entry_said
-entries_are_lines [] = refl
-entries_are_lines (entry ∷ entries) =
-    lines_behind (entry_said entry) (flat_map entry_said entries)
-    ∙ ap (λ (l : List ℕ). l ++ as_lines (flat_map entry_said entries)) (finding_is_lines entry.token.0 entry.name (finding entry.outcome))
-    ∙ ap (λ (l : List ℕ). entry_lines entry ++ l) (entries_are_lines entries)
+entry_is_lines : (show : Bool) (entry : MethodEntry) → as_lines (entry_said show entry) ≡ entry_lines show entry
+unfolding entry_said shown_said
+entry_is_lines show entry =
+    lines_behind (finding_said entry.token.0 entry.name (finding entry.outcome)) (shown_said show entry.outcome)
+    ∙ ap (λ (l : List ℕ). l ++ as_lines (shown_said show entry.outcome)) (finding_is_lines entry.token.0 entry.name (finding entry.outcome))
+    ∙ ap (λ (l : List ℕ). finding_lines entry.token.0 entry.name (finding entry.outcome) ++ l) (shown_are_lines show entry.outcome)
+
+entries_are_lines : (show : Bool) (entries : List MethodEntry) → as_lines (flat_map (entry_said show) entries) ≡ flat_map (entry_lines show) entries
+entries_are_lines show [] = refl
+entries_are_lines show (entry ∷ entries) =
+    lines_behind (entry_said show entry) (flat_map (entry_said show) entries)
+    ∙ ap (λ (l : List ℕ). l ++ as_lines (flat_map (entry_said show) entries)) (entry_is_lines show entry)
+    ∙ ap (λ (l : List ℕ). entry_lines show entry ++ l) (entries_are_lines show entries)
 
 summary_is_line : (n : Counts) → as_line (summary_said n) ≡ summary_line n
 unfolding summary_said
@@ -92,10 +106,10 @@ lines_and_last : (before : List (List ℕ)) (last line text : List ℕ) → as_l
 lines_and_last before last line text is_line are_lines =
     lines_behind before (last ∷ []) ∙ ap (λ (l : List ℕ). as_lines before ++ l) (append-nil (as_line last)) ∙ rw (is_line, are_lines) refl
 
-pub report_is_lines : (name bytes : List ℕ) → as_lines (report_said name bytes) ≡ check_text name bytes
+pub report_is_lines : (name : List ℕ) (show : Bool) (bytes : List ℕ) → as_lines (report_said name show bytes) ≡ check_text name show bytes
 unfolding report_said check_text
-report_is_lines name bytes =
+report_is_lines name show bytes =
     let entries = entries_of bytes in
     let counts = all_counts entries in
-    ap (λ (l : List ℕ). assembly_line name ++ l) (lines_and_last (flat_map entry_said entries) (summary_said counts) (summary_line counts) (flat_map entry_lines entries) (summary_is_line counts) (entries_are_lines entries))
-    ∙ sym (append_assoc (assembly_line name) (flat_map entry_lines entries) (summary_line counts))
+    ap (λ (l : List ℕ). assembly_line name ++ l) (lines_and_last (flat_map (entry_said show) entries) (summary_said counts) (summary_line counts) (flat_map (entry_lines show) entries) (summary_is_line counts) (entries_are_lines show entries))
+    ∙ sym (append_assoc (assembly_line name) (flat_map (entry_lines show) entries) (summary_line counts))

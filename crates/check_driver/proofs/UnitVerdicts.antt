@@ -1,5 +1,6 @@
--- The flow of a unit is lawful, and the unit is safe where each verdict on it is that of a proved obligation.
-use Rattle.std.proofs.Common.{◌≡◌, ◌*◌, ◌<◌, ◌≤◌, true, List, length, Result, Ok, Err, Vec, Global, refl, ap, ◌∙◌, subst, sym, arith}
+-- The flow of a unit is lawful, and the unit is safe where each verdict on it is that of a proved obligation. What is found
+-- of it.
+use Rattle.std.proofs.Common.{◌≡◌, ◌*◌, ◌<◌, ◌≤◌, Bool, true, List, [], length, Result, Ok, Err, if◌then◌else◌, refl, ap, ◌∙◌, subst, sym, arith}
 use Rattle.std.specs.Prelude.{All, IfOk}
 use Rattle.cil_model.specs.Limits.{MAX_CLAUSES}
 use Rattle.cil_model.specs.Passes.{KindsOf}
@@ -19,9 +20,10 @@ use Rattle.unit_flow.specs.declared.unit_flow.UnitFlow.{UnitFlow}
 use Rattle.unit_flow.proofs.KindsFound.{found_kinds}
 use Rattle.unit_form.specs.Spelling.{unit_bytes}
 use Rattle.widening_engine.specs.Limits.{limit_of}
-use Rattle.check_driver.specs.Analysis.{unit_verdicts}
-use Rattle.check_driver.specs.Findings.{AreWithin}
-use Rattle.check_driver.specs.JudgedUnits.{AreVerdictsOn}
+use Rattle.method_unit.specs.UnitFile.{unit_of}
+use Rattle.check_driver.specs.Analysis.{shown_text, states_text, unit_verdicts}
+use Rattle.check_driver.specs.Findings.{AreFoundBy, AreWithin, IsFoundOf}
+use Rattle.check_driver.specs.declared.judgement.Judgement.{Judgement}
 
 -- ---- its flow
 
@@ -38,26 +40,41 @@ proved_unit_safe unit is proved =
 
 -- ---- its verdicts
 
--- What is judged under what the finder answers is told by the unit alone.
-pub verdicts_are : {E : Type 0} (r : Result (Vec Verdict Global) E) (code : UnitFlow) (states : List State) → code ≡ flow_of code.unit → states ≡ limit_of code
-    → IfOk r (λ found. found.items ≡ verdicts code states) → IfOk r (λ found. found.items ≡ unit_verdicts code.unit)
-unfolding unit_verdicts
-verdicts_are (Ok found) code states flow limit judged =
-    judged ∙ ap (verdicts code) limit ∙ ap (λ (c : UnitFlow). verdicts c (limit_of c)) flow
-verdicts_are (Err e) code states flow limit judged = tt
-
 -- They keep the limits, as the unit does.
-pub within_limits : {E : Type 0} (r : Result (Vec Verdict Global) E) (unit : MethodUnit) → IsUnit unit → IfOk r (λ found. length found.items ≤ MAX_CLAUSES * length unit.instrs)
-    → IfOk r (λ found. All (λ verdict. verdict.obligation.at < length unit.code) found.items) → IfOk r (λ found. AreWithin found.items)
-within_limits (Ok found) unit is few inside = record {
+within_limits : (found : List Verdict) (unit : MethodUnit) → IsUnit unit → length found ≤ MAX_CLAUSES * length unit.instrs
+    → All (λ verdict. verdict.obligation.at < length unit.code) found → AreWithin found
+within_limits found unit is few inside = record {
   near = λ k v lt. omega (arith, inside k v lt, is.well_formed.limits.code);
   few = omega (arith, few, is.well_formed.limits.instructions);
 }
-within_limits (Err e) unit is few inside = tt
+
+-- ---- what is found of it
+
+-- What is found under what the finder answers is told by the unit alone.
+pub found_of : {E : Type 0} (r : Result Judgement E) (show : Bool) (code : UnitFlow) (states : List State) → IsUnit code.unit → code ≡ flow_of code.unit → states ≡ limit_of code
+    → IfOk r (AreFoundBy show code states) → IfOk r (IsFoundOf show code.unit)
+unfolding unit_verdicts shown_text
+found_of (Ok found) show code states is flow limit are = record {
+  verdicts = are.verdicts ∙ ap (verdicts code) limit ∙ ap (λ (c : UnitFlow). verdicts c (limit_of c)) flow;
+  shown =
+      are.shown ∙ ap (λ (s : List State). if show then states_text code s else []) limit
+          ∙ ap (λ (c : UnitFlow). if show then states_text c (limit_of c) else []) flow;
+  within = within_limits found.verdicts.items code.unit is are.few are.near;
+}
+found_of (Err e) show code states is flow limit are = tt
 
 -- The bytes of a unit spell it and no other.
-pub verdicts_again : (unit : MethodUnit) (found : List Verdict) → IsUnit unit → AreVerdictsOn (unit_bytes unit) found → found ≡ unit_verdicts unit
-verdicts_again unit found is are = are.value ∙ ap unit_verdicts (unit_again unit is).1
+pub found_again : (show : Bool) (unit : MethodUnit) (found : Judgement) → IsUnit unit → IsFoundOf show (unit_of (unit_bytes unit)) found → IsFoundOf show unit found
+found_again show unit found is are = subst (λ (u : MethodUnit). IsFoundOf show u found) (unit_again unit is).1 are
 
-pub verdicts_noted : (unit : MethodUnit) (found : List Verdict) → IsUnit unit → found ≡ unit_verdicts unit → AreWithin found → AreVerdictsOn (unit_bytes unit) found
-verdicts_noted unit found is value within = record { value = value ∙ sym (ap unit_verdicts (unit_again unit is).1); within = within }
+pub found_noted : (show : Bool) (unit : MethodUnit) (found : Judgement) → IsUnit unit → IsFoundOf show unit found → IsFoundOf show (unit_of (unit_bytes unit)) found
+found_noted show unit found is are = subst (λ (u : MethodUnit). IsFoundOf show u found) (sym (unit_again unit is).1) are
+
+-- A copy is found of the same.
+pub found_copied : (show : Bool) (unit : MethodUnit) (found copy : Judgement) → copy.verdicts.items ≡ found.verdicts.items → copy.shown.items ≡ found.shown.items
+    → IsFoundOf show unit found → IsFoundOf show unit copy
+found_copied show unit found copy verdicts shown are = record {
+  verdicts = verdicts ∙ are.verdicts;
+  shown = shown ∙ are.shown;
+  within = subst AreWithin (sym verdicts) are.within;
+}

@@ -66,7 +66,7 @@ unit_file_asked bytes = if nat_le READ_LIMIT (length bytes) then [] else unit_as
 -- For a command and the bytes of its files, in order.
 abbrev pub bytes_asked : Command → List (List ℕ) → List (List ℕ)
 bytes_asked (commands.Unit file) files = unit_file_asked (file_at files 0)
-bytes_asked (commands.Check file) files = check_asked (file_at files 0) (FirstBroken (file_at files 0))
+bytes_asked (commands.Check file show) files = check_asked (file_at files 0) (FirstBroken (file_at files 0))
 bytes_asked (commands.Gen seed count) files = units_asked (generated_file seed count)
 bytes_asked _ files = []
 

@@ -11,7 +11,7 @@ use Rattle.unit_builder.specs.declared.entry.MethodEntry.{MethodEntry}
 use Rattle.unit_builder.specs.declared.entry.Outcome.{Outcome}
 use Rattle.unit_builder.specs.declared.entry.Outcome.TheVariants.{Analysed, Skipped}
 use Rattle.answer_lines.specs.Counting.{counts_plus, no_counts}
-use Rattle.check_driver.specs.Analysis.{unit_verdicts}
+use Rattle.check_driver.specs.Analysis.{shown_text, unit_verdicts}
 use Rattle.check_driver.specs.ReasonText.{reason_text}
 use Rattle.answer_lines.specs.Lines.{proved_text, summary_line}
 use Rattle.check_driver.specs.ReportText.{verdict_line}
@@ -46,8 +46,18 @@ method_line token name text = codes "method " ++ hex 8 token ++ codes " " ++ nam
 abbrev pub finding_lines : ℕ → List ℕ → Finding → List ℕ
 finding_lines token name found = method_line token name (verdict_text found) ++ verdict_lines found
 
-abbrev pub entry_lines : MethodEntry → List ℕ
-entry_lines entry = finding_lines entry.token.0 entry.name (finding entry.outcome)
+-- What is shown of the invariant of its unit.
+abbrev pub outcome_shown : Bool → Outcome → List ℕ
+outcome_shown show (Analysed unit) = shown_text show unit
+outcome_shown show (Skipped reason) = []
+
+-- The same of each method.
+abbrev pub all_shown : Bool → List MethodEntry → List (List ℕ)
+all_shown show entries = map (λ entry. outcome_shown show entry.outcome) entries
+
+abbrev pub entry_lines : Bool → MethodEntry → List ℕ
+entry_lines show entry =
+    finding_lines entry.token.0 entry.name (finding entry.outcome) ++ outcome_shown show entry.outcome
 
 -- ---- the whole
 
@@ -85,9 +95,9 @@ assembly_line name = codes "assembly " ++ escaped name ++ codes "\n"
 abbrev pub summary_text : List ℕ → List ℕ
 summary_text bytes = summary_line (all_counts (entries_of bytes))
 
--- The report of that assembly.
-unfoldable pub check_text : List ℕ → List ℕ → List ℕ
-check_text name bytes = assembly_line name ++ flat_map entry_lines (entries_of bytes) ++ summary_text bytes
+-- The report of that assembly, with the invariants of its methods or without.
+unfoldable pub check_text : List ℕ → Bool → List ℕ → List ℕ
+check_text name show bytes = assembly_line name ++ flat_map (entry_lines show) (entries_of bytes) ++ summary_text bytes
 
 -- Each method of it is proved.
 abbrev pub all_methods_proved : List ℕ → Bool

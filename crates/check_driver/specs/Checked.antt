@@ -1,11 +1,10 @@
 -- What a printed `proved` means for a method of an assembly.
-use Rattle.std.specs.Prelude.{◌^◌, None, ◌≡◌, ◌⊎◌, ℕ, List, [], ◌++◌, Option, Some, codes}
+use Rattle.std.specs.Prelude.{None, ◌≡◌, ◌⊎◌, ℕ, Bool, List, [], ◌++◌, Option, Some, codes}
 use Rattle.std.specs.List.{AllByRecursion}
 use Rattle.asm_image.specs.Faults.{FirstBroken}
 use Rattle.asm_image.specs.declared.method_row.MethodRow.{MethodRow}
 use Rattle.cc_base.specs.Files.{Held}
-use Rattle.check_driver.specs.CheckText.{all_counts, method_line}
-use Rattle.answer_lines.specs.Counting.{AreBelow}
+use Rattle.check_driver.specs.CheckText.{method_line}
 use Rattle.command_words.specs.Words.{command_of, word_at}
 use Rattle.command_words.specs.declared.command.Command.{Command}
 use Rattle.command_words.specs.declared.command.Command.TheVariants as commands
@@ -18,7 +17,8 @@ use Rattle.unit_builder.specs.declared.entry.Outcome.TheVariants.{Analysed}
 -- The words ask for the report of a file, and these are the bytes held.
 pub record AsksToCheck (words : List (List ℕ)) (held : Held) (bytes : List ℕ) : Type 0 where
   pub file : ℕ
-  pub command : command_of words ≡ Some (commands.Check file)
+  pub show : Bool
+  pub command : command_of words ≡ Some (commands.Check file show)
   pub is_held : held (word_at words file) ≡ Some bytes
 
 -- A line begins after this: nothing stands before it, or a whole line.
@@ -50,11 +50,10 @@ pub record IsSafeMethod (bytes : List ℕ) (method : MethodRow) : Type 0 where
 abbrev pub AreRunnable : List ℕ → Type 0
 AreRunnable bytes = AllByRecursion (λ entry. IfAnalysed entry.outcome IsUnit) (entries_of bytes)
 
--- The file is an assembly, and the report of it tells what it means: each unit can be run, and no count is cut.
+-- The file is an assembly, and the report of it tells what it means: each unit can be run.
 pub record IsReportable (bytes : List ℕ) : Type 0 where
   pub accepted : FirstBroken bytes ≡ None
   pub runnable : AreRunnable bytes
-  pub below : AreBelow (2 ^ 63) (all_counts (entries_of bytes))
 
 -- What is held under the name can be reported, where that is told.
 abbrev pub IsHeldReportable : Option Held → List ℕ → Type 0
@@ -62,5 +61,5 @@ IsHeldReportable told name = (held : Held) (bytes : List ℕ) → told ≡ Some 
 
 -- This holds of the file's index where the command asks for the report of an assembly.
 abbrev pub IfCheck : Command → (ℕ → Type 0) → Type 0
-IfCheck (commands.Check file) P = P file
+IfCheck (commands.Check file show) P = P file
 IfCheck _ P = Unit {0}

@@ -1,5 +1,5 @@
 -- What a call of the program gives where nothing interrupts it.
-use Rattle.std.specs.Prelude.{ℕ, List, [], length, Option, Some, None, nat_le, if◌then◌else◌, codes, slice_index_or}
+use Rattle.std.specs.Prelude.{ℕ, Bool, List, [], length, Option, Some, None, nat_le, if◌then◌else◌, codes, slice_index_or}
 use Rattle.std.specs.Option.{option_and_then}
 use Rattle.asm_image.specs.Bodies.{method_of}
 use Rattle.asm_image.specs.Faults.{FirstBroken}
@@ -70,10 +70,10 @@ abbrev pub il_answer : List ℕ → List ℕ → List ℕ → Option AsmFault �
 il_answer name method bytes (Some fault) = refused_answer name (assembly_fault_text fault.cause) fault.at
 il_answer name method bytes None = found_answer bytes (find_of bytes method)
 
--- The answer to `check FILE` for the bytes of the file, which have this first fault or none.
-abbrev pub check_answer : List ℕ → List ℕ → Option AsmFault → Answer
-check_answer name bytes (Some fault) = refused_answer name (assembly_fault_text fault.cause) fault.at
-check_answer name bytes None = output_answer (if all_methods_proved bytes then 0 else 1) (check_text name bytes)
+-- The answer to `check FILE`, with `--show` or without, for the bytes of the file, which have this first fault or none.
+abbrev pub check_answer : List ℕ → Bool → List ℕ → Option AsmFault → Answer
+check_answer name show bytes (Some fault) = refused_answer name (assembly_fault_text fault.cause) fault.at
+check_answer name show bytes None = output_answer (if all_methods_proved bytes then 0 else 1) (check_text name show bytes)
 
 -- The answer to `gen SEED COUNT` for the bytes of the file that is generated: the summary alone.
 abbrev pub gen_answer : List ℕ → Answer
@@ -120,7 +120,8 @@ bytes_answer (commands.Unit file) words files = unit_file_answer (word_at words 
 bytes_answer (commands.List file) words files = list_answer (word_at words file) (file_at files 0) (FirstBroken (file_at files 0))
 bytes_answer (commands.Il file method) words files =
     il_answer (word_at words file) (word_at words method) (file_at files 0) (FirstBroken (file_at files 0))
-bytes_answer (commands.Check file) words files = check_answer (word_at words file) (file_at files 0) (FirstBroken (file_at files 0))
+bytes_answer (commands.Check file show) words files =
+    check_answer (word_at words file) show (file_at files 0) (FirstBroken (file_at files 0))
 bytes_answer (commands.Run run) words files =
     run_file_answer (word_at words run.file) (word_at words run.method) (args_told run words) run.steps (file_at files 0) (FirstBroken (file_at files 0))
 bytes_answer (commands.Gen seed count) words files = gen_answer (generated_file seed count)

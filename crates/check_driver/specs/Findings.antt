@@ -1,17 +1,23 @@
 -- What is found of methods, as the code has it.
-use Rattle.std.specs.Prelude.{ℕ, ◌*◌, ◌<◌, ◌≤◌, List, [], length}
+use Rattle.std.specs.Prelude.{◌≡◌, ℕ, ◌*◌, ◌<◌, ◌≤◌, Bool, List, [], ◌++◌, length, if◌then◌else◌}
 use Rattle.std.specs.List.{All}
 use Rattle.cil_model.specs.Limits.{MAX_CLAUSES, MAX_CODE_BYTES, MAX_INSTRUCTIONS}
 use Rattle.cil_model.specs.declared.unit.CalleeInfo.{CalleeInfo}
+use Rattle.cil_model.specs.declared.unit.Unit.{Unit as MethodUnit}
+use Rattle.invariant_checker.specs.Verdicts.{verdicts}
 use Rattle.invariant_checker.specs.declared.verdict.Verdict.{Verdict}
+use Rattle.state_facts.specs.StateFacts.{State}
+use Rattle.unit_flow.specs.declared.unit_flow.UnitFlow.{UnitFlow}
 use Rattle.asm_image.specs.declared.method_row.MethodRow.{MethodRow}
+use Rattle.check_driver.specs.Analysis.{shown_text, states_text, unit_verdicts}
 use Rattle.check_driver.specs.CheckText.{Finding, Judged, Unjudged, finding_lines}
 use Rattle.check_driver.specs.ReasonText.{reason_text}
 use Rattle.check_driver.specs.declared.finding.Finding.{Finding as Found}
 use Rattle.check_driver.specs.declared.finding.Finding.TheVariants as founds
+use Rattle.check_driver.specs.declared.judgement.Judgement.{Judgement}
 
 abbrev pub told : Found → Finding
-told (founds.Judged found) = Judged found.callees found.verdicts.items
+told (founds.Judged found) = Judged found.callees found.judgement.verdicts.items
 told (founds.Skipped reason) = Unjudged (reason_text reason)
 
 -- The verdicts. Of a method that is not analysed there are none.
@@ -33,6 +39,26 @@ pub record AreWithin (found : List Verdict) : Type 0 where
 abbrev pub IsWithin : Found → Type 0
 IsWithin found = AreWithin (verdicts_in (told found))
 
+-- What is shown of its unit's invariant.
+abbrev pub shown_in : Found → List ℕ
+shown_in (founds.Judged found) = found.judgement.shown.items
+shown_in (founds.Skipped reason) = []
+
 -- The lines of a method of which this is found.
 abbrev pub told_lines : MethodRow × Found → List ℕ
-told_lines (method, found) = finding_lines method.token.0 method.name (told found)
+told_lines (method, found) = finding_lines method.token.0 method.name (told found) ++ shown_in found
+
+-- ---- what is found of a unit
+
+-- These are the verdicts under states, one for each block, and the text of these where they are shown.
+pub record AreFoundBy (show : Bool) (code : UnitFlow) (states : List State) (found : Judgement) : Type 0 where
+  pub verdicts : found.verdicts.items ≡ verdicts code states
+  pub shown : found.shown.items ≡ (if show then states_text code states else [])
+  pub near : All (λ verdict. verdict.obligation.at < length code.unit.code) found.verdicts.items
+  pub few : length found.verdicts.items ≤ MAX_CLAUSES * length code.unit.instrs
+
+-- These are the verdicts under what the finder answers of the unit.
+pub record IsFoundOf (show : Bool) (unit : MethodUnit) (found : Judgement) : Type 0 where
+  pub verdicts : found.verdicts.items ≡ unit_verdicts unit
+  pub shown : found.shown.items ≡ shown_text show unit
+  pub within : AreWithin found.verdicts.items

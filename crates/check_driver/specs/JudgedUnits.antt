@@ -1,18 +1,17 @@
 -- Units that were judged, by the bytes of their files.
-use Rattle.std.specs.Prelude.{◌≡◌, ℕ, List}
+use Rattle.std.specs.Prelude.{ℕ, Bool, List}
 use Rattle.std.specs.List.{AllByRecursion}
 use Rattle.std.specs.declared.alloc.Global.{Global}
 use Rattle.std.specs.declared.vec.Vec.{Vec}
-use Rattle.invariant_checker.specs.declared.verdict.Verdict.{Verdict}
 use Rattle.method_unit.specs.UnitFile.{unit_of}
-use Rattle.check_driver.specs.Analysis.{unit_verdicts}
-use Rattle.check_driver.specs.Findings.{AreWithin}
+use Rattle.check_driver.specs.Findings.{IsFoundOf}
+use Rattle.check_driver.specs.declared.judgement.Judgement.{Judgement}
 
--- These are the verdicts on the unit that the bytes spell.
-pub record AreVerdictsOn (key : List ℕ) (found : List Verdict) : Type 0 where
-  pub value : found ≡ unit_verdicts (unit_of key)
-  pub within : AreWithin found
+-- Whether invariants are shown, and the bytes of the units, in the order in which they came.
+pub record JudgedKeys : Type 0 where
+  pub show : Bool
+  pub keys : List (List ℕ)
 
--- So is what each of the bytes has.
-abbrev pub AreJudged : List (Vec ℕ Global × Vec Verdict Global) → Type 0
-AreJudged entries = AllByRecursion (λ entry. AreVerdictsOn entry.0.items entry.1.items) entries
+-- Each of the bytes has what is found of the unit that they spell.
+abbrev pub AreJudged : Bool → List (Vec ℕ Global × Judgement) → Type 0
+AreJudged show entries = AllByRecursion (λ entry. IsFoundOf show (unit_of entry.0.items) entry.1) entries

@@ -1,15 +1,14 @@
 //! Units, judged under what a finder answers.
 
 ghost use Rattle.std.specs.Prelude.{◌≡◌, [], ◌∷◌, IfOk};
-ghost use Rattle.check_driver.specs.Analysis.{unit_verdicts};
 ghost use Rattle.check_driver.specs.Asked.{Asks};
-ghost use Rattle.check_driver.specs.Findings.{AreWithin};
+ghost use Rattle.check_driver.specs.Findings.{IsFoundOf};
 ghost use Rattle.method_unit.specs.Units.{IsUnit};
 ghost use Rattle.unit_flow.specs.FlowOf.{flow_of};
 ghost use Rattle.unit_form.specs.Spelling.{unit_bytes};
 
+use crate::judgement::{Judgement, judge_under};
 use cil_model::{CalleeInfo, List, Unit};
-use invariant_checker::{Verdict, judge};
 use std::alloc::{AllocError, Global};
 use unit_flow::UnitFlow;
 use widening_engine::Finder;
@@ -23,47 +22,47 @@ pub fn find_flow(alloc: Global, unit: Unit) -> Result<UnitFlow, AllocError>
     UnitFlow::of(alloc, unit)
 }
 
-/// The verdicts on the obligations of a unit, under the invariant that the finder answers.
+/// What is found of a unit under the invariant that the finder answers, with the text of that where it is shown.
 pub fn judge_flow<D: Finder>(
     alloc: Global,
     code: &UnitFlow,
+    show: bool,
     finder: &mut D,
-) -> Result<Vec<Verdict>, AllocError>
+) -> Result<Judgement, AllocError>
     requires unit { IsUnit code.now.unit }
     requires flow { code.now ≡ flow_of code.now.unit }
-    ensures value { IfOk result (λ found. found.items ≡ unit_verdicts code.now.unit) }
-    ensures within { IfOk result (λ found. AreWithin found.items) }
+    ensures value { IfOk result (IsFoundOf show code.now.unit) }
     ensures asked { Asks (unit_bytes code.now.unit ∷ []) result (D.asked finder.old) (D.asked finder.new) }
 {
     let invariant = finder.find(alloc, code)?;
-    judge(alloc, code, &invariant)
+    judge_under(alloc, code, &invariant, show)
 }
 
-/// What is found of a unit.
+/// What is found of a unit, and what it knows of other methods.
 #[derive(Drop)]
 pub struct Judged {
     /// What the unit knows of the methods that it calls.
     pub callees: List<CalleeInfo>,
-    /// The verdicts on its obligations.
-    pub verdicts: Vec<Verdict>,
+    /// What is found of it.
+    pub judgement: Judgement,
 }
 
 /// The same, of a unit without its flow, which is given up but for its callees.
 pub fn judge_unit<D: Finder>(
     alloc: Global,
     unit: Unit,
+    show: bool,
     finder: &mut D,
 ) -> Result<Judged, AllocError>
     requires { IsUnit unit }
     ensures callees { IfOk result (λ found. found.callees ≡ unit.callees) }
-    ensures value { IfOk result (λ found. found.verdicts.items ≡ unit_verdicts unit) }
-    ensures within { IfOk result (λ found. AreWithin found.verdicts.items) }
+    ensures value { IfOk result (λ found. IsFoundOf show unit found.judgement) }
     ensures asked { Asks (unit_bytes unit ∷ []) result (D.asked finder.old) (D.asked finder.new) }
 {
     let code = find_flow(alloc, unit)?;
-    let verdicts = judge_flow(alloc, &code, finder)?;
+    let judgement = judge_flow(alloc, &code, show, finder)?;
     Ok(Judged {
         callees: code.unit.callees,
-        verdicts,
+        judgement,
     })
 }

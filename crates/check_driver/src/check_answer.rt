@@ -1,4 +1,4 @@
-//! The answer to `check FILE`.
+//! The answer to `check FILE`, with `--show` or without.
 
 #![tactic(auto, using(cc_base::proofs::SinkLemmas::sinks, cc_base::proofs::CountLemmas::counts))]
 
@@ -8,11 +8,11 @@ ghost use Rattle.asm_image.specs.Faults.{FirstBroken};
 ghost use Rattle.asm_image.specs.Rows.{methods_of};
 ghost use Rattle.asm_image.specs.declared.method_row.MethodRow.{MethodRow};
 ghost use Rattle.check_driver.specs.Asked.{Asks, check_asked, outcome_key, units_asked, unseen};
-ghost use Rattle.check_driver.specs.CheckText.{all_methods_proved, assembly_line, check_text, finding, finding_lines, findings, found_counts, is_proved, method_line, verdict_text};
+ghost use Rattle.check_driver.specs.CheckText.{all_methods_proved, all_shown, assembly_line, check_text, finding, finding_lines, findings, found_counts, is_proved, method_line, outcome_shown, verdict_text};
 ghost use Rattle.check_driver.specs.Checked.{AreRunnable, IsReportable};
 ghost use Rattle.answer_lines.specs.Counting.{AreBelow};
 ghost use Rattle.check_driver.specs.Expected.{check_answer};
-ghost use Rattle.check_driver.specs.Findings.{IsWithin, told, told_lines};
+ghost use Rattle.check_driver.specs.Findings.{IsWithin, shown_in, told, told_lines};
 ghost use Rattle.answer_lines.specs.Outcome.{Gives};
 ghost use Rattle.answer_lines.specs.Writing.{Writes, change_of, joined};
 ghost use Rattle.method_unit.specs.Units.{IsUnit};
@@ -21,6 +21,7 @@ ghost use Rattle.unit_builder.specs.Outcomes.{IfAnalysed, entries_of, outcome_of
 use crate::fault_text::assembly_fault_text;
 use crate::finding::Finding;
 use crate::judged_units::JudgedUnits;
+use crate::text_lines::append_lines;
 use crate::unit_report::append_verdict_lines;
 use answer_lines::{Counts, Interrupt, answer_refused, put_lines, summary_line};
 use asm_image::{AsmRefusal, Assembly, MethodRow};
@@ -51,11 +52,11 @@ fn append_finding(
     finding: &Finding,
 ) -> Result<(), AllocError>
     requires { IsWithin finding.now }
-    ensures { OnOk result (joined lines.new.items ≡ joined lines.old.items ++ finding_lines method.now.token.0 method.now.name (told finding.now)) }
+    ensures { OnOk result (joined lines.new.items ≡ joined lines.old.items ++ told_lines (method.now, finding.now)) }
 {
     lines.push(method_line(alloc, method, finding)?)?;
     append_verdict_lines(alloc, lines, finding.callees(), finding.verdicts())?;
-    Ok(())
+    append_lines(alloc, lines, finding.shown())
 }
 
 /// Appends the lines of each method, of which these are found.
@@ -85,31 +86,37 @@ fn find<D: Finder>(
     requires there { index < length (methods_of units.old) }
     ensures same { units.new ≡ units.old }
     ensures value { (method : MethodRow) → slice_get (methods_of units.old) index ≡ Some method → IfOk result (λ found. told found ≡ finding (outcome_of units.old method)) }
+    ensures shown { (method : MethodRow) → slice_get (methods_of units.old) index ≡ Some method
+        → IfOk result (λ found. shown_in found ≡ outcome_shown judged.old.show (outcome_of units.old method)) }
+    ensures show { judged.new.show ≡ judged.old.show }
     ensures within { IfOk result IsWithin }
     ensures runnable { (method : MethodRow) → slice_get (methods_of units.old) index ≡ Some method → IfOk result (λ _. IfAnalysed (outcome_of units.old method) IsUnit) }
     ensures judged { (method : MethodRow) → slice_get (methods_of units.old) index ≡ Some method
-        → OnOk result (judged.new ≡ judged.old ++ unseen judged.old (outcome_key (outcome_of units.old method))) }
+        → OnOk result (judged.new.keys ≡ judged.old.keys ++ unseen judged.old.keys (outcome_key (outcome_of units.old method))) }
     ensures asked { (method : MethodRow) → slice_get (methods_of units.old) index ≡ Some method
-        → Asks (unseen judged.old (outcome_key (outcome_of units.old method))) result (D.asked finder.old) (D.asked finder.new) }
+        → Asks (unseen judged.old.keys (outcome_key (outcome_of units.old method))) result (D.asked finder.old) (D.asked finder.new) }
 {
     let outcome = units.outcome(alloc, index)?;
     Finding::of(alloc, outcome, judged, finder)
 }
 
-/// Returns what is found of each method of an assembly. Of equal units one is judged.
+/// Returns what is found of each method of an assembly, with the text of its invariant where that is shown. Of equal units
+/// one is judged.
 pub fn find_all<D: Finder>(
     alloc: Global,
     assembly: &Assembly<'_>,
+    show: bool,
     finder: &mut D,
 ) -> Result<Vec<Finding>, AllocError>
     ensures value { IfOk result (λ found. map told found.items ≡ findings (entries_of assembly.now)) }
+    ensures shown { IfOk result (λ found. map shown_in found.items ≡ all_shown show (entries_of assembly.now)) }
     ensures within { IfOk result (λ found. All IsWithin found.items) }
     ensures few { IfOk result (λ found. length found.items < 2 ^ 32) }
     ensures runnable { IfOk result (λ _. AreRunnable assembly.now) }
     ensures asked { Asks (units_asked assembly.now) result (D.asked finder.old) (D.asked finder.new) }
 {
     let mut units = Units::of(alloc, assembly)?;
-    let mut judged = JudgedUnits::none(alloc);
+    let mut judged = JudgedUnits::none(alloc, show);
     let mut found = Vec::new(alloc);
     for index in 0..assembly.methods().len() {
         found.push(find(alloc, &mut units, index, &mut judged, finder)?)?;
@@ -160,14 +167,16 @@ fn assembly_line(alloc: Global, name: &[u8]) -> Result<Vec<u8>, AllocError>
 fn check_lines(
     alloc: Global,
     name: &[u8],
+    show: bool,
     assembly: &Assembly<'_>,
     found: &[Finding],
 ) -> Result<Vec<Vec<u8>>, AllocError>
     requires value { map told found.now ≡ findings (entries_of assembly.now) }
+    requires shown { map shown_in found.now ≡ all_shown show (entries_of assembly.now) }
     requires within { All IsWithin found.now }
     requires few { length found.now < 2 ^ 32 }
     requires runnable { AreRunnable assembly.now }
-    ensures text { IfOk result (λ lines. joined lines.items ≡ check_text name.now assembly.now) }
+    ensures text { IfOk result (λ lines. joined lines.items ≡ check_text name.now show assembly.now) }
     ensures reportable { IfOk result (λ _. IsReportable assembly.now) }
 {
     let mut lines = Vec::new(alloc);
@@ -188,16 +197,17 @@ struct ReportLines {
 fn report_lines<D: Finder>(
     alloc: Global,
     name: &[u8],
+    show: bool,
     assembly: &Assembly<'_>,
     finder: &mut D,
 ) -> Result<ReportLines, AllocError>
     ensures status { IfOk result (λ report. report.status ≡ (if all_methods_proved assembly.now then 0 else 1)) }
-    ensures text { IfOk result (λ report. joined report.lines.items ≡ check_text name.now assembly.now) }
+    ensures text { IfOk result (λ report. joined report.lines.items ≡ check_text name.now show assembly.now) }
     ensures reportable { IfOk result (λ _. IsReportable assembly.now) }
     ensures asked { Asks (units_asked assembly.now) result (D.asked finder.old) (D.asked finder.new) }
 {
-    let found = find_all(alloc, assembly, finder)?;
-    let lines = check_lines(alloc, name, assembly, &found)?;
+    let found = find_all(alloc, assembly, show, finder)?;
+    let lines = check_lines(alloc, name, show, assembly, &found)?;
     Ok(ReportLines {
         lines,
         status: status_of(&found),
@@ -215,7 +225,7 @@ fn text_of(alloc: Global, lines: &[Vec<u8>]) -> Result<Vec<u8>, AllocError>
     Ok(text)
 }
 
-/// The report of an assembly whose file has this name, as `check` writes it. The finder is asked for an invariant of
+/// The report of an assembly whose file has this name, as `check` writes it, with the invariants where these are shown. The finder is asked for an invariant of
 /// each unit that is judged, of equal units once.
 ///
 /// Cost: that of `check`, and the text once more.
@@ -223,12 +233,13 @@ pub fn report<D: Finder>(
     alloc: Global,
     name: &str,
     assembly: &Assembly<'_>,
+    show: bool,
     finder: &mut D,
 ) -> Result<Vec<u8>, AllocError>
-    ensures value { IfOk result (λ text. text.items ≡ check_text name.now assembly.now) }
+    ensures value { IfOk result (λ text. text.items ≡ check_text name.now show assembly.now) }
     ensures asked { Asks (units_asked assembly.now) result (D.asked finder.old) (D.asked finder.new) }
 {
-    let report = report_lines(alloc, name.as_bytes(), assembly, finder)?;
+    let report = report_lines(alloc, name.as_bytes(), show, assembly, finder)?;
     text_of(alloc, &report.lines)
 }
 
@@ -236,33 +247,35 @@ pub fn report<D: Finder>(
 fn answer_assembly<O: Sink, D: Finder>(
     alloc: Global,
     name: &[u8],
+    show: bool,
     assembly: &Assembly<'_>,
     out: &mut O,
     finder: &mut D,
 ) -> Result<u8, Interrupt>
     ensures status { IfOk result (λ status. status ≡ (if all_methods_proved assembly.now then 0 else 1)) }
-    ensures written { Writes result (change_of O.written O.faults out.old out.new) (check_text name.now assembly.now) }
+    ensures written { Writes result (change_of O.written O.faults out.old out.new) (check_text name.now show assembly.now) }
     ensures reportable { (O.written out.new ≡ O.written out.old) ⊎ IsReportable assembly.now }
     ensures asked { Asks (units_asked assembly.now) result (D.asked finder.old) (D.asked finder.new) }
 {
-    let report = report_lines(alloc, name, assembly, finder)?;
+    let report = report_lines(alloc, name, show, assembly, finder)?;
     put_lines(alloc, out, &report.lines)?;
     Ok(report.status)
 }
 
-/// Answers `check FILE` for the bytes of the file.
+/// Answers `check FILE` for the bytes of the file. The report shows the invariants where these are asked for.
 ///
 /// Cost: the code of each method is read once, however many methods call it, and of equal units one is analysed. What is found
 /// of each is kept until all is.
 pub fn answer_check<O: Sink, E: Sink, D: Finder>(
     alloc: Global,
     name: &[u8],
+    show: bool,
     bytes: &[u8],
     out: &mut O,
     err: &mut E,
     finder: &mut D,
 ) -> Result<u8, Interrupt>
-    ensures answer { Gives (check_answer name.now bytes.now (FirstBroken bytes.now)) result
+    ensures answer { Gives (check_answer name.now show bytes.now (FirstBroken bytes.now)) result
         (change_of O.written O.faults out.old out.new) (change_of E.written E.faults err.old err.new) }
     ensures reportable { (O.written out.new ≡ O.written out.old) ⊎ IsReportable bytes.now }
     ensures asked { Asks (check_asked bytes.now (FirstBroken bytes.now)) result (D.asked finder.old) (D.asked finder.new) }
@@ -272,6 +285,6 @@ pub fn answer_check<O: Sink, E: Sink, D: Finder>(
         Err(AsmRefusal::Bad(fault)) => {
             answer_refused(alloc, name, assembly_fault_text(fault.cause), fault.at, err)
         }
-        Ok(assembly) => answer_assembly(alloc, name, &assembly, out, finder),
+        Ok(assembly) => answer_assembly(alloc, name, show, &assembly, out, finder),
     }
 }

@@ -2,11 +2,11 @@
 
 ghost use Rattle.std.specs.Prelude.{◌≡◌, ◌++◌, ◌<◌, ◌≤◌, All, IfOk, OnOk, length};
 ghost use Rattle.check_driver.specs.Asked.{Asks, outcome_key, unseen};
-ghost use Rattle.check_driver.specs.CheckText.{counts_of, finding, is_proved, verdict_text};
+ghost use Rattle.check_driver.specs.CheckText.{counts_of, finding, is_proved, outcome_shown, verdict_text};
 ghost use Rattle.answer_lines.specs.Counting.{AreBelow};
 ghost use Rattle.method_unit.specs.Units.{IsUnit};
 ghost use Rattle.unit_builder.specs.Outcomes.{IfAnalysed};
-ghost use Rattle.check_driver.specs.Findings.{IsWithin, callees_in, told, verdicts_in};
+ghost use Rattle.check_driver.specs.Findings.{IsWithin, callees_in, shown_in, told, verdicts_in};
 
 use crate::analysis::Judged;
 use crate::judged_units::JudgedUnits;
@@ -38,9 +38,11 @@ impl Finding {
     ) -> Result<Finding, AllocError>
         requires { IfAnalysed outcome IsUnit }
         ensures value { IfOk result (λ found. told found ≡ finding outcome) }
+        ensures shown { IfOk result (λ found. shown_in found ≡ outcome_shown judged.old.show outcome) }
         ensures within { IfOk result IsWithin }
-        ensures judged { OnOk result (judged.new ≡ judged.old ++ unseen judged.old (outcome_key outcome)) }
-        ensures asked { Asks (unseen judged.old (outcome_key outcome)) result (D.asked finder.old) (D.asked finder.new) }
+        ensures show { judged.new.show ≡ judged.old.show }
+        ensures judged { OnOk result (judged.new.keys ≡ judged.old.keys ++ unseen judged.old.keys (outcome_key outcome)) }
+        ensures asked { Asks (unseen judged.old.keys (outcome_key outcome)) result (D.asked finder.old) (D.asked finder.new) }
     {
         match outcome {
             Outcome::Skipped(reason) => Ok(Finding::Skipped(reason)),
@@ -53,7 +55,7 @@ impl Finding {
         ensures { result.now ≡ verdicts_in (told self.now) }
     {
         match self {
-            Finding::Judged(found) => &found.verdicts,
+            Finding::Judged(found) => &found.judgement.verdicts,
             Finding::Skipped(_) => &[],
         }
     }
@@ -68,12 +70,22 @@ impl Finding {
         }
     }
 
+    /// The text of its unit's invariant, where that is shown. A method that is not analysed has none.
+    pub fn shown(&self) -> &[u8]
+        ensures { result.now ≡ shown_in self.now }
+    {
+        match self {
+            Finding::Judged(found) => &found.judgement.shown,
+            Finding::Skipped(_) => &[],
+        }
+    }
+
     /// Returns whether the method is proved.
     pub fn is_proved(&self) -> bool
         ensures { result ≡ is_proved (told self.now) }
     {
         match self {
-            Finding::Judged(found) => all_proved(&found.verdicts),
+            Finding::Judged(found) => all_proved(&found.judgement.verdicts),
             Finding::Skipped(_) => false,
         }
     }
@@ -103,7 +115,7 @@ impl Finding {
     {
         match self {
             Finding::Judged(found) => line.extend_from_slice(proved_text(all_proved(
-                &found.verdicts,
+                &found.judgement.verdicts,
             ))),
             Finding::Skipped(reason) => append_skipped(alloc, line, *reason),
         }

@@ -34,7 +34,7 @@ fn summarise<D: Finder>(
     ensures line { IfOk result (λ summary. summary.line.items ≡ summary_text assembly.now) }
     ensures asked { Asks (units_asked assembly.now) result (D.asked finder.old) (D.asked finder.new) }
 {
-    let found = find_all(alloc, assembly, finder)?;
+    let found = find_all(alloc, assembly, false, finder)?;
     Ok(Summary {
         line: summary_line(alloc, count(&found))?,
         status: status_of(&found),

@@ -7,12 +7,14 @@ mod fault_text;
 mod finding;
 mod gen_answer;
 mod il_answer;
+mod judgement;
 mod judged_units;
 mod list_answer;
 mod program;
 mod reading;
 mod reason_text;
 mod run_answer;
+mod text_lines;
 mod unit_answer;
 mod unit_report;
 

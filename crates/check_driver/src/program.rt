@@ -114,10 +114,11 @@ fn answer_bytes<O: Sink, E: Sink, D: Finder>(
                 err,
             )
         }
-        Command::Check(file) => {
+        Command::Check { file, show } => {
             answer_check(
                 alloc,
                 word_at(words, file).as_bytes(),
+                show,
                 &read[0],
                 out,
                 err,

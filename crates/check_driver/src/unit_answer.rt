@@ -39,10 +39,10 @@ fn put_report<O: Sink, D: Finder>(
     ensures asked { Asks (unit_bytes unit ∷ []) result (D.asked finder.old) (D.asked finder.new) }
 {
     let code = find_flow(alloc, unit)?;
-    let found = judge_flow(alloc, &code, finder)?;
-    let lines = report_lines(alloc, &code.unit, &found)?;
+    let found = judge_flow(alloc, &code, false, finder)?;
+    let lines = report_lines(alloc, &code.unit, &found.verdicts)?;
     put_lines(alloc, out, &lines)?;
-    Ok(all_proved(&found))
+    Ok(all_proved(&found.verdicts))
 }
 
 /// Answers `unit FILE` for the bytes of a file that is not too large.

@@ -14,7 +14,7 @@ use Rattle.state_facts.specs.StateFacts.{StateFacts, State}
 use Rattle.transfer_rules.specs.Entry.{entry}
 use Rattle.transfer_rules.specs.FitTests.{fit_stack}
 use Rattle.transfer_rules.specs.Forms.{FitsStack, HasKinds, kinds_over}
-use Rattle.transfer_rules.specs.Inductive.{IsInductive, state_at}
+use Rattle.transfer_rules.specs.Inductive.{HasShape, IsInductive, state_at}
 use Rattle.transfer_rules.proofs.FitTold.{stack_told}
 use Rattle.unit_flow.specs.Flow.{kinds_at}
 use Rattle.unit_flow.specs.declared.unit_flow.UnitFlow.{UnitFlow}
@@ -70,19 +70,32 @@ module _ (code : UnitFlow) (states : List State) where
       → Decides (fits_block code states block) (FitsStack code.unit (kinds_at code block) (state_at states block))
   block_decides block = stack_decides code.unit (kinds_at code block) (state_at states block)
 
+  shape_by : has_shape code states ≡ true → HasShape code states
+  shape_by is =
+      let shape = and_parts (length states == length code.graph.blocks)
+      (list_all (fits_block code states) (range_with_len 0 (length states))) is in
+      record {
+        count = eqb-true (length states) (length code.graph.blocks) shape.0;
+        fit = λ block below. (block_decides block).0
+            (each_from (fits_block code states) 0 (length states) block shape.1 (omega arith) (omega (arith, below)));
+      }
+
+  shape_true : HasShape code states → has_shape code states ≡ true
+  shape_true shape =
+      let fit = all_from (fits_block code states) 0 (length states)
+      (λ block low below. (block_decides block).1 (shape.fit block (omega (arith, below)))) in
+      rw (eq-eqb (length states) (length code.graph.blocks) shape.count, fit) refl
+
+  pub shape_decides : Decides (has_shape code states) (HasShape code states)
+  shape_decides = (shape_by, shape_true)
+
   pub inductive_by : is_inductive code states ≡ true → IsInductive code states
   unfolding is_inductive
   inductive_by is =
       let first = and_parts (has_shape code states && is_included (entry code.unit) (state_at states 0)) _ is in
       let second = and_parts (has_shape code states) (is_included (entry code.unit) (state_at states 0)) first.0 in
-      let shape = and_parts (length states == length code.graph.blocks)
-      (list_all (fits_block code states) (range_with_len 0 (length states))) second.0 in
       record {
-        shape = record {
-          count = eqb-true (length states) (length code.graph.blocks) shape.0;
-          fit = λ block below. (block_decides block).0
-              (each_from (fits_block code states) 0 (length states) block shape.1 (omega arith) (omega (arith, below)));
-        };
+        shape = shape_by second.0;
         begun = second.1;
         edges = λ edge below. each_from (is_carried code states) 0 (length code.graph.edges) edge first.1 (omega arith)
             (omega (arith, below));
@@ -91,8 +104,6 @@ module _ (code : UnitFlow) (states : List State) where
   pub inductive_true : IsInductive code states → is_inductive code states ≡ true
   unfolding is_inductive
   inductive_true inductive =
-      let fit = all_from (fits_block code states) 0 (length states)
-      (λ block low below. (block_decides block).1 (inductive.shape.fit block (omega (arith, below)))) in
       let edges = all_from (is_carried code states) 0 (length code.graph.edges)
       (λ edge low below. inductive.edges edge (omega (arith, below))) in
-      rw (eq-eqb (length states) (length code.graph.blocks) inductive.shape.count, fit, inductive.begun, edges) refl
+      rw (shape_true inductive.shape, inductive.begun, edges) refl

@@ -18,5 +18,5 @@ returns-in-Err-Bad-clause-answer g c =
 pub returns-in-Ok-clause-answer : goal.returns-in-Ok-clause-answer
 returns-in-Ok-clause-answer g c =
     rw c.in-Ok.ensures.accepted
-    (gives_output _ (check_text c.args.name.now c.args.bytes.now) c.answer_assembly.result _ (g.E.Sink.written c.args.err.now) (g.E.Sink.faults c.args.err.now)
+    (gives_output _ (check_text c.args.name.now c.args.show c.args.bytes.now) c.answer_assembly.result _ (g.E.Sink.written c.args.err.now) (g.E.Sink.faults c.args.err.now)
     (rw c.in-Ok.ensures.value.same at c.answer_assembly.ensures.status) (rw c.in-Ok.ensures.value.same at c.answer_assembly.ensures.written))

@@ -6,11 +6,11 @@ use Rattle.asm_image.specs.Rows.{methods_of}
 use Rattle.pe_reader.specs.Addresses.{metadata}
 use Rattle.unit_builder.specs.Outcomes.{entries_of, entry_of}
 use Rattle.check_driver.specs.Asked.{Asks, distinct, units_asked}
-use Rattle.check_driver.specs.CheckText.{findings}
-use Rattle.check_driver.specs.Findings.{IsWithin}
+use Rattle.check_driver.specs.CheckText.{all_shown, findings, outcome_shown}
+use Rattle.check_driver.specs.Findings.{IsWithin, shown_in}
 use Rattle.check_driver.proofs.Asking.{asks_all, asks_front, front_all}
 use Rattle.check_driver.proofs.FewMethods.{methods_are_few}
-use Rattle.check_driver.proofs.FindAll.{AreKnown, all_taken, found_few, found_next, known_next, there}
+use Rattle.check_driver.proofs.FindAll.{AreKnown, all_taken, found_few, found_next, known_next, shown_next, there}
 use Rattle.check_driver.proofs.KeysAsked.{asked_next, front_at_next, front_of_whole, judged_next, keys_of}
 use Rattle.check_driver.proofs.check_answer.find_all.Goals as goal
 
@@ -33,10 +33,14 @@ loop-index-preserved g c =
       same = c.find.ensures.same ∙ same;
       end = c.loop-index.invariant.end;
       value = rw c.in_ok-push.ensures.items (found_next asm (methods_of asm) n method.0 c.loop-index.found.items c.in_ok-find.field-0 method.2 c.loop-index.invariant.value ((rw same at c.in_ok-find.ensures.value) method.0 at));
+      shown =
+          rw c.in_ok-push.ensures.items (shown_next asm c.args.show (methods_of asm) n method.0 c.loop-index.found.items c.in_ok-find.field-0 method.2 c.loop-index.invariant.shown
+          ((rw same at c.in_ok-find.ensures.shown) method.0 at ∙ ap (λ show. outcome_shown show _) c.loop-index.invariant.asks));
       within = rw c.in_ok-push.ensures.items (All-push IsWithin c.loop-index.found.items c.in_ok-find.field-0 c.loop-index.invariant.within c.in_ok-find.ensures.within);
       known = known_next asm (methods_of asm) n method.0 method.2 c.loop-index.invariant.known ((rw same at c.in_ok-find.ensures.runnable) method.0 at);
-      judged = judged_next asm (methods_of asm) n method.0 c.loop-index.judged c.find.new.judged method.2 c.loop-index.invariant.judged judged;
-      asked = asked_next (g.D.Finder.asked c.args.finder.now) c.loop-index.judged _ _ _ _ c.loop-index.invariant.asked (Asks.whole ((rw same at c.in_ok-find.ensures.asked) method.0 at)) judged;
+      asks = c.find.ensures.show ∙ c.loop-index.invariant.asks;
+      judged = judged_next asm (methods_of asm) n method.0 c.loop-index.judged.keys c.find.new.judged.keys method.2 c.loop-index.invariant.judged judged;
+      asked = asked_next (g.D.Finder.asked c.args.finder.now) c.loop-index.judged.keys _ _ _ _ c.loop-index.invariant.asked (Asks.whole ((rw same at c.in_ok-find.ensures.asked) method.0 at)) judged;
     }
 
 pub returns-clause-value : goal.returns-clause-value
@@ -45,6 +49,13 @@ returns-clause-value g c =
     let asm = c.args.assembly.now in
     let long : length (methods_of asm) ≤ c.loop-index.index = rw (← c.methods-index-end.ensures.methods) c.loop-index-test.false in
     c.loop-index.invariant.value ∙ ap (λ methods. findings (map (entry_of asm) methods)) (all_taken (methods_of asm) c.loop-index.index long)
+
+pub returns-clause-shown : goal.returns-clause-shown
+unfolding entries_of
+returns-clause-shown g c =
+    let asm = c.args.assembly.now in
+    let long : length (methods_of asm) ≤ c.loop-index.index = rw (← c.methods-index-end.ensures.methods) c.loop-index-test.false in
+    c.loop-index.invariant.shown ∙ ap (λ methods. all_shown c.args.show (map (entry_of asm) methods)) (all_taken (methods_of asm) c.loop-index.index long)
 
 pub returns-clause-few : goal.returns-clause-few
 returns-clause-few g c =
@@ -73,7 +84,7 @@ returns-in_err-find-clause-asked g c =
     let p = err_from_is_err_and c.from_residual-in_err-find.result c.from_residual-in_err-find.ensures.1 in
     let front = Asks.front ((rw same at c.in_err-find.ensures.asked) method.0 method.1) in
     asks_front (units_asked asm) c.from_residual-in_err-find.result p.0 _ _ p.1
-    (front_at_next asm (methods_of asm) n method.0 c.loop-index.judged _ _ _ method.2 c.loop-index.invariant.judged c.loop-index.invariant.asked front)
+    (front_at_next asm (methods_of asm) n method.0 c.loop-index.judged.keys _ _ _ method.2 c.loop-index.invariant.judged c.loop-index.invariant.asked front)
 
 pub returns-in_err-push-clause-asked : goal.returns-in_err-push-clause-asked
 unfolding units_asked entries_of
@@ -86,8 +97,8 @@ returns-in_err-push-clause-asked g c =
     let p = err_from_is_err_and c.from_residual-in_err-push.result c.from_residual-in_err-push.ensures.1 in
     let old = g.D.Finder.asked c.args.finder.now in
     let adds = (rw same at c.in_ok-find.ensures.judged) method.0 method.1 in
-    let judged = judged_next asm (methods_of asm) n method.0 c.loop-index.judged c.find.new.judged method.2 c.loop-index.invariant.judged adds in
-    let asked = asked_next old c.loop-index.judged _ _ _ _ c.loop-index.invariant.asked (Asks.whole ((rw same at c.in_ok-find.ensures.asked) method.0 method.1)) adds in
+    let judged = judged_next asm (methods_of asm) n method.0 c.loop-index.judged.keys c.find.new.judged.keys method.2 c.loop-index.invariant.judged adds in
+    let asked = asked_next old c.loop-index.judged.keys _ _ _ _ c.loop-index.invariant.asked (Asks.whole ((rw same at c.in_ok-find.ensures.asked) method.0 method.1)) adds in
     asks_front (units_asked asm) c.from_residual-in_err-push.result p.0 _ _ p.1
     (front_of_whole asm (methods_of asm) (n + 1) old _ (front_all (distinct (keys_of asm (take (n + 1) (methods_of asm)))) old _ (asked ∙ ap (λ (l : List (List ℕ)). old ++ l) judged)))
 
@@ -97,5 +108,5 @@ returns-clause-asked g c =
     let asm = c.args.assembly.now in
     let old = g.D.Finder.asked c.args.finder.now in
     let long : length (methods_of asm) ≤ c.loop-index.index = rw (← c.methods-index-end.ensures.methods) c.loop-index-test.false in
-    let judged : c.loop-index.judged ≡ units_asked asm = c.loop-index.invariant.judged ∙ ap (λ methods. distinct (keys_of asm methods)) (all_taken (methods_of asm) c.loop-index.index long) in
+    let judged : c.loop-index.judged.keys ≡ units_asked asm = c.loop-index.invariant.judged ∙ ap (λ methods. distinct (keys_of asm methods)) (all_taken (methods_of asm) c.loop-index.index long) in
     asks_all (units_asked asm) _ old _ (c.loop-index.invariant.asked ∙ ap (λ (l : List (List ℕ)). old ++ l) judged)

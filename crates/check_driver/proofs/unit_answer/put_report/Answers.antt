@@ -7,10 +7,10 @@ use Rattle.check_driver.proofs.Asking.{asks_nothing}
 use Rattle.check_driver.proofs.unit_answer.put_report.Goals as goal
 
 pub report_lines-requires-clause-few : goal.report_lines-requires-clause-few
-report_lines-requires-clause-few g c = rw c.deref.ensures.value (omega (arith, c.in_ok-found.ensures.within.few))
+report_lines-requires-clause-few g c = rw c.deref.ensures.value (omega (arith, c.in_ok-found.ensures.value.within.few))
 
 pub report_lines-requires-clause-near : goal.report_lines-requires-clause-near
-report_lines-requires-clause-near g c = rw c.deref.ensures.value c.in_ok-found.ensures.within.near
+report_lines-requires-clause-near g c = rw c.deref.ensures.value c.in_ok-found.ensures.value.within.near
 
 pub returns-in_err-code-clause-asked : goal.returns-in_err-code-clause-asked
 returns-in_err-code-clause-asked g c =

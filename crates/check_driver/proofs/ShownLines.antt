@@ -1,0 +1,63 @@
+-- What is shown of an invariant is whole lines, and each begins with a space.
+use Rattle.std.proofs.Common.{◌≡◌, ◌≢◌, ℕ, Bool, true, false, List, [], ◌∷◌, ◌++◌, if◌then◌else◌, get_or, refl, sym, ap, ◌∙◌, subst, append_assoc, arith}
+use Rattle.std.specs.Prelude.{Contains}
+use Rattle.std.proofs.lemmas.Bool.{ne_eqb}
+use Rattle.invariant_checker.specs.Inducts.{has_shape}
+use Rattle.invariant_text.specs.InvariantText.{invariant_text}
+use Rattle.invariant_text.proofs.Indented.{AreIndented, indented, more, none}
+use Rattle.state_facts.specs.StateFacts.{State}
+use Rattle.unit_builder.specs.declared.entry.Outcome.{Outcome}
+use Rattle.unit_builder.specs.declared.entry.Outcome.TheVariants.{Analysed, Skipped}
+use Rattle.unit_flow.specs.FlowOf.{flow_of}
+use Rattle.unit_flow.specs.declared.unit_flow.UnitFlow.{UnitFlow}
+use Rattle.widening_engine.specs.Limits.{limit_of}
+use Rattle.check_driver.specs.Analysis.{shown_text, states_text}
+use Rattle.check_driver.specs.CheckText.{outcome_shown}
+use Rattle.check_driver.specs.Sections.{lines_of, longer}
+use Rattle.check_driver.proofs.WholeLines.{IsOneLine, as_line, as_lines}
+
+-- ---- lines of a text
+
+-- The lines of a line and more.
+lines_behind : (line rest : List ℕ) → IsOneLine line → lines_of (line ++ 10 ∷ rest) ≡ line ∷ lines_of rest
+lines_behind [] rest one = refl
+lines_behind (b ∷ line) rest one = rw (ne_eqb b 10 one.0, lines_behind line rest one.1) refl
+
+are_lines : (text : List ℕ) → AreIndented text → as_lines (lines_of text) ≡ text
+are_lines _ none = refl
+are_lines _ (more line rest one indented) =
+    let first : 32 ∷ line ++ 10 ∷ rest ≡ (32 ∷ line) ++ 10 ∷ rest = refl in
+    ap as_lines (lines_behind (32 ∷ line) rest ((λ same. omega (arith, same)), one))
+    ∙ append_assoc (32 ∷ line) (10 ∷ []) (as_lines (lines_of rest)) ∙ ap (λ (l : List ℕ). (32 ∷ line) ++ 10 ∷ l) (are_lines rest indented)
+
+-- No line begins with another byte than a space.
+no_other : (text line : List ℕ) → AreIndented text → get_or line 0 0 ≡ 109 → Contains (lines_of text) line → ⊥
+no_other _ line none letter (k, below, same) = omega (arith, below)
+no_other _ line (more first rest one indented) letter has =
+    by_lines (subst (λ (lines : List (List ℕ)). Contains lines line) (lines_behind (32 ∷ first) rest ((λ same. omega (arith, same)), one)) has)
+  where
+    by_lines : Contains ((32 ∷ first) ∷ lines_of rest) line → ⊥
+    by_lines (zero, below, same) = (let letters : 32 ≡ 109 = ap (λ (l : List ℕ). get_or l 0 0) same ∙ letter in omega (arith, letters))
+    by_lines (suc k, below, same) = no_other rest line indented letter (k, omega (arith, below), same)
+
+-- ---- what is shown
+
+states_indented : (code : UnitFlow) (states : List State) → AreIndented (states_text code states)
+states_indented code states = by_shape (has_shape code states)
+  where
+    by_shape : (shaped : Bool) → AreIndented (if shaped then invariant_text code.unit code.graph.blocks states else [])
+    by_shape true = indented code.unit code.graph.blocks states
+    by_shape false = none
+
+shown_indented : (show : Bool) (outcome : Outcome) → AreIndented (outcome_shown show outcome)
+unfolding shown_text
+shown_indented true (Analysed unit) = states_indented (flow_of unit) (limit_of (flow_of unit))
+shown_indented false (Analysed unit) = none
+shown_indented show (Skipped reason) = none
+
+pub shown_are_lines : (show : Bool) (outcome : Outcome) → as_lines (lines_of (outcome_shown show outcome)) ≡ outcome_shown show outcome
+shown_are_lines show outcome = are_lines (outcome_shown show outcome) (shown_indented show outcome)
+
+-- No line of it is that of a method, which begins with another letter.
+pub no_shown_line : (show : Bool) (outcome : Outcome) (line : List ℕ) → get_or line 0 0 ≡ 109 → Contains (lines_of (outcome_shown show outcome)) line → ⊥
+no_shown_line show outcome line letter has = no_other (outcome_shown show outcome) line (shown_indented show outcome) letter has

@@ -1,0 +1,4 @@
+pub mod LineSteps
+pub mod PlainTexts
+pub mod PlainLines
+pub mod Indented
