@@ -1,4 +1,10 @@
 pub mod LineSteps
+pub mod NumberReading
+pub mod ExprReading
+pub mod DefReading
+pub mod ListReading
+pub mod RangeReading
+pub mod SegmentForms
 pub mod PlainTexts
 pub mod PlainLines
 pub mod Indented

@@ -5,7 +5,7 @@ use crate::devices::CaseSink;
 use crate::difference::difference;
 use crate::expected::Expected;
 use crate::given::Given;
-use crate::reported::compare_report;
+use crate::reported::{asked_report, compare_report};
 use crate::wrong::{Stop, Wrong, stop_at};
 use case_reader::{Case, Field};
 use check_driver::run_words;
@@ -210,11 +210,11 @@ impl Script {
         let Some(line) = self.expected.report else {
             return Ok(());
         };
-        let Some(name) = self.words.get(1) else {
+        let Some((name, show)) = asked_report(&self.words) else {
             return Err(stop_at(self.alloc, line, "no file is named"));
         };
         let file = self.given.files.files.get(name);
-        compare_report(self.alloc, line, name, file, &self.out.sink.bytes)
+        compare_report(self.alloc, line, name, show, file, &self.out.sink.bytes)
     }
 
     fn compare_asked(&self, line: u64) -> Result<(), Stop> {

@@ -7,11 +7,25 @@ use check_driver::report;
 use std::alloc::Global;
 use widening_engine::Dirty;
 
+/// The word that asks for invariants.
+const SHOW: &str = "--show";
+
+/// The file whose report the words of a `check` ask for, and whether it shows invariants.
+pub fn asked_report(words: &[String]) -> Option<(&str, bool)> {
+    match words {
+        [_, file] => Some((file.as_str(), false)),
+        [_, show, file] if show.as_str() == SHOW => Some((file.as_str(), true)),
+        [_, file, _] => Some((file.as_str(), true)),
+        _ => None,
+    }
+}
+
 /// Compares the report of a file with what `check` printed of it.
 pub fn compare_report(
     alloc: Global,
     line: u64,
     name: &str,
+    show: bool,
     file: Option<&[u8]>,
     printed: &[u8],
 ) -> Result<(), Stop> {
@@ -21,7 +35,7 @@ pub fn compare_report(
     let Ok(assembly) = Assembly::read(alloc, bytes) else {
         return Err(stop_at(alloc, line, "the file is no assembly"));
     };
-    let text = report(alloc, name, &assembly, &mut Dirty::new(alloc))?;
+    let text = report(alloc, name, &assembly, show, &mut Dirty::new(alloc))?;
     if text.as_slice() != printed {
         let text = difference(alloc, "report", &text, printed)?;
         return Err(Stop::Wrong(Wrong { line, text }));
