@@ -1,4 +1,5 @@
 pub mod TermLaws
+pub mod StoredLaws
 pub mod MergeLaws
 pub mod CutLaws
 pub mod OutcomeLaws

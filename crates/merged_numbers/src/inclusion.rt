@@ -1,10 +1,10 @@
 //! When a state says no more of numbers than another one does.
 
-ghost use Rattle.std.specs.Prelude.{◌≡◌, ◌+ℤ◌, int_le, IfSome};
+ghost use Rattle.std.specs.Prelude.{◌≡◌, ◌+ℤ◌, int_le, true, IfSome, IsTrue};
 ghost use Rattle.std.specs.List.{list_all};
 ghost use Rattle.number_spans.specs.Sizes.{IsWide};
 ghost use Rattle.number_spans.specs.Spans.{moved_hole};
-ghost use Rattle.merged_numbers.specs.Known.{known};
+ghost use Rattle.merged_numbers.specs.Known.{gap, known};
 ghost use Rattle.merged_numbers.specs.Meaning.{AreMeasured};
 ghost use Rattle.merged_numbers.specs.Included as rule;
 ghost use Rattle.merged_numbers.specs.Included.{Includes, bound_term, included};
@@ -114,13 +114,29 @@ impl Side<'_> {
         true
     }
 
+    /// Returns whether a stored bound tells that the second of two distinct symbols lies so far above the first.
+    #[tactic(auto, using(crate::proofs::StoredLaws::stored_reaches))]
+    fn is_stored(&self, s: u32, t: u32, n: i128) -> bool
+        ensures { IsTrue result → rule.reaches (gap (known self.now) s t) n ≡ true }
+    {
+        s != t && reaches(self.bounds.stored(s, t), n)
+    }
+
+    /// Returns whether the second symbol is known to lie so far above the first. A stored bound is looked at first.
+    fn lies_above(&self, s: u32, t: u32, n: i128) -> bool
+        requires { AreMeasured self.now.spans.now }
+        ensures { result ≡ rule.reaches (gap (known self.now) s t) n }
+    {
+        self.is_stored(s, t, n) || reaches(self.gap(s, t), n)
+    }
+
     /// Returns whether a bound follows.
     fn follows(&self, binding: &[Bound], row: &BoundRow) -> bool
         requires { AreMeasured self.now.spans.now }
         ensures { result ≡ rule.follows (known self.now) binding.now row.now }
     {
         match (term_at(binding, row.s), term_at(binding, row.t)) {
-            (Some(x), Some(y)) => reaches(self.gap(x.sym, y.sym), apart(x.k, row.k, y.k)),
+            (Some(x), Some(y)) => self.lies_above(x.sym, y.sym, apart(x.k, row.k, y.k)),
             _ => false,
         }
     }
@@ -146,8 +162,8 @@ fn is_included(a: &Side, binding: &[Bound], ranges: &[Range], bounds: &Bounds) -
 /// and what it is bound to stand at place s - 1; where there are not as many of both, the answer is no. Ends count as
 /// numbers, also where a state leaves a value none.
 ///
-/// Cost: a look at each range, and for each bound a search for each bound that goes from what its first symbol is bound
-/// to. Takes no memory.
+/// Cost: a look at each range, and for each bound a search; where that finds no bound that tells it, a search for each
+/// bound that goes from what its first symbol is bound to. Takes no memory.
 #[tactic(auto, using(crate::proofs::InclusionLaws::included_so))]
 pub fn includes(a: &Side, binding: &[Bound], ranges: &[Range], bounds: &Bounds) -> bool
     requires { AreMeasured a.now.spans.now }

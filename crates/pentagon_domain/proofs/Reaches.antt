@@ -119,14 +119,17 @@ behind_more rows firsts i t known whole d inside so_far =
     (greater_gap_assoc known (option_and_then cut one) (option_and_then cut rest)
     ∙ (ap (λ more. greater_gap known more) (sym (cut-greater_gap one rest)) ∙ whole_is))
 
--- The same, where the rows behind the bound were gone through.
-pub behind_step : (rows firsts : List BoundRow) (i t : ℕ) (known now whole : Option ℤ) (d : BoundRow) → AreBounds rows → i < length firsts
-    → now ≡ greater_gap known (reach (get_or firsts i d).k (rows_from rows (get_or firsts i d).t) t)
+-- What the rows behind a bound raise, by what is stored.
+pub beyond_is : (rows : List BoundRow) (first : BoundRow) (t : ℕ) (known now : Option ℤ) → AreBounds rows → now ≡ greater_gap known (reach first.k (rows_from rows first.t) t)
+    → now ≡ greater_gap known (option_and_then cut (option_map (λ l. first.k +ℤ l) (stored rows first.t t)))
+beyond_is rows first t known now form is = is ∙ ap (greater_gap known) (reach_is first.k rows first.t t form)
+
+-- The same step, for all symbols but one, while the lowest gap stays the lowest.
+pub beyond_step : (rows firsts : List BoundRow) (i t : ℕ) (known now whole : Option ℤ) (d : BoundRow) → i < length firsts
+    → now ≡ greater_gap known (option_and_then cut (option_map (λ k. (get_or firsts i d).k +ℤ k) (stored rows (get_or firsts i d).t t)))
     → greater_gap known (option_and_then cut (greatest_sum rows (drop i firsts) t)) ≡ whole
     → greater_gap now (option_and_then cut (greatest_sum rows (drop (i + 1) firsts) t)) ≡ whole
-behind_step rows firsts i t known now whole d form inside becomes so_far =
-    let first = get_or firsts i d in
-    rw (becomes, reach_is first.k rows first.t t form) (behind_more rows firsts i t known whole d inside so_far)
+beyond_step rows firsts i t known now whole d inside becomes so_far = rw becomes (behind_more rows firsts i t known whole d inside so_far)
 
 pub behind_all : (rows firsts : List BoundRow) (i t : ℕ) (known whole : Option ℤ) → length firsts ≤ i
     → greater_gap known (option_and_then cut (greatest_sum rows (drop i firsts) t)) ≡ whole → known ≡ whole

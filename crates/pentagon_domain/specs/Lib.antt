@@ -3,4 +3,5 @@ pub mod Rising
 pub mod Targets
 pub mod Gaps
 pub mod Reach
+pub mod Most
 pub mod Laws

@@ -5,6 +5,7 @@ ghost use Rattle.std.specs.Prelude.{◌≡◌, ℕ, ℤ, [], ◌↔◌, IsSome, 
 use crate::bound_row::BoundRow;
 use crate::changes::{add, add_all};
 use crate::forms::{are_bounds, are_same};
+use crate::idle::{most_of, most_with};
 use crate::search::{rows_from, rows_to, stored};
 use crate::targets::by_target;
 use domain_api::NoMemory;
@@ -18,12 +19,15 @@ pub struct Bounds {
     rows: Vec<BoundRow>,
     /// The same rows, rising by the second symbol, then by the first.
     targets: Vec<BoundRow>,
+    /// No constant of them is greater.
+    most: i64,
 }
 
 impl Model for Bounds {
     ghost use Rattle.std.specs.Prelude.{List};
     ghost use Rattle.pentagon_domain.specs.declared.bound_row.BoundRow.{BoundRow};
     ghost use Rattle.pentagon_domain.specs.Rows.{AreBounds};
+    ghost use Rattle.pentagon_domain.specs.Most.{AreUpTo};
     ghost use Rattle.pentagon_domain.specs.Targets.{AreTargets};
 
     ghost Value = { List BoundRow };
@@ -31,12 +35,14 @@ impl Model for Bounds {
     ghost view = { λ bounds. bounds.rows.items };
 
     ghost invariant = { λ bounds.
-        AreBounds bounds.rows.items × AreTargets bounds.targets.items bounds.rows.items };
+        AreBounds bounds.rows.items × AreTargets bounds.targets.items bounds.rows.items
+        × AreUpTo bounds.most bounds.rows.items };
 }
 
 impl Bounds {
     ghost use Rattle.pentagon_domain.specs.Rows.{AreBounds, rows_from, rows_to, stored, with_bound, with_bounds};
     ghost use Rattle.pentagon_domain.specs.Gaps.{Allows, LiesAbove};
+    ghost use Rattle.pentagon_domain.specs.Most.{AreUpTo};
 
     /// No bound. Takes no memory.
     pub fn new(alloc: Global) -> Bounds
@@ -45,6 +51,7 @@ impl Bounds {
         Bounds {
             rows: Vec::new(alloc),
             targets: Vec::new(alloc),
+            most: i64::MIN,
         }
     }
 
@@ -55,6 +62,7 @@ impl Bounds {
         Ok(Bounds {
             rows: Vec::with_capacity(alloc, count)?,
             targets: Vec::with_capacity(alloc, count)?,
+            most: i64::MIN,
         })
     }
 
@@ -76,7 +84,20 @@ impl Bounds {
         ensures { IfOk result (λ bounds. bounds ≡ rows.items) }
     {
         let targets = by_target(alloc, &rows)?;
-        Ok(Bounds { rows, targets })
+        let most = most_of(&rows, i64::MIN);
+        Ok(Bounds {
+            rows,
+            targets,
+            most,
+        })
+    }
+
+    /// A number that no constant exceeds.
+    pub(crate) fn most(&self) -> i64
+        ensures value { AreUpTo result self.now }
+        ensures form { AreBounds self.now }
+    {
+        self.most
     }
 
     /// The rows, rising by the first symbol, then by the second. Takes no memory.
@@ -122,7 +143,9 @@ impl Bounds {
         ensures keeps { OnOk result ((number : ℕ → ℤ) → Allows self.old number → LiesAbove number s t k →
             Allows self.new number) }
     {
-        add(&mut self.rows, &mut self.targets, BoundRow { s, t, k })
+        let row = BoundRow { s, t, k };
+        self.most = most_with(self.most, &row);
+        add(&mut self.rows, &mut self.targets, row)
     }
 
     /// Adds bounds one after another, each as `add_bound` does. After an error nothing has changed: room for all is
@@ -131,6 +154,7 @@ impl Bounds {
         ensures value { OnOk result (self.new ≡ with_bounds self.old bounds.now) }
         ensures unchanged { OnErr result (self.new ≡ self.old) }
     {
+        self.most = most_of(bounds, self.most);
         add_all(&mut self.rows, &mut self.targets, bounds)
     }
 
@@ -141,6 +165,7 @@ impl Bounds {
         Ok(Bounds {
             rows: Vec::from_slice(alloc, self.rows.as_slice())?,
             targets: Vec::from_slice(alloc, self.targets.as_slice())?,
+            most: self.most,
         })
     }
 

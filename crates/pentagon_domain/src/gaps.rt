@@ -1,14 +1,17 @@
 //! How far symbols are known to lie above others.
 
-ghost use Rattle.std.specs.Prelude.{◌≡◌, ◌≢◌, ◌==◌, List, ℕ, ℤ, ◌+ℤ◌, EachIndex, slice_index_or, option_map, option_and_then, if◌then◌else◌};
+ghost use Rattle.std.specs.Prelude.{◌≡◌, ◌≢◌, ◌==◌, true, List, ℕ, ℤ, ◌+ℤ◌, EachIndex, slice_index_or};
+ghost use Rattle.std.specs.Prelude.{option_map, option_and_then, if◌then◌else◌};
 ghost use Rattle.domain_api.specs.Order.{greater_gap};
 ghost use Rattle.pentagon_domain.specs.declared.bound_row.BoundRow.{BoundRow};
 ghost use Rattle.pentagon_domain.specs.Gaps as rule;
 ghost use Rattle.pentagon_domain.specs.Gaps.{cut, greatest_sum};
+ghost use Rattle.pentagon_domain.specs.Most.{IsLow, is_reached};
 ghost use Rattle.pentagon_domain.specs.Reach.{reach};
 
 use crate::bound_row::BoundRow;
 use crate::bounds::Bounds;
+use crate::idle::{is_idle, lowest};
 use crate::search::{Guess, rows_near};
 use domain_api::Order;
 
@@ -102,7 +105,8 @@ fn raise_gap(gap: &mut Option<i64>, a: i64, b: i64)
 /// Raises the gap to one symbol by the sum of two constants.
 fn raise(gaps: &mut [Option<i64>], t: u32, a: i64, b: i64)
     ensures { EachIndex gaps.new (λ i. slice_index_or gaps.new i None ≡
-        (if t == i then greater_gap (slice_index_or gaps.old i None) (cut (a +ℤ b)) else slice_index_or gaps.old i None)) }
+        (if t == i then greater_gap (slice_index_or gaps.old i None) (cut (a +ℤ b))
+        else slice_index_or gaps.old i None)) }
 {
     let place = t as usize;
     if place < gaps.len() {
@@ -150,14 +154,16 @@ impl Bounds {
     }
 
     /// Writes the gaps from a symbol: into each place that to the symbol of the place. It costs the length of `gaps`,
-    /// the bounds from the symbol, and those from each symbol to which these go, and takes no memory.
+    /// the bounds from the symbol, and those from each symbol to which these go, but where the greatest of all
+    /// constants shows that they tell no more. Where bounds do not go to each symbol, a search is made for each of the
+    /// others. It takes no memory.
     pub fn gaps_from(&self, s: u32, gaps: &mut [Option<i64>])
         ensures { EachIndex gaps.new (λ t. slice_index_or gaps.new t None ≡ gap self.now s t) }
     {
         clear(gaps);
         let firsts = self.rows_from(s);
         raise_all(gaps, firsts, 0);
-        self.raise_behind(firsts, gaps);
+        self.raise_behind(s, firsts, gaps);
         if (s as usize) < gaps.len() {
             gaps[s as usize] = Some(0);
         }
@@ -171,14 +177,33 @@ impl Bounds {
         rows_near(self.rows(), s, guess)
     }
 
-    /// Raises the gap to each symbol by what bounds say behind those of a symbol.
-    fn raise_behind(&self, firsts: &[BoundRow], gaps: &mut [Option<i64>])
-        ensures { EachIndex gaps.new (λ t. slice_index_or gaps.new t None ≡
+    /// Raises the gap to each symbol by what bounds say behind a bound. Where no constant is so great that they could
+    /// say more than the lowest gap, nothing is looked at.
+    fn raise_beyond(
+        &self,
+        first: &BoundRow,
+        low: Option<i64>,
+        guess: &mut Guess,
+        gaps: &mut [Option<i64>],
+    )
+        ensures { EachIndex gaps.new (λ t. (is_reached self.now t ≡ true → IsLow low (slice_index_or gaps.old t None)) →
+            slice_index_or gaps.new t None ≡ greater_gap (slice_index_or gaps.old t None)
+            (option_and_then cut (option_map (λ l. first.now.k +ℤ l) (stored self.now first.now.t t)))) }
+    {
+        if !is_idle(first.k, self.most(), low) {
+            raise_all(gaps, self.rows_near(first.t, guess), first.k);
+        }
+    }
+
+    /// Raises the gap to each symbol but s by what bounds say behind those from s.
+    fn raise_behind(&self, s: u32, firsts: &[BoundRow], gaps: &mut [Option<i64>])
+        ensures { EachIndex gaps.new (λ t. t ≢ s → slice_index_or gaps.new t None ≡
             greater_gap (slice_index_or gaps.old t None) (option_and_then cut (greatest_sum self.now firsts.now t))) }
     {
+        let low = lowest(self, gaps, s);
         let mut guess = Guess { end: 0, count: 0 };
         for first in firsts {
-            raise_all(gaps, self.rows_near(first.t, &mut guess), first.k);
+            self.raise_beyond(first, low, &mut guess, gaps);
         }
     }
 
@@ -194,6 +219,9 @@ impl Bounds {
         ensures { result ≡ greater_gap known (option_and_then cut
             (option_map (λ l. first.now.k +ℤ l) (stored self.now first.now.t t))) }
     {
+        if is_idle(first.k, self.most(), known) {
+            return known;
+        }
         match self.stored(first.t, t) {
             None => known,
             Some(k) => greater_of(known, sum_of(first.k, k)),

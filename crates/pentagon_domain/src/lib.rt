@@ -7,6 +7,7 @@ mod builder;
 mod changes;
 mod forms;
 mod gaps;
+mod idle;
 mod order;
 mod search;
 mod targets;

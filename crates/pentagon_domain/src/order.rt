@@ -7,7 +7,8 @@ use crate::bounds::Bounds;
 use domain_api::Order;
 
 /// The gap of two symbols is the greatest of what is stored of them and of two stored constants behind each other,
-/// cut to 64 bits; 0 of a symbol and itself. It costs a search for each bound from the first, and takes no memory.
+/// cut to 64 bits; 0 of a symbol and itself. It costs a search for each bound from the first, but where the greatest of
+/// all constants shows that what is behind it tells no more. It takes no memory.
 impl Order for Bounds {
     ghost allows = { λ bounds number. rule.Allows bounds number };
 

@@ -11,7 +11,7 @@ returns-else-s-gaps c = λ t inside.
     let apart : c.args.s ≢ t = λ e. omega (arith, e, inside, c.if-s-gaps.false) in
     gap_row c.args.self.now c.args.s t (get_or c.clear.new.gaps t None) (get_or c.raise_all.new.gaps t None) (get_or c.raise_behind.new.gaps t None)
     c.rows_from-firsts.ensures.form apart (c.clear.ensures t start) (rw c.rows_from-firsts.ensures.value at (c.raise_all.ensures t first))
-    (rw c.rows_from-firsts.ensures.value at (c.raise_behind.ensures t inside))
+    (rw c.rows_from-firsts.ensures.value at (c.raise_behind.ensures t inside (λ e. apart (sym e))))
 
 pub returns-then-s-gaps : goal.returns-then-s-gaps
 returns-then-s-gaps c = λ t inside.
@@ -26,5 +26,5 @@ returns-then-s-gaps c = λ t inside.
           get_or-set_other c.raise_behind.new.gaps c.args.s t (Some (pos 0)) None (λ e. apart (sym e))
           ∙ gap_row c.args.self.now c.args.s t (get_or c.clear.new.gaps t None) (get_or c.raise_all.new.gaps t None) (get_or c.raise_behind.new.gaps t None)
           c.rows_from-firsts.ensures.form apart (c.clear.ensures t start) (rw c.rows_from-firsts.ensures.value at (c.raise_all.ensures t first))
-          (rw c.rows_from-firsts.ensures.value at (c.raise_behind.ensures t last))
+          (rw c.rows_from-firsts.ensures.value at (c.raise_behind.ensures t last (λ e. apart (sym e))))
     ]
