@@ -3,6 +3,7 @@
 ghost use Rattle.std.specs.Prelude.{◌≡◌, ◌++◌, List, length, map, IfOk, OnOk};
 ghost use Rattle.state_facts.specs.StateFacts.{State};
 ghost use Rattle.invariant_text.specs.InvariantText.{block_line, block_text, invariant_text};
+ghost use Rattle.invariant_text.specs.Shape.{AreOfBlocks};
 
 use crate::states::put_state_lines;
 use abs_state::AbsState;
@@ -73,6 +74,9 @@ pub fn invariant_text(
 ) -> Result<Vec<u8>, NoMemory>
     requires each { length states.now ≡ length blocks.now }
     ensures value { IfOk result (λ text. text.items ≡ invariant_text unit.now blocks.now states.now) }
+    // Of two invariants that have one text neither differs from the other.
+    ensures distinct { (first second : List State) → AreOfBlocks blocks.now first → AreOfBlocks blocks.now second
+        → invariant_text unit.now blocks.now first ≡ invariant_text unit.now blocks.now second → first ≡ second }
 {
     let mut text = Vec::new(alloc);
     put_blocks(alloc, &mut text, unit, blocks, states)?;
