@@ -51,10 +51,14 @@ nullness_text May = codes "may be null"
 nullness_text NotNull = codes "not null"
 nullness_text Null = codes "is null"
 
+-- Its type, whether it is null, and its length.
+unfoldable pub known_text : ℕ → Reference → List ℕ
+known_text r known =
+    reference_text r ++ codes " " ++ place_text known.place ++ codes " " ++ nullness_text known.nullness
+    ++ codes " length " ++ expr_text known.length
+
 unfoldable pub reference_line : ℕ → Reference → Segments → List ℕ
-reference_line r known segments =
-    line (reference_text r ++ codes " " ++ place_text known.place ++ codes " " ++ nullness_text known.nullness
-    ++ codes " length " ++ expr_text known.length ++ segments_text segments)
+reference_line r known segments = line (known_text r known ++ segments_text segments)
 
 -- A line for each reference, which are numbered from a first number on.
 abbrev pub reference_lines : ℕ → List Reference → Contents → List ℕ

@@ -4,13 +4,14 @@ ghost use Rattle.std.specs.Prelude.{◌≡◌, ◌++◌, All, length, map, OnOk}
 ghost use Rattle.std.specs.List.{flat_map};
 ghost use Rattle.array_segments.specs.SegmentLists.{HasForm};
 ghost use Rattle.array_segments.specs.Segments.{lists_of};
-ghost use Rattle.invariant_text.specs.ReferenceLines.{apart_line, bound_text, exprs_text, mark_text, next_expr, nullness_text, reference_line, reference_lines, segment_text, segments_text};
+ghost use Rattle.invariant_text.specs.ReferenceLines.{apart_line, bound_text, exprs_text, known_text, mark_text, next_expr, nullness_text, reference_line, reference_lines, segment_text, segments_text};
 
 use crate::expressions::{put_expr, put_range};
 use crate::variables::put_reference;
-use abs_state::{Reference, Segs};
 use alias_facts::Nullness;
+use array_segments::Segs;
 use domain_api::{Expr, NoMemory};
+use frame_names::Reference;
 use interval_domain::Range;
 use std::alloc::Global;
 
@@ -101,6 +102,20 @@ fn nullness_text(nullness: Nullness) -> &'static [u8]
     }
 }
 
+/// Appends what is known of the reference of a number: `r1 int32[] not null length s1`.
+#[tactic(auto, unfolding(crate::specs::ReferenceLines::known_text))]
+fn put_known(alloc: Global, out: &mut Vec<u8>, r: u64, known: &Reference) -> Result<(), NoMemory>
+    ensures { OnOk result (out.new.items ≡ out.old.items ++ known_text r known.now) }
+{
+    put_reference(out, r)?;
+    out.extend_from_slice(b" ")?;
+    out.extend_from_slice(known.place.text())?;
+    out.extend_from_slice(b" ")?;
+    out.extend_from_slice(nullness_text(known.nullness))?;
+    out.extend_from_slice(b" length ")?;
+    put_expr(alloc, out, known.length)
+}
+
 /// Appends the line of the reference of a number.
 #[tactic(auto, unfolding(crate::specs::ReferenceLines::reference_line))]
 fn put_reference_line(
@@ -114,13 +129,7 @@ fn put_reference_line(
     ensures { OnOk result (out.new.items ≡ out.old.items ++ reference_line r known.now (lists_of segs.now)) }
 {
     out.extend_from_slice(b"    ")?;
-    put_reference(out, r)?;
-    out.extend_from_slice(b" ")?;
-    out.extend_from_slice(known.place.text())?;
-    out.extend_from_slice(b" ")?;
-    out.extend_from_slice(nullness_text(known.nullness))?;
-    out.extend_from_slice(b" length ")?;
-    put_expr(alloc, out, known.length)?;
+    put_known(alloc, out, r, known)?;
     put_segments(alloc, out, segs)?;
     out.extend_from_slice(b"\n")
 }

@@ -7,9 +7,9 @@ ghost use Rattle.invariant_text.specs.VariableLines.{reference_text, value_text,
 
 use crate::decimals::put_decimal;
 use crate::expressions::put_expr;
-use abs_state::Var;
 use cil_model::Unit;
 use domain_api::NoMemory;
+use frame_names::Var;
 use std::alloc::Global;
 
 /// Appends a reference: `null`, or `r1`.
