@@ -5,9 +5,12 @@ use Rattle.il_decoder.specs.Labels.{label}
 use Rattle.state_facts.specs.StateFacts.{State}
 use Rattle.invariant_text.specs.StateText.{state_lines}
 
+abbrev pub block_end : Bool → List ℕ
+block_end reached = if reached then codes "\n" else codes " unreachable\n"
+
 -- The line of the block that starts at an IL offset.
 unfoldable pub block_line : ℕ → Bool → List ℕ
-block_line at reached = codes "  block " ++ label at ++ (if reached then codes "\n" else codes " unreachable\n")
+block_line at reached = codes "  block " ++ label at ++ block_end reached
 
 -- The block's line, and then what holds at its start.
 abbrev pub block_text : MethodUnit → ℕ → State → List ℕ

@@ -4,11 +4,12 @@ ghost use Rattle.std.specs.Prelude.{◌≡◌, ◌++◌, All, length, map, OnOk}
 ghost use Rattle.std.specs.List.{flat_map};
 ghost use Rattle.array_segments.specs.SegmentLists.{HasForm};
 ghost use Rattle.array_segments.specs.Segments.{lists_of};
-ghost use Rattle.invariant_text.specs.ReferenceLines.{apart_line, bound_text, exprs_text, known_text, mark_text, next_expr, nullness_text, reference_line, reference_lines, segment_text, segments_text};
+ghost use Rattle.invariant_text.specs.ReferenceLines.{AreSegmentsOf, apart_line, bound_text, exprs_text, known_text, mark_text, next_expr, nullness_text, reference_line, reference_lines, segment_text, segments_text};
 
 use crate::expressions::{put_expr, put_range};
 use crate::variables::put_reference;
 use alias_facts::Nullness;
+use array_contents::Contents;
 use array_segments::Segs;
 use domain_api::{Expr, NoMemory};
 use frame_names::Reference;
@@ -134,8 +135,8 @@ fn put_reference_line(
     out.extend_from_slice(b"\n")
 }
 
-/// Appends a line for each reference.
-pub(crate) fn put_references(
+/// Appends a line for each reference, which has these segments.
+fn put_each_reference(
     alloc: Global,
     out: &mut Vec<u8>,
     references: &[Reference],
@@ -149,6 +150,19 @@ pub(crate) fn put_references(
         put_reference_line(alloc, out, i as u64 + 1, &references[i], &segments[i])?;
     }
     Ok(())
+}
+
+/// Appends a line for each reference, with what is known of its items.
+pub(crate) fn put_references(
+    alloc: Global,
+    out: &mut Vec<u8>,
+    references: &[Reference],
+    contents: &Contents,
+) -> Result<(), NoMemory>
+    requires formed { AreSegmentsOf references.now contents.now }
+    ensures { OnOk result (out.new.items ≡ out.old.items ++ reference_lines 1 references.now contents.now) }
+{
+    put_each_reference(alloc, out, references, contents.segments.as_slice())
 }
 
 /// Appends the line of two references that are not the same array.

@@ -33,12 +33,7 @@ pub fn put_state_lines(
 {
     put_variables(alloc, out, unit, parts.variables.as_slice())?;
     put_symbols(alloc, out, parts.ranges.as_slice())?;
-    put_references(
-        alloc,
-        out,
-        parts.references.as_slice(),
-        parts.contents.segments.as_slice(),
-    )?;
+    put_references(alloc, out, parts.references.as_slice(), &parts.contents)?;
     put_bounds(alloc, out, parts.bounds.as_slice())?;
     put_definitions(alloc, out, parts.definitions.as_slice())?;
     put_apart(out, parts.apart.as_slice())

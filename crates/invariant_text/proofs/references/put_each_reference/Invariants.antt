@@ -1,7 +1,7 @@
 use Rattle.std.proofs.Common.{◌≡◌, ◌+◌, ◌++◌, drop, map}
 use Rattle.array_segments.specs.Segments.{lists_of}
 use Rattle.invariant_text.specs.ReferenceLines.{reference_lines}
-use Rattle.invariant_text.proofs.references.put_references.Given as goal
+use Rattle.invariant_text.proofs.references.put_each_reference.Given as goal
 
 abbrev pub invariant-loop-i : goal.invariant-loop-i
 invariant-loop-i l =
