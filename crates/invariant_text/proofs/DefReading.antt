@@ -10,7 +10,7 @@ use Rattle.symbolic_values.specs.declared.def.Def.TheVariants.{Eq, Lt, LtUn, Nul
 use Rattle.invariant_text.specs.NumberTexts.{added_text, expr_text}
 use Rattle.invariant_text.specs.SymbolLines.{both, def_text, null_test_text}
 use Rattle.invariant_text.specs.VariableLines.{reference_text}
-use Rattle.invariant_text.proofs.ExprReading.{EndsExpr, IsSmall, added_no_digit, behind_letter, expr_read, kind_of, less_added, more_added, nothing_added, number_text, same_added}
+use Rattle.invariant_text.proofs.ExprReading.{EndsExpr, IsSmall, added_no_digit, behind_letter, expr_no_letter, expr_read, kind_of, less_added, more_added, nothing_added, number_text, same_added}
 use Rattle.invariant_text.proofs.NumberReading.{begins_digit, begins_signed, behind_digits, number_begins, number_behind, number_read, signed_begins, signed_read}
 use Prim.Native.Nat.compare
 
@@ -205,20 +205,9 @@ pub reference_begins : (r : ℕ) (text : List ℕ) → begins_reference (referen
 reference_begins zero text = rw null_text
 reference_begins (suc r) text = rw (other_text r)
 
-digit_no_reference : (text : List ℕ) → begins_digit text ≡ true → begins_reference text ≡ false
-digit_no_reference [] is = absurd (true≢false (sym is))
-digit_no_reference (c ∷ text) is =
-    let most = leb-true c 57 (and_parts (nat_le 48 c) (nat_le c 57) is).1 in
-    rw (ne_eqb c 110 (λ e. omega (arith, most, e)), ne_eqb c 114 (λ e. omega (arith, most, e)))
-
-parts_no_reference : (s : ℕ) (k : ℤ) (r : List ℕ) → mag k < 2 ^ 63 → begins_reference (expr_text (record { sym = s; k = k }) ++ r) ≡ false
-parts_no_reference zero (pos n) r fits =
-    rw (number_text (pos n)) (digit_no_reference (decimal n ++ r) (number_begins n r (omega (arith, fits))))
-parts_no_reference zero (negsuc n) r fits = rw (number_text (negsuc n))
-parts_no_reference (suc s) k r fits = rw (behind_letter s k r)
-
 pub expr_no_reference : (e : Expr) (r : List ℕ) → IsSmall e → begins_reference (expr_text e ++ r) ≡ false
-expr_no_reference e r small = parts_no_reference e.sym e.k r small.constant
+expr_no_reference e r small =
+    rw (expr_no_letter 110 e r (omega arith) (λ is. omega (arith, is)) small, expr_no_letter 114 e r (omega arith) (λ is. omega (arith, is)) small)
 
 -- The numbers of a definition have 64 bits.
 abbrev pub IsSmallDef : Def → Type 0

@@ -1,11 +1,11 @@
 -- Of two texts that begin with an expression and then end it, the expressions are the same where the texts are.
-use Rattle.std.proofs.Common.{◌≡◌, ℕ, zero, suc, ◌<◌, ◌^◌, ◌==◌, ℤ, pos, negsuc, false, List, [], ◌∷◌, ◌++◌, drop, get_or, refl, sym, ap, ap₂, ◌∙◌, arith, append_assoc, if◌then◌else◌, codes}
+use Rattle.std.proofs.Common.{◌≡◌, ℕ, zero, suc, ◌<◌, ◌^◌, ◌==◌, ℤ, pos, negsuc, false, List, [], ◌∷◌, ◌++◌, nat_le, true, drop, get_or, refl, sym, ap, ap₂, ◌∙◌, arith, append_assoc, if◌then◌else◌, codes}
 use Rattle.std.specs.Fmt.{decimal, signed_decimal}
 use Rattle.std.specs.Int.Signed.{mag}
-use Rattle.std.proofs.lemmas.Bool.{true≢false}
+use Rattle.std.proofs.lemmas.Bool.{and_parts, leb-true, ne_eqb, true≢false}
 use Rattle.domain_api.specs.declared.expr.Expr.{Expr}
 use Rattle.invariant_text.specs.NumberTexts.{added_text, expr_text, symbol_text}
-use Rattle.invariant_text.proofs.NumberReading.{begins_digit, begins_signed, number_read, signed_begins, signed_read}
+use Rattle.invariant_text.proofs.NumberReading.{begins_digit, begins_signed, number_begins, number_read, signed_begins, signed_read}
 use Prim.Native.Nat.compare
 use lib.Dec.{leb-zero}
 
@@ -113,3 +113,24 @@ pub expr_read : (a b : Expr) (r q : List ℕ) → IsSmall a → IsSmall b → En
 expr_read a b r q a_small b_small r_ends q_ends same =
     let read = parts_read a.sym b.sym a.k b.k r q a_small.symbol b_small.symbol a_small.constant b_small.constant r_ends q_ends same in
     (ap₂ (λ (s : ℕ) (k : ℤ). record { sym = s; k = k }) read.0.0 read.0.1, read.1)
+
+-- ---- what an expression does not begin with
+
+letter_no_digit : (letter : ℕ) (text : List ℕ) → 57 < letter → begins_digit text ≡ true → (get_or text 0 0 == letter) ≡ false
+letter_no_digit letter [] above is = absurd (true≢false (sym is))
+letter_no_digit letter (c ∷ text) above is =
+    let most = leb-true c 57 (and_parts (nat_le 48 c) (nat_le c 57) is).1 in
+    ne_eqb c letter (λ e. omega (arith, most, above, e))
+
+parts_no_letter : (letter s : ℕ) (k : ℤ) (r : List ℕ) → 57 < letter → (115 ≡ letter → ⊥) → mag k < 2 ^ 63
+    → (get_or (expr_text (record { sym = s; k = k }) ++ r) 0 0 == letter) ≡ false
+parts_no_letter letter zero (pos n) r above other fits =
+    rw (number_text (pos n)) (letter_no_digit letter (decimal n ++ r) above (number_begins n r (omega (arith, fits))))
+parts_no_letter letter zero (negsuc n) r above other fits =
+    rw (number_text (negsuc n)) (ne_eqb 45 letter (λ e. omega (arith, above, e)))
+parts_no_letter letter (suc s) k r above other fits = rw (behind_letter s k r) (ne_eqb 115 letter other)
+
+-- An expression begins with a digit, a sign or the letter of a symbol.
+pub expr_no_letter : (letter : ℕ) (e : Expr) (r : List ℕ) → 57 < letter → (115 ≡ letter → ⊥) → IsSmall e
+    → (get_or (expr_text e ++ r) 0 0 == letter) ≡ false
+expr_no_letter letter e r above other small = parts_no_letter letter e.sym e.k r above other small.constant

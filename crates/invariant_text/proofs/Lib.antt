@@ -5,3 +5,5 @@ pub mod DefReading
 pub mod ListReading
 pub mod RangeReading
 pub mod SegmentForms
+pub mod ValueReading
+pub mod SegmentReading
