@@ -102,3 +102,75 @@ segments_read = record {
   ends = λ n s r small. tt;
   read = λ n s t r q s_small t_small r_ends q_ends same. segment_read s t r q s_small t_small same;
 }
+
+-- ---- all segments of a reference
+
+-- The segments have their form, and the numbers in them have 64 bits.
+pub record IsSmallSegments (s : Segments) : Type 0 where
+  pub form : HasForm s
+  pub narrow : AllByRecursion IsNarrow s.contents
+  pub bounds : AllByRecursion IsSmallBound s.bounds
+
+each_zipped : (contents : List Interval) (marks : List Bool) (ends : List (List Expr))
+    → each_segment contents marks ends ≡ flat_map text_of (zip contents (zip marks ends))
+each_zipped [] marks ends = refl
+each_zipped (c ∷ contents) [] ends = refl
+each_zipped (c ∷ contents) (m ∷ marks) [] = refl
+each_zipped (c ∷ contents) (m ∷ marks) (e ∷ ends) = ap (λ (text : List ℕ). segment_text c m e ++ text) (each_zipped contents marks ends)
+
+zip_length : {X Y : Type 0} (xs : List X) (ys : List Y) (n : ℕ) → length xs ≡ n → length ys ≡ n → length (zip xs ys) ≡ n
+zip_length xs ys n x_count y_count = omega (arith, length-zip xs ys, x_count, y_count)
+
+any_marks : (marks : List Bool) → AllByRecursion (λ m. Unit {0}) marks
+any_marks [] = tt
+any_marks (m ∷ marks) = (tt, any_marks marks)
+
+first_and_others : (bounds : List (List Expr)) (n : ℕ) → length bounds ≡ n + 1 → bounds ≡ get_or bounds 0 [] ∷ drop 1 bounds
+first_and_others [] n counted = absurd (omega (arith, counted))
+first_and_others (b ∷ bounds) n counted = refl
+
+others_count : (bounds : List (List Expr)) (n : ℕ) → length bounds ≡ n + 1 → length (drop 1 bounds) ≡ n
+others_count [] n counted = absurd (omega (arith, counted))
+others_count (b ∷ bounds) n counted = omega (arith, counted)
+
+first_small : (bounds : List (List Expr)) (n : ℕ) → length bounds ≡ n + 1 → AllByRecursion IsSmallBound bounds → IsSmallBound (get_or bounds 0 [])
+first_small [] n counted all = absurd (omega (arith, counted))
+first_small (b ∷ bounds) n counted all = all.0
+
+others_small : (bounds : List (List Expr)) → AllByRecursion IsSmallBound bounds → AllByRecursion IsSmallBound (drop 1 bounds)
+others_small [] all = tt
+others_small (b ∷ bounds) all = all.1
+
+abbrev each_of : Segments → List Segment
+each_of s = zip s.contents (zip s.marks (drop 1 s.bounds))
+
+each_small : (s : Segments) → IsSmallSegments s → AllByRecursion IsSmallSegment (each_of s)
+each_small s small =
+    all_zip IsNarrow (λ (p : Bool × List Expr). Unit {0} × IsSmallBound p.1) s.contents (zip s.marks (drop 1 s.bounds)) small.narrow
+    (all_zip (λ (m : Bool). Unit {0}) IsSmallBound s.marks (drop 1 s.bounds) (any_marks s.marks) (others_small s.bounds small.bounds))
+
+pub segments_parts : (s : Segments) (r : List ℕ) → segments_text s ++ r ≡ bound_text (get_or s.bounds 0 []) ++ (flat_map text_of (each_of s) ++ r)
+segments_parts s r =
+    let each = each_segment s.contents s.marks (drop 1 s.bounds) in
+    append_assoc (bound_text (get_or s.bounds 0 [])) each r
+    ∙ ap (λ (text : List ℕ). bound_text (get_or s.bounds 0 []) ++ (text ++ r)) (each_zipped s.contents s.marks (drop 1 s.bounds))
+
+pub all_segments_read : (s t : Segments) (r q : List ℕ) → IsSmallSegments s → IsSmallSegments t
+    → segments_text s ++ 10 ∷ r ≡ segments_text t ++ 10 ∷ q → (s ≡ t) × (r ≡ q)
+all_segments_read s t r q s_small t_small same =
+    let first = bound_read (get_or s.bounds 0 []) (get_or t.bounds 0 []) (flat_map text_of (each_of s) ++ 10 ∷ r) (flat_map text_of (each_of t) ++ 10 ∷ q)
+        (first_small s.bounds (length s.contents) s_small.form.bounded s_small.bounds) (first_small t.bounds (length t.contents) t_small.form.bounded t_small.bounds)
+        (sym (segments_parts s (10 ∷ r)) ∙ same ∙ segments_parts t (10 ∷ q)) in
+    let numbers = λ (u : Segments) (text : List ℕ). ap (λ (front : List ℕ). front ++ 10 ∷ text) (flat_numbered text_of 0 (each_of u)) in
+    let each = items_read (λ (n : ℕ) (s : Segment). text_of s) (λ n s. IsSmallSegment s) (λ text. Unit {0}) (begins_with 32) segments_read 0
+        (each_of s) (each_of t) (10 ∷ r) (10 ∷ q) (all_from IsSmallSegment 0 (each_of s) (each_small s s_small))
+        (all_from IsSmallSegment 0 (each_of t) (each_small t t_small)) tt tt refl refl (sym (numbers s r) ∙ first.1 ∙ numbers t q) in
+    let s_ends = others_count s.bounds (length s.contents) s_small.form.bounded in
+    let t_ends = others_count t.bounds (length t.contents) t_small.form.bounded in
+    let outer = zip_same s.contents t.contents (zip s.marks (drop 1 s.bounds)) (zip t.marks (drop 1 t.bounds))
+        (zip_length s.marks (drop 1 s.bounds) (length s.contents) s_small.form.marked s_ends)
+        (zip_length t.marks (drop 1 t.bounds) (length t.contents) t_small.form.marked t_ends) each.0 in
+    let inner = zip_same s.marks t.marks (drop 1 s.bounds) (drop 1 t.bounds) (s_ends ∙ sym s_small.form.marked) (t_ends ∙ sym t_small.form.marked) outer.1 in
+    let bounds : s.bounds ≡ t.bounds = first_and_others s.bounds (length s.contents) s_small.form.bounded ∙ ap₂ (λ z zs. z ∷ zs) first.0 inner.1
+        ∙ sym (first_and_others t.bounds (length t.contents) t_small.form.bounded) in
+    ((λ i. record { bounds = bounds i; contents = outer.0 i; marks = inner.0 i }), ap (drop 1) each.1)
