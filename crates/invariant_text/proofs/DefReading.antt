@@ -16,11 +16,11 @@ use Prim.Native.Nat.compare
 
 -- ---- references
 
-null_text : reference_text zero ≡ codes "null"
+pub null_text : reference_text zero ≡ codes "null"
 unfolding reference_text
 null_text = refl
 
-other_text : (r : ℕ) → reference_text (suc r) ≡ codes "r" ++ decimal (suc r)
+pub other_text : (r : ℕ) → reference_text (suc r) ≡ codes "r" ++ decimal (suc r)
 unfolding reference_text
 other_text r = rw compare.suc-zero
 

@@ -116,7 +116,7 @@ expr_read a b r q a_small b_small r_ends q_ends same =
 
 -- ---- what an expression does not begin with
 
-letter_no_digit : (letter : ℕ) (text : List ℕ) → 57 < letter → begins_digit text ≡ true → (get_or text 0 0 == letter) ≡ false
+pub letter_no_digit : (letter : ℕ) (text : List ℕ) → 57 < letter → begins_digit text ≡ true → (get_or text 0 0 == letter) ≡ false
 letter_no_digit letter [] above is = absurd (true≢false (sym is))
 letter_no_digit letter (c ∷ text) above is =
     let most = leb-true c 57 (and_parts (nat_le 48 c) (nat_le c 57) is).1 in

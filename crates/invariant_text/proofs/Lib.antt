@@ -7,3 +7,4 @@ pub mod RangeReading
 pub mod SegmentForms
 pub mod ValueReading
 pub mod SegmentReading
+pub mod LineReading

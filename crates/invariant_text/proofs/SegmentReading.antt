@@ -49,7 +49,7 @@ pub record IsSmallBound (bound : List Expr) : Type 0 where
   pub some : 1 ≤ length bound
   pub small : AllByRecursion IsSmall bound
 
-bound_parts : (bound : List Expr) (r : List ℕ) → bound_text bound ++ r ≡ 32 ∷ 123 ∷ (exprs_text bound ++ 125 ∷ r)
+pub bound_parts : (bound : List Expr) (r : List ℕ) → bound_text bound ++ r ≡ 32 ∷ 123 ∷ (exprs_text bound ++ 125 ∷ r)
 unfolding bound_text
 bound_parts bound r = append_assoc (codes " {" ++ exprs_text bound) (codes "}") r ∙ append_assoc (codes " {") (exprs_text bound) (125 ∷ r)
 
