@@ -8,3 +8,4 @@ pub mod SegmentForms
 pub mod ValueReading
 pub mod SegmentReading
 pub mod LineReading
+pub mod StateReading
