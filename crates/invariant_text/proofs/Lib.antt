@@ -9,3 +9,6 @@ pub mod ValueReading
 pub mod SegmentReading
 pub mod LineReading
 pub mod StateReading
+pub mod Sections
+pub mod SmallNumbers
+pub mod BlockReading
