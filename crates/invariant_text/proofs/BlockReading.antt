@@ -1,5 +1,5 @@
 -- Of two invariants whose texts are the same, neither differs from the other.
-use Rattle.std.proofs.Common.{◌≡◌, ℕ, ◌+◌, ◌<◌, Bool, true, false, List, [], ◌∷◌, ◌++◌, length, drop, get_or, Some, None, refl, sym, ap, ap₂, ◌∙◌, arith, append_assoc, codes}
+use Rattle.std.proofs.Common.{◌≡◌, ℕ, ◌<◌, Bool, true, false, List, [], ◌∷◌, ◌++◌, length, drop, get_or, Some, None, refl, sym, ap, ap₂, ◌∙◌, arith, append_assoc, codes}
 use Rattle.std.specs.List.{AllByRecursion}
 use Rattle.std.proofs.lemmas.List.{append_cancel_left}
 use Rattle.cil_model.specs.declared.unit.Unit.{Unit as MethodUnit}
@@ -32,7 +32,7 @@ blocks_later unit (at ∷ blocks) (Some known ∷ states) =
 unreached_other : (at : ℕ) (r q : List ℕ) → block_line at false ++ r ≡ block_line at true ++ q → ⊥
 unreached_other at r q same =
     let behind = append_cancel_left (label at) (block_end false ++ r) (block_end true ++ q)
-        (ap (drop 8) (sym (line_of_block at false r) ∙ same ∙ line_of_block at true q)) in
+    (ap (drop 8) (sym (line_of_block at false r) ∙ same ∙ line_of_block at true q)) in
     omega (arith, ap (λ (text : List ℕ). get_or text 0 0) behind)
 
 block_read : (unit : MethodUnit) (at : ℕ) (x y : State) (r q : List ℕ) → IsPrintableState x → IsPrintableState y → 6 < line_kind r → 6 < line_kind q
@@ -44,7 +44,7 @@ block_read unit at (Some a) None r q first second r_later q_later same =
     absurd (unreached_other at q (state_lines unit a ++ r) (sym same ∙ append_assoc (block_line at true) (state_lines unit a) r))
 block_read unit at (Some a) (Some b) r q first second r_later q_later same =
     let lines = append_cancel_left (block_line at true) (state_lines unit a ++ r) (state_lines unit b ++ q)
-        (sym (append_assoc (block_line at true) (state_lines unit a) r) ∙ same ∙ append_assoc (block_line at true) (state_lines unit b) q) in
+    (sym (append_assoc (block_line at true) (state_lines unit a) r) ∙ same ∙ append_assoc (block_line at true) (state_lines unit b) q) in
     let read = state_read unit a b r q first second r_later q_later lines in
     (ap (λ (known : StateFacts). Some known) read.0, read.1)
 
@@ -57,7 +57,7 @@ blocks_read unit (at ∷ blocks) [] ys first_count second_count firsts seconds s
 blocks_read unit (at ∷ blocks) (x ∷ xs) [] first_count second_count firsts seconds same = absurd (omega (arith, second_count))
 blocks_read unit (at ∷ blocks) (x ∷ xs) (y ∷ ys) first_count second_count firsts seconds same =
     let one = block_read unit at x y (invariant_text unit blocks xs) (invariant_text unit blocks ys) firsts.0 seconds.0 (blocks_later unit blocks xs)
-        (blocks_later unit blocks ys) same in
+    (blocks_later unit blocks ys) same in
     let others = blocks_read unit blocks xs ys (omega (arith, first_count)) (omega (arith, second_count)) firsts.1 seconds.1 one.1 in
     ap₂ (λ z zs. z ∷ zs) one.0 others
 

@@ -1,8 +1,8 @@
 -- Of two texts that begin with what a symbol is and then end the line, both say the same where the texts are the same.
-use Rattle.std.proofs.Common.{◌≡◌, ℕ, zero, suc, ◌<◌, ◌^◌, ◌==◌, ℤ, pos, negsuc, Bool, true, false, ◌&&◌, ◌||◌, nat_le, List, [], ◌∷◌, ◌++◌, drop, get_or, refl, sym, ap, ap₂, ◌∙◌, arith, append_assoc, if◌then◌else◌, codes}
+use Rattle.std.proofs.Common.{◌≡◌, ℕ, zero, suc, ◌<◌, ◌^◌, ◌==◌, ℤ, pos, negsuc, Bool, true, false, ◌&&◌, ◌||◌, List, ◌∷◌, ◌++◌, drop, get_or, refl, sym, ap, ap₂, ◌∙◌, arith, append_assoc, if◌then◌else◌, codes}
 use Rattle.std.specs.Fmt.{decimal}
 use Rattle.std.specs.Int.Signed.{mag}
-use Rattle.std.proofs.lemmas.Bool.{and_parts, leb-true, ne_eqb, true≢false}
+use Rattle.std.proofs.lemmas.Bool.{true≢false}
 use Rattle.std.proofs.lemmas.List.{append_cancel_left}
 use Rattle.domain_api.specs.declared.expr.Expr.{Expr}
 use Rattle.symbolic_values.specs.declared.def.Def.{Def}
@@ -10,7 +10,7 @@ use Rattle.symbolic_values.specs.declared.def.Def.TheVariants.{Eq, Lt, LtUn, Nul
 use Rattle.invariant_text.specs.NumberTexts.{added_text, expr_text}
 use Rattle.invariant_text.specs.SymbolLines.{both, def_text, null_test_text}
 use Rattle.invariant_text.specs.VariableLines.{reference_text}
-use Rattle.invariant_text.proofs.ExprReading.{EndsExpr, IsSmall, added_no_digit, behind_letter, expr_no_letter, expr_read, kind_of, less_added, more_added, nothing_added, number_text, same_added}
+use Rattle.invariant_text.proofs.ExprReading.{IsSmall, added_no_digit, behind_letter, expr_no_letter, expr_read, kind_of, less_added, more_added, nothing_added, number_text, same_added}
 use Rattle.invariant_text.proofs.NumberReading.{begins_digit, begins_signed, behind_digits, number_begins, number_behind, number_read, signed_begins, signed_read}
 use Prim.Native.Nat.compare
 

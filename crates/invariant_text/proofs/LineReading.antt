@@ -1,6 +1,6 @@
 -- Lines of a block: which kind each is of, and that of two lines of one kind both say the same where their texts are
 -- the same.
-use Rattle.std.proofs.Common.{◌≡◌, ℕ, zero, suc, ◌-◌, ◌<◌, ◌^◌, ◌==◌, nat_lt, ℤ, pos, negsuc, Bool, true, false, List, [], ◌∷◌, ◌++◌, length, drop, get_or, refl, sym, ap, ap₂, ◌∙◌, arith, append_assoc, if◌then◌else◌, codes}
+use Rattle.std.proofs.Common.{◌≡◌, ℕ, zero, suc, ◌-◌, ◌<◌, ◌^◌, ◌==◌, nat_lt, ℤ, pos, negsuc, Bool, true, false, List, [], ◌∷◌, ◌++◌, length, drop, get_or, refl, sym, ap, ◌∙◌, arith, append_assoc, if◌then◌else◌, codes}
 use Rattle.std.specs.Fmt.{decimal}
 use Rattle.std.specs.Int.Signed.{mag}
 use Rattle.std.proofs.lemmas.List.{append_cancel_left}
@@ -98,7 +98,7 @@ pub variable_read : (unit : MethodUnit) (i : ℕ) (v w : Var) (r q : List ℕ) �
     → variable_line unit i v ++ r ≡ variable_line unit i w ++ q → (v ≡ w) × (r ≡ q)
 variable_read unit i v w r q first second same =
     let behind = append_cancel_left (variable_name (length unit.args) (length unit.locals) i) (codes " = " ++ (value_text v ++ 10 ∷ r))
-        (codes " = " ++ (value_text w ++ 10 ∷ q)) (ap (drop 4) (sym (variable_parts unit i v r) ∙ same ∙ variable_parts unit i w q)) in
+    (codes " = " ++ (value_text w ++ 10 ∷ q)) (ap (drop 4) (sym (variable_parts unit i v r) ∙ same ∙ variable_parts unit i w q)) in
     value_read v w r q first second (ap (drop 3) behind)
 
 -- ---- ranges of symbols
@@ -115,9 +115,9 @@ pub symbol_read : (n : ℕ) (a b : Interval) (r q : List ℕ) → IsNarrow a →
     → (a ≡ b) × (r ≡ q)
 symbol_read n a b r q first second same =
     let behind = append_cancel_left (decimal n) (codes " in " ++ (range_text a ++ 10 ∷ r)) (codes " in " ++ (range_text b ++ 10 ∷ q))
-        (ap (drop 5) (sym (symbol_parts n a r) ∙ same ∙ symbol_parts n b q)) in
+    (ap (drop 5) (sym (symbol_parts n a r) ∙ same ∙ symbol_parts n b q)) in
     let read = range_read a b (10 ∷ r) (10 ∷ q) first second (record { no_digit = refl; no_hole = refl }) (record { no_digit = refl; no_hole = refl })
-        (ap (drop 4) behind) in
+    (ap (drop 4) behind) in
     (read.0, ap (drop 1) read.1)
 
 -- ---- bounds
@@ -138,8 +138,14 @@ row_parts row r = three_parts (expr_text (lower row)) (codes " <= ") (symbol_tex
 
 number_inner : (text : List ℕ) → begins_digit text ≡ true → inner_kind text ≡ 4
 number_inner text is =
-    rw (letter_no_digit 115 text (omega arith) is, letter_no_digit 114 text (omega arith) is, letter_no_digit 110 text (omega arith) is,
-      letter_no_digit 105 text (omega arith) is, letter_no_digit 97 text (omega arith) is, letter_no_digit 108 text (omega arith) is)
+    rw (
+      letter_no_digit 115 text (omega arith) is,
+      letter_no_digit 114 text (omega arith) is,
+      letter_no_digit 110 text (omega arith) is,
+      letter_no_digit 105 text (omega arith) is,
+      letter_no_digit 97 text (omega arith) is,
+      letter_no_digit 108 text (omega arith) is,
+    )
 
 added_second : (k : ℤ) (r : List ℕ) → symbol_kind (get_or (added_text k ++ (codes " <= " ++ r)) 1 0) ≡ 4
 added_second (pos zero) r = rw nothing_added
@@ -161,9 +167,9 @@ row_kind row r small = rw (row_parts row r) (lower_inner row.s row.k (symbol_tex
 pub row_read : (a b : BoundRow) (r q : List ℕ) → IsSmallRow a → IsSmallRow b → bound_line a ++ r ≡ bound_line b ++ q → (a ≡ b) × (r ≡ q)
 row_read a b r q first second same =
     let below = expr_read (lower a) (lower b) (codes " <= " ++ (symbol_text a.t ++ 10 ∷ r)) (codes " <= " ++ (symbol_text b.t ++ 10 ∷ q))
-        (record { symbol = first.from; constant = first.constant }) (record { symbol = second.from; constant = second.constant })
-        (record { no_digit = refl; not_added = refl }) (record { no_digit = refl; not_added = refl })
-        (ap (drop 4) (sym (row_parts a r) ∙ same ∙ row_parts b q)) in
+    (record { symbol = first.from; constant = first.constant }) (record { symbol = second.from; constant = second.constant })
+    (record { no_digit = refl; not_added = refl }) (record { no_digit = refl; not_added = refl })
+    (ap (drop 4) (sym (row_parts a r) ∙ same ∙ row_parts b q)) in
     let above = number_read a.t b.t (10 ∷ r) (10 ∷ q) first.to second.to refl refl (ap (drop 5) below.1) in
     ((λ i. record { s = (below.0 i).sym; t = above.0 i; k = (below.0 i).k }), ap (drop 1) above.1)
 
@@ -184,7 +190,7 @@ pub definition_read : (d e : ℕ × Def) (r q : List ℕ) → IsSmallDefinition 
     → (d ≡ e) × (r ≡ q)
 definition_read d e r q first second same =
     let symbols = number_read d.0 e.0 (codes " = " ++ (def_text d.1 ++ 10 ∷ r)) (codes " = " ++ (def_text e.1 ++ 10 ∷ q)) first.0 second.0 refl refl
-        (ap (drop 5) (sym (definition_parts d r) ∙ same ∙ definition_parts e q)) in
+    (ap (drop 5) (sym (definition_parts d r) ∙ same ∙ definition_parts e q)) in
     let defs = def_read d.1 e.1 r q first.1 second.1 (ap (drop 3) symbols.1) in
     ((λ i. (symbols.0 i, defs.0 i)), defs.1)
 
@@ -208,7 +214,7 @@ apart_kind p r small = rw (apart_parts p r) (apart_inner p.0 (reference_text p.1
 pub apart_read : (a b : Pair) (r q : List ℕ) → IsSmallPair a → IsSmallPair b → apart_line a ++ r ≡ apart_line b ++ q → (a ≡ b) × (r ≡ q)
 apart_read a b r q first second same =
     let left = reference_read a.0 b.0 (codes " apart " ++ (reference_text a.1 ++ 10 ∷ r)) (codes " apart " ++ (reference_text b.1 ++ 10 ∷ q))
-        first.0 second.0 refl refl (ap (drop 4) (sym (apart_parts a r) ∙ same ∙ apart_parts b q)) in
+    first.0 second.0 refl refl (ap (drop 4) (sym (apart_parts a r) ∙ same ∙ apart_parts b q)) in
     let right = reference_read a.1 b.1 (10 ∷ r) (10 ∷ q) first.1 second.1 refl refl (ap (drop 7) left.1) in
     ((λ i. (left.0 i, right.0 i)), ap (drop 1) right.1)
 
@@ -289,8 +295,11 @@ known_parts n known r =
 known_inner : (n : ℕ) (known : Known) (r : List ℕ) → 0 < n → n < 2 ^ 64 → inner_kind (reference_text n ++ told_of known r) ≡ 3
 known_inner zero known r some fits = absurd (omega (arith, some))
 known_inner (suc n) known r some fits =
-    rw (other_text n, number_behind (suc n) (told_of known r) fits refl,
-      place_second known.0.place (32 ∷ (nullness_text known.0.nullness ++ (codes " length " ++ (expr_text known.0.length ++ (segments_text known.1 ++ 10 ∷ r))))))
+    rw (
+      other_text n,
+      number_behind (suc n) (told_of known r) fits refl,
+      place_second known.0.place (32 ∷ (nullness_text known.0.nullness ++ (codes " length " ++ (expr_text known.0.length ++ (segments_text known.1 ++ 10 ∷ r))))),
+    )
 
 pub known_kind : (n : ℕ) (known : Known) (r : List ℕ) → 0 < n → n < 2 ^ 64 → line_kind (reference_line n known.0 known.1 ++ r) ≡ 3
 known_kind n known r some fits = rw (known_parts n known r) (known_inner n known r some fits)
@@ -306,6 +315,6 @@ known_read n a b r q first second same =
     let place = place_read a.0.place b.0.place (nullness_text a.0.nullness ++ behind a r) (nullness_text b.0.nullness ++ behind b q) (ap (drop 1) told) in
     let nullness = nullness_read a.0.nullness b.0.nullness (behind a r) (behind b q) place.1 in
     let size = expr_read a.0.length b.0.length (segments_text a.1 ++ 10 ∷ r) (segments_text b.1 ++ 10 ∷ q) first.length_is second.length_is
-        (segments_end a.1 (10 ∷ r)) (segments_end b.1 (10 ∷ q)) (ap (drop 8) nullness.1) in
+    (segments_end a.1 (10 ∷ r)) (segments_end b.1 (10 ∷ q)) (ap (drop 8) nullness.1) in
     let segments = all_segments_read a.1 b.1 r q first.segments second.segments size.1 in
     ((λ i. (record { place = place.0 i; nullness = nullness.0 i; length = size.0 i }, segments.0 i)), segments.1)

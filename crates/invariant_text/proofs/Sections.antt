@@ -1,22 +1,18 @@
 -- The lines of a state, one kind after another.
-use Rattle.std.proofs.Common.{◌≡◌, ℕ, ◌+◌, ◌<◌, ◌≤◌, ◌^◌, ◌==◌, ℤ, pos, negsuc, ◌≤ℤ◌, true, List, [], ◌∷◌, ◌++◌, length, refl, sym, ap, ◌∙◌, arith, append_assoc}
-use Rattle.std.specs.List.{AllByRecursion, flat_map, zip}
+use Rattle.std.proofs.Common.{◌≡◌, ℕ, ◌+◌, ◌<◌, ◌≤◌, ◌^◌, ◌==◌, true, List, [], ◌∷◌, ◌++◌, ap, ◌∙◌, arith, append_assoc}
 use Rattle.std.proofs.lemmas.Bool.{ne_eqb}
 use Rattle.alias_facts.specs.PairsOf.{Pair}
 use Rattle.cil_model.specs.declared.unit.Unit.{Unit as MethodUnit}
-use Rattle.domain_api.specs.declared.expr.Expr.{Expr}
-use Rattle.frame_names.specs.declared.reference.Reference.{Reference}
-use Rattle.frame_names.specs.declared.var.Var.{Var}
 use Rattle.interval_domain.specs.Interval.{Interval}
 use Rattle.number_spans.specs.Stored.{IsNarrow}
 use Rattle.pentagon_domain.specs.declared.bound_row.BoundRow.{BoundRow}
 use Rattle.symbolic_values.specs.declared.def.Def.{Def}
 use Rattle.invariant_text.specs.Lines.{numbered}
-use Rattle.invariant_text.specs.ReferenceLines.{apart_line, reference_line, reference_lines}
+use Rattle.invariant_text.specs.ReferenceLines.{apart_line, reference_line}
 use Rattle.invariant_text.specs.SymbolLines.{bound_line, definition_line, symbol_line}
 use Rattle.invariant_text.specs.VariableLines.{variable_line}
 use Rattle.invariant_text.proofs.LineReading.{IsSmallDefinition, IsSmallKnown, IsSmallPair, IsSmallRow, Known, apart_kind, apart_read, definition_kind, definition_read, known_kind, known_read, line_kind, row_kind, row_read, symbol_line_kind, symbol_read, variable_kind, variable_read}
-use Rattle.invariant_text.proofs.ListReading.{AllFrom, AreRead, all_from, flat_numbered, items_read, zip_same}
+use Rattle.invariant_text.proofs.ListReading.{AllFrom, items_read}
 use Rattle.invariant_text.proofs.ValueReading.{IsSmallVar}
 
 -- ---- lines of one kind, before lines of later kinds

@@ -1,5 +1,5 @@
 -- The segments of formed contents: as many as there are references, each of its form.
-use Rattle.std.proofs.Common.{◌≡◌, ℕ, zero, suc, ◌+◌, ◌<◌, true, List, [], ◌∷◌, length, map, refl, sym, ◌∙◌, All, arith}
+use Rattle.std.proofs.Common.{◌≡◌, ℕ, zero, suc, true, List, [], ◌∷◌, length, map, refl, ◌∙◌, All, arith}
 use Rattle.std.specs.List.{AllByRecursion}
 use Rattle.std.proofs.lemmas.List.{length-map}
 use Rattle.abs_state.specs.StateParts.{AreParts, StateParts}
@@ -8,7 +8,7 @@ use Rattle.array_segments.specs.SegmentLists.{HasForm}
 use Rattle.domain_api.specs.declared.expr.Expr.{Expr}
 use Rattle.frame_names.specs.declared.reference.Reference.{Reference}
 use Rattle.state_facts.specs.Forms.{lengths_of}
-use Rattle.invariant_text.specs.ReferenceLines.{AreSegmentsOf}
+use Rattle.invariant_text.specs.Shape.{AreSegmentsOf}
 
 formed_count : (symbols : ℕ) (lengths : List Expr) (contents : Contents) → AreFormed symbols lengths contents
     → length contents ≡ length lengths

@@ -1,9 +1,9 @@
 -- Of two texts of segments, each with the end of its line, the segments are the same where the texts are.
-use Rattle.std.proofs.Common.{◌≡◌, ℕ, zero, suc, ◌+◌, ◌<◌, ◌≤◌, ◌==◌, min, Bool, true, false, List, [], ◌∷◌, ◌++◌, length, drop, get_or, refl, sym, ap, ap₂, ◌∙◌, arith, append_assoc, codes}
+use Rattle.std.proofs.Common.{◌≡◌, ℕ, ◌+◌, ◌≤◌, ◌==◌, Bool, true, false, List, [], ◌∷◌, ◌++◌, length, drop, get_or, refl, sym, ap, ap₂, ◌∙◌, arith, append_assoc, codes}
 use Rattle.std.specs.List.{AllByRecursion, flat_map, zip}
 use Rattle.std.proofs.lemmas.Slice.Zip.{length-zip}
 use Rattle.array_contents.specs.Contents.{Segments}
-use Rattle.array_segments.specs.SegmentLists.{HasFew, HasForm}
+use Rattle.array_segments.specs.SegmentLists.{HasForm}
 use Rattle.domain_api.specs.declared.expr.Expr.{Expr}
 use Rattle.interval_domain.specs.Interval.{Interval}
 use Rattle.number_spans.specs.Stored.{IsNarrow}
@@ -35,11 +35,11 @@ exprs_read [] ys r q x_some y_some x_all y_all same = absurd (omega (arith, x_so
 exprs_read (x ∷ xs) [] r q x_some y_some x_all y_all same = absurd (omega (arith, y_some))
 exprs_read (x ∷ xs) (y ∷ ys) r q x_some y_some x_all y_all same =
     let first = expr_read x y (flat_map next_expr xs ++ 125 ∷ r) (flat_map next_expr ys ++ 125 ∷ q) x_all.0 y_all.0 (next_end xs r) (next_end ys q)
-        (sym (append_assoc (expr_text x) (flat_map next_expr xs) (125 ∷ r)) ∙ same ∙ append_assoc (expr_text y) (flat_map next_expr ys) (125 ∷ q)) in
+    (sym (append_assoc (expr_text x) (flat_map next_expr xs) (125 ∷ r)) ∙ same ∙ append_assoc (expr_text y) (flat_map next_expr ys) (125 ∷ q)) in
     let numbers = λ (zs : List Expr) (text : List ℕ). ap (λ (front : List ℕ). front ++ 125 ∷ text) (flat_numbered next_expr 0 zs) in
     let others = items_read (λ (n : ℕ) (e : Expr). next_expr e) (λ n e. IsSmall e) EndsExpr (begins_with 44) next_exprs_read 0 xs ys (125 ∷ r) (125 ∷ q)
-        (all_from IsSmall 0 xs x_all.1) (all_from IsSmall 0 ys y_all.1) (record { no_digit = refl; not_added = refl })
-        (record { no_digit = refl; not_added = refl }) refl refl (sym (numbers xs r) ∙ first.1 ∙ numbers ys q) in
+    (all_from IsSmall 0 xs x_all.1) (all_from IsSmall 0 ys y_all.1) (record { no_digit = refl; not_added = refl })
+    (record { no_digit = refl; not_added = refl }) refl refl (sym (numbers xs r) ∙ first.1 ∙ numbers ys q) in
     (ap₂ (λ z zs. z ∷ zs) first.0 others.0, ap (drop 1) others.1)
 
 -- ---- bounds
@@ -91,7 +91,7 @@ mark_read false false x y r q same = (refl, same)
 segment_read : (s t : Segment) (r q : List ℕ) → IsSmallSegment s → IsSmallSegment t → text_of s ++ r ≡ text_of t ++ q → (s ≡ t) × (r ≡ q)
 segment_read s t r q s_small t_small same =
     let range = range_read s.0 t.0 (mark_text s.1.0 ++ (bound_text s.1.1 ++ r)) (mark_text t.1.0 ++ (bound_text t.1.1 ++ q)) s_small.0 t_small.0
-        (range_ends s.1.0 s.1.1 r) (range_ends t.1.0 t.1.1 q) (ap (drop 1) (sym (segment_parts s r) ∙ same ∙ segment_parts t q)) in
+    (range_ends s.1.0 s.1.1 r) (range_ends t.1.0 t.1.1 q) (ap (drop 1) (sym (segment_parts s r) ∙ same ∙ segment_parts t q)) in
     let mark = mark_read s.1.0 t.1.0 s.1.1 t.1.1 r q range.1 in
     let bound = bound_read s.1.1 t.1.1 r q s_small.1.1 t_small.1.1 mark.1 in
     ((λ i. (range.0 i, (mark.0 i, bound.0 i))), bound.1)
@@ -159,18 +159,18 @@ pub all_segments_read : (s t : Segments) (r q : List ℕ) → IsSmallSegments s 
     → segments_text s ++ 10 ∷ r ≡ segments_text t ++ 10 ∷ q → (s ≡ t) × (r ≡ q)
 all_segments_read s t r q s_small t_small same =
     let first = bound_read (get_or s.bounds 0 []) (get_or t.bounds 0 []) (flat_map text_of (each_of s) ++ 10 ∷ r) (flat_map text_of (each_of t) ++ 10 ∷ q)
-        (first_small s.bounds (length s.contents) s_small.form.bounded s_small.bounds) (first_small t.bounds (length t.contents) t_small.form.bounded t_small.bounds)
-        (sym (segments_parts s (10 ∷ r)) ∙ same ∙ segments_parts t (10 ∷ q)) in
+    (first_small s.bounds (length s.contents) s_small.form.bounded s_small.bounds) (first_small t.bounds (length t.contents) t_small.form.bounded t_small.bounds)
+    (sym (segments_parts s (10 ∷ r)) ∙ same ∙ segments_parts t (10 ∷ q)) in
     let numbers = λ (u : Segments) (text : List ℕ). ap (λ (front : List ℕ). front ++ 10 ∷ text) (flat_numbered text_of 0 (each_of u)) in
     let each = items_read (λ (n : ℕ) (s : Segment). text_of s) (λ n s. IsSmallSegment s) (λ text. Unit {0}) (begins_with 32) segments_read 0
-        (each_of s) (each_of t) (10 ∷ r) (10 ∷ q) (all_from IsSmallSegment 0 (each_of s) (each_small s s_small))
-        (all_from IsSmallSegment 0 (each_of t) (each_small t t_small)) tt tt refl refl (sym (numbers s r) ∙ first.1 ∙ numbers t q) in
+    (each_of s) (each_of t) (10 ∷ r) (10 ∷ q) (all_from IsSmallSegment 0 (each_of s) (each_small s s_small))
+    (all_from IsSmallSegment 0 (each_of t) (each_small t t_small)) tt tt refl refl (sym (numbers s r) ∙ first.1 ∙ numbers t q) in
     let s_ends = others_count s.bounds (length s.contents) s_small.form.bounded in
     let t_ends = others_count t.bounds (length t.contents) t_small.form.bounded in
     let outer = zip_same s.contents t.contents (zip s.marks (drop 1 s.bounds)) (zip t.marks (drop 1 t.bounds))
-        (zip_length s.marks (drop 1 s.bounds) (length s.contents) s_small.form.marked s_ends)
-        (zip_length t.marks (drop 1 t.bounds) (length t.contents) t_small.form.marked t_ends) each.0 in
+    (zip_length s.marks (drop 1 s.bounds) (length s.contents) s_small.form.marked s_ends)
+    (zip_length t.marks (drop 1 t.bounds) (length t.contents) t_small.form.marked t_ends) each.0 in
     let inner = zip_same s.marks t.marks (drop 1 s.bounds) (drop 1 t.bounds) (s_ends ∙ sym s_small.form.marked) (t_ends ∙ sym t_small.form.marked) outer.1 in
     let bounds : s.bounds ≡ t.bounds = first_and_others s.bounds (length s.contents) s_small.form.bounded ∙ ap₂ (λ z zs. z ∷ zs) first.0 inner.1
-        ∙ sym (first_and_others t.bounds (length t.contents) t_small.form.bounded) in
+    ∙ sym (first_and_others t.bounds (length t.contents) t_small.form.bounded) in
     ((λ i. record { bounds = bounds i; contents = outer.0 i; marks = inner.0 i }), ap (drop 1) each.1)

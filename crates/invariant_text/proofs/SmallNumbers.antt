@@ -1,5 +1,5 @@
 -- What is printable has numbers whose texts are read.
-use Rattle.std.proofs.Common.{◌≡◌, ℕ, ◌+◌, ◌<◌, ◌≤◌, ◌^◌, ℤ, pos, negsuc, ◌≤ℤ◌, List, [], ◌∷◌, length, arith}
+use Rattle.std.proofs.Common.{ℕ, ◌+◌, ◌<◌, ◌≤◌, ◌^◌, ℤ, pos, negsuc, ◌≤ℤ◌, List, [], ◌∷◌, length, arith}
 use Rattle.std.specs.Int.{w64}
 use Rattle.std.specs.Int.RustNames.{FitsSigned}
 use Rattle.std.specs.Int.Signed.{mag}
@@ -23,7 +23,7 @@ use Rattle.symbolic_values.specs.declared.def.Def.TheVariants.{Eq, Lt, LtUn, Nul
 use Rattle.invariant_text.specs.Shape.{AreShortSegments, IsShort, IsShortDef}
 use Rattle.invariant_text.proofs.DefReading.{IsSmallDef}
 use Rattle.invariant_text.proofs.ExprReading.{IsSmall}
-use Rattle.invariant_text.proofs.LineReading.{IsSmallDefinition, IsSmallKnown, IsSmallPair, IsSmallRow, Known}
+use Rattle.invariant_text.proofs.LineReading.{IsSmallDefinition, IsSmallPair, IsSmallRow}
 use Rattle.invariant_text.proofs.ListReading.{AllFrom}
 use Rattle.invariant_text.proofs.SegmentReading.{IsSmallBound, IsSmallSegments}
 use Rattle.invariant_text.proofs.Sections.{IsKnownAt, IsNarrowAt}
@@ -67,8 +67,8 @@ pub small_rows : (symbols n : ℕ) (rows : List BoundRow) → symbols < 2 ^ 64 �
     → AllByRecursion (λ row. FitsSigned w64 row.k) rows → AllFrom (λ k row. IsSmallRow row) n rows
 small_rows symbols n [] few named short = tt
 small_rows symbols n (row ∷ rows) few named short = (
-    record { from = omega (arith, few, named.0.from); to = omega (arith, few, named.0.to); constant = short.0.sfits },
-    small_rows symbols (n + 1) rows few named.1 short.1,
+  record { from = omega (arith, few, named.0.from); to = omega (arith, few, named.0.to); constant = short.0.sfits },
+  small_rows symbols (n + 1) rows few named.1 short.1,
 )
 
 small_both : (symbols : ℕ) (a b : Expr) → symbols < 2 ^ 64 → (a.sym ≤ symbols) × (b.sym ≤ symbols) → IsShort a × IsShort b → IsSmall a × IsSmall b
@@ -87,8 +87,8 @@ pub small_definitions : (symbols references n : ℕ) (definitions : List (ℕ ×
     → AllByRecursion (λ d. IsShortDef d.1) definitions → AllFrom (λ k d. IsSmallDefinition d) n definitions
 small_definitions symbols references n [] few_symbols few_references named tests short = tt
 small_definitions symbols references n (d ∷ definitions) few_symbols few_references named tests short = (
-    (omega (arith, few_symbols, named.0.0), small_def symbols references d.1 few_symbols few_references named.0.1 tests.0 short.0),
-    small_definitions symbols references (n + 1) definitions few_symbols few_references named.1 tests.1 short.1,
+  (omega (arith, few_symbols, named.0.0), small_def symbols references d.1 few_symbols few_references named.0.1 tests.0 short.0),
+  small_definitions symbols references (n + 1) definitions few_symbols few_references named.1 tests.1 short.1,
 )
 
 -- ---- references
@@ -103,8 +103,8 @@ small_bounds : (symbols : ℕ) (bounds : List (List Expr)) → symbols < 2 ^ 64 
     → AllByRecursion IsSmallBound bounds
 small_bounds symbols [] few some named short = tt
 small_bounds symbols (bound ∷ bounds) few some named short = (
-    record { some = some.0.some; small = small_exprs symbols bound few named.0 short.0 },
-    small_bounds symbols bounds few some.1 named.1 short.1,
+  record { some = some.0.some; small = small_exprs symbols bound few named.0 short.0 },
+  small_bounds symbols bounds few some.1 named.1 short.1,
 )
 
 small_segments : (symbols : ℕ) (length_is : Expr) (s : Segments) → symbols < 2 ^ 64 → IsFormed symbols length_is s → AreShortSegments s → IsSmallSegments s
@@ -120,12 +120,12 @@ pub small_known : (symbols n : ℕ) (references : List Reference) (contents : Co
 small_known symbols n [] contents few some fits are formed short = tt
 small_known symbols n (known ∷ references) [] few some fits are formed short = tt
 small_known symbols n (known ∷ references) (s ∷ contents) few some fits are formed short = (
-    (
-      some,
-      omega (arith, fits),
-      record { length_is = small_number symbols known.length few are.0.length_is; segments = small_segments symbols known.length s few formed.0 short.0 },
-    ),
-    small_known symbols (n + 1) references contents few (omega (arith, some)) (omega (arith, fits)) are.1 formed.1 short.1,
+  (
+    some,
+    omega (arith, fits),
+    record { length_is = small_number symbols known.length few are.0.length_is; segments = small_segments symbols known.length s few formed.0 short.0 },
+  ),
+  small_known symbols (n + 1) references contents few (omega (arith, some)) (omega (arith, fits)) are.1 formed.1 short.1,
 )
 
 pub small_pairs : (references n : ℕ) (pairs : List Pair) → references < 2 ^ 64 → AllByRecursion (EndsBy references) pairs

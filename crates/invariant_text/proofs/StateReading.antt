@@ -1,5 +1,5 @@
 -- Of two states whose lines are the same, what is known is the same.
-use Rattle.std.proofs.Common.{◌≡◌, ℕ, ◌+◌, ◌<◌, ◌≤◌, List, [], ◌∷◌, ◌++◌, length, refl, sym, ap, ◌∙◌, arith, append_assoc}
+use Rattle.std.proofs.Common.{◌≡◌, ℕ, ◌+◌, ◌<◌, List, [], ◌∷◌, ◌++◌, length, refl, sym, ap, ◌∙◌, arith, append_assoc}
 use Rattle.std.specs.List.{flat_map, zip}
 use Rattle.std.proofs.lemmas.List.{append-nil}
 use Rattle.alias_facts.specs.PairsOf.{Pair}
@@ -10,14 +10,14 @@ use Rattle.pentagon_domain.specs.declared.bound_row.BoundRow.{BoundRow}
 use Rattle.state_facts.specs.StateFacts.{StateFacts}
 use Rattle.symbolic_values.specs.declared.def.Def.{Def}
 use Rattle.invariant_text.specs.Lines.{numbered}
-use Rattle.invariant_text.specs.ReferenceLines.{AreSegmentsOf, apart_line, reference_line, reference_lines}
+use Rattle.invariant_text.specs.ReferenceLines.{apart_line, reference_line, reference_lines}
 use Rattle.invariant_text.specs.Shape.{IsPrintable}
 use Rattle.invariant_text.specs.StateText.{state_lines}
 use Rattle.invariant_text.specs.SymbolLines.{bound_line, definition_line, symbol_line}
 use Rattle.invariant_text.specs.VariableLines.{variable_line}
-use Rattle.invariant_text.proofs.LineReading.{IsSmallDefinition, IsSmallPair, IsSmallRow, Known, line_kind}
+use Rattle.invariant_text.proofs.LineReading.{IsSmallDefinition, IsSmallPair, IsSmallRow, line_kind}
 use Rattle.invariant_text.proofs.ListReading.{AllFrom, flat_numbered, zip_same}
-use Rattle.invariant_text.proofs.Sections.{IsKnownAt, IsNarrowAt, IsSection, apart_section, bounds_section, definitions_section, known_line, ranges_section, references_section, section_least, section_read, variables_section}
+use Rattle.invariant_text.proofs.Sections.{IsKnownAt, IsNarrowAt, apart_section, bounds_section, definitions_section, known_line, ranges_section, references_section, section_least, section_read, variables_section}
 use Rattle.invariant_text.proofs.SegmentForms.{segments_formed}
 use Rattle.invariant_text.proofs.ValueReading.{IsSmallVar}
 use Rattle.invariant_text.proofs.SmallNumbers.{small_definitions, small_known, small_pairs, small_ranges, small_rows, small_vars}
@@ -61,7 +61,7 @@ state_parts unit known r =
     ∙ append_assoc (variables ++ ranges) references (bounds ++ (definitions ++ (apart ++ r)))
     ∙ append_assoc variables ranges (references ++ (bounds ++ (definitions ++ (apart ++ r))))
     ∙ (λ i. variables ++ (ranges ++ (lines_zipped 1 known.references known.contents i ++ (flat_numbered bound_line 0 known.facts.bounds i
-      ++ (flat_numbered definition_line 0 known.facts.definitions i ++ (flat_numbered apart_line 0 known.apart i ++ r))))))
+    ++ (flat_numbered definition_line 0 known.facts.definitions i ++ (flat_numbered apart_line 0 known.apart i ++ r))))))
 
 -- The lines of each kind have numbers whose texts are read.
 record AreSmall (known : StateFacts) : Type 0 where
@@ -101,11 +101,11 @@ rises : (known : StateFacts) (r : List ℕ) → AreSmall known → 6 < line_kind
 rises known r small apart =
     let definitions = section_least (λ (n : ℕ) (p : Pair). apart_line p) (λ n p. IsSmallPair p) 6 apart_section 0 known.apart r small.apart apart in
     let bounds = section_least (λ (n : ℕ) (d : ℕ × Def). definition_line d) (λ n d. IsSmallDefinition d) 5 definitions_section 0 known.facts.definitions
-        (behind_definitions known r) small.definitions (omega (arith, definitions)) in
+    (behind_definitions known r) small.definitions (omega (arith, definitions)) in
     let references = section_least (λ (n : ℕ) (row : BoundRow). bound_line row) (λ n row. IsSmallRow row) 4 bounds_section 0 known.facts.bounds
-        (behind_bounds known r) small.bounds (omega (arith, bounds)) in
+    (behind_bounds known r) small.bounds (omega (arith, bounds)) in
     let ranges = section_least known_line IsKnownAt 3 references_section 1 (zip known.references known.contents) (behind_references known r)
-        small.references (omega (arith, references)) in
+    small.references (omega (arith, references)) in
     let variables = section_least symbol_line IsNarrowAt 2 ranges_section 1 known.facts.ranges (behind_ranges known r) small.ranges (omega (arith, ranges)) in
     record {
       variables = omega (arith, variables);
@@ -124,21 +124,20 @@ state_read unit a b r q a_printable b_printable r_later q_later same =
     let f = rises a r x r_later in
     let g = rises b q y q_later in
     let variables = section_read (variable_line unit) (λ n v. IsSmallVar v) 1 (variables_section unit) refl 0 a.variables b.variables (behind_variables a r)
-        (behind_variables b q) x.variables y.variables f.variables g.variables (sym (state_parts unit a r) ∙ same ∙ state_parts unit b q) in
+    (behind_variables b q) x.variables y.variables f.variables g.variables (sym (state_parts unit a r) ∙ same ∙ state_parts unit b q) in
     let ranges = section_read symbol_line IsNarrowAt 2 ranges_section refl 1 a.facts.ranges b.facts.ranges (behind_ranges a r) (behind_ranges b q)
-        x.ranges y.ranges f.ranges g.ranges variables.1 in
+    x.ranges y.ranges f.ranges g.ranges variables.1 in
     let references = section_read known_line IsKnownAt 3 references_section refl 1 (zip a.references a.contents) (zip b.references b.contents)
-        (behind_references a r) (behind_references b q) x.references y.references f.references g.references ranges.1 in
+    (behind_references a r) (behind_references b q) x.references y.references f.references g.references ranges.1 in
     let bounds = section_read (λ (n : ℕ) (row : BoundRow). bound_line row) (λ n row. IsSmallRow row) 4 bounds_section refl 0 a.facts.bounds b.facts.bounds
-        (behind_bounds a r) (behind_bounds b q) x.bounds y.bounds f.bounds g.bounds references.1 in
+    (behind_bounds a r) (behind_bounds b q) x.bounds y.bounds f.bounds g.bounds references.1 in
     let definitions = section_read (λ (n : ℕ) (d : ℕ × Def). definition_line d) (λ n d. IsSmallDefinition d) 5 definitions_section refl 0
-        a.facts.definitions b.facts.definitions (behind_definitions a r) (behind_definitions b q) x.definitions y.definitions f.definitions g.definitions bounds.1 in
+    a.facts.definitions b.facts.definitions (behind_definitions a r) (behind_definitions b q) x.definitions y.definitions f.definitions g.definitions bounds.1 in
     let apart = section_read (λ (n : ℕ) (p : Pair). apart_line p) (λ n p. IsSmallPair p) 6 apart_section refl 0 a.apart b.apart r q x.apart y.apart
-        f.apart g.apart definitions.1 in
+    f.apart g.apart definitions.1 in
     let zipped = zip_same a.references b.references a.contents b.contents
-        (segments_formed (length a.facts.ranges) a.references a.contents a_printable.form.contents).each
-        (segments_formed (length b.facts.ranges) b.references b.contents b_printable.form.contents).each references.0 in
-    (
+    (segments_formed (length a.facts.ranges) a.references a.contents a_printable.form.contents).each
+    (segments_formed (length b.facts.ranges) b.references b.contents b_printable.form.contents).each references.0 in (
       (λ i. record {
         variables = variables.0 i;
         facts = record { ranges = ranges.0 i; definitions = definitions.0 i; bounds = bounds.0 i };

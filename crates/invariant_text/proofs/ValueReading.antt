@@ -1,5 +1,5 @@
 -- Of two texts of what a variable has, each with the end of its line, both have the same where the texts are the same.
-use Rattle.std.proofs.Common.{◌≡◌, ℕ, ◌<◌, ◌^◌, ◌==◌, true, false, List, ◌∷◌, ◌++◌, drop, get_or, refl, sym, ap, ◌∙◌, arith}
+use Rattle.std.proofs.Common.{◌≡◌, ℕ, ◌<◌, ◌^◌, ◌==◌, List, ◌∷◌, ◌++◌, drop, get_or, refl, sym, ap, ◌∙◌, arith}
 use Rattle.std.proofs.lemmas.Bool.{true≢false}
 use Rattle.domain_api.specs.declared.expr.Expr.{Expr}
 use Rattle.frame_names.specs.declared.var.Var.{Var}
@@ -30,7 +30,7 @@ pub value_read : (v w : Var) (r q : List ℕ) → IsSmallVar v → IsSmallVar w 
     → (v ≡ w) × (r ≡ q)
 value_read (vars.Number a) (vars.Number b) r q first second same =
     let read = expr_read a b (10 ∷ r) (10 ∷ q) first second (record { no_digit = refl; not_added = refl })
-        (record { no_digit = refl; not_added = refl }) same in
+    (record { no_digit = refl; not_added = refl }) same in
     (ap (λ (e : Expr). vars.Number e) read.0, ap (drop 1) read.1)
 value_read (vars.Number a) (vars.Reference n) r q first second same = absurd (number_no_reference a n (10 ∷ r) (10 ∷ q) first same)
 value_read (vars.Number a) vars.Text r q first second same = absurd (number_no_text a (10 ∷ r) _ first same)

@@ -4,7 +4,8 @@ ghost use Rattle.std.specs.Prelude.{◌≡◌, ◌++◌, All, length, map, OnOk}
 ghost use Rattle.std.specs.List.{flat_map};
 ghost use Rattle.array_segments.specs.SegmentLists.{HasForm};
 ghost use Rattle.array_segments.specs.Segments.{lists_of};
-ghost use Rattle.invariant_text.specs.ReferenceLines.{AreSegmentsOf, apart_line, bound_text, exprs_text, known_text, mark_text, next_expr, nullness_text, reference_line, reference_lines, segment_text, segments_text};
+ghost use Rattle.invariant_text.specs.ReferenceLines.{apart_line, bound_text, exprs_text, known_text, mark_text, next_expr, nullness_text, reference_line, reference_lines, segment_text, segments_text};
+ghost use Rattle.invariant_text.specs.Shape.{AreSegmentsOf};
 
 use crate::expressions::{put_expr, put_range};
 use crate::variables::put_reference;

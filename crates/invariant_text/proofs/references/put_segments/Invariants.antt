@@ -1,6 +1,6 @@
 use Rattle.std.proofs.Common.{◌≡◌, ◌+◌, ◌++◌, drop}
 use Rattle.array_segments.specs.Segments.{lists_of}
-use Rattle.invariant_text.specs.ReferenceLines.{each_segment, segments_text}
+use Rattle.invariant_text.specs.ReferenceLines.{each_segment}
 use Rattle.invariant_text.proofs.references.put_segments.Given as goal
 
 abbrev pub invariant-loop-i : goal.invariant-loop-i
