@@ -11,7 +11,10 @@ use Rattle.invariant_text.specs.Lines.{numbered}
 use Rattle.invariant_text.specs.ReferenceLines.{apart_line, reference_line}
 use Rattle.invariant_text.specs.SymbolLines.{bound_line, definition_line, symbol_line}
 use Rattle.invariant_text.specs.VariableLines.{variable_line}
-use Rattle.invariant_text.proofs.LineReading.{IsSmallDefinition, IsSmallKnown, IsSmallPair, IsSmallRow, Known, apart_kind, apart_read, definition_kind, definition_read, known_kind, known_read, line_kind, row_kind, row_read, symbol_line_kind, symbol_read, variable_kind, variable_read}
+use Rattle.invariant_text.proofs.LineReading.{IsSmallDefinition, IsSmallKnown, IsSmallPair, IsSmallRow, Known}
+use Rattle.invariant_text.proofs.LineReading.{apart_kind, apart_read, definition_kind, definition_read, known_kind}
+use Rattle.invariant_text.proofs.LineReading.{known_read, line_kind, row_kind, row_read, symbol_line_kind, symbol_read}
+use Rattle.invariant_text.proofs.LineReading.{variable_kind, variable_read}
 use Rattle.invariant_text.proofs.ListReading.{AllFrom, items_read}
 use Rattle.invariant_text.proofs.ValueReading.{IsSmallVar}
 
@@ -19,18 +22,22 @@ use Rattle.invariant_text.proofs.ValueReading.{IsSmallVar}
 
 pub record IsSection {X : Type 0} (line_of : ℕ → X → List ℕ) (Is : ℕ → X → Type 0) (kind : ℕ) : Type 0 where
   pub kind_is : (n : ℕ) (x : X) (r : List ℕ) → Is n x → line_kind (line_of n x ++ r) ≡ kind
-  pub read : (n : ℕ) (x y : X) (r q : List ℕ) → Is n x → Is n y → line_of n x ++ r ≡ line_of n y ++ q → (x ≡ y) × (r ≡ q)
+  pub read : (n : ℕ) (x y : X) (r q : List ℕ) → Is n x → Is n y → line_of n x ++ r ≡ line_of n y ++ q
+      → (x ≡ y) × (r ≡ q)
 
 pub section_least : {X : Type 0} (line_of : ℕ → X → List ℕ) (Is : ℕ → X → Type 0) (kind : ℕ) → IsSection line_of Is kind
-    → (n : ℕ) (xs : List X) (r : List ℕ) → AllFrom Is n xs → kind < line_kind r → kind ≤ line_kind (numbered line_of n xs ++ r)
+    → (n : ℕ) (xs : List X) (r : List ℕ) → AllFrom Is n xs → kind < line_kind r
+    → kind ≤ line_kind (numbered line_of n xs ++ r)
 section_least line_of Is kind laws n [] r all later = omega (arith, later)
 section_least line_of Is kind laws n (x ∷ xs) r all later =
     let rest = numbered line_of (n + 1) xs in
     let is = laws.kind_is n x (rest ++ r) all.0 in
     rw (append_assoc (line_of n x) rest r, is) (omega arith)
 
-pub section_read : {X : Type 0} (line_of : ℕ → X → List ℕ) (Is : ℕ → X → Type 0) (kind : ℕ) → IsSection line_of Is kind → (kind == kind) ≡ true
-    → (n : ℕ) (xs ys : List X) (r q : List ℕ) → AllFrom Is n xs → AllFrom Is n ys → kind < line_kind r → kind < line_kind q
+pub section_read : {X : Type 0} (line_of : ℕ → X → List ℕ) (Is : ℕ → X → Type 0) (kind : ℕ) → IsSection line_of Is kind
+    → (kind == kind) ≡ true
+    → (n : ℕ) (xs ys : List X) (r q : List ℕ) → AllFrom Is n xs → AllFrom Is n ys → kind < line_kind r
+    → kind < line_kind q
     → numbered line_of n xs ++ r ≡ numbered line_of n ys ++ q → (xs ≡ ys) × (r ≡ q)
 section_read line_of Is kind laws itself n xs ys r q firsts seconds r_later q_later same =
     items_read line_of Is (λ text. Unit {0}) (λ text. line_kind text == kind)
@@ -39,7 +46,8 @@ section_read line_of Is kind laws itself n xs ys r q firsts seconds r_later q_la
       ends = λ m x text is. tt;
       read = λ m x y s t first second s_ends t_ends e. laws.read m x y s t first second e;
     })
-    n xs ys r q firsts seconds tt tt (ne_eqb (line_kind r) kind (λ e. omega (arith, r_later, e))) (ne_eqb (line_kind q) kind (λ e. omega (arith, q_later, e))) same
+    n xs ys r q firsts seconds tt tt (ne_eqb (line_kind r) kind (λ e. omega (arith, r_later, e)))
+    (ne_eqb (line_kind q) kind (λ e. omega (arith, q_later, e))) same
 
 -- ---- the sections of a state
 

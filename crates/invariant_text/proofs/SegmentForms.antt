@@ -32,11 +32,13 @@ segments_formed symbols references contents formed = record {
 }
 
 -- Those of a state in which something is reached.
-pub segments_in : (parts : StateParts) → AreParts parts → parts.reached ≡ true → AreSegmentsOf parts.references parts.contents
+pub segments_in : (parts : StateParts) → AreParts parts → parts.reached ≡ true
+    → AreSegmentsOf parts.references parts.contents
 segments_in parts are reached =
     segments_formed (length parts.ranges) parts.references parts.contents (are.reached reached).form.contents
 
-pub each_of_form : {X : Type 0} (f : X → Segments) (xs : List X) → AllByRecursion HasForm (map f xs) → All (λ x. HasForm (f x)) xs
+pub each_of_form : {X : Type 0} (f : X → Segments) (xs : List X) → AllByRecursion HasForm (map f xs)
+    → All (λ x. HasForm (f x)) xs
 each_of_form f [] all k d there = absurd (omega (arith, there))
 each_of_form f (x ∷ xs) all zero d there = all.0
 each_of_form f (x ∷ xs) all (suc k) d there = each_of_form f xs all.1 k d (omega (arith, there))

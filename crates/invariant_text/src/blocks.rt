@@ -79,8 +79,8 @@ fn blocks_text(
     Ok(text)
 }
 
-/// The text of a unit's invariant: for each block, which start at these IL offsets, its line, and then the lines of what
-/// holds at its start.
+/// The text of a unit's invariant: for each block its line, and then the lines of what holds at its start. The blocks
+/// start at these IL offsets, and have these states.
 ///
 /// Cost: that of the parts of each state, and else one pass over them, linear in the text.
 ///
