@@ -1,11 +1,13 @@
 -- Of two texts that begin with an expression and then end it, the expressions are the same where the texts are.
-use Rattle.std.proofs.Common.{◌≡◌, ℕ, zero, suc, ◌<◌, ◌^◌, ◌==◌, ℤ, pos, negsuc, false, List, [], ◌∷◌, ◌++◌, drop, get_or, refl, sym, ap, ap₂, ◌∙◌, arith, append_assoc, if◌then◌else◌, codes}
+use Rattle.std.proofs.Common.{◌≡◌, ℕ, zero, suc, ◌<◌, ◌^◌, ◌==◌, ℤ, pos, negsuc, false, List, [], ◌∷◌, ◌++◌, nat_le}
+use Rattle.std.proofs.Common.{true, drop, get_or, refl, sym, ap, ap₂, ◌∙◌, arith, append_assoc, if◌then◌else◌, codes}
 use Rattle.std.specs.Fmt.{decimal, signed_decimal}
 use Rattle.std.specs.Int.Signed.{mag}
-use Rattle.std.proofs.lemmas.Bool.{true≢false}
+use Rattle.std.proofs.lemmas.Bool.{and_parts, leb-true, ne_eqb, true≢false}
 use Rattle.domain_api.specs.declared.expr.Expr.{Expr}
 use Rattle.invariant_text.specs.NumberTexts.{added_text, expr_text, symbol_text}
-use Rattle.invariant_text.proofs.NumberReading.{begins_digit, begins_signed, number_read, signed_begins, signed_read}
+use Rattle.invariant_text.proofs.NumberReading.{begins_digit, begins_signed, number_begins, number_read, signed_begins}
+use Rattle.invariant_text.proofs.NumberReading.{signed_read}
 use Prim.Native.Nat.compare
 use lib.Dec.{leb-zero}
 
@@ -53,7 +55,8 @@ added_no_digit (pos zero) r none = rw nothing_added none
 added_no_digit (pos (suc n)) r none = rw (more_added n)
 added_no_digit (negsuc n) r none = rw (less_added n)
 
-pub same_added : (j k : ℤ) (r q : List ℕ) → mag j < 2 ^ 63 → mag k < 2 ^ 63 → begins_digit r ≡ false → begins_digit q ≡ false
+pub same_added : (j k : ℤ) (r q : List ℕ) → mag j < 2 ^ 63 → mag k < 2 ^ 63 → begins_digit r ≡ false
+    → begins_digit q ≡ false
     → kind_of j ≡ kind_of k → added_text j ++ r ≡ added_text k ++ q → (j ≡ k) × (r ≡ q)
 same_added (pos zero) (pos zero) r q j_fits k_fits r_none q_none kinds same = (refl, rw nothing_added at same)
 same_added (pos zero) (pos (suc n)) r q j_fits k_fits r_none q_none kinds same = absurd (omega (arith, kinds))
@@ -92,15 +95,20 @@ pub behind_letter : (s : ℕ) (k : ℤ) (r : List ℕ)
     → expr_text (record { sym = suc s; k = k }) ++ r ≡ 115 ∷ decimal (suc s) ++ (added_text k ++ r)
 behind_letter s k r = rw (symbol_first s k) (append_assoc (symbol_text (suc s)) (added_text k) r)
 
-parts_read : (s t : ℕ) (j k : ℤ) (r q : List ℕ) → s < 2 ^ 64 → t < 2 ^ 64 → mag j < 2 ^ 63 → mag k < 2 ^ 63 → EndsExpr r → EndsExpr q
-    → expr_text (record { sym = s; k = j }) ++ r ≡ expr_text (record { sym = t; k = k }) ++ q → ((s ≡ t) × (j ≡ k)) × (r ≡ q)
+parts_read : (s t : ℕ) (j k : ℤ) (r q : List ℕ) → s < 2 ^ 64 → t < 2 ^ 64 → mag j < 2 ^ 63 → mag k < 2 ^ 63 → EndsExpr r
+    → EndsExpr q
+    → expr_text (record { sym = s; k = j }) ++ r ≡ expr_text (record { sym = t; k = k }) ++ q → ((s ≡ t) × (j ≡ k))
+    × (r ≡ q)
 parts_read zero zero j k r q s_fits t_fits j_fits k_fits r_ends q_ends same =
-    let read = signed_read j k r q j_fits k_fits r_ends.no_digit q_ends.no_digit (rw (number_text j, number_text k) at same) in
+    let read =
+    signed_read j k r q j_fits k_fits r_ends.no_digit q_ends.no_digit (rw (number_text j, number_text k) at same) in
     ((refl, read.0), read.1)
 parts_read zero (suc t) j k r q s_fits t_fits j_fits k_fits r_ends q_ends same =
-    absurd (true≢false (sym (signed_begins j r j_fits) ∙ ap begins_signed (sym (ap (λ (text : List ℕ). text ++ r) (number_text j)) ∙ same ∙ behind_letter t k q)))
+    absurd (true≢false (sym (signed_begins j r j_fits) ∙ ap begins_signed
+    (sym (ap (λ (text : List ℕ). text ++ r) (number_text j)) ∙ same ∙ behind_letter t k q)))
 parts_read (suc s) zero j k r q s_fits t_fits j_fits k_fits r_ends q_ends same =
-    absurd (true≢false (sym (signed_begins k q k_fits) ∙ ap begins_signed (sym (ap (λ (text : List ℕ). text ++ q) (number_text k)) ∙ sym same ∙ behind_letter s j r)))
+    absurd (true≢false (sym (signed_begins k q k_fits) ∙ ap begins_signed
+    (sym (ap (λ (text : List ℕ). text ++ q) (number_text k)) ∙ sym same ∙ behind_letter s j r)))
 parts_read (suc s) (suc t) j k r q s_fits t_fits j_fits k_fits r_ends q_ends same =
     let texts = ap (drop 1) (sym (behind_letter s j r) ∙ same ∙ behind_letter t k q) in
     let symbols = number_read (suc s) (suc t) (added_text j ++ r) (added_text k ++ q) s_fits t_fits
@@ -111,5 +119,28 @@ parts_read (suc s) (suc t) j k r q s_fits t_fits j_fits k_fits r_ends q_ends sam
 pub expr_read : (a b : Expr) (r q : List ℕ) → IsSmall a → IsSmall b → EndsExpr r → EndsExpr q
     → expr_text a ++ r ≡ expr_text b ++ q → (a ≡ b) × (r ≡ q)
 expr_read a b r q a_small b_small r_ends q_ends same =
-    let read = parts_read a.sym b.sym a.k b.k r q a_small.symbol b_small.symbol a_small.constant b_small.constant r_ends q_ends same in
+    let read = parts_read a.sym b.sym a.k b.k r q a_small.symbol b_small.symbol a_small.constant b_small.constant r_ends
+    q_ends same in
     (ap₂ (λ (s : ℕ) (k : ℤ). record { sym = s; k = k }) read.0.0 read.0.1, read.1)
+
+-- ---- what an expression does not begin with
+
+pub letter_no_digit : (letter : ℕ) (text : List ℕ) → 57 < letter → begins_digit text ≡ true
+    → (get_or text 0 0 == letter) ≡ false
+letter_no_digit letter [] above is = absurd (true≢false (sym is))
+letter_no_digit letter (c ∷ text) above is =
+    let most = leb-true c 57 (and_parts (nat_le 48 c) (nat_le c 57) is).1 in
+    ne_eqb c letter (λ e. omega (arith, most, above, e))
+
+parts_no_letter : (letter s : ℕ) (k : ℤ) (r : List ℕ) → 57 < letter → (115 ≡ letter → ⊥) → mag k < 2 ^ 63
+    → (get_or (expr_text (record { sym = s; k = k }) ++ r) 0 0 == letter) ≡ false
+parts_no_letter letter zero (pos n) r above other fits =
+    rw (number_text (pos n)) (letter_no_digit letter (decimal n ++ r) above (number_begins n r (omega (arith, fits))))
+parts_no_letter letter zero (negsuc n) r above other fits =
+    rw (number_text (negsuc n)) (ne_eqb 45 letter (λ e. omega (arith, above, e)))
+parts_no_letter letter (suc s) k r above other fits = rw (behind_letter s k r) (ne_eqb 115 letter other)
+
+-- An expression begins with a digit, a sign or the letter of a symbol.
+pub expr_no_letter : (letter : ℕ) (e : Expr) (r : List ℕ) → 57 < letter → (115 ≡ letter → ⊥) → IsSmall e
+    → (get_or (expr_text e ++ r) 0 0 == letter) ≡ false
+expr_no_letter letter e r above other small = parts_no_letter letter e.sym e.k r above other small.constant

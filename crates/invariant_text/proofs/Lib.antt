@@ -5,6 +5,13 @@ pub mod DefReading
 pub mod ListReading
 pub mod RangeReading
 pub mod SegmentForms
+pub mod ValueReading
+pub mod SegmentReading
+pub mod LineReading
+pub mod StateReading
+pub mod Sections
+pub mod SmallNumbers
+pub mod BlockReading
 pub mod PlainTexts
 pub mod PlainLines
 pub mod Indented

@@ -1,5 +1,6 @@
 -- One more segment, and the line of one more reference.
-use Rattle.std.proofs.Common.{◌≡◌, ℕ, ◌+◌, ◌<◌, Bool, List, ◌∷◌, ◌++◌, length, map, get_or, drop, sym, ap, ap₂, ◌∙◌, append_assoc, add-one, drop-cons, arith}
+use Rattle.std.proofs.Common.{◌≡◌, ℕ, ◌+◌, ◌<◌, Bool, List, ◌∷◌, ◌++◌, length, map, get_or, drop, sym, ap, ap₂, ◌∙◌}
+use Rattle.std.proofs.Common.{append_assoc, add-one, drop-cons, arith}
 use Rattle.std.proofs.lemmas.List.{drop-map, length-map}
 use Rattle.array_contents.specs.Contents.{Segments}
 use Rattle.domain_api.specs.declared.expr.Expr.{Expr}
@@ -16,14 +17,17 @@ next_mapped f xs i x there is =
     drop-map f i xs ∙ ap (map f) (next_of xs i x there)
     ∙ ap₂ (λ y ys. f y ∷ ys) (sym is) (sym (drop-map f (i + 1) xs))
 
-pub one_segment : {X : Type 0} (exprs_of : X → List Expr) (contents : List Interval) (marks : List Bool) (bounds : List X) (i : ℕ)
+pub one_segment : {X : Type 0} (exprs_of : X
+    → List Expr) (contents : List Interval) (marks : List Bool) (bounds : List X) (i : ℕ)
     (content : Interval) (mark : Bool) (bound : X) (end : List Expr) (before after : List ℕ)
     → i < length contents → length marks ≡ length contents → length (map exprs_of bounds) ≡ length contents + 1
-    → content ≡ get_or contents i content → mark ≡ get_or marks i mark → bound ≡ get_or bounds (i + 1) bound → end ≡ exprs_of bound
+    → content ≡ get_or contents i content → mark ≡ get_or marks i mark → bound ≡ get_or bounds (i + 1) bound → end
+    ≡ exprs_of bound
     → after ≡ before ++ segment_text content mark end
     → after ++ each_segment (drop (i + 1) contents) (drop (i + 1) marks) (drop (i + 1 + 1) (map exprs_of bounds))
     ≡ before ++ each_segment (drop i contents) (drop i marks) (drop (i + 1) (map exprs_of bounds))
-one_segment exprs_of contents marks bounds i content mark bound end before after there marked bounded content_is mark_is bound_is end_is more =
+one_segment exprs_of contents marks bounds i content mark bound end before after there marked bounded content_is mark_is
+    bound_is end_is more =
     let first = next_of contents i content there in
     let second = next_of marks i mark (rw marked there) in
     let in_bounds : i + 1 < length bounds = omega (arith, there, bounded, length-map bounds exprs_of) in

@@ -1,12 +1,13 @@
 -- Of two texts that begin with a number and go on with no digit, the numbers are the same where the texts are.
-use Rattle.std.proofs.Common.{◌≡◌, ℕ, zero, suc, ◌+◌, ◌<◌, ◌≤◌, ◌^◌, ◌==◌, ℤ, pos, negsuc, Bool, true, false, ◌&&◌, ◌||◌, nat_le, List, [], ◌∷◌, ◌++◌, length, get_or, refl, sym, ap, ap₂, ◌∙◌, arith, if◌then◌else◌, drop}
+use Rattle.std.proofs.Common.{◌≡◌, ℕ, suc, ◌<◌, ◌≤◌, ◌^◌, ◌==◌, ℤ, pos, negsuc, Bool, true, false, ◌&&◌, ◌||◌, nat_le}
+use Rattle.std.proofs.Common.{List, [], ◌∷◌, ◌++◌, length, get_or, refl, sym, ap, ◌∙◌, arith, if◌then◌else◌, drop}
 use Rattle.std.specs.Fmt.{decimal, signed_decimal}
 use Rattle.std.specs.Int.Signed.{mag}
 use Rattle.std.specs.Str.Parse.{AllDigits}
 use Rattle.std.proofs.lemmas.Bool.{true≢false}
 use Rattle.std.proofs.lemmas.Fmt.{decimal_injective, decimal_is_IsNumeral}
 use Rattle.std.proofs.lemmas.Str.Parse.{digit_from_value}
-use Rattle.std.proofs.lemmas.Bool.{leb-true, le-leb}
+use Rattle.std.proofs.lemmas.Bool.{le-leb}
 
 abbrev pub is_digit : ℕ → Bool
 is_digit c = nat_le 48 c && nat_le c 57
@@ -54,7 +55,8 @@ digits_begin (d ∷ ds) r all some =
     let range = digit_from_value d all.0 in
     digit_is d (omega (arith, range)) (omega (arith, range))
 
-pub number_front : (n : ℕ) (r : List ℕ) → n < 2 ^ 64 → begins_digit r ≡ false → front_digits (decimal n ++ r) ≡ decimal n
+pub number_front : (n : ℕ) (r : List ℕ) → n < 2 ^ 64 → begins_digit r ≡ false
+    → front_digits (decimal n ++ r) ≡ decimal n
 number_front n r fits none = digits_front (decimal n) r (decimal_is_IsNumeral n fits).0.1 none
 
 pub number_behind : (n : ℕ) (r : List ℕ) → n < 2 ^ 64 → begins_digit r ≡ false → behind_digits (decimal n ++ r) ≡ r
@@ -76,15 +78,19 @@ number_read m n r q m_fits n_fits r_none q_none same = (
 no_sign : (n : ℕ) (r q : List ℕ) → n < 2 ^ 64 → decimal n ++ r ≡ 45 ∷ q → ⊥
 no_sign n r q fits same = true≢false (sym (number_begins n r fits) ∙ ap begins_digit same)
 
-pub signed_read : (y z : ℤ) (r q : List ℕ) → mag y < 2 ^ 63 → mag z < 2 ^ 63 → begins_digit r ≡ false → begins_digit q ≡ false
+pub signed_read : (y z : ℤ) (r q : List ℕ) → mag y < 2 ^ 63 → mag z < 2 ^ 63 → begins_digit r ≡ false
+    → begins_digit q ≡ false
     → signed_decimal y ++ r ≡ signed_decimal z ++ q → (y ≡ z) × (r ≡ q)
 signed_read (pos m) (pos n) r q y_fits z_fits r_none q_none same =
     let read = number_read m n r q (omega (arith, y_fits)) (omega (arith, z_fits)) r_none q_none same in
     (ap pos read.0, read.1)
-signed_read (pos m) (negsuc n) r q y_fits z_fits r_none q_none same = absurd (no_sign m r _ (omega (arith, y_fits)) same)
-signed_read (negsuc m) (pos n) r q y_fits z_fits r_none q_none same = absurd (no_sign n q _ (omega (arith, z_fits)) (sym same))
+signed_read (pos m) (negsuc n) r q y_fits z_fits r_none q_none same =
+    absurd (no_sign m r _ (omega (arith, y_fits)) same)
+signed_read (negsuc m) (pos n) r q y_fits z_fits r_none q_none same =
+    absurd (no_sign n q _ (omega (arith, z_fits)) (sym same))
 signed_read (negsuc m) (negsuc n) r q y_fits z_fits r_none q_none same =
-    let read = number_read (suc m) (suc n) r q (omega (arith, y_fits)) (omega (arith, z_fits)) r_none q_none (ap (drop 1) same) in
+    let read = number_read (suc m) (suc n) r q (omega (arith, y_fits)) (omega (arith, z_fits)) r_none q_none
+    (ap (drop 1) same) in
     (ap negsuc (omega (arith, read.0)), read.1)
 
 -- What a text of a signed number begins with.

@@ -1,5 +1,6 @@
 -- Of two texts that begin with a range and then end it, the ranges are the same where the texts are.
-use Rattle.std.proofs.Common.{◌≡◌, ℕ, ◌<◌, ◌^◌, ◌==◌, ℤ, pos, negsuc, ◌≤ℤ◌, ◌<ℤ◌, Bool, true, false, ◌&&◌, List, ◌∷◌, ◌++◌, drop, get_or, Option, Some, None, refl, sym, ap, ap₂, ◌∙◌, arith, append_assoc, codes}
+use Rattle.std.proofs.Common.{◌≡◌, ℕ, ◌<◌, ◌^◌, ◌==◌, ℤ, pos, negsuc, ◌≤ℤ◌, Bool, false, ◌&&◌, List, ◌∷◌, ◌++◌, drop}
+use Rattle.std.proofs.Common.{get_or, Option, Some, None, refl, sym, ap, ◌∙◌, arith, append_assoc, codes}
 use Rattle.std.specs.Fmt.{signed_decimal}
 use Rattle.std.specs.Int.Signed.{mag}
 use Rattle.std.proofs.lemmas.Bool.{true≢false}
@@ -43,14 +44,16 @@ hole_read (Some g) (Some h) r q g_fits h_fits r_ends q_ends same =
     let read = signed_read g h r q g_fits h_fits r_ends.no_digit q_ends.no_digit (ap (drop 5) same) in
     (ap (λ (n : ℤ). Some n) read.0, read.1)
 
-small_hole : (lo hi : ℤ) (h : Option ℤ) (range : Interval) → range ≡ record { lo = lo; hi = hi; hole = h } → IsNarrow range → IsSmallHole h
+small_hole : (lo hi : ℤ) (h : Option ℤ) (range : Interval) → range ≡ record { lo = lo; hi = hi; hole = h }
+    → IsNarrow range → IsSmallHole h
 small_hole lo hi None range is narrow = tt
 small_hole lo hi (Some h) range is narrow =
     let n = rw is at narrow in
     int32_small h (omega (arith, ints, n.least, n.inner)) (omega (arith, ints, n.greatest, n.inner))
 
 range_parts : (range : Interval) (r : List ℕ)
-    → range_text range ++ r ≡ signed_decimal range.lo ++ 46 ∷ 46 ∷ (signed_decimal range.hi ++ (hole_text range.hole ++ r))
+    → range_text range ++ r ≡ signed_decimal range.lo ++ 46 ∷ 46
+    ∷ (signed_decimal range.hi ++ (hole_text range.hole ++ r))
 unfolding range_text
 range_parts range r =
     append_assoc (signed_decimal range.lo ++ codes ".." ++ signed_decimal range.hi) (hole_text range.hole) r
@@ -65,8 +68,11 @@ range_read a b r q a_narrow b_narrow r_ends q_ends same =
     let b_lo = int32_small b.lo b_narrow.least (omega (arith, ints, b_narrow.ordered, b_narrow.greatest)) in
     let a_hi = int32_small a.hi (omega (arith, ints, a_narrow.least, a_narrow.ordered)) a_narrow.greatest in
     let b_hi = int32_small b.hi (omega (arith, ints, b_narrow.least, b_narrow.ordered)) b_narrow.greatest in
-    let least = signed_read a.lo b.lo (46 ∷ 46 ∷ behind a r) (46 ∷ 46 ∷ behind b q) a_lo b_lo refl refl (sym (range_parts a r) ∙ same ∙ range_parts b q) in
-    let greatest = signed_read a.hi b.hi (hole_text a.hole ++ r) (hole_text b.hole ++ q) a_hi b_hi (hole_no_digit a.hole r r_ends.no_digit)
+    let least = signed_read a.lo b.lo (46 ∷ 46 ∷ behind a r) (46 ∷ 46 ∷ behind b q) a_lo b_lo refl refl
+    (sym (range_parts a r) ∙ same ∙ range_parts b q) in
+    let greatest = signed_read a.hi b.hi (hole_text a.hole ++ r) (hole_text b.hole ++ q) a_hi b_hi
+    (hole_no_digit a.hole r r_ends.no_digit)
     (hole_no_digit b.hole q q_ends.no_digit) (ap (drop 2) least.1) in
-    let hole = hole_read a.hole b.hole r q (small_hole a.lo a.hi a.hole a refl a_narrow) (small_hole b.lo b.hi b.hole b refl b_narrow) r_ends q_ends greatest.1 in
+    let hole = hole_read a.hole b.hole r q (small_hole a.lo a.hi a.hole a refl a_narrow)
+    (small_hole b.lo b.hi b.hole b refl b_narrow) r_ends q_ends greatest.1 in
     ((λ i. record { lo = least.0 i; hi = greatest.0 i; hole = hole.0 i }), hole.1)

@@ -1,5 +1,6 @@
 -- Symbols, expressions and ranges as text.
-use Rattle.std.specs.Prelude.{ℕ, ◌==◌, ℤ, pos, int_lt, unsigned_abs, List, [], ◌++◌, Option, Some, None, if◌then◌else◌, codes}
+use Rattle.std.specs.Prelude.{ℕ, ◌==◌, ℤ, pos, int_lt, unsigned_abs, List, [], ◌++◌, Option, Some, None, if◌then◌else◌}
+use Rattle.std.specs.Prelude.{codes}
 use Rattle.std.specs.Fmt.{decimal, signed_decimal}
 use Rattle.std.specs.Ordering.{int_eq}
 use Rattle.domain_api.specs.declared.expr.Expr.{Expr}

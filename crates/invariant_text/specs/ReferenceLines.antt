@@ -1,11 +1,10 @@
 -- The lines of references: what is known of each, and which are apart.
-use Rattle.std.specs.Prelude.{◌≡◌, ℕ, ◌+◌, Bool, List, [], ◌∷◌, ◌++◌, length, drop, get_or, if◌then◌else◌, codes}
-use Rattle.std.specs.List.{AllByRecursion, flat_map}
+use Rattle.std.specs.Prelude.{ℕ, ◌+◌, Bool, List, [], ◌∷◌, ◌++◌, drop, get_or, if◌then◌else◌, codes}
+use Rattle.std.specs.List.{flat_map}
 use Rattle.alias_facts.specs.PairsOf.{Pair}
 use Rattle.alias_facts.specs.declared.nullness.Nullness.{Nullness}
 use Rattle.alias_facts.specs.declared.nullness.Nullness.TheVariants.{May, NotNull, Null}
 use Rattle.array_contents.specs.Contents.{Contents, Segments}
-use Rattle.array_segments.specs.SegmentLists.{HasForm}
 use Rattle.cil_model.specs.Places.{place_text}
 use Rattle.domain_api.specs.declared.expr.Expr.{Expr}
 use Rattle.frame_names.specs.declared.reference.Reference.{Reference}
@@ -60,11 +59,6 @@ known_text r known =
 
 unfoldable pub reference_line : ℕ → Reference → Segments → List ℕ
 reference_line r known segments = line (known_text r known ++ segments_text segments)
-
--- There are segments for each reference, each of their form.
-pub record AreSegmentsOf (references : List Reference) (contents : Contents) : Type 0 where
-  pub each : length contents ≡ length references
-  pub formed : AllByRecursion HasForm contents
 
 -- A line for each reference, which are numbered from a first number on.
 abbrev pub reference_lines : ℕ → List Reference → Contents → List ℕ

@@ -1,13 +1,20 @@
--- The invariants of a unit whose text is asked for: a state for each block, as the code holds it.
+-- What is asked of states whose text is made, and of those that are told apart by their texts.
 use Rattle.std.specs.Prelude.{◌≡◌, ℕ, ◌^◌, ◌<◌, FitsSigned, List, length, Some, None}
 use Rattle.std.specs.Int.{w64}
 use Rattle.std.specs.List.{AllByRecursion}
-use Rattle.array_contents.specs.Contents.{Segments}
+use Rattle.array_contents.specs.Contents.{Contents, Segments}
+use Rattle.array_segments.specs.SegmentLists.{HasForm as AreSegments}
 use Rattle.domain_api.specs.declared.expr.Expr.{Expr}
+use Rattle.frame_names.specs.declared.reference.Reference.{Reference}
 use Rattle.state_facts.specs.Forms.{HasForm}
 use Rattle.state_facts.specs.StateFacts.{StateFacts, State}
 use Rattle.symbolic_values.specs.declared.def.Def.{Def}
 use Rattle.symbolic_values.specs.declared.def.Def.TheVariants.{Eq, Lt, LtUn, NullTest, Sub}
+
+-- There are segments for each reference, each of their form.
+pub record AreSegmentsOf (references : List Reference) (contents : Contents) : Type 0 where
+  pub each : length contents ≡ length references
+  pub formed : AllByRecursion AreSegments contents
 
 -- The constant of an expression has 64 bits.
 abbrev pub IsShort : Expr → Type 0
@@ -40,7 +47,7 @@ abbrev pub IsPrintableState : State → Type 0
 IsPrintableState None = Unit {0}
 IsPrintableState (Some known) = IsPrintable known
 
--- There is a state for each block.
+-- There is a state for each block, and each is printable.
 pub record AreOfBlocks (blocks : List ℕ) (states : List State) : Type 0 where
   pub count : length states ≡ length blocks
   pub printable : AllByRecursion IsPrintableState states

@@ -79,10 +79,10 @@ fn blocks_text(
     Ok(text)
 }
 
-/// The text of a unit's invariant: for each block, which start at these IL offsets, its line, and then the lines of what
-/// holds at its start.
+/// The text of a unit's invariant: for each block its line, and then the lines of what holds at its start. The blocks
+/// start at these IL offsets, and have these states.
 ///
-/// Cost: that of the parts of each state, and else linear in the text.
+/// Cost: that of the parts of each state, and else one pass over them, linear in the text.
 ///
 /// # Errors
 ///
@@ -95,7 +95,7 @@ pub fn invariant_text(
 ) -> Result<Vec<u8>, NoMemory>
     requires each { length states.now ≡ length blocks.now }
     ensures value { IfOk result (λ text. text.items ≡ invariant_text unit.now blocks.now states.now) }
-    // Of two invariants that have one text neither differs from the other.
+    // Two invariants that differ have different texts.
     ensures distinct { (first second : List State) → AreOfBlocks blocks.now first → AreOfBlocks blocks.now second
         → invariant_text unit.now blocks.now first ≡ invariant_text unit.now blocks.now second → first ≡ second }
 {

@@ -4,7 +4,10 @@ ghost use Rattle.std.specs.Prelude.{◌≡◌, ◌++◌, All, length, map, OnOk}
 ghost use Rattle.std.specs.List.{flat_map};
 ghost use Rattle.array_segments.specs.SegmentLists.{HasForm};
 ghost use Rattle.array_segments.specs.Segments.{lists_of};
-ghost use Rattle.invariant_text.specs.ReferenceLines.{AreSegmentsOf, apart_line, bound_text, exprs_text, known_text, mark_text, next_expr, nullness_text, reference_line, reference_lines, segment_text, segments_text};
+ghost use Rattle.invariant_text.specs.ReferenceLines.{apart_line, bound_text, exprs_text, known_text, mark_text};
+ghost use Rattle.invariant_text.specs.ReferenceLines.{next_expr, nullness_text, reference_line, reference_lines};
+ghost use Rattle.invariant_text.specs.ReferenceLines.{segment_text, segments_text};
+ghost use Rattle.invariant_text.specs.Shape.{AreSegmentsOf};
 
 use crate::expressions::{put_expr, put_range};
 use crate::variables::put_reference;
@@ -144,7 +147,8 @@ fn put_each_reference(
 ) -> Result<(), NoMemory>
     requires each { length segments.now ≡ length references.now }
     requires formed { All (λ segs. HasForm (lists_of segs)) segments.now }
-    ensures { OnOk result (out.new.items ≡ out.old.items ++ reference_lines 1 references.now (map lists_of segments.now)) }
+    ensures { OnOk result (out.new.items
+        ≡ out.old.items ++ reference_lines 1 references.now (map lists_of segments.now)) }
 {
     for i in 0..references.len() {
         put_reference_line(alloc, out, i as u64 + 1, &references[i], &segments[i])?;

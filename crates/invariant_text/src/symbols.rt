@@ -3,7 +3,8 @@
 ghost use Rattle.std.specs.Prelude.{◌≡◌, ◌++◌, OnOk};
 ghost use Rattle.std.specs.List.{flat_map};
 ghost use Rattle.invariant_text.specs.Lines.{numbered};
-ghost use Rattle.invariant_text.specs.SymbolLines.{both, bound_line, definition_line, def_text, null_test_text, symbol_line};
+ghost use Rattle.invariant_text.specs.SymbolLines.{both, bound_line, definition_line, def_text, null_test_text};
+ghost use Rattle.invariant_text.specs.SymbolLines.{symbol_line};
 
 use crate::expressions::{put_expr, put_range, put_symbol};
 use crate::variables::put_reference;

@@ -5,6 +5,8 @@ use Rattle.invariant_text.proofs.references.put_each_reference.Goals as goal
 
 pub loop-i-preserved : goal.loop-i-preserved
 loop-i-preserved c =
-    one_reference lists_of c.args.references.now c.args.segments.now c.loop-i.i _ c.index-segments-i.result c.loop-i.out.items
-    c.put_reference_line.new.out.items c.loop-i-test.true c.requires.each c.index-segments-i.is c.in_ok-put_reference_line.ensures
+    one_reference lists_of c.args.references.now c.args.segments.now c.loop-i.i _ c.index-segments-i.result
+    c.loop-i.out.items
+    c.put_reference_line.new.out.items c.loop-i-test.true c.requires.each c.index-segments-i.is
+    c.in_ok-put_reference_line.ensures
     ∙ c.loop-i.invariant

@@ -1,10 +1,12 @@
 use Rattle.std.proofs.Common.{◌≡◌, ◌+◌, ◌++◌, drop}
 use Rattle.array_segments.specs.Segments.{lists_of}
-use Rattle.invariant_text.specs.ReferenceLines.{each_segment, segments_text}
+use Rattle.invariant_text.specs.ReferenceLines.{each_segment}
 use Rattle.invariant_text.proofs.references.put_segments.Given as goal
 
 abbrev pub invariant-loop-i : goal.invariant-loop-i
 invariant-loop-i l =
     l.out.items
-    ++ each_segment (drop l.i (lists_of l.segs).contents) (drop l.i (lists_of l.segs).marks) (drop (l.i + 1) (lists_of l.segs).bounds)
-    ≡ l.initial.out.items ++ each_segment (lists_of l.segs).contents (lists_of l.segs).marks (drop 1 (lists_of l.segs).bounds)
+    ++ each_segment (drop l.i (lists_of l.segs).contents) (drop l.i (lists_of l.segs).marks)
+    (drop (l.i + 1) (lists_of l.segs).bounds)
+    ≡ l.initial.out.items ++ each_segment (lists_of l.segs).contents (lists_of l.segs).marks
+    (drop 1 (lists_of l.segs).bounds)
