@@ -1,6 +1,6 @@
 -- The map that holds what is found of units.
-use Rattle.std.proofs.Common.{◌≡◌, ℕ, Bool, true, false, ◌||◌, List, [], ◌∷◌, ◌++◌, map, cond, Option, Some, Vec, Global, refl, sym, ap, subst, ◌∙◌}
-use Rattle.std.specs.Prelude.{is_some}
+use Rattle.std.proofs.Common.{◌≡◌, ℕ, Bool, true, false, ◌||◌, List, [], ◌∷◌, ◌++◌, map, cond, Option, None, Some, Bor, Vec, Global, refl, sym, ap, subst, ◌∙◌}
+use Rattle.std.specs.Prelude.{IfSome, is_some, option_copied}
 use Rattle.std.specs.Map.{lookup}
 use Rattle.std.specs.Str.{bytes_eq}
 use Rattle.std.proofs.lemmas.List.{map-append}
@@ -46,6 +46,16 @@ found_judged show key (entry ∷ entries) found judged is = by_test (bytes_eq ke
         let keys : entry.0.items ≡ key = sym ((bytes_eq-Decides key entry.0.items).0 same) in
         subst (λ (f : Judgement). IsFoundOf show (unit_of key) f) its (subst (λ (k : List ℕ). IsFoundOf show (unit_of k) entry.1) keys judged.0)
     by_test false same later is = later is
+
+-- What is borrowed of it.
+pub there_borrowed : {T : Type 0} (got : Option (Bor T)) → is_some got ≡ is_some (option_copied got)
+there_borrowed None = refl
+there_borrowed (Some found) = refl
+
+pub found_borrowed : (show : Bool) (key : List ℕ) (entries : Entries) (got : Option (Bor Judgement)) → AreJudged show entries → option_copied got ≡ found_at key entries
+    → IfSome got (λ found. IsFoundOf show (unit_of key) found.now)
+found_borrowed show key entries None judged is = tt
+found_borrowed show key entries (Some found) judged is = found_judged show key entries found.now judged (sym is)
 
 abbrev pub inserted : Entries → Vec ℕ Global → Judgement → Entries
 inserted entries key found = insert_entry (λ a b. bytes_eq a.items b.items) entries key found

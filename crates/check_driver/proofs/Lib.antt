@@ -1,6 +1,7 @@
 pub mod Answering
 pub mod Asking
 pub mod UnitVerdicts
+pub mod UnitShapes
 pub mod JudgedLemmas
 pub mod KeysAsked
 pub mod Causes

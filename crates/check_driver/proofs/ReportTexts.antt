@@ -1,5 +1,5 @@
 -- No text of a report's lines has a line feed.
-use Rattle.std.proofs.Common.{ℕ, zero, suc, ◌<◌, ◌^◌, Bool, true, false, List, [], ◌∷◌, ◌++◌, map, Option, Some, None, nat_lt, if◌then◌else◌, slice_get, refl, codes, arith}
+use Rattle.std.proofs.Common.{ℕ, zero, suc, ◌^◌, Bool, true, false, List, [], ◌∷◌, ◌++◌, map, Option, Some, None, nat_lt, if◌then◌else◌, slice_get, refl, codes}
 use Rattle.std.specs.List.{AllByRecursion, flat_map}
 use Rattle.std.specs.Fmt.{decimal}
 use Rattle.asm_image.specs.Names.{printed_name}
@@ -29,7 +29,7 @@ use Rattle.unit_builder.specs.declared.entry.Outcome.{Outcome}
 use Rattle.unit_builder.specs.declared.entry.Outcome.TheVariants.{Analysed, Skipped}
 use Rattle.unit_builder.specs.declared.reason.Reason.{Reason}
 use Rattle.unit_builder.specs.declared.reason.Reason.TheVariants as reasons
-use Rattle.check_driver.specs.CheckText.{Finding, Judged, Unjudged, finding, outcome_shown, verdict_text}
+use Rattle.check_driver.specs.CheckText.{Unjudged, finding, outcome_shown, verdict_text}
 use Rattle.check_driver.specs.ReportText.{callee_of}
 use Rattle.check_driver.specs.ReasonText.{clause_reason, code_reason, kind_reason, opcode_text, placed, reason_text}
 use Rattle.answer_lines.specs.Lines.{proved_text}

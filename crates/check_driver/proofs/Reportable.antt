@@ -1,5 +1,5 @@
 -- What is known of the file whose report was begun.
-use Rattle.std.proofs.Common.{◌≡◌, ◌⊎◌, ℕ, ◌^◌, List, [], ◌∷◌, length, map, take, Vec, Global, Option, Some, None, sym, ap, subst, ◌∙◌, arith, inl, inr, length-take, refl}
+use Rattle.std.proofs.Common.{◌≡◌, ◌⊎◌, ℕ, List, [], ◌∷◌, length, take, Vec, Global, Option, Some, None, sym, subst, ◌∙◌, arith, inl, inr, length-take, refl}
 use Rattle.std.proofs.lemmas.Bool.{cases_lt}
 use Rattle.std.proofs.lemmas.List.{take_all}
 use Rattle.std.proofs.lemmas.Option.{same_Some}

@@ -1,9 +1,11 @@
 -- Sections of small texts.
-use Rattle.std.proofs.Common.{◌≡◌, ℕ, List, [], ◌∷◌, ◌++◌, codes, refl, sym, true, false, arith}
+use Rattle.std.proofs.Common.{◌≡◌, ℕ, List, [], ◌∷◌, ◌++◌, codes, get_or, refl, ap, subst, sym, ◌∙◌, true, false, inl, inr, arith}
+use Rattle.std.specs.Prelude.{Contains}
 use Rattle.asm_image.specs.declared.method_row.MethodRow.{MethodRow}
 use Rattle.cc_base.specs.Digits.{hex}
 use Rattle.check_driver.specs.CheckText.{assembly_line, method_line}
 use Rattle.check_driver.specs.Sections.{HasProvedLine, begins_section, lines_of, proved_line, section, sections_of}
+use Rattle.check_driver.proofs.PrintedMethods.{contains_first, none_contained}
 
 -- A line feed ends a line, and what stands after the last one is none. A line may be empty.
 two_lines : lines_of (codes "ab\n\nc\nd") ≡ codes "ab" ∷ [] ∷ codes "c" ∷ []
@@ -56,6 +58,54 @@ its_line method token name = rw (token, name) refl
 
 is_counted : (method : MethodRow) → method.token.0 ≡ 0x06000001 → method.name ≡ codes "A::B()" → HasProvedLine (section 0 both_reports) method
 is_counted method token name = (0, omega arith, sym (its_line method token name))
+
+-- Texts that differ in a byte.
+differ : (place a b : ℕ) (x y : List ℕ) → get_or x place 0 ≡ a → get_or y place 0 ≡ b → (a ≡ b → ⊥) → x ≡ y → ⊥
+differ place a b x y first second other same = other (sym first ∙ ap (λ (l : List ℕ). get_or l place 0) same ∙ second)
+
+-- A line of the next section is not counted.
+abbrev of_ab : List ℕ
+of_ab = codes "method 06000001 A::B(): proved"
+
+abbrev of_ac : List ℕ
+of_ac = codes "method 06000002 A::C(): proved"
+
+abbrev of_ce : List ℕ
+of_ce = codes "method 06000002 C::E(): proved"
+
+not_of_ce : Contains (of_ab ∷ codes "summary" ∷ []) of_ce → ⊥
+not_of_ce has =
+    elim (contains_first of_ab of_ce (codes "summary" ∷ []) has) [
+      | inl same ↦ differ 14 49 50 of_ab of_ce refl refl (λ e. omega (arith, e)) same
+      | inr later ↦
+          elim (contains_first (codes "summary") of_ce [] later) [
+            | inl same ↦ differ 0 115 109 (codes "summary") of_ce refl refl (λ e. omega (arith, e)) same
+            | inr none ↦ none_contained of_ce none
+          ]
+    ]
+
+of_the_next : (method : MethodRow) → method.token.0 ≡ 0x06000002 → method.name ≡ codes "C::E()" → HasProvedLine (section 0 both_reports) method → ⊥
+unfolding hex
+of_the_next method token name has =
+    let line : proved_line method ≡ of_ce = rw (token, name) refl in
+    not_of_ce (subst (λ (l : List ℕ). Contains (of_ab ∷ codes "summary" ∷ []) l) line has)
+
+-- Nor is one that is cut off.
+abbrev cut_report : List ℕ
+cut_report = codes "assembly a\nmethod 06000001 A::B(): proved\nmethod 06000002 A::C(): proved"
+
+not_of_ac : Contains (of_ab ∷ []) of_ac → ⊥
+not_of_ac has =
+    elim (contains_first of_ab of_ac [] has) [
+      | inl same ↦ differ 14 49 50 of_ab of_ac refl refl (λ e. omega (arith, e)) same
+      | inr none ↦ none_contained of_ac none
+    ]
+
+of_a_cut_line : (method : MethodRow) → method.token.0 ≡ 0x06000002 → method.name ≡ codes "A::C()" → HasProvedLine (section 0 cut_report) method → ⊥
+unfolding hex
+of_a_cut_line method token name has =
+    let line : proved_line method ≡ of_ac = rw (token, name) refl in
+    not_of_ac (subst (λ (l : List ℕ). Contains (of_ab ∷ []) l) line has)
 
 -- The lines of a report, as they are printed, are those of a section.
 printed_report : List ℕ

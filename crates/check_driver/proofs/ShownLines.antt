@@ -1,5 +1,5 @@
 -- What is shown of an invariant is whole lines, and each begins with a space.
-use Rattle.std.proofs.Common.{◌≡◌, ◌≢◌, ℕ, Bool, true, false, List, [], ◌∷◌, ◌++◌, if◌then◌else◌, get_or, refl, sym, ap, ◌∙◌, subst, append_assoc, arith}
+use Rattle.std.proofs.Common.{◌≡◌, ℕ, zero, suc, Bool, true, false, List, [], ◌∷◌, ◌++◌, if◌then◌else◌, get_or, refl, ap, ◌∙◌, subst, append_assoc, arith}
 use Rattle.std.specs.Prelude.{Contains}
 use Rattle.std.proofs.lemmas.Bool.{ne_eqb}
 use Rattle.invariant_checker.specs.Inducts.{has_shape}
@@ -13,8 +13,9 @@ use Rattle.unit_flow.specs.declared.unit_flow.UnitFlow.{UnitFlow}
 use Rattle.widening_engine.specs.Limits.{limit_of}
 use Rattle.check_driver.specs.Analysis.{shown_text, states_text}
 use Rattle.check_driver.specs.CheckText.{outcome_shown}
-use Rattle.check_driver.specs.Sections.{lines_of, longer}
-use Rattle.check_driver.proofs.WholeLines.{IsOneLine, as_line, as_lines}
+use Rattle.check_driver.specs.Sections.{lines_of}
+use Rattle.check_driver.proofs.PlainTexts.{one_line}
+use Rattle.check_driver.proofs.WholeLines.{IsOneLine, as_lines}
 
 -- ---- lines of a text
 
@@ -25,20 +26,24 @@ lines_behind (b ∷ line) rest one = rw (ne_eqb b 10 one.0, lines_behind line re
 
 are_lines : (text : List ℕ) → AreIndented text → as_lines (lines_of text) ≡ text
 are_lines _ none = refl
-are_lines _ (more line rest one indented) =
+are_lines _ (more line rest plain others) =
+    let one = one_line line plain in
     let first : 32 ∷ line ++ 10 ∷ rest ≡ (32 ∷ line) ++ 10 ∷ rest = refl in
     ap as_lines (lines_behind (32 ∷ line) rest ((λ same. omega (arith, same)), one))
-    ∙ append_assoc (32 ∷ line) (10 ∷ []) (as_lines (lines_of rest)) ∙ ap (λ (l : List ℕ). (32 ∷ line) ++ 10 ∷ l) (are_lines rest indented)
+    ∙ append_assoc (32 ∷ line) (10 ∷ []) (as_lines (lines_of rest)) ∙ ap (λ (l : List ℕ). (32 ∷ line) ++ 10 ∷ l) (are_lines rest others)
 
--- No line begins with another byte than a space.
+-- A line that does not begin with a space is behind one that does.
+behind_first : (first line : List ℕ) (lines : List (List ℕ)) → get_or line 0 0 ≡ 109 → Contains ((32 ∷ first) ∷ lines) line → Contains lines line
+behind_first first line lines letter (zero, below, same) =
+    absurd (let letters : 32 ≡ 109 = ap (λ (l : List ℕ). get_or l 0 0) same ∙ letter in omega (arith, letters))
+behind_first first line lines letter (suc k, below, same) = (k, omega (arith, below), same)
+
 no_other : (text line : List ℕ) → AreIndented text → get_or line 0 0 ≡ 109 → Contains (lines_of text) line → ⊥
 no_other _ line none letter (k, below, same) = omega (arith, below)
-no_other _ line (more first rest one indented) letter has =
-    by_lines (subst (λ (lines : List (List ℕ)). Contains lines line) (lines_behind (32 ∷ first) rest ((λ same. omega (arith, same)), one)) has)
-  where
-    by_lines : Contains ((32 ∷ first) ∷ lines_of rest) line → ⊥
-    by_lines (zero, below, same) = (let letters : 32 ≡ 109 = ap (λ (l : List ℕ). get_or l 0 0) same ∙ letter in omega (arith, letters))
-    by_lines (suc k, below, same) = no_other rest line indented letter (k, omega (arith, below), same)
+no_other _ line (more first rest plain others) letter has =
+    let one = one_line first plain in
+    let lines = lines_behind (32 ∷ first) rest ((λ same. omega (arith, same)), one) in
+    no_other rest line others letter (behind_first first line (lines_of rest) letter (subst (λ (l : List (List ℕ)). Contains l line) lines has))
 
 -- ---- what is shown
 

@@ -58,7 +58,7 @@ found_of (Ok found) show code states is flow limit are = record {
   verdicts = are.verdicts ∙ ap (verdicts code) limit ∙ ap (λ (c : UnitFlow). verdicts c (limit_of c)) flow;
   shown =
       are.shown ∙ ap (λ (s : List State). if show then states_text code s else []) limit
-          ∙ ap (λ (c : UnitFlow). if show then states_text c (limit_of c) else []) flow;
+      ∙ ap (λ (c : UnitFlow). if show then states_text c (limit_of c) else []) flow;
   within = within_limits found.verdicts.items code.unit is are.few are.near;
 }
 found_of (Err e) show code states is flow limit are = tt

@@ -33,8 +33,20 @@ impl Judgement {
     }
 }
 
-/// The text of an invariant of a unit, where it is asked for. One that has not the unit's shape has none.
-fn states_text(
+/// The text of an invariant of a unit. One that has not the unit's shape has none.
+fn states_text(alloc: Global, code: &UnitFlow, invariant: &Invariant) -> Result<Vec<u8>, AllocError>
+    requires lawful { IsLawful code.now }
+    ensures { IfOk result (λ text. text.items ≡ states_text code.now invariant.now.states.items) }
+{
+    if !has_shape(code, &invariant.states) {
+        return Ok(Vec::new(alloc));
+    }
+    let blocks = code.graph.blocks.as_slice();
+    invariant_text(alloc, &code.unit, blocks, &invariant.states)
+}
+
+/// The same, where it is asked for.
+fn shown_text(
     alloc: Global,
     code: &UnitFlow,
     invariant: &Invariant,
@@ -43,11 +55,11 @@ fn states_text(
     requires lawful { IsLawful code.now }
     ensures { IfOk result (λ text. text.items ≡ (if show then states_text code.now invariant.now.states.items else [])) }
 {
-    if !show || !has_shape(code, &invariant.states) {
-        return Ok(Vec::new(alloc));
+    if show {
+        states_text(alloc, code, invariant)
+    } else {
+        Ok(Vec::new(alloc))
     }
-    let blocks = code.graph.blocks.as_slice();
-    invariant_text(alloc, &code.unit, blocks, &invariant.states)
 }
 
 /// What is found of a unit under an invariant.
@@ -61,6 +73,6 @@ pub fn judge_under(
     ensures { IfOk result (AreFoundBy show code.now invariant.now.states.items) }
 {
     let verdicts = judge(alloc, code, invariant)?;
-    let shown = states_text(alloc, code, invariant, show)?;
+    let shown = shown_text(alloc, code, invariant, show)?;
     Ok(Judgement { verdicts, shown })
 }

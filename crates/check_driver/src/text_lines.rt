@@ -17,11 +17,7 @@ fn first_line(text: &[u8]) -> usize
 }
 
 /// Appends the lines of a text.
-pub fn append_lines(
-    alloc: Global,
-    lines: &mut Vec<Vec<u8>>,
-    text: &[u8],
-) -> Result<(), AllocError>
+pub fn append_lines(alloc: Global, lines: &mut Vec<Vec<u8>>, text: &[u8]) -> Result<(), AllocError>
     ensures { OnOk result (joined lines.new.items ≡ joined lines.old.items ++ text.now) }
 {
     let mut rest = text;

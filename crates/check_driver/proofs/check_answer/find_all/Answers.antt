@@ -4,10 +4,10 @@ use Rattle.std.proofs.lemmas.Result.{err_from_is_err_and}
 use Rattle.asm_image.proofs.FindLemmas.{rows_count}
 use Rattle.asm_image.specs.Rows.{methods_of}
 use Rattle.pe_reader.specs.Addresses.{metadata}
-use Rattle.unit_builder.specs.Outcomes.{entries_of, entry_of}
+use Rattle.unit_builder.specs.Outcomes.{entries_of, entry_of, outcome_of}
 use Rattle.check_driver.specs.Asked.{Asks, distinct, units_asked}
 use Rattle.check_driver.specs.CheckText.{all_shown, findings, outcome_shown}
-use Rattle.check_driver.specs.Findings.{IsWithin, shown_in}
+use Rattle.check_driver.specs.Findings.{IsWithin}
 use Rattle.check_driver.proofs.Asking.{asks_all, asks_front, front_all}
 use Rattle.check_driver.proofs.FewMethods.{methods_are_few}
 use Rattle.check_driver.proofs.FindAll.{AreKnown, all_taken, found_few, found_next, known_next, shown_next, there}
@@ -35,7 +35,7 @@ loop-index-preserved g c =
       value = rw c.in_ok-push.ensures.items (found_next asm (methods_of asm) n method.0 c.loop-index.found.items c.in_ok-find.field-0 method.2 c.loop-index.invariant.value ((rw same at c.in_ok-find.ensures.value) method.0 at));
       shown =
           rw c.in_ok-push.ensures.items (shown_next asm c.args.show (methods_of asm) n method.0 c.loop-index.found.items c.in_ok-find.field-0 method.2 c.loop-index.invariant.shown
-          ((rw same at c.in_ok-find.ensures.shown) method.0 at ∙ ap (λ show. outcome_shown show _) c.loop-index.invariant.asks));
+          ((rw same at c.in_ok-find.ensures.shown) method.0 at ∙ ap (λ show. outcome_shown show (outcome_of asm method.0)) c.loop-index.invariant.asks));
       within = rw c.in_ok-push.ensures.items (All-push IsWithin c.loop-index.found.items c.in_ok-find.field-0 c.loop-index.invariant.within c.in_ok-find.ensures.within);
       known = known_next asm (methods_of asm) n method.0 method.2 c.loop-index.invariant.known ((rw same at c.in_ok-find.ensures.runnable) method.0 at);
       asks = c.find.ensures.show ∙ c.loop-index.invariant.asks;
