@@ -1,0 +1,119 @@
+//! The rules, by the keywords of cases.
+
+use crate::told::told_text;
+use abs_state::AbsState;
+use cil_model::{List, Place, Unit};
+use domain_api::NoMemory;
+use invariant_text::invariant_text;
+use rule_text::{Failure, Line, Rules, two_words};
+use state_text::state;
+use std::alloc::Global;
+
+/// The unit and the blocks of a case that is run.
+#[derive(Drop)]
+pub struct TextRules {
+    alloc: Global,
+    /// How many arguments the unit has.
+    args: u32,
+    /// How many locals it has.
+    locals: u32,
+    /// The IL offset of each block.
+    blocks: Vec<u32>,
+    /// The state at the start of each block.
+    states: Vec<AbsState>,
+}
+
+/// The number of a word.
+fn read_number(word: &str) -> Result<u32, Failure> {
+    word.parse::<u32>().ok().ok_or(Failure::Unread("a number"))
+}
+
+/// An empty list.
+fn none<T: Drop>(alloc: Global) -> List<T> {
+    List::from_vec(Vec::new(alloc))
+}
+
+/// So many types.
+fn places(alloc: Global, count: u32) -> Result<List<Place>, NoMemory> {
+    let mut places = Vec::new(alloc);
+    for _ in 0..count {
+        places.push(Place::Int)?;
+    }
+    Ok(List::from_vec(places))
+}
+
+/// A unit with so many arguments and locals.
+fn unit(alloc: Global, args: u32, locals: u32) -> Result<Unit, NoMemory> {
+    Ok(Unit {
+        name: none(alloc),
+        result: Place::Void,
+        args: places(alloc, args)?,
+        locals: places(alloc, locals)?,
+        max_stack: 8,
+        callees: none(alloc),
+        code: none(alloc),
+        clauses: none(alloc),
+        body_start: 0,
+        instrs: none(alloc),
+    })
+}
+
+impl TextRules {
+    /// `unit 2 1`: how many arguments and locals the unit has. It has no blocks yet.
+    fn begin(&mut self, argument: &str) -> Result<(), Failure> {
+        let (args, locals) = two_words(argument)?;
+        self.args = read_number(args)?;
+        self.locals = read_number(locals)?;
+        self.blocks = Vec::new(self.alloc);
+        self.states = Vec::new(self.alloc);
+        Ok(())
+    }
+
+    /// `block 9 STATE`: one more block, its IL offset and its state.
+    fn add(&mut self, argument: &str) -> Result<(), Failure> {
+        let Some((at, told)) = argument.split_once(' ') else {
+            return Err(Failure::Unread("an offset and a state"));
+        };
+        self.blocks.push(read_number(at)?)?;
+        self.states.push(state(self.alloc, told)?)?;
+        Ok(())
+    }
+
+    /// `text LINES`: the text of all blocks.
+    fn test(&self, lines: &str) -> Result<(), Failure> {
+        if self.blocks.len() != self.states.len() {
+            return Err(Failure::Unmet("there is a state for each block"));
+        }
+        let unit = unit(self.alloc, self.args, self.locals)?;
+        let found = invariant_text(self.alloc, &unit, &self.blocks, &self.states)?;
+        let told = told_text(self.alloc, lines)?;
+        if found.as_slice() == told.as_bytes() {
+            return Ok(());
+        }
+        match String::from_utf8(found) {
+            Ok(text) => Err(Failure::Found(text)),
+            Err(_) => Err(Failure::Unread("a text")),
+        }
+    }
+}
+
+impl Rules for TextRules {
+    fn new(alloc: Global) -> TextRules {
+        TextRules {
+            alloc,
+            args: 0,
+            locals: 0,
+            blocks: Vec::new(alloc),
+            states: Vec::new(alloc),
+        }
+    }
+
+    fn take(&mut self, keyword: &str, argument: &str) -> Result<Line, Failure> {
+        match keyword {
+            "unit" => self.begin(argument).map(|_| Line::Begin),
+            "block" => self.add(argument).map(|_| Line::Step),
+            "text" => self.test(argument).map(|_| Line::Answer),
+            _ => Err(Failure::Unread("a keyword")),
+        }
+    }
+}
