@@ -1,16 +1,17 @@
 -- Variables of types can be read, and the constants of trees are int32.
-use Rattle.std.proofs.Common.{◌≡◌, true, nat_eq, ℕ, zero, suc, ◌+◌, List, [], ◌∷◌, ◌++◌, Option, Some, None, slice_get, sym, subst, arith}
+use Rattle.std.proofs.Common.{◌≡◌, true, nat_eq, ℕ, zero, suc, ◌+◌, List, [], ◌∷◌, ◌++◌, Option, Some, None, Result, Ok, Err, slice_get, sym, subst, arith}
 use Rattle.std.proofs.lemmas.Bool.{eqb-true}
 use Rattle.std.proofs.lemmas.Option.{none-some}
 use Rattle.std.specs.List.{AllByRecursion}
 use Rattle.std.specs.Option.{ForSome, option_and_then, option_map}
+use Rattle.std.specs.Prelude.{OnOk}
 use Rattle.cil_model.specs.Kinds.{kind_of}
 use Rattle.cil_model.specs.TermCodes.{Root, preorder}
 use Rattle.cil_model.specs.Terms.{Term}
 use Rattle.cil_model.specs.WellFormed.{IsIntRoot}
 use Rattle.cil_model.specs.declared.place.Kind.{Kind}
 use Rattle.cil_model.specs.declared.place.Place.{Place}
-use Rattle.clause_trees.specs.Meaning.{HasIntsIn}
+use Rattle.clause_trees.specs.Meaning.{CanTest, HasIntsIn, IsTest}
 use Rattle.clause_trees.specs.VariableKinds.{IsOfPlace, IsOneOfKind, IsReadable, place_in}
 use Rattle.clause_trees.specs.declared.reader.TreeEnv.{TreeEnv}
 use Rattle.frame_names.specs.declared.reference.Reference.{Reference}
@@ -95,3 +96,11 @@ pub three_trees : (c a b : Term) → HasIntsIn c → HasIntsIn a → HasIntsIn b
 three_trees c a b first second third = both (preorder c) (preorder a ++ preorder b) first (two_trees a b second third)
 
 pub ruleset both_ints = (two_trees, three_trees)
+
+-- ---- tests
+
+-- Where the variables can be read, a tree that may be a test over their types may be one in the state.
+pub may_test : {X E : Type 0} (r : Result X E) (state : State) (env : TreeEnv) (args : List Place) (result : Place) (t : Term)
+    → ForSome state (IsReadable env args result) → OnOk r (IsTest args result t) → OnOk r (CanTest env t state)
+may_test (Ok x) state env args result t readable test = record { args = args; result = result; readable = readable; test = test }
+may_test (Err e) state env args result t readable test = tt
