@@ -3,14 +3,13 @@
 ghost use Rattle.std.specs.Prelude.{◌≡◌, ◌↔◌, length, IfOk, IfSome, IsSome, IsTrue, Some};
 ghost use Rattle.std.specs.List.{list_all};
 ghost use Rattle.array_contents.specs.Contents.{AreFormed};
-ghost use Rattle.array_contents.specs.FormTest.{is_inner, is_narrow};
 ghost use Rattle.state_facts.specs.Forms.{lengths_of};
 ghost use Rattle.abs_state.specs.FormTests as tests;
 ghost use Rattle.abs_state.specs.StateParts.{AreOrdered, AreParts, known_of, parts_of};
 
 use crate::state::AbsState;
 use alias_facts::Apart;
-use array_contents::Contents;
+use array_contents::{Contents, are_narrow};
 use cil_model::Place;
 use domain_api::{Expr, NoMemory};
 use frame_names::{Reference, Var};
@@ -58,28 +57,6 @@ impl Model for Parts {
       apart = p.apart.items;
       contents = p.contents;
     } };
-}
-
-/// Returns whether a hole lies strictly between two ends.
-fn is_inner(lo: i64, hi: i64, hole: Option<i64>) -> bool
-    ensures { result ≡ is_inner lo hi hole }
-{
-    match hole {
-        None => true,
-        Some(hole) => lo < hole && hole < hi,
-    }
-}
-
-/// Returns whether the numbers of a range are int32, and there is one.
-#[tactic(auto, unfolding(array_contents::specs::FormTest::is_narrow))]
-fn is_narrow(range: &Range) -> bool
-    ensures { result ≡ is_narrow range.now }
-{
-    let (lo, hi) = (range.lo(), range.hi());
-    i64::from(i32::MIN) <= lo
-        && lo <= hi
-        && hi <= i64::from(i32::MAX)
-        && is_inner(lo, hi, range.hole())
 }
 
 /// How many symbols and references there are.
@@ -184,13 +161,6 @@ impl Sizes {
     {
         pairs.iter().all(|pair| self.has_pair(pair))
     }
-}
-
-/// Returns whether the numbers of each range are int32.
-fn are_narrow(ranges: &[Range]) -> bool
-    ensures { result ≡ list_all is_narrow ranges.now }
-{
-    ranges.iter().all(is_narrow)
 }
 
 /// Returns whether each symbol is defined once at most, and they rise.

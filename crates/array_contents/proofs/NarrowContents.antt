@@ -13,12 +13,12 @@ use Rattle.number_spans.specs.Stored.{IsInner, IsNarrow}
 use Rattle.symbolic_values.specs.Pairing.{Pairing}
 use Rattle.symbolic_values.specs.Names.{renamed}
 use Rattle.array_segments.specs.Renaming.{renamed_lists}
-use Rattle.array_segments.specs.Storing.{limited, strongly_stored, weakly_stored}
+use Rattle.array_segments.specs.Storing.{strongly_stored, weakly_stored}
 use Rattle.array_segments.specs.Unifying.{unified}
 use Rattle.array_contents.specs.Contents.{AreFormed, Contents, Segments, of_null, segments_at}
 use Rattle.array_contents.specs.Merging.{Making}
 use Rattle.array_contents.specs.Storing.{Gaps}
-use Rattle.array_contents.proofs.KeptContents.{limited_kept, renamed_kept, strongly_kept, unified_kept, weakly_kept}
+use Rattle.array_contents.proofs.KeptContents.{renamed_kept, strongly_kept, unified_kept, weakly_kept}
 
 -- ---- ranges
 
@@ -113,9 +113,6 @@ KeepsNarrow make = (a b : Interval) → IsNarrow a → IsNarrow b → IsNarrow (
 
 pub null_narrow : HasNarrow of_null
 null_narrow = (zero_narrow, tt)
-
-pub limited_narrow : (segments : Segments) → HasNarrow segments → HasNarrow (limited hull segments)
-limited_narrow segments narrow = limited_kept IsNarrow hull hull_narrow segments narrow
 
 pub strong_narrow : (gap : Gaps) (segments : Segments) (at : Expr) (value : Interval) → IsNarrow value
     → HasNarrow segments → HasNarrow (strongly_stored hull full gap segments at value)

@@ -1,6 +1,6 @@
 -- Lists whose items are alike as a view shows them.
-use Rattle.std.proofs.Common.{◌≡◌, ◌↔◌, ℕ, ◌+◌, ◌<◌, Bool, false, List, ◌++◌, [], ◌∷◌, length, map, get_or, take, IsTrue, ap, subst, sym, ◌∙◌}
-use Rattle.std.proofs.lemmas.List.{get_or-map, map_more}
+use Rattle.std.proofs.Common.{◌≡◌, ◌↔◌, ℕ, ◌<◌, Bool, false, List, length, map, get_or, IsTrue, ap, subst, sym, ◌∙◌}
+use Rattle.std.proofs.lemmas.List.{get_or-map}
 
 pub alike_at : {X Y : Type 0} (view : X → Y) (xs ys : List X) (place : ℕ) (x y : X) → map view xs ≡ map view ys
     → place < length xs → place < length ys → x ≡ get_or xs place x → y ≡ get_or ys place y → view x ≡ view y
@@ -10,15 +10,6 @@ alike_at view xs ys place x y alike below under is also =
     ∙ ap (λ all. get_or all place (view x)) alike
     ∙ get_or-map view ys place y (view x) under
     ∙ ap view (sym also)
-
-pub alike_more : {X Y : Type 0} (view : X → Y) (xs ys : List X) (place : ℕ) (x y : X)
-    → place < length xs → place < length ys → x ≡ get_or xs place x → y ≡ get_or ys place y → view x ≡ view y
-    → map view (take place xs) ≡ map view (take place ys)
-    → map view (take (place + 1) xs) ≡ map view (take (place + 1) ys)
-alike_more view xs ys place x y below under is also alike so_far =
-    map_more view xs place x below
-    ∙ (λ i. so_far i ++ (ap view (sym is) ∙ alike ∙ ap view also) i ∷ [])
-    ∙ sym (map_more view ys place y under)
 
 -- Two items that are not alike make the lists unlike.
 pub unlike : {X Y : Type 0} (view : X → Y) (xs ys : List X) (place : ℕ) (x y : X) (a b : Y) (same : Bool)

@@ -17,3 +17,4 @@ pub use array_segments::Segs;
 pub use contents::Contents;
 pub use forgetting::Unknown;
 pub use merging::Making;
+pub use narrow::are_narrow;

@@ -28,8 +28,8 @@ fn is_narrow(range: &Range) -> bool
         && is_inner(lo, hi, range.hole())
 }
 
-/// Returns whether those of all ranges are.
-pub(crate) fn are_narrow(ranges: &[Range]) -> bool
+/// Returns whether the numbers of each range are int32, and there is one.
+pub fn are_narrow(ranges: &[Range]) -> bool
     ensures { result ≡ list_all tests.is_narrow ranges.now }
 {
     ranges.iter().all(|range| is_narrow(range))

@@ -25,7 +25,7 @@ use Rattle.cil_model.specs.Values.{Heap}
 use Rattle.cil_model.specs.declared.machine.World.{World}
 use Rattle.cil_model.specs.declared.place.Place.{Place}
 use Rattle.cil_model.specs.declared.unit.Unit.{Unit as MethodUnit}
-use Rattle.clause_eval.specs.declared.arg.Arg.{Arg}
+use Rattle.cil_model.specs.declared.arg.Arg.{Arg}
 use Rattle.method_run.specs.ArgumentWords.{arguments_of}
 use Rattle.method_run.specs.EndTexts.{end_status}
 use Rattle.method_run.specs.RunAnswers.{entry_answer, outcome_answer, refusal_answer, run_answer, run_limits, start_answer}

@@ -10,7 +10,7 @@ use Rattle.cil_eval.specs.Entered.{HasRoomToBegin, HoldNothing, IsEmpty, begun}
 use Rattle.cil_eval.specs.Flows.{IsRunnable}
 use Rattle.cil_eval.specs.Given.{args_fit, values_back, values_of}
 use Rattle.clause_eval.specs.Piles.{Piled, length_of_all, size_of}
-use Rattle.clause_eval.specs.declared.arg.Arg.{Arg}
+use Rattle.cil_model.specs.declared.arg.Arg.{Arg}
 use Rattle.cil_eval.specs.declared.frames.Frames.{Frames}
 use Rattle.cil_eval.proofs.StartLemmas.{fit_long}
 

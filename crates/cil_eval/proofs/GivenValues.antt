@@ -18,8 +18,8 @@ use Rattle.cil_model.proofs.HeapsKept.{FitPlaces-kept, keeps_before}
 use Rattle.cil_model.proofs.Lists.{all_reverse}
 use Rattle.clause_eval.specs.GivenArrays.{AreShort, array_of, byte_of, heap_of, is_array, with_cell}
 use Rattle.cil_eval.specs.Given.{AreInts, IsInt, arg_fits, args_fit, args_fit_back, array_count, has_place, is_arrays, value_back, value_by, values_back, values_of}
-use Rattle.clause_eval.specs.declared.arg.Arg.{Arg}
-use Rattle.clause_eval.specs.declared.arg.Arg.TheVariants as args
+use Rattle.cil_model.specs.declared.arg.Arg.{Arg}
+use Rattle.cil_model.specs.declared.arg.Arg.TheVariants as args
 use Rattle.cil_eval.proofs.Beginnings.{values_many}
 use Rattle.cil_eval.proofs.StartLemmas.{fit_short}
 

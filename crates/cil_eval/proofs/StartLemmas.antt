@@ -13,8 +13,8 @@ use Rattle.clause_eval.specs.GivenArrays.{AreShort, IsShort, array_of, byte_of, 
 use Rattle.cil_eval.specs.Given.{arg_fits, args_fit, args_fit_back, array_count, has_place, value_back, value_by, values_back, values_of}
 use Rattle.clause_eval.specs.Piles.{Piled}
 use Rattle.clause_eval.specs.Stores.{Store, cells_of, has_room, with_array}
-use Rattle.clause_eval.specs.declared.arg.Arg.{Arg}
-use Rattle.clause_eval.specs.declared.arg.Arg.TheVariants as args
+use Rattle.cil_model.specs.declared.arg.Arg.{Arg}
+use Rattle.cil_model.specs.declared.arg.Arg.TheVariants as args
 use Rattle.cil_model.proofs.Lists.{all_reverse}
 use Rattle.clause_eval.proofs.MemoryLemmas.{taken_with}
 use Rattle.clause_eval.proofs.PileLemmas.{turned_last}

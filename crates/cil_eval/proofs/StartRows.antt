@@ -5,8 +5,8 @@ use Rattle.cil_model.specs.declared.place.Place.TheVariants as places
 use Rattle.clause_eval.specs.GivenArrays.{heap_of}
 use Rattle.cil_eval.specs.Given.{args_fit, values_of}
 use Rattle.clause_eval.specs.Stores.{cells_of}
-use Rattle.clause_eval.specs.declared.arg.Arg.{Arg}
-use Rattle.clause_eval.specs.declared.arg.Arg.TheVariants as args
+use Rattle.cil_model.specs.declared.arg.Arg.{Arg}
+use Rattle.cil_model.specs.declared.arg.Arg.TheVariants as args
 
 abbrev two : Arg
 two = args.Ints (pos 1 ∷ pos 2 ∷ [])

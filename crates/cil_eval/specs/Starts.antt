@@ -13,7 +13,7 @@ use Rattle.cil_eval.specs.Outcome.{State, entry_state, outcome}
 use Rattle.cil_eval.specs.RunWorlds.{CanBeRun}
 use Rattle.clause_eval.specs.Stores.{Store, cells_of}
 use Rattle.cil_eval.specs.declared.frames.Frames.{Frames}
-use Rattle.clause_eval.specs.declared.arg.Arg.{Arg}
+use Rattle.cil_model.specs.declared.arg.Arg.{Arg}
 use Rattle.cil_eval.specs.declared.limits.Limits.{Limits}
 use Rattle.cil_eval.specs.declared.start_refusal.StartRefusal.{StartRefusal}
 use Rattle.cil_eval.specs.declared.start_refusal.StartRefusal.TheVariants as refusals

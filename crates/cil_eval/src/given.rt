@@ -7,8 +7,8 @@ ghost use Rattle.clause_eval.specs.Piles.{size_of};
 ghost use Rattle.clause_eval.specs.Stores.{cells_of};
 ghost use Rattle.cil_model.specs.Limits.{MAX_VARIABLES};
 
-use cil_model::{Place, Value};
-use clause_eval::{Arg, Memory, Pile, is_array, item_count};
+use cil_model::{Arg, Place, Value};
+use clause_eval::{Memory, Pile, is_array, item_count};
 
 /// Returns whether a place is one of arrays.
 fn is_arrays(place: Place) -> bool

@@ -6,7 +6,7 @@ ghost use Rattle.std.specs.Int.{w32};
 ghost use Rattle.std.specs.List.{AllByRecursion};
 ghost use Rattle.cil_eval.specs.Given.{AreInts, IsInt};
 
-use clause_eval::Arg;
+use cil_model::Arg;
 
 /// Reads numbers.
 fn read_ints(items: &[i32])

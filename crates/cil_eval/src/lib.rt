@@ -22,7 +22,6 @@ mod start_refusal;
 mod stop;
 mod turn;
 
-pub use clause_eval::Arg;
 pub use limits::Limits;
 pub use machine::Machine;
 pub use start_refusal::StartRefusal;

@@ -9,8 +9,8 @@ use crate::start::{admitted, reset};
 use crate::start_refusal::StartRefusal;
 use crate::stop::Stop;
 use crate::turn::advance;
-use cil_model::{MAX_VARIABLES, Value, World};
-use clause_eval::{Arg, Memory, Pile};
+use cil_model::{Arg, MAX_VARIABLES, Value, World};
+use clause_eval::{Memory, Pile};
 use std::alloc::{AllocError, Global};
 use std::marker::Model;
 

@@ -16,8 +16,8 @@ use crate::given::{args_fit, have_cells, put_arrays, put_values_of};
 use crate::limits::Limits;
 use crate::start_refusal::StartRefusal;
 use crate::turn::unit_at;
-use cil_model::{Unit, Value, World};
-use clause_eval::{Arg, Arrays, Memory, Pile, false_requires};
+use cil_model::{Arg, Unit, Value, World};
+use clause_eval::{Arrays, Memory, Pile, false_requires};
 
 /// The unit of an index, where a run of its method may start with these arguments. Their values are left on a list.
 #[tactic(auto, using(crate::proofs::StartLemmas::fit_long, crate::proofs::StartLemmas::fit_short, crate::proofs::TurnLemmas::runnable))]

@@ -51,3 +51,5 @@ pub mod TreeKindRows
 pub mod TypedCode
 pub mod TargetRows
 pub mod ShortCodes
+pub mod OffsetSearch
+pub mod TreeInts

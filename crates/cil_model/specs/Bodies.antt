@@ -1,5 +1,5 @@
 -- What a method's body has to be so that the machine can run it.
-use Rattle.std.specs.Prelude.{◌≡◌, ℕ, ◌≤◌, Bool, true, false, List, [], Option, Some}
+use Rattle.std.specs.Prelude.{◌≡◌, ℕ, ◌≤◌, Bool, true, false, List, [], Option, Some, None}
 use Rattle.std.specs.List.{AllByRecursion}
 use Rattle.cil_model.specs.Blocks.{branch_targets}
 use Rattle.cil_model.specs.Passes.{KindsOf, Stacks, stack_at}
@@ -19,7 +19,10 @@ is_executed_call (Some (calls.Ensures message)) = false
 is_executed_call (Some calls.EndContractBlock) = false
 is_executed_call (Some (calls.Result place)) = false
 is_executed_call (Some (calls.OldValue place)) = false
-is_executed_call _ = true
+is_executed_call (Some (calls.Assert message)) = true
+is_executed_call (Some (calls.Assume message)) = true
+is_executed_call (Some (calls.Callee number)) = true
+is_executed_call None = true
 
 abbrev pub is_executed : Op → Bool
 is_executed (ops.Call number) = is_executed_call (unit_call number)

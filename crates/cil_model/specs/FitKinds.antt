@@ -61,7 +61,27 @@ pub record FrameFits (unit : MethodUnit) (stacks : Stacks) (heap : Heap) (f : Fr
 -- The constant of an operation is an int32.
 abbrev pub OperandFits : Op → Type 0
 OperandFits (ops.Const n) = FitsSigned w32 n
-OperandFits _ = Unit {0}
+OperandFits ops.Nop = Unit {0}
+OperandFits (ops.LoadArg n) = Unit {0}
+OperandFits (ops.StoreArg n) = Unit {0}
+OperandFits (ops.LoadLocal n) = Unit {0}
+OperandFits (ops.StoreLocal n) = Unit {0}
+OperandFits ops.Null = Unit {0}
+OperandFits ops.Dup = Unit {0}
+OperandFits ops.Pop = Unit {0}
+OperandFits (ops.Call number) = Unit {0}
+OperandFits ops.Return = Unit {0}
+OperandFits (ops.Branch test target) = Unit {0}
+OperandFits (ops.Switch targets) = Unit {0}
+OperandFits (ops.Bin operator) = Unit {0}
+OperandFits ops.Neg = Unit {0}
+OperandFits ops.Not = Unit {0}
+OperandFits ops.ConvI4 = Unit {0}
+OperandFits (ops.Text token) = Unit {0}
+OperandFits (ops.NewArray number) = Unit {0}
+OperandFits ops.Length = Unit {0}
+OperandFits (ops.LoadElem place) = Unit {0}
+OperandFits (ops.StoreElem place) = Unit {0}
 
 -- What decoding tells of instructions: constants are int32, and each branch goes to an instruction.
 pub record AreDecoded (is : List Instr) : Type 0 where

@@ -107,12 +107,15 @@ call_operands shape (Some (calls.Assert message)) = 1 + one_if message
 call_operands shape (Some (calls.Assume message)) = 1 + one_if message
 call_operands shape (Some (calls.OldValue place)) = 1
 call_operands shape (Some (calls.Callee number)) = param_count (slice_get shape.callees number)
-call_operands shape _ = 0
+call_operands shape (Some calls.EndContractBlock) = 0
+call_operands shape (Some (calls.Result place)) = 0
+call_operands shape None = 0
 
 abbrev pub test_operands : Test → ℕ
 test_operands tests.Always = 0
 test_operands (tests.Cmp op) = 2
-test_operands _ = 1
+test_operands tests.True = 1
+test_operands tests.False = 1
 
 -- How many values an operation takes from the stack.
 abbrev pub operand_count : Shape → Op → ℕ

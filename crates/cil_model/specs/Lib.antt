@@ -6,6 +6,7 @@ pub mod Limits
 pub mod UnitCalls
 pub mod Terms
 pub mod TermCodes
+pub mod TreeRoots
 pub mod Nodes
 pub mod Values
 pub mod Arithmetic
@@ -15,6 +16,7 @@ pub mod Clauses
 pub mod Calls
 pub mod Configs
 pub mod Runs
+pub mod Offsets
 pub mod Worlds
 pub mod Shapes
 pub mod ShortCode
@@ -26,3 +28,4 @@ pub mod TreeKinds
 pub mod ClauseTrees
 pub mod WellFormed
 pub mod FitKinds
+pub mod Laws

@@ -43,13 +43,39 @@ CallRow = ℕ → Instr → Frame → Heap → Config → Type 0
 -- A call that names a callee goes by the row of calls, any other one by its effects.
 abbrev pub CallsBy : CallRow → Option UnitCall → List Frame → MethodUnit → Instr → Frame → Heap → Config → Type 0
 CallsBy Calls (Some (calls.Callee number)) callers unit i f heap new = Calls number i f heap new
-CallsBy Calls _ callers unit i f heap new = EffectRow callers unit i f heap new
+CallsBy Calls (Some (calls.Requires message)) callers unit i f heap new = EffectRow callers unit i f heap new
+CallsBy Calls (Some (calls.Ensures message)) callers unit i f heap new = EffectRow callers unit i f heap new
+CallsBy Calls (Some (calls.Assert message)) callers unit i f heap new = EffectRow callers unit i f heap new
+CallsBy Calls (Some (calls.Assume message)) callers unit i f heap new = EffectRow callers unit i f heap new
+CallsBy Calls (Some calls.EndContractBlock) callers unit i f heap new = EffectRow callers unit i f heap new
+CallsBy Calls (Some (calls.Result place)) callers unit i f heap new = EffectRow callers unit i f heap new
+CallsBy Calls (Some (calls.OldValue place)) callers unit i f heap new = EffectRow callers unit i f heap new
+CallsBy Calls None callers unit i f heap new = EffectRow callers unit i f heap new
 
 -- What an instruction of the running frame may lead to, where calls have this row.
 abbrev pub Row : CallRow → Op → List Frame → MethodUnit → Instr → Frame → Heap → Config → Type 0
 Row Calls ops.Return callers unit i f heap new = ReturnRow callers unit i f heap new
 Row Calls (ops.Call number) callers unit i f heap new = CallsBy Calls (unit_call number) callers unit i f heap new
-Row Calls _ callers unit i f heap new = EffectRow callers unit i f heap new
+Row Calls ops.Nop callers unit i f heap new = EffectRow callers unit i f heap new
+Row Calls (ops.LoadArg n) callers unit i f heap new = EffectRow callers unit i f heap new
+Row Calls (ops.StoreArg n) callers unit i f heap new = EffectRow callers unit i f heap new
+Row Calls (ops.LoadLocal n) callers unit i f heap new = EffectRow callers unit i f heap new
+Row Calls (ops.StoreLocal n) callers unit i f heap new = EffectRow callers unit i f heap new
+Row Calls ops.Null callers unit i f heap new = EffectRow callers unit i f heap new
+Row Calls (ops.Const n) callers unit i f heap new = EffectRow callers unit i f heap new
+Row Calls ops.Dup callers unit i f heap new = EffectRow callers unit i f heap new
+Row Calls ops.Pop callers unit i f heap new = EffectRow callers unit i f heap new
+Row Calls (ops.Branch test target) callers unit i f heap new = EffectRow callers unit i f heap new
+Row Calls (ops.Switch targets) callers unit i f heap new = EffectRow callers unit i f heap new
+Row Calls (ops.Bin operator) callers unit i f heap new = EffectRow callers unit i f heap new
+Row Calls ops.Neg callers unit i f heap new = EffectRow callers unit i f heap new
+Row Calls ops.Not callers unit i f heap new = EffectRow callers unit i f heap new
+Row Calls ops.ConvI4 callers unit i f heap new = EffectRow callers unit i f heap new
+Row Calls (ops.Text token) callers unit i f heap new = EffectRow callers unit i f heap new
+Row Calls (ops.NewArray number) callers unit i f heap new = EffectRow callers unit i f heap new
+Row Calls ops.Length callers unit i f heap new = EffectRow callers unit i f heap new
+Row Calls (ops.LoadElem place) callers unit i f heap new = EffectRow callers unit i f heap new
+Row Calls (ops.StoreElem place) callers unit i f heap new = EffectRow callers unit i f heap new
 
 -- ---- one step
 

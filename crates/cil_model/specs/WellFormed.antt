@@ -50,7 +50,27 @@ NamesSomething (ops.StoreElem place) = Unit {0}
 -- The number of the callee that an operation calls.
 abbrev pub called_by : Op → Option ℕ
 called_by (ops.Call number) = callee_of (unit_call number)
-called_by _ = None
+called_by ops.Nop = None
+called_by (ops.LoadArg n) = None
+called_by (ops.StoreArg n) = None
+called_by (ops.LoadLocal n) = None
+called_by (ops.StoreLocal n) = None
+called_by ops.Null = None
+called_by (ops.Const n) = None
+called_by ops.Dup = None
+called_by ops.Pop = None
+called_by ops.Return = None
+called_by (ops.Branch test target) = None
+called_by (ops.Switch targets) = None
+called_by (ops.Bin operator) = None
+called_by ops.Neg = None
+called_by ops.Not = None
+called_by ops.ConvI4 = None
+called_by (ops.Text token) = None
+called_by (ops.NewArray number) = None
+called_by ops.Length = None
+called_by (ops.LoadElem place) = None
+called_by (ops.StoreElem place) = None
 
 -- Each of these callees is one of the first or the next one, and in the end the first are all of them.
 abbrev pub InOrderOfUse : ℕ → ℕ → List ℕ → Type 0

@@ -2,12 +2,15 @@
 //! the machine that runs them.
 #![tactic(auto)]
 
+mod arg;
 mod clause;
+mod copies;
 mod instruction;
 mod kind_rules;
 mod limits;
 mod list;
 mod machine;
+mod offsets;
 mod operand_counts;
 mod parameters;
 mod place;
@@ -16,9 +19,12 @@ mod tree;
 mod tree_kinds;
 mod type_fault;
 mod unit;
+mod unit_copies;
 mod unit_numbers;
 
+pub use arg::Arg;
 pub use clause::{Clause, ClauseKind};
+pub use copies::copy_clauses;
 pub use instruction::{BinOp, CmpOp, Instr, Op, Targets, Test, UnOp};
 pub use kind_rules::{
     compares_kinds, comparison_of, is_array_of, is_number, is_reference, is_tested, kind_of,
@@ -30,6 +36,7 @@ pub use limits::{
 };
 pub use list::List;
 pub use machine::{ArrayCell, Config, FaultKind, Frame, Obligation, Value, World};
+pub use offsets::index_of;
 pub use operand_counts::{callee, operand_count};
 pub use parameters::append_parameters;
 pub use place::{Kind, Place};

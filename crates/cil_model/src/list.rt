@@ -1,7 +1,9 @@
 //! Lists inside the types of this crate.
 
-ghost use Rattle.std.specs.Prelude.{◌≡◌, ◌<◌, List};
+ghost use Rattle.std.specs.Prelude.{◌≡◌, ◌<◌, IfOk, List};
 
+use cc_base::NoMemory;
+use std::alloc::Global;
 use std::marker::Model;
 
 /// A list that contracts see as the list of its items, whatever room it has.
@@ -31,5 +33,16 @@ impl<T> List<T> {
         ensures { result.now ≡ self.now }
     {
         self.items.as_slice()
+    }
+}
+
+impl<T: Copy> List<T> {
+    /// A copy in memory of its own.
+    pub fn copy(&self, alloc: Global) -> Result<List<T>, NoMemory>
+        ensures { IfOk result (λ copy. copy ≡ self.now) }
+    {
+        let mut items = Vec::with_capacity(alloc, self.items.len())?;
+        items.extend_from_slice(self.items.as_slice())?;
+        Ok(List { items })
     }
 }

@@ -16,7 +16,7 @@ fn result_count(place: Place) -> usize
 {
     match place {
         Place::Void => 0,
-        _ => 1,
+        Place::Bool | Place::Int | Place::Bools | Place::Ints => 1,
     }
 }
 
@@ -42,7 +42,7 @@ fn call_operands(shape: &Shape, call: Option<UnitCall>) -> usize
             Some(info) => info.args.as_slice().len(),
             None => 0,
         },
-        _ => 0,
+        Some(UnitCall::EndContractBlock | UnitCall::Result(_)) | None => 0,
     }
 }
 

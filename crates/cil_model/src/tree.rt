@@ -34,7 +34,7 @@ pub enum Node {
 impl Model for Tree {
     ghost use Rattle.std.specs.Coded.{codes};
     ghost use Rattle.cil_model.specs.Terms.{Term, term_size};
-    ghost use Rattle.cil_model.specs.TermCodes.{term_code};
+    ghost use Rattle.cil_model.specs.Laws.TermsBack.{term_code};
 
     ghost Value = { Term };
 

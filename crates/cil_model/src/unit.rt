@@ -1,5 +1,8 @@
 //! Units: methods with all that their analysis needs.
 
+ghost use Rattle.std.specs.Prelude.{◌≡◌};
+ghost use Rattle.cil_model.specs.Calls.{clauses_in_force};
+
 use crate::clause::Clause;
 use crate::instruction::Instr;
 use crate::list::List;
@@ -32,4 +35,13 @@ pub struct Unit {
     pub body_start: u32,
     /// The instructions of the whole code.
     pub instrs: List<Instr>,
+}
+
+impl Unit {
+    /// The clauses that calls and returns of the method test, and that its callers know.
+    pub fn clauses_in_force(&self) -> &[Clause]
+        ensures { result.now ≡ clauses_in_force self.now }
+    {
+        self.clauses.as_slice()
+    }
 }

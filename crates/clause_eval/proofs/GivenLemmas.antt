@@ -12,8 +12,8 @@ use Rattle.cil_model.specs.declared.place.Place.{Place}
 use Rattle.cil_model.specs.declared.place.Place.TheVariants as places
 use Rattle.clause_eval.specs.GivenArrays.{IsShort, array_of, byte_of, item_count, item_of, items_of}
 use Rattle.clause_eval.specs.Lookups.{item_at, item_of_place, length_at}
-use Rattle.clause_eval.specs.declared.arg.Arg.{Arg}
-use Rattle.clause_eval.specs.declared.arg.Arg.TheVariants as args
+use Rattle.cil_model.specs.declared.arg.Arg.{Arg}
+use Rattle.cil_model.specs.declared.arg.Arg.TheVariants as args
 
 length_by : (arg : Arg) → option_map (λ (cell : ArrayCell). pos (length cell.items)) (array_of arg) ≡ option_map pos (item_count arg)
 length_by (args.Bools items) = ap (λ n. Some (pos n)) (length-map items byte_of)

@@ -5,8 +5,8 @@ use Rattle.cil_model.specs.Values.{Heap, same_place}
 use Rattle.cil_model.specs.declared.machine.ArrayCell.{ArrayCell}
 use Rattle.cil_model.specs.declared.place.Place.{Place}
 use Rattle.cil_model.specs.declared.place.Place.TheVariants as places
-use Rattle.clause_eval.specs.declared.arg.Arg.{Arg}
-use Rattle.clause_eval.specs.declared.arg.Arg.TheVariants as args
+use Rattle.cil_model.specs.declared.arg.Arg.{Arg}
+use Rattle.cil_model.specs.declared.arg.Arg.TheVariants as args
 
 abbrev pub byte_of : Bool → ℤ
 byte_of true = pos 1

@@ -6,9 +6,8 @@ ghost use Rattle.clause_eval.specs.GivenArrays.{AreShort, IsShort};
 ghost use Rattle.clause_eval.specs.Lookups.{item_at, length_at};
 ghost use Rattle.clause_eval.specs.Sources.{HasShort, heap_in};
 
-use crate::arg::Arg;
 use crate::memory::Memory;
-use cil_model::Place;
+use cil_model::{Arg, Place};
 
 /// Where clauses find arrays.
 #[derive(Clone, Copy)]

@@ -2,7 +2,6 @@
 //! arithmetic of values, and what clauses say of them.
 #![tactic(auto)]
 
-mod arg;
 mod arithmetic;
 mod arrays;
 mod clause_tests;
@@ -14,7 +13,6 @@ mod reading;
 mod rows;
 mod values;
 
-pub use arg::Arg;
 pub use arithmetic::{operated, operated_one};
 pub use arrays::{Arrays, is_array, item_count};
 pub use clause_tests::{false_ensures, false_requires, put_all_olds};

@@ -7,10 +7,9 @@ ghost use Rattle.clause_eval.specs.Arrays.{cell_of};
 ghost use Rattle.clause_eval.specs.Lookups.{items_at};
 ghost use Rattle.clause_eval.specs.GivenArrays.{IsShort, items_of, place_of};
 
-use crate::arg::Arg;
 use crate::arrays::place_of;
 use crate::rows::{append, append_items, fill, part};
-use cil_model::Place;
+use cil_model::{Arg, Place};
 use std::alloc::{AllocError, Global};
 use std::marker::Model;
 

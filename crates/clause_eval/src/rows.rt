@@ -4,7 +4,7 @@ ghost use Rattle.std.specs.Prelude.{◌≡◌, ◌+◌, ◌-◌, ◌<◌, ◌≤
 ghost use Rattle.std.specs.Vec.{vec_len, vec_capacity};
 ghost use Rattle.clause_eval.specs.GivenArrays.{byte_of, items_of};
 
-use crate::arg::Arg;
+use cil_model::Arg;
 
 /// Appends to a row that has room.
 pub(crate) fn append<T: Drop>(row: &mut Vec<T>, item: T)

@@ -11,5 +11,4 @@ pub mod PassedInstr
 pub mod TreeStacks
 pub mod Growth
 pub mod Dropping
-pub mod TreeRoots
 pub mod Extracting

@@ -1,2 +1,3 @@
 pub mod Meter
 pub mod Order
+pub mod Laws

@@ -1,7 +1,8 @@
 //! Two values side by side.
 
 ghost use Rattle.std.specs.Prelude.{◌≡◌, ℤ, Option};
-ghost use Rattle.domain_api.specs.Order.{greater_gap, greater_gap-either};
+ghost use Rattle.domain_api.specs.Laws.Gaps.{greater_gap-either};
+ghost use Rattle.domain_api.specs.Order.{greater_gap};
 ghost use Rattle.std.proofs.Common.{inl, inr};
 
 use crate::order::Order;

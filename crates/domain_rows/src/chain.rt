@@ -3,7 +3,7 @@
 ghost use Rattle.std.specs.Prelude.{◌≡◌, ◌<◌, ◌+◌, ◌↔◌, Bool, true, false, ◌||◌, not, ⊤};
 ghost use Rattle.std.proofs.Common.{refl, rules};
 ghost use Rattle.std.proofs.lemmas.Bool.{false≢true};
-ghost use Rattle.domain_rows.specs.Reached.{either_first, either_second, less_holds};
+ghost use Rattle.domain_rows.specs.Laws.Reached.{either_first, either_second, less_holds};
 
 use domain_api::{FlowState, Lattice, Meter, NoMemory, Ticks};
 use std::alloc::Global;

@@ -15,7 +15,7 @@ use Rattle.frame_names.specs.declared.var.Var.TheVariants as vars
 use Rattle.interval_domain.specs.Interval.{Interval}
 use Rattle.number_facts.specs.Holds.{Names, NamesOwn}
 use Rattle.number_spans.specs.Stored.{IsNarrow}
-use Rattle.pentagon_domain.proofs.Allowing.{AreBelow}
+use Rattle.pentagon_domain.specs.Gaps.{AreBelow}
 use Rattle.pentagon_domain.specs.declared.bound_row.BoundRow.{BoundRow}
 use Rattle.state_facts.specs.Forms.{EndsBy, IsNumber, IsReference, IsVar, TestsOf, lengths_of}
 use Rattle.symbolic_values.specs.declared.def.Def.{Def}

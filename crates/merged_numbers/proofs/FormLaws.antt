@@ -6,7 +6,7 @@ use Rattle.std.proofs.lemmas.Bool.{cases_Bool, cond_both}
 use Rattle.interval_domain.specs.Interval.{Interval}
 use Rattle.pentagon_domain.specs.declared.bound_row.BoundRow.{BoundRow}
 use Rattle.pentagon_domain.specs.Rows.{is_pair, is_before, is_of, put, with_bound}
-use Rattle.pentagon_domain.proofs.Allowing.{AreBelow}
+use Rattle.pentagon_domain.specs.Gaps.{AreBelow}
 use Rattle.number_spans.specs.Stored.{IsNarrow, range_without}
 use Rattle.number_spans.specs.declared.span.Span.{Span}
 use Rattle.number_spans.proofs.NarrowRanges.{SomeNarrow, without_narrow, range_without_narrow}

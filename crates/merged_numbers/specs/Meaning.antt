@@ -9,7 +9,7 @@ use Rattle.number_spans.specs.Spans.{Has}
 use Rattle.number_spans.specs.Stored as ranges
 use Rattle.number_spans.specs.declared.span.Span.{Span}
 use Rattle.pentagon_domain.specs.Gaps as by_bounds
-use Rattle.pentagon_domain.proofs.Allowing.{AreBelow}
+use Rattle.pentagon_domain.specs.Gaps.{AreBelow}
 use Rattle.symbolic_values.specs.declared.pairs.Key.{Key}
 use Rattle.symbolic_values.specs.Pairing.{origin}
 use Rattle.symbolic_values.specs.Worth.{behind_uses, worth_of_use}

@@ -29,7 +29,7 @@ use Rattle.merged_numbers.specs.Merging.{Outcome}
 use Rattle.merged_numbers.proofs.FormLaws.{normed_formed}
 use Rattle.merged_numbers.proofs.RuleLaws.{joined_formed, widened_formed}
 use Rattle.number_facts.specs.Holds.{NamesOwn}
-use Rattle.pentagon_domain.proofs.Allowing.{AreBelow}
+use Rattle.pentagon_domain.specs.Gaps.{AreBelow}
 use Rattle.symbolic_values.specs.FirstUses.{noted, first_uses}
 use Rattle.symbolic_values.specs.Names.{as_expr}
 use Rattle.symbolic_values.specs.OwnNames.{own_names}

@@ -7,8 +7,8 @@ ghost use Rattle.cil_eval.specs.RunWorlds.{CanBeRun};
 ghost use Rattle.method_unit.specs.Units.{IsUnit};
 
 use cc_base::Refusal;
-use cil_eval::{Arg, Limits, Machine, StartRefusal, Stop};
-use cil_model::{List, Unit, Value, World};
+use cil_eval::{Limits, Machine, StartRefusal, Stop};
+use cil_model::{Arg, List, Unit, Value, World};
 use method_unit::read_unit;
 use std::alloc::{AllocError, Global};
 use std::process::Abort;

@@ -13,7 +13,7 @@ use Rattle.clause_eval.specs.GivenArrays.{heap_of}
 use Rattle.cil_eval.specs.Given.{args_fit, values_of}
 use Rattle.cil_eval.specs.Starts.{Begins, requires_refusal, start_refusal, start_state, unit_refusal}
 use Rattle.clause_eval.specs.Stores.{cells_of}
-use Rattle.clause_eval.specs.declared.arg.Arg.{Arg}
+use Rattle.cil_model.specs.declared.arg.Arg.{Arg}
 use Rattle.cil_eval.specs.declared.limits.Limits.{Limits}
 use Rattle.cil_eval.specs.declared.start_refusal.StartRefusal.{StartRefusal}
 use Rattle.cil_eval.specs.declared.start_refusal.StartRefusal.TheVariants as refusals

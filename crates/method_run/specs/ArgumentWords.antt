@@ -2,7 +2,7 @@
 use Rattle.std.specs.Prelude.{ℕ, List, [], ◌∷◌, drop, Option, Some, None}
 use Rattle.cil_model.specs.declared.place.Place.{Place}
 use Rattle.cil_model.specs.declared.place.Place.TheVariants as places
-use Rattle.clause_eval.specs.declared.arg.Arg.{Arg}
+use Rattle.cil_model.specs.declared.arg.Arg.{Arg}
 use Rattle.run_arguments.specs.Arguments.{argument_of}
 
 -- The type of the first of these parameters. Where there is none left, a word is read for any type.

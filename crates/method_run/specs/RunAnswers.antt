@@ -6,7 +6,7 @@ use Rattle.cil_model.specs.declared.place.Place.{Place}
 use Rattle.cil_model.specs.declared.unit.Unit.{Unit as MethodUnit}
 use Rattle.cil_eval.specs.Outcome.{State, last_state, outcome}
 use Rattle.cil_eval.specs.Starts.{start_refusal, start_state}
-use Rattle.clause_eval.specs.declared.arg.Arg.{Arg}
+use Rattle.cil_model.specs.declared.arg.Arg.{Arg}
 use Rattle.cil_eval.specs.declared.limits.Limits.{Limits}
 use Rattle.cil_eval.specs.declared.start_refusal.StartRefusal.{StartRefusal}
 use Rattle.cil_eval.specs.declared.start_refusal.StartRefusal.TheVariants as refusals

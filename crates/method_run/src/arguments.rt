@@ -4,8 +4,7 @@ ghost use Rattle.std.specs.Prelude.{◌≡◌, All, IfOk, IsTrue, drop, map, str
 ghost use Rattle.run_arguments.specs.Arguments.{is_argument};
 ghost use Rattle.method_run.specs.ArgumentWords.{arguments_of, first_place};
 
-use cil_model::Place;
-use clause_eval::Arg;
+use cil_model::{Arg, Place};
 use run_arguments::read_argument;
 use std::alloc::{AllocError, Global};
 

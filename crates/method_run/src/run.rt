@@ -9,8 +9,7 @@ use crate::answer::RunAnswer;
 use crate::arguments::read_arguments;
 use crate::ends::{end_answer, refusal_answer};
 use cil_eval::{Limits, Machine};
-use cil_model::{List, Unit, World};
-use clause_eval::Arg;
+use cil_model::{Arg, List, Unit, World};
 use std::alloc::{AllocError, Global};
 
 /// The most cells that the arrays of a run take.

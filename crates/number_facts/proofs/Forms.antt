@@ -15,7 +15,7 @@ use Rattle.cil_model.specs.declared.instruction.CmpOp.TheVariants as comparisons
 use Rattle.interval_domain.specs.Interval.{Interval, between}
 use Rattle.pentagon_domain.specs.declared.bound_row.BoundRow.{BoundRow}
 use Rattle.pentagon_domain.specs.Rows.{is_pair, is_before, is_of, put, with_bound}
-use Rattle.pentagon_domain.proofs.Allowing.{AreBelow}
+use Rattle.pentagon_domain.specs.Gaps.{AreBelow}
 use Rattle.symbolic_values.specs.declared.def.Def.{Def}
 use Rattle.symbolic_values.specs.declared.def.Def.TheVariants.{Eq, Lt, LtUn, NullTest, Sub}
 use Rattle.number_spans.specs.Constants.{constant, of_constants}

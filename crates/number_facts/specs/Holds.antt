@@ -7,7 +7,7 @@ use Rattle.cil_model.specs.Arithmetic.{compares, truth}
 use Rattle.cil_model.specs.Comparisons.{comparison_of}
 use Rattle.cil_model.specs.declared.instruction.BinOp.{BinOp}
 use Rattle.cil_model.specs.declared.instruction.CmpOp.{CmpOp}
-use Rattle.pentagon_domain.proofs.Allowing.{AreBelow}
+use Rattle.pentagon_domain.specs.Gaps.{AreBelow}
 use Rattle.symbolic_values.specs.Meaning.{told}
 use Rattle.symbolic_values.specs.Worth.{worth}
 use Rattle.symbolic_values.specs.declared.def.Def.{Def}

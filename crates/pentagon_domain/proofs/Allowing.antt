@@ -6,7 +6,7 @@ use Rattle.std.proofs.lemmas.Bool.{cases_Bool, and_parts, eqb-true}
 use Rattle.std.proofs.lemmas.Int.{ints}
 use Rattle.pentagon_domain.specs.declared.bound_row.BoundRow.{BoundRow}
 use Rattle.pentagon_domain.specs.Rows.{is_pair, is_before, is_of, rows_from, put, with_bound}
-use Rattle.pentagon_domain.specs.Gaps.{Allows, AllowsRow, LiesAbove}
+use Rattle.pentagon_domain.specs.Gaps.{Allows, AllowsRow, AreBelow, LiesAbove}
 
 -- The greater of two constants that are true is true.
 greater_true : (a b k l : ℤ) → (a +ℤ k) ≤ℤ b → (a +ℤ l) ≤ℤ b → (a +ℤ int_max k l) ≤ℤ b
@@ -43,11 +43,6 @@ rows_from_allows [] number s allowed = tt
 rows_from_allows (row ∷ rows) number s allowed =
     let rest = rows_from_allows rows number s allowed.1 in
     elim (cases_Bool (row.s == s)) [ inl here ↦ rw here (allowed.0, rest) | inr other ↦ rw other rest ]
-
--- The symbols of a row are below a count.
-pub record AreBelow (count : ℕ) (row : BoundRow) : Type 0 where
-  pub from : row.s < count
-  pub to : row.t < count
 
 -- Numbers that agree on all symbols below a count are allowed alike by bounds of these symbols.
 pub allows_agreeing : (rows : List BoundRow) (number other : ℕ → ℤ) (count : ℕ) → AllByRecursion (AreBelow count) rows

@@ -59,14 +59,6 @@ up_to_step rows i m n d inside up is so_far more above rest =
     let here : IsUpTo more (get_or rows i d) = λ pair. up_more (get_or rows i d).k n more (is pair) above in
     so_far more first (rw split (here, tail))
 
-pub up_to_all : (rows : List BoundRow) (i : ℕ) (m : ℤ) → length rows ≤ i → ((more : ℤ) → m ≤ℤ more → AreUpTo more (drop i rows) → AreUpTo more rows) → AreUpTo m rows
-up_to_all rows i m past so_far =
-    let none : drop i rows ≡ [] = drop_all i rows past in
-    so_far m (itself_up m) (rw none tt)
-  where
-    itself_up : (m : ℤ) → m ≤ℤ m
-    itself_up m = grind (arith, ints)
-
 -- ---- what is stored
 
 pub some_same : (k l : ℤ) → Some k ≡ Some l → k ≡ l

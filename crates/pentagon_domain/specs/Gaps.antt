@@ -1,5 +1,5 @@
 -- How far one symbol is known to lie above another.
-use Rattle.std.specs.Prelude.{ℕ, ◌==◌, ℤ, pos, negsuc, ◌+ℤ◌, ◌≤ℤ◌, int_lt, List, [], ◌∷◌, Option, Some, None, option_map, option_and_then, if◌then◌else◌}
+use Rattle.std.specs.Prelude.{ℕ, ◌<◌, ◌==◌, ℤ, pos, negsuc, ◌+ℤ◌, ◌≤ℤ◌, int_lt, List, [], ◌∷◌, Option, Some, None, option_map, option_and_then, if◌then◌else◌}
 use Rattle.std.specs.List.{AllByRecursion}
 use Rattle.domain_api.specs.Order.{greater_gap}
 use Rattle.pentagon_domain.specs.declared.bound_row.BoundRow.{BoundRow}
@@ -37,3 +37,8 @@ AllowsRow number row = LiesAbove number row.s row.t row.k
 -- Bounds allow the numbers that each of them allows.
 abbrev pub Allows : List BoundRow → (ℕ → ℤ) → Type 0
 Allows rows number = AllByRecursion (AllowsRow number) rows
+
+-- The symbols of a row are below a count.
+pub record AreBelow (count : ℕ) (row : BoundRow) : Type 0 where
+  pub from : row.s < count
+  pub to : row.t < count

@@ -3,7 +3,7 @@ use Rattle.std.proofs.Common.{◌≡◌, pos, negsuc, true, false, [], ◌∷◌
 use Rattle.std.specs.Fmt.{digits}
 use Rattle.std.specs.List.{list_any}
 use Rattle.cil_model.specs.declared.place.Place.TheVariants as places
-use Rattle.clause_eval.specs.declared.arg.Arg.TheVariants as args
+use Rattle.cil_model.specs.declared.arg.Arg.TheVariants as args
 use Rattle.run_arguments.specs.Numbers.{number_of_word, int_of_word}
 use Rattle.run_arguments.specs.Arguments.{is_int, argument_of, is_argument}
 

@@ -10,8 +10,8 @@ use Rattle.std.specs.Option.{option_or}
 use Rattle.std.specs.Str.{bytes_eq}
 use Rattle.cil_model.specs.declared.place.Place.{Place}
 use Rattle.cil_model.specs.declared.place.Place.TheVariants as places
-use Rattle.clause_eval.specs.declared.arg.Arg.{Arg}
-use Rattle.clause_eval.specs.declared.arg.Arg.TheVariants as args
+use Rattle.cil_model.specs.declared.arg.Arg.{Arg}
+use Rattle.cil_model.specs.declared.arg.Arg.TheVariants as args
 use Rattle.run_arguments.specs.Numbers.{int_of_word, number_of_word}
 use Rattle.run_arguments.specs.Arguments.{bool_of_word, is_int, is_bool, earlier_of_word, between_brackets, items_of, empty_of, list_of_items, list_of, null_of_word, argument_of, is_argument}
 use Rattle.run_arguments.specs.Texts.{bool_text, list_text, text_of, IsInRange}

@@ -3,8 +3,8 @@ use Rattle.std.specs.Prelude.{ℕ, ◌^◌, ◌<◌, Bool, true, false, List, []
 use Rattle.std.specs.Fmt.{signed_decimal}
 use Rattle.std.specs.Int.{w32}
 use Rattle.std.specs.List.{AllByRecursion, join_with_byte}
-use Rattle.clause_eval.specs.declared.arg.Arg.{Arg}
-use Rattle.clause_eval.specs.declared.arg.Arg.TheVariants as args
+use Rattle.cil_model.specs.declared.arg.Arg.{Arg}
+use Rattle.cil_model.specs.declared.arg.Arg.TheVariants as args
 
 abbrev pub bool_text : Bool → List ℕ
 bool_text true = codes "true"

@@ -1,14 +1,13 @@
 //! Words that are arguments.
 
 ghost use Rattle.std.specs.Prelude.{◌≡◌, ◌⊎◌, IsTrue, IfOk, Some, is_some, option_map, option_and_then, codes};
-ghost use Rattle.clause_eval.specs.declared.arg.Arg.{Arg};
+ghost use Rattle.cil_model.specs.declared.arg.Arg.{Arg};
 ghost use Rattle.run_arguments.specs.Arguments as words;
 ghost use Rattle.run_arguments.specs.Texts.{IsInRange, text_of};
 
 use crate::items::{are_bools, are_ints, bools_of, ints_of, read_bool};
 use crate::number::{read_int, read_number};
-use cil_model::{List, Place};
-use clause_eval::Arg;
+use cil_model::{Arg, List, Place};
 use std::alloc::{AllocError, Global};
 
 /// The number of an earlier argument that a word names.

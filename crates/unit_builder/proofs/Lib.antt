@@ -15,7 +15,6 @@ pub mod SlotFacts
 pub mod SlotLists
 pub mod TestParts
 pub mod TokenTests
-pub mod TreeInts
 pub mod AgreeLemmas
 pub mod CallFacts
 pub mod MadeLemmas

@@ -8,7 +8,8 @@ use Rattle.cc_base.specs.Tests.{first_of}
 use Rattle.cc_base.proofs.TestLemmas.{first_of-append_none}
 use Rattle.cil_model.specs.Limits.{MAX_CONDITIONS, MAX_NODES, MAX_OLD_VALUES}
 use Rattle.cil_model.specs.Places.{place_number}
-use Rattle.cil_model.specs.TermCodes.{preorder, first_back}
+use Rattle.cil_model.specs.Laws.TermsBack.{first_back}
+use Rattle.cil_model.specs.TermCodes.{preorder}
 use Rattle.cil_model.specs.Terms.{Term, term_size, condition_depth, old_count}
 use Rattle.cil_model.specs.TreeKinds.{IsNumberClause}
 use Rattle.cil_model.specs.WellFormed.{ClausesWithinLimits, HasInts, IsCallee, IsIntRoot}

@@ -5,7 +5,8 @@ use Rattle.std.proofs.lemmas.List.{length-map, take_all}
 use Rattle.asm_writer.specs.declared.plan.AsmPlan.{AsmPlan}
 use Rattle.asm_writer.specs.Assembly.{assembly_bytes}
 use Rattle.asm_writer.specs.Generator.{generated, methods_from}
-use Rattle.written_assemblies.specs.GeneratedFiles.{generated_file, held, held_method, held_plan}
+use Rattle.written_assemblies.specs.GeneratedFiles.{generated_file, held_method, held_plan}
+use Rattle.written_assemblies.specs.Laws.HeldLists.{held}
 use Rattle.asm_writer.specs.Plans.{Method, method_value, value}
 use Rattle.written_assemblies.proofs.AlikeFiles.{file_alike}
 use Rattle.written_assemblies.proofs.SmallFiles.{IsSmall, generated_small, so_many}

@@ -1,29 +1,11 @@
 -- Plans of plain lists, as the code holds them.
-use Rattle.std.specs.Prelude.{ℕ, ◌^◌, List, length, map, take}
-use Rattle.std.specs.Ptr.{null_ptr}
-use Rattle.std.specs.declared.alloc.Global.{Global}
-use Rattle.std.specs.declared.vec.Vec.{Vec}
-use Rattle.std.proofs.Common.{refl, arith, length-take}
+use Rattle.std.specs.Prelude.{ℕ, List, map}
 use Rattle.asm_writer.specs.declared.plan.AsmPlan.{AsmPlan}
 use Rattle.asm_writer.specs.declared.plan.MethodPlan.{MethodPlan}
 use Rattle.asm_writer.specs.Assembly.{assembly_bytes}
 use Rattle.asm_writer.specs.Generator.{generated}
 use Rattle.asm_writer.specs.Plans.{Method, Plan}
-
--- A list as the code holds it, of at most 2^32 items. Where they lie in memory is of no account.
-unfoldable pub held : {X : Type 0} → List X → Vec X Global
-held xs =
-    let items = take (2 ^ 32) xs in
-    let few = length-take (2 ^ 32) xs in
-    record {
-      ptr = null_ptr;
-      len = length items;
-      cap = length items;
-      alloc = record { memory = record { seal = tt } };
-      items = items;
-      ok = (refl, omega arith);
-      small = omega (arith, few);
-    }
+use Rattle.written_assemblies.specs.Laws.HeldLists.{held}
 
 unfoldable pub held_method : Method → MethodPlan
 held_method m = record {

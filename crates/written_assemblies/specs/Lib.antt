@@ -7,3 +7,4 @@ pub mod Readable
 pub mod Methods
 pub mod BodiesRead
 pub mod GeneratedFiles
+pub mod Laws

@@ -4,7 +4,8 @@ use Rattle.std.specs.Prelude.{option_map, option_and_then, if◌then◌else◌}
 use Rattle.std.specs.List.{AllByRecursion}
 use Rattle.std.proofs.lemmas.Int.{ints}
 use Rattle.std.proofs.lemmas.Bool.{cases_Bool, eqb-true}
-use Rattle.domain_api.specs.Order.{greater_gap, greater_gap-either}
+use Rattle.domain_api.specs.Laws.Gaps.{greater_gap-either}
+use Rattle.domain_api.specs.Order.{greater_gap}
 use Rattle.pentagon_domain.specs.declared.bound_row.BoundRow.{BoundRow}
 use Rattle.pentagon_domain.specs.Rows.{rows_from, constant_to, stored}
 use Rattle.pentagon_domain.specs.Gaps.{cut, greatest_sum, exact_gap, gap, gap_with, Allows, LiesAbove}

@@ -1,7 +1,7 @@
 use Rattle.std.proofs.Common.{◌≡◌, take}
 use Rattle.std.specs.List.{AllByRecursion}
 use Rattle.cil_model.specs.WellFormed.{HasInts}
-use Rattle.unit_builder.proofs.copies.copy_clauses.Given as goal
+use Rattle.cil_model.proofs.copies.copy_clauses.Given as goal
 
 abbrev pub invariant-loop-clause : goal.invariant-loop-clause
 invariant-loop-clause l = record {

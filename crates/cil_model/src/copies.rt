@@ -1,14 +1,15 @@
-//! Copies of clauses.
+//! Copies of trees and of clauses.
 
 ghost use Rattle.std.specs.Prelude.{◌≡◌, IfOk};
 ghost use Rattle.std.specs.List.{AllByRecursion};
 ghost use Rattle.cil_model.specs.TermCodes.{preorder};
 ghost use Rattle.cil_model.specs.Terms as terms;
+ghost use Rattle.cil_model.specs.TreeRoots.{alone, over_one, over_two};
 ghost use Rattle.cil_model.specs.WellFormed.{HasInts, IsIntRoot};
-ghost use Rattle.contract_extract.specs.TreeRoots.{alone, over_one, over_two};
 
+use crate::clause::Clause;
+use crate::tree::{Node, Tree};
 use cc_base::NoMemory;
-use cil_model::{Clause, Node, Tree};
 use std::alloc::Global;
 
 /// A tree of this root over one tree. Of another root it is that tree.
@@ -88,27 +89,46 @@ fn copied(alloc: Global, tree: &Tree) -> Result<Box<Tree>, NoMemory>
     }
 }
 
-/// A copy of a clause.
-fn copy_clause(alloc: Global, clause: &Clause) -> Result<Clause, NoMemory>
-    ensures value { IfOk result (λ copy. copy ≡ clause.now) }
-    ensures ints { IfOk result HasInts }
-{
-    let tree = copied(alloc, &clause.tree)?;
-    Ok(Clause {
-        kind: clause.kind,
-        tree: Box::into_inner(tree),
-    })
+impl Tree {
+    /// A copy in memory of its own.
+    ///
+    /// Cost: linear in the nodes; each tree below takes one piece of memory.
+    pub fn copy(&self, alloc: Global) -> Result<Tree, NoMemory>
+        ensures value { IfOk result (λ copy. copy ≡ self.now) }
+        // Its constants are int32, as those of each tree in memory are.
+        ensures ints { IfOk result (λ _. AllByRecursion IsIntRoot (preorder self.now)) }
+    {
+        Ok(Box::into_inner(copied(alloc, self)?))
+    }
+}
+
+impl Clause {
+    /// A copy in memory of its own.
+    ///
+    /// Cost: that of copying the tree.
+    pub fn copy(&self, alloc: Global) -> Result<Clause, NoMemory>
+        ensures value { IfOk result (λ copy. copy ≡ self.now) }
+        ensures ints { IfOk result HasInts }
+    {
+        Ok(Clause {
+            kind: self.kind,
+            tree: self.tree.copy(alloc)?,
+        })
+    }
 }
 
 /// Copies of clauses, in order.
+///
+/// Cost: that of copying their trees.
 #[tactic(auto, using(crate::proofs::TreeInts::one_more))]
-pub(crate) fn copy_clauses(alloc: Global, clauses: &[Clause]) -> Result<Vec<Clause>, NoMemory>
+pub fn copy_clauses(alloc: Global, clauses: &[Clause]) -> Result<Vec<Clause>, NoMemory>
     ensures value { IfOk result (λ copies. copies.items ≡ clauses.now) }
+    // Their constants are int32.
     ensures ints { IfOk result (λ copies. AllByRecursion HasInts copies.items) }
 {
-    let mut copies = Vec::new(alloc);
+    let mut copies = Vec::with_capacity(alloc, clauses.len())?;
     for clause in clauses {
-        copies.push(copy_clause(alloc, clause)?)?;
+        copies.push(clause.copy(alloc)?)?;
     }
     Ok(copies)
 }

@@ -1,6 +1,6 @@
 //! The arguments that runs begin with.
 
-use cil_model::List;
+use crate::list::List;
 
 /// An argument of the method that a run begins with.
 #[derive(Drop)]
