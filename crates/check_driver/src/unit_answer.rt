@@ -20,16 +20,17 @@ use crate::fault_text::unit_fault_text;
 use crate::unit_report::report_lines;
 use answer_lines::{Interrupt, answer_refused, put_lines};
 use cc_base::{READ_LIMIT, Sink};
-use cil_model::{MAX_FILE_BYTES, Unit};
+use cil_model::MAX_FILE_BYTES;
 use invariant_checker::all_proved;
 use method_unit::{UnitRefusal, read_unit};
+use stack_typer::TypedUnit;
 use std::alloc::Global;
 use widening_engine::Finder;
 
 /// Puts the report of a unit, and returns whether the unit is proved.
 fn put_report<O: Sink, D: Finder>(
     alloc: Global,
-    unit: Unit,
+    unit: TypedUnit,
     out: &mut O,
     finder: &mut D,
 ) -> Result<bool, Interrupt>

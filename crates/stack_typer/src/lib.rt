@@ -15,6 +15,8 @@ mod passes;
 mod stack;
 mod successors;
 mod type_instr;
+mod typed_unit;
 
 pub use kinds::{Kinds, TypeRefusal};
 pub use passes::type_code;
+pub use typed_unit::TypedUnit;
