@@ -101,8 +101,8 @@ fn find<D: Finder>(
     Finding::of(alloc, outcome, judged, finder)
 }
 
-/// Returns what is found of each method of an assembly, with the text of its invariant where that is shown. Of equal units
-/// one is judged.
+/// Returns what is found of each method of an assembly, with the text of its invariant where that is shown. Of equal
+/// units one is judged.
 pub fn find_all<D: Finder>(
     alloc: Global,
     assembly: &Assembly<'_>,
@@ -226,8 +226,8 @@ fn text_of(alloc: Global, lines: &[Vec<u8>]) -> Result<Vec<u8>, AllocError>
     Ok(text)
 }
 
-/// The report of an assembly whose file has this name, as `check` writes it, with the invariants where these are shown. The finder is asked for an invariant of
-/// each unit that is judged, of equal units once.
+/// The report of an assembly whose file has this name, as `check` writes it, with the invariants where these are shown.
+/// The finder is asked for an invariant of each unit that is judged, of equal units once.
 ///
 /// Cost: that of `check`, and the text once more.
 pub fn report<D: Finder>(
@@ -265,8 +265,8 @@ fn answer_assembly<O: Sink, D: Finder>(
 
 /// Answers `check FILE` for the bytes of the file. The report shows the invariants where these are asked for.
 ///
-/// Cost: the code of each method is read once, however many methods call it, and of equal units one is analysed. What is found
-/// of each is kept until all is.
+/// Cost: the code of each method is read once, however many methods call it, and of equal units one is analysed. What
+/// is found of each is kept until all is.
 pub fn answer_check<O: Sink, E: Sink, D: Finder>(
     alloc: Global,
     name: &[u8],

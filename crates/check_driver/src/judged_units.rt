@@ -16,8 +16,8 @@ use std::alloc::{AllocError, Global};
 use std::marker::Model;
 use widening_engine::Finder;
 
-/// What is found of each unit that was judged, by the bytes of its file. Contracts see these bytes, in the order in which
-/// the units came, and whether invariants are shown.
+/// What is found of each unit that was judged, by the bytes of its file. Contracts see these bytes, in the order in
+/// which the units came, and whether invariants are shown.
 #[derive(Drop)]
 pub struct JudgedUnits {
     show: bool,

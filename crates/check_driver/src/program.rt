@@ -222,8 +222,8 @@ fn finish<E: Sink>(alloc: Global, answered: Result<u8, Interrupt>, err: &mut E) 
     }
 }
 
-/// The program: answers the words, writes to the two sinks and gives the status. The finder is asked for an invariant of each
-/// unit that is judged, of equal units once.
+/// The program: answers the words, writes to the two sinks and gives the status. The finder is asked for an invariant
+/// of each unit that is judged, of equal units once.
 ///
 /// Statuses 4, 6 and 7 end a call early: a device refused a read, a sink refused, memory ran out.
 pub fn run_words<F: Files, O: Sink, E: Sink, D: Finder>(
@@ -234,8 +234,8 @@ pub fn run_words<F: Files, O: Sink, E: Sink, D: Finder>(
     err: &mut E,
     finder: &mut D,
 ) -> u8
-    // What is written, the status, and what the finder is asked for: those that are expected for the words and for what is
-    // held under the names of their files (where that is not told, for something under each).
+    // What is written, the status, and what the finder is asked for: those that are expected for the words and for what
+    // is held under the names of their files (where that is not told, for something under each).
     ensures output { let given = words_bytes words.now in
         let failed = Rose (F.faults files.old) (F.faults files.new) in
         (met : List (Option (List ℕ))) × AreUnder (F.held files.old) (file_names given) met
@@ -243,8 +243,8 @@ pub fn run_words<F: Files, O: Sink, E: Sink, D: Finder>(
         (change_of O.written O.faults out.old out.new) (change_of E.written E.faults err.old err.new)
         × LeavesAsked (asked_by given met) result (D.asked finder.old) (D.asked finder.new) }
     ensures files { F.held files.new ≡ F.held files.old }
-    // Where the report of an assembly has told each method that one reaches by calls to be proved, no run of that one in its
-    // world is ever at a fault, whatever the status and however far the report came.
+    // Where the report of an assembly has told each method that one reaches by calls to be proved, no run of that one
+    // in its world is ever at a fault, whatever the status and however far the report came.
     ensures headline { (held : Held) (k : ℕ) (bytes text : List ℕ) (method : MethodRow) → F.held files.old ≡ Some held
         → IsAssemblyOf (words_bytes words.now) held k bytes → WasAppended (O.written out.old) (O.written out.new) text
         → Contains (methods_of bytes) method → TellAllProved (section k text) bytes method
