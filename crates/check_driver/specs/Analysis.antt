@@ -1,4 +1,4 @@
--- The verdicts on the obligations of a unit, and the text of the invariant that they rest on.
+-- The verdicts on the obligations of a unit, and the text of the invariant that they rest on, under any pick of one.
 use Rattle.std.specs.Prelude.{ℕ, Bool, List, [], if◌then◌else◌}
 use Rattle.cil_model.specs.declared.unit.Unit.{Unit as MethodUnit}
 use Rattle.invariant_checker.specs.Inducts.{has_shape}
