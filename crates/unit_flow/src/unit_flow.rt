@@ -10,9 +10,9 @@ ghost use Rattle.unit_flow.specs.Flow.{IsLawful};
 ghost use Rattle.unit_flow.specs.FlowOf.{flow_of, kinds_of};
 ghost use Rattle.unit_flow.specs.Runs.{RunsGoAlong};
 
-use crate::instructions::{before_offset, from_offset, index_of};
+use crate::instructions::{before_offset, from_offset};
 use cc_base::{NoMemory, Refusal};
-use cil_model::{Instr, Kind, Shape, Unit};
+use cil_model::{Instr, Kind, Shape, Unit, index_of};
 use flow_graph::Graph;
 use stack_typer::{Kinds, type_code};
 use std::alloc::{AllocError, Global};
