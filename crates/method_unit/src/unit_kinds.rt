@@ -4,7 +4,7 @@ ghost use Rattle.std.specs.Prelude.{◌≡◌, ◌+◌, ◌<◌, ◌^◌};
 ghost use Rattle.cc_base.specs.Tests.{JudgesOrNoMemory};
 ghost use Rattle.cil_model.specs.Passes.{KindsOf};
 ghost use Rattle.stack_typer.specs.FaultPlaces.{type_fault_at};
-ghost use Rattle.stack_typer.specs.LaidOut.{AreLaidOut};
+ghost use Rattle.cil_model.specs.Offsets.{AreLaidOut};
 ghost use Rattle.cil_model.specs.Limits.{MAX_CODE_BYTES};
 ghost use Rattle.method_unit.specs.UnitFile.{typing_test};
 ghost use Rattle.method_unit.specs.Units.{AreWithin};

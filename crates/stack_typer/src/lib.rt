@@ -8,7 +8,6 @@ mod conflicts;
 mod follow;
 mod kinds;
 mod merging;
-mod offsets;
 mod operands;
 mod operations;
 mod passes;

@@ -5,7 +5,7 @@ ghost use Rattle.std.specs.List.{list_all};
 ghost use Rattle.cc_base.specs.Tests.{first_of, JudgesOrNoMemory};
 ghost use Rattle.cil_model.specs.Passes.{KindsOf};
 ghost use Rattle.stack_typer.specs.FirstTypeFault.{first_type_fault};
-ghost use Rattle.stack_typer.specs.LaidOut.{AreLaidOut};
+ghost use Rattle.cil_model.specs.Offsets.{AreLaidOut};
 ghost use Rattle.unit_builder.specs.Bodies.{callee_tokens};
 ghost use Rattle.unit_builder.specs.Making.{AreCallees, AreVariablesOf, HasParts, IsOwnCode};
 ghost use Rattle.unit_builder.specs.Reasons.{has_short_name, kind_tests, unit_shape};

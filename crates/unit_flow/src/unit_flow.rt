@@ -8,9 +8,9 @@ ghost use Rattle.unit_flow.specs.Flow.{IsLawful};
 ghost use Rattle.unit_flow.specs.FlowOf.{flow_of};
 ghost use Rattle.unit_flow.specs.Runs.{RunsGoAlong};
 
-use crate::instructions::{before_offset, from_offset, index_of};
+use crate::instructions::{before_offset, from_offset};
 use cc_base::NoMemory;
-use cil_model::{Instr, Kind, Unit};
+use cil_model::{Instr, Kind, Unit, index_of};
 use flow_graph::Graph;
 use stack_typer::{Kinds, TypedUnit};
 use std::alloc::Global;
