@@ -22,6 +22,11 @@ impl Model for TypedUnit {
 
     ghost Value = { MethodUnit };
 
+    ghost use Rattle.std.specs.Coded.{codes};
+    ghost use Rattle.cil_model.specs.contracts.unit.Unit as the_unit;
+
+    ghost coded = { Prim.hlevel (codes, the_unit.the_row.coded) };
+
     ghost view = { λ typed. typed.unit };
 
     ghost invariant = { λ typed. KindsOf (shape_of typed.unit) typed.unit.instrs typed.kinds };
