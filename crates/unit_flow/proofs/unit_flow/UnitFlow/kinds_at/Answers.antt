@@ -6,8 +6,10 @@ use Rattle.unit_flow.proofs.unit_flow.UnitFlow.kinds_at.Goals as goal
 pub index_of-requires : goal.index_of-requires
 index_of-requires c =
     rw c.as_slice-2.ensures
-    (laid_rise c.args.self.now.unit.instrs
-    (code_lies c.args.self.now.unit.instrs c.args.self.now.unit.code c.requires.lawful.formed.code))
+    (record {
+      rise = laid_rise c.args.self.now.unit.instrs
+          (code_lies c.args.self.now.unit.instrs c.args.self.now.unit.code c.requires.lawful.formed.code);
+    })
 
 pub returns-in-None : goal.returns-in-None
 returns-in-None c =
