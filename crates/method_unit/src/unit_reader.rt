@@ -92,7 +92,8 @@ fn unit_at(alloc: Global, fields: UnitFields<'_>) -> Result<TypedUnit, UnitRefus
         callees: List::from_vec(fields.callees),
     };
     let offsets = fields.callee_offsets;
-    let (contracts, kinds) = check_instrs(alloc, &instrs, &shape, &offsets, base)?;
+    let tested = check_instrs(alloc, &instrs, &shape, &offsets, base)?;
+    let (contracts, kinds) = tested;
     let unit = Unit {
         name: List::from_vec(Vec::from_slice(alloc, fields.name)?),
         result: shape.result,
