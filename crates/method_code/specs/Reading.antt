@@ -20,7 +20,7 @@ use Rattle.method_code.specs.Called.{callees_of}
 use Rattle.method_code.specs.Numbering.{numbered, spelled_code}
 use Rattle.method_code.specs.OfMethods.{HasSignature, bare_shape, code_of, is_number_clause}
 use Rattle.method_code.specs.declared.code_reader.MethodCode.{MethodCode}
-use Rattle.stack_typer.specs.LaidOut.{AreLaidOut}
+use Rattle.cil_model.specs.Offsets.{AreLaidOut}
 
 abbrev pub as_token : ℕ → Token
 as_token number = record { 0 = number }

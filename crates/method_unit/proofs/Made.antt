@@ -1,5 +1,5 @@
 -- The unit that is made of the fields of a file.
-use Rattle.std.proofs.Common.{◌≡◌, ℕ, List, None, subst, ◌∙◌}
+use Rattle.std.proofs.Common.{◌≡◌, ℕ, List, None, subst, sym, ◌∙◌}
 use Rattle.std.specs.List.{AllByRecursion}
 use Rattle.cc_base.specs.Tests.{first_of}
 use Rattle.cc_base.proofs.TestLemmas.{first_of-none}
@@ -7,6 +7,7 @@ use Rattle.cil_model.specs.Code.{CodeOf}
 use Rattle.cil_model.specs.Bodies.{HasBody}
 use Rattle.cil_model.specs.FitKinds.{AreDecoded}
 use Rattle.cil_model.specs.Passes.{KindsOf, Stacks}
+use Rattle.cil_model.specs.Shapes.{shape_of}
 use Rattle.cil_model.specs.TreeKinds.{IsNumberClause}
 use Rattle.cil_model.specs.WellFormed.{ClausesWithinLimits}
 use Rattle.cil_model.specs.declared.instruction.Instr.{Instr}
@@ -68,3 +69,9 @@ made fields found shape offsets unit shape_is offsets_are decodes found_is spell
         body = told.body;
       },
     )
+
+-- The kinds of code are those of the unit that is made of it.
+pub kinds_in : (shape : Shape) (is : List Instr) (stacks : Stacks) (unit : MethodUnit) → shape ≡ shape_of unit → unit.instrs ≡ is
+    → KindsOf shape is stacks → KindsOf (shape_of unit) unit.instrs stacks
+kinds_in shape is stacks unit same are kinds =
+    subst (λ (code : List Instr). KindsOf (shape_of unit) code stacks) (sym are) (subst (λ (s : Shape). KindsOf s is stacks) same kinds)

@@ -67,7 +67,16 @@ fn call_operation(call: Option<UnitCall>, state: &AbsState) -> Option<Operation>
 {
     match call {
         Some(UnitCall::Assert(message)) => assertion_of(state.from_top(usize::from(message))),
-        _ => None,
+        Some(
+            UnitCall::Requires(_)
+            | UnitCall::Ensures(_)
+            | UnitCall::Assume(_)
+            | UnitCall::EndContractBlock
+            | UnitCall::Result(_)
+            | UnitCall::OldValue(_)
+            | UnitCall::Callee(_),
+        )
+        | None => None,
     }
 }
 
@@ -82,7 +91,22 @@ fn found_operation(op: &Op, state: &AbsState) -> Option<Operation>
         Op::NewArray(_) => array_of(state.from_top(0)),
         Op::Bin(op) => binary_of(*op, state.from_top(1), state.from_top(0)),
         Op::Call(number) => call_operation(unit_call(*number), state),
-        _ => None,
+        Op::Nop
+        | Op::LoadArg(_)
+        | Op::StoreArg(_)
+        | Op::LoadLocal(_)
+        | Op::StoreLocal(_)
+        | Op::Null
+        | Op::Const(_)
+        | Op::Dup
+        | Op::Pop
+        | Op::Return
+        | Op::Branch(_, _)
+        | Op::Switch(_)
+        | Op::Neg
+        | Op::Not
+        | Op::ConvI4
+        | Op::Text(_) => None,
     }
 }
 

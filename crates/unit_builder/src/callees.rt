@@ -11,12 +11,11 @@ ghost use Rattle.unit_builder.specs.Reasons.{callee_info, has_short_name, info_w
 ghost use Rattle.unit_builder.specs.Rows.{IsRowOf};
 ghost use Rattle.unit_builder.specs.Slots.{AreSlots, IsSlotOf};
 
-use crate::copies::copy_clauses;
 use crate::names::unit_name;
 use crate::slots::Slot;
 use asm_image::{Assembly, MethodRow};
 use cc_base::{NoMemory, Token};
-use cil_model::{CalleeInfo, Clause, List, Place};
+use cil_model::{CalleeInfo, Clause, List, Place, copy_clauses};
 use signature_blobs::SigTypes;
 use std::alloc::Global;
 

@@ -4,7 +4,6 @@
 mod callees;
 mod calls;
 mod code_checks;
-mod copies;
 mod entry;
 mod header;
 mod making;

@@ -12,12 +12,11 @@ ghost use Rattle.unit_builder.specs.Slots.{IsSlotOf, IsWhole};
 ghost use Rattle.unit_builder.specs.declared.reason.Reason.TheVariants as reasons;
 
 use crate::code_checks::check_code;
-use crate::copies::copy_clauses;
 use crate::reason::{Reason, UnitRefusal};
 use crate::slots::Slot;
 use asm_image::{Assembly, MethodRow};
 use cc_base::{Refusal, Token};
-use cil_model::{Instr, List};
+use cil_model::{Instr, List, copy_clauses};
 use contract_extract::Contracts;
 use method_code::MethodCode;
 use std::alloc::{AllocError, Global};

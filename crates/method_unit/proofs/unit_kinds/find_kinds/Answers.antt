@@ -1,7 +1,7 @@
 use Rattle.std.proofs.Common.{ℕ, ◌≤◌, subst, sym}
 use Rattle.stack_typer.proofs.FaultPlaces.{type_fault_place}
 use Rattle.method_unit.proofs.Places.{place_fits}
-use Rattle.method_unit.proofs.unit_kinds.check_kinds.Goals as goal
+use Rattle.method_unit.proofs.unit_kinds.find_kinds.Goals as goal
 
 pub overflow_add-result : goal.overflow_add-result
 overflow_add-result c =
