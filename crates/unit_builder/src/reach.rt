@@ -30,10 +30,11 @@ fn visit(alloc: Global, units: &mut Units<'_>, token: Token) -> Result<Option<Vi
 {
     let index = token.row() as usize - 1;
     match units.outcome(alloc, index)? {
-        Outcome::Analysed(unit) => Ok(Some(Visited {
-            unit: unit.into_unit(),
-            callees: units.callees(alloc, index)?,
-        })),
+        Outcome::Analysed(unit) => {
+            let callees = units.callees(alloc, index)?;
+            let unit = unit.into_unit();
+            Ok(Some(Visited { unit, callees }))
+        }
         Outcome::Skipped(_) => Ok(None),
     }
 }
