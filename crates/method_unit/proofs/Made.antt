@@ -7,7 +7,6 @@ use Rattle.cil_model.specs.Code.{CodeOf}
 use Rattle.cil_model.specs.Bodies.{HasBody}
 use Rattle.cil_model.specs.FitKinds.{AreDecoded}
 use Rattle.cil_model.specs.Passes.{KindsOf, Stacks}
-use Rattle.cil_model.specs.Shapes.{shape_of}
 use Rattle.cil_model.specs.TreeKinds.{IsNumberClause}
 use Rattle.cil_model.specs.WellFormed.{ClausesWithinLimits}
 use Rattle.cil_model.specs.declared.instruction.Instr.{Instr}
@@ -70,8 +69,13 @@ made fields found shape offsets unit shape_is offsets_are decodes found_is spell
       },
     )
 
--- The kinds of code are those of the unit that is made of it.
-pub kinds_in : (shape : Shape) (is : List Instr) (stacks : Stacks) (unit : MethodUnit) → shape ≡ shape_of unit → unit.instrs ≡ is
-    → KindsOf shape is stacks → KindsOf (shape_of unit) unit.instrs stacks
-kinds_in shape is stacks unit same are kinds =
-    subst (λ (code : List Instr). KindsOf (shape_of unit) code stacks) (sym are) (subst (λ (s : Shape). KindsOf s is stacks) same kinds)
+-- The kinds of code of a shape are those of the same code of the same shape.
+pub kinds_in : (shape other : Shape) (is code : List Instr) (stacks : Stacks) → shape ≡ other → code ≡ is → KindsOf shape is stacks → KindsOf other code stacks
+kinds_in shape other is code stacks same are kinds =
+    subst (λ (c : List Instr). KindsOf other c stacks) (sym are) (subst (λ (s : Shape). KindsOf s is stacks) same kinds)
+
+-- What is told of a unit is so of one that is equal to it.
+pub made_as : (fields : FieldsOfUnit) (unit told : MethodUnit) → unit ≡ told
+    → (first_of (code_tests_of fields) ≡ None) × IsUnitOf fields (instructions_of fields.code) told
+    → (first_of (code_tests_of fields) ≡ None) × IsUnitOf fields (instructions_of fields.code) unit
+made_as fields unit told same (passed, is) = (passed, subst (IsUnitOf fields (instructions_of fields.code)) (sym same) is)

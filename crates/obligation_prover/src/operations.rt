@@ -91,22 +91,8 @@ fn found_operation(op: &Op, state: &AbsState) -> Option<Operation>
         Op::NewArray(_) => array_of(state.from_top(0)),
         Op::Bin(op) => binary_of(*op, state.from_top(1), state.from_top(0)),
         Op::Call(number) => call_operation(unit_call(*number), state),
-        Op::Nop
-        | Op::LoadArg(_)
-        | Op::StoreArg(_)
-        | Op::LoadLocal(_)
-        | Op::StoreLocal(_)
-        | Op::Null
-        | Op::Const(_)
-        | Op::Dup
-        | Op::Pop
-        | Op::Return
-        | Op::Branch(_, _)
-        | Op::Switch(_)
-        | Op::Neg
-        | Op::Not
-        | Op::ConvI4
-        | Op::Text(_) => None,
+        // The definition names each instruction.
+        _ => None,
     }
 }
 

@@ -93,24 +93,6 @@ pub use_stands : (calls : List ℕ) (n : ℕ) (met : List ℕ) → is_in calls n
 use_stands [] n met there = absurd cc
 use_stands (m ∷ calls) n met there = one_stands met calls m n (is_in met m) (m == n) refl refl there (use_stands calls n)
 
-behind : (b rest : Bool) → rest ≡ true → (b || rest) ≡ true
-behind true rest so = refl
-behind false rest so = so
-
-either : (b first second : Bool) → (first ≡ true → second ≡ true) → (b || first) ≡ true → (b || second) ≡ true
-either true first second on so = refl
-either false first second on so = on so
-
-one_called : (met calls : List ℕ) (m n : ℕ) (known : Bool) → ((met : List ℕ) → is_in (first_uses met calls) n ≡ true → is_in calls n ≡ true)
-    → is_in (uses_behind known met calls m) n ≡ true → (m == n || is_in calls n) ≡ true
-one_called met calls m n true later there = behind (m == n) (is_in calls n) (later met there)
-one_called met calls m n false later there = either (m == n) (is_in (first_uses (m ∷ met) calls) n) (is_in calls n) (later (m ∷ met)) there
-
--- Each number among the uses is called.
-pub use_called : (calls : List ℕ) (n : ℕ) (met : List ℕ) → is_in (first_uses met calls) n ≡ true → is_in calls n ≡ true
-use_called [] n met there = absurd cc
-use_called (m ∷ calls) n met there = one_called met calls m n (is_in met m) (use_called calls n) there
-
 later_within : (k len : ℕ) → nat_lt (1 + k) (suc len) ≡ nat_lt k len
 later_within k len = elim (cases_lt k len) [
   | inl less ↦ lt-ltb (1 + k) (suc len) (omega (arith, less)) ∙ sym (lt-ltb k len less)
