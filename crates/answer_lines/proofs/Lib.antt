@@ -1,1 +1,2 @@
+pub mod KindRows
 pub mod Writings

@@ -2,19 +2,15 @@
 use Rattle.std.specs.Prelude.{ℕ, Bool, List, ◌++◌, if◌then◌else◌, codes}
 use Rattle.std.specs.Fmt.{decimal}
 use Rattle.cc_base.specs.Digits.{hex}
-use Rattle.cil_model.specs.Places.{parameters_text}
 use Rattle.cil_model.specs.declared.unit.Unit.{Unit as MethodUnit}
+use Rattle.answer_lines.specs.Signatures.{unit_signature}
 use Rattle.answer_lines.specs.declared.lines.Counts.{Counts}
-
--- A unit's name with its parameters' types.
-abbrev pub signature_text : MethodUnit → List ℕ
-signature_text unit = unit.name ++ codes "(" ++ parameters_text unit.args ++ codes ")"
 
 abbrev pub proved_text : Bool → List ℕ
 proved_text proved = if proved then codes "proved" else codes "unproved"
 
 abbrev pub unit_line : MethodUnit → Bool → List ℕ
-unit_line unit proved = codes "unit " ++ signature_text unit ++ codes ": " ++ proved_text proved ++ codes "\n"
+unit_line unit proved = codes "unit " ++ unit_signature unit ++ codes ": " ++ proved_text proved ++ codes "\n"
 
 -- The line of an obligation: its IL offset, what may go wrong there, and whether it is proved.
 abbrev pub obligation_line : ℕ → List ℕ → Bool → List ℕ

@@ -5,8 +5,9 @@ ghost use Rattle.answer_lines.specs.Counting.{AreBelow, counts_plus, no_counts};
 ghost use Rattle.std.specs.Fmt.{decimal};
 ghost use Rattle.answer_lines.specs.Lines.{obligation_line, proved_text, summary_line, unit_line};
 
+use crate::signatures::append_signature;
 use cc_base::{put_hex, put_number};
-use cil_model::{Unit, append_parameters};
+use cil_model::Unit;
 use std::alloc::{AllocError, Global};
 
 /// The words of a verdict.
@@ -21,10 +22,8 @@ pub fn unit_line(alloc: Global, unit: &Unit, proved: bool) -> Result<Vec<u8>, Al
     ensures { IfOk result (λ line. line.items ≡ unit_line unit.now proved) }
 {
     let mut line = Vec::from_slice(alloc, b"unit ")?;
-    line.extend_from_slice(unit.name.as_slice())?;
-    line.extend_from_slice(b"(")?;
-    append_parameters(alloc, &mut line, unit.args.as_slice())?;
-    line.extend_from_slice(b"): ")?;
+    append_signature(alloc, &mut line, unit.name.as_slice(), unit.args.as_slice())?;
+    line.extend_from_slice(b": ")?;
     line.extend_from_slice(proved_text(proved))?;
     line.extend_from_slice(b"\n")?;
     Ok(line)

@@ -23,7 +23,7 @@ use Rattle.command_words.specs.Words.{checked_files, command_of, file_names, wor
 use Rattle.command_words.specs.declared.command.Command.{Command}
 use Rattle.command_words.specs.declared.command.Command.TheVariants as commands
 use Rattle.metadata_tables.specs.Numbers.{method_def}
-use Rattle.method_code.specs.Reading.{as_token}
+use Rattle.unit_builder.specs.Meanings.{as_token}
 use Rattle.pe_reader.specs.Addresses.{metadata}
 use Rattle.method_unit.specs.Units.{IsUnit}
 use Rattle.safe_worlds.proofs.SafeWorlds.{world_is_safe}

@@ -10,7 +10,8 @@ use Rattle.cil_model.specs.Places.{parameters_text}
 use Rattle.cil_model.specs.WellFormed.{IsUnitName}
 use Rattle.cil_model.specs.declared.unit.Unit.{Unit as MethodUnit}
 use Rattle.answer_lines.specs.Answers.{Answer}
-use Rattle.answer_lines.specs.Lines.{proved_text, signature_text, summary_line, unit_line}
+use Rattle.answer_lines.specs.Lines.{proved_text, summary_line, unit_line}
+use Rattle.answer_lines.specs.Signatures.{signature_text, unit_signature}
 use Rattle.command_words.specs.Words.{command_files, command_of, file_names, word_at, words_at}
 use Rattle.command_words.specs.declared.command.Command.{Command}
 use Rattle.command_words.specs.declared.command.Command.TheVariants as commands
@@ -36,9 +37,10 @@ use Rattle.check_driver.proofs.WholeLines.{IsOneLine, same_first}
 
 -- Without its line feed.
 abbrev pub unit_said : MethodUnit → Bool → List ℕ
-unit_said unit proved = codes "unit " ++ signature_text unit ++ codes ": " ++ proved_text proved
+unit_said unit proved = codes "unit " ++ unit_signature unit ++ codes ": " ++ proved_text proved
 
-signature_no_feed : (unit : MethodUnit) → IsUnitName unit.name → NoFeed (signature_text unit)
+signature_no_feed : (unit : MethodUnit) → IsUnitName unit.name → NoFeed (unit_signature unit)
+unfolding signature_text
 signature_no_feed unit name =
     let opened = unit.name ++ codes "(" in
     no_feed_behind (opened ++ parameters_text unit.args) (codes ")")
@@ -46,10 +48,10 @@ signature_no_feed unit name =
 
 unit_one_line : (unit : MethodUnit) (proved : Bool) → IsUnitName unit.name → IsOneLine (unit_said unit proved)
 unit_one_line unit proved name =
-    let head = codes "unit " ++ signature_text unit in
+    let head = codes "unit " ++ unit_signature unit in
     one_line (unit_said unit proved)
     (no_feed_behind (head ++ codes ": ") (proved_text proved)
-    (no_feed_behind head (codes ": ") (no_feed_behind (codes "unit ") (signature_text unit) refl (signature_no_feed unit name)) refl) (proved_no_feed proved))
+    (no_feed_behind head (codes ": ") (no_feed_behind (codes "unit ") (unit_signature unit) refl (signature_no_feed unit name)) refl) (proved_no_feed proved))
 
 -- Texts with ends of one length are equal part by part.
 same_ends : (a b x y : List ℕ) → length x ≡ length y → a ++ x ≡ b ++ y → (a ≡ b) × (x ≡ y)
@@ -80,7 +82,7 @@ report_begins unit =
 
 -- A front of it whose first line tells a unit to be proved tells this one to be so.
 report_tells : (unit : MethodUnit) (text signature : List ℕ) → IsUnitName unit.name → slice_get (lines_of text) 0 ≡ Some (codes "unit " ++ signature ++ codes ": proved")
-    → IsFront text (unit_report unit) → (signature ≡ signature_text unit) × (all_proved (unit_verdicts unit) ≡ true)
+    → IsFront text (unit_report unit) → (signature ≡ unit_signature unit) × (all_proved (unit_verdicts unit) ≡ true)
 report_tells unit text signature name first (rest, is) =
     let line = codes "unit " ++ signature ++ codes ": proved" in
     let proved = all_proved (unit_verdicts unit) in
@@ -88,7 +90,7 @@ report_tells unit text signature name first (rest, is) =
     let report = report_begins unit in
     let whole : unit_report unit ≡ line ++ 10 ∷ (begins.1.0 ++ rest) =
     is ∙ ap (λ (l : List ℕ). l ++ rest) begins.1.1 ∙ append_assoc line (10 ∷ begins.1.0) rest in
-    verdict_told signature (signature_text unit) proved
+    verdict_told signature (unit_signature unit) proved
     (same_first line (unit_said unit proved) (begins.1.0 ++ rest) report.0 begins.0 (unit_one_line unit proved name) (sym whole ∙ report.1)).0
 
 -- ---- the answer

@@ -22,7 +22,6 @@ use Rattle.cil_model.specs.declared.machine.FaultKind.TheVariants as faults
 use Rattle.cil_model.specs.Places.{parameters_text}
 use Rattle.cil_model.specs.WellFormed.{IsCallee}
 use Rattle.cil_model.specs.declared.unit.CalleeInfo.{CalleeInfo}
-use Rattle.method_run.specs.FaultTexts.{callee_text, kind_text, signature_text}
 use Rattle.check_driver.specs.Analysis.{unit_verdicts}
 use Rattle.unit_builder.specs.Outcomes.{IfAnalysed, entry_of, outcome_of}
 use Rattle.unit_builder.specs.declared.entry.Outcome.{Outcome}
@@ -32,7 +31,9 @@ use Rattle.unit_builder.specs.declared.reason.Reason.TheVariants as reasons
 use Rattle.check_driver.specs.CheckText.{Unjudged, finding, outcome_shown, verdict_text}
 use Rattle.check_driver.specs.ReportText.{callee_of}
 use Rattle.check_driver.specs.ReasonText.{clause_reason, code_reason, kind_reason, opcode_text, placed, reason_text}
+use Rattle.answer_lines.specs.FaultKinds.{callee_text, kind_text}
 use Rattle.answer_lines.specs.Lines.{proved_text}
+use Rattle.answer_lines.specs.Signatures.{signature_text}
 use Rattle.answer_lines.specs.declared.lines.Counts.{Counts}
 use Rattle.invariant_text.proofs.PlainTexts.{NoFeed, hex_no_feed, label_no_feed, no_feed_behind, number_no_feed}
 use Rattle.check_driver.proofs.PlainTexts.{escaped_no_feed, graphic_no_feed, name_no_feed, one_line, parameters_no_feed}

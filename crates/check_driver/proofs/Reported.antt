@@ -6,11 +6,11 @@ use Rattle.cc_base.specs.Digits.{hex}
 use Rattle.cc_base.specs.Escapes.{escaped}
 use Rattle.invariant_checker.specs.declared.verdict.Verdict.{Verdict}
 use Rattle.cil_model.specs.declared.unit.CalleeInfo.{CalleeInfo}
-use Rattle.method_run.specs.FaultTexts.{kind_text}
 use Rattle.unit_builder.specs.Outcomes.{entries_of}
 use Rattle.unit_builder.specs.declared.entry.MethodEntry.{MethodEntry}
 use Rattle.unit_builder.specs.declared.entry.Outcome.{Outcome}
 use Rattle.check_driver.specs.CheckText.{Finding, Judged, Unjudged, all_counts, assembly_line, check_text, entry_lines, finding, finding_lines, method_line, outcome_shown, verdict_lines, verdict_text}
+use Rattle.answer_lines.specs.FaultKinds.{kind_text}
 use Rattle.answer_lines.specs.Lines.{proved_text, summary_line}
 use Rattle.check_driver.specs.ReportText.{callee_of, verdict_line}
 use Rattle.answer_lines.specs.declared.lines.Counts.{Counts}

@@ -21,7 +21,7 @@ use Rattle.unit_flow.proofs.KindsFound.{found_kinds}
 use Rattle.unit_form.specs.Spelling.{unit_bytes}
 use Rattle.widening_engine.specs.Limits.{limit_of}
 use Rattle.method_unit.specs.UnitFile.{unit_of}
-use Rattle.check_driver.specs.Analysis.{shown_text, states_text, unit_verdicts}
+use Rattle.check_driver.specs.Analysis.{Pick, limit_pick, shown_text, states_text, unit_verdicts, verdicts_under}
 use Rattle.check_driver.specs.Findings.{AreFoundBy, AreWithin, IsFoundOf}
 use Rattle.check_driver.specs.declared.judgement.Judgement.{Judgement}
 
@@ -33,10 +33,13 @@ lawful_flow unit is =
     let typed = subst (KindsOf (shape_of unit) unit.instrs) (found_kinds unit well.runs.stacks well.runs.kinds) well.runs.kinds in
     record { formed = well; graph = refl; kinds = typed }
 
+-- Under whatever pick.
+pub proved_under_safe : (pick : Pick) (unit : MethodUnit) → IsUnit unit → all_proved (verdicts_under pick unit) ≡ true → IsSafe unit
+proved_under_safe pick unit is proved = proved_is_safe (flow_of unit) (pick unit) (lawful_flow unit is) proved
+
 pub proved_unit_safe : (unit : MethodUnit) → IsUnit unit → all_proved (unit_verdicts unit) ≡ true → IsSafe unit
 unfolding unit_verdicts
-proved_unit_safe unit is proved =
-    proved_is_safe (flow_of unit) (limit_of (flow_of unit)) (lawful_flow unit is) proved
+proved_unit_safe unit is proved = proved_under_safe limit_pick unit is proved
 
 -- ---- its verdicts
 

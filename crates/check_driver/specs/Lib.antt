@@ -14,3 +14,4 @@ pub mod Checked
 pub mod Sections
 pub mod Headline
 pub mod ProvedUnit
+pub mod NothingOr

@@ -5,7 +5,7 @@ use Rattle.cil_model.specs.declared.unit.Unit.{Unit as MethodUnit}
 use Rattle.unit_form.specs.Spelling.{unit_bytes}
 use Rattle.method_unit.specs.UnitFile.{unit_of}
 use Rattle.method_unit.specs.Units.{IsUnit}
-use Rattle.answer_lines.specs.Lines.{signature_text}
+use Rattle.answer_lines.specs.Signatures.{unit_signature}
 use Rattle.command_words.specs.Words.{command_of, word_at}
 use Rattle.command_words.specs.declared.command.Command.{Command}
 use Rattle.command_words.specs.declared.command.Command.TheVariants as commands
@@ -30,7 +30,7 @@ pub record SpellSafeUnit (bytes signature : List ℕ) : Type 0 where
   pub unit : MethodUnit
   pub is_unit : IsUnit unit
   pub spelled : bytes ≡ unit_bytes unit
-  pub named : signature ≡ signature_text unit
+  pub named : signature ≡ unit_signature unit
   pub safe : IsSafe unit
 
 -- ---- what the code knows of a unit's file once it has begun the report

@@ -2,13 +2,13 @@
 use Rattle.std.specs.Prelude.{ℕ, List, ◌++◌, length, Option, if◌then◌else◌, slice_get}
 use Rattle.std.specs.List.{flat_map}
 use Rattle.std.specs.Option.{option_and_then}
+use Rattle.answer_lines.specs.FaultKinds.{kind_text}
 use Rattle.answer_lines.specs.Lines.{obligation_line, summary_line, unit_line}
 use Rattle.answer_lines.specs.declared.lines.Counts.{Counts}
 use Rattle.cil_model.specs.declared.unit.CalleeInfo.{CalleeInfo}
 use Rattle.cil_model.specs.declared.unit.Unit.{Unit as MethodUnit}
 use Rattle.invariant_checker.specs.Counts.{all_proved, proved_count}
 use Rattle.invariant_checker.specs.declared.verdict.Verdict.{Verdict}
-use Rattle.method_run.specs.FaultTexts.{kind_text}
 use Rattle.check_driver.specs.Analysis.{unit_verdicts}
 
 -- The one of these callees that a number names.

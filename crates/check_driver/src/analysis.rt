@@ -8,13 +8,14 @@ ghost use Rattle.unit_flow.specs.FlowOf.{flow_of};
 ghost use Rattle.unit_form.specs.Spelling.{unit_bytes};
 
 use crate::judgement::{Judgement, judge_under};
-use cil_model::{CalleeInfo, List, Unit};
+use cil_model::{CalleeInfo, List};
+use stack_typer::TypedUnit;
 use std::alloc::{AllocError, Global};
 use unit_flow::UnitFlow;
 use widening_engine::Finder;
 
-/// The unit with its graph and its kinds, each found once.
-pub fn find_flow(alloc: Global, unit: Unit) -> Result<UnitFlow, AllocError>
+/// The unit with its graph and its kinds.
+pub fn find_flow(alloc: Global, unit: TypedUnit) -> Result<UnitFlow, AllocError>
     requires { IsUnit unit }
     ensures flow { IfOk result (λ code. code ≡ flow_of unit) }
     ensures unit { IfOk result (λ code. code.unit ≡ unit) }
@@ -50,7 +51,7 @@ pub struct Judged {
 /// The same, of a unit without its flow, which is given up but for its callees.
 pub fn judge_unit<D: Finder>(
     alloc: Global,
-    unit: Unit,
+    unit: TypedUnit,
     show: bool,
     finder: &mut D,
 ) -> Result<Judged, AllocError>

@@ -2,7 +2,7 @@
 
 #![tactic(auto, using(cc_base::proofs::SinkLemmas::sinks, cc_base::proofs::CountLemmas::counts))]
 
-ghost use Rattle.std.specs.Prelude.{◌≡◌, ◌⊎◌, ◌++◌, ◌<◌, ◌^◌, All, IfOk, OnOk, Some, if◌then◌else◌, length, map, slice_get, zip};
+ghost use Rattle.std.specs.Prelude.{◌≡◌, ◌++◌, ◌<◌, ◌^◌, All, IfOk, OnOk, Some, if◌then◌else◌, length, map, slice_get, zip};
 ghost use Rattle.std.specs.List.{flat_map, list_all};
 ghost use Rattle.asm_image.specs.Faults.{FirstBroken};
 ghost use Rattle.asm_image.specs.Rows.{methods_of};
@@ -13,6 +13,7 @@ ghost use Rattle.check_driver.specs.Checked.{AreRunnable, IsReportable};
 ghost use Rattle.answer_lines.specs.Counting.{AreBelow};
 ghost use Rattle.check_driver.specs.Expected.{check_answer};
 ghost use Rattle.check_driver.specs.Findings.{IsWithin, shown_in, told, told_lines};
+ghost use Rattle.check_driver.specs.NothingOr.{NothingOr};
 ghost use Rattle.answer_lines.specs.Outcome.{Gives};
 ghost use Rattle.answer_lines.specs.Writing.{Writes, change_of, joined};
 ghost use Rattle.method_unit.specs.Units.{IsUnit};
@@ -100,8 +101,8 @@ fn find<D: Finder>(
     Finding::of(alloc, outcome, judged, finder)
 }
 
-/// Returns what is found of each method of an assembly, with the text of its invariant where that is shown. Of equal units
-/// one is judged.
+/// Returns what is found of each method of an assembly, with the text of its invariant where that is shown. Of equal
+/// units one is judged.
 pub fn find_all<D: Finder>(
     alloc: Global,
     assembly: &Assembly<'_>,
@@ -225,8 +226,8 @@ fn text_of(alloc: Global, lines: &[Vec<u8>]) -> Result<Vec<u8>, AllocError>
     Ok(text)
 }
 
-/// The report of an assembly whose file has this name, as `check` writes it, with the invariants where these are shown. The finder is asked for an invariant of
-/// each unit that is judged, of equal units once.
+/// The report of an assembly whose file has this name, as `check` writes it, with the invariants where these are shown.
+/// The finder is asked for an invariant of each unit that is judged, of equal units once.
 ///
 /// Cost: that of `check`, and the text once more.
 pub fn report<D: Finder>(
@@ -254,7 +255,7 @@ fn answer_assembly<O: Sink, D: Finder>(
 ) -> Result<u8, Interrupt>
     ensures status { IfOk result (λ status. status ≡ (if all_methods_proved assembly.now then 0 else 1)) }
     ensures written { Writes result (change_of O.written O.faults out.old out.new) (check_text name.now show assembly.now) }
-    ensures reportable { (O.written out.new ≡ O.written out.old) ⊎ IsReportable assembly.now }
+    ensures reportable { NothingOr (O.written out.old) (O.written out.new) (IsReportable assembly.now) }
     ensures asked { Asks (units_asked assembly.now) result (D.asked finder.old) (D.asked finder.new) }
 {
     let report = report_lines(alloc, name, show, assembly, finder)?;
@@ -264,8 +265,8 @@ fn answer_assembly<O: Sink, D: Finder>(
 
 /// Answers `check FILE` for the bytes of the file. The report shows the invariants where these are asked for.
 ///
-/// Cost: the code of each method is read once, however many methods call it, and of equal units one is analysed. What is found
-/// of each is kept until all is.
+/// Cost: the code of each method is read once, however many methods call it, and of equal units one is analysed. What
+/// is found of each is kept until all is.
 pub fn answer_check<O: Sink, E: Sink, D: Finder>(
     alloc: Global,
     name: &[u8],
@@ -277,7 +278,7 @@ pub fn answer_check<O: Sink, E: Sink, D: Finder>(
 ) -> Result<u8, Interrupt>
     ensures answer { Gives (check_answer name.now show bytes.now (FirstBroken bytes.now)) result
         (change_of O.written O.faults out.old out.new) (change_of E.written E.faults err.old err.new) }
-    ensures reportable { (O.written out.new ≡ O.written out.old) ⊎ IsReportable bytes.now }
+    ensures reportable { NothingOr (O.written out.old) (O.written out.new) (IsReportable bytes.now) }
     ensures asked { Asks (check_asked bytes.now (FirstBroken bytes.now)) result (D.asked finder.old) (D.asked finder.new) }
 {
     match Assembly::read(alloc, bytes) {

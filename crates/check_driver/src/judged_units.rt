@@ -9,15 +9,15 @@ ghost use Rattle.unit_form.specs.Spelling.{unit_bytes};
 
 use crate::analysis::{Judged, judge_unit};
 use crate::judgement::Judgement;
-use cil_model::Unit;
 use indexmap::IndexMap;
 use method_unit::unit_bytes;
+use stack_typer::TypedUnit;
 use std::alloc::{AllocError, Global};
 use std::marker::Model;
 use widening_engine::Finder;
 
-/// What is found of each unit that was judged, by the bytes of its file. Contracts see these bytes, in the order in which
-/// the units came, and whether invariants are shown.
+/// What is found of each unit that was judged, by the bytes of its file. Contracts see these bytes, in the order in
+/// which the units came, and whether invariants are shown.
 #[derive(Drop)]
 pub struct JudgedUnits {
     show: bool,
@@ -75,7 +75,7 @@ impl JudgedUnits {
     pub fn judge<D: Finder>(
         &mut self,
         alloc: Global,
-        unit: Unit,
+        unit: TypedUnit,
         finder: &mut D,
     ) -> Result<Judged, AllocError>
         requires { IsUnit unit }
@@ -85,11 +85,11 @@ impl JudgedUnits {
         ensures judged { OnOk result (self.new.keys ≡ self.old.keys ++ unseen self.old.keys (unit_bytes unit ∷ [])) }
         ensures asked { Asks (unseen self.old.keys (unit_bytes unit ∷ [])) result (D.asked finder.old) (D.asked finder.new) }
     {
-        let key = unit_bytes(alloc, &unit)?;
+        let key = unit_bytes(alloc, unit.unit())?;
         if let Some(known) = self.get(&key) {
             let judgement = known.copy(alloc)?;
             return Ok(Judged {
-                callees: unit.callees,
+                callees: unit.into_unit().callees,
                 judgement,
             });
         }

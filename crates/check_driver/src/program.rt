@@ -16,6 +16,7 @@ ghost use Rattle.check_driver.specs.Expected.{bytes_answer, expected, file_at, f
 ghost use Rattle.check_driver.specs.Met.{AreUnder, bytes_read};
 ghost use Rattle.answer_lines.specs.Outcome.{Gives, GivesOrUnread, Leaves, last_line, status_of};
 ghost use Rattle.check_driver.specs.Headline.{IsAssemblyOf, TellAllProved, WasAppended};
+ghost use Rattle.check_driver.specs.NothingOr.{NothingOr};
 ghost use Rattle.check_driver.specs.ProvedUnit.{AreSpelled, AsksForUnit, IfUnit, IsHeldSpelled, PrintsProvedUnit, SpellSafeUnit};
 ghost use Rattle.check_driver.specs.Sections.{HasProvedLine, section};
 ghost use Rattle.command_words.specs.Words.{HasArguments, IfGen, IfRun, args_told, command_of, file_indexes, file_names, used_indexes, word_at, words_at, words_bytes};
@@ -85,9 +86,9 @@ fn answer_bytes<O: Sink, E: Sink, D: Finder>(
     requires few { IfGen command (λ seed count. count ≤ 10000) }
     ensures answer { Gives (bytes_answer command (words_bytes words.now) (bytes_read read.now)) result
         (change_of O.written O.faults out.old out.new) (change_of E.written E.faults err.old err.new) }
-    ensures reportable { (O.written out.new ≡ O.written out.old) ⊎ IfCheck command (λ _. IsReportable (file_at (bytes_read read.now) 0)) }
+    ensures reportable { NothingOr (O.written out.old) (O.written out.new) (IfCheck command (λ _. IsReportable (file_at (bytes_read read.now) 0))) }
     ensures asked { Asks (bytes_asked command (bytes_read read.now)) result (D.asked finder.old) (D.asked finder.new) }
-    ensures spelled { (O.written out.new ≡ O.written out.old) ⊎ IfUnit command (λ _. AreSpelled (file_at (bytes_read read.now) 0)) }
+    ensures spelled { NothingOr (O.written out.old) (O.written out.new) (IfUnit command (λ _. AreSpelled (file_at (bytes_read read.now) 0))) }
 {
     match command {
         Command::Unit(file) => {
@@ -150,10 +151,10 @@ fn answer_command<F: Files, O: Sink, E: Sink, D: Finder>(
         (change_of O.written O.faults out.old out.new) (change_of E.written E.faults err.old err.new)
         × AnswerAsks (files_asked command given met) result (D.asked finder.old) (D.asked finder.new) }
     ensures missing { IfOk result (λ status. status ≡ 3 → Rose (F.missed files.old) (F.missed files.new)) }
-    ensures reportable { (O.written out.new ≡ O.written out.old)
-        ⊎ IfCheck command (λ file. IsHeldReportable (F.held files.old) (word_at (words_bytes words.now) file)) }
-    ensures spelled { (O.written out.new ≡ O.written out.old)
-        ⊎ IfUnit command (λ file. IsHeldSpelled (F.held files.old) (word_at (words_bytes words.now) file)) }
+    ensures reportable { NothingOr (O.written out.old) (O.written out.new)
+        (IfCheck command (λ file. IsHeldReportable (F.held files.old) (word_at (words_bytes words.now) file))) }
+    ensures spelled { NothingOr (O.written out.old) (O.written out.new)
+        (IfUnit command (λ file. IsHeldSpelled (F.held files.old) (word_at (words_bytes words.now) file))) }
     ensures files { F.held files.new ≡ F.held files.old }
 {
     match read_files(alloc, words, command.files(), files) {
@@ -181,11 +182,11 @@ fn answer_words<F: Files, O: Sink, E: Sink, D: Finder>(
     ensures missing { IfOk result (λ status. status ≡ 3 → Rose (F.missed files.old) (F.missed files.new)) }
     ensures usage { command_of (words_bytes words.now) ≡ None → IfOk result (λ status. status ≡ 2) }
     ensures reportable { let given = words_bytes words.now in
-        (O.written out.new ≡ O.written out.old)
-        ⊎ IfSome (command_of given) (λ command. IfCheck command (λ file. IsHeldReportable (F.held files.old) (word_at given file))) }
+        NothingOr (O.written out.old) (O.written out.new)
+        (IfSome (command_of given) (λ command. IfCheck command (λ file. IsHeldReportable (F.held files.old) (word_at given file)))) }
     ensures spelled { let given = words_bytes words.now in
-        (O.written out.new ≡ O.written out.old)
-        ⊎ IfSome (command_of given) (λ command. IfUnit command (λ file. IsHeldSpelled (F.held files.old) (word_at given file))) }
+        NothingOr (O.written out.old) (O.written out.new)
+        (IfSome (command_of given) (λ command. IfUnit command (λ file. IsHeldSpelled (F.held files.old) (word_at given file)))) }
     ensures files { F.held files.new ≡ F.held files.old }
 {
     match parse_words(words) {
@@ -221,8 +222,8 @@ fn finish<E: Sink>(alloc: Global, answered: Result<u8, Interrupt>, err: &mut E) 
     }
 }
 
-/// The program: answers the words, writes to the two sinks and gives the status. The finder is asked for an invariant of each
-/// unit that is judged, of equal units once.
+/// The program: answers the words, writes to the two sinks and gives the status. The finder is asked for an invariant
+/// of each unit that is judged, of equal units once.
 ///
 /// Statuses 4, 6 and 7 end a call early: a device refused a read, a sink refused, memory ran out.
 pub fn run_words<F: Files, O: Sink, E: Sink, D: Finder>(
@@ -233,8 +234,8 @@ pub fn run_words<F: Files, O: Sink, E: Sink, D: Finder>(
     err: &mut E,
     finder: &mut D,
 ) -> u8
-    // What is written, the status, and what the finder is asked for: those that are expected for the words and for what is
-    // held under the names of their files (where that is not told, for something under each).
+    // What is written, the status, and what the finder is asked for: those that are expected for the words and for what
+    // is held under the names of their files (where that is not told, for something under each).
     ensures output { let given = words_bytes words.now in
         let failed = Rose (F.faults files.old) (F.faults files.new) in
         (met : List (Option (List ℕ))) × AreUnder (F.held files.old) (file_names given) met
@@ -242,8 +243,8 @@ pub fn run_words<F: Files, O: Sink, E: Sink, D: Finder>(
         (change_of O.written O.faults out.old out.new) (change_of E.written E.faults err.old err.new)
         × LeavesAsked (asked_by given met) result (D.asked finder.old) (D.asked finder.new) }
     ensures files { F.held files.new ≡ F.held files.old }
-    // Where the report of an assembly has told each method that one reaches by calls to be proved, no run of that one in its
-    // world is ever at a fault, whatever the status and however far the report came.
+    // Where the report of an assembly has told each method that one reaches by calls to be proved, no run of that one
+    // in its world is ever at a fault, whatever the status and however far the report came.
     ensures headline { (held : Held) (k : ℕ) (bytes text : List ℕ) (method : MethodRow) → F.held files.old ≡ Some held
         → IsAssemblyOf (words_bytes words.now) held k bytes → WasAppended (O.written out.old) (O.written out.new) text
         → Contains (methods_of bytes) method → TellAllProved (section k text) bytes method

@@ -2,10 +2,11 @@
 
 #![tactic(auto, using(cc_base::proofs::SinkLemmas::sinks, cc_base::proofs::CountLemmas::counts))]
 
-ghost use Rattle.std.specs.Prelude.{◌≡◌, ◌⊎◌, ◌<◌, [], ◌∷◌, length, IfOk};
+ghost use Rattle.std.specs.Prelude.{◌≡◌, ◌<◌, [], ◌∷◌, length, IfOk};
 ghost use Rattle.check_driver.specs.Analysis.{unit_verdicts};
 ghost use Rattle.check_driver.specs.Asked.{Asks, unit_asked, unit_file_asked};
 ghost use Rattle.check_driver.specs.Expected.{unit_answer, unit_file_answer};
+ghost use Rattle.check_driver.specs.NothingOr.{NothingOr};
 ghost use Rattle.check_driver.specs.ProvedUnit.{AreSpelled};
 ghost use Rattle.answer_lines.specs.Outcome.{Gives};
 ghost use Rattle.check_driver.specs.ReportText.{unit_report};
@@ -20,16 +21,17 @@ use crate::fault_text::unit_fault_text;
 use crate::unit_report::report_lines;
 use answer_lines::{Interrupt, answer_refused, put_lines};
 use cc_base::{READ_LIMIT, Sink};
-use cil_model::{MAX_FILE_BYTES, Unit};
+use cil_model::MAX_FILE_BYTES;
 use invariant_checker::all_proved;
 use method_unit::{UnitRefusal, read_unit};
+use stack_typer::TypedUnit;
 use std::alloc::Global;
 use widening_engine::Finder;
 
 /// Puts the report of a unit, and returns whether the unit is proved.
 fn put_report<O: Sink, D: Finder>(
     alloc: Global,
-    unit: Unit,
+    unit: TypedUnit,
     out: &mut O,
     finder: &mut D,
 ) -> Result<bool, Interrupt>
@@ -58,7 +60,7 @@ fn answer_unit<O: Sink, E: Sink, D: Finder>(
     ensures answer { Gives (unit_answer name.now bytes.now (first_unit_fault bytes.now)) result
         (change_of O.written O.faults out.old out.new) (change_of E.written E.faults err.old err.new) }
     ensures asked { Asks (unit_asked bytes.now (first_unit_fault bytes.now)) result (D.asked finder.old) (D.asked finder.new) }
-    ensures spelled { (O.written out.new ≡ O.written out.old) ⊎ AreSpelled bytes.now }
+    ensures spelled { NothingOr (O.written out.old) (O.written out.new) (AreSpelled bytes.now) }
 {
     match read_unit(alloc, bytes) {
         Err(UnitRefusal::NoMemory) => Err(Interrupt::NoMemory),
@@ -84,7 +86,7 @@ pub fn answer_unit_file<O: Sink, E: Sink, D: Finder>(
     ensures answer { Gives (unit_file_answer name.now bytes.now) result
         (change_of O.written O.faults out.old out.new) (change_of E.written E.faults err.old err.new) }
     ensures asked { Asks (unit_file_asked bytes.now) result (D.asked finder.old) (D.asked finder.new) }
-    ensures spelled { (O.written out.new ≡ O.written out.old) ⊎ AreSpelled bytes.now }
+    ensures spelled { NothingOr (O.written out.old) (O.written out.new) (AreSpelled bytes.now) }
 {
     if bytes.len() >= READ_LIMIT {
         return answer_refused(alloc, name, b"file too large", MAX_FILE_BYTES, err);

@@ -6,10 +6,9 @@ ghost use Rattle.check_driver.specs.ReportText.{callee_of, unit_report, verdict_
 ghost use Rattle.check_driver.specs.Analysis.{unit_verdicts};
 ghost use Rattle.answer_lines.specs.Writing.{joined};
 
-use answer_lines::{Counts, obligation_line, summary_line, unit_line};
+use answer_lines::{Counts, append_kind, obligation_line, summary_line, unit_line};
 use cil_model::{CalleeInfo, Unit};
 use invariant_checker::{Verdict, all_proved, proved_count};
-use method_run::append_kind;
 use std::alloc::{AllocError, Global};
 
 /// The one of these callees that a number names.

@@ -3,7 +3,7 @@ use Rattle.std.proofs.Common.{◌≡◌, ℕ, ◌+◌, Bool, true, false, nat_le
 use Rattle.std.proofs.lemmas.List.{length-reverse, reverse-reverse}
 use Rattle.std.proofs.lemmas.Option.{none-some, same_Some}
 use Rattle.cil_model.proofs.Options.{map_from}
-use Rattle.cil_model.specs.Calls.{args_of, behind_call, entry_frame}
+use Rattle.cil_model.specs.Calls.{args_of, behind_call, clauses_in_force, entry_frame}
 use Rattle.cil_model.specs.Clauses.{false_requires}
 use Rattle.cil_model.specs.Values.{Heap, put, put_all}
 use Rattle.cil_model.specs.declared.instruction.Instr.{Instr}
@@ -101,12 +101,12 @@ module _ (w : World) (limits : Limits) (s : State) (i : Instr) (callee : MethodU
   abbrev required : Option ℕ → Type 0
   required fault = Turned w (after_requires limits s i index callee args.top fault) new heap stop
 
-  by_requires : Takes → (fault : Option ℕ) → fault ≡ false_requires callee.clauses args.top heap → required fault → turned all
+  by_requires : Takes → (fault : Option ℕ) → fault ≡ false_requires (clauses_in_force callee) args.top heap → required fault → turned all
   by_requires takes fault is turns =
       subst turned (sym takes.args_are)
-      (subst required (is ∙ ap (false_requires callee.clauses args.top) h.heap_is) turns)
+      (subst required (is ∙ ap (false_requires (clauses_in_force callee) args.top) h.heap_is) turns)
 
-  pub refused : IsTaken true → (k unit : ℕ) → Some k ≡ false_requires callee.clauses args.top heap → s.running.unit ≡ unit
+  pub refused : IsTaken true → (k unit : ℕ) → Some k ≡ false_requires (clauses_in_force callee) args.top heap → s.running.unit ≡ unit
       → stop ≡ Some (stops.Fault (faults.Requires k) unit i.at) → turned all
   refused taken k unit is same stops = by_requires (takes taken) (Some k) is (rw same stops)
 
@@ -120,10 +120,10 @@ module _ (w : World) (limits : Limits) (s : State) (i : Instr) (callee : MethodU
   abbrev deep : Bool → Type 0
   deep deeper = Turned w (if deeper then To next else Ends stops.Depth) new heap stop
 
-  by_depth : IsTaken true → (deeper : Bool) → None ≡ false_requires callee.clauses args.top heap → deeper ≡ nat_le (length s.below + 2) limits.depth → deep deeper → turned all
+  by_depth : IsTaken true → (deeper : Bool) → None ≡ false_requires (clauses_in_force callee) args.top heap → deeper ≡ nat_le (length s.below + 2) limits.depth → deep deeper → turned all
   by_depth taken deeper is depth turns = by_requires (takes taken) None is (subst deep depth turns)
 
-  pub too_deep : IsTaken true → (deeper : Bool) → None ≡ false_requires callee.clauses args.top heap → deeper ≡ nat_le (length s.below + 2) limits.depth
+  pub too_deep : IsTaken true → (deeper : Bool) → None ≡ false_requires (clauses_in_force callee) args.top heap → deeper ≡ nat_le (length s.below + 2) limits.depth
       → deeper ≡ false → stop ≡ Some stops.Depth → turned all
   too_deep taken deeper is depth full stops = by_depth taken deeper is depth (rw full stops)
 
@@ -143,7 +143,7 @@ module _ (w : World) (limits : Limits) (s : State) (i : Instr) (callee : MethodU
           locals = record { top = refl; below = ap (λ xs. xs ∷ old.locals.below) h.locals.top ∙ ap (λ xss. s.running.locals ∷ xss) h.locals.below };
           entry_args = record { top = refl; below = ap (λ xs. xs ∷ old.entry_args.below) h.entry_args.top ∙ ap (λ xss. s.running.entry_args ∷ xss) h.entry_args.below };
           olds = record {
-            top = ap (olds_of_clauses callee.clauses args.top) h.heap_is ∙ sym (ap (λ o. olds_of_unit o args.top s.heap) found);
+            top = ap (olds_of_clauses (clauses_in_force callee) args.top) h.heap_is ∙ sym (ap (λ o. olds_of_unit o args.top s.heap) found);
             below = ap (λ xs. xs ∷ old.olds.below) h.olds.top ∙ ap (λ xss. olds_of w s.running ∷ xss) h.olds.below;
           };
           positions = ap (λ (ps : List Position). record { unit = index; at = callee.body_start } ∷ record { unit = unit; at = i.at + i.size } ∷ drop 1 ps) h.positions
@@ -151,7 +151,7 @@ module _ (w : World) (limits : Limits) (s : State) (i : Instr) (callee : MethodU
           heap_is = h.heap_is;
         }
 
-    pub enters : (deeper : Bool) → None ≡ false_requires callee.clauses args.top heap → deeper ≡ nat_le (length s.below + 2) limits.depth
+    pub enters : (deeper : Bool) → None ≡ false_requires (clauses_in_force callee) args.top heap → deeper ≡ nat_le (length s.below + 2) limits.depth
         → deeper ≡ true → stop ≡ None → new ≡ entered callee index (record { unit = unit; at = i.at + i.size }) heap mid → turned all
     enters deeper is depth more goes are = by_depth taken deeper is depth (rw (more, are) (goes, entered_holds))
 

@@ -5,6 +5,7 @@ use Rattle.std.specs.Option.{option_map_or}
 use Rattle.std.proofs.lemmas.Bool.{and_parts}
 use Rattle.std.proofs.lemmas.Int.{ints as integers}
 use Rattle.std.proofs.lemmas.List.{length-append, length-map, reverse-append, reverse-reverse}
+use Rattle.cil_model.specs.Calls.{clauses_in_force}
 use Rattle.cil_model.specs.Clauses.{false_requires}
 use Rattle.cil_model.specs.Runs.{MayBegin}
 use Rattle.cil_model.specs.Values.{FitPlaces, FitsPlace, Heap, IsByte, IsHeap, same_place}
@@ -173,6 +174,6 @@ heap_is (args.Bool b ∷ given) short ints = heap_is given short.1 ints.1
 heap_is (args.Null ∷ given) short ints = heap_is given short.1 ints.1
 heap_is (args.Same k ∷ given) short ints = heap_is given short.1 ints.1
 
-pub may_begin : (unit : MethodUnit) (given : List Arg) → args_fit unit.args given ≡ true → false_requires unit.clauses (values_of given) (heap_of given) ≡ None → AreInts given
+pub may_begin : (unit : MethodUnit) (given : List Arg) → args_fit unit.args given ≡ true → false_requires (clauses_in_force unit) (values_of given) (heap_of given) ≡ None → AreInts given
     → MayBegin unit (values_of given) (heap_of given)
 may_begin unit given fit required ints = record { heap_is = heap_is given (fit_short unit.args given fit) ints; fit = values_fit unit.args given fit ints; required = required }

@@ -3,7 +3,6 @@ pub mod OutcomeRows
 pub mod ArrayLemmas
 pub mod TakenLemmas
 pub mod ActLemmas
-pub mod OffsetLemmas
 pub mod CallLemmas
 pub mod ReturnLemmas
 pub mod Spaces

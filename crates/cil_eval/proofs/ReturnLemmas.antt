@@ -2,7 +2,7 @@
 use Rattle.std.proofs.Common.{◌≡◌, ℕ, ◌+◌, ◌<◌, ◌≤◌, List, [], ◌∷◌, length, map, drop, Option, Some, None, slice_get, refl, sym, ap, subst, ◌∙◌, arith}
 use Rattle.std.specs.List.{AllByRecursion}
 use Rattle.std.proofs.lemmas.List.{length-map}
-use Rattle.cil_model.specs.Calls.{ensures_fault, pushed, result_of}
+use Rattle.cil_model.specs.Calls.{clauses_in_force, ensures_fault, pushed, result_of}
 use Rattle.cil_model.specs.Clauses.{false_ensures}
 use Rattle.cil_model.specs.Values.{Heap}
 use Rattle.cil_model.specs.declared.clause.Clause.{Clause}
@@ -70,7 +70,7 @@ with_result_holds w frames heap (Some value) caller outer after h = record {
 -- ---- what comes of a return
 
 module _ (w : World) (s : State) (i : Instr) (unit : MethodUnit) (index : ℕ) (old new : Frames) (heap : Heap) (stop : Option Stop) (h : Holds w old heap s)
-    (found : slice_get w.units index ≡ Some unit) (same : s.running.unit ≡ index) (lacks : AllByRecursion (λ (clause : Clause). OldsLackResult clause.tree) unit.clauses) where
+    (found : slice_get w.units index ≡ Some unit) (same : s.running.unit ≡ index) (lacks : AllByRecursion (λ (clause : Clause). OldsLackResult clause.tree) (clauses_in_force unit)) where
   abbrev turned : Option (Option Value) → Type 0
   turned o = Turned w (after_result s unit i o) new heap stop
 
@@ -86,26 +86,26 @@ module _ (w : World) (s : State) (i : Instr) (unit : MethodUnit) (index : ℕ) (
   abbrev ensured : Option Value → Option ℕ → Type 0
   ensured result fault = Turned w (after_ensures s i result fault) new heap stop
 
-  told : old.olds.top ≡ olds_of_clauses unit.clauses old.entry_args.top s.running.entry_heap
+  told : old.olds.top ≡ olds_of_clauses (clauses_in_force unit) old.entry_args.top s.running.entry_heap
   told =
       h.olds.top ∙ ap (λ n. olds_of_unit (slice_get w.units n) s.running.entry_args s.running.entry_heap) same
       ∙ ap (λ o. olds_of_unit o s.running.entry_args s.running.entry_heap) found
-      ∙ ap (λ xs. olds_of_clauses unit.clauses xs s.running.entry_heap) (sym h.entry_args.top)
+      ∙ ap (λ xs. olds_of_clauses (clauses_in_force unit) xs s.running.entry_heap) (sym h.entry_args.top)
 
   -- The fault of the Ensures is the state's.
-  fault_is : (result : Option Value) (fault : Option ℕ) → TellsEnsures unit.clauses old.entry_args.top old.olds.top heap result fault
+  fault_is : (result : Option Value) (fault : Option ℕ) → TellsEnsures (clauses_in_force unit) old.entry_args.top old.olds.top heap result fault
       → fault ≡ ensures_fault unit s.running s.heap result
   fault_is result fault tells =
       tells s.running.entry_heap lacks told
-      ∙ ap (λ xs. false_ensures unit.clauses (record { args = xs; entry_heap = s.running.entry_heap; heap = heap; result = result })) h.entry_args.top
-      ∙ ap (λ (x : Heap). false_ensures unit.clauses (record { args = s.running.entry_args; entry_heap = s.running.entry_heap; heap = x; result = result })) h.heap_is
+      ∙ ap (λ xs. false_ensures (clauses_in_force unit) (record { args = xs; entry_heap = s.running.entry_heap; heap = heap; result = result })) h.entry_args.top
+      ∙ ap (λ (x : Heap). false_ensures (clauses_in_force unit) (record { args = s.running.entry_args; entry_heap = s.running.entry_heap; heap = x; result = result })) h.heap_is
 
   by_ensures : (result : Option Value) (fault : Option ℕ) → Some result ≡ result_of heap unit.result old.stack.top
-      → TellsEnsures unit.clauses old.entry_args.top old.olds.top heap result fault → ensured result fault → turned all
+      → TellsEnsures (clauses_in_force unit) old.entry_args.top old.olds.top heap result fault → ensured result fault → turned all
   by_ensures result fault is tells turns = subst turned (is ∙ of_state) (subst (ensured result) (fault_is result fault tells) turns)
 
   pub denied : (result : Option Value) (k : ℕ) → Some result ≡ result_of heap unit.result old.stack.top
-      → TellsEnsures unit.clauses old.entry_args.top old.olds.top heap result (Some k) → stop ≡ Some (stops.Fault (faults.Ensures k) index i.at) → turned all
+      → TellsEnsures (clauses_in_force unit) old.entry_args.top old.olds.top heap result (Some k) → stop ≡ Some (stops.Fault (faults.Ensures k) index i.at) → turned all
   denied result k is tells stops = by_ensures result (Some k) is tells (rw same stops)
 
   how_deep : length old.positions.top ≡ length s.below + 1
@@ -115,7 +115,7 @@ module _ (w : World) (s : State) (i : Instr) (unit : MethodUnit) (index : ℕ) (
   last [] result none stops = stops
   last (caller ∷ outer) result none stops = absurd (omega arith)
 
-  pub ends : (result : Option Value) → Some result ≡ result_of heap unit.result old.stack.top → TellsEnsures unit.clauses old.entry_args.top old.olds.top heap result None
+  pub ends : (result : Option Value) → Some result ≡ result_of heap unit.result old.stack.top → TellsEnsures (clauses_in_force unit) old.entry_args.top old.olds.top heap result None
       → length old.positions.top ≤ 1 → stop ≡ Some (stops.Returned result) → turned all
   ends result is tells few stops = by_ensures result None is tells (last s.below result (omega (arith, how_deep)) stops)
 
@@ -125,6 +125,6 @@ module _ (w : World) (s : State) (i : Instr) (unit : MethodUnit) (index : ℕ) (
   resumes (caller ∷ outer) result e some goes are =
       rw are (goes, with_result_holds w (left old) heap result caller outer s.heap (left_holds w old heap s (record { running = caller; below = outer; heap = s.heap }) h e refl))
 
-  pub goes_on : (result : Option Value) → Some result ≡ result_of heap unit.result old.stack.top → TellsEnsures unit.clauses old.entry_args.top old.olds.top heap result None
+  pub goes_on : (result : Option Value) → Some result ≡ result_of heap unit.result old.stack.top → TellsEnsures (clauses_in_force unit) old.entry_args.top old.olds.top heap result None
       → 1 < length old.positions.top → stop ≡ None → new ≡ with_result result (left old) → turned all
   goes_on result is tells deep goes are = by_ensures result None is tells (resumes s.below result refl (omega (arith, how_deep)) goes are)

@@ -3,8 +3,10 @@ use Rattle.std.proofs.Common.{◌≡◌, ℕ, ◌+◌, ◌^◌, ◌<◌, ◌≤�
 use Rattle.std.specs.List.{AllByRecursion}
 use Rattle.std.proofs.lemmas.List.Sums.{sum_by-cons}
 use Rattle.std.proofs.lemmas.Option.{none-some}
+use Rattle.cil_model.specs.Calls.{clauses_in_force}
 use Rattle.cil_model.specs.Clauses.{is_kind}
 use Rattle.cil_model.specs.Comparisons.{comparison_of}
+use Rattle.cil_model.specs.Offsets.{LieFrom}
 use Rattle.cil_model.specs.ShortCode as short_code
 use Rattle.cil_model.specs.ShortCode.{IsOfShortCode}
 use Rattle.cil_model.specs.Terms as terms
@@ -20,9 +22,9 @@ use Rattle.cil_model.specs.declared.place.Kind.TheVariants.{Int}
 use Rattle.cil_model.specs.declared.place.Place.{Place}
 use Rattle.cil_model.specs.declared.unit.Unit.{Unit as MethodUnit}
 use Rattle.cil_model.specs.WellFormed.{IsWellFormed}
+use Rattle.cil_model.proofs.OffsetSearch.{laid_rise}
 use Rattle.cil_model.proofs.ShortCodes.{code_lies}
 use Rattle.cil_eval.specs.Flows.{AreRunnable, IsRunnable}
-use Rattle.cil_eval.specs.LaidOut.{LieFrom}
 use Rattle.cil_eval.specs.RunWorlds.{CanBeRun}
 use Rattle.clause_eval.specs.Told.{LacksResult, OldsLackResult, olds_in, olds_in_clauses}
 
@@ -132,13 +134,13 @@ can_run unit formed =
     let limits = formed.limits in
     let parts = code_lies 0 unit.instrs unit.code formed.code.spelled (omega (arith, limits.code)) in
     record {
-      laid = record { lie = lies 0 unit.instrs parts.0 parts.1 };
+      rise = laid_rise unit.instrs (record { lie = lies 0 unit.instrs parts.0 parts.1 });
       behind = behind unit.instrs parts.1;
       args = omega (arith, limits.variables);
       locals = omega (arith, limits.variables);
       clauses = omega (arith, limits.clauses.count);
-      few_olds = let few = all_fewer unit.clauses in omega (arith, few, limits.clauses.old_values);
-      olds = all_lack unit.args unit.result unit.clauses formed.numbers;
+      few_olds = let few = all_fewer (clauses_in_force unit) in omega (arith, few, limits.clauses.old_values);
+      olds = all_lack unit.args unit.result (clauses_in_force unit) formed.numbers;
     }
 
 all_can : (units : List MethodUnit) → AllByRecursion IsWellFormed units → AllByRecursion IsRunnable units

@@ -3,6 +3,7 @@ use Rattle.std.proofs.Common.{◌≡◌, ℕ, zero, suc, ◌≤◌, List, [], �
 use Rattle.std.specs.List.{AllByRecursion}
 use Rattle.std.proofs.lemmas.List.{reverse-reverse}
 use Rattle.std.proofs.lemmas.Option.{same_Some}
+use Rattle.cil_model.specs.Calls.{clauses_in_force}
 use Rattle.cil_model.specs.Configs.{IsFrame, IsFrameOf}
 use Rattle.cil_model.specs.Kinds.{kind_of, pushed_kind}
 use Rattle.cil_model.specs.Runs.{MayBegin}
@@ -71,7 +72,7 @@ module _ (w : World) (limits : Limits) (can : CanBeRun w) where
         locals = omega (arith, as_many heap unit.locals f.locals frame.locals, runs.locals);
         entry_args = omega (arith, as_many f.entry_heap unit.args f.entry_args frame.entry_args, runs.args);
         olds =
-            let all = length_of_all_olds unit.clauses f.entry_args f.entry_heap in
+            let all = length_of_all_olds (clauses_in_force unit) f.entry_args f.entry_heap in
             let are : length (olds_of w f) ≡ length (olds_of_unit (Some unit) f.entry_args f.entry_heap) = ap (λ (u : Option MethodUnit). length (olds_of_unit u f.entry_args f.entry_heap)) stands.of in
             omega (arith, all, are, runs.few_olds);
       }

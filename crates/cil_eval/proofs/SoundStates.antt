@@ -4,7 +4,7 @@ use Rattle.std.specs.List.{AllByRecursion}
 use Rattle.std.proofs.lemmas.Bool.{cond_both, leb-true, ltb-false}
 use Rattle.std.proofs.lemmas.Option.{cond_some, none-some, same_Some}
 use Rattle.cil_model.specs.Blocks.{branch_targets}
-use Rattle.cil_model.specs.Calls.{FreeCall, ReturnRow, behind_call as frame_behind_call, callee_index, ensures_fault, entry_frame, pushed, result_of}
+use Rattle.cil_model.specs.Calls.{FreeCall, ReturnRow, behind_call as frame_behind_call, callee_index, clauses_in_force, ensures_fault, entry_frame, pushed, result_of}
 use Rattle.cil_model.specs.Clauses.{false_requires}
 use Rattle.cil_model.specs.Configs.{IsConfig, IsFrame, IsFrameOf}
 use Rattle.cil_model.specs.Effects.{Effect, GoesOn as OneGoesOn, Faults, Assumes, FindsNoRoom, HasEffect, effects}
@@ -372,7 +372,7 @@ module _ (w : World) (limits : Limits) (can : CanBeRun w) where
             subst (λ (index : Option ℕ). Leads IsTyped (after_index w limits s i index)) (sym c.index_is)
             (subst (λ (callee : Option MethodUnit). Leads IsTyped (after_callee limits s i c.index callee)) (sym c.named_is)
             (subst (λ (args : Option (List Value)). Leads IsTyped (after_args limits s i c.index c.named args)) (sym are)
-            (required c args (false_requires c.named.clauses args s.heap))))
+            (required c args (false_requires (clauses_in_force c.named) args s.heap))))
 
         call_leads : Leads IsTyped (after_index w limits s i (callee_index w f.unit number))
         call_leads = calls_lead (calls_by (slice_get unit.callees number) refl behind_is)

@@ -2,7 +2,7 @@
 use Rattle.std.proofs.Common.{◌≡◌, ℕ, ◌+◌, ◌<◌, nat_le, length-append, arith, List, [], ◌∷◌, ◌++◌, length, reverse, Option, Some, None, slice_get, refl, sym, ap, subst, ◌∙◌, inl, inr, append_assoc}
 use Rattle.std.proofs.lemmas.Bool.{cond_both, leb-false}
 use Rattle.std.proofs.lemmas.List.{length-reverse, reverse-append}
-use Rattle.cil_model.specs.Calls.{ReturnRow, Returned, Returns, WorldCall, args_of, behind_call, callee_index, called, ensures_fault, entry_frame, result_of}
+use Rattle.cil_model.specs.Calls.{ReturnRow, Returned, Returns, WorldCall, args_of, behind_call, callee_index, called, clauses_in_force, ensures_fault, entry_frame, result_of}
 use Rattle.cil_model.specs.Clauses.{false_requires}
 use Rattle.cil_model.specs.Effects.{Effect, GoesOn, Faults, Assumes, FindsNoRoom, HasEffect, effects}
 use Rattle.cil_model.specs.Runs.{CallsBy, Row, Step, config_after, instr_at}
@@ -109,7 +109,7 @@ module _ (w : World) (limits : Limits) (s : State) (unit : MethodUnit) (i : Inst
         ∙ append_assoc callers (behind_call i (length callee.args) f ∷ []) (entry_frame callee index args s.heap ∷ [])
 
     requires_come : (index : ℕ) (callee : MethodUnit) (args : List Value) → callee_index w f.unit number ≡ Some index → slice_get w.units index ≡ Some callee
-        → args_of s.heap callee.args f.stack ≡ Some args → (fault : Option ℕ) → false_requires callee.clauses args s.heap ≡ fault
+        → args_of s.heap callee.args f.stack ≡ Some args → (fault : Option ℕ) → false_requires (clauses_in_force callee) args s.heap ≡ fault
         → Comes limits IsCall (after_requires limits s i index callee args fault)
     requires_come index callee args named found are (Some k) e = record {
       index = index;
@@ -149,7 +149,7 @@ module _ (w : World) (limits : Limits) (s : State) (unit : MethodUnit) (i : Inst
     args_come : (index : ℕ) (callee : MethodUnit) → callee_index w f.unit number ≡ Some index → slice_get w.units index ≡ Some callee
         → (args : Option (List Value)) → args_of s.heap callee.args f.stack ≡ args → Comes limits IsCall (after_args limits s i index callee args)
     args_come index callee named found None e = tt
-    args_come index callee named found (Some args) e = requires_come index callee args named found e (false_requires callee.clauses args s.heap) refl
+    args_come index callee named found (Some args) e = requires_come index callee args named found e (false_requires (clauses_in_force callee) args s.heap) refl
 
     callee_comes : (index : ℕ) → callee_index w f.unit number ≡ Some index → (callee : Option MethodUnit) → slice_get w.units index ≡ callee
         → Comes limits IsCall (after_callee limits s i index callee)

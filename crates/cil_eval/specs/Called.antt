@@ -1,7 +1,7 @@
 -- What comes of calls and returns of frames that hold a state.
 use Rattle.std.specs.Prelude.{◌≡◌, ℕ, ◌+◌, ◌<◌, ◌≤◌, Bool, length, nat_le, Option, Some, None, slice_get}
 use Rattle.std.specs.List.{AllByRecursion}
-use Rattle.cil_model.specs.Calls.{result_of}
+use Rattle.cil_model.specs.Calls.{clauses_in_force, result_of}
 use Rattle.cil_model.specs.Values.{Heap}
 use Rattle.cil_model.specs.declared.clause.Clause.{Clause}
 use Rattle.cil_model.specs.declared.instruction.Instr.{Instr}
@@ -23,7 +23,7 @@ pub record HasRoomToCall (unit : MethodUnit) (frames : Frames) : Type 0 where
   pub args : HasRoomFor (length unit.args) frames.args
   pub locals : HasRoomFor (length unit.locals) frames.locals
   pub entry_args : HasRoomFor (length unit.args) frames.entry_args
-  pub olds : HasRoomFor (olds_in_clauses unit.clauses) frames.olds
+  pub olds : HasRoomFor (olds_in_clauses (clauses_in_force unit)) frames.olds
   pub positions : size_of frames.positions < frames.positions.room
   pub caller : 1 ≤ length frames.positions.top
 
@@ -37,7 +37,7 @@ Calls callee index unit i deeper old heap new stop =
 abbrev pub Returns : MethodUnit → ℕ → Instr → Frames → Heap → Frames → Option Stop → Type 0
 Returns unit index i old heap new stop =
     (w : World) (s : State) → Holds w old heap s → slice_get w.units index ≡ Some unit → s.running.unit ≡ index
-    → AllByRecursion (λ (clause : Clause). OldsLackResult clause.tree) unit.clauses
+    → AllByRecursion (λ (clause : Clause). OldsLackResult clause.tree) (clauses_in_force unit)
     → Turned w (after_result s unit i (result_of s.heap unit.result s.running.stack)) new heap stop
 
 -- The frames with a result on the stack, where there is one.

@@ -1,5 +1,6 @@
 -- The frames at the start of a method.
 use Rattle.std.specs.Prelude.{◌≡◌, ℕ, ◌+◌, ◌<◌, ◌≤◌, List, [], ◌∷◌, ◌++◌, length, map, drop}
+use Rattle.cil_model.specs.Calls.{clauses_in_force}
 use Rattle.cil_model.specs.Limits.{MAX_OLD_VALUES, MAX_VARIABLES}
 use Rattle.cil_model.specs.Values.{Heap, zero_of}
 use Rattle.cil_model.specs.declared.machine.Value.{Value}
@@ -31,7 +32,7 @@ pub record HasRoomToEnter (unit : MethodUnit) (frames : Frames) : Type 0 where
   pub stack : length frames.stack.below < frames.stack.depth
   pub locals : HasRoomFor (length unit.locals) frames.locals
   pub entry_args : HasRoomFor (length frames.args.top) frames.entry_args
-  pub olds : HasRoomFor (olds_in_clauses unit.clauses) frames.olds
+  pub olds : HasRoomFor (olds_in_clauses (clauses_in_force unit)) frames.olds
   pub positions : size_of frames.positions < frames.positions.room
   pub caller : 1 ≤ length frames.positions.top
 
@@ -43,7 +44,7 @@ entered unit index behind heap frames = record {
   args = frames.args;
   locals = opened (map zero_of unit.locals) frames.locals;
   entry_args = opened frames.args.top frames.entry_args;
-  olds = opened (olds_of_clauses unit.clauses frames.args.top heap) frames.olds;
+  olds = opened (olds_of_clauses (clauses_in_force unit) frames.args.top heap) frames.olds;
   positions = record frames.positions { top = record { unit = index; at = unit.body_start } ∷ behind ∷ drop 1 frames.positions.top };
 }
 
@@ -79,6 +80,6 @@ begun unit index args heap frames = record {
   args = record frames.args { top = args ++ frames.args.top };
   locals = record frames.locals { top = map zero_of unit.locals ++ frames.locals.top };
   entry_args = record frames.entry_args { top = args ++ frames.entry_args.top };
-  olds = record frames.olds { top = olds_of_clauses unit.clauses args heap ++ frames.olds.top };
+  olds = record frames.olds { top = olds_of_clauses (clauses_in_force unit) args heap ++ frames.olds.top };
   positions = record frames.positions { top = record { unit = index; at = unit.body_start } ∷ frames.positions.top };
 }

@@ -103,12 +103,38 @@ after_result s unit i (Some result) = after_ensures s i result (ensures_fault un
 
 abbrev pub after_call : World → Limits → State → MethodUnit → Instr → Option UnitCall → Turn
 after_call w limits s unit i (Some (calls.Callee number)) = after_index w limits s i (callee_index w s.running.unit number)
-after_call w limits s unit i call = after_effects limits.cells s i (effects unit i s.running s.heap)
+after_call w limits s unit i (Some (calls.Requires message)) = after_effects limits.cells s i (effects unit i s.running s.heap)
+after_call w limits s unit i (Some (calls.Ensures message)) = after_effects limits.cells s i (effects unit i s.running s.heap)
+after_call w limits s unit i (Some (calls.Assert message)) = after_effects limits.cells s i (effects unit i s.running s.heap)
+after_call w limits s unit i (Some (calls.Assume message)) = after_effects limits.cells s i (effects unit i s.running s.heap)
+after_call w limits s unit i (Some calls.EndContractBlock) = after_effects limits.cells s i (effects unit i s.running s.heap)
+after_call w limits s unit i (Some (calls.Result place)) = after_effects limits.cells s i (effects unit i s.running s.heap)
+after_call w limits s unit i (Some (calls.OldValue place)) = after_effects limits.cells s i (effects unit i s.running s.heap)
+after_call w limits s unit i None = after_effects limits.cells s i (effects unit i s.running s.heap)
 
 abbrev pub after_op : World → Limits → State → MethodUnit → Instr → Op → Turn
 after_op w limits s unit i ops.Return = after_result s unit i (result_of s.heap unit.result s.running.stack)
 after_op w limits s unit i (ops.Call number) = after_call w limits s unit i (unit_call number)
-after_op w limits s unit i op = after_effects limits.cells s i (effects unit i s.running s.heap)
+after_op w limits s unit i ops.Nop = after_effects limits.cells s i (effects unit i s.running s.heap)
+after_op w limits s unit i (ops.LoadArg n) = after_effects limits.cells s i (effects unit i s.running s.heap)
+after_op w limits s unit i (ops.StoreArg n) = after_effects limits.cells s i (effects unit i s.running s.heap)
+after_op w limits s unit i (ops.LoadLocal n) = after_effects limits.cells s i (effects unit i s.running s.heap)
+after_op w limits s unit i (ops.StoreLocal n) = after_effects limits.cells s i (effects unit i s.running s.heap)
+after_op w limits s unit i ops.Null = after_effects limits.cells s i (effects unit i s.running s.heap)
+after_op w limits s unit i (ops.Const n) = after_effects limits.cells s i (effects unit i s.running s.heap)
+after_op w limits s unit i ops.Dup = after_effects limits.cells s i (effects unit i s.running s.heap)
+after_op w limits s unit i ops.Pop = after_effects limits.cells s i (effects unit i s.running s.heap)
+after_op w limits s unit i (ops.Branch test target) = after_effects limits.cells s i (effects unit i s.running s.heap)
+after_op w limits s unit i (ops.Switch targets) = after_effects limits.cells s i (effects unit i s.running s.heap)
+after_op w limits s unit i (ops.Bin operator) = after_effects limits.cells s i (effects unit i s.running s.heap)
+after_op w limits s unit i ops.Neg = after_effects limits.cells s i (effects unit i s.running s.heap)
+after_op w limits s unit i ops.Not = after_effects limits.cells s i (effects unit i s.running s.heap)
+after_op w limits s unit i ops.ConvI4 = after_effects limits.cells s i (effects unit i s.running s.heap)
+after_op w limits s unit i (ops.Text token) = after_effects limits.cells s i (effects unit i s.running s.heap)
+after_op w limits s unit i (ops.NewArray number) = after_effects limits.cells s i (effects unit i s.running s.heap)
+after_op w limits s unit i ops.Length = after_effects limits.cells s i (effects unit i s.running s.heap)
+after_op w limits s unit i (ops.LoadElem place) = after_effects limits.cells s i (effects unit i s.running s.heap)
+after_op w limits s unit i (ops.StoreElem place) = after_effects limits.cells s i (effects unit i s.running s.heap)
 
 abbrev pub after_instr : World → Limits → State → MethodUnit → Option Instr → Turn
 after_instr w limits s unit None = Stuck

@@ -27,7 +27,7 @@ pub(crate) fn call(
     memory: &Memory,
 ) -> Option<Stop>
     requires room { HasRoomToCall callee.now frames.old }
-    requires clauses { length callee.now.clauses < 256 }
+    requires clauses { length (calls.clauses_in_force callee.now) < 256 }
     requires behind { instr.now.at + instr.now.size < 2 ^ 32 }
     ensures calls { Calls callee.now index from.unit instr.now deeper frames.old memory.now.heap frames.new result }
     ensures room { SameRooms frames.old frames.new }
@@ -38,7 +38,7 @@ pub(crate) fn call(
         return Some(Stop::Steps);
     }
     if let Some(k) = false_requires(
-        callee.clauses.as_slice(),
+        callee.clauses_in_force(),
         &frames.args,
         Arrays::Made(memory),
     ) {
@@ -84,7 +84,7 @@ pub(crate) fn give_back(
     frames: &mut Frames,
     memory: &Memory,
 ) -> Option<Stop>
-    requires clauses { length unit.now.clauses < 256 }
+    requires clauses { length (calls.clauses_in_force unit.now) < 256 }
     requires room { size_of frames.old.stack < frames.old.stack.room }
     ensures returns { Returns unit.now from.unit instr.now frames.old memory.now.heap frames.new result }
     ensures room { SameRooms frames.old frames.new }
@@ -92,7 +92,7 @@ pub(crate) fn give_back(
     let Some(returned) = result_of(unit.result, &frames.stack, memory) else {
         return Some(Stop::Steps);
     };
-    let clauses = unit.clauses.as_slice();
+    let clauses = unit.clauses_in_force();
     if let Some(k) = false_ensures(clauses, &frames.entry_args, &frames.olds, memory, returned) {
         return Some(Stop::Fault(FaultKind::Ensures(k), from.unit, instr.at));
     }

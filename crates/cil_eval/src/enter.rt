@@ -33,7 +33,7 @@ pub(crate) fn enter(unit: &Unit, index: u32, behind: Position, frames: &mut Fram
     put_values(frames.args.as_slice(), &mut frames.entry_args);
     frames.olds.open();
     put_all_olds(
-        unit.clauses.as_slice(),
+        unit.clauses_in_force(),
         &frames.args,
         memory,
         &mut frames.olds,
@@ -73,7 +73,7 @@ pub(crate) fn begin(
     put_values(values.as_slice(), &mut frames.args);
     put_locals(unit.locals.as_slice(), &mut frames.locals);
     put_values(values.as_slice(), &mut frames.entry_args);
-    put_all_olds(unit.clauses.as_slice(), values, memory, &mut frames.olds);
+    put_all_olds(unit.clauses_in_force(), values, memory, &mut frames.olds);
     frames.positions.push(Position {
         unit: index,
         at: unit.body_start,

@@ -24,8 +24,36 @@ pub(crate) fn flow_of(op: &Op) -> Flow
         Op::Return => Flow::Back,
         Op::Call(number) => match unit_call(*number) {
             Some(UnitCall::Callee(callee)) => Flow::Into(callee),
-            _ => Flow::Stays,
+            Some(
+                UnitCall::Requires(_)
+                | UnitCall::Ensures(_)
+                | UnitCall::Assert(_)
+                | UnitCall::Assume(_)
+                | UnitCall::EndContractBlock
+                | UnitCall::Result(_)
+                | UnitCall::OldValue(_),
+            )
+            | None => Flow::Stays,
         },
-        _ => Flow::Stays,
+        Op::Nop
+        | Op::LoadArg(_)
+        | Op::StoreArg(_)
+        | Op::LoadLocal(_)
+        | Op::StoreLocal(_)
+        | Op::Null
+        | Op::Const(_)
+        | Op::Dup
+        | Op::Pop
+        | Op::Branch(..)
+        | Op::Switch(_)
+        | Op::Bin(_)
+        | Op::Neg
+        | Op::Not
+        | Op::ConvI4
+        | Op::Text(_)
+        | Op::NewArray(_)
+        | Op::Length
+        | Op::LoadElem(_)
+        | Op::StoreElem(_) => Flow::Stays,
     }
 }

@@ -45,7 +45,15 @@ fn contract_call(call: Option<UnitCall>, stack: &mut Pile<Value>) -> Action
     match call {
         Some(UnitCall::Assert(message)) => stack_rows::assert(message, stack),
         Some(UnitCall::Assume(message)) => stack_rows::assume(message, stack),
-        _ => Action::Stuck,
+        Some(
+            UnitCall::Requires(_)
+            | UnitCall::Ensures(_)
+            | UnitCall::EndContractBlock
+            | UnitCall::Result(_)
+            | UnitCall::OldValue(_)
+            | UnitCall::Callee(_),
+        )
+        | None => Action::Stuck,
     }
 }
 

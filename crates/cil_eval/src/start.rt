@@ -41,7 +41,7 @@ pub(crate) fn admitted<'w>(
     }
     values.clear();
     put_values_of(args, values);
-    if let Some(k) = false_requires(unit.clauses.as_slice(), values, Arrays::Given(args)) {
+    if let Some(k) = false_requires(unit.clauses_in_force(), values, Arrays::Given(args)) {
         return Err(StartRefusal::Requires(k));
     }
     if !have_cells(args, limits.cells as usize) {

@@ -12,7 +12,7 @@ pub mod HasTree
 pub mod Looking
 pub mod NumberClauses
 pub mod PlacedCalls
-pub mod Searches
+pub mod Rising
 pub mod StackLemmas
 pub mod Stretches
 pub mod TreeCounts

@@ -3,7 +3,6 @@ pub mod Arriving
 pub mod Beginning
 pub mod BehindLemmas
 pub mod Between
-pub mod Finding
 pub mod Gathering
 pub mod Joins
 pub mod Lying

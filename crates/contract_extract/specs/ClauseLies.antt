@@ -1,7 +1,8 @@
 -- How the code of a clause lies in that of its method.
-use Rattle.std.specs.Prelude.{◌≡◌, ℕ, suc, ◌+◌, ◌-◌, ◌^◌, ◌<◌, ◌≤◌, List, [], ◌∷◌, length, take, drop, Some, option_map, slice_get}
+use Rattle.std.specs.Prelude.{◌≡◌, ℕ, ◌+◌, ◌-◌, ◌^◌, ◌<◌, ◌≤◌, List, [], ◌∷◌, length, take, drop, Some, option_map, slice_get}
 use Rattle.std.specs.List.{AllByRecursion}
 use Rattle.std.specs.Option.{option_map_or}
+use Rattle.cil_model.specs.Offsets.{RiseFrom}
 use Rattle.cil_model.specs.Runs.{instr_at}
 use Rattle.cil_model.specs.declared.instruction.Instr.{Instr}
 use Rattle.cil_model.specs.declared.shape.Shape.{Shape}
@@ -17,11 +18,6 @@ LieFrom at (i ∷ is) = (i.at ≡ at) × (0 < i.size) × (at + i.size < 2 ^ 32) 
 -- The instructions lie one after another, from the start of the code on.
 pub record LieInOrder (is : List Instr) : Type 0 where
   pub lie : LieFrom 0 is
-
--- The offsets rise, from this one on.
-abbrev pub RiseFrom : ℕ → List Instr → Type 0
-RiseFrom low [] = Unit {0}
-RiseFrom low (i ∷ rest) = (low ≤ i.at) × RiseFrom (suc i.at) rest
 
 -- The code lies among the instructions, from an index on.
 pub record LiesFrom (is : List Instr) (first : ℕ) (code : List Instr) : Type 0 where

@@ -1,6 +1,7 @@
 -- Values that the tree of a clause does not have, on the stacks of its code.
 use Rattle.std.specs.Prelude.{◌≡◌, ◌⊎◌, ℕ, zero, suc, ◌+◌, ◌-◌, ◌<◌, ◌≤◌, ◌==◌, Bool, true, List, [], ◌∷◌, drop, length, Option, Some, None, is_some, if◌then◌else◌, slice_get, slice_index_or}
 use Rattle.cil_model.specs.ClauseTrees.{Item, closing}
+use Rattle.cil_model.specs.Offsets.{StandsAt}
 use Rattle.cil_model.specs.UnitCalls.{unit_call}
 use Rattle.cil_model.specs.declared.clause.ClauseKind.{ClauseKind}
 use Rattle.cil_model.specs.declared.instruction.Instr.{Instr}
@@ -9,7 +10,7 @@ use Rattle.cil_model.specs.declared.instruction.Op.TheVariants as ops
 use Rattle.cil_model.specs.declared.instruction.Test.TheVariants as tests
 use Rattle.cil_model.specs.declared.unit_numbers.UnitCall.{UnitCall}
 use Rattle.cil_model.specs.declared.unit_numbers.UnitCall.TheVariants as calls
-use Rattle.contract_extract.specs.Growth.{FoundAt, Keeps, forward, jump_of}
+use Rattle.contract_extract.specs.Growth.{Keeps, forward, jump_of}
 use Rattle.contract_extract.specs.declared.trees.ahead.Ahead.{Ahead}
 use Rattle.contract_extract.specs.declared.trees.dropped.Dropped.{Dropped}
 
@@ -129,5 +130,5 @@ AreFirstOwn is ahead count = (index : ℕ) (i : Instr) → index < count → sli
 -- This is known ahead of the instruction at an IL offset.
 pub record IsAheadOf (is : List Instr) (ahead : List Ahead) (at : ℕ) (here : Ahead) : Type 0 where
   pub index : ℕ
-  pub found : FoundAt is at index
+  pub found : StandsAt is at index
   pub entry : slice_index_or ahead index (record { works_at = 0; dropped = nothing }) ≡ here

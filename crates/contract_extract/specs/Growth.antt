@@ -1,9 +1,8 @@
 -- How the tree of a clause grows along the ways forward, and the limits that it meets.
-use Rattle.std.specs.Prelude.{◌≡◌, ℕ, ◌+◌, ◌<◌, ◌≤◌, Bool, true, false, ◌||◌, nat_lt, List, ◌∷◌, length, Option, Some, None, IfSome, if◌then◌else◌, slice_get}
+use Rattle.std.specs.Prelude.{◌≡◌, ℕ, ◌+◌, ◌≤◌, Bool, true, false, ◌||◌, nat_lt, List, ◌∷◌, length, Option, Some, None, IfSome, if◌then◌else◌}
 use Rattle.std.specs.List.{AllByRecursion}
 use Rattle.std.specs.Option.{is_some}
 use Rattle.cil_model.specs.ClauseTrees.{Item, Tree, Message, branch_operator, closing, condition, tree_at, tree_from}
-use Rattle.cil_model.specs.Runs.{instr_at}
 use Rattle.cil_model.specs.Terms as terms
 use Rattle.cil_model.specs.Terms.{Term, condition_depth, term_size}
 use Rattle.cil_model.specs.declared.instruction.Instr.{Instr}
@@ -14,11 +13,6 @@ use Rattle.cil_model.specs.declared.instruction.Test.TheVariants as tests
 use Rattle.contract_extract.specs.declared.trees.conditions.Condition.{Condition}
 use Rattle.contract_extract.specs.declared.trees.limits.Limits.{Limits}
 use Rattle.contract_extract.specs.declared.trees.limits.Grown.{Grown}
-
--- The instruction at an IL offset has this index.
-pub record FoundAt (is : List Instr) (at index : ℕ) : Type 0 where
-  pub within : index < length is
-  pub found : slice_get is index ≡ instr_at is at
 
 -- ---- ways
 

@@ -1,9 +1,9 @@
 -- What one instruction of a clause's code does to the arrivals.
-use Rattle.std.specs.Prelude.{◌≡◌, ℕ, suc, ◌+◌, ◌≤◌, ◌==◌, nat_lt, Bool, true, false, not, ◌&&◌, List, [], ◌∷◌, ◌++◌, length, flat_map, Option, Some, None, if◌then◌else◌, slice_get}
+use Rattle.std.specs.Prelude.{◌≡◌, ℕ, suc, ◌+◌, ◌≤◌, nat_lt, Bool, true, false, not, ◌&&◌, List, [], ◌∷◌, ◌++◌, length, flat_map, Option, Some, None, if◌then◌else◌}
 use Rattle.std.specs.List.{list_any}
-use Rattle.std.specs.Option.{option_map_or}
 use Rattle.cil_model.specs.Blocks.{closes}
 use Rattle.cil_model.specs.Kinds.{operand_count}
+use Rattle.cil_model.specs.Offsets.{begins_with}
 use Rattle.cil_model.specs.UnitCalls.{unit_call}
 use Rattle.cil_model.specs.declared.instruction.Instr.{Instr}
 use Rattle.cil_model.specs.declared.instruction.Op.{Op}
@@ -117,7 +117,7 @@ StandBehind is shape i stacks index out = StandFor stacks index (passed_arrivals
 
 -- A way that comes from the instruction of an index to an IL offset comes to the one of another index.
 abbrev pub is_sent_to : List Instr → ℕ → ℕ → ℕ → Bool
-is_sent_to code index later other = nat_lt index other && option_map_or (λ i. i.at == later) (slice_get code other) false
+is_sent_to code index later other = nat_lt index other && begins_with code later other
 
 -- Arrivals come to what stands at an IL offset, after the instruction of an index.
 pub record AreSentTo (code : List Instr) (index later : ℕ) (out : List Arrival) (old new : Stacks) : Type 0 where

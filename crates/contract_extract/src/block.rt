@@ -56,7 +56,7 @@ impl Block {
         requires lie { AreOfShortCode instrs.now }
         requires has_tree { IsSome (tree_of instrs.now self.now.start) }
         requires counted { self.now.old_values ≡ olds_of self.now.clauses.items }
-        requires few { self.now.old_values ≤ 64 }
+        requires few { self.now.old_values ≤ MAX_OLD_VALUES }
         ensures { IfOk result (λ read. ReadWithin instrs.now self.now.start self.now.clauses.items kind (option_map (λ clause. (clause.tree, clause.old_values)) read)) }
     {
         let Some(read) = read_clause(alloc, instrs, self.start)? else {

@@ -4,7 +4,6 @@
 mod block;
 mod contracts;
 mod faults;
-mod offsets;
 mod pure_code;
 mod read_clause;
 mod trees;

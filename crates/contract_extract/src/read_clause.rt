@@ -7,8 +7,8 @@ ghost use Rattle.cil_model.specs.ShortCode.{AreOfShortCode};
 ghost use Rattle.contract_extract.specs.TooLarge.{is_too_large};
 
 use crate::trees::limits::Limits;
+use crate::trees::tree_counts::old_values;
 use crate::trees::tree_of::grow_clause;
-use crate::trees::tree_parts::old_values;
 use cil_model::{Instr, MAX_CONDITIONS, MAX_NODES, Tree};
 use std::alloc::{AllocError, Global};
 

@@ -5,6 +5,6 @@ pub(crate) mod conditions;
 pub(crate) mod dropped;
 pub(crate) mod limits;
 pub(crate) mod stretch;
+pub(crate) mod tree_counts;
 pub(crate) mod tree_of;
-pub(crate) mod tree_parts;
 pub(crate) mod tree_stack;

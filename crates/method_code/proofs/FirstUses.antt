@@ -11,6 +11,7 @@ use Rattle.cil_model.specs.Code.{CodeOf}
 use Rattle.cil_model.specs.declared.instruction.Instr.{Instr}
 use Rattle.cil_model.proofs.ShortCodes.{code_is_short, count_short}
 use Rattle.method_code.specs.Called.{called_by_op, callees_of, calls_in}
+use Rattle.method_code.specs.Meanings.{Meaning}
 use Rattle.method_unit.specs.UnitFile.{first_uses}
 
 same_numbers : (a b : ℕ) → nat_eq a b ≡ nat_eq b a
@@ -60,16 +61,16 @@ fewer met (n ∷ ns) = fewer_next met ns n (list_any (λ m. m == n) met) (fewer 
     fewer_next met ns n true old new = omega (arith, old)
     fewer_next met ns n false old new = omega (arith, new)
 
-fewer_calls : (asm : List ℕ) (is : List Instr) → length (calls_in asm is) ≤ length is
-fewer_calls asm [] = omega arith
-fewer_calls asm (i ∷ is) = by (called_by_op asm i.op) (fewer_calls asm is)
+fewer_calls : (meaning : Meaning) (is : List Instr) → length (calls_in meaning is) ≤ length is
+fewer_calls meaning [] = omega arith
+fewer_calls meaning (i ∷ is) = by (called_by_op meaning i.op) (fewer_calls meaning is)
   where
-    by : (call : Option ℕ) → length (calls_in asm is) ≤ length is → length (cons_option call (calls_in asm is)) ≤ length (i ∷ is)
+    by : (call : Option ℕ) → length (calls_in meaning is) ≤ length is → length (cons_option call (calls_in meaning is)) ≤ length (i ∷ is)
     by None few = omega (arith, few)
     by (Some token) few = omega (arith, few)
 
 -- Code that is short has so few callees that each has a number of 32 bits.
-pub few_callees : (asm : List ℕ) (is : List Instr) (code : List ℕ) → CodeOf is code → IsShort code → length (callees_of asm is) + 100 < 2 ^ 32
-few_callees asm is code of_code short =
+pub few_callees : (meaning : Meaning) (is : List Instr) (code : List ℕ) → CodeOf is code → IsShort code → length (callees_of meaning is) + 100 < 2 ^ 32
+few_callees meaning is code of_code short =
     let lies = code_is_short is code of_code short in
-    omega (arith, fewer [] (calls_in asm is), fewer_calls asm is, count_short 0 is lies.lie lies.each (omega arith))
+    omega (arith, fewer [] (calls_in meaning is), fewer_calls meaning is, count_short 0 is lies.lie lies.each (omega arith))

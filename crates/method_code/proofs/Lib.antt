@@ -1,4 +1,6 @@
 pub mod BareShapes
+pub mod CalledNumbers
+pub mod CalleeOrder
 pub mod FirstUses
 pub mod NumberBounds
 pub mod NumberedCode

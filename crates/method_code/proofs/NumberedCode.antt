@@ -20,6 +20,7 @@ use Rattle.il_decoder.proofs.FaultPlaces.{code_instr_places}
 use Rattle.il_decoder.proofs.SpellingLemmas.{spelling}
 use Rattle.flow_graph.proofs.Lying.{all_by_index}
 use Rattle.stack_typer.proofs.CodeLies.{code_lies}
+use Rattle.method_code.specs.Meanings.{HasSmallNumbers, Meaning}
 use Rattle.method_code.specs.Numbering.{array_number, call_number, numbered_instr, numbered_op, spelled_code}
 use Rattle.method_code.specs.Reading.{AreDecodedAs}
 use Rattle.method_code.specs.Called.{callees_of}
@@ -63,10 +64,10 @@ own_code is (code, of_code) = subst (CodeOf is) (sym (spelled_from 0 is code of_
 pub each_spelled : (is : List Instr) → ((code : List ℕ) × CodeOf is code) → All IsSpelled is
 each_spelled is (code, of_code) = all_by_index IsSpelled is (spelled_from 0 is code of_code.spelled).0
 
-module _ (asm callees : List ℕ) where
+module _ (meaning : Meaning) (callees : List ℕ) where
   -- What is so of an operation and itself, and of these three with whatever number, is so of an operation and the numbered one.
-  by_op : (P : Op → Op → Type 0) → ((token : ℕ) → P (ops.Call token) (ops.Call (call_number asm callees token))) → ((token : ℕ) → P (ops.NewArray token) (ops.NewArray (array_number asm token)))
-      → ((token : ℕ) → P (ops.Text token) (ops.Text 0)) → ((op : Op) → P op op) → (op : Op) → P op (numbered_op asm callees op)
+  by_op : (P : Op → Op → Type 0) → ((token : ℕ) → P (ops.Call token) (ops.Call (call_number callees (meaning.call token)))) → ((token : ℕ) → P (ops.NewArray token) (ops.NewArray (array_number (meaning.element token))))
+      → ((token : ℕ) → P (ops.Text token) (ops.Text 0)) → ((op : Op) → P op op) → (op : Op) → P op (numbered_op meaning callees op)
   by_op P call array text same ops.Nop = same ops.Nop
   by_op P call array text same (ops.LoadArg n) = same (ops.LoadArg n)
   by_op P call array text same (ops.StoreArg n) = same (ops.StoreArg n)
@@ -90,15 +91,15 @@ module _ (asm callees : List ℕ) where
   by_op P call array text same (ops.LoadElem place) = same (ops.LoadElem place)
   by_op P call array text same (ops.StoreElem place) = same (ops.StoreElem place)
 
-  same_targets : (op : Op) → branch_targets (numbered_op asm callees op) ≡ branch_targets op
+  same_targets : (op : Op) → branch_targets (numbered_op meaning callees op) ≡ branch_targets op
   same_targets op = by_op (λ before after. branch_targets after ≡ branch_targets before) (λ token. refl) (λ token. refl) (λ token. refl) (λ op. refl) op
 
-  module _ (few : length callees + 100 < 2 ^ 32) where
-    numbered_spelled : (i : Instr) → IsSpelled i → IsSpelled (numbered_instr asm callees i)
+  module _ (small : HasSmallNumbers meaning) (few : length callees + 100 < 2 ^ 32) where
+    numbered_spelled : (i : Instr) → IsSpelled i → IsSpelled (numbered_instr meaning callees i)
     numbered_spelled i is =
         by_op (λ before after. IsSpelled (placed i.at i.size before) → IsSpelled (placed i.at i.size after))
-        (λ token h. call_spelled i.at i.size token _ h (call_small asm callees token few))
-        (λ token h. array_spelled i.at i.size token _ h (array_small asm token))
+        (λ token h. call_spelled i.at i.size token _ h (call_small callees (meaning.call token) (small token) few))
+        (λ token h. array_spelled i.at i.size token _ h (array_small (meaning.element token)))
         (λ token h. text_spelled i.at i.size token 0 h (omega arith))
         (λ op h. h)
         i.op is
@@ -107,44 +108,44 @@ module _ (asm callees : List ℕ) where
 
     -- The numbered instructions are spelled in their order, in as many bytes.
     pub numbered_from : (at : ℕ) (is : List Instr) (code : List ℕ) → CodeFrom at is code
-        → CodeFrom at (map (numbered_instr asm callees) is) (spelled_code (map (numbered_instr asm callees) is))
-        × (length (spelled_code (map (numbered_instr asm callees) is)) ≡ length code)
+        → CodeFrom at (map (numbered_instr meaning callees) is) (spelled_code (map (numbered_instr meaning callees) is))
+        × (length (spelled_code (map (numbered_instr meaning callees) is)) ≡ length code)
     numbered_from at [] code h = (refl, ap length (sym h))
     numbered_from at (i ∷ is) code (place, (bytes, rest, spells, parts, others)) =
-        let j = numbered_instr asm callees i in
+        let j = numbered_instr meaning callees i in
         let behind = numbered_from (at + i.size) is rest others in
         let spells' = (spelling j (numbered_spelled i (bytes, spells))).spells in
         let long : length code ≡ length bytes + length rest = ap length parts ∙ length-append bytes rest in
         let first : length (spelled j) ≡ length bytes = sym spells'.size ∙ spells.size in
-        let later = spelled_code (map (numbered_instr asm callees) is) in (
+        let later = spelled_code (map (numbered_instr meaning callees) is) in (
           (place, (spelled j, later, spells', refl, behind.0)),
           omega (arith, long, first, behind.1, length-append (spelled j) later),
         )
 
-  same_begins : (is : List Instr) (at : ℕ) → begins_at (map (numbered_instr asm callees) is) at ≡ begins_at is at
+  same_begins : (is : List Instr) (at : ℕ) → begins_at (map (numbered_instr meaning callees) is) at ≡ begins_at is at
   same_begins [] at = refl
   same_begins (i ∷ is) at = ap (λ (b : Bool). i.at == at || b) (same_begins is at)
 
-  meets_starts : (is : List Instr) (i : Instr) → MeetsStarts is i → MeetsStarts (map (numbered_instr asm callees) is) (numbered_instr asm callees i)
+  meets_starts : (is : List Instr) (i : Instr) → MeetsStarts is i → MeetsStarts (map (numbered_instr meaning callees) is) (numbered_instr meaning callees i)
   meets_starts is i meets =
-      subst (λ targets. AllByRecursion (λ target. begins_at (map (numbered_instr asm callees) is) target ≡ true) targets) (sym (same_targets i.op))
+      subst (λ targets. AllByRecursion (λ target. begins_at (map (numbered_instr meaning callees) is) target ≡ true) targets) (sym (same_targets i.op))
       (subst (λ (begins : ℕ → Bool). AllByRecursion (λ target. begins target ≡ true) (branch_targets i.op)) (sym (fun_ext (same_begins is))) meets)
 
   all_meet : (is some : List Instr) → AllByRecursion (MeetsStarts is) some
-      → AllByRecursion (MeetsStarts (map (numbered_instr asm callees) is)) (map (numbered_instr asm callees) some)
+      → AllByRecursion (MeetsStarts (map (numbered_instr meaning callees) is)) (map (numbered_instr meaning callees) some)
   all_meet is [] all = tt
   all_meet is (i ∷ some) all = (meets_starts is i all.0, all_meet is some all.1)
 
-  all_inside : (most : ℕ) (is : List Instr) → AllByRecursion (λ i. i.at ≤ most) is → AllByRecursion (λ i. i.at ≤ most) (map (numbered_instr asm callees) is)
+  all_inside : (most : ℕ) (is : List Instr) → AllByRecursion (λ i. i.at ≤ most) is → AllByRecursion (λ i. i.at ≤ most) (map (numbered_instr meaning callees) is)
   all_inside most [] all = tt
   all_inside most (i ∷ is) all = (all.0, all_inside most is all.1)
 
   -- What decoding tells of code it tells of the numbered code.
-  pub numbered_decoded : (is : List Instr) (code : List ℕ) → length callees + 100 < 2 ^ 32 → IsShort code → is ≡ instructions_of code → CodeOf is code
-      → AreDecodedAs code (map (numbered_instr asm callees) is)
-  numbered_decoded is code few short are of_code =
-      let js = map (numbered_instr asm callees) is in
-      let spelled = numbered_from few 0 is code of_code.spelled in
+  pub numbered_decoded : (is : List Instr) (code : List ℕ) → HasSmallNumbers meaning → length callees + 100 < 2 ^ 32 → IsShort code → is ≡ instructions_of code → CodeOf is code
+      → AreDecodedAs code (map (numbered_instr meaning callees) is)
+  numbered_decoded is code small few short are of_code =
+      let js = map (numbered_instr meaning callees) is in
+      let spelled = numbered_from small few 0 is code of_code.spelled in
       let of_spelled : CodeOf js (spelled_code js) = record { spelled = spelled.0; targets = all_meet is is of_code.targets } in
       record {
         spelled = of_spelled;
@@ -155,7 +156,8 @@ module _ (asm callees : List ℕ) where
       }
 
 -- Instructions with numbers of their own callees.
-pub instrs_decoded : (asm code : List ℕ) (raw is : List Instr) → IsShort code → raw ≡ instructions_of code → CodeOf raw code
-    → is ≡ map (numbered_instr asm (callees_of asm raw)) raw → AreDecodedAs code is
-instrs_decoded asm code raw is short are of_code numbers =
-    subst (AreDecodedAs code) (sym numbers) (numbered_decoded asm (callees_of asm raw) raw code (few_callees asm raw code of_code short) short are of_code)
+pub instrs_decoded : (meaning : Meaning) (code : List ℕ) (raw is : List Instr) → HasSmallNumbers meaning → IsShort code → raw ≡ instructions_of code → CodeOf raw code
+    → is ≡ map (numbered_instr meaning (callees_of meaning raw)) raw → AreDecodedAs code is
+instrs_decoded meaning code raw is small short are of_code numbers =
+    subst (AreDecodedAs code) (sym numbers)
+    (numbered_decoded meaning (callees_of meaning raw) raw code small (few_callees meaning raw code of_code short) short are of_code)

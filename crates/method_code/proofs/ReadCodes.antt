@@ -22,9 +22,10 @@ use Rattle.il_decoder.specs.Decoding.{instructions_of}
 use Rattle.il_decoder.specs.declared.fault.IlFault.{IlFault}
 use Rattle.method_unit.specs.UnitFile.{clause_told}
 use Rattle.method_code.specs.Called.{callees_of}
+use Rattle.method_code.specs.Meanings.{Meaning}
 use Rattle.method_code.specs.Numbering.{numbered, spelled_code}
 use Rattle.method_code.specs.OfMethods.{HasSignature, bare_shape, clauses_of, decoded_instrs, instrs_of, is_number_clause, known_clauses, told_clauses}
-use Rattle.method_code.specs.Reading.{AreContractsOf, AreDecodedAs, IsCodeOf, IsReadOf, as_token}
+use Rattle.method_code.specs.Reading.{AreContractsOf, AreDecodedAs, IsCodeOf, IsReadOf}
 use Rattle.method_code.specs.declared.code_reader.MethodCode.{MethodCode}
 use Rattle.method_code.proofs.BareShapes.{bare_faults}
 
@@ -53,13 +54,13 @@ judged_of method code is (Ok found) decoded judged limits = (judged.0, contracts
 judged_of method code is (Err fault) decoded judged limits = judged
 
 -- What is read of code whose numbered instructions are these.
-pub code_read : (asm : List ℕ) (method : MethodRow) (code : List ℕ) (is : List Instr) (shape : Shape) (read : MethodCode) → AreDecodedAs code is
-    → is ≡ numbered asm (instructions_of code) → read.instrs ≡ is → shape ≡ bare_shape method → read.callees ≡ map as_token (callees_of asm (instructions_of code))
+pub code_read : (meaning : Meaning) (method : MethodRow) (code : List ℕ) (is : List Instr) (shape : Shape) (read : MethodCode) → AreDecodedAs code is
+    → is ≡ numbered meaning (instructions_of code) → read.instrs ≡ is → shape ≡ bare_shape method → read.callees ≡ callees_of meaning (instructions_of code)
     → Judges read.contracts (first_clause_fault is shape) (λ found. AreContracts is found.clauses found.body_start)
     → IfOk read.contracts (λ found. ClausesWithinLimits found.clauses)
     → IfOk read.contracts (λ found. read.are_numbers ≡ list_all (is_number_clause shape) found.clauses)
-    → IsReadOf asm method code read
-code_read asm method code is shape read decoded numbers kept bare callees judged limits are_numbers =
+    → IsReadOf meaning method code read
+code_read meaning method code is shape read decoded numbers kept bare callees judged limits are_numbers =
     let here : AreDecodedAs code read.instrs = subst (AreDecodedAs code) (sym kept) decoded in
     let at_shape : Judges read.contracts (first_clause_fault is (bare_shape method)) (λ found. AreContracts is found.clauses found.body_start) =
     subst (λ s. Judges read.contracts (first_clause_fault is s) (λ found. AreContracts is found.clauses found.body_start)) bare judged in
@@ -79,11 +80,11 @@ told_again [] = refl
 told_again (clause ∷ clauses) = ap (λ rest. clause ∷ rest) (told_again clauses)
 
 -- What callers know of the method is what they know of its instructions.
-known_of : (asm : List ℕ) (method : MethodRow) (read : MethodCode) → IsCodeOf asm method read → clauses_of asm method ≡ known_clauses (bare_shape method) read.instrs
+known_of : (meaning : Meaning) (asm : List ℕ) (method : MethodRow) (read : MethodCode) → IsCodeOf meaning asm method read → clauses_of meaning asm method ≡ known_clauses (bare_shape method) read.instrs
 unfolding clauses_of instrs_of
-known_of asm method read of =
-    ap (λ (code : Option (List ℕ)). option_map_or (known_clauses (bare_shape method)) (option_and_then (decoded_instrs asm) code) []) of.own
-    ∙ ap (λ (fault : Option IlFault). option_map_or (known_clauses (bare_shape method)) (if is_none fault then Some (numbered asm (instructions_of of.code)) else None) []) of.faultless
+known_of meaning asm method read of =
+    ap (λ (code : Option (List ℕ)). option_map_or (known_clauses (bare_shape method)) (option_and_then (decoded_instrs meaning) code) []) of.own
+    ∙ ap (λ (fault : Option IlFault). option_map_or (known_clauses (bare_shape method)) (if is_none fault then Some (numbered meaning (instructions_of of.code)) else None) []) of.faultless
     ∙ ap (known_clauses (bare_shape method)) (sym of.read_of.instrs)
 
 -- The clauses that were read, where each is a number.
@@ -112,8 +113,8 @@ told_of : (method : MethodRow) (is : List Instr) (first : Option ClauseFault) (c
 told_of method is first (Ok found) judged = (judged.0, judged.1.told.told)
 told_of method is first (Err fault) judged = judged
 
-pub clauses_known : (asm : List ℕ) (method : MethodRow) (read : MethodCode) → IsCodeOf asm method read → clauses_if read.contracts read.are_numbers ≡ clauses_of asm method
-clauses_known asm method read of =
-    sym (known_of asm method read of
+pub clauses_known : (meaning : Meaning) (asm : List ℕ) (method : MethodRow) (read : MethodCode) → IsCodeOf meaning asm method read → clauses_if read.contracts read.are_numbers ≡ clauses_of meaning asm method
+clauses_known meaning asm method read of =
+    sym (known_of meaning asm method read of
     ∙ known_if (bare_shape method) read.instrs read.contracts read.are_numbers
     (told_of method read.instrs (first_clause_fault read.instrs (bare_shape method)) read.contracts of.read_of.contracts) of.read_of.are_numbers)

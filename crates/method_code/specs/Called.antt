@@ -1,49 +1,48 @@
--- The methods of an assembly that the code of another one calls.
-use Rattle.std.specs.Prelude.{ℕ, Bool, true, false, not, ◌&&◌, ◌==◌, bit_and, List, [], filter_map, Option, Some, None, if◌then◌else◌}
-use Rattle.std.specs.Option.{option_map_or}
-use Rattle.asm_image.specs.Bodies.{method_of}
-use Rattle.asm_image.specs.Calls.{callee_of}
-use Rattle.asm_image.specs.declared.callee.Callee.{Callee}
-use Rattle.asm_image.specs.declared.callee.Callee.TheVariants.{Method}
-use Rattle.asm_image.specs.declared.method_row.MethodRow.{MethodRow}
+-- The methods that code calls, by their keys.
+use Rattle.std.specs.Prelude.{ℕ, List, [], filter_map, Option, Some, None}
 use Rattle.cil_model.specs.declared.instruction.Instr.{Instr}
 use Rattle.cil_model.specs.declared.instruction.Op.{Op}
 use Rattle.cil_model.specs.declared.instruction.Op.TheVariants as ops
+use Rattle.method_code.specs.Meanings.{Meaning}
+use Rattle.method_code.specs.declared.call.Call.{Call}
+use Rattle.method_code.specs.declared.call.Call.TheVariants.{Callee, Contract, Unknown}
 use Rattle.method_unit.specs.UnitFile.{first_uses}
-use Rattle.pe_reader.specs.Addresses.{metadata}
-use Rattle.signature_blobs.specs.declared.method.SigTypes.{SigTypes}
-use Rattle.signature_blobs.specs.declared.method.SigTypes.TheVariants as types
 
--- The method is static (II.23.1.10: Static), and has no `this`.
-abbrev pub is_static : MethodRow → Bool
-is_static method = not (bit_and method.flags 0x0010 == 0) && not method.sig.has_this
-
--- Each type of the signature is in the profile.
-abbrev pub are_known : SigTypes → Bool
-are_known (types.Known signature) = true
-are_known types.Other = false
-
--- Units may have an entry of the method among their callees.
-abbrev pub is_callable : MethodRow → Bool
-is_callable method = is_static method && not method.sig.generic && are_known method.sig.types
-
-abbrev pub called_method : List ℕ → Callee → Option ℕ
-called_method asm (Method token) = if option_map_or is_callable (method_of asm token) false then Some token.0 else None
-called_method asm _ = None
-
--- The token of the method that a call of this token calls, where it is one of which units may have an entry.
-unfoldable pub called : List ℕ → ℕ → Option ℕ
-called asm token = called_method asm (callee_of (metadata asm) token)
+-- The key of the method that a call calls.
+abbrev pub callee_key : Call → Option ℕ
+callee_key (Callee key) = Some key
+callee_key (Contract number) = None
+callee_key Unknown = None
 
 -- The same for an operation.
-abbrev pub called_by_op : List ℕ → Op → Option ℕ
-called_by_op asm (ops.Call token) = called asm token
-called_by_op asm _ = None
+abbrev pub called_by_op : Meaning → Op → Option ℕ
+called_by_op meaning (ops.Call token) = callee_key (meaning.call token)
+called_by_op meaning ops.Nop = None
+called_by_op meaning (ops.LoadArg n) = None
+called_by_op meaning (ops.StoreArg n) = None
+called_by_op meaning (ops.LoadLocal n) = None
+called_by_op meaning (ops.StoreLocal n) = None
+called_by_op meaning ops.Null = None
+called_by_op meaning (ops.Const n) = None
+called_by_op meaning ops.Dup = None
+called_by_op meaning ops.Pop = None
+called_by_op meaning ops.Return = None
+called_by_op meaning (ops.Branch test target) = None
+called_by_op meaning (ops.Switch targets) = None
+called_by_op meaning (ops.Bin operator) = None
+called_by_op meaning ops.Neg = None
+called_by_op meaning ops.Not = None
+called_by_op meaning ops.ConvI4 = None
+called_by_op meaning (ops.Text token) = None
+called_by_op meaning (ops.NewArray token) = None
+called_by_op meaning ops.Length = None
+called_by_op meaning (ops.LoadElem place) = None
+called_by_op meaning (ops.StoreElem place) = None
 
 -- The methods that the instructions call.
-abbrev pub calls_in : List ℕ → List Instr → List ℕ
-calls_in asm is = filter_map (λ i. called_by_op asm i.op) is
+abbrev pub calls_in : Meaning → List Instr → List ℕ
+calls_in meaning is = filter_map (λ i. called_by_op meaning i.op) is
 
 -- Each of them once, in order of first use.
-abbrev pub callees_of : List ℕ → List Instr → List ℕ
-callees_of asm is = first_uses [] (calls_in asm is)
+abbrev pub callees_of : Meaning → List Instr → List ℕ
+callees_of meaning is = first_uses [] (calls_in meaning is)

@@ -1,4 +1,5 @@
 pub mod Called
+pub mod Meanings
 pub mod Numbering
 pub mod OfMethods
 pub mod Reading

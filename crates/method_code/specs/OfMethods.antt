@@ -1,4 +1,4 @@
--- The code of a method of an assembly, and what callers know of it.
+-- The code of a method of an assembly, whose tokens have a meaning, and what callers know of it.
 use Rattle.std.specs.Prelude.{◌≡◌, ℕ, Bool, true, false, ◌&&◌, List, [], filter_map, Option, Some, None, is_none, if◌then◌else◌}
 use Rattle.std.specs.List.{list_all}
 use Rattle.std.specs.Option.{option_map_or, option_and_then}
@@ -19,6 +19,7 @@ use Rattle.cil_model.specs.declared.shape.Shape.{Shape}
 use Rattle.contract_extract.specs.Faults.{first_clause_fault}
 use Rattle.il_decoder.specs.Body.{body_code}
 use Rattle.il_decoder.specs.Decoding.{code_tests, instructions_of}
+use Rattle.method_code.specs.Meanings.{Meaning}
 use Rattle.method_code.specs.Numbering.{numbered}
 use Rattle.method_unit.specs.UnitFile.{clause_told}
 use Rattle.signature_blobs.specs.declared.method.SigTypes.{SigTypes}
@@ -31,12 +32,12 @@ abbrev pub code_of : List ℕ → MethodRow → Option (List ℕ)
 code_of asm method = if has_il_body method then body_code asm method.rva else None
 
 -- The numbered instructions of code without a fault.
-abbrev pub decoded_instrs : List ℕ → List ℕ → Option (List Instr)
-decoded_instrs asm code = if is_none (first_of (code_tests code)) then Some (numbered asm (instructions_of code)) else None
+abbrev pub decoded_instrs : Meaning → List ℕ → Option (List Instr)
+decoded_instrs meaning code = if is_none (first_of (code_tests code)) then Some (numbered meaning (instructions_of code)) else None
 
 -- The numbered instructions of a method, where its code is there and decodes.
-unfoldable pub instrs_of : List ℕ → MethodRow → Option (List Instr)
-instrs_of asm method = option_and_then (decoded_instrs asm) (code_of asm method)
+unfoldable pub instrs_of : Meaning → List ℕ → MethodRow → Option (List Instr)
+instrs_of meaning asm method = option_and_then (decoded_instrs meaning) (code_of asm method)
 
 -- ---- what clauses depend on besides the code
 
@@ -84,5 +85,5 @@ known_clauses shape is =
 
 -- What callers know of a method: its clauses. Its locals, the limits on its code, and the tokens and kinds of its body do
 -- not take them away.
-unfoldable pub clauses_of : List ℕ → MethodRow → List Clause
-clauses_of asm method = option_map_or (known_clauses (bare_shape method)) (instrs_of asm method) []
+unfoldable pub clauses_of : Meaning → List ℕ → MethodRow → List Clause
+clauses_of meaning asm method = option_map_or (known_clauses (bare_shape method)) (instrs_of meaning asm method) []

@@ -1,68 +1,60 @@
 //! The methods that code calls.
 
-ghost use Rattle.std.specs.Prelude.{◌≡◌, ◌==◌, IfOk, IfSome, ◌<◌, length, map, position};
-ghost use Rattle.method_code.specs.Called.{called, called_by_op, callees_of, is_callable, is_static, are_known};
-ghost use Rattle.method_code.specs.Reading.{as_token};
+ghost use Rattle.std.specs.Prelude.{◌≡◌, ◌==◌, IfOk, IfSome, ◌<◌, length, position};
+ghost use Rattle.method_code.specs.Called.{called_by_op, callee_key, callees_of};
 
-use asm_image::{Assembly, Callee, MethodRow};
+use crate::call::Call;
+use crate::tokens::Tokens;
 use cc_base::{NoMemory, Token};
 use cil_model::{Instr, Op};
 use indexmap::IndexSet;
-use signature_blobs::SigTypes;
 use std::alloc::Global;
 use std::marker::Model;
 
-/// The bit of the column Flags that says that a method is static (II.23.1.10).
-const STATIC: u16 = 0x0010;
-
-/// Returns whether the method is static, and has no `this`.
-pub fn is_static(method: &MethodRow) -> bool
-    ensures { result ≡ is_static method.now }
+/// The key of the method that a call calls, where units may have an entry of it.
+fn callee_key(call: Call) -> Option<u32>
+    ensures { result ≡ callee_key call }
 {
-    method.flags & STATIC != 0 && !method.sig.has_this
-}
-
-/// Returns whether each type of the signature is in the profile.
-fn are_known(types: &SigTypes) -> bool
-    ensures { result ≡ are_known types.now }
-{
-    matches!(types, SigTypes::Known(_))
-}
-
-/// Returns whether units may have an entry of the method among their callees: it is static and not generic, and each
-/// type of its
-/// signature is in the profile.
-pub fn is_callable(method: &MethodRow) -> bool
-    ensures { result ≡ is_callable method.now }
-{
-    is_static(method) && !method.sig.generic && are_known(&method.sig.types)
-}
-
-/// The token of the method that a call of this token calls, where units may have an entry of it.
-#[tactic(auto, unfolding(crate::specs::Called::called))]
-fn called(assembly: &Assembly<'_>, token: u32) -> Option<u32>
-    ensures { result ≡ called assembly.now token }
-{
-    match assembly.callee_of(Token(token)) {
-        Callee::Method(method) if is_callable(assembly.method(method)?) => Some(method.0),
-        _ => None,
+    match call {
+        Call::Callee(key) => Some(key),
+        Call::Contract(_) | Call::Unknown => None,
     }
 }
 
 /// The same for an operation.
-fn called_by_op(assembly: &Assembly<'_>, op: &Op) -> Option<u32>
-    ensures { result ≡ called_by_op assembly.now op.now }
+fn called_by_op<T: Tokens>(tokens: &T, op: &Op) -> Option<u32>
+    ensures { result ≡ called_by_op (T.meaning tokens.now) op.now }
 {
     match op {
-        Op::Call(token) => called(assembly, *token),
-        _ => None,
+        Op::Call(token) => callee_key(tokens.call(Token(*token))),
+        Op::Nop
+        | Op::LoadArg(_)
+        | Op::StoreArg(_)
+        | Op::LoadLocal(_)
+        | Op::StoreLocal(_)
+        | Op::Null
+        | Op::Const(_)
+        | Op::Dup
+        | Op::Pop
+        | Op::Return
+        | Op::Branch(_, _)
+        | Op::Switch(_)
+        | Op::Bin(_)
+        | Op::Neg
+        | Op::Not
+        | Op::ConvI4
+        | Op::Text(_)
+        | Op::NewArray(_)
+        | Op::Length
+        | Op::LoadElem(_)
+        | Op::StoreElem(_) => None,
     }
 }
 
-/// The methods that code calls, each once, in order of first use. Contracts see their tokens.
+/// The methods that code calls, each once, in order of first use. Contracts see their keys.
 #[derive(Drop)]
 pub struct CalleeSet {
-    tokens: IndexSet<u32>,
+    set: IndexSet<u32>,
 }
 
 impl Model for CalleeSet {
@@ -70,45 +62,37 @@ impl Model for CalleeSet {
 
     ghost Value = { List ℕ };
 
-    ghost view = { λ callees. callees.tokens.keys };
+    ghost view = { λ callees. callees.set.keys };
 }
 
 impl CalleeSet {
     /// The methods that the instructions call.
     ///
     /// Cost: each instruction is visited once, and each call looked up once.
-    pub fn of(
-        alloc: Global,
-        assembly: &Assembly<'_>,
-        instrs: &[Instr],
-    ) -> Result<CalleeSet, NoMemory>
-        ensures { IfOk result (λ callees. callees ≡ callees_of assembly.now instrs.now) }
+    pub fn of<T: Tokens>(alloc: Global, tokens: &T, instrs: &[Instr]) -> Result<CalleeSet, NoMemory>
+        ensures { IfOk result (λ callees. callees ≡ callees_of (T.meaning tokens.now) instrs.now) }
     {
-        let mut tokens = IndexSet::new(alloc);
+        let mut set = IndexSet::new(alloc);
         for instr in instrs {
-            if let Some(token) = called_by_op(assembly, &instr.op) {
-                tokens.insert(token)?;
+            if let Some(key) = called_by_op(tokens, &instr.op) {
+                set.insert(key)?;
             }
         }
-        Ok(CalleeSet { tokens })
+        Ok(CalleeSet { set })
     }
 
-    /// The place of a method among them, by its token.
-    pub fn index_of(&self, token: u32) -> Option<usize>
-        ensures index { result ≡ position (λ callee. callee == token) self.now }
+    /// The place of a method among them, by its key.
+    pub fn index_of(&self, key: u32) -> Option<usize>
+        ensures index { result ≡ position (λ callee. callee == key) self.now }
         ensures within { IfSome result (λ index. index < length self.now) }
     {
-        self.tokens.get_index_of(&token)
+        self.set.get_index_of(&key)
     }
 
-    /// Their tokens.
-    pub fn tokens(&self, alloc: Global) -> Result<Vec<Token>, NoMemory>
-        ensures { IfOk result (λ tokens. tokens.items ≡ map as_token self.now) }
+    /// Their keys.
+    pub fn keys(&self) -> &[u32]
+        ensures { result.now ≡ self.now }
     {
-        let mut tokens = Vec::new(alloc);
-        for token in self.tokens.as_slice() {
-            tokens.push(Token(*token))?;
-        }
-        Ok(tokens)
+        self.set.as_slice()
     }
 }

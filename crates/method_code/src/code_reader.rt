@@ -12,13 +12,15 @@ ghost use Rattle.contract_extract.specs.Extracting.{AreContracts};
 ghost use Rattle.contract_extract.specs.Faults.{first_clause_fault};
 ghost use Rattle.asm_image.specs.declared.method_row.MethodRow.{MethodRow};
 ghost use Rattle.il_decoder.specs.Decoding.{code_tests};
+ghost use Rattle.method_code.specs.Meanings.{Meaning};
 ghost use Rattle.method_code.specs.OfMethods.{bare_shape, clauses_of, is_number_clause};
 ghost use Rattle.method_code.specs.Reading.{IsCodeOf, IsReadOf, with_instrs};
 
 use crate::clause_numbers::are_number_clauses;
 use crate::numbers::decode_numbered;
-use asm_image::{Assembly, MethodRow};
-use cc_base::{NoMemory, Refusal, Token};
+use crate::tokens::Tokens;
+use asm_image::MethodRow;
+use cc_base::{NoMemory, Refusal};
 use cil_model::{Clause, Instr, List, Place, Shape};
 use contract_extract::{ClauseFault, Contracts, extract};
 use il_decoder::IlRefusal;
@@ -30,8 +32,8 @@ use std::alloc::{AllocError, Global};
 pub struct MethodCode {
     /// The instructions. The operands of calls, of new arrays and of texts are numbers of the unit.
     pub instrs: List<Instr>,
-    /// The methods that the code calls, each once, in order of first use.
-    pub callees: List<Token>,
+    /// The keys of the methods that the code calls, each once, in order of first use.
+    pub callees: List<u32>,
     /// The clauses and the start of the body, or the first fault of the clauses.
     pub contracts: Result<Contracts, ClauseFault>,
     /// Where there is no fault: whether each clause is a number.
@@ -43,8 +45,8 @@ impl MethodCode {
     /// none.
     /// The instructions may have been moved away.
     pub fn clauses(&self) -> &[Clause]
-        ensures known { (asm : List ℕ) (method : MethodRow) (instrs : List Instr) → IsCodeOf asm method (with_instrs instrs self.now)
-            → result.now ≡ clauses_of asm method }
+        ensures known { (meaning : Meaning) (asm : List ℕ) (method : MethodRow) (instrs : List Instr)
+            → IsCodeOf meaning asm method (with_instrs instrs self.now) → result.now ≡ clauses_of meaning asm method }
     {
         match &self.contracts {
             Ok(contracts) if self.are_numbers => contracts.clauses.as_slice(),
@@ -99,26 +101,27 @@ fn are_numbers(shape: &Shape, contracts: &Result<Contracts, ClauseFault>) -> boo
     }
 }
 
-/// Reads code that belongs to a method of an assembly: its instructions, whose tokens are those of the assembly, and its
-/// clauses, by the method's signature. An error is the first fault of the code, or that memory ran out.
+/// Reads code that belongs to a method, and whose tokens mean what is told here: its instructions, and its clauses, by
+/// the method's signature. An error is the first fault of the code, or that memory ran out.
 ///
 /// Cost: linear in the code, but for the look-up of branch targets, and what `extract` costs.
-pub fn read_code(
+pub fn read_code<T: Tokens>(
     alloc: Global,
-    assembly: &Assembly<'_>,
+    tokens: &T,
     method: &MethodRow,
     code: &[u8],
 ) -> Result<MethodCode, IlRefusal>
     requires short { IsShort code.now }
     // The first fault of the code is named. Else all of it is read.
-    ensures judged { JudgesOrNoMemory result (first_of (code_tests code.now)) (IsReadOf assembly.now method.now code.now) }
+    ensures judged { JudgesOrNoMemory result (first_of (code_tests code.now))
+        (IsReadOf (T.meaning tokens.now) method.now code.now) }
 {
-    let numbered = decode_numbered(alloc, assembly, code)?;
+    let numbered = decode_numbered(alloc, tokens, code)?;
     let shape = bare_shape(alloc, method)?;
     let contracts = read_contracts(alloc, &numbered.instrs, &shape)?;
     let are_numbers = are_numbers(&shape, &contracts);
     Ok(MethodCode {
-        callees: List::from_vec(numbered.callees.tokens(alloc)?),
+        callees: List::from_vec(Vec::from_slice(alloc, numbered.callees.keys())?),
         instrs: List::from_vec(numbered.instrs),
         contracts,
         are_numbers,

@@ -8,8 +8,9 @@ ghost use Rattle.method_code.specs.Called.{callees_of};
 ghost use Rattle.method_code.specs.Numbering.{array_number, call_number, numbered, numbered_instr, numbered_op};
 ghost use Rattle.method_code.specs.Reading.{AreDecodedAs};
 
+use crate::call::Call;
 use crate::callees::CalleeSet;
-use asm_image::{Assembly, Callee};
+use crate::tokens::Tokens;
 use cc_base::Token;
 use cil_model::{Instr, Op, Place};
 use il_decoder::{IlRefusal, decode};
@@ -25,42 +26,40 @@ pub struct NumberedCode {
 /// The number of the first callee.
 const FIRST_CALLEE: u32 = 100;
 
-/// The number of a call of this token, 0 where it calls nothing that units know.
-#[tactic(auto, unfolding(crate::specs::Numbering::call_number))]
-fn call_number(assembly: &Assembly<'_>, callees: &CalleeSet, token: u32) -> u32
+/// The number of a call, 0 where it calls nothing that units know.
+fn call_number(callees: &CalleeSet, call: Call) -> u32
     requires few { length callees.now + 100 < 2 ^ 32 }
-    ensures { result ≡ call_number assembly.now callees.now token }
+    ensures { result ≡ call_number callees.now call }
 {
-    match assembly.callee_of(Token(token)) {
-        Callee::ContractCall(operation) => operation.0,
-        Callee::Method(method) => match callees.index_of(method.0) {
+    match call {
+        Call::Contract(number) => number,
+        Call::Callee(key) => match callees.index_of(key) {
             Some(index) => FIRST_CALLEE + index as u32,
             None => 0,
         },
-        Callee::Outside => 0,
+        Call::Unknown => 0,
     }
 }
 
-/// The number of a new array whose elements this token names, 0 where units know no such arrays.
-#[tactic(auto, unfolding(crate::specs::Numbering::array_number))]
-fn array_number(assembly: &Assembly<'_>, token: u32) -> u32
-    ensures { result ≡ array_number assembly.now token }
+/// The number of a new array of such elements, 0 where units know no such arrays.
+fn array_number(element: Option<Place>) -> u32
+    ensures { result ≡ array_number element }
 {
-    match assembly.element_of(Token(token)) {
+    match element {
         Some(Place::Bool) => 1,
         Some(Place::Int) => 2,
-        _ => 0,
+        Some(Place::Void | Place::Bools | Place::Ints) | None => 0,
     }
 }
 
 /// Puts a number in the place of the operation's token, if it has one.
-fn number_op(assembly: &Assembly<'_>, callees: &CalleeSet, op: &mut Op)
+fn number_op<T: Tokens>(tokens: &T, callees: &CalleeSet, op: &mut Op)
     requires few { length callees.now + 100 < 2 ^ 32 }
-    ensures { op.new ≡ numbered_op assembly.now callees.now op.old }
+    ensures { op.new ≡ numbered_op (T.meaning tokens.now) callees.now op.old }
 {
     match op {
-        Op::Call(token) => *token = call_number(assembly, callees, *token),
-        Op::NewArray(token) => *token = array_number(assembly, *token),
+        Op::Call(token) => *token = call_number(callees, tokens.call(Token(*token))),
+        Op::NewArray(token) => *token = array_number(tokens.element(Token(*token))),
         Op::Text(token) => *token = 0,
         Op::Nop
         | Op::LoadArg(_)
@@ -87,29 +86,31 @@ fn number_op(assembly: &Assembly<'_>, callees: &CalleeSet, op: &mut Op)
 /// Puts numbers in the place of all tokens.
 ///
 /// Cost: each instruction is visited once, and each call and new array looked up once.
-fn number_code(assembly: &Assembly<'_>, callees: &CalleeSet, instrs: &mut Vec<Instr>)
+fn number_code<T: Tokens>(tokens: &T, callees: &CalleeSet, instrs: &mut Vec<Instr>)
     requires few { length callees.now + 100 < 2 ^ 32 }
-    ensures { instrs.new.items ≡ map (numbered_instr assembly.now callees.now) instrs.old.items }
+    ensures { instrs.new.items ≡ map (numbered_instr (T.meaning tokens.now) callees.now) instrs.old.items }
 {
     for instr in instrs.iter_mut() {
-        number_op(assembly, callees, &mut instr.op);
+        number_op(tokens, callees, &mut instr.op);
     }
 }
 
-/// The instructions of code, with numbers in place of tokens, and the methods that they call; or the first fault of the code.
-pub fn decode_numbered(
+/// The instructions of code, with numbers in place of tokens, and the methods that they call; or the first fault of the
+/// code.
+pub fn decode_numbered<T: Tokens>(
     alloc: Global,
-    assembly: &Assembly<'_>,
+    tokens: &T,
     code: &[u8],
 ) -> Result<NumberedCode, IlRefusal>
     requires short { IsShort code.now }
     ensures judged { JudgesOrNoMemory result (first_of (code_tests code.now))
-        (λ read. read.instrs.items ≡ numbered assembly.now (instructions_of code.now)) }
-    ensures callees { IfOk result (λ read. read.callees ≡ callees_of assembly.now (instructions_of code.now)) }
+        (λ read. read.instrs.items ≡ numbered (T.meaning tokens.now) (instructions_of code.now)) }
+    ensures callees { IfOk result (λ read.
+        read.callees ≡ callees_of (T.meaning tokens.now) (instructions_of code.now)) }
     ensures decoded { IfOk result (λ read. AreDecodedAs code.now read.instrs.items) }
 {
     let mut instrs = decode(alloc, code)?;
-    let callees = CalleeSet::of(alloc, assembly, &instrs)?;
-    number_code(assembly, &callees, &mut instrs);
+    let callees = CalleeSet::of(alloc, tokens, &instrs)?;
+    number_code(tokens, &callees, &mut instrs);
     Ok(NumberedCode { instrs, callees })
 }

@@ -102,7 +102,7 @@ fn read_world(rt: &impl Abort, alloc: Global, file: &[u8]) -> Result<World, Allo
     assert!(rt; file.len() <= 100_000);
     match read_unit(alloc, file) {
         Ok(unit) => {
-            let Some(world) = world_of(alloc, unit)? else {
+            let Some(world) = world_of(alloc, unit.into_unit())? else {
                 assert!(rt; false, "another method is called");
                 return Err(AllocError);
             };

@@ -1,7 +1,7 @@
 //! What tables of code share: operations, and the code and the shapes that are made of them.
 
 ghost use Rattle.std.specs.Prelude.{◌≡◌, true};
-ghost use Rattle.stack_typer.specs.LaidOut.{AreLaidOut, LieFrom};
+ghost use Rattle.cil_model.specs.Offsets.{AreLaidOut, LieFrom};
 
 use cil_model::{CalleeInfo, Instr, List, Op, Place, Shape};
 use std::alloc::{AllocError, Global};

@@ -30,7 +30,7 @@ fn assert_written(rt: &impl Abort, alloc: Global, file: &[u8]) -> Result<(), All
     assert!(rt; file.len() <= 1000);
     match read_unit(alloc, file) {
         Ok(unit) => {
-            let bytes = unit_bytes(alloc, &unit)?;
+            let bytes = unit_bytes(alloc, unit.unit())?;
             assert_eq!(rt; bytes.as_slice(), file);
             Ok(())
         }
@@ -56,7 +56,7 @@ fn are_same(
 ) -> Result<Option<bool>, AllocError> {
     assert!(rt; first.len() <= 1000 && second.len() <= 1000);
     match (read_unit(alloc, first), read_unit(alloc, second)) {
-        (Ok(a), Ok(b)) => Ok(Some(same_unit(&a, &b))),
+        (Ok(a), Ok(b)) => Ok(Some(same_unit(a.unit(), b.unit()))),
         (Err(Refusal::NoMemory), _) | (_, Err(Refusal::NoMemory)) => Err(AllocError),
         _ => Ok(None),
     }

@@ -1,5 +1,5 @@
 -- Answers to runs that are computed.
-use Rattle.std.proofs.Common.{◌≡◌, ℕ, pos, [], ◌∷◌, None, map, codes, refl}
+use Rattle.std.proofs.Common.{◌≡◌, ℕ, pos, [], ◌∷◌, codes, refl}
 use Rattle.std.specs.Fmt.{digits}
 use Rattle.std.specs.Int.{int_wrap}
 use Rattle.cc_base.specs.Digits.{hex}
@@ -23,8 +23,8 @@ use Rattle.cil_eval.specs.declared.stop.Stop.TheVariants as stops
 use Rattle.il_decoder.specs.Labels.{label}
 use Rattle.run_arguments.specs.Arguments.{argument_of}
 use Rattle.run_arguments.specs.Numbers.{int_of_word}
+use Rattle.answer_lines.specs.Signatures.{signature_text}
 use Rattle.method_run.specs.EndTexts.{end_text}
-use Rattle.method_run.specs.FaultTexts.{kind_text, signature_text}
 use Rattle.method_run.specs.RunAnswers.{refusal_answer, run_answer, run_limits}
 use Rattle.method_run.specs.declared.answer.RunAnswer.TheVariants.{Line, Misfit}
 
@@ -179,8 +179,3 @@ given_cells = refl
 far_offset : end_text (alone f) (run_limits 5) places.Void [] (stops.Fault faults.Shift 0 65535) ≡ codes "fault shift at IL_ffff in A.B::f(int32)"
 unfolding digits label hex signature_text
 far_offset = refl
-
-kinds_of_faults : map (kind_text None) (faults.Ensures 16 ∷ faults.Assert ∷ faults.Lower ∷ faults.Upper ∷ faults.DivZero ∷ faults.DivOverflow ∷ faults.ArraySize ∷ [])
-    ≡ codes "ensures 16" ∷ codes "assert" ∷ codes "lower bound" ∷ codes "upper bound" ∷ codes "divide by zero" ∷ codes "divide overflow" ∷ codes "array size" ∷ []
-unfolding digits
-kinds_of_faults = refl

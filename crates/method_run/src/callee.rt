@@ -1,9 +1,10 @@
 //! The methods that instructions call.
 
-ghost use Rattle.std.specs.Prelude.{◌≡◌};
+ghost use Rattle.std.specs.Prelude.{◌≡◌, slice_get};
 ghost use Rattle.std.specs.Option.{option_copied, option_and_then};
 ghost use Rattle.cil_model.specs.Runs.{instr_at};
-ghost use Rattle.method_run.specs.FaultTexts.{callee_at, callee_of_op, called_at};
+ghost use Rattle.cil_model.specs.WellFormed.{called_by};
+ghost use Rattle.method_run.specs.FaultTexts.{callee_at, called_at};
 
 use cil_model::{CalleeInfo, Instr, Op, Unit, UnitCall, World, unit_call};
 
@@ -19,16 +20,45 @@ fn instr_at(instrs: &[Instr], at: u32) -> Option<&Instr>
     None
 }
 
-/// The method that an operation of a unit calls.
-fn callee_of<'u>(unit: &'u Unit, op: &Op) -> Option<&'u CalleeInfo>
-    ensures { option_copied result ≡ callee_of_op unit.now op.now }
+/// The number of the callee that an operation calls.
+fn called_by(op: &Op) -> Option<u32>
+    ensures { result ≡ called_by op.now }
 {
-    let Op::Call(number) = op else {
-        return None;
-    };
-    match unit_call(*number) {
-        Some(UnitCall::Callee(number)) => unit.callees.as_slice().get(number as usize),
-        _ => None,
+    match op {
+        Op::Call(number) => match unit_call(*number) {
+            Some(UnitCall::Callee(callee)) => Some(callee),
+            Some(
+                UnitCall::Requires(_)
+                | UnitCall::Ensures(_)
+                | UnitCall::Assert(_)
+                | UnitCall::Assume(_)
+                | UnitCall::EndContractBlock
+                | UnitCall::Result(_)
+                | UnitCall::OldValue(_),
+            )
+            | None => None,
+        },
+        Op::Nop
+        | Op::LoadArg(_)
+        | Op::StoreArg(_)
+        | Op::LoadLocal(_)
+        | Op::StoreLocal(_)
+        | Op::Null
+        | Op::Const(_)
+        | Op::Dup
+        | Op::Pop
+        | Op::Return
+        | Op::Branch(..)
+        | Op::Switch(_)
+        | Op::Bin(_)
+        | Op::Neg
+        | Op::Not
+        | Op::ConvI4
+        | Op::Text(_)
+        | Op::NewArray(_)
+        | Op::Length
+        | Op::LoadElem(_)
+        | Op::StoreElem(_) => None,
     }
 }
 
@@ -37,7 +67,8 @@ fn callee_at(unit: &Unit, at: u32) -> Option<&CalleeInfo>
     ensures { option_copied result ≡ callee_at unit.now at }
 {
     let instr = instr_at(unit.instrs.as_slice(), at)?;
-    callee_of(unit, &instr.op)
+    let number = called_by(&instr.op)?;
+    unit.callees.as_slice().get(number as usize)
 }
 
 /// The method that is called at an offset in the code of the method of an index.

@@ -10,5 +10,4 @@ mod run;
 mod values;
 
 pub use answer::RunAnswer;
-pub use faults::{append_kind, append_signature};
 pub use run::run_method;

@@ -1,5 +1,5 @@
 -- The unit that is made of the fields of a file.
-use Rattle.std.proofs.Common.{◌≡◌, ℕ, List, None, subst, ◌∙◌}
+use Rattle.std.proofs.Common.{◌≡◌, ℕ, List, None, subst, sym, ◌∙◌}
 use Rattle.std.specs.List.{AllByRecursion}
 use Rattle.cc_base.specs.Tests.{first_of}
 use Rattle.cc_base.proofs.TestLemmas.{first_of-none}
@@ -68,3 +68,14 @@ made fields found shape offsets unit shape_is offsets_are decodes found_is spell
         body = told.body;
       },
     )
+
+-- The kinds of code of a shape are those of the same code of the same shape.
+pub kinds_in : (shape other : Shape) (is code : List Instr) (stacks : Stacks) → shape ≡ other → code ≡ is → KindsOf shape is stacks → KindsOf other code stacks
+kinds_in shape other is code stacks same are kinds =
+    subst (λ (c : List Instr). KindsOf other c stacks) (sym are) (subst (λ (s : Shape). KindsOf s is stacks) same kinds)
+
+-- What is told of a unit is so of one that is equal to it.
+pub made_as : (fields : FieldsOfUnit) (unit told : MethodUnit) → unit ≡ told
+    → (first_of (code_tests_of fields) ≡ None) × IsUnitOf fields (instructions_of fields.code) told
+    → (first_of (code_tests_of fields) ≡ None) × IsUnitOf fields (instructions_of fields.code) unit
+made_as fields unit told same (passed, is) = (passed, subst (IsUnitOf fields (instructions_of fields.code)) (sym same) is)

@@ -2,6 +2,7 @@
 
 ghost use Rattle.std.specs.Prelude.{◌≡◌, ◌+◌, ◌<◌, ◌≤◌, ◌^◌, ℕ, ⊤, List, slice_get, option_map, IfSome};
 ghost use Rattle.cc_base.specs.Tests.{first_of, Judges};
+ghost use Rattle.cil_model.specs.UnitCalls.{callee_of};
 ghost use Rattle.cil_model.specs.WellFormed.{called_by};
 ghost use Rattle.method_unit.specs.CalledInOrder.{next_behind};
 ghost use Rattle.method_unit.specs.UnitFile.{order_tests};
@@ -10,16 +11,52 @@ ghost use Rattle.method_unit.specs.declared.unit_fault.UnitFault.TheVariants.{Fo
 use crate::unit_fault::UnitFault;
 use cil_model::{Instr, Op, UnitCall, unit_call};
 
+/// The number of the callee that a call names.
+fn callee_of(call: Option<UnitCall>) -> Option<u32>
+    ensures { result ≡ callee_of call }
+{
+    match call {
+        Some(UnitCall::Callee(callee)) => Some(callee),
+        Some(
+            UnitCall::Requires(_)
+            | UnitCall::Ensures(_)
+            | UnitCall::Assert(_)
+            | UnitCall::Assume(_)
+            | UnitCall::EndContractBlock
+            | UnitCall::Result(_)
+            | UnitCall::OldValue(_),
+        )
+        | None => None,
+    }
+}
+
 /// The number of the callee that an operation calls.
 fn called_by(op: &Op) -> Option<u32>
     ensures { result ≡ called_by op.now }
 {
     match op {
-        Op::Call(number) => match unit_call(*number) {
-            Some(UnitCall::Callee(callee)) => Some(callee),
-            _ => None,
-        },
-        _ => None,
+        Op::Call(number) => callee_of(unit_call(*number)),
+        Op::Nop
+        | Op::LoadArg(_)
+        | Op::StoreArg(_)
+        | Op::LoadLocal(_)
+        | Op::StoreLocal(_)
+        | Op::Null
+        | Op::Const(_)
+        | Op::Dup
+        | Op::Pop
+        | Op::Return
+        | Op::Branch(_, _)
+        | Op::Switch(_)
+        | Op::Bin(_)
+        | Op::Neg
+        | Op::Not
+        | Op::ConvI4
+        | Op::Text(_)
+        | Op::NewArray(_)
+        | Op::Length
+        | Op::LoadElem(_)
+        | Op::StoreElem(_) => None,
     }
 }
 

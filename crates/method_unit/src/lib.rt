@@ -12,5 +12,6 @@ mod unit_reader;
 
 pub use equality::same_unit;
 pub use spelling::unit_bytes;
+pub use unit_code::names_something;
 pub use unit_fault::{UnitFault, UnitRefusal};
 pub use unit_reader::read_unit;

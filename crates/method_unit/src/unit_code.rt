@@ -40,13 +40,22 @@ pub fn check_count(instrs: &[Instr], base: u32) -> Result<(), UnitFault>
 }
 
 /// Returns whether the operand of a call, of a new array or of a text is a number of a unit with so many callees.
-fn names_something(callees: usize, op: &Op) -> bool
+pub fn names_something(callees: usize, op: &Op) -> bool
     ensures { result ≡ names_something callees op.now }
 {
     match op {
         Op::Call(number) => match unit_call(*number) {
             Some(UnitCall::Callee(callee)) => (callee as usize) < callees,
-            call => call.is_some(),
+            Some(
+                UnitCall::Requires(_)
+                | UnitCall::Ensures(_)
+                | UnitCall::Assert(_)
+                | UnitCall::Assume(_)
+                | UnitCall::EndContractBlock
+                | UnitCall::Result(_)
+                | UnitCall::OldValue(_),
+            ) => true,
+            None => false,
         },
         Op::NewArray(number) => array_place(*number).is_some(),
         Op::Text(number) => *number == 0,

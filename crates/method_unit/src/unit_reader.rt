@@ -17,16 +17,17 @@ ghost use Rattle.unit_form.specs.UnitFields.{unit_fields};
 ghost use Rattle.il_decoder.specs.Decoding.{instructions_of};
 ghost use Rattle.method_unit.specs.UnitFile.{code_tests_of, field_test, first_unit_fault, instr_tests, unit_of};
 ghost use Rattle.method_unit.specs.UnitOf.{IsRead, IsUnitIn, IsUnitOf};
-ghost use Rattle.method_unit.specs.Units.{AreDecodedOf, HasKinds, IsUnit};
+ghost use Rattle.method_unit.specs.Units.{AreDecodedOf, IsUnit};
 
 use crate::callee_order::check_order;
 use crate::unit_clauses::{check_blocks, read_contracts};
 use crate::unit_code::{check_count, check_numbers, decode_code};
 use crate::unit_fault::{UnitFault, UnitRefusal};
-use crate::unit_kinds::check_kinds;
+use crate::unit_kinds::find_kinds;
 use cc_base::Refusal;
 use cil_model::{Instr, List, Shape, Unit};
 use contract_extract::Contracts;
+use stack_typer::{Kinds, TypedUnit};
 use std::alloc::Global;
 use unit_form::{UnitFields, read_fields};
 
@@ -44,7 +45,7 @@ fn fields_of(alloc: Global, bytes: &[u8]) -> Result<UnitFields<'_>, UnitRefusal>
     }
 }
 
-/// Tests the instructions of a unit, and answers its clauses and the start of its body.
+/// Tests the instructions of a unit, and answers its clauses and the start of its body, and the kinds of its code.
 #[tactic(auto, using(cc_base::proofs::TestLemmas::carried, cc_base::proofs::TestLemmas::appended, cc_base::proofs::TestLemmas::first_tests), unfolding(crate::specs::UnitFile::instr_tests))]
 fn check_instrs(
     alloc: Global,
@@ -52,30 +53,30 @@ fn check_instrs(
     shape: &Shape,
     offsets: &[u32],
     base: u32,
-) -> Result<Contracts, UnitRefusal>
+) -> Result<(Contracts, Kinds), UnitRefusal>
     requires small { base + 65536 < 2 ^ 32 }
     requires decoded { (code : List ℕ) × AreDecodedOf base code instrs.now }
     ensures judged { JudgesOrNoMemory result (first_of (instr_tests base shape.now offsets.now instrs.now))
-        (λ contracts. AreContracts instrs.now contracts.clauses contracts.body_start) }
-    ensures kinds { IfOk result (λ _. HasKinds shape.now instrs.now) }
-    ensures limits { IfOk result (λ contracts. ClausesWithinLimits contracts.clauses) }
+        (λ found. AreContracts instrs.now found.0.clauses found.0.body_start) }
+    ensures kinds { IfOk result (λ found. KindsOf shape.now instrs.now found.1) }
+    ensures limits { IfOk result (λ found. ClausesWithinLimits found.0.clauses) }
     ensures numbers { (stacks : Stacks) → AreDecoded instrs.now → KindsOf shape.now instrs.now stacks
-        → IfOk result (λ contracts. AllByRecursion (IsNumberClause shape.now.args shape.now.result) contracts.clauses) }
+        → IfOk result (λ found. AllByRecursion (IsNumberClause shape.now.args shape.now.result) found.0.clauses) }
     ensures body { (stacks : Stacks) → AreDecoded instrs.now → KindsOf shape.now instrs.now stacks
-        → IfOk result (λ contracts. HasBody instrs.now stacks contracts.body_start) }
+        → IfOk result (λ found. HasBody instrs.now stacks found.0.body_start) }
 {
     check_count(instrs, base)?;
     check_numbers(instrs, base, shape.callees.as_slice().len())?;
     let contracts = read_contracts(alloc, instrs, shape, base)?;
     check_blocks(alloc, instrs, contracts.body_start, base)?;
     check_order(instrs, offsets)?;
-    check_kinds(alloc, instrs, shape, base)?;
-    Ok(contracts)
+    let kinds = find_kinds(alloc, instrs, shape, base)?;
+    Ok((contracts, kinds))
 }
 
 /// The unit of fields that were read.
 #[tactic(auto, using(cc_base::proofs::TestLemmas::carried, cc_base::proofs::TestLemmas::appended, cc_base::proofs::TestLemmas::first_tests), unfolding(crate::specs::UnitFile::code_tests_of))]
-fn unit_at(alloc: Global, fields: UnitFields<'_>) -> Result<Unit, UnitRefusal>
+fn unit_at(alloc: Global, fields: UnitFields<'_>) -> Result<TypedUnit, UnitRefusal>
     requires short { length fields.code.now ≤ 65536 }
     requires small { fields.code_offset + 65536 < 2 ^ 32 }
     ensures judged { JudgesOrNoMemory result (first_of (code_tests_of (fields_told fields.entry)))
@@ -91,8 +92,9 @@ fn unit_at(alloc: Global, fields: UnitFields<'_>) -> Result<Unit, UnitRefusal>
         callees: List::from_vec(fields.callees),
     };
     let offsets = fields.callee_offsets;
-    let contracts = check_instrs(alloc, &instrs, &shape, &offsets, base)?;
-    Ok(Unit {
+    let tested = check_instrs(alloc, &instrs, &shape, &offsets, base)?;
+    let (contracts, kinds) = tested;
+    let unit = Unit {
         name: List::from_vec(Vec::from_slice(alloc, fields.name)?),
         result: shape.result,
         args: shape.args,
@@ -103,12 +105,13 @@ fn unit_at(alloc: Global, fields: UnitFields<'_>) -> Result<Unit, UnitRefusal>
         clauses: contracts.clauses,
         body_start: contracts.body_start,
         instrs: List::from_vec(instrs),
-    })
+    };
+    Ok(TypedUnit::of(unit, kinds))
 }
 
 /// The unit of a file, or the first fault of the file.
 #[tactic(auto, using(cc_base::proofs::TestLemmas::first_tests), unfolding(crate::specs::UnitFile::first_unit_fault))]
-fn read_first(alloc: Global, bytes: &[u8]) -> Result<Unit, UnitRefusal>
+fn read_first(alloc: Global, bytes: &[u8]) -> Result<TypedUnit, UnitRefusal>
     requires short { length bytes.now ≤ 2147483647 }
     ensures { JudgesOrNoMemory result (first_unit_fault bytes.now) (IsUnitIn bytes.now) }
 {
@@ -117,19 +120,19 @@ fn read_first(alloc: Global, bytes: &[u8]) -> Result<Unit, UnitRefusal>
 }
 
 /// The same, as what the bytes spell.
-fn read_known(alloc: Global, bytes: &[u8]) -> Result<Unit, UnitRefusal>
+fn read_known(alloc: Global, bytes: &[u8]) -> Result<TypedUnit, UnitRefusal>
     requires short { length bytes.now ≤ 2147483647 }
     ensures { JudgesOrNoMemory result (first_unit_fault bytes.now) (IsRead bytes.now) }
 {
     read_first(alloc, bytes)
 }
 
-/// The unit that the bytes of a file spell, or the first fault of the file.
+/// The unit that the bytes of a file spell, with the kinds of its code, or the first fault of the file.
 ///
 /// Cost: linear in the length of the file, but for the passes that find kinds, the sorting of the blocks and the walk over the
 /// contract block, all over 4,096 instructions at most.
 #[tactic(auto)]
-pub fn read_unit(alloc: Global, bytes: &[u8]) -> Result<Unit, UnitRefusal>
+pub fn read_unit(alloc: Global, bytes: &[u8]) -> Result<TypedUnit, UnitRefusal>
     requires short { length bytes.now ≤ 2147483647 }
     // What is read is the one unit that the bytes spell.
     ensures unit { IfOk result IsUnit }

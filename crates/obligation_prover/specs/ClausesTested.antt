@@ -31,13 +31,39 @@ use Rattle.obligation_prover.specs.declared.tested.Tested.TheVariants as tests
 abbrev pub tested_at_call : MethodUnit → Option UnitCall → Tested
 tested_at_call unit (Some (calls.Callee number)) =
     option_map_or (λ callee. tests.Callee number) (slice_get unit.callees number) tests.Nothing
-tested_at_call unit _ = tests.Nothing
+tested_at_call unit (Some (calls.Requires message)) = tests.Nothing
+tested_at_call unit (Some (calls.Ensures message)) = tests.Nothing
+tested_at_call unit (Some (calls.Assert message)) = tests.Nothing
+tested_at_call unit (Some (calls.Assume message)) = tests.Nothing
+tested_at_call unit (Some calls.EndContractBlock) = tests.Nothing
+tested_at_call unit (Some (calls.Result place)) = tests.Nothing
+tested_at_call unit (Some (calls.OldValue place)) = tests.Nothing
+tested_at_call unit None = tests.Nothing
 
 -- Of whose contract an instruction of the unit with this operation tests clauses.
 abbrev pub tested_by : MethodUnit → Op → Tested
 tested_by unit (ops.Call number) = tested_at_call unit (unit_call number)
 tested_by unit ops.Return = tests.Own
-tested_by unit _ = tests.Nothing
+tested_by unit ops.Nop = tests.Nothing
+tested_by unit (ops.LoadArg n) = tests.Nothing
+tested_by unit (ops.StoreArg n) = tests.Nothing
+tested_by unit (ops.LoadLocal n) = tests.Nothing
+tested_by unit (ops.StoreLocal n) = tests.Nothing
+tested_by unit ops.Null = tests.Nothing
+tested_by unit (ops.Const n) = tests.Nothing
+tested_by unit ops.Dup = tests.Nothing
+tested_by unit ops.Pop = tests.Nothing
+tested_by unit (ops.Branch test target) = tests.Nothing
+tested_by unit (ops.Switch targets) = tests.Nothing
+tested_by unit (ops.Bin operator) = tests.Nothing
+tested_by unit ops.Neg = tests.Nothing
+tested_by unit ops.Not = tests.Nothing
+tested_by unit ops.ConvI4 = tests.Nothing
+tested_by unit (ops.Text token) = tests.Nothing
+tested_by unit (ops.NewArray number) = tests.Nothing
+tested_by unit ops.Length = tests.Nothing
+tested_by unit (ops.LoadElem place) = tests.Nothing
+tested_by unit (ops.StoreElem place) = tests.Nothing
 
 abbrev pub contract_of : MethodUnit → Tested → List Clause
 contract_of unit tests.Nothing = []

@@ -1,6 +1,6 @@
 -- The faults in which an instruction of a unit may end, in the order in which the machine tests (ECMA-335 III.3 and III.4).
 -- Those of clauses are not among them: specs/ClausesTested has these.
-use Rattle.std.specs.Prelude.{◌≡◌, ◌⊎◌, Bool, true, false, List, [], ◌∷◌, Option, Some}
+use Rattle.std.specs.Prelude.{◌≡◌, ◌⊎◌, Bool, true, false, List, [], ◌∷◌, Option, Some, None}
 use Rattle.cil_model.specs.UnitCalls.{unit_call}
 use Rattle.cil_model.specs.declared.instruction.BinOp.{BinOp}
 use Rattle.cil_model.specs.declared.instruction.BinOp.TheVariants as operators
@@ -24,11 +24,28 @@ operator_faults operators.ShrUn = faults.Shift ∷ []
 operator_faults operators.AddOvf = faults.Overflow ∷ []
 operator_faults operators.MulOvf = faults.Overflow ∷ []
 operator_faults operators.SubOvf = faults.Overflow ∷ []
-operator_faults _ = []
+operator_faults operators.Add = []
+operator_faults operators.Sub = []
+operator_faults operators.Mul = []
+operator_faults operators.And = []
+operator_faults operators.Or = []
+operator_faults operators.Xor = []
+operator_faults operators.Ceq = []
+operator_faults operators.Cgt = []
+operator_faults operators.CgtUn = []
+operator_faults operators.Clt = []
+operator_faults operators.CltUn = []
 
 abbrev pub call_faults : Option UnitCall → List FaultKind
 call_faults (Some (calls.Assert message)) = faults.Assert ∷ []
-call_faults _ = []
+call_faults (Some (calls.Requires message)) = []
+call_faults (Some (calls.Ensures message)) = []
+call_faults (Some (calls.Assume message)) = []
+call_faults (Some calls.EndContractBlock) = []
+call_faults (Some (calls.Result place)) = []
+call_faults (Some (calls.OldValue place)) = []
+call_faults (Some (calls.Callee number)) = []
+call_faults None = []
 
 -- Those of an item that is loaded or stored.
 abbrev pub element_faults : List FaultKind
@@ -42,7 +59,22 @@ faults_of unit (ops.NewArray number) = faults.ArraySize ∷ []
 faults_of unit ops.Length = faults.NullUse ∷ []
 faults_of unit (ops.LoadElem place) = element_faults
 faults_of unit (ops.StoreElem place) = element_faults
-faults_of unit _ = []
+faults_of unit ops.Nop = []
+faults_of unit (ops.LoadArg n) = []
+faults_of unit (ops.StoreArg n) = []
+faults_of unit (ops.LoadLocal n) = []
+faults_of unit (ops.StoreLocal n) = []
+faults_of unit ops.Null = []
+faults_of unit (ops.Const n) = []
+faults_of unit ops.Dup = []
+faults_of unit ops.Pop = []
+faults_of unit ops.Return = []
+faults_of unit (ops.Branch test target) = []
+faults_of unit (ops.Switch targets) = []
+faults_of unit ops.Neg = []
+faults_of unit ops.Not = []
+faults_of unit ops.ConvI4 = []
+faults_of unit (ops.Text token) = []
 
 -- The fault is one of these.
 abbrev pub IsAmong : List FaultKind → FaultKind → Type 0

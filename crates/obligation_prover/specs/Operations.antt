@@ -48,7 +48,14 @@ condition_depth true = 1
 
 abbrev pub call_operation : Option UnitCall → StateFacts → Option Operation
 call_operation (Some (calls.Assert message)) known = assertion_of (from_top (condition_depth message) known)
-call_operation _ known = None
+call_operation (Some (calls.Requires message)) known = None
+call_operation (Some (calls.Ensures message)) known = None
+call_operation (Some (calls.Assume message)) known = None
+call_operation (Some calls.EndContractBlock) known = None
+call_operation (Some (calls.Result place)) known = None
+call_operation (Some (calls.OldValue place)) known = None
+call_operation (Some (calls.Callee number)) known = None
+call_operation None known = None
 
 -- ---- operations
 
@@ -61,7 +68,22 @@ operation_of (ops.StoreElem place) known = element_of (from_top 2 known) (from_t
 operation_of (ops.NewArray number) known = array_of (from_top 0 known)
 operation_of (ops.Bin op) known = binary_of op (from_top 1 known) (from_top 0 known)
 operation_of (ops.Call number) known = call_operation (unit_call number) known
-operation_of _ known = None
+operation_of ops.Nop known = None
+operation_of (ops.LoadArg n) known = None
+operation_of (ops.StoreArg n) known = None
+operation_of (ops.LoadLocal n) known = None
+operation_of (ops.StoreLocal n) known = None
+operation_of ops.Null known = None
+operation_of (ops.Const n) known = None
+operation_of ops.Dup known = None
+operation_of ops.Pop known = None
+operation_of ops.Return known = None
+operation_of (ops.Branch test target) known = None
+operation_of (ops.Switch targets) known = None
+operation_of ops.Neg known = None
+operation_of ops.Not known = None
+operation_of ops.ConvI4 known = None
+operation_of (ops.Text token) known = None
 
 -- Its conditions, in the order in which the machine tests them.
 abbrev pub conditions_at : Op → StateFacts → List Condition

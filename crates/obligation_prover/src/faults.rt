@@ -15,7 +15,17 @@ fn operator_faults(op: BinOp) -> &'static [FaultKind]
         BinOp::DivUn | BinOp::RemUn => &[FaultKind::DivZero],
         BinOp::Shl | BinOp::Shr | BinOp::ShrUn => &[FaultKind::Shift],
         BinOp::AddOvf | BinOp::MulOvf | BinOp::SubOvf => &[FaultKind::Overflow],
-        _ => &[],
+        BinOp::Add
+        | BinOp::Sub
+        | BinOp::Mul
+        | BinOp::And
+        | BinOp::Or
+        | BinOp::Xor
+        | BinOp::Ceq
+        | BinOp::Cgt
+        | BinOp::CgtUn
+        | BinOp::Clt
+        | BinOp::CltUn => &[],
     }
 }
 
@@ -25,7 +35,16 @@ fn call_faults(call: Option<UnitCall>) -> &'static [FaultKind]
 {
     match call {
         Some(UnitCall::Assert(_)) => &[FaultKind::Assert],
-        _ => &[],
+        Some(
+            UnitCall::Requires(_)
+            | UnitCall::Ensures(_)
+            | UnitCall::Assume(_)
+            | UnitCall::EndContractBlock
+            | UnitCall::Result(_)
+            | UnitCall::OldValue(_)
+            | UnitCall::Callee(_),
+        )
+        | None => &[],
     }
 }
 
@@ -41,7 +60,22 @@ fn operation_faults(_unit: &Unit, op: &Op) -> &'static [FaultKind]
         Op::LoadElem(_) | Op::StoreElem(_) => {
             &[FaultKind::NullUse, FaultKind::Lower, FaultKind::Upper]
         }
-        _ => &[],
+        Op::Nop
+        | Op::LoadArg(_)
+        | Op::StoreArg(_)
+        | Op::LoadLocal(_)
+        | Op::StoreLocal(_)
+        | Op::Null
+        | Op::Const(_)
+        | Op::Dup
+        | Op::Pop
+        | Op::Return
+        | Op::Branch(_, _)
+        | Op::Switch(_)
+        | Op::Neg
+        | Op::Not
+        | Op::ConvI4
+        | Op::Text(_) => &[],
     }
 }
 

@@ -67,7 +67,16 @@ fn call_operation(call: Option<UnitCall>, state: &AbsState) -> Option<Operation>
 {
     match call {
         Some(UnitCall::Assert(message)) => assertion_of(state.from_top(usize::from(message))),
-        _ => None,
+        Some(
+            UnitCall::Requires(_)
+            | UnitCall::Ensures(_)
+            | UnitCall::Assume(_)
+            | UnitCall::EndContractBlock
+            | UnitCall::Result(_)
+            | UnitCall::OldValue(_)
+            | UnitCall::Callee(_),
+        )
+        | None => None,
     }
 }
 
@@ -82,6 +91,7 @@ fn found_operation(op: &Op, state: &AbsState) -> Option<Operation>
         Op::NewArray(_) => array_of(state.from_top(0)),
         Op::Bin(op) => binary_of(*op, state.from_top(1), state.from_top(0)),
         Op::Call(number) => call_operation(unit_call(*number), state),
+        // The definition names each instruction.
         _ => None,
     }
 }

@@ -35,7 +35,16 @@ fn tested_at_call(unit: &Unit, call: Option<UnitCall>) -> Tested
                 Tested::Nothing
             }
         }
-        _ => Tested::Nothing,
+        Some(
+            UnitCall::Requires(_)
+            | UnitCall::Ensures(_)
+            | UnitCall::Assert(_)
+            | UnitCall::Assume(_)
+            | UnitCall::EndContractBlock
+            | UnitCall::Result(_)
+            | UnitCall::OldValue(_),
+        )
+        | None => Tested::Nothing,
     }
 }
 
@@ -89,7 +98,7 @@ pub(crate) fn contract_of(unit: &Unit, test: Tested) -> &[Clause]
             Some(callee) => callee.clauses.as_slice(),
             None => &[],
         },
-        Tested::Own => unit.clauses.as_slice(),
+        Tested::Own => unit.clauses_in_force(),
     }
 }
 

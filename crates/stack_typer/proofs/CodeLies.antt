@@ -3,7 +3,7 @@ use Rattle.std.proofs.Common.{ℕ, ◌+◌, List, [], ◌∷◌, arith}
 use Rattle.cil_model.specs.Code.{CodeFrom, CodeOf}
 use Rattle.cil_model.specs.declared.instruction.Instr.{Instr}
 use Rattle.cil_model.proofs.Forms.{spelling_some}
-use Rattle.stack_typer.specs.LaidOut.{LieFrom, AreLaidOut}
+use Rattle.cil_model.specs.Offsets.{LieFrom, AreLaidOut}
 
 lie_from : (at : ℕ) (is : List Instr) (code : List ℕ) → CodeFrom at is code → LieFrom at is
 lie_from at [] code spelled = tt

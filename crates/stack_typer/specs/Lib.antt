@@ -2,7 +2,6 @@ pub mod Answers
 pub mod Arrays
 pub mod Brought
 pub mod FirstTypeFault
-pub mod LaidOut
 pub mod Room
 pub mod Successors
 pub mod FaultPlaces

@@ -1,17 +1,10 @@
--- What may follow an instruction, in the two parts that the code reads: what it names, and what stands next.
+-- What stands next behind an instruction, and where a stack that comes to an IL offset does not merge.
 use Rattle.std.specs.Prelude.{ℕ, ◌+◌, Bool, not, ◌&&◌, List, [], ◌∷◌, Option, Some, None, min, if◌then◌else◌}
 use Rattle.cil_model.specs.Code.{begins_at}
 use Rattle.cil_model.specs.Passes.{Stacks, goes_behind, conflicts}
 use Rattle.cil_model.specs.declared.instruction.Instr.{Instr}
 use Rattle.cil_model.specs.declared.instruction.Op.{Op}
-use Rattle.cil_model.specs.declared.instruction.Op.TheVariants as ops
 use Rattle.cil_model.specs.declared.place.Kind.{Kind}
-
--- The IL offsets that a branch or a switch names.
-abbrev pub targets : Op → List ℕ
-targets (ops.Branch test target) = target ∷ []
-targets (ops.Switch offsets) = offsets
-targets _ = []
 
 -- The IL offset after the operation, where it may go on there.
 abbrev pub offset_behind : Op → ℕ → List ℕ

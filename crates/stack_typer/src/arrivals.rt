@@ -2,13 +2,12 @@
 
 ghost use Rattle.std.specs.Prelude.{◌≡◌, ℕ, ◌<◌, ◌≤◌, false, true, length, IfOk, OnOk};
 ghost use Rattle.std.specs.Option.{option_or};
+ghost use Rattle.cil_model.specs.Offsets.{AreLaidOut};
 ghost use Rattle.cil_model.specs.Passes.{arrived, come_to, come_to_all};
-ghost use Rattle.stack_typer.specs.LaidOut.{AreLaidOut};
 ghost use Rattle.stack_typer.specs.Room.{changes_left, Tells};
 
-use crate::offsets::index_of;
 use crate::stack::Stack;
-use cil_model::Instr;
+use cil_model::{Instr, index_of};
 use std::alloc::AllocError;
 
 /// Merges a stack into what came before, where both merge, and says whether that changed anything.
@@ -28,7 +27,7 @@ fn arrive(before: &mut Option<Stack>, stack: &Stack) -> Result<bool, AllocError>
 }
 
 /// Brings a stack to the instruction at an IL offset, if there is one, and says whether that changed anything.
-#[tactic(auto, using(crate::proofs::OffsetLemmas::coming, crate::proofs::RoomLemmas::one_step))]
+#[tactic(auto, using(cil_model::proofs::OffsetSearch::laid_rise, crate::proofs::OffsetLemmas::coming, crate::proofs::RoomLemmas::one_step))]
 fn come_to(
     instrs: &[Instr],
     stacks: &mut [Option<Stack>],

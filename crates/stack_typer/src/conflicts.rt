@@ -2,16 +2,15 @@
 
 ghost use Rattle.std.specs.Prelude.{◌≡◌, length};
 ghost use Rattle.std.specs.Option.{option_copied};
+ghost use Rattle.cil_model.specs.Offsets.{AreLaidOut};
 ghost use Rattle.cil_model.specs.Passes.{stack_at, lowest_conflict};
-ghost use Rattle.stack_typer.specs.LaidOut.{AreLaidOut};
 ghost use Rattle.stack_typer.specs.Successors.{conflict_at, lower};
 
-use crate::offsets::index_of;
 use crate::stack::Stack;
-use cil_model::Instr;
+use cil_model::{Instr, index_of};
 
 /// The stack before the instruction at an IL offset, if one came there.
-#[tactic(auto, using(crate::proofs::OffsetLemmas::stack_read, crate::proofs::OffsetLemmas::no_stack_there))]
+#[tactic(auto, using(cil_model::proofs::OffsetSearch::laid_rise, crate::proofs::OffsetLemmas::stack_read, crate::proofs::OffsetLemmas::no_stack_there))]
 fn stack_at<'a>(instrs: &[Instr], stacks: &'a [Option<Stack>], at: u32) -> Option<&'a Stack>
     requires laid_out { AreLaidOut instrs.now }
     requires same_length { length stacks.now ≡ length instrs.now }

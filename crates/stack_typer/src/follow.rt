@@ -1,16 +1,16 @@
 //! How the stack after an instruction goes on (ECMA-335 III.1.7.5 and III.1.8.1.3).
 
 ghost use Rattle.std.specs.Prelude.{◌≡◌, ℕ, ◌≤◌, length, slice_get, Some, Ok, IfOk};
+ghost use Rattle.cil_model.specs.Offsets.{AreLaidOut};
 ghost use Rattle.cil_model.specs.Passes.{follow};
 ghost use Rattle.stack_typer.specs.Answers.{Leaves};
-ghost use Rattle.stack_typer.specs.LaidOut.{AreLaidOut};
 ghost use Rattle.stack_typer.specs.Room.{Tells};
 
 use crate::arrivals::come_to_all;
 use crate::conflicts::{lower, lowest_conflict};
 use crate::kinds::TypeRefusal;
 use crate::stack::Stack;
-use crate::successors::{next_offset, targets};
+use crate::successors::{branch_targets, next_offset};
 use cc_base::Refusal;
 use cil_model::{Instr, TypeFault};
 
@@ -33,7 +33,7 @@ pub fn follow(
     let Some(next) = next_offset(instrs, index, instr) else {
         return Err(Refusal::Bad(TypeFault::FallsOff(instr.at)));
     };
-    let targets = targets(&instr.op);
+    let targets = branch_targets(&instr.op);
     let at_targets = lowest_conflict(instrs, stacks, stack, targets);
     let at_next = lowest_conflict(instrs, stacks, stack, next);
     if let Some(at) = lower(at_targets, at_next) {

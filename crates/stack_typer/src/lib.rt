@@ -8,13 +8,14 @@ mod conflicts;
 mod follow;
 mod kinds;
 mod merging;
-mod offsets;
 mod operands;
 mod operations;
 mod passes;
 mod stack;
 mod successors;
 mod type_instr;
+mod typed_unit;
 
 pub use kinds::{Kinds, TypeRefusal};
 pub use passes::type_code;
+pub use typed_unit::TypedUnit;

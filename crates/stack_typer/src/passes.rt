@@ -3,12 +3,12 @@
 ghost use Rattle.std.specs.Prelude.{◌≡◌, Some, length, slice_get, IfOk, OnOk};
 ghost use Rattle.cc_base.specs.Tests.{JudgesOrNoMemory, GivesOnly, RefusesOnly};
 ghost use Rattle.cil_model.specs.FitKinds.{AreDecoded, TypedCodeSteps};
+ghost use Rattle.cil_model.specs.Offsets.{AreLaidOut};
 ghost use Rattle.cil_model.specs.Passes.{Stacks, KindsOf, HasTypeFault, visited, stack_at, pass, first_stacks};
 ghost use Rattle.cil_model.specs.declared.type_fault.TypeFault.{TypeFault};
 ghost use Rattle.stack_typer.specs.Answers.{Leaves, IfFault};
 ghost use Rattle.stack_typer.specs.Brought.{AreBrought};
 ghost use Rattle.stack_typer.specs.FirstTypeFault.{first_type_fault};
-ghost use Rattle.stack_typer.specs.LaidOut.{AreLaidOut};
 ghost use Rattle.stack_typer.specs.Room.{Tells};
 
 use crate::follow::follow;

@@ -1,16 +1,17 @@
 //! What may follow an instruction (ECMA-335 III.1.7.5).
 
 ghost use Rattle.std.specs.Prelude.{◌≡◌, Some, option_map, slice_get};
+ghost use Rattle.cil_model.specs.Blocks.{branch_targets};
+ghost use Rattle.cil_model.specs.Offsets.{AreLaidOut};
 ghost use Rattle.cil_model.specs.Passes.{goes_behind};
-ghost use Rattle.stack_typer.specs.LaidOut.{AreLaidOut};
-ghost use Rattle.stack_typer.specs.Successors.{targets, next_offset};
+ghost use Rattle.stack_typer.specs.Successors.{next_offset};
 
 use cil_model::{Instr, Op, Test};
 use std::slice;
 
-/// The IL offsets that a branch or a switch names.
-pub fn targets(op: &Op) -> &[u32]
-    ensures { result.now ≡ targets op.now }
+/// The IL offsets to which an operation may branch.
+pub fn branch_targets(op: &Op) -> &[u32]
+    ensures { result.now ≡ branch_targets op.now }
 {
     match op {
         Op::Branch(_, target) => slice::from_ref(target),

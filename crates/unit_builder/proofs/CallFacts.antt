@@ -29,19 +29,22 @@ use Rattle.il_decoder.specs.Decoding.{code_tests as decoding_tests}
 use Rattle.il_decoder.specs.declared.body.Header.{Header}
 use Rattle.il_decoder.specs.declared.fault.IlFault.TheVariants.{Short}
 use Rattle.method_code.proofs.BareShapes.{bare_faults}
-use Rattle.method_code.specs.Called.{called, called_by_op, called_method, callees_of, calls_in, is_callable}
-use Rattle.method_code.specs.OfMethods.{args_of, bare_shape, clauses_of, code_of, instrs_of, is_number, is_number_clause, known_clauses, result_of, told_clauses}
-use Rattle.method_code.specs.Reading.{as_token, with_instrs}
+use Rattle.method_code.specs.Called.{called_by_op, callee_key, callees_of, calls_in}
+use Rattle.method_code.specs.OfMethods.{args_of, bare_shape, clauses_of as clauses_with, code_of, instrs_of, is_number, is_number_clause, known_clauses, result_of, told_clauses}
+use Rattle.method_code.specs.Reading.{with_instrs}
+use Rattle.method_code.specs.declared.call.Call.TheVariants as calls
 use Rattle.method_code.specs.declared.code_reader.MethodCode.{MethodCode}
 use Rattle.method_unit.specs.UnitFile.{first_uses}
 use Rattle.pe_reader.specs.Addresses.{metadata}
-use Rattle.unit_builder.specs.Bodies.{callee_tokens, code_told, decoded_instrs, il_fault, unit_instrs}
+use Rattle.unit_builder.specs.Bodies.{callee_tokens, clauses_of, code_told, decoded_instrs, il_fault, unit_instrs}
 use Rattle.method_unit.specs.Units.{IsUnit}
 use Rattle.unit_builder.specs.Outcomes.{outcome_by, outcome_of, unit_of}
 use Rattle.unit_builder.specs.Reasons.{blocks_in, callee_info, has_short_name, token_tests, code_tests, header_tests, kind_tests, own_tests, info_with, no_info, reason_tests, row_tests, unit_shape}
 use Rattle.unit_builder.proofs.CodeFacts.{whole_told}
 use Rattle.unit_builder.proofs.TestParts.{row_body}
 use Rattle.unit_builder.proofs.TokenLemmas.{token_at}
+use Rattle.unit_builder.specs.Callable.{is_callable}
+use Rattle.unit_builder.specs.Meanings.{as_token, call_by, called, meaning_of}
 use Rattle.unit_builder.specs.Met.{first_method}
 use Rattle.unit_builder.specs.Slots.{IsSpent, IsWhole}
 use Rattle.unit_builder.specs.Walks.{body_calls, calls_by, calls_of, numbers, unit_at, unit_by}
@@ -66,27 +69,27 @@ each_used P met [] all = tt
 each_used P met (n ∷ ns) all =
     used_by P (list_any (λ m. m == n) met) n (first_uses met ns) (first_uses (n ∷ met) ns) all.0 (each_used P met ns all.1) (each_used P (n ∷ met) ns all.1)
 
-method_there : (asm : List ℕ) (callee : Callee) (n : ℕ) → called_method asm callee ≡ Some n → IsSome (method_of asm (as_token n))
+method_there : (asm : List ℕ) (callee : Callee) (n : ℕ) → callee_key (call_by asm callee) ≡ Some n → IsSome (method_of asm (as_token n))
 method_there asm (ContractCall operation) n is = absurd cc
 method_there asm Outside n is = absurd cc
 method_there asm (Method token) n is = there (method_of asm token) refl is where
-  there : (found : Option MethodRow) → method_of asm token ≡ found → cond (option_map_or is_callable found false) (Some token.0) None ≡ Some n → IsSome (method_of asm (as_token n))
+  there : (found : Option MethodRow) → method_of asm token ≡ found → callee_key (cond (option_map_or is_callable found false) (calls.Callee token.0) calls.Unknown) ≡ Some n → IsSome (method_of asm (as_token n))
   there None none is = absurd cc
   there (Some method) found is = same (is_callable method) is where
-    same : (b : Bool) → cond b (Some token.0) None ≡ Some n → IsSome (method_of asm (as_token n))
+    same : (b : Bool) → callee_key (cond b (calls.Callee token.0) calls.Unknown) ≡ Some n → IsSome (method_of asm (as_token n))
     same true is = let number : token.0 ≡ n = cc in subst (λ k. IsSome (method_of asm (as_token k))) number (ap is_some found)
     same false is = absurd cc
 
-called_there : (asm : List ℕ) (op : Op) (n : ℕ) → called_by_op asm op ≡ Some n → IsSome (method_of asm (as_token n))
+called_there : (asm : List ℕ) (op : Op) (n : ℕ) → called_by_op (meaning_of asm) op ≡ Some n → IsSome (method_of asm (as_token n))
 unfolding called
 called_there asm (ops.Call token) n is = method_there asm (callee_of (metadata asm) token) n is
 called_there asm op n is = absurd cc
 
-each_called : (asm : List ℕ) (is : List Instr) → AllByRecursion (λ n. IsSome (method_of asm (as_token n))) (calls_in asm is)
+each_called : (asm : List ℕ) (is : List Instr) → AllByRecursion (λ n. IsSome (method_of asm (as_token n))) (calls_in (meaning_of asm) is)
 each_called asm [] = tt
-each_called asm (i ∷ is) = one (called_by_op asm i.op) (called_there asm i.op) (each_called asm is) where
-  one : (found : Option ℕ) → ((n : ℕ) → found ≡ Some n → IsSome (method_of asm (as_token n))) → AllByRecursion (λ n. IsSome (method_of asm (as_token n))) (calls_in asm is)
-      → AllByRecursion (λ n. IsSome (method_of asm (as_token n))) (cons_option found (calls_in asm is))
+each_called asm (i ∷ is) = one (called_by_op (meaning_of asm) i.op) (called_there asm i.op) (each_called asm is) where
+  one : (found : Option ℕ) → ((n : ℕ) → found ≡ Some n → IsSome (method_of asm (as_token n))) → AllByRecursion (λ n. IsSome (method_of asm (as_token n))) (calls_in (meaning_of asm) is)
+      → AllByRecursion (λ n. IsSome (method_of asm (as_token n))) (cons_option found (calls_in (meaning_of asm) is))
   one None there rest = rest
   one (Some n) there rest = (there n refl, rest)
 
@@ -97,9 +100,9 @@ numbers_back (n ∷ ns) = ap (λ others. n ∷ others) (numbers_back ns)
 pub callees-there : (asm : List ℕ) (method : MethodRow) (called : ℕ) → Contains (numbers (callee_tokens asm method)) called → IsSome (method_of asm (as_token called))
 unfolding callee_tokens
 callees-there asm method called there =
-    let all = each_used (λ n. IsSome (method_of asm (as_token n))) [] (calls_in asm (decoded_instrs asm method)) (each_called asm (decoded_instrs asm method)) in
-    let listed = subst (λ ns. Contains ns called) (numbers_back (callees_of asm (decoded_instrs asm method))) there in
-    each_at (λ n. IsSome (method_of asm (as_token n))) (callees_of asm (decoded_instrs asm method)) called listed.0 all listed.1 listed.2
+    let all = each_used (λ n. IsSome (method_of asm (as_token n))) [] (calls_in (meaning_of asm) (decoded_instrs asm method)) (each_called asm (decoded_instrs asm method)) in
+    let listed = subst (λ ns. Contains ns called) (numbers_back (callees_of (meaning_of asm) (decoded_instrs asm method))) there in
+    each_at (λ n. IsSome (method_of asm (as_token n))) (callees_of (meaning_of asm) (decoded_instrs asm method)) called listed.0 all listed.1 listed.2
 
 -- ---- a method that is analysed
 
@@ -156,7 +159,7 @@ whole_code : (asm : List ℕ) (method : MethodRow) → has_il_body method ≡ tr
 unfolding body_fault body_code
 whole_code asm method body none = let found = code_by asm method.rva (header_at asm method.rva) none in (found.0, rw body found.1)
 
-instrs_told : (asm : List ℕ) (method : MethodRow) → has_il_body method ≡ true → il_fault asm method ≡ None → instrs_of asm method ≡ Some (unit_instrs asm method)
+instrs_told : (asm : List ℕ) (method : MethodRow) → has_il_body method ≡ true → il_fault asm method ≡ None → instrs_of (meaning_of asm) asm method ≡ Some (unit_instrs asm method)
 unfolding instrs_of unit_instrs decoded_instrs code_told il_fault
 instrs_told asm method body faultless =
     let whole : body_fault asm method.rva ≡ None = none_here (body_fault asm method.rva) _ faultless in
@@ -175,7 +178,7 @@ known_all shape is none all = rw (none, all) refl
 
 clauses_told : (asm : List ℕ) (method : MethodRow) → HasReadCode asm method
     → AllByRecursion (IsNumberClause (args_of method.sig.types) (result_of method.sig.types)) (told_clauses (unit_instrs asm method)) → clauses_of asm method ≡ told_clauses (unit_instrs asm method)
-unfolding clauses_of unit_shape
+unfolding clauses_with unit_shape
 clauses_told asm method read numbers_are =
     let is = unit_instrs asm method in
     let none : first_clause_fault is (bare_shape method) ≡ None = bare_faults is (bare_shape method) (unit_shape asm method) refl refl ∙ read.clauses in
@@ -223,10 +226,10 @@ info-agrees asm token unit is runs =
 
 -- ---- what a slot keeps
 
-pub whole_callees : (asm : List ℕ) (method : MethodRow) (code : MethodCode) → IsWhole asm method code → code.callees ≡ callee_tokens asm method
+pub whole_callees : (asm : List ℕ) (method : MethodRow) (code : MethodCode) → IsWhole asm method code → map as_token code.callees ≡ callee_tokens asm method
 whole_callees asm method code whole = (whole_told asm method code whole).callees
 
-pub spent_callees : (asm : List ℕ) (method : MethodRow) (code : MethodCode) → IsSpent asm method code → code.callees ≡ callee_tokens asm method
+pub spent_callees : (asm : List ℕ) (method : MethodRow) (code : MethodCode) → IsSpent asm method code → map as_token code.callees ≡ callee_tokens asm method
 spent_callees asm method code spent = (whole_told asm method (with_instrs spent.taken code) spent.whole).callees
 
 -- Code of a method that is analysed is there, and reads.

@@ -12,11 +12,10 @@ use Rattle.cil_model.specs.Limits.{MAX_NAME_BYTES}
 use Rattle.cil_model.specs.WellFormed.{IsCallee}
 use Rattle.cil_model.specs.declared.clause.Clause.{Clause}
 use Rattle.cil_model.specs.declared.unit.CalleeInfo.{CalleeInfo}
-use Rattle.method_code.specs.OfMethods.{clauses_of}
 use Rattle.unit_builder.proofs.NameFacts.{name_fits}
 use Rattle.unit_builder.proofs.RowFacts.{named_row}
 use Rattle.unit_builder.proofs.SignatureFacts.{arguments_few}
-use Rattle.unit_builder.specs.Bodies.{unit_name}
+use Rattle.unit_builder.specs.Bodies.{clauses_of, unit_name}
 use Rattle.unit_builder.specs.Making.{AreCallees, AreKnownOf}
 use Rattle.unit_builder.specs.Reasons.{callee_info, has_short_name, info_of, info_with, is_short_name, no_info}
 

@@ -16,12 +16,14 @@ use Rattle.cil_model.specs.declared.shape.Shape.{Shape}
 use Rattle.contract_extract.specs.Faults.{first_clause_fault}
 use Rattle.contract_extract.specs.declared.faults.clause_fault.ClauseFault.{ClauseFault}
 use Rattle.contract_extract.specs.declared.contracts.Contracts.{Contracts}
-use Rattle.method_code.specs.OfMethods.{args_of, bare_shape, clauses_of, instrs_of, is_number, is_number_clause, known_clauses, result_of, told_clauses}
+use Rattle.method_code.specs.OfMethods.{args_of, bare_shape, clauses_of as clauses_with, instrs_of, is_number, is_number_clause, known_clauses, result_of, told_clauses}
 use Rattle.method_code.specs.Reading.{AreContractsOf, IsCodeOf}
 use Rattle.method_code.specs.declared.code_reader.MethodCode.{MethodCode}
 use Rattle.method_unit.specs.UnitFile.{clause_told}
 use Rattle.unit_builder.proofs.SlotFacts.{faulty_clauses}
+use Rattle.unit_builder.specs.Bodies.{clauses_of}
 use Rattle.unit_builder.specs.Making.{AreKnownOf}
+use Rattle.unit_builder.specs.Meanings.{meaning_of}
 use Rattle.unit_builder.specs.Slots.{IsWhole, TellsClauses}
 use Rattle.unit_builder.specs.declared.slots.Slot.{Slot}
 use Rattle.unit_builder.specs.declared.slots.Slot.TheVariants.{Unread, Faulty, Whole, Spent}
@@ -74,12 +76,12 @@ known_within method is read judged =
     (told_within method is fault read judged (none_of fault both.0), numbers_told (bare_shape method) (told_clauses is) both.1))
     (λ e. (no_limits, tt))
 
-instrs_there : (asm : List ℕ) (method : MethodRow) (code : MethodCode) → IsCodeOf asm method code → instrs_of asm method ≡ Some code.instrs
+instrs_there : (asm : List ℕ) (method : MethodRow) (code : MethodCode) → IsCodeOf (meaning_of asm) asm method code → instrs_of (meaning_of asm) asm method ≡ Some code.instrs
 unfolding instrs_of
 instrs_there asm method code of = rw (of.own, of.faultless) (ap Some (sym of.read_of.instrs))
 
 code_known : (asm : List ℕ) (method : MethodRow) (code : MethodCode) → IsWhole asm method code → MayBeKnown method (clauses_of asm method)
-unfolding clauses_of
+unfolding clauses_with
 code_known asm method code whole =
     rw (instrs_there asm method code whole.code_is) (known_within method code.instrs code.contracts whole.code_is.read_of.contracts)
 

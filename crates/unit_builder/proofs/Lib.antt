@@ -1,5 +1,3 @@
-pub mod CalledNumbers
-pub mod CalleeOrder
 pub mod CalleeFacts
 pub mod ClauseFacts
 pub mod CodeFacts

@@ -19,10 +19,11 @@ use Rattle.il_decoder.specs.Body.{body_fault, header_at}
 use Rattle.il_decoder.specs.declared.body.Header.{Header}
 use Rattle.method_code.specs.Numbering.{numbered}
 use Rattle.method_code.specs.OfMethods.{args_of, result_of, told_clauses}
-use Rattle.method_code.specs.Reading.{as_token}
+use Rattle.unit_builder.specs.Meanings.{as_token, meaning_of}
+use Rattle.unit_builder.specs.Laws.SmallNumbers.{numbers_small}
 use Rattle.method_unit.specs.UnitFile.{clause_told}
 use Rattle.method_unit.specs.Units.{IsUnit}
-use Rattle.unit_builder.proofs.CalledNumbers.{callees_in_order}
+use Rattle.method_code.proofs.CalledNumbers.{callees_in_order}
 use Rattle.unit_builder.proofs.ClauseFacts.{told_again}
 use Rattle.unit_builder.proofs.HeaderFacts.{header_is, header_there, told_short}
 use Rattle.unit_builder.proofs.NameFacts.{name_fits}
@@ -127,8 +128,8 @@ passed asm method none =
 in_order : (asm : List ℕ) (method : MethodRow) → InOrderOfUse 0 (length (callee_tokens asm method)) (filter_map (λ i. called_by i.op) (unit_instrs asm method))
 unfolding callee_tokens unit_instrs
 in_order asm method =
-    subst (λ (n : ℕ). InOrderOfUse 0 n (filter_map (λ i. called_by i.op) (numbered asm (decoded_instrs asm method)))) (sym (length-map _ as_token))
-    (callees_in_order asm (decoded_instrs asm method))
+    subst (λ (n : ℕ). InOrderOfUse 0 n (filter_map (λ i. called_by i.op) (numbered (meaning_of asm) (decoded_instrs asm method)))) (sym (length-map _ as_token))
+    (callees_in_order (meaning_of asm) (decoded_instrs asm method) (numbers_small asm))
 
 module _ (asm : List ℕ) (method : MethodRow) (unit : MethodUnit) (row : IsRowOf asm method) (parts : HasParts asm method unit) where
   clauses_are : told_clauses (unit_instrs asm method) ≡ unit.clauses

@@ -10,7 +10,7 @@ use Rattle.asm_image.specs.Bodies.{method_of}
 use Rattle.asm_image.specs.Rows.{methods_of}
 use Rattle.cil_model.specs.Worlds.{Agree}
 use Rattle.cil_model.specs.declared.unit.Unit.{Unit as MethodUnit}
-use Rattle.method_code.specs.Reading.{as_token}
+use Rattle.unit_builder.specs.Meanings.{as_token}
 use Rattle.method_unit.specs.Units.{IsUnit}
 use Rattle.unit_builder.specs.Met.{IsAmong, TellsPlaces, all_met, counted, first_method, met, met_by, place_in}
 use Rattle.unit_builder.specs.Reach.{Reaches, reaches_in}

@@ -12,10 +12,11 @@ use Rattle.il_decoder.specs.Decoding.{code_tests}
 use Rattle.il_decoder.specs.declared.body.Header.{Header}
 use Rattle.il_decoder.specs.declared.fault.IlFault.{IlFault}
 use Rattle.il_decoder.specs.declared.fault.IlFault.TheVariants.{Short}
-use Rattle.method_code.specs.OfMethods.{clauses_of, code_of, decoded_instrs, instrs_of}
+use Rattle.method_code.specs.OfMethods.{clauses_of as clauses_with, code_of, decoded_instrs, instrs_of}
 use Rattle.method_code.specs.Reading.{IsCodeOf, IsReadOf}
 use Rattle.method_code.specs.declared.code_reader.MethodCode.{MethodCode}
-use Rattle.unit_builder.specs.Bodies.{code_told, il_fault}
+use Rattle.unit_builder.specs.Bodies.{clauses_of, code_told, il_fault}
+use Rattle.unit_builder.specs.Meanings.{meaning_of}
 use Rattle.asm_image.specs.Rows.{methods_of}
 use Rattle.std.proofs.lemmas.Option.{slice_get_within}
 use Rattle.std.proofs.lemmas.List.{get_or-replicate, length-replicate}
@@ -54,7 +55,7 @@ code_faulty asm method code fault body whole there some = fault_of_code asm meth
 
 -- Code that was read is that of the method.
 pub code_whole : (asm : List ℕ) (method : MethodRow) (code : List ℕ) (read : MethodCode) → has_il_body method ≡ true → body_fault asm method.rva ≡ None
-    → body_code asm method.rva ≡ Some code → first_of (code_tests code) ≡ None → IsReadOf asm method code read → IsWhole asm method read
+    → body_code asm method.rva ≡ Some code → first_of (code_tests code) ≡ None → IsReadOf (meaning_of asm) method code read → IsWhole asm method read
 code_whole asm method code read body whole there none of =
     let own = code_there asm method code body there in
     record {
@@ -73,7 +74,7 @@ no_body_code asm rva (Some header) fault some = by (code_at asm rva header) some
     by None some = refl
     by (Some code) some = absurd (none-some fault some)
 
-none_told : (asm : List ℕ) (code : Option (List ℕ)) (fault : IlFault) → first_of (code_tests (unwrap_or code [])) ≡ Some fault → option_and_then (decoded_instrs asm) code ≡ None
+none_told : (asm : List ℕ) (code : Option (List ℕ)) (fault : IlFault) → first_of (code_tests (unwrap_or code [])) ≡ Some fault → option_and_then (decoded_instrs (meaning_of asm)) code ≡ None
 none_told asm None fault some = refl
 none_told asm (Some code) fault some = rw some refl
 
@@ -85,19 +86,19 @@ bodiless asm method none = by (has_il_body method)
     by false = refl
 
 by_body : (asm : List ℕ) (method : MethodRow) (body : Option IlFault) (fault : IlFault) → body_fault asm method.rva ≡ body
-    → first_of (body ∷ first_of (code_tests (code_told asm method)) ∷ []) ≡ Some fault → instrs_of asm method ≡ None
+    → first_of (body ∷ first_of (code_tests (code_told asm method)) ∷ []) ≡ Some fault → instrs_of (meaning_of asm) asm method ≡ None
 unfolding instrs_of code_told body_fault body_code
 by_body asm method (Some other) fault is some =
-    ap (option_and_then (decoded_instrs asm)) (bodiless asm method (no_body_code asm method.rva (header_at asm method.rva) other is))
+    ap (option_and_then (decoded_instrs (meaning_of asm))) (bodiless asm method (no_body_code asm method.rva (header_at asm method.rva) other is))
 by_body asm method None fault is some =
     none_told asm (code_of asm method) fault (sym (first_of-one _) ∙ (sym (first_of-none None (first_of (code_tests (code_told asm method)) ∷ []) refl) ∙ some))
 
-faulty_instrs : (asm : List ℕ) (method : MethodRow) (fault : IlFault) → il_fault asm method ≡ Some fault → instrs_of asm method ≡ None
+faulty_instrs : (asm : List ℕ) (method : MethodRow) (fault : IlFault) → il_fault asm method ≡ Some fault → instrs_of (meaning_of asm) asm method ≡ None
 unfolding il_fault
 faulty_instrs asm method fault some = by_body asm method (body_fault asm method.rva) fault refl some
 
-no_clauses : (asm : List ℕ) (method : MethodRow) → instrs_of asm method ≡ None → clauses_of asm method ≡ []
-unfolding clauses_of
+no_clauses : (asm : List ℕ) (method : MethodRow) → instrs_of (meaning_of asm) asm method ≡ None → clauses_of asm method ≡ []
+unfolding clauses_with
 no_clauses asm method none = rw none refl
 
 -- Callers know nothing of a method whose code does not read.
@@ -118,7 +119,7 @@ no_code_clauses asm method slot (inr (fault, faulty)) told = sym (faulty_clauses
 
 -- A slot with code, with its instructions or without.
 pub code_kept : (asm : List ℕ) (method : MethodRow) (slot : Slot) (code : MethodCode) → (slot ≡ Whole code) ⊎ (slot ≡ Spent code) → TellsClauses asm method slot
-    → (instrs : List Instr) × IsCodeOf asm method (with_instrs instrs code)
+    → (instrs : List Instr) × IsCodeOf (meaning_of asm) asm method (with_instrs instrs code)
 code_kept asm method slot code (inl whole) told = (code.instrs, (subst (TellsClauses asm method) whole told).code_is)
 code_kept asm method slot code (inr spent) told = let left = subst (TellsClauses asm method) spent told in (left.taken, left.whole.code_is)
 

@@ -6,7 +6,7 @@ use Rattle.asm_image.specs.Bodies.{method_of}
 use Rattle.asm_image.specs.Rows.{methods_of}
 use Rattle.cc_base.specs.declared.token.Token.{Token}
 use Rattle.unit_builder.specs.Met.{IsAmong, all_met}
-use Rattle.method_code.specs.Reading.{as_token}
+use Rattle.unit_builder.specs.Meanings.{as_token}
 use Rattle.unit_builder.specs.Walks.{IsWalk, Tells, calls_in, numbers}
 use Rattle.unit_builder.specs.declared.reach.Visited.{Visited}
 use Rattle.unit_builder.proofs.ReachLemmas.{Contains-behind}

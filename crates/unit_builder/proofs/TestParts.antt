@@ -9,7 +9,7 @@ use Rattle.cc_base.proofs.TestLemmas.{first_of-append_none, first_of-append_some
 use Rattle.il_decoder.specs.Body.{header_at}
 use Rattle.unit_builder.specs.declared.reason.Reason.{Reason}
 use Rattle.cil_model.specs.Limits.{MAX_INSTRUCTIONS}
-use Rattle.method_code.specs.Called.{are_known, is_static}
+use Rattle.unit_builder.specs.Callable.{are_known, is_static}
 use Rattle.unit_builder.specs.Bodies.{callee_tokens, il_fault, unit_instrs}
 use Rattle.unit_builder.specs.Reasons.{code_tests, has_short_name, header_tests, kind_tests, own_tests, reason_tests, row_tests}
 use Rattle.unit_builder.specs.declared.reason.Reason.TheVariants.{Instance, Generic, NoBody, SignatureType, TooLarge, Code}

@@ -9,7 +9,7 @@ use Rattle.asm_image.specs.Rows.{methods_of}
 use Rattle.asm_image.specs.declared.method_row.MethodRow.{MethodRow}
 use Rattle.cc_base.specs.declared.token.Token.{Token}
 use Rattle.unit_builder.specs.Met.{all_met, met, met_by, place_in}
-use Rattle.method_code.specs.Reading.{as_token}
+use Rattle.unit_builder.specs.Meanings.{as_token}
 use Rattle.unit_builder.specs.Bodies.{callee_tokens}
 use Rattle.unit_builder.specs.Outcomes.{outcome_of}
 use Rattle.unit_builder.specs.Reach.{Reaches, reaches_in}

@@ -11,7 +11,7 @@ use Rattle.asm_image.specs.declared.method_row.MethodRow.{MethodRow}
 use Rattle.cil_model.specs.Worlds.{Agree}
 use Rattle.cil_model.specs.declared.unit.Unit.{Unit as MethodUnit}
 use Rattle.unit_builder.specs.Met.{first_method, place_in}
-use Rattle.method_code.specs.Reading.{as_token}
+use Rattle.unit_builder.specs.Meanings.{as_token}
 use Rattle.method_unit.specs.Units.{IsUnit}
 use Rattle.unit_builder.specs.Reasons.{callee_info}
 use Rattle.unit_builder.specs.Reach.{Reaches, itself, onward}

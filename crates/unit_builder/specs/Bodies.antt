@@ -5,6 +5,7 @@ use Rattle.asm_image.specs.Tokens.{locals_of}
 use Rattle.asm_image.specs.declared.method_row.MethodRow.{MethodRow}
 use Rattle.cc_base.specs.Tests.{first_of}
 use Rattle.cc_base.specs.declared.token.Token.{Token}
+use Rattle.cil_model.specs.declared.clause.Clause.{Clause}
 use Rattle.cil_model.specs.declared.instruction.Instr.{Instr}
 use Rattle.cil_model.specs.declared.place.Place.{Place}
 use Rattle.il_decoder.specs.Body.{body_fault, header_at, tiny_header}
@@ -13,11 +14,11 @@ use Rattle.il_decoder.specs.declared.body.Header.{Header}
 use Rattle.il_decoder.specs.declared.fault.IlFault.{IlFault}
 use Rattle.method_code.specs.Called.{callees_of}
 use Rattle.method_code.specs.Numbering.{numbered}
-use Rattle.method_code.specs.OfMethods.{code_of}
-use Rattle.method_code.specs.Reading.{as_token}
+use Rattle.method_code.specs.OfMethods.{clauses_of as clauses_with, code_of}
 use Rattle.pe_reader.specs.Addresses.{metadata}
 use Rattle.signature_blobs.specs.declared.local.LocalSig.{LocalSig}
 use Rattle.signature_blobs.specs.declared.local.LocalSig.TheVariants as locals
+use Rattle.unit_builder.specs.Meanings.{as_token, meaning_of}
 
 -- The printed name without the types of the parameters, which it ends with.
 unfoldable pub unit_name : MethodRow → List ℕ
@@ -57,8 +58,12 @@ decoded_instrs asm method = instructions_of (code_told asm method)
 
 -- The instructions with the numbers of the unit.
 unfoldable pub unit_instrs : List ℕ → MethodRow → List Instr
-unit_instrs asm method = numbered asm (decoded_instrs asm method)
+unit_instrs asm method = numbered (meaning_of asm) (decoded_instrs asm method)
 
 -- The tokens of the methods that the code calls, in order of first use.
 unfoldable pub callee_tokens : List ℕ → MethodRow → List Token
-callee_tokens asm method = map as_token (callees_of asm (decoded_instrs asm method))
+callee_tokens asm method = map as_token (callees_of (meaning_of asm) (decoded_instrs asm method))
+
+-- What callers know of a method: its clauses.
+abbrev pub clauses_of : List ℕ → MethodRow → List Clause
+clauses_of asm method = clauses_with (meaning_of asm) asm method

@@ -1,10 +1,13 @@
-pub mod Rows
 pub mod Bodies
-pub mod Reasons
-pub mod Outcomes
-pub mod Slots
+pub mod Callable
+pub mod Laws
 pub mod Making
+pub mod Meanings
 pub mod Met
+pub mod Outcomes
 pub mod Reach
+pub mod Reasons
+pub mod Rows
+pub mod Slots
 pub mod Walks
 pub mod WorldOf

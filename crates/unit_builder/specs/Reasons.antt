@@ -17,11 +17,11 @@ use Rattle.contract_extract.specs.Faults.{first_clause_fault}
 use Rattle.flow_graph.specs.BlocksOf.{block_starts}
 use Rattle.il_decoder.specs.Body.{header_at}
 use Rattle.il_decoder.specs.declared.body.Header.{Header}
-use Rattle.method_code.specs.Called.{are_known, is_static}
-use Rattle.method_code.specs.OfMethods.{args_of, clauses_of, result_of}
+use Rattle.method_code.specs.OfMethods.{args_of, result_of}
 use Rattle.method_unit.specs.UnitFile.{names_something}
 use Rattle.stack_typer.specs.FirstTypeFault.{first_type_fault}
-use Rattle.unit_builder.specs.Bodies.{callee_tokens, header_of, il_fault, locals_named, locals_told, unit_instrs, unit_name}
+use Rattle.unit_builder.specs.Bodies.{callee_tokens, clauses_of, header_of, il_fault, locals_named, locals_told, unit_instrs, unit_name}
+use Rattle.unit_builder.specs.Callable.{are_known, is_static}
 use Rattle.unit_builder.specs.declared.reason.Reason.{Reason}
 use Rattle.unit_builder.specs.declared.reason.Reason.TheVariants.{Instance, Generic, NoBody, SignatureType, LocalType, LocalsNotZero, Section, TooLarge, Code, Clauses, Token, Kinds}
 

@@ -6,13 +6,14 @@ use Rattle.cil_model.specs.declared.instruction.Instr.{Instr}
 use Rattle.method_code.specs.Reading.{IsCodeOf, with_instrs}
 use Rattle.method_code.specs.declared.code_reader.MethodCode.{MethodCode}
 use Rattle.unit_builder.specs.Bodies.{il_fault}
+use Rattle.unit_builder.specs.Meanings.{meaning_of}
 use Rattle.unit_builder.specs.declared.slots.Slot.{Slot}
 use Rattle.unit_builder.specs.declared.slots.Slot.TheVariants.{Unread, Faulty, Whole, Spent}
 
 -- This is the code of the method.
 pub record IsWhole (asm : List ℕ) (method : MethodRow) (code : MethodCode) : Type 0 where
   pub faultless : il_fault asm method ≡ None
-  pub code_is : IsCodeOf asm method code
+  pub code_is : IsCodeOf (meaning_of asm) asm method code
 
 -- This is what is left of the code of the method when its instructions are taken.
 pub record IsSpent (asm : List ℕ) (method : MethodRow) (code : MethodCode) : Type 0 where

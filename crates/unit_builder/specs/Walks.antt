@@ -7,8 +7,8 @@ use Rattle.asm_image.specs.declared.method_row.MethodRow.{MethodRow}
 use Rattle.cc_base.specs.declared.token.Token.{Token}
 use Rattle.cil_model.specs.declared.unit.Unit.{Unit as MethodUnit}
 use Rattle.unit_builder.specs.Met.{place_in}
-use Rattle.method_code.specs.Reading.{as_token}
 use Rattle.unit_builder.specs.Bodies.{callee_tokens}
+use Rattle.unit_builder.specs.Meanings.{as_token}
 use Rattle.method_unit.specs.Units.{IsUnit}
 use Rattle.unit_builder.specs.Outcomes.{outcome_of}
 use Rattle.unit_builder.specs.Reach.{Reaches, reaches_in}

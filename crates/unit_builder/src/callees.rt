@@ -4,19 +4,17 @@ ghost use Rattle.std.specs.Prelude.{◌≡◌, ◌≤◌, ℕ, List, true, map, 
 ghost use Rattle.std.specs.List.{AllByRecursion, list_all};
 ghost use Rattle.asm_image.specs.Rows.{methods_of};
 ghost use Rattle.cil_model.specs.WellFormed.{IsCallee};
-ghost use Rattle.method_code.specs.OfMethods.{clauses_of};
-ghost use Rattle.unit_builder.specs.Bodies.{unit_name};
+ghost use Rattle.unit_builder.specs.Bodies.{clauses_of, unit_name};
 ghost use Rattle.unit_builder.specs.Making.{AreCallees, AreKnownOf};
 ghost use Rattle.unit_builder.specs.Reasons.{callee_info, has_short_name, info_with, no_info};
 ghost use Rattle.unit_builder.specs.Rows.{IsRowOf};
 ghost use Rattle.unit_builder.specs.Slots.{AreSlots, IsSlotOf};
 
-use crate::copies::copy_clauses;
 use crate::names::unit_name;
 use crate::slots::Slot;
 use asm_image::{Assembly, MethodRow};
 use cc_base::{NoMemory, Token};
-use cil_model::{CalleeInfo, Clause, List, Place};
+use cil_model::{CalleeInfo, Clause, List, Place, copy_clauses};
 use signature_blobs::SigTypes;
 use std::alloc::Global;
 

@@ -1,10 +1,11 @@
 //! The methods that a method calls.
 
-ghost use Rattle.std.specs.Prelude.{◌≡◌, ℕ, List, Contains, IfOk};
+ghost use Rattle.std.specs.Prelude.{◌≡◌, ℕ, List, map, Contains, IfOk};
 ghost use Rattle.asm_image.specs.Rows.{methods_of};
 ghost use Rattle.asm_image.specs.declared.method_row.MethodRow.{MethodRow};
 ghost use Rattle.cil_model.specs.declared.unit.Unit.{Unit as MethodUnit};
 ghost use Rattle.unit_builder.specs.Bodies.{callee_tokens};
+ghost use Rattle.unit_builder.specs.Meanings.{as_token};
 ghost use Rattle.unit_builder.specs.Outcomes.{entry_of, outcome_of};
 ghost use Rattle.unit_builder.specs.Slots.{IsSlotOf};
 ghost use Rattle.unit_builder.specs.Walks.{body_calls, numbers};
@@ -16,6 +17,17 @@ use crate::slots::Slot;
 use asm_image::{Assembly, MethodRow};
 use cc_base::{NoMemory, Token};
 use std::alloc::Global;
+
+/// The tokens of methods, by their keys.
+pub(crate) fn tokens_of(alloc: Global, keys: &[u32]) -> Result<Vec<Token>, NoMemory>
+    ensures { IfOk result (λ tokens. tokens.items ≡ map as_token keys.now) }
+{
+    let mut tokens = Vec::new(alloc);
+    for key in keys {
+        tokens.push(Token(*key))?;
+    }
+    Ok(tokens)
+}
 
 /// Returns the methods that the code of a method calls. The code is read where it was not read before.
 pub(crate) fn callees_in(
@@ -32,7 +44,7 @@ pub(crate) fn callees_in(
         return Ok(Vec::new(alloc));
     }
     slot.read(alloc, assembly, method)?;
-    Vec::from_slice(alloc, slot.callees())
+    tokens_of(alloc, slot.callees())
 }
 
 /// The methods that are called in the body of the method of an entry, each once, in order of first use; none where the method is

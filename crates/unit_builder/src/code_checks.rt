@@ -9,7 +9,6 @@ ghost use Rattle.cil_model.specs.ShortCode.{AreOfShortCode};
 ghost use Rattle.cil_model.specs.declared.shape.Shape.{Shape};
 ghost use Rattle.contract_extract.specs.Faults.{first_clause_fault};
 ghost use Rattle.method_code.specs.Reading.{AreContractsOf};
-ghost use Rattle.method_unit.specs.UnitFile.{names_something};
 ghost use Rattle.unit_builder.specs.Reasons.{blocks_in, code_tests, has_short_name, token_test, token_tests, unit_shape};
 ghost use Rattle.unit_builder.specs.declared.reason.Reason.TheVariants as reasons;
 
@@ -17,9 +16,10 @@ use crate::names::{is_short_name, unit_name};
 use crate::reason::{Reason, UnitRefusal};
 use asm_image::{Assembly, MethodRow};
 use cc_base::Token;
-use cil_model::{Instr, MAX_BLOCKS, MAX_INSTRUCTIONS, Op, UnitCall, array_place, unit_call};
+use cil_model::{Instr, MAX_BLOCKS, MAX_INSTRUCTIONS};
 use contract_extract::{ClauseFault, Contracts};
 use flow_graph::block_starts;
+use method_unit::names_something;
 use std::alloc::Global;
 
 /// Tests that there are not too many instructions.
@@ -90,39 +90,6 @@ pub(crate) fn check_blocks(
         return Err(Reason::TooLarge.into());
     }
     Ok(())
-}
-
-/// Returns whether the operand of a call, of a new array or of a text is a number of a unit with so many callees.
-fn names_something(callees: usize, op: &Op) -> bool
-    ensures { result ≡ names_something callees op.now }
-{
-    match op {
-        Op::Call(number) => match unit_call(*number) {
-            Some(UnitCall::Callee(callee)) => (callee as usize) < callees,
-            call => call.is_some(),
-        },
-        Op::NewArray(number) => array_place(*number).is_some(),
-        Op::Text(number) => *number == 0,
-        Op::Nop
-        | Op::LoadArg(_)
-        | Op::StoreArg(_)
-        | Op::LoadLocal(_)
-        | Op::StoreLocal(_)
-        | Op::Null
-        | Op::Const(_)
-        | Op::Dup
-        | Op::Pop
-        | Op::Return
-        | Op::Branch(_, _)
-        | Op::Switch(_)
-        | Op::Bin(_)
-        | Op::Neg
-        | Op::Not
-        | Op::ConvI4
-        | Op::Length
-        | Op::LoadElem(_)
-        | Op::StoreElem(_) => true,
-    }
 }
 
 /// Tests the number of one instruction.

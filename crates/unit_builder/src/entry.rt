@@ -2,13 +2,14 @@
 
 use crate::reason::Reason;
 use cc_base::Token;
-use cil_model::{List, Unit};
+use cil_model::List;
+use stack_typer::TypedUnit;
 
 /// What comes of a method of an assembly.
 #[derive(Drop)]
 pub enum Outcome {
-    /// It is analysed, as this unit.
-    Analysed(Unit),
+    /// It is analysed, as this unit, with the kinds of its code.
+    Analysed(TypedUnit),
     /// It is not, and this is why.
     Skipped(Reason),
 }

@@ -1,13 +1,14 @@
 //! The units of an assembly: each method with all that its check depends on, or the first reason why it has none.
 #![tactic(auto)]
 
+mod callable;
 mod callees;
 mod calls;
 mod code_checks;
-mod copies;
 mod entry;
 mod header;
 mod making;
+mod meaning;
 mod met;
 mod names;
 mod own_code;

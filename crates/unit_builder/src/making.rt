@@ -3,9 +3,9 @@
 ghost use Rattle.std.specs.Prelude.{◌≡◌, ◌≤◌, ℕ, List, true, option_map, IfOk};
 ghost use Rattle.std.specs.List.{list_all};
 ghost use Rattle.cc_base.specs.Tests.{first_of, JudgesOrNoMemory};
-ghost use Rattle.method_unit.specs.Units.{HasKinds};
+ghost use Rattle.cil_model.specs.Passes.{KindsOf};
 ghost use Rattle.stack_typer.specs.FirstTypeFault.{first_type_fault};
-ghost use Rattle.stack_typer.specs.LaidOut.{AreLaidOut};
+ghost use Rattle.cil_model.specs.Offsets.{AreLaidOut};
 ghost use Rattle.unit_builder.specs.Bodies.{callee_tokens};
 ghost use Rattle.unit_builder.specs.Making.{AreCallees, AreVariablesOf, HasParts, IsOwnCode};
 ghost use Rattle.unit_builder.specs.Reasons.{has_short_name, kind_tests, unit_shape};
@@ -26,16 +26,16 @@ use cc_base::{NoMemory, Refusal};
 use cil_model::{CalleeInfo, Instr, List, Shape, Unit};
 use method_code::spell_code;
 use signature_blobs::Signature;
-use stack_typer::type_code;
+use stack_typer::{Kinds, TypedUnit, type_code};
 use std::alloc::Global;
 
-/// Tests that the code has kinds.
-fn check_kinds(alloc: Global, instrs: &[Instr], shape: &Shape) -> Result<(), UnitRefusal>
+/// Finds the kinds of the code.
+fn find_kinds(alloc: Global, instrs: &[Instr], shape: &Shape) -> Result<Kinds, UnitRefusal>
     requires lie { AreLaidOut instrs.now }
-    ensures { JudgesOrNoMemory result (option_map reasons.Kinds (first_type_fault instrs.now shape.now)) (λ _. HasKinds shape.now instrs.now) }
+    ensures { JudgesOrNoMemory result (option_map reasons.Kinds (first_type_fault instrs.now shape.now)) (KindsOf shape.now instrs.now) }
 {
     match type_code(alloc, instrs, shape) {
-        Ok(_kinds) => Ok(()),
+        Ok(kinds) => Ok(kinds),
         Err(Refusal::Bad(fault)) => Err(Refusal::Bad(Reason::Kinds(fault))),
         Err(Refusal::NoMemory) => Err(Refusal::NoMemory),
     }
@@ -61,7 +61,7 @@ fn shape_with(
     })
 }
 
-/// Makes the unit of a method. What is known of its callees is looked up here, and that its code has kinds is tested.
+/// Makes the unit of a method. What is known of its callees is looked up here, and the kinds of its code are found.
 #[tactic(auto, using(cc_base::proofs::TestLemmas::carried, cc_base::proofs::TestLemmas::first_tests))]
 pub(crate) fn make_unit(
     alloc: Global,
@@ -71,7 +71,7 @@ pub(crate) fn make_unit(
     signature: &Signature,
     variables: &Variables,
     own: OwnCode,
-) -> Result<Unit, UnitRefusal>
+) -> Result<TypedUnit, UnitRefusal>
     requires row { IsRowOf assembly.now method.now }
     requires types { method.now.sig.types ≡ types.Known signature.now }
     requires slots { AreSlots assembly.now slots.old }
@@ -84,10 +84,10 @@ pub(crate) fn make_unit(
 {
     let callees = callee_infos(alloc, assembly, slots, &own.callees)?;
     let shape = shape_with(alloc, signature, variables, callees)?;
-    check_kinds(alloc, own.instrs.as_slice(), &shape)?;
+    let kinds = find_kinds(alloc, own.instrs.as_slice(), &shape)?;
     let name = Vec::from_slice(alloc, unit_name(method))?;
     let code = spell_code(alloc, own.instrs.as_slice())?;
-    Ok(Unit {
+    let unit = Unit {
         name: List::from_vec(name),
         result: shape.result,
         args: shape.args,
@@ -98,5 +98,6 @@ pub(crate) fn make_unit(
         clauses: own.contracts.clauses,
         body_start: own.contracts.body_start,
         instrs: own.instrs,
-    })
+    };
+    Ok(TypedUnit::of(unit, kinds))
 }

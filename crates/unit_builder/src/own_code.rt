@@ -11,13 +11,13 @@ ghost use Rattle.unit_builder.specs.Reasons.{code_tests, own_tests, unit_shape};
 ghost use Rattle.unit_builder.specs.Slots.{IsSlotOf, IsWhole};
 ghost use Rattle.unit_builder.specs.declared.reason.Reason.TheVariants as reasons;
 
+use crate::calls::tokens_of;
 use crate::code_checks::check_code;
-use crate::copies::copy_clauses;
 use crate::reason::{Reason, UnitRefusal};
 use crate::slots::Slot;
 use asm_image::{Assembly, MethodRow};
 use cc_base::{Refusal, Token};
-use cil_model::{Instr, List};
+use cil_model::{Instr, List, copy_clauses};
 use contract_extract::Contracts;
 use method_code::MethodCode;
 use std::alloc::{AllocError, Global};
@@ -81,19 +81,13 @@ fn own_contracts(
     assembly: &Assembly<'_>,
     method: &MethodRow,
     code: &MethodCode,
+    callees: &[Token],
 ) -> Result<Contracts, UnitRefusal>
     requires whole { IsWhole assembly.now method.now code.now }
-    ensures { JudgesOrNoMemory result (first_of (code_tests assembly.now (unit_shape assembly.now method.now) code.now.callees code.now.instrs)) (AreContractsOf method.now code.now.instrs) }
+    ensures { JudgesOrNoMemory result (first_of (code_tests assembly.now (unit_shape assembly.now method.now) callees.now code.now.instrs)) (AreContractsOf method.now code.now.instrs) }
 {
     let instrs = code.instrs.as_slice();
-    let contracts = check_code(
-        alloc,
-        assembly,
-        method,
-        instrs,
-        code.callees.as_slice(),
-        &code.contracts,
-    )?;
+    let contracts = check_code(alloc, assembly, method, instrs, callees, &code.contracts)?;
     Ok(copy_contracts(alloc, contracts)?)
 }
 
@@ -111,12 +105,12 @@ pub(crate) fn own_code(
     ensures judged { JudgesOrNoMemory result (first_of (own_tests assembly.now method.now)) (IsOwnCode assembly.now method.now) }
 {
     let code = take_code(alloc, assembly, method, slot)?;
-    let contracts = own_contracts(alloc, assembly, method, &code);
-    let callees = Vec::from_slice(alloc, code.callees.as_slice());
+    let callees = tokens_of(alloc, code.callees.as_slice())?;
+    let contracts = own_contracts(alloc, assembly, method, &code, &callees);
     let instrs = take_instrs(alloc, code, slot);
     Ok(OwnCode {
         contracts: contracts?,
-        callees: callees?,
+        callees,
         instrs,
     })
 }

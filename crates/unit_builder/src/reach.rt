@@ -31,7 +31,7 @@ fn visit(alloc: Global, units: &mut Units<'_>, token: Token) -> Result<Option<Vi
     let index = token.row() as usize - 1;
     match units.outcome(alloc, index)? {
         Outcome::Analysed(unit) => Ok(Some(Visited {
-            unit,
+            unit: unit.into_unit(),
             callees: units.callees(alloc, index)?,
         })),
         Outcome::Skipped(_) => Ok(None),

@@ -4,9 +4,9 @@ ghost use Rattle.std.specs.Prelude.{◌≡◌, ⊤};
 ghost use Rattle.cc_base.specs.Tests.{first_of, Judges};
 ghost use Rattle.unit_builder.specs.Reasons.{row_tests};
 
+use crate::callable::is_static;
 use crate::reason::Reason;
 use asm_image::MethodRow;
-use method_code::is_static;
 use signature_blobs::{SigTypes, Signature};
 
 /// Tests the row of a method, and answers the types of its signature.

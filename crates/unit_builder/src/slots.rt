@@ -1,15 +1,16 @@
 //! The code of the methods, read once.
 
-ghost use Rattle.std.specs.Prelude.{◌≡◌, ℕ, List, None, true, IfOk, OnOk};
+ghost use Rattle.std.specs.Prelude.{◌≡◌, ℕ, List, None, true, map, IfOk, OnOk};
 ghost use Rattle.asm_image.specs.Bodies.{has_il_body};
 ghost use Rattle.asm_image.specs.declared.method_row.MethodRow.{MethodRow};
 ghost use Rattle.cc_base.specs.Tests.{Judges};
-ghost use Rattle.method_code.specs.OfMethods.{clauses_of};
-ghost use Rattle.unit_builder.specs.Bodies.{callee_tokens, il_fault};
+ghost use Rattle.unit_builder.specs.Bodies.{callee_tokens, clauses_of, il_fault};
+ghost use Rattle.unit_builder.specs.Meanings.{as_token};
 ghost use Rattle.unit_builder.specs.Slots.{IsSlotOf, IsSpent, IsWhole, TellsClauses};
 
+use crate::meaning::AssemblyTokens;
 use asm_image::{Assembly, MethodRow};
-use cc_base::{NoMemory, Refusal, Token};
+use cc_base::{NoMemory, Refusal};
 use cil_model::{Clause, Instr, List};
 use il_decoder::{IlFault, body_at};
 use method_code::{MethodCode, read_code};
@@ -42,7 +43,7 @@ fn find_code(alloc: Global, assembly: &Assembly<'_>, method: &MethodRow) -> Resu
         Ok(body) => body,
         Err(fault) => return Ok(Err(fault)),
     };
-    match read_code(alloc, assembly, method, body.code) {
+    match read_code(alloc, &AssemblyTokens { assembly }, method, body.code) {
         Ok(code) => Ok(Ok(code)),
         Err(Refusal::Bad(fault)) => Ok(Err(fault)),
         Err(Refusal::NoMemory) => Err(AllocError),
@@ -88,10 +89,10 @@ impl Slot {
         }
     }
 
-    /// The methods that the code calls, each once, in order of first use. None where the code does not read.
+    /// The keys of the methods that the code calls, each once, in order of first use. None where the code does not read.
     #[tactic(auto, using(crate::proofs::CallFacts::whole_callees, crate::proofs::CallFacts::spent_callees))]
-    pub(crate) fn callees(&self) -> &[Token]
-        ensures { (asm : List ℕ) (method : MethodRow) → TellsClauses asm method self.now → il_fault asm method ≡ None → result.now ≡ callee_tokens asm method }
+    pub(crate) fn callees(&self) -> &[u32]
+        ensures { (asm : List ℕ) (method : MethodRow) → TellsClauses asm method self.now → il_fault asm method ≡ None → map as_token result.now ≡ callee_tokens asm method }
     {
         match self {
             Slot::Whole(code) => code.callees.as_slice(),

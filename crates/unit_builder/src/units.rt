@@ -24,7 +24,8 @@ use crate::row::check_row;
 use crate::slots::Slot;
 use asm_image::{Assembly, MethodRow};
 use cc_base::{NoMemory, Refusal, Token};
-use cil_model::{List, Unit};
+use cil_model::List;
+use stack_typer::TypedUnit;
 use std::alloc::{AllocError, Global};
 use std::marker::Model;
 
@@ -59,7 +60,7 @@ fn parts_at(
     slots: &mut [Slot],
     index: usize,
     method: &MethodRow,
-) -> Result<Unit, UnitRefusal>
+) -> Result<TypedUnit, UnitRefusal>
     requires slots { AreSlots assembly.now slots.old }
     requires there { slice_get (methods_of assembly.now) index ≡ Some method.now }
     ensures slots { AreSlots assembly.now slots.new }
@@ -78,7 +79,7 @@ fn unit_at(
     slots: &mut [Slot],
     index: usize,
     method: &MethodRow,
-) -> Result<Unit, UnitRefusal>
+) -> Result<TypedUnit, UnitRefusal>
     requires slots { AreSlots assembly.now slots.old }
     requires there { slice_get (methods_of assembly.now) index ≡ Some method.now }
     ensures slots { AreSlots assembly.now slots.new }
@@ -100,7 +101,7 @@ fn skipped(refusal: UnitRefusal) -> Result<Outcome, NoMemory>
 }
 
 /// Returns what comes of a method that has a unit or not.
-fn outcome_of(unit: Result<Unit, UnitRefusal>) -> Result<Outcome, NoMemory>
+fn outcome_of(unit: Result<TypedUnit, UnitRefusal>) -> Result<Outcome, NoMemory>
     ensures value { (asm : List ℕ) (method : MethodRow) → JudgesOrNoMemory unit (first_of (reason_tests asm method)) (IsMade asm method)
         → IfOk result (λ outcome. outcome ≡ outcome_of asm method) }
     ensures unit { (asm : List ℕ) (method : MethodRow) → JudgesOrNoMemory unit (first_of (reason_tests asm method)) (IsMade asm method)

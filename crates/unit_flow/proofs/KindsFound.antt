@@ -7,7 +7,10 @@ use Rattle.cil_model.specs.declared.type_fault.TypeFault.{TypeFault}
 use Rattle.cil_model.specs.declared.unit.Unit.{Unit as MethodUnit}
 use Rattle.stack_typer.specs.FirstTypeFault.{most_passes}
 use Rattle.stack_typer.proofs.Unique.{kinds_once, not_both}
-use Rattle.unit_flow.specs.FlowOf.{kinds_of}
+use Rattle.flow_graph.specs.GraphOf.{graph_of}
+use Rattle.flow_graph.specs.declared.graph.Graph.{Graph}
+use Rattle.unit_flow.specs.FlowOf.{flow_of, kinds_of}
+use Rattle.unit_flow.specs.declared.unit_flow.UnitFlow.{UnitFlow}
 use Rattle.unit_flow.proofs.Settled.{settles}
 
 pub found_kinds : (unit : MethodUnit) (stacks : Stacks) → KindsOf (shape_of unit) unit.instrs stacks
@@ -24,3 +27,11 @@ found_kinds unit stacks are =
     by_answer (Err fault) e =
         absurd (not_both (shape_of unit) unit.instrs stacks fault are
         (record { passes = most_passes (shape_of unit) unit.instrs; met = e }))
+
+abbrev flow_with : MethodUnit → Graph → Stacks → UnitFlow
+flow_with unit graph kinds = record { unit = unit; graph = graph; kinds = kinds }
+
+-- A unit with what is found of it is its flow.
+pub made_flow : (unit of : MethodUnit) (graph : Graph) (kinds : Stacks) → unit ≡ of → graph ≡ graph_of of → kinds ≡ kinds_of of
+    → flow_with unit graph kinds ≡ flow_of of
+made_flow unit of graph kinds same graphs typed = λ i. record { unit = same i; graph = graphs i; kinds = typed i }

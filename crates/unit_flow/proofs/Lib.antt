@@ -11,5 +11,4 @@ pub mod OnTheWay
 pub mod Settled
 pub mod KindsFound
 pub mod Slicing
-pub mod Constructing
 pub mod FlowExamples

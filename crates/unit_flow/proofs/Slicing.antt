@@ -5,10 +5,10 @@ use Rattle.std.specs.List.{AllWithin}
 use Rattle.std.specs.List.Sorted.{IsNonDecreasingBy}
 use Rattle.cil_model.specs.declared.instruction.Instr.{Instr}
 use Rattle.cil_model.specs.Code.{begins_at}
+use Rattle.cil_model.specs.Offsets.{AreLaidOut, BeginsAt}
 use Rattle.cil_model.specs.Passes.{stack_at}
 use Rattle.cil_model.specs.declared.place.Kind.{Kind}
 use Rattle.cil_model.proofs.ShortCodes.{offsets_rise}
-use Rattle.stack_typer.specs.LaidOut.{AreLaidOut, BeginsAt}
 use Rattle.stack_typer.proofs.OffsetLemmas.{no_stack_there, stack_there}
 use Rattle.unit_flow.specs.Flow.{IsLawful, is_before, instrs_between, block_instrs, kinds_at}
 use Rattle.unit_flow.specs.declared.unit_flow.UnitFlow.{UnitFlow}

@@ -1,9 +1,7 @@
 //! Instructions of a code, found by halving.
 
-ghost use Rattle.std.specs.Prelude.{◌≡◌, filter, nat_le, nat_lt, false, MatchOption};
+ghost use Rattle.std.specs.Prelude.{◌≡◌, filter, nat_le, nat_lt};
 ghost use Rattle.std.specs.List.Sorted.{IsNonDecreasingBy};
-ghost use Rattle.cil_model.specs.Code.{begins_at};
-ghost use Rattle.stack_typer.specs.LaidOut.{AreLaidOut, BeginsAt};
 
 use cil_model::Instr;
 
@@ -23,12 +21,4 @@ pub(crate) fn before_offset(instrs: &[Instr], at: u32) -> &[Instr]
 {
     let end = instrs.partition_point(|i| i.at < at);
     &instrs[..end]
-}
-
-/// The index of the instruction that begins at an IL offset, if one does.
-pub(crate) fn index_of(instrs: &[Instr], at: u32) -> Option<usize>
-    requires { AreLaidOut instrs.now }
-    ensures { MatchOption result (begins_at instrs.now at ≡ false) (BeginsAt instrs.now at) }
-{
-    instrs.binary_search_by_key(&at, |instr| instr.at).ok()
 }

@@ -1,21 +1,19 @@
 //! Units with their flow graphs and the kinds of their code.
 
 ghost use Rattle.std.specs.Prelude.{◌≡◌, ◌<◌, length, reverse, option_map, IfOk};
-ghost use Rattle.cil_model.specs.Passes.{KindsOf};
-ghost use Rattle.cil_model.specs.Shapes.{shape_of};
 ghost use Rattle.cil_model.specs.WellFormed.{IsWellFormed};
 ghost use Rattle.machine_points.specs.Points.{RunsHaveValues};
 ghost use Rattle.unit_flow.specs.Flow as flow;
 ghost use Rattle.unit_flow.specs.Flow.{IsLawful};
-ghost use Rattle.unit_flow.specs.FlowOf.{flow_of, kinds_of};
+ghost use Rattle.unit_flow.specs.FlowOf.{flow_of};
 ghost use Rattle.unit_flow.specs.Runs.{RunsGoAlong};
 
-use crate::instructions::{before_offset, from_offset, index_of};
-use cc_base::{NoMemory, Refusal};
-use cil_model::{Instr, Kind, Shape, Unit};
+use crate::instructions::{before_offset, from_offset};
+use cc_base::NoMemory;
+use cil_model::{Instr, Kind, Unit, index_of};
 use flow_graph::Graph;
-use stack_typer::{Kinds, type_code};
-use std::alloc::{AllocError, Global};
+use stack_typer::{Kinds, TypedUnit};
+use std::alloc::Global;
 
 /// A unit with its flow graph and the kinds of its code, found once.
 #[derive(Drop)]
@@ -25,59 +23,23 @@ pub struct UnitFlow {
     pub kinds: Kinds,
 }
 
-/// The unit, and the kinds of its code.
-///
-/// What typing depends on besides the code is taken out of the unit for so long, and nothing is copied.
-#[tactic(auto, using(crate::proofs::KindsFound::found_kinds))]
-fn with_kinds(alloc: Global, unit: Unit) -> Result<(Unit, Kinds), NoMemory>
-    requires formed { IsWellFormed unit }
-    ensures unit { IfOk result (λ typed. typed.0 ≡ unit) }
-    ensures right { IfOk result (λ typed. KindsOf (shape_of unit) unit.instrs typed.1) }
-    ensures found { IfOk result (λ typed. typed.1 ≡ kinds_of unit) }
-{
-    let shape = Shape {
-        result: unit.result,
-        args: unit.args,
-        locals: unit.locals,
-        max_stack: u16::from(unit.max_stack),
-        callees: unit.callees,
-    };
-    let kinds = match type_code(alloc, unit.instrs.as_slice(), &shape) {
-        Ok(kinds) => kinds,
-        Err(Refusal::NoMemory) => return Err(AllocError),
-        Err(Refusal::Bad(_)) => unreachable!(),
-    };
-    let unit = Unit {
-        name: unit.name,
-        result: shape.result,
-        args: shape.args,
-        locals: shape.locals,
-        max_stack: unit.max_stack,
-        callees: shape.callees,
-        code: unit.code,
-        clauses: unit.clauses,
-        body_start: unit.body_start,
-        instrs: unit.instrs,
-    };
-    Ok((unit, kinds))
-}
-
 /// The unit, with its graph and its kinds.
-fn make_flow(alloc: Global, unit: Unit) -> Result<UnitFlow, NoMemory>
+#[tactic(auto, using(crate::proofs::KindsFound::found_kinds))]
+fn make_flow(alloc: Global, unit: TypedUnit) -> Result<UnitFlow, NoMemory>
     requires formed { IsWellFormed unit }
     ensures lawful { IfOk result IsLawful }
     ensures value { IfOk result (λ code. code ≡ flow_of unit) }
 {
+    let (unit, kinds) = unit.into_parts();
     let graph = Graph::of(alloc, &unit)?;
-    let (unit, kinds) = with_kinds(alloc, unit)?;
     Ok(UnitFlow { unit, graph, kinds })
 }
 
 impl UnitFlow {
     /// The unit, with its graph and its kinds.
     ///
-    /// `NoMemory` where memory runs out; the unit is then given up. Its time is that of the graph and of the typing.
-    pub fn of(alloc: Global, unit: Unit) -> Result<UnitFlow, NoMemory>
+    /// `NoMemory` where memory runs out; the unit is then given up. Its time is that of the graph.
+    pub fn of(alloc: Global, unit: TypedUnit) -> Result<UnitFlow, NoMemory>
         requires formed { IsWellFormed unit }
         ensures lawful { IfOk result IsLawful }
         ensures unit { IfOk result (λ code. code.unit ≡ unit) }

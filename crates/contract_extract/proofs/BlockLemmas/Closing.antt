@@ -13,6 +13,7 @@ use Rattle.std.proofs.lemmas.Option.{get_or_from_slice_get, slice_get_within}
 use Rattle.cil_model.specs.Blocks.{behind_last_closing, closes}
 use Rattle.cil_model.specs.ClauseTrees.{clause_before, clauses_from, closing, tree_of}
 use Rattle.cil_model.specs.Code.{MeetsStarts}
+use Rattle.cil_model.specs.Limits.{MAX_CLAUSES, MAX_CONDITIONS, MAX_NODES, MAX_OLD_VALUES}
 use Rattle.cil_model.specs.ShortCode.{AreOfShortCode, IsOfShortCode, LieFrom}
 use Rattle.cil_model.specs.Terms.{Term, condition_depth, old_count, term_size}
 use Rattle.cil_model.specs.WellFormed.{ClausesWithinLimits, told_by_code}
@@ -84,17 +85,17 @@ within_more clauses kind tree within small =
     let all = map told_by_code clauses ++ (kind, Some tree) ∷ [] in
     let clause : Clause = record { kind = kind; tree = tree } in
     let parts = neither (is_too_large tree) (are_too_many all) small in
-    let one = neither (nat_lt 4096 (term_size tree)) (nat_lt 10 (condition_depth tree)) parts.0 in
-    let many = neither (nat_lt 16 (length all)) (nat_lt 64 (old_values_in all)) parts.1 in
+    let one = neither (nat_lt MAX_NODES (term_size tree)) (nat_lt MAX_CONDITIONS (condition_depth tree)) parts.0 in
+    let many = neither (nat_lt MAX_CLAUSES (length all)) (nat_lt MAX_OLD_VALUES (old_values_in all)) parts.1 in
     record {
       count = omega (arith, ltb-false _ _ many.0, told_length clauses kind (Some tree), length-append clauses (clause ∷ []));
-      nodes = push_all (λ clause. term_size clause.tree ≤ 4096) clauses clause within.nodes (ltb-false _ _ one.0);
-      conditions = push_all (λ clause. condition_depth clause.tree ≤ 10) clauses clause within.conditions (ltb-false _ _ one.1);
+      nodes = push_all (λ clause. term_size clause.tree ≤ MAX_NODES) clauses clause within.nodes (ltb-false _ _ one.0);
+      conditions = push_all (λ clause. condition_depth clause.tree ≤ MAX_CONDITIONS) clauses clause within.conditions (ltb-false _ _ one.1);
       old_values = omega (arith, ltb-false _ _ many.1, told_olds clauses kind tree, sum_by_push (λ clause. old_count clause.tree) clauses clause);
     }
 
 pub few_olds : (is : List Instr) (start : ℕ) (clauses : List Clause) (olds : ℕ) (kind : ClauseKind) (tree : Term) (more : ℕ) → ClausesWithinLimits clauses → olds ≡ olds_of clauses
-    → ReadWithin is start clauses kind (Some (tree, more)) → olds + more ≤ 64
+    → ReadWithin is start clauses kind (Some (tree, more)) → olds + more ≤ MAX_OLD_VALUES
 few_olds is start clauses olds kind tree more within counted (made, count, small) =
     let clause : Clause = record { kind = kind; tree = tree } in
     let all = within_more clauses kind tree within (ap (λ t. passes_limit (map told_by_code clauses ++ (kind, t) ∷ []) t) (sym made) ∙ small) in

@@ -1,9 +1,10 @@
 -- The first of faults: it does not depend on their order, nor on how often one of them stands there.
-use Rattle.std.proofs.Common.{◌≡◌, ℕ, ◌+◌, ◌*◌, ◌<◌, ◌≤◌, ◌==◌, min, Bool, true, false, ◌&&◌, ◌||◌, List, [], ◌∷◌, ◌++◌, Option, Some, None, refl, sym, ap, ◌∙◌, arith, lit<, if◌then◌else◌}
+use Rattle.std.proofs.Common.{◌≡◌, ℕ, ◌+◌, ◌*◌, ◌<◌, ◌≤◌, ◌==◌, min, Bool, true, false, ◌&&◌, ◌||◌, List, [], ◌∷◌, ◌++◌, length, get_or, take, Option, Some, None, refl, sym, ap, ◌∙◌, arith, lit<, if◌then◌else◌}
 use Rattle.std.specs.Prelude.{nat_lt}
 use Rattle.std.specs.List.{flat_map, list_any}
 use Rattle.std.proofs.lemmas.Bool.Decides.{nat_tests}
 use Rattle.std.proofs.lemmas.Bool.{cond_both}
+use Rattle.std.proofs.lemmas.Grind.{take_at_read}
 use Rattle.contract_extract.specs.Faults.{comes_before, earlier, fault_at, fault_if, fault_rank, first_fault}
 use Rattle.contract_extract.specs.SharedStacks.{either, least}
 use Rattle.contract_extract.specs.declared.faults.clause_fault.ClauseFault.{ClauseFault}
@@ -102,6 +103,11 @@ module _ {X : Type 0} where
   pub least-append : (f : X → Option ClauseFault) (xs ys : List X) → least f (xs ++ ys) ≡ either (least f xs) (least f ys)
   least-append f [] ys = refl
   least-append f (x ∷ xs) ys = ap (either (f x)) (least-append f xs ys) ∙ sym (either-assoc (f x) (least f xs) (least f ys))
+
+  -- The first of one more.
+  pub least-next : (f : X → Option ClauseFault) (xs : List X) (i : ℕ) (d : X) → i < length xs → least f (take (i + 1) xs) ≡ either (least f (take i xs)) (f (get_or xs i d))
+  least-next f xs i d within =
+      ap (least f) (take_at_read xs i d within).1 ∙ least-append f (take i xs) (get_or xs i d ∷ []) ∙ ap (either (least f (take i xs))) (either-none (f (get_or xs i d)))
 
   pub least-either : (f g : X → Option ClauseFault) (xs : List X) → least (λ x. either (f x) (g x)) xs ≡ either (least f xs) (least g xs)
   least-either f g [] = refl

@@ -6,6 +6,7 @@ use Rattle.std.proofs.lemmas.Bool.{lt-ltb, le-ltb}
 use Rattle.std.proofs.lemmas.List.{length-map}
 use Rattle.std.proofs.lemmas.List.Sums.{sum_by-cons}
 use Rattle.cil_model.specs.ClauseTrees.{tree_of}
+use Rattle.cil_model.specs.Limits.{MAX_CLAUSES, MAX_OLD_VALUES}
 use Rattle.cil_model.specs.Terms.{Term, old_count}
 use Rattle.cil_model.specs.WellFormed.{told_by_code}
 use Rattle.cil_model.specs.declared.clause.Clause.{Clause}
@@ -45,35 +46,35 @@ told_with : (is : List Instr) (start : ℕ) (clauses : List Clause) (kind : Clau
     → passes_limit (map told_by_code clauses ++ (kind, tree) ∷ []) tree ≡ true → ReadWithin is start clauses kind None
 told_with is start clauses kind tree made passes = rw made passes
 
-too_many_of : (clauses : List Clause) (kind : ClauseKind) (tree : Option Term) → 16 ≤ length clauses → passes_limit (map told_by_code clauses ++ (kind, tree) ∷ []) tree ≡ true
+too_many_of : (clauses : List Clause) (kind : ClauseKind) (tree : Option Term) → MAX_CLAUSES ≤ length clauses → passes_limit (map told_by_code clauses ++ (kind, tree) ∷ []) tree ≡ true
 too_many_of clauses kind tree many =
     let all = map told_by_code clauses ++ (kind, tree) ∷ [] in
-    let count : nat_lt 16 (length all) ≡ true = lt-ltb 16 (length all) (omega (arith, many, told_length clauses kind tree)) in
-    either_true (option_map_or is_too_large tree false) (are_too_many all) (first_true (nat_lt 16 (length all)) (nat_lt 64 (old_values_in all)) count)
+    let count : nat_lt MAX_CLAUSES (length all) ≡ true = lt-ltb MAX_CLAUSES (length all) (omega (arith, many, told_length clauses kind tree)) in
+    either_true (option_map_or is_too_large tree false) (are_too_many all) (first_true (nat_lt MAX_CLAUSES (length all)) (nat_lt MAX_OLD_VALUES (old_values_in all)) count)
 
-pub too_many : (is : List Instr) (start : ℕ) (clauses : List Clause) (kind : ClauseKind) → 16 ≤ length clauses → ReadWithin is start clauses kind None
+pub too_many : (is : List Instr) (start : ℕ) (clauses : List Clause) (kind : ClauseKind) → MAX_CLAUSES ≤ length clauses → ReadWithin is start clauses kind None
 too_many is start clauses kind many = told_with is start clauses kind (tree_of is start) refl (too_many_of clauses kind (tree_of is start) many)
 
-too_old_of : (clauses : List Clause) (kind : ClauseKind) (tree : Term) → 64 < olds_of clauses + old_count tree → passes_limit (map told_by_code clauses ++ (kind, Some tree) ∷ []) (Some tree) ≡ true
+too_old_of : (clauses : List Clause) (kind : ClauseKind) (tree : Term) → MAX_OLD_VALUES < olds_of clauses + old_count tree → passes_limit (map told_by_code clauses ++ (kind, Some tree) ∷ []) (Some tree) ≡ true
 too_old_of clauses kind tree old =
     let all = map told_by_code clauses ++ (kind, Some tree) ∷ [] in
-    let count : nat_lt 64 (old_values_in all) ≡ true = lt-ltb 64 (old_values_in all) (omega (arith, old, told_olds clauses kind tree)) in
-    either_true (is_too_large tree) (are_too_many all) (either_true (nat_lt 16 (length all)) (nat_lt 64 (old_values_in all)) count)
+    let count : nat_lt MAX_OLD_VALUES (old_values_in all) ≡ true = lt-ltb MAX_OLD_VALUES (old_values_in all) (omega (arith, old, told_olds clauses kind tree)) in
+    either_true (is_too_large tree) (are_too_many all) (either_true (nat_lt MAX_CLAUSES (length all)) (nat_lt MAX_OLD_VALUES (old_values_in all)) count)
 
-pub too_old : (is : List Instr) (start : ℕ) (clauses : List Clause) (kind : ClauseKind) (tree : Term) → tree_of is start ≡ Some tree → 64 < olds_of clauses + old_count tree
+pub too_old : (is : List Instr) (start : ℕ) (clauses : List Clause) (kind : ClauseKind) (tree : Term) → tree_of is start ≡ Some tree → MAX_OLD_VALUES < olds_of clauses + old_count tree
     → ReadWithin is start clauses kind None
 too_old is start clauses kind tree made old = told_with is start clauses kind (Some tree) made (too_old_of clauses kind tree old)
 
-in_limits_of : (clauses : List Clause) (kind : ClauseKind) (tree : Term) → is_too_large tree ≡ false → length clauses < 16 → olds_of clauses + old_count tree ≤ 64
+in_limits_of : (clauses : List Clause) (kind : ClauseKind) (tree : Term) → is_too_large tree ≡ false → length clauses < MAX_CLAUSES → olds_of clauses + old_count tree ≤ MAX_OLD_VALUES
     → passes_limit (map told_by_code clauses ++ (kind, Some tree) ∷ []) (Some tree) ≡ false
 in_limits_of clauses kind tree small few new =
     let all = map told_by_code clauses ++ (kind, Some tree) ∷ [] in
-    let count : nat_lt 16 (length all) ≡ false = le-ltb 16 (length all) (omega (arith, few, told_length clauses kind (Some tree))) in
-    let olds : nat_lt 64 (old_values_in all) ≡ false = le-ltb 64 (old_values_in all) (omega (arith, new, told_olds clauses kind tree)) in
-    both_false (is_too_large tree) (are_too_many all) small (both_false (nat_lt 16 (length all)) (nat_lt 64 (old_values_in all)) count olds)
+    let count : nat_lt MAX_CLAUSES (length all) ≡ false = le-ltb MAX_CLAUSES (length all) (omega (arith, few, told_length clauses kind (Some tree))) in
+    let olds : nat_lt MAX_OLD_VALUES (old_values_in all) ≡ false = le-ltb MAX_OLD_VALUES (old_values_in all) (omega (arith, new, told_olds clauses kind tree)) in
+    both_false (is_too_large tree) (are_too_many all) small (both_false (nat_lt MAX_CLAUSES (length all)) (nat_lt MAX_OLD_VALUES (old_values_in all)) count olds)
 
-pub in_limits : (is : List Instr) (start : ℕ) (clauses : List Clause) (kind : ClauseKind) (tree : Term) → tree_of is start ≡ Some tree → is_too_large tree ≡ false → length clauses < 16
-    → olds_of clauses + old_count tree ≤ 64 → ReadWithin is start clauses kind (Some (tree, old_count tree))
+pub in_limits : (is : List Instr) (start : ℕ) (clauses : List Clause) (kind : ClauseKind) (tree : Term) → tree_of is start ≡ Some tree → is_too_large tree ≡ false → length clauses < MAX_CLAUSES
+    → olds_of clauses + old_count tree ≤ MAX_OLD_VALUES → ReadWithin is start clauses kind (Some (tree, old_count tree))
 in_limits is start clauses kind tree made small few new = (made, refl, rw made (in_limits_of clauses kind tree small few new))
 
 pub ruleset limits = (too_large, too_many, too_old, in_limits)

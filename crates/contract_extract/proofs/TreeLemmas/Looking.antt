@@ -6,6 +6,7 @@ use Rattle.std.proofs.lemmas.Bool.{cases_lt, cases_order, eq-eqb, ne_eqb}
 use Rattle.std.proofs.lemmas.List.{get_or-set_other, get_or-set_same, length-map, length-set}
 use Rattle.std.proofs.lemmas.Option.{none-some, same_Some}
 use Rattle.cil_model.specs.ClauseTrees.{Item, Tree, Message, closed_by, closing, items_behind, tree_at}
+use Rattle.cil_model.specs.Offsets.{StandsAt}
 use Rattle.cil_model.specs.Runs.{instr_at}
 use Rattle.cil_model.specs.Terms.{Term}
 use Rattle.cil_model.specs.UnitCalls.{unit_call}
@@ -18,7 +19,7 @@ use Rattle.cil_model.specs.declared.unit_numbers.UnitCall.{UnitCall}
 use Rattle.cil_model.specs.declared.unit_numbers.UnitCall.TheVariants as calls
 use Rattle.cil_model.specs.ShortCode.{AreOfShortCode, IsOfShortCode, LieFrom}
 use Rattle.contract_extract.specs.Dropping.{AreAhead, AreFirstOwn, IsAheadOf, IsBelow, IsWithin, Leads, LiesAhead, Spares, Works, ahead_at, behind, call_takes, cut, makes, message_dropped, nothing, own_ahead, takes, without}
-use Rattle.contract_extract.specs.Growth.{FoundAt, Keeps, forward, idle_to, jump_of, onward, tree_here}
+use Rattle.contract_extract.specs.Growth.{Keeps, forward, idle_to, jump_of, onward, tree_here}
 use Rattle.contract_extract.specs.declared.trees.ahead.Ahead.{Ahead}
 use Rattle.contract_extract.specs.declared.trees.dropped.Dropped.{Dropped}
 use Rattle.contract_extract.proofs.TreeLemmas.Cutting.{others_behind}
@@ -53,14 +54,14 @@ pub record Place (is : List Instr) (at k : ℕ) : Type 0 where
   pub there : slice_get is k ≡ Some instr
   pub here : instr.at ≡ at
 
-pub place : (is : List Instr) (at k : ℕ) → FoundAt is at k → Place is at k
+pub place : (is : List Instr) (at k : ℕ) → StandsAt is at k → Place is at k
 place is at k found = by (slice_get is k) refl
   where
     by : (o : Option Instr) → slice_get is k ≡ o → Place is at k
     by None e = absurd (some_within is k found.within e)
-    by (Some i) e = record { instr = i; there = e; here = found_at is at i (sym found.found ∙ e) }
+    by (Some i) e = record { instr = i; there = e; here = found_at is at i (found.found ∙ e) }
 
-pub ahead_found : (is : List Instr) (ahead : List Ahead) (at k : ℕ) → AreOfShortCode is → length ahead ≡ length is → FoundAt is at k
+pub ahead_found : (is : List Instr) (ahead : List Ahead) (at k : ℕ) → AreOfShortCode is → length ahead ≡ length is → StandsAt is at k
     → ahead_at is ahead at ≡ slice_index_or ahead k at_none
 ahead_found is ahead at k short long found =
     let p = place is at k found in
@@ -76,7 +77,7 @@ ahead_nowhere (i ∷ is) (a ∷ ahead) at none = by (i.at == at) none (ahead_now
     by true e rest = absurd (none-some i (sym e))
     by false e rest = rest e
 
-pub dropped_found : (is : List Instr) (ahead : List Ahead) (at k : ℕ) → AreOfShortCode is → length ahead ≡ length is → FoundAt is at k
+pub dropped_found : (is : List Instr) (ahead : List Ahead) (at k : ℕ) → AreOfShortCode is → length ahead ≡ length is → StandsAt is at k
     → (slice_index_or ahead k at_none).dropped ≡ (ahead_at is ahead at).dropped
 dropped_found is ahead at k short long found = sym (ap (λ (a : Ahead). a.dropped) (ahead_found is ahead at k short long found))
 
@@ -116,7 +117,7 @@ settled_by is ahead i here own lies = record {
       keeps = keeps_same (forward is i.at items) (forward is here.works_at items) (ap (λ (n : ℕ). forward is n items) same);
     }
 
-pub settled_at : (is : List Instr) (ahead : List Ahead) (at k : ℕ) (here : Ahead) → AreOfShortCode is → AreAhead is ahead → FoundAt is at k
+pub settled_at : (is : List Instr) (ahead : List Ahead) (at k : ℕ) (here : Ahead) → AreOfShortCode is → AreAhead is ahead → StandsAt is at k
     → slice_index_or ahead k at_none ≡ here → Settled is (ahead_at is ahead) at here
 settled_at is ahead at k here short all found e =
     let p = place is at k found in

@@ -4,9 +4,10 @@ use Rattle.std.specs.List.{flat_map}
 use Rattle.std.proofs.lemmas.List.{length-replicate}
 use Rattle.std.proofs.lemmas.Option.{slice_get-get_or, none-some, same_Some}
 use Rattle.cil_model.proofs.Lists.{all_drop}
+use Rattle.cil_model.specs.Offsets.{RiseFrom}
 use Rattle.cil_model.specs.declared.instruction.Instr.{Instr}
 use Rattle.cil_model.specs.declared.shape.Shape.{Shape}
-use Rattle.contract_extract.specs.ClauseLies.{IsClauseIn, LiesFrom, RiseFrom}
+use Rattle.contract_extract.specs.ClauseLies.{IsClauseIn, LiesFrom}
 use Rattle.contract_extract.specs.Faults.{code_faults, faults_of, first_fault}
 use Rattle.contract_extract.specs.PassedInstr.{IsPassed}
 use Rattle.contract_extract.specs.SharedStacks.{AreGrounded, Stacks, arrivals_at, either, least, least_over}

@@ -5,12 +5,13 @@ use Rattle.std.specs.Option.{option_map_or}
 use Rattle.std.proofs.lemmas.Bool.{eq-eqb, ne_eqb, cases_eq}
 use Rattle.std.proofs.lemmas.List.{length-drop, length-take}
 use Rattle.std.proofs.lemmas.Option.{get_or_from_slice_get, slice_get-get_or, none-some, same_Some, slice_get_within}
+use Rattle.cil_model.specs.Offsets.{RiseFrom}
 use Rattle.cil_model.specs.Runs.{instr_at}
 use Rattle.cil_model.specs.declared.instruction.Instr.{Instr}
 use Rattle.cil_model.specs.declared.shape.Shape.{Shape}
-use Rattle.contract_extract.specs.ClauseLies.{IsClauseCode, IsClauseIn, RiseFrom, clause_faults, code_between}
+use Rattle.cil_model.proofs.OffsetSearch.{rise_at}
+use Rattle.contract_extract.specs.ClauseLies.{IsClauseCode, IsClauseIn, clause_faults, code_between}
 use Rattle.contract_extract.specs.Faults.{code_faults, first_fault}
-use Rattle.contract_extract.proofs.WayLemmas.Finding.{rise_at}
 use Rattle.contract_extract.proofs.WayLemmas.Lying.{rise_drop, rise_take, rises}
 use Rattle.contract_extract.proofs.WayLemmas.Walks.{none_below}
 

@@ -2,9 +2,10 @@
 use Rattle.std.proofs.Common.{◌≡◌, ℕ, zero, suc, ◌+◌, ◌<◌, ◌≤◌, ◌==◌, ◌^◌, true, false, List, [], ◌∷◌, take, drop, Some, slice_get, refl, ap, add-one, arith}
 use Rattle.std.proofs.lemmas.Bool.{ne_eqb, eq-eqb}
 use Rattle.std.proofs.lemmas.Option.{none-some, same_Some}
+use Rattle.cil_model.specs.Offsets.{RiseFrom}
 use Rattle.cil_model.specs.Runs.{instr_at}
 use Rattle.cil_model.specs.declared.instruction.Instr.{Instr}
-use Rattle.contract_extract.specs.ClauseLies.{LieFrom, LieInOrder, RiseFrom}
+use Rattle.contract_extract.specs.ClauseLies.{LieFrom, LieInOrder}
 use Rattle.contract_extract.proofs.WayLemmas.Walks.{rise_higher}
 
 not_below : (start : ℕ) (is : List Instr) (k : ℕ) (i : Instr) → LieFrom start is → slice_get is k ≡ Some i → start ≤ i.at

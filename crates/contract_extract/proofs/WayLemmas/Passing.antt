@@ -3,10 +3,10 @@ use Rattle.std.proofs.Common.{◌≡◌, ℕ, suc, ◌+◌, ◌<◌, ◌≤◌, 
 use Rattle.std.specs.Prelude.{nat_lt, nat_le, ◌⊎◌}
 use Rattle.std.specs.List.{AllByRecursion}
 use Rattle.std.proofs.lemmas.Bool.{and_cases, eq-eqb, ne_eqb, ltb-false, leb-false}
+use Rattle.cil_model.specs.Offsets.{RiseFrom}
 use Rattle.cil_model.specs.declared.instruction.Instr.{Instr}
 use Rattle.cil_model.specs.declared.shape.Shape.{Shape}
 use Rattle.contract_extract.specs.ClauseCodes.{goes_forward}
-use Rattle.contract_extract.specs.ClauseLies.{RiseFrom}
 use Rattle.contract_extract.specs.Faults.{faults_of, first_fault}
 use Rattle.contract_extract.specs.PassedInstr.{IsPassed, arrived_fault, passed_arrivals}
 use Rattle.contract_extract.specs.SharedStacks.{Stacks, arrivals_at, either, least, least_over}

@@ -4,10 +4,10 @@ use Rattle.std.specs.Prelude.{nat_lt, ◌⊎◌}
 use Rattle.std.specs.List.{AllByRecursion}
 use Rattle.std.proofs.lemmas.Bool.{cases_eq, eqb-true, le-ltb, lt-ltb, and_parts, ltb-true}
 use Rattle.cil_model.proofs.Lists.{all_append}
+use Rattle.cil_model.specs.Offsets.{RiseFrom}
 use Rattle.cil_model.specs.declared.instruction.Instr.{Instr}
 use Rattle.cil_model.specs.declared.shape.Shape.{Shape}
 use Rattle.contract_extract.specs.ClauseCodes.{goes_forward}
-use Rattle.contract_extract.specs.ClauseLies.{RiseFrom}
 use Rattle.contract_extract.specs.Faults.{first_fault}
 use Rattle.contract_extract.specs.PassedInstr.{AreGatheredAt, AreSent, AreSentTo, is_sent_to}
 use Rattle.contract_extract.specs.SharedStacks.{AreGrounded, AreOrdered, IsGrounded, Stacks, arrivals_at, either, least, least_of, least_over}

@@ -5,11 +5,11 @@ use Rattle.std.specs.List.{flat_map}
 use Rattle.std.proofs.lemmas.Bool.{and_parts, eq-eqb, ltb-true, leb-true, ne_eqb, cases_order}
 use Rattle.cil_model.specs.Blocks.{closes}
 use Rattle.cil_model.specs.Kinds.{operand_count}
+use Rattle.cil_model.specs.Offsets.{RiseFrom}
 use Rattle.cil_model.specs.Runs.{instr_at}
 use Rattle.cil_model.specs.declared.instruction.Instr.{Instr}
 use Rattle.cil_model.specs.declared.shape.Shape.{Shape}
 use Rattle.contract_extract.specs.ClauseCodes.{goes_forward}
-use Rattle.contract_extract.specs.ClauseLies.{RiseFrom}
 use Rattle.contract_extract.specs.Faults.{first_fault}
 use Rattle.contract_extract.specs.PureCode.{is_pure}
 use Rattle.contract_extract.specs.SharedStacks.{either}

@@ -10,10 +10,9 @@ ghost use Rattle.contract_extract.specs.Dropping.{AreAhead, IsAheadOf, LiesAhead
 ghost use Rattle.contract_extract.specs.Growth.{idle_to, jump_of};
 ghost use Rattle.contract_extract.specs.declared.trees.ahead.Ahead.{Ahead};
 
-use crate::offsets::index_of;
 use crate::trees::dropped::{Dropped, NOTHING, below, both, makes, takes};
 use crate::trees::stretch::{closing_message, jump, later_than};
-use cil_model::{Instr, Op, Test};
+use cil_model::{Instr, Op, Test, index_of};
 use std::alloc::{AllocError, Global};
 
 /// What lies ahead of an instruction.
@@ -40,6 +39,7 @@ fn own_ahead(instr: &Instr) -> Ahead
 }
 
 /// Returns what lies ahead of a later IL offset, where an instruction begins there.
+#[tactic(auto, using(crate::proofs::TreeLemmas::Rising::short_rise))]
 fn ahead_at(instrs: &[Instr], ahead: &[Ahead], at: u32, later: u32) -> Option<Ahead>
     requires lie { AreOfShortCode instrs.now }
     requires long { length ahead.now ≡ length instrs.now }

@@ -7,7 +7,7 @@ ghost use Rattle.contract_extract.specs.Growth.{forked, is_full, IsLeft};
 ghost use Rattle.contract_extract.specs.TreeStacks.{slots_tested, top_tested};
 
 use crate::trees::limits::Limits;
-use crate::trees::tree_parts::room_beside;
+use crate::trees::tree_counts::room_beside;
 use crate::trees::tree_stack::{Pair, Slot, TreeStack, take_two};
 use cil_model::{BinOp, CmpOp, Node, Test, Tree};
 use std::alloc::{AllocError, Global};

@@ -10,11 +10,10 @@ ghost use Rattle.contract_extract.specs.TreeStacks.{IsFromNext, IsFromWorking, S
 ghost use Rattle.contract_extract.specs.declared.trees.dropped.Dropped.{Dropped};
 ghost use Rattle.contract_extract.specs.declared.trees.tree_stack.Slot.{Slot};
 
-use crate::offsets::index_of;
 use crate::trees::ahead::Ahead;
 use crate::trees::dropped::{Dropped, NOTHING, drop_values};
 use crate::trees::tree_stack::{TreeStack, apply};
-use cil_model::{Instr, Op, Test, UnitCall, unit_call};
+use cil_model::{Instr, Op, Test, UnitCall, index_of, unit_call};
 use std::alloc::{AllocError, Global};
 
 /// Returns whether the call that closes a clause takes a message, if the operation is such a call.
@@ -86,6 +85,7 @@ fn step(alloc: Global, instr: &Instr, stack: &mut TreeStack) -> Result<Option<u3
 }
 
 /// The first instruction from an IL offset on that makes a part of the tree or ends a way, if there is one.
+#[tactic(auto, using(crate::proofs::TreeLemmas::Rising::short_rise))]
 fn find_working<'a>(instrs: &'a [Instr], ahead: &[Ahead], at: u32) -> Option<Working<'a>>
     requires lie { AreOfShortCode instrs.now }
     requires ahead { AreAhead instrs.now ahead.now }
@@ -104,7 +104,7 @@ fn find_working<'a>(instrs: &'a [Instr], ahead: &[Ahead], at: u32) -> Option<Wor
 }
 
 /// Returns what is dropped of the stacks that come to an IL offset.
-#[tactic(auto, using(crate::proofs::TreeLemmas::Looking::dropped_found, crate::proofs::TreeLemmas::Looking::dropped_nowhere))]
+#[tactic(auto, using(crate::proofs::TreeLemmas::Rising::short_rise, crate::proofs::TreeLemmas::Looking::dropped_found, crate::proofs::TreeLemmas::Looking::dropped_nowhere))]
 fn dropped_at(instrs: &[Instr], ahead: &[Ahead], at: u32) -> Dropped
     requires lie { AreOfShortCode instrs.now }
     requires long { length ahead.now ≡ length instrs.now }

@@ -6,7 +6,6 @@ ghost use Rattle.cil_model.specs.Terms as terms;
 ghost use Rattle.contract_extract.specs.TreeStacks.{kept, left_if, over_one, over_two, pair_root, single_root, slots_behind, slots_called, under_tree};
 ghost use Rattle.contract_extract.specs.declared.trees.tree_stack.Slot.TheVariants as slots;
 
-use crate::trees::tree_parts;
 use cil_model::{BinOp, MAX_NODES, Node, Op, Place, Tree, UnOp, UnitCall, unit_call};
 use std::alloc::{AllocError, Global};
 use std::collections::VecDeque;
@@ -186,7 +185,7 @@ fn copied_counted(alloc: Global, a: &Counted) -> Result<Counted, AllocError>
     ensures { IfOk result (λ copy. copy ≡ a.now) }
 {
     Ok(Counted {
-        tree: Box::into_inner(tree_parts::copied(alloc, &a.tree)?),
+        tree: a.tree.copy(alloc)?,
         nodes: a.nodes,
     })
 }

@@ -1,10 +1,10 @@
 //! A clause's code, passed once from its start to its closing call.
 
-ghost use Rattle.std.specs.Prelude.{◌≡◌, ◌+◌, ◌^◌, ◌<◌, ◌==◌, ℕ, ◌&&◌, not, false, length, slice_get, IfOk, IfSome, OnOk, Some};
-ghost use Rattle.std.specs.Option.{option_map_or};
-ghost use Rattle.contract_extract.specs.ClauseLies.{LieInOrder, LiesFrom, RiseFrom};
-ghost use Rattle.contract_extract.specs.PassedInstr.{AreGatheredAt, AreSent, AreSentTo, IsPassed, arrived_fault, closing_fault, lacking_fault, old_call_fault, old_op_fault, taking_fault};
+ghost use Rattle.std.specs.Prelude.{◌≡◌, ◌+◌, ◌^◌, ◌<◌, ◌&&◌, not, length, slice_get, IfOk, OnOk, Some};
 ghost use Rattle.cil_model.specs.Blocks.{closes};
+ghost use Rattle.cil_model.specs.Offsets.{RiseFrom};
+ghost use Rattle.contract_extract.specs.ClauseLies.{LieInOrder, LiesFrom};
+ghost use Rattle.contract_extract.specs.PassedInstr.{AreGatheredAt, AreSent, AreSentTo, IsPassed, arrived_fault, closing_fault, lacking_fault, old_call_fault, old_op_fault, taking_fault};
 ghost use Rattle.contract_extract.specs.PureCode.{is_pure};
 ghost use Rattle.contract_extract.specs.SharedStacks.{arrivals_at, least, old_fault};
 ghost use Rattle.contract_extract.specs.Ways.{old_faults, ways_behind};
@@ -20,18 +20,8 @@ use crate::ways::behind::behind;
 use crate::ways::gather::gathered;
 use crate::ways::hints::Hints;
 use crate::ways::made_values::misfits;
-use cil_model::{Instr, Op, Place, Shape, Test, UnitCall, operand_count, unit_call};
+use cil_model::{Instr, Op, Place, Shape, Test, UnitCall, index_of, operand_count, unit_call};
 use std::alloc::{AllocError, Global};
-
-/// The index of the instruction at an IL offset, if there is one. It is found by halving.
-fn index_of(code: &[Instr], at: u32) -> Option<usize>
-    requires { RiseFrom 0 code.now }
-    ensures bound { IfSome result (λ index. index < length code.now) }
-    ensures found { (other : ℕ) →
-        option_map_or (λ i. i.at == at) (slice_get code.now other) false ≡ option_map_or (λ index. index == other) result false }
-{
-    code.binary_search_by_key(&at, |instr| instr.at).ok()
-}
 
 /// Brings arrivals to what stands at an IL offset, where that lies after the instruction of this index.
 fn send(

@@ -1,4 +1,5 @@
 use Rattle.std.proofs.Common.{◌≡◌, ◌≤◌, List, true, length, ap, sym, ◌∙◌, arith}
+use Rattle.cil_model.specs.Calls.{clauses_in_force}
 use Rattle.cil_model.specs.Limits.{MAX_VARIABLES}
 use Rattle.cil_model.specs.declared.place.Place.{Place}
 use Rattle.cil_eval.specs.Given.{args_fit}
@@ -21,5 +22,5 @@ put_values_of-requires-clause-room c =
 pub false_requires-requires-clause-clauses : goal.false_requires-requires-clause-clauses
 false_requires-requires-clause-clauses c =
     let runs = runnable c.args.world.now c.args.index c.in-Some.unit.now c.requires.runnable c.in-Some.ensures in
-    let many : length c.as_slice-2.result.now ≡ length c.in-Some.unit.now.clauses = ap length c.as_slice-2.ensures in
+    let many : length c.clauses_in_force.result.now ≡ length (clauses_in_force c.in-Some.unit.now) = ap length c.clauses_in_force.ensures in
     omega (arith, many, runs.clauses)

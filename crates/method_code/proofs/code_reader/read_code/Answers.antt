@@ -1,13 +1,12 @@
-use Rattle.std.proofs.Common.{map, ap, ◌∙◌, subst}
+use Rattle.std.proofs.Common.{◌∙◌, subst}
 use Rattle.cc_base.specs.Tests.{Judges}
 use Rattle.contract_extract.specs.Extracting.{AreContracts}
 use Rattle.contract_extract.specs.Faults.{first_clause_fault}
-use Rattle.method_code.specs.Reading.{as_token}
 use Rattle.method_code.proofs.ReadCodes.{code_read}
 use Rattle.method_code.proofs.code_reader.read_code.Goals as goal
 
 pub returns : goal.returns
-returns c =
+returns g c =
     let is = c.in_ok-numbered.numbered.instrs.items in
     let found = c.in_ok-contracts.contracts in
     let shape = c.in_ok-shape.shape in
@@ -16,7 +15,7 @@ returns c =
     record {
       judged = (
         c.in_ok-numbered.ensures.judged.0,
-        code_read c.args.assembly.now c.args.method.now c.args.code.now is shape _ c.in_ok-numbered.ensures.decoded c.in_ok-numbered.ensures.judged.1 c.from_vec-2.ensures c.in_ok-shape.ensures
-            (c.from_vec.ensures ∙ c.in_ok-tokens.ensures ∙ ap (map as_token) c.in_ok-numbered.ensures.callees) judged c.in_ok-contracts.ensures.limits c.are_numbers-are_numbers.ensures,
+        code_read (g.T.Tokens.meaning c.args.tokens.now) c.args.method.now c.args.code.now is shape _ c.in_ok-numbered.ensures.decoded c.in_ok-numbered.ensures.judged.1 c.from_vec-2.ensures c.in_ok-shape.ensures
+            (c.from_vec.ensures ∙ c.in_ok-from_slice.ensures.items ∙ c.keys.ensures ∙ c.in_ok-numbered.ensures.callees) judged c.in_ok-contracts.ensures.limits c.are_numbers-are_numbers.ensures,
       );
     }

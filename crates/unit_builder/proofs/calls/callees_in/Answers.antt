@@ -12,4 +12,4 @@ pub returns-clause-value : goal.returns-clause-value
 returns-clause-value c = λ unit analysed.
     let read = analysed_code c.args.assembly.now c.args.method.now unit analysed in
     let same = c.callees.ensures c.args.assembly.now c.args.method.now c.in_ok-read.ensures.told read.faultless in
-    subst (λ ts. IfOk c.from_slice.result (λ tokens. tokens.items ≡ ts)) same c.from_slice.ensures.items
+    subst (λ ts. IfOk c.tokens_of.result (λ tokens. tokens.items ≡ ts)) same c.tokens_of.ensures

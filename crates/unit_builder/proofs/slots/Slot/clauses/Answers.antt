@@ -1,3 +1,4 @@
+use Rattle.unit_builder.specs.Meanings.{meaning_of}
 use Rattle.unit_builder.proofs.SlotFacts.{code_kept, no_code_clauses}
 use Rattle.unit_builder.proofs.slots.Slot.clauses.Goals as goal
 
@@ -6,4 +7,4 @@ returns-in-Unread c asm method told = no_code_clauses asm method c.args.self.now
 
 pub returns-in-Whole : goal.returns-in-Whole
 returns-in-Whole c asm method told =
-    let kept = code_kept asm method c.args.self.now c.in-Whole.code c.in-Whole.is told in c.clauses.ensures.known asm method kept.0 kept.1
+    let kept = code_kept asm method c.args.self.now c.in-Whole.code c.in-Whole.is told in c.clauses.ensures.known (meaning_of asm) asm method kept.0 kept.1
