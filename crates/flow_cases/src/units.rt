@@ -6,9 +6,9 @@ ghost use Rattle.unit_flow.specs.Flow.{IsLawful};
 
 use case_reader::bytes_of_hex;
 use cc_base::Refusal;
-use cil_model::Unit;
 use method_unit::read_unit;
 use rule_text::Failure;
+use stack_typer::TypedUnit;
 use std::alloc::Global;
 use unit_flow::UnitFlow;
 
@@ -21,7 +21,7 @@ pub struct KnownUnit {
 }
 
 /// The unit that these bytes spell.
-fn read_bytes(alloc: Global, bytes: &[u8]) -> Result<Unit, Failure>
+fn read_bytes(alloc: Global, bytes: &[u8]) -> Result<TypedUnit, Failure>
     ensures { IfOk result IsUnit }
 {
     if bytes.len() > 2_147_483_647 {
