@@ -4,8 +4,6 @@
 #![tactic(auto)]
 
 mod rules;
-mod state_answers;
-mod state_steps;
 
 use rule_text::run_files;
 use rules::AbsRules;

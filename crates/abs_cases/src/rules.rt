@@ -1,6 +1,5 @@
 //! The rules, by the keywords of cases.
 
-use crate::{state_answers, state_steps};
 use abs_state::AbsState;
 use rule_text::{Failure, Line, Rules};
 use state_text::state;

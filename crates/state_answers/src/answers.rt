@@ -1,11 +1,11 @@
 //! The rules that tell something of a state.
 
-use crate::state_steps::{read_count, read_operator};
 use abs_state::AbsState;
 use domain_api::Lattice;
 use fact_text::{expr, nullness_name, reference, symbol};
 use rule_text::{
-    Failure, append_number, append_wide_range, asked, check, check_yes, three_words, two_words,
+    Failure, append_number, append_wide_range, asked, check, check_yes, operator, three_words,
+    two_words,
 };
 use state_text::{
     append_value, are_alike, has_number, has_reference, has_symbol, parts, reached, state,
@@ -78,7 +78,8 @@ pub fn ends(alloc: Global, state: &AbsState, argument: &str) -> Result<(), Failu
 pub fn exact(alloc: Global, state: &AbsState, argument: &str) -> Result<(), Failure> {
     let (question, told) = asked(argument)?;
     let (op, a, b) = three_words(question)?;
-    let (op, a, b) = (read_operator(op)?, expr(a)?, expr(b)?);
+    let op = operator(op).ok_or(Failure::Unread("an operator"))?;
+    let (a, b) = (expr(a)?, expr(b)?);
     reached(state)?;
     has_number(alloc, state, a)?;
     has_number(alloc, state, b)?;
@@ -120,7 +121,9 @@ pub fn length(alloc: Global, state: &AbsState, argument: &str) -> Result<(), Fai
 /// `variable 0 = s1+2`: what a variable has.
 pub fn variable(alloc: Global, state: &AbsState, argument: &str) -> Result<(), Failure> {
     let (i, told) = asked(argument)?;
-    let i = read_count(i)?;
+    let Ok(i) = i.parse::<u32>() else {
+        return Err(Failure::Unread("a number of a variable"));
+    };
     if u64::from(i) >= state.var_count() {
         return Err(Failure::Unmet("the variable is there"));
     }

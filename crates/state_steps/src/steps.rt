@@ -12,7 +12,7 @@ use state_text::{
 use std::alloc::Global;
 
 /// The operator of a word.
-pub fn read_operator(word: &str) -> Result<BinOp, Failure> {
+fn read_operator(word: &str) -> Result<BinOp, Failure> {
     operator(word).ok_or(Failure::Unread("an operator"))
 }
 
@@ -22,7 +22,7 @@ fn read_place(word: &str) -> Result<Place, Failure> {
 }
 
 /// The number of a variable, or how many.
-pub fn read_count(word: &str) -> Result<u32, Failure> {
+fn read_count(word: &str) -> Result<u32, Failure> {
     word.parse::<u32>()
         .ok()
         .ok_or(Failure::Unread("a number of variables"))
