@@ -20,19 +20,19 @@ returns-in_err-judgement-clause-asked g c =
 
 pub returns-in-Some-clause-value : goal.returns-in-Some-clause-value
 returns-in-Some-clause-value g c =
-    let are = rw (c.deref.ensures.value, c.in_ok-key.ensures) at c.in-Some.ensures.value in
+    let are = rw (c.deref.ensures.value, c.in_ok-key.ensures, c.unit-2.ensures) at c.in-Some.ensures.value in
     found_copied c.args.self.now.show c.args.unit c.in-Some.known.now _ c.in_ok-judgement.ensures.verdicts c.in_ok-judgement.ensures.shown
     (found_again c.args.self.now.show c.args.unit c.in-Some.known.now c.requires are)
 
 pub returns-in-Some-clause-asked : goal.returns-in-Some-clause-asked
 returns-in-Some-clause-asked g c =
-    let known : is_among c.args.self.now.keys (unit_bytes c.args.unit) ≡ true = sym (rw (c.deref.ensures.value, c.in_ok-key.ensures) at c.in-Some.ensures.there) in
+    let known : is_among c.args.self.now.keys (unit_bytes c.args.unit) ≡ true = sym (rw (c.deref.ensures.value, c.in_ok-key.ensures, c.unit-2.ensures) at c.in-Some.ensures.there) in
     rw known (asks_none _ _ _ refl)
 
 pub note-requires-clause-judged : goal.note-requires-clause-judged
 note-requires-clause-judged g c =
     let own = subst (λ show. IsFoundOf show c.args.unit c.in_ok-found.found.judgement) (ap (λ (j : JudgedKeys). j.show) c.self.view_is) c.in_ok-found.ensures.value in
-    rw c.in_ok-key.ensures
+    rw (c.in_ok-key.ensures, c.unit-2.ensures)
     (found_noted c.args.self.now.show c.args.unit _ c.requires
     (found_copied c.args.self.now.show c.args.unit c.in_ok-found.found.judgement _ c.in_ok-judgement-2.ensures.verdicts c.in_ok-judgement-2.ensures.shown own))
 
