@@ -11,8 +11,8 @@ use Rattle.state_facts.specs.StateFacts.{StateFacts, State}
 use Rattle.frame_names.specs.declared.reference.Reference.{Reference}
 use Rattle.frame_names.specs.declared.var.Var.{Var}
 
--- Whether something is reached, what each variable has, the range of each symbol from 1 on, definitions, bounds, what is
--- known of each reference from 1 on, which are apart, and the segments of each.
+-- Whether something is reached, what each variable has, the range of each symbol from 1 on, definitions, bounds, what
+-- is known of each reference from 1 on, which are apart, and the segments of each.
 pub record StateParts : Type 0 where
   pub reached : Bool
   pub variables : List Var

@@ -287,8 +287,9 @@ impl AbsState {
         self.push_array(place, length)
     }
 
-    /// A call to which so many variables were passed, from the first one on, came back: of each array that may be one of
-    /// those that were passed the items are forgotten, and what it gives is pushed, a value of this type, or nothing.
+    /// A call to which so many variables were passed, from the first one on, came back: of each array that may be one
+    /// of those that were passed the items are forgotten, and what it gives is pushed, a value of this type, or
+    /// nothing.
     pub fn forget(&mut self, first: u32, args: u32, place: Place) -> Result<(), NoMemory>
         requires { ForSome self.old (λ known. first + args ≤ length known.variables) }
         ensures ok { OnOk result (self.new ≡ rule.forget first args place self.old) }

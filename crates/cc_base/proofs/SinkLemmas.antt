@@ -1,6 +1,7 @@
 -- How bytes that are appended follow one another, and the prefixes of lists.
-use Rattle.std.proofs.Common.{◌≡◌, ℕ, List, [], ◌++◌, Option, Some, None, refl, ap, sym, ◌∙◌, append_assoc, append-nil}
-use Rattle.cc_base.specs.Sink.{appended, IsFront, AppendsFront}
+use Rattle.std.proofs.Common.{◌≡◌, ℕ, zero, suc, ◌+◌, List, [], ◌++◌, Option, Some, None, option_map, refl, ap, sym, ◌∙◌, append_assoc, append-nil, zero-add, arith}
+use Rattle.cc_base.specs.Counts.{count_up}
+use Rattle.cc_base.specs.Sink.{appended, counted, IsFront, AppendsFront}
 
 -- Two appends are one of both lists.
 pub appended-appended : (told : Option (List ℕ)) (xs ys : List ℕ) → appended (appended told xs) ys ≡ appended told (xs ++ ys)
@@ -58,4 +59,11 @@ pub AppendsFront-front : (old new : Option (List ℕ)) (bytes whole : List ℕ)
 AppendsFront-front old new bytes whole (f, isFront, e) inWhole =
     (f, IsFront-trans f bytes whole isFront inWhole, e)
 
-pub ruleset sinks = (appended-appended, appended-nil, AppendsFront-all, AppendsFront-none, AppendsFront-more, AppendsFront-after)
+-- Puts that are counted after others are counted with them.
+pub counted-counted : (n m : ℕ) (told : Option ℕ) → counted m (counted n told) ≡ counted (n + m) told
+counted-counted zero m told = ap (λ (k : ℕ). counted k told) (sym (zero-add m))
+counted-counted (suc n) m told =
+    let sum : suc (n + m) ≡ suc n + m = omega arith in
+    counted-counted n m (option_map count_up told) ∙ ap (λ (k : ℕ). counted k told) sum
+
+pub ruleset sinks = (appended-appended, appended-nil, counted-counted, AppendsFront-all, AppendsFront-none, AppendsFront-more, AppendsFront-after)

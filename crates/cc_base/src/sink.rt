@@ -3,7 +3,7 @@
 ghost use Rattle.std.specs.Prelude.{◌≡◌, ℕ, List, Option, OnOk, IsErrOf};
 ghost use Rattle.cc_base.specs.declared.sink.PutRefusal.TheVariants.{NoMemory};
 ghost use Rattle.cc_base.specs.Counts.{Rose, Kept};
-ghost use Rattle.cc_base.specs.Sink.{appended, AppendsFront};
+ghost use Rattle.cc_base.specs.Sink.{appended, counted, AppendsFront};
 
 use std::alloc::{AllocError, Global};
 
@@ -29,12 +29,16 @@ pub trait Sink {
     /// All that was written, where the object tells it.
     ghost written: { Self → Option (List ℕ) };
 
+    /// How often bytes were put, where the object tells it.
+    ghost puts: { Self → Option ℕ };
+
     /// How often a device refused.
     ghost faults: { Self → ℕ };
 
     /// Writes the bytes, whole.
     fn put(&mut self, alloc: Global, bytes: &[u8]) -> Result<(), PutRefusal>
         ensures ok { OnOk result (written self.new ≡ appended (written self.old) bytes.now) }
+        ensures counted { OnOk result (puts self.new ≡ counted 1 (puts self.old)) }
         ensures failed { IsErrOf result PutRefusal.Failed →
             AppendsFront (written self.old) (written self.new) bytes.now }
         ensures no_memory { IsErrOf result PutRefusal.NoMemory → written self.new ≡ written self.old }

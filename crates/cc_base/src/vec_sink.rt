@@ -49,6 +49,8 @@ impl VecSink {
 impl Sink for VecSink {
     ghost written = { λ s. Some s.bytes.items };
 
+    ghost puts = { λ s. Some s.puts };
+
     ghost faults = { λ s. s.faults };
 
     fn put(&mut self, _alloc: Global, bytes: &[u8]) -> Result<(), PutRefusal>

@@ -22,6 +22,8 @@ impl<W: Write + Drop> Stream<W> {
 impl<W: Write + Drop> Sink for Stream<W> {
     ghost written = { λ _. None };
 
+    ghost puts = { λ _. None };
+
     ghost faults = { λ s. s.faults };
 
     fn put(&mut self, _alloc: Global, bytes: &[u8]) -> Result<(), PutRefusal> {

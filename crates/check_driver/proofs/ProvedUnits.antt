@@ -139,7 +139,8 @@ spelled_of told words held bytes told_is asks known =
     let here = subst (λ (command : Option Command). IfSome command (λ c. IfUnit c (λ file. IsHeldSpelled told (word_at words file)))) asks.command known in
     here held bytes told_is asks.is_held
 
--- A file that was asked for is the spelling of a safe unit where the first line of what was printed tells that unit to be proved.
+-- A file that was asked for is the spelling of a safe unit where the first line of what was printed tells that unit to
+-- be proved.
 pub proved_unit_is_safe : (told : Option Held) (words : List (List ℕ)) (held : Held) (bytes signature : List ℕ) (met : List (Option (List ℕ))) (old new : Option (List ℕ))
     → told ≡ Some held → AsksForUnit words held bytes → AreUnder told (file_names words) met → AppendsFront old new (expected words met).out
     → (new ≡ old) ⊎ IfSome (command_of words) (λ command. IfUnit command (λ file. IsHeldSpelled told (word_at words file)))

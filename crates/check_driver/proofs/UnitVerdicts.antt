@@ -1,5 +1,5 @@
--- The flow of a unit is lawful, and the unit is safe where each verdict on it is that of a proved obligation. What is found
--- of it.
+-- The flow of a unit is lawful, and the unit is safe where each verdict on it is that of a proved obligation. What is
+-- found of it.
 use Rattle.std.proofs.Common.{◌≡◌, ◌*◌, ◌<◌, ◌≤◌, Bool, true, List, [], length, Result, Ok, Err, if◌then◌else◌, refl, ap, ◌∙◌, subst, sym, arith}
 use Rattle.std.specs.Prelude.{All, IfOk}
 use Rattle.cil_model.specs.Limits.{MAX_CLAUSES}

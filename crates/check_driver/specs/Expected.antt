@@ -86,8 +86,8 @@ abbrev pub run_told : RunAnswer → Answer
 run_told (runs.Line status text) = output_answer status text
 run_told (runs.Misfit reason) = misfit_answer reason
 
--- The answer for the method of a token, where this is the least token that it reaches of a method that is not analysed, or there
--- is none.
+-- The answer for the method of a token, where this is the least token that it reaches of a method that is not analysed,
+-- or there is none.
 abbrev pub world_answer : List ℕ → Token → List (List ℕ) → ℕ → Option ℕ → Answer
 world_answer bytes token args steps (Some skipped) = misfit_answer (codes "not analysed")
 world_answer bytes token args steps None = run_told (run_answer (world_of bytes token.0) args steps)

@@ -8,7 +8,8 @@ use Rattle.unit_builder.specs.Reach.{Reaches}
 use Rattle.unit_builder.specs.Walks.{calls_of}
 use Rattle.check_driver.specs.Sections.{HasProvedLine}
 
--- The words ask for the reports of assemblies, and the file of the k-th of them, counted from 0, is held with these bytes.
+-- The words ask for the reports of assemblies, and the file of the k-th of them, counted from 0, is held with these
+-- bytes.
 pub record IsAssemblyOf (words : List (List ℕ)) (held : Held) (k : ℕ) (bytes : List ℕ) : Type 0 where
   pub name : List ℕ
   pub kth : slice_get (checked_names words) k ≡ Some name

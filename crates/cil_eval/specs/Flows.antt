@@ -53,8 +53,9 @@ flow_of ops.Length = flows.Stays
 flow_of (ops.LoadElem place) = flows.Stays
 flow_of (ops.StoreElem place) = flows.Stays
 
--- The unit can be run: its instructions begin one after another, no further than IL offsets go, it has no more variables and
--- old values than there is memory for, no more clauses than can be numbered, and no old value reads the result.
+-- The unit can be run: its instructions begin one after another, no further than IL offsets go, it has no more
+-- variables and old values than there is memory for, no more clauses than can be numbered, and no old value reads the
+-- result.
 pub record IsRunnable (unit : MethodUnit) : Type 0 where
   pub rise : RiseFrom 0 unit.instrs
   pub behind : AllByRecursion (λ (i : Instr). i.at + i.size < 2 ^ 32) unit.instrs

@@ -17,8 +17,8 @@ pub record GoesTooDeep (limits : Limits) (Next : Config → Type 0) : Type 0 whe
   pub next : Next (configs.Live frames heap)
   pub deep : limits.depth < length frames
 
--- One of the configurations that a step leads to is what the stop tells: an end of the run, or a limit that is met. No step
--- tells that all steps are taken.
+-- One of the configurations that a step leads to is what the stop tells: an end of the run, or a limit that is met. No
+-- step tells that all steps are taken.
 abbrev pub EndsBy : Limits → (Config → Type 0) → Stop → Type 0
 EndsBy limits Next (stops.Returned result) = Next (configs.Returned result)
 EndsBy limits Next (stops.Fault kind unit at) = Next (configs.Fault kind unit at)

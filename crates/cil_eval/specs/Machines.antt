@@ -90,13 +90,14 @@ end_after m n start = outcome m.world m.limits (min m.limits.steps n) start
 abbrev pub state_after : Machinery → ℕ → State → State
 state_after m n start = last_state m.world m.limits (min m.limits.steps n) start
 
--- The steps of the machine lead from the start to where the run is: to the state that comes of so many as were taken, or to
--- its end.
+-- The steps of the machine lead from the start to where the run is: to the state that comes of so many as were taken,
+-- or to its end.
 abbrev pub ComesBySteps : Machinery → State → Option Stop → Type 0
 ComesBySteps m start None = StepsTo (Step m.world) (config_of start) m.taken (config_of (state_after m m.taken start))
 ComesBySteps m start (Some stop) = EndsAfter m.world m.limits (config_of start) m.taken stop
 
--- One step of the machine leads from the state where the run was to the one where it is, or to its end; or no step was left.
+-- One step of the machine leads from the state where the run was to the one where it is, or to its end; or no step was
+-- left.
 abbrev pub IsOneStep : Machinery → Machinery → State → Option Stop → Type 0
 IsOneStep old new start None = Step old.world (config_of (state_after old old.taken start)) (config_of (state_after new new.taken start))
 IsOneStep old new start (Some stops.Steps) = old.limits.steps ≤ old.taken

@@ -156,8 +156,8 @@ unfoldable pub outcome : World → Limits → ℕ → State → Option Stop
 outcome w limits zero s = Some stops.Steps
 outcome w limits (suc left) s = elim (turn w limits s) [ To next ↦ outcome w limits left next | Ends stop ↦ Some stop | Stuck ↦ None ]
 
--- The last state of a run from a state in which so many steps are left: the one at which the run ends, or the one in which
--- they are all taken.
+-- The last state of a run from a state in which so many steps are left: the one at which the run ends, or the one in
+-- which they are all taken.
 unfoldable pub last_state : World → Limits → ℕ → State → State
 last_state w limits zero s = s
 last_state w limits (suc left) s = elim (turn w limits s) [ To next ↦ last_state w limits left next | Ends stop ↦ s | Stuck ↦ s ]

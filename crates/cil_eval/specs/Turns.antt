@@ -17,8 +17,8 @@ CallsNumber w number unit i deeper old heap new stop =
     (limits : Limits) (s : State) → Holds w old heap s → s.running.unit ≡ unit → deeper ≡ nat_le (length s.below + 2) limits.depth
     → Turned w (after_index w limits s i (callee_index w unit number)) new heap stop
 
--- Of every state that the frames held, under limits with so many cells, the machine holds the next one, or it stopped at
--- the run's end.
+-- Of every state that the frames held, under limits with so many cells, the machine holds the next one, or it stopped
+-- at the run's end.
 abbrev pub Turns : World → ℕ → Bool → Frames → Heap → Frames → Heap → Option Stop → Type 0
 Turns w cells deeper old heap new after stop =
     (limits : Limits) (s : State) → Holds w old heap s → AllByRecursion IsLength s.running.stack → limits.cells ≡ cells

@@ -12,7 +12,8 @@ use crate::stop::Stop;
 use cil_model::{Instr, Unit};
 use clause_eval::Memory;
 
-/// Does an instruction that neither calls a method nor returns, in the frame that runs, a frame of the unit of this index.
+/// Does an instruction that neither calls a method nor returns, in the frame that runs, a frame of the unit of this
+/// index.
 #[tactic(auto, using(crate::proofs::ActLemmas::no_larger, crate::proofs::ActLemmas::stops_end))]
 pub(crate) fn effect(
     unit: &Unit,

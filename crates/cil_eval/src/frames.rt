@@ -32,8 +32,8 @@ pub(crate) struct Frames {
 }
 
 impl Frames {
-    /// No frames, and memory for so many: each has the variables and old values of one method at most, and a call puts its
-    /// arguments where those of one frame more would stand.
+    /// No frames, and memory for so many: each has the variables and old values of one method at most, and a call puts
+    /// its arguments where those of one frame more would stand.
     pub fn make(alloc: Global, depth: u32) -> Result<Frames, AllocError>
         ensures nothing { IfOk result HoldNothing }
         ensures room { IfOk result (HoldDepth depth) }

@@ -102,7 +102,8 @@ impl<'a> Machine<'a> {
         Ok(())
     }
 
-    /// Takes one step: None where the run goes on, else how it stopped. Once a run has stopped, each later call says so too.
+    /// Takes one step: None where the run goes on, else how it stopped. Once a run has stopped, each later call says so
+    /// too.
     pub fn step(&mut self) -> Option<Stop>
         ensures one_step { (start : State) → IsRun self.old start → self.old.ended ≡ None → IsOneStep self.old self.new start result }
         ensures kept { (start : State) → IsRun self.old start → IsRun self.new start }
@@ -123,8 +124,8 @@ impl<'a> Machine<'a> {
         self.ended
     }
 
-    /// Takes up to n further steps, and tells how the run ends if it may take no more. Where it stopped for n alone, a later
-    /// call takes it up there; any other stop stays.
+    /// Takes up to n further steps, and tells how the run ends if it may take no more. Where it stopped for n alone, a
+    /// later call takes it up there; any other stop stays.
     pub fn run(&mut self, n: u32) -> Stop
         ensures end { (start : State) → IsRun self.old start → end_after self.old (self.old.taken + n) start ≡ Some result }
         ensures steps { (start : State) → IsRun self.old start → ComesBySteps self.new start self.new.ended }
@@ -141,9 +142,9 @@ impl<'a> Machine<'a> {
         self.ended.unwrap_or(Stop::Steps)
     }
 
-    /// The items of the array of this index, in the order in which the run made them, those of the arguments first: as they
-    /// are after the steps that the run took, and once it has stopped, as they are at its end. None where there is no such
-    /// array.
+    /// The items of the array of this index, in the order in which the run made them, those of the arguments first: as
+    /// they are after the steps that the run took, and once it has stopped, as they are at its end. None where there is
+    /// no such array.
     pub fn elements(&self, array: u32) -> Option<&[i32]>
         ensures stored { option_map (λ items. items.now) result ≡ items_at self.now.store.heap array }
         ensures so_far { (start : State) → IsRun self.now start → option_map (λ items. items.now) result ≡ items_at (state_after self.now self.now.taken start).heap array }

@@ -42,7 +42,14 @@ unit_call number =
 -- The callee that a call names.
 abbrev pub callee_of : Option UnitCall → Option ℕ
 callee_of (Some (Callee number)) = Some number
-callee_of _ = None
+callee_of (Some (Requires message)) = None
+callee_of (Some (Ensures message)) = None
+callee_of (Some (Assert message)) = None
+callee_of (Some (Assume message)) = None
+callee_of (Some EndContractBlock) = None
+callee_of (Some (Result place)) = None
+callee_of (Some (OldValue place)) = None
+callee_of None = None
 
 -- The call is an Assert without a message.
 abbrev pub is_assert : Option UnitCall → Bool

@@ -65,7 +65,8 @@ fn alone(alloc: Global, root: &Tree) -> Result<Box<Tree>, NoMemory>
 
 /// A copy of a tree in memory of its own.
 ///
-/// It calls itself as deep as the tree is, and a tree on the stack may be as deep as `MAX_NODES`. So its frame is kept small.
+/// It calls itself as deep as the tree is, and a tree on the stack may be as deep as `MAX_NODES`. So its frame is kept
+/// small.
 #[tactic(auto, using(crate::proofs::TreeInts::ints_behind))]
 fn copied(alloc: Global, tree: &Tree) -> Result<Box<Tree>, NoMemory>
     ensures value { IfOk result (λ copy. copy.value ≡ tree.now) }

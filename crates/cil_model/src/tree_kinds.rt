@@ -65,8 +65,8 @@ pub fn branch_kind(test: Option<Kind>, a: Option<Kind>, b: Option<Kind>) -> Opti
 }
 
 impl Tree {
-    /// The kind of the tree in a clause of a method of these arguments and this result, if it has one. It says whether the
-    /// tree stands in an Ensures, and there outside of each old value.
+    /// The kind of the tree in a clause of a method of these arguments and this result, if it has one. It says whether
+    /// the tree stands in an Ensures, and there outside of each old value.
     pub fn kind(&self, args: &[Place], result_place: Place, ensured: bool) -> Option<Kind>
         ensures { result ≡ kind_in args.now result_place ensured self.now }
     {

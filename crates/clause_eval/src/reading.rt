@@ -19,8 +19,8 @@ pub(crate) struct Reading<'a> {
     pub args: &'a Pile<Value>,
     pub arrays: Arrays<'a>,
     pub result: Option<Value>,
-    /// The old values that were not read yet: the last of them stands first in the clauses. None: the arrays are those at
-    /// entry.
+    /// The old values that were not read yet: the last of them stands first in the clauses. None: the arrays are those
+    /// at entry.
     pub olds: Option<&'a [Option<Value>]>,
 }
 

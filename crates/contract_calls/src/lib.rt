@@ -2,9 +2,9 @@
 //!
 //! At a call the arguments lie on top of the stack, the last one uppermost. They are put into the places of the
 //! parameters (`put_args`). The callee's Requires are judged in turn, each with what the earlier ones say, and all of
-//! them hold from then on. What comes back is known by the callee's Ensures alone (`after_call`). At a return the result
-//! is put into its place (`put_result`), and the unit's own Ensures are judged in turn too: each with what the earlier
-//! ones say.
+//! them hold from then on. What comes back is known by the callee's Ensures alone (`after_call`). At a return the
+//! result is put into its place (`put_result`), and the unit's own Ensures are judged in turn too: each with what the
+//! earlier ones say.
 //!
 //! specs/CallStates has what becomes of states, specs/CallForms what has to be there, and specs/Meaning what all of it
 //! says of points of runs.

@@ -83,8 +83,8 @@ ahead_at (i ∷ is) (a ∷ ahead) at = if i.at == at then a else ahead_at is ahe
 abbrev pub dropped_at : List Instr → List Ahead → ℕ → Dropped
 dropped_at is ahead at = (ahead_at is ahead at).dropped
 
--- From an IL offset on a clause has the tree that it has from another one on. There the stack has other items, but the same
--- ones without what is dropped.
+-- From an IL offset on a clause has the tree that it has from another one on. There the stack has other items, but the
+-- same ones without what is dropped.
 pub record Leads (is : List Instr) (at : ℕ) (items : List Item) (dropped : Dropped) (to : ℕ) (other : Dropped) : Type 0 where
   pub others : List Item
   pub same : without dropped items ≡ without other others
@@ -103,7 +103,8 @@ own_ahead i = record { works_at = i.at; dropped = message_dropped (closing i.op)
 abbrev pub GoesTo : Instr → ℕ → Type 0
 GoesTo i later = (i.at < later) × ((jump_of i.op ≡ Some later) ⊎ (later ≡ i.at + i.size))
 
--- An instruction makes a part of the tree, or ends a way: what it takes is not dropped, and what is dropped then stays so.
+-- An instruction makes a part of the tree, or ends a way: what it takes is not dropped, and what is dropped then stays
+-- so.
 pub record Works (ahead : ℕ → Ahead) (i : Instr) (dropped : Dropped) : Type 0 where
   pub spares : Spares i.op dropped
   pub closes : is_some (closing i.op) ≡ true → dropped ≡ message_dropped (closing i.op)

@@ -29,7 +29,8 @@ NoneCloses code = AllByRecursion (λ i. closes i.op ≡ false) code
 abbrev pub olds_of : List Clause → ℕ
 olds_of clauses = sum_by (λ clause. old_count clause.tree) clauses
 
--- These clauses were read, with so many old values. What is left begins with the instruction of this index, at this IL offset.
+-- These clauses were read, with so many old values. What is left begins with the instruction of this index, at this IL
+-- offset.
 pub record BlockLeft (is : List Instr) (shape : Shape) (clauses : List Clause) (olds first start : ℕ) : Type 0 where
   pub faults : first_clause_fault is shape ≡ first_fault (faults_in is shape start (map told_by_code clauses) (drop first is))
   pub told : clauses_in is ≡ map told_by_code clauses ++ clauses_from is start (drop first is)

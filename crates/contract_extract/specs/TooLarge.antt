@@ -5,8 +5,8 @@ use Rattle.cil_model.specs.Limits.{MAX_CLAUSES, MAX_CONDITIONS, MAX_NODES, MAX_O
 use Rattle.cil_model.specs.Terms.{Term, term_size, condition_depth, old_count}
 use Rattle.cil_model.specs.declared.clause.ClauseKind.{ClauseKind}
 
--- A tree has more nodes than a clause may have, or more conditions on one way from its root to a leaf. Each part counts as
--- often as it stands in the tree.
+-- A tree has more nodes than a clause may have, or more conditions on one way from its root to a leaf. Each part counts
+-- as often as it stands in the tree.
 abbrev pub is_too_large : Term → Bool
 is_too_large tree = nat_lt MAX_NODES (term_size tree) || nat_lt MAX_CONDITIONS (condition_depth tree)
 

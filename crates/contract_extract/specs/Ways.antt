@@ -1,5 +1,6 @@
--- What is wrong on the ways forward through a clause's code, where each keeps its own stack. What is not pure ends a way, and so does an
--- operation that meets too few values. A way does not take a branch to below, or to what is not this clause's.
+-- What is wrong on the ways forward through a clause's code, where each keeps its own stack. What is not pure ends a
+-- way, and so does an operation that meets too few values. A way does not take a branch to below, or to what is not
+-- this clause's.
 use Rattle.std.specs.Prelude.{ℕ, zero, suc, ◌+◌, Bool, true, false, not, nat_lt, ◌==◌, List, [], ◌∷◌, ◌++◌, length, map, take, drop, flat_map, Option, Some, None, if◌then◌else◌, slice_get}
 use Rattle.std.specs.Option.{option_map_or, option_and_then}
 use Rattle.cil_model.specs.Blocks.{closes}

@@ -28,8 +28,8 @@ pub struct Contracts {
     pub body_start: u32,
 }
 
-/// The clauses of a method of this shape, from the calls that close them (ECMA-335 III.3.19), and the start of its body; or
-/// the first fault of its code that they have, the one of the lowest rank at the lowest IL offset.
+/// The clauses of a method of this shape, from the calls that close them (ECMA-335 III.3.19), and the start of its
+/// body; or the first fault of its code that they have, the one of the lowest rank at the lowest IL offset.
 ///
 /// The instructions are those of code of at most 2147483647 bytes.
 pub fn extract(alloc: Global, instrs: &[Instr], shape: &Shape) -> Result<Contracts, ClauseRefusal>

@@ -28,13 +28,14 @@ const CLAUSE_LIMITS: Limits = Limits {
 
 /// Reads the clause whose code begins at an IL offset. Nothing is read where its tree is too large.
 ///
-/// Each way forward is gone once, and the stack of trees is copied where it goes two ways. A tree of more nodes than a clause
-/// may have is not kept, so no deeper one is copied or dropped. Instructions that make no node, or make only what the closing
-/// call drops, are gone over at once: what lies ahead of each instruction is found before, in n log n of the number of
-/// instructions. So each instruction that is gone makes a node that the tree has on some way ahead. The nodes of a condition
-/// and of the end of a way are counted when they are met, and no way is gone further once there are more than a clause may
-/// have, or at the eleventh condition. The time is that of these nodes, once for each condition on their way, and the first
-/// way that has too many ends it all, after the time of n nodes for each condition on that way.
+/// Each way forward is gone once, and the stack of trees is copied where it goes two ways. A tree of more nodes than a
+/// clause may have is not kept, so no deeper one is copied or dropped. Instructions that make no node, or make only
+/// what the closing call drops, are gone over at once: what lies ahead of each instruction is found before, in n log n
+/// of the number of instructions. So each instruction that is gone makes a node that the tree has on some way ahead.
+/// The nodes of a condition and of the end of a way are counted when they are met, and no way is gone further once
+/// there are more than a clause may have, or at the eleventh condition. The time is that of these nodes, once for each
+/// condition on their way, and the first way that has too many ends it all, after the time of n nodes for each
+/// condition on that way.
 pub(crate) fn read_clause(
     alloc: Global,
     instrs: &[Instr],

@@ -1,10 +1,11 @@
-//! The text of what is known of symbols and references: words of symbols, references and numbers, definitions, and facts.
+//! The text of what is known of symbols and references: words of symbols, references and numbers, definitions, and
+//! facts.
 //!
 //! A *fact* is `s2 in 0..9`, the range of a symbol, `s1+3 <= s2`, a bound, or `s3 is lt s1 s2+1`, a definition. That is
 //! `eq`, `lt`, `lt.un` or `difference` of two numbers, or `null r1`, `not-null r1`. `null` stands for reference 0.
 //!
-//! Segments of an array are `{0} 0..9 ? {s1 s2+1} 5..5 {s3}`: bounds, and between them a range, marked where there may be
-//! no item.
+//! Segments of an array are `{0} 0..9 ? {s1 s2+1} 5..5 {s3}`: bounds, and between them a range, marked where there may
+//! be no item.
 #![tactic(auto)]
 
 mod definitions;

@@ -88,8 +88,8 @@ fn offsets_among(alloc: Global, body: &[Instr], sorted: &[u32]) -> Result<Vec<u3
         .collect(alloc)
 }
 
-/// The IL offsets at which the blocks of a body start, also those that no path reaches (ECMA-335 III.1.7.2). The body is
-/// what begins at the offset `body_start` or after it.
+/// The IL offsets at which the blocks of a body start, also those that no path reaches (ECMA-335 III.1.7.2). The body
+/// is what begins at the offset `body_start` or after it.
 ///
 /// Its time is n log n in the number of instructions and targets.
 pub fn block_starts(alloc: Global, instrs: &[Instr], body_start: u32) -> Result<Vec<u32>, NoMemory>

@@ -471,7 +471,8 @@ bound_lengths gap a_vars b_vars a b count binding is = λ number keep. by number
     by number keep None made = cc
     by number keep (Some slots) made = at_end number keep slots (with_lengths gap a b (drop 1 slots.references) slots.symbols) refl made
 
--- By the numbers of the first state, the lengths of the second are worth what those are of what its references are bound to.
+-- By the numbers of the first state, the lengths of the second are worth what those are of what its references are
+-- bound to.
 pub frames_have_same_lengths : (gap : Gaps) (a_vars b_vars : List Var) (a b : List Reference) (count : ℕ) (found : Option FrameBinding)
     → found ≡ bound_frames gap a_vars a b_vars b count → IfSome found (HasSameLengths gap a b)
 frames_have_same_lengths gap a_vars b_vars a b count None is = tt

@@ -46,8 +46,8 @@ operator_few operators.MulOvf = omega arith
 operator_few operators.SubOvf = omega arith
 operator_few _ = omega arith
 
--- What an operation may end in, and the clauses that it tests, are together no more than a method may have clauses: where
--- there are any of the ones, there are none of the others.
+-- What an operation may end in, and the clauses that it tests, are together no more than a method may have clauses:
+-- where there are any of the ones, there are none of the others.
 abbrev AreFew : MethodUnit → Op → Type 0
 AreFew unit op =
     length (clauses_tested unit (tested_by unit op)) ≤ MAX_CLAUSES

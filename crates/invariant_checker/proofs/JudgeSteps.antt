@@ -66,7 +66,8 @@ module _ (unit : MethodUnit) (is : List Instr) (k : ℕ) (i : Instr) (state : St
       append_assoc found (verdicts_at unit i state) (verdicts_from unit (drop (k + 1) is) (post unit i.op state))
       ∙ ap (λ (js : List Instr). found ++ verdicts_from unit js state) (sym (from_it within here))
 
--- What was found of the first instructions, and what is to be found of the others, is the whole; and these can be judged.
+-- What was found of the first instructions, and what is to be found of the others, is the whole; and these can be
+-- judged.
 pub record IsUnderWay (unit : MethodUnit) (is : List Instr) (before : List Verdict) (first : State)
     (found : List Verdict) (state : State) (k : ℕ) : Type 0 where
   pub same : found ++ verdicts_from unit (drop k is) state ≡ before ++ verdicts_from unit is first

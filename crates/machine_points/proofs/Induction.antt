@@ -1,5 +1,5 @@
--- States that are inductive hold wherever points come along edges, for any states that flow: the laws of what flows along an
--- edge and of what is included are all that this rests on.
+-- States that are inductive hold wherever points come along edges, for any states that flow: the laws of what flows
+-- along an edge and of what is included are all that this rests on.
 use Rattle.std.proofs.Common.{◌≡◌, ℕ, zero, suc, ◌<◌, Bool, true, sym, subst}
 use Rattle.machine_points.specs.Flows.{ComesAlong, Edges}
 use Rattle.machine_points.specs.declared.point.Point.{Point}

@@ -2,7 +2,8 @@
 use Rattle.std.specs.Prelude.{◌≡◌, ℕ, zero, suc, ◌<◌}
 use Rattle.machine_points.specs.declared.point.Point.{Point}
 
--- Edges, which are numbers, with the blocks where each begins and ends; where runs begin, and how they go along an edge.
+-- Edges, which are numbers, with the blocks where each begins and ends; where runs begin, and how they go along an
+-- edge.
 pub record Edges : Type 1 where
   pub count : ℕ
   pub source : ℕ → ℕ

@@ -18,7 +18,8 @@ bit_test bits at bit = must (not (bit_at bits bit == 1 && length (columns_of bit
 unfoldable pub bits_tests : ℕ → ℕ → List (Option TableFault)
 bits_tests bits at = map (bit_test bits at) (range_with_len 0 64)
 
--- The rows of a table, over the row counts of all tables and HeapSizes, where the rows of the first table begin at a place.
+-- The rows of a table, over the row counts of all tables and HeapSizes, where the rows of the first table begin at a
+-- place.
 unfoldable pub rows_tests : ℕ → List ℕ → ℕ → ℕ → ℕ → List (Option TableFault)
 rows_tests end counts heap_sizes rows_at table =
     fields end (λ at. Short at) (rows_at + bytes_below counts heap_sizes table)

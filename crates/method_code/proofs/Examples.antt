@@ -15,7 +15,8 @@ use Rattle.method_code.specs.declared.call.Call.TheVariants.{Callee, Contract, U
 abbrev five_two : List ℕ
 five_two = 5 ∷ 2 ∷ []
 
--- The first callee, the second, a method that is none of them, Requires with a message, OldValue of int32, and anything else.
+-- The first callee, the second, a method that is none of them, Requires with a message, OldValue of int32, and anything
+-- else.
 call_numbers :
     (call_number five_two (Callee 5) ≡ 100)
     × ((call_number five_two (Callee 2) ≡ 101)

@@ -1,5 +1,5 @@
--- Code with numbers in place of tokens is decoded code as before: each instruction stays at its place and of its size, and no
--- branch changes.
+-- Code with numbers in place of tokens is decoded code as before: each instruction stays at its place and of its size,
+-- and no branch changes.
 use Rattle.std.proofs.Common.{◌≡◌, ℕ, ◌+◌, ◌<◌, ◌≤◌, ◌^◌, Bool, true, List, [], ◌∷◌, ◌++◌, length, map, refl, sym, ap, ap₂, subst, ◌∙◌, arith, inl, length-append}
 use mathlib.Core.Path.{fun_ext}
 use Rattle.std.specs.Prelude.{◌==◌, ◌||◌}
@@ -65,7 +65,8 @@ pub each_spelled : (is : List Instr) → ((code : List ℕ) × CodeOf is code) �
 each_spelled is (code, of_code) = all_by_index IsSpelled is (spelled_from 0 is code of_code.spelled).0
 
 module _ (meaning : Meaning) (callees : List ℕ) where
-  -- What is so of an operation and itself, and of these three with whatever number, is so of an operation and the numbered one.
+  -- What is so of an operation and itself, and of these three with whatever number, is so of an operation and the
+  -- numbered one.
   by_op : (P : Op → Op → Type 0) → ((token : ℕ) → P (ops.Call token) (ops.Call (call_number callees (meaning.call token)))) → ((token : ℕ) → P (ops.NewArray token) (ops.NewArray (array_number (meaning.element token))))
       → ((token : ℕ) → P (ops.Text token) (ops.Text 0)) → ((op : Op) → P op op) → (op : Op) → P op (numbered_op meaning callees op)
   by_op P call array text same ops.Nop = same ops.Nop

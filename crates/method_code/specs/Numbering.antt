@@ -13,8 +13,8 @@ use Rattle.method_code.specs.Meanings.{Meaning}
 use Rattle.method_code.specs.declared.call.Call.{Call}
 use Rattle.method_code.specs.declared.call.Call.TheVariants.{Callee, Contract, Unknown}
 
--- The number of a call: its own where it calls a method of the class of contracts, 100 and the index of the callee where it
--- calls one of these, and 0, which names nothing, for each other call.
+-- The number of a call: its own where it calls a method of the class of contracts, 100 and the index of the callee
+-- where it calls one of these, and 0, which names nothing, for each other call.
 abbrev pub call_number : List ℕ → Call → ℕ
 call_number callees (Contract number) = number
 call_number callees (Callee key) = option_map_or (λ index. 100 + index) (position (λ callee. callee == key) callees) 0

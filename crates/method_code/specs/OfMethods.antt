@@ -83,7 +83,7 @@ abbrev pub known_clauses : Shape → List Instr → List Clause
 known_clauses shape is =
     if is_none (first_clause_fault is shape) && list_all (is_number_clause shape) (told_clauses is) then told_clauses is else []
 
--- What callers know of a method: its clauses. Its locals, the limits on its code, and the tokens and kinds of its body do
--- not take them away.
+-- What callers know of a method: its clauses. Its locals, the limits on its code, and the tokens and kinds of its body
+-- do not take them away.
 unfoldable pub clauses_of : Meaning → List ℕ → MethodRow → List Clause
 clauses_of meaning asm method = option_map_or (known_clauses (bare_shape method)) (instrs_of meaning asm method) []

@@ -34,8 +34,8 @@ pub record AreDecodedAs (code : List ℕ) (is : List Instr) : Type 0 where
 pub record AreContractsOf (method : MethodRow) (is : List Instr) (contracts : Contracts) : Type 0 where
   pub told : AreContracts is contracts.clauses contracts.body_start
   pub limits : ClausesWithinLimits contracts.clauses
-  -- Where the code has kinds in whatever shape of the method, so has each tree: that of a number. And the body begins with an
-  -- empty stack, and can be run from there.
+  -- Where the code has kinds in whatever shape of the method, so has each tree: that of a number. And the body begins
+  -- with an empty stack, and can be run from there.
   pub numbers : (shape : Shape) (stacks : Stacks) → HasSignature method shape → KindsOf shape is stacks → AllByRecursion (IsNumberClause shape.args shape.result) contracts.clauses
   pub body : (shape : Shape) (stacks : Stacks) → HasSignature method shape → KindsOf shape is stacks → HasBody is stacks contracts.body_start
 

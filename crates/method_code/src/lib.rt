@@ -1,5 +1,5 @@
-//! The code of a method, with the numbers of a unit in place of tokens, and its clauses. What the tokens mean is told by
-//! who asks.
+//! The code of a method, with the numbers of a unit in place of tokens, and its clauses. What the tokens mean is told
+//! by who asks.
 #![tactic(auto)]
 
 mod call;

@@ -1,5 +1,5 @@
-//! What no command shows of code: an instruction that is asked for where the code has ended, and IL offsets of more than
-//! four digits as they are printed.
+//! What no command shows of code: an instruction that is asked for where the code has ended, and IL offsets of more
+//! than four digits as they are printed.
 
 use il_decoder::{IlFault, IlRefusal, decode_one, put_label};
 use std::test::Fail;

@@ -1,4 +1,5 @@
-//! What no command shows of the machine: a run that is taken up again, and arrays of arguments for which there is no room.
+//! What no command shows of the machine: a run that is taken up again, and arrays of arguments for which there is no
+//! room.
 
 ghost use Rattle.std.specs.Prelude.{◌≡◌, ℕ, map, IfOk, IfSome};
 ghost use Rattle.std.specs.List.{AllByRecursion};

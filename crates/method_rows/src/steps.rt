@@ -82,8 +82,8 @@ fn callee(alloc: Global, result_place: Place, args: &[Place]) -> Result<CalleeIn
     })
 }
 
-/// A method of four arguments, an int32, an int32[], a bool[] and a bool, of two locals, an int32 and an int32[], and of
-/// two callees, `bool[] f(int32, int32[])` and `void g()`.
+/// A method of four arguments, an int32, an int32[], a bool[] and a bool, of two locals, an int32 and an int32[], and
+/// of two callees, `bool[] f(int32, int32[])` and `void g()`.
 pub fn shape(alloc: Global, result_place: Place, max_stack: u16) -> Result<Shape, AllocError> {
     let f = callee(alloc, Place::Bools, &[Place::Int, Place::Ints])?;
     let g = callee(alloc, Place::Void, &[])?;

@@ -9,8 +9,8 @@ use Rattle.cil_eval.specs.declared.stop.Stop.TheVariants as stops
 use Rattle.method_run.specs.FaultTexts.{fault_text, position_text}
 use Rattle.method_run.specs.ValueTexts.{returned_text}
 
--- The end of a run of a world, or the limit that it met, where the entry's result has this type and the run's last state
--- this heap.
+-- The end of a run of a world, or the limit that it met, where the entry's result has this type and the run's last
+-- state this heap.
 abbrev pub end_text : World → Limits → Place → Heap → Stop → List ℕ
 end_text w limits place heap (stops.Returned result) = returned_text place heap result
 end_text w limits place heap (stops.Fault kind index at) = fault_text w kind index at

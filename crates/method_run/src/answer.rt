@@ -12,7 +12,7 @@ pub enum RunAnswer {
         /// How it ended, with a line feed.
         text: List<u8>,
     },
-    /// The arguments do not fit, for this reason: `arguments`, or `requires` and the number of the first Requires that is not
-    /// true of them.
+    /// The arguments do not fit, for this reason: `arguments`, or `requires` and the number of the first Requires that
+    /// is not true of them.
     Misfit(List<u8>),
 }

@@ -21,8 +21,8 @@ fn split_first(types: &[Place]) -> (Place, &[Place])
     }
 }
 
-/// The arguments that words are, each for the parameter of its place in the row. Words that are left over are read for any
-/// type.
+/// The arguments that words are, each for the parameter of its place in the row. Words that are left over are read for
+/// any type.
 pub(crate) fn read_arguments(
     alloc: Global,
     words: &[String],

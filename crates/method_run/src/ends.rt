@@ -77,8 +77,8 @@ fn line_answer(status: u8, text: Vec<u8>) -> Result<RunAnswer, AllocError>
     })
 }
 
-/// The answer at the end of a run under limits, where the entry's result has this type. The machine has the arrays of the
-/// end.
+/// The answer at the end of a run under limits, where the entry's result has this type. The machine has the arrays of
+/// the end.
 pub(crate) fn end_answer(
     alloc: Global,
     world: &World,

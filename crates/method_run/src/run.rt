@@ -30,7 +30,8 @@ fn run_limits(steps: u32) -> Limits
     }
 }
 
-/// Runs the first method of a world, which is this unit's, with these arguments, under limits, and answers how the run ended.
+/// Runs the first method of a world, which is this unit's, with these arguments, under limits, and answers how the run
+/// ended.
 fn run_unit(
     alloc: Global,
     world: &World,
@@ -52,8 +53,9 @@ fn run_unit(
     end_answer(alloc, world, limits, unit.result, &machine, stop)
 }
 
-/// Runs the first method of a world with arguments that are words, in so many steps at most, and answers how the run ended, or
-/// why it does not start. The arrays of a run take up to 16,777,216 cells, and up to 1,000 methods call each other.
+/// Runs the first method of a world with arguments that are words, in so many steps at most, and answers how the run
+/// ended, or why it does not start. The arrays of a run take up to 16,777,216 cells, and up to 1,000 methods call each
+/// other.
 ///
 /// Takes the memory of these cells and frames, and time in proportion to the steps and to the words and the line.
 ///

@@ -1,5 +1,5 @@
--- The tests of a unit file, in order, and the unit of a file that passes them. Those of the code say where in the file an
--- instruction, a block or a callee stands.
+-- The tests of a unit file, in order, and the unit of a file that passes them. Those of the code say where in the file
+-- an instruction, a block or a callee stands.
 use Rattle.std.specs.Prelude.{ℕ, suc, ◌+◌, ◌==◌, nat_lt, Bool, true, ◌&&◌, List, [], ◌∷◌, ◌++◌, length, map, filter_map, slice_get, is_some, Option, Some, option_map, if◌then◌else◌}
 use Rattle.std.specs.Option.{option_map_or}
 use Rattle.std.specs.List.{list_any}
@@ -136,8 +136,8 @@ shape_told fields = record {
   callees = fields.callees;
 }
 
--- What is tested of the instructions of a method of this shape, whose code begins at the offset `base` of the file, and its
--- callees at these offsets.
+-- What is tested of the instructions of a method of this shape, whose code begins at the offset `base` of the file, and
+-- its callees at these offsets.
 unfoldable pub instr_tests : ℕ → Shape → List ℕ → List Instr → List (Option UnitFault)
 instr_tests base shape offsets is =
     count_test base is

@@ -129,8 +129,8 @@ fn read_known(alloc: Global, bytes: &[u8]) -> Result<TypedUnit, UnitRefusal>
 
 /// The unit that the bytes of a file spell, with the kinds of its code, or the first fault of the file.
 ///
-/// Cost: linear in the length of the file, but for the passes that find kinds, the sorting of the blocks and the walk over the
-/// contract block, all over 4,096 instructions at most.
+/// Cost: linear in the length of the file, but for the passes that find kinds, the sorting of the blocks and the walk
+/// over the contract block, all over 4,096 instructions at most.
 #[tactic(auto)]
 pub fn read_unit(alloc: Global, bytes: &[u8]) -> Result<TypedUnit, UnitRefusal>
     requires short { length bytes.now ≤ 2147483647 }

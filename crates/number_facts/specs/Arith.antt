@@ -78,7 +78,8 @@ common_relations facts a b =
 unfoldable pub shifted_left : Facts → Expr → Expr → Outcome
 shifted_left facts a b = if b.sym == 0 then product facts a (constant (pos (2 ^ unsigned_abs b.k))) else Within full
 
--- An unsigned number that is not negative is shifted as it is. By a constant n other than 0, another has n ones less than 32.
+-- An unsigned number that is not negative is shifted as it is. By a constant n other than 0, another has n ones less
+-- than 32.
 unfoldable pub shifted_right_unsigned : Facts → Expr → Expr → Outcome
 shifted_right_unsigned facts a b =
     if is_not_negative (range_of facts a) then Within (shifted_right (range_of facts a) b)

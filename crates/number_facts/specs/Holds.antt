@@ -101,8 +101,8 @@ pub record Compares (op : CmpOp) (a b : Expr) (holds : Bool) (number : ℕ → �
   pub second : FitsSigned w32 (worth number b)
   pub so : compares op (worth number a) (worth number b) ≡ holds
 
--- Where all that is known is so of numbers of which a comparison is so, something is reached when it is assumed, and all
--- that is known then is so of these numbers too.
+-- Where all that is known is so of numbers of which a comparison is so, something is reached when it is assumed, and
+-- all that is known then is so of these numbers too.
 abbrev pub KeepsCompared : CmpOp → Expr → Expr → Bool → Facts → Bool → Facts → Type 0
 KeepsCompared op a b holds before reached after =
     (number : ℕ → ℤ) (is_null : ℕ → Bool) → Holds before number is_null → Compares op a b holds number

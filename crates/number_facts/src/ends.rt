@@ -185,8 +185,8 @@ impl Numbers {
         lo
     }
 
-    /// The numbers that are left to a symbol. They are no larger than ends of int32 that bounds cut, where ranges are of
-    /// int32.
+    /// The numbers that are left to a symbol. They are no larger than ends of int32 that bounds cut, where ranges are
+    /// of int32.
     #[tactic(auto, unfolding(crate::specs::Ends::span_at))]
     pub(crate) fn left_to(&self, s: u32) -> Span
         ensures value { result ≡ rule.span_at self.now s }

@@ -1,4 +1,5 @@
--- An instruction of the machine goes on where each of its conditions is met, and ends in the fault of the first that is not.
+-- An instruction of the machine goes on where each of its conditions is met, and ends in the fault of the first that is
+-- not.
 use Rattle.std.proofs.Common.{◌≡◌, ℕ, ℤ, true, false, Option, Some, None, List, [], ◌∷◌, ◌++◌, refl, sym, ap, subst, ◌∙◌, inl, slice_get}
 use Rattle.std.specs.Prelude.{reverse}
 use Rattle.std.specs.Option.{option_map_or}

@@ -1,5 +1,5 @@
--- Where each fault of an operation is ruled out in turn, an instruction with it ends in none. To assume that each did not come
--- is to assume that none did.
+-- Where each fault of an operation is ruled out in turn, an instruction with it ends in none. To assume that each did
+-- not come is to assume that none did.
 use Rattle.std.proofs.Common.{◌≡◌, ℕ, ℤ, Bool, true, false, Option, Some, None, List, [], ◌∷◌, map, reverse, refl, sym, ap, subst, ◌∙◌}
 use Rattle.std.specs.Prelude.{if◌then◌else◌, slice_get}
 use Rattle.std.specs.List.{AllByRecursion}

@@ -1,4 +1,5 @@
--- What is so of each variable is so of the operands of an operation, and what follows from that is so of its conditions.
+-- What is so of each variable is so of the operands of an operation, and what follows from that is so of its
+-- conditions.
 use Rattle.std.proofs.Common.{ℕ, zero, suc, ℤ, Option, Some, None, List, [], ◌∷◌}
 use Rattle.std.specs.Prelude.{reverse, slice_get}
 use Rattle.std.specs.List.{AllByRecursion}

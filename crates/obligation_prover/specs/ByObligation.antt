@@ -1,5 +1,5 @@
--- What a state says of an obligation of a unit: of an own fault of the instruction where it stands, or of a clause that the
--- instruction tests.
+-- What a state says of an obligation of a unit: of an own fault of the instruction where it stands, or of a clause that
+-- the instruction tests.
 use Rattle.std.specs.Prelude.{◌≡◌, ℕ, Bool, true, false, List, [], Option, Some, None, if◌then◌else◌, slice_get}
 use Rattle.std.specs.Option.{ForSome, option_map_or}
 use Rattle.cil_model.specs.Calls.{FreeCall, args_of}
@@ -97,8 +97,8 @@ AssumesClause unit tests.Own clause old new =
     → clause_holds (reading_at_return p.frame p.heap result) clause ≡ true → HoldsAt old p
     → HoldsAt new (returning result p)
 
--- So of an obligation of a clause. Of another one the new state holds of each point of which the old one does, and where
--- the instruction ends in no fault.
+-- So of an obligation of a clause. Of another one the new state holds of each point of which the old one does, and
+-- where the instruction ends in no fault.
 pub record AssumesAt (unit : MethodUnit) (op : Op) (kind : FaultKind) (old new : State) : Type 0 where
   pub clause : is_of_clause kind ≡ true
       → ForSome (clause_of_fault unit (tested_by unit op) kind) (λ c. AssumesClause unit (tested_by unit op) c old new)

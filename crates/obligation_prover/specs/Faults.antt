@@ -1,5 +1,5 @@
--- The faults in which an instruction of a unit may end, in the order in which the machine tests (ECMA-335 III.3 and III.4).
--- Those of clauses are not among them: specs/ClausesTested has these.
+-- The faults in which an instruction of a unit may end, in the order in which the machine tests (ECMA-335 III.3 and
+-- III.4). Those of clauses are not among them: specs/ClausesTested has these.
 use Rattle.std.specs.Prelude.{◌≡◌, ◌⊎◌, Bool, true, false, List, [], ◌∷◌, Option, Some, None}
 use Rattle.cil_model.specs.UnitCalls.{unit_call}
 use Rattle.cil_model.specs.declared.instruction.BinOp.{BinOp}

@@ -1,4 +1,5 @@
--- The obligations of a unit: that no instruction of its body ends in a fault, its own or that of a clause that it tests.
+-- The obligations of a unit: that no instruction of its body ends in a fault, its own or that of a clause that it
+-- tests.
 use Rattle.std.specs.Prelude.{nat_le, if◌then◌else◌, ◌++◌, map, List, [], None}
 use Rattle.std.specs.List.{flat_map}
 use Rattle.cil_model.specs.declared.instruction.Instr.{Instr}

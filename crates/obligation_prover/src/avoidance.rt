@@ -48,8 +48,8 @@ fn assume_all_met(state: &mut AbsState, op: &Op) -> Result<(), NoMemory>
     }
 }
 
-/// Assumes that an instruction of the unit with this operation did not end in a fault, one after another in the order in
-/// which the machine tests for them.
+/// Assumes that an instruction of the unit with this operation did not end in a fault, one after another in the order
+/// in which the machine tests for them.
 ///
 /// After want of memory the state is to be given up.
 pub fn avoid_all(state: &mut AbsState, unit: &Unit, op: &Op) -> Result<(), NoMemory>

@@ -168,8 +168,8 @@ pub fn entails(
     }
 }
 
-/// The state where an obligation of the unit is assumed: the instruction where it stands did not end in its fault. For a
-/// clause it is that where the arguments or the result were put into their places.
+/// The state where an obligation of the unit is assumed: the instruction where it stands did not end in its fault. For
+/// a clause it is that where the arguments or the result were put into their places.
 ///
 /// The caller owes as for `entails`.
 ///

@@ -142,8 +142,8 @@ fn judge_clauses(
 }
 
 /// Whether each clause is shown that an instruction of the unit with this operation tests, in their order and from the
-/// state before it: each Requires of the callee at a call, and each Ensures of the unit itself at a return. The arguments
-/// or the result are put into their places first, and each is judged where those before it are assumed.
+/// state before it: each Requires of the callee at a call, and each Ensures of the unit itself at a return. The
+/// arguments or the result are put into their places first, and each is judged where those before it are assumed.
 ///
 /// The caller owes that what the clauses read is there.
 ///

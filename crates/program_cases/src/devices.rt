@@ -66,6 +66,8 @@ impl CaseSink {
 impl Sink for CaseSink {
     ghost written = { λ s. Some s.sink.bytes.items };
 
+    ghost puts = { λ s. Some s.sink.puts };
+
     ghost faults = { λ s. s.sink.faults };
 
     fn put(&mut self, alloc: Global, bytes: &[u8]) -> Result<(), PutRefusal> {

@@ -1,4 +1,5 @@
-//! A row in each table, made by hand: where each cell stands, also in the tables that no command reads (ECMA-335 II.22).
+//! A row in each table, made by hand: where each cell stands, also in the tables that no command reads (ECMA-335
+//! II.22).
 
 ghost use Rattle.std.specs.Prelude.{◌≤◌};
 

@@ -211,7 +211,8 @@ bools_read place b bs =
     ∙ ap (λ (t : Bool). list_by false t texts) again.0
     ∙ ap (λ (xs : List Bool). Some (args.Bools xs)) again.1
 
--- The text of an argument is a word that is this argument, but that `[]` is the list without items of the type that is asked.
+-- The text of an argument is a word that is this argument, but that `[]` is the list without items of the type that is
+-- asked.
 pub text_is_word : (place : Place) (arg : Arg) → IsInRange arg
     → (argument_of place (text_of arg) ≡ Some arg) ⊎ ((text_of arg ≡ codes "[]") × (argument_of place (text_of arg) ≡ Some (empty_of place)))
 unfolding argument_of

@@ -78,9 +78,8 @@ fn has_form(word: &str) -> bool
 }
 
 /// Returns whether a word is an argument of a run: an int32 in decimal, `true`, `false`, `null`, a list of int32 or of
-/// truth
-/// values in brackets with commas between them, or `@` and the number of an earlier argument. Takes time in proportion to
-/// the word, and no memory.
+/// truth values in brackets with commas between them, or `@` and the number of an earlier argument. Takes time in
+/// proportion to the word, and no memory.
 pub fn is_argument(word: &str) -> bool
     ensures grammar { result ≡ words.is_argument word.now }
     // The text of every argument is one, and nothing else is.

@@ -1,5 +1,5 @@
-//! Methods that call each other: each run of a world is cut into runs of its units by themselves, whose calls are free; so a
-//! world whose units are safe by themselves is safe, recursion included.
+//! Methods that call each other: each run of a world is cut into runs of its units by themselves, whose calls are free;
+//! so a world whose units are safe by themselves is safe, recursion included.
 #![tactic(auto)]
 
 mod entry;

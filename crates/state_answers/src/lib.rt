@@ -1,5 +1,5 @@
-//! The answers of cases that tell something of a state. Each reads its line, tests what the call of abs_state asks of its
-//! caller, and compares what that call answers with what is told.
+//! The answers of cases that tell something of a state. Each reads its line, tests what the call of abs_state asks of
+//! its caller, and compares what that call answers with what is told.
 #![tactic(auto)]
 
 mod answers;

@@ -100,7 +100,8 @@ found_of xs x y (suc r) is = elim (got_of xs x y r is) [
     next : (m n : ℕ) → m ≡ n → suc m ≡ n + 1
     next m n is = omega (arith, is)
 
--- All but the pairs that are apart is so of one reference more, which is null or this array, of which these segments hold.
+-- All but the pairs that are apart is so of one reference more, which is null or this array, of which these segments
+-- hold.
 pub reference_holds : (known : StateFacts) (facts : Facts) (x : Reference) (apart : List Pair) (one : Segments) (vs : List Value) (value : Value) (heap : Heap)
     (number later : ℕ → ℤ) (array : ℕ → Option ℕ) (a : Option ℕ)
     → HasForm known → HoldsBy known vs heap number array → Grows known facts

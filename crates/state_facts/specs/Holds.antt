@@ -85,8 +85,8 @@ HoldsIn (Some known) vs heap number array = HoldsBy known vs heap number array
 
 -- ---- points
 
--- The values of a frame's variables, in order: the arguments at its entry, the arguments, the locals, and the stack from
--- the bottom.
+-- The values of a frame's variables, in order: the arguments at its entry, the arguments, the locals, and the stack
+-- from the bottom.
 abbrev pub variables_of : Frame → List Value
 variables_of frame = frame.entry_args ++ frame.args ++ frame.locals ++ reverse frame.stack
 

@@ -11,7 +11,8 @@ use domain_api::{Expr, NoMemory};
 use frame_names::Var;
 
 impl Known {
-    /// Pushes the result of an operator other than a comparison, on int32. False: there is none, and nothing is reached.
+    /// Pushes the result of an operator other than a comparison, on int32. False: there is none, and nothing is
+    /// reached.
     ///
     /// The caller owes a constant that divides other than 0, and one to shift by from 0 to 31.
     ///

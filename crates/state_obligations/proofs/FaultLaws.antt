@@ -1,4 +1,5 @@
--- The machine's operations end in a fault exactly where one of their conditions is not met, and it is that of the first.
+-- The machine's operations end in a fault exactly where one of their conditions is not met, and it is that of the
+-- first.
 use Rattle.std.proofs.Common.{◌≡◌, ◌≢◌, ℕ, ℤ, pos, negsuc, ◌+ℤ◌, ◌-ℤ◌, ◌*ℤ◌, ◌≤ℤ◌, ◌<ℤ◌, true, false, ◌&&◌, int_eq, int_le, int_lt, int_div, int_rem, List, [], ◌∷◌, Option, Some, None, length, inl, inr, refl, sym, ap, subst, ◌∙◌, arith}
 use Rattle.std.specs.Prelude.{◌^◌, ◌/◌, ◌%◌, slice_get, Result, Ok, Err, unsigned_abs}
 use Rattle.std.specs.Int.{int_shr}

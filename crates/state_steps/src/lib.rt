@@ -1,5 +1,5 @@
-//! The steps of cases that change a state. Each reads its line, tests what the call of abs_state asks of its caller, and
-//! makes that call.
+//! The steps of cases that change a state. Each reads its line, tests what the call of abs_state asks of its caller,
+//! and makes that call.
 #![tactic(auto)]
 
 mod steps;

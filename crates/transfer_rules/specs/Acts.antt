@@ -1,5 +1,6 @@
 -- What an operation does to what is known of a point, where it ends in no fault (ECMA-335 III.3 and III.4). Where an
--- operand is missing, or has not the form that the operation takes, nothing is reached: the machine does not go on there.
+-- operand is missing, or has not the form that the operation takes, nothing is reached: the machine does not go on
+-- there.
 use Rattle.std.specs.Prelude.{ℕ, ◌+◌, ◌-◌, ℤ, pos, negsuc, nat_lt, List, length, get_or, slice_get, Option, Some, None, if◌then◌else◌}
 use Rattle.std.specs.Option.{option_and_then}
 use Rattle.cil_model.specs.Comparisons.{comparison_of}
@@ -121,8 +122,8 @@ abbrev pub with_condition : Var → StateFacts → State
 with_condition (vars.Number e) known = assumed_by (conditions.Assert e) known
 with_condition v known = None
 
--- Behind a call of a callee its arguments were put, its Requires are true, and it came back as its Ensures allow. Nothing
--- is reached where there is none.
+-- Behind a call of a callee its arguments were put, its Requires are true, and it came back as its Ensures allow.
+-- Nothing is reached where there is none.
 abbrev pub after_callee : Option CalleeInfo → StateFacts → State
 after_callee (Some callee) known = called callee (Some known)
 after_callee None known = None

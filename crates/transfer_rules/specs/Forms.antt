@@ -38,8 +38,8 @@ kind_in places.Bools = kinds.Bools
 kind_in places.Ints = kinds.Ints
 kind_in place = kinds.Int
 
--- The kinds of a frame's variables over a stack of these kinds, the top first: the arguments at the entry, the arguments,
--- the locals, and the stack from the bottom.
+-- The kinds of a frame's variables over a stack of these kinds, the top first: the arguments at the entry, the
+-- arguments, the locals, and the stack from the bottom.
 abbrev pub kinds_over : MethodUnit → List Kind → List Kind
 kinds_over unit stack = map kind_in unit.args ++ map kind_in unit.args ++ map kind_in unit.locals ++ reverse stack
 

@@ -1,5 +1,5 @@
--- What the rules ask of the state before an instruction: what an operator's second operand has to be, where the faults of
--- the operator were assumed away, and what lies on the stack before a call.
+-- What the rules ask of the state before an instruction: what an operator's second operand has to be, where the faults
+-- of the operator were assumed away, and what lies on the stack before a call.
 use Rattle.std.specs.Prelude.{Option, Some, None, slice_get}
 use Rattle.cil_model.specs.declared.instruction.BinOp.{BinOp}
 use Rattle.cil_model.specs.declared.instruction.Op.{Op}

@@ -93,8 +93,8 @@ fn is_inductive(alloc: Global, code: &UnitFlow, states: &[AbsState]) -> Result<b
     all_carried(alloc, code, states)
 }
 
-/// Returns whether the states are an invariant of the unit: they have its shape, the state where it begins is included in
-/// that of the first block, and the state along each edge in that of its target.
+/// Returns whether the states are an invariant of the unit: they have its shape, the state where it begins is included
+/// in that of the first block, and the state along each edge in that of its target.
 ///
 /// Cost: one walk through the source of each edge, up to the first edge that shows that they are none.
 pub fn inductive(alloc: Global, code: &UnitFlow, states: &[AbsState]) -> Result<bool, NoMemory>

@@ -1,6 +1,6 @@
-//! What instructions do to states: the state where a method begins, the one after an instruction, and the one along each
-//! way on from a branch. States flow along the edges of a unit's graph, and are an invariant where each edge carries that
-//! of its source to that of its target.
+//! What instructions do to states: the state where a method begins, the one after an instruction, and the one along
+//! each way on from a branch. States flow along the edges of a unit's graph, and are an invariant where each edge
+//! carries that of its source to that of its target.
 #![tactic(auto)]
 
 mod acts;

@@ -56,8 +56,8 @@ fn unknown_over(alloc: Global, unit: &Unit, kinds: &[Kind]) -> Result<AbsState, 
     Ok(state)
 }
 
-/// The state at the start of a block that knows nothing but the types of the variables, each apart from the others. It is
-/// in no normal form: symbols are numbered as they are made. Where typing does not come, nothing is reached.
+/// The state at the start of a block that knows nothing but the types of the variables, each apart from the others. It
+/// is in no normal form: symbols are numbered as they are made. Where typing does not come, nothing is reached.
 pub fn unknown(alloc: Global, code: &UnitFlow, block: u32) -> Result<AbsState, NoMemory>
     requires lawful { IsLawful code.now }
     requires block { block < length code.now.graph.blocks }

@@ -44,8 +44,8 @@ method_with static generic rva = record {
   sig = record { has_this = false; generic = generic; types = types.Other };
 }
 
--- An instance method that is generic; a generic one without a body; one without a body and with a type outside the profile; and one with
--- such a type, whatever its body.
+-- An instance method that is generic; a generic one without a body; one without a body and with a type outside the
+-- profile; and one with such a type, whatever its body.
 instance_first : (asm : List ℕ) → IsTold asm (method_with false true 0) Instance
 unfolding row_tests first_of
 instance_first asm = row_told asm _ Instance refl

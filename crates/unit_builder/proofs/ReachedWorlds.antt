@@ -1,5 +1,5 @@
--- The world of a method all of whose reach is analysed: its units agree on what they say of each other, and each of them is
--- the unit of a method that is reached.
+-- The world of a method all of whose reach is analysed: its units agree on what they say of each other, and each of
+-- them is the unit of a method that is reached.
 use Rattle.std.proofs.Common.{◌≡◌, ◌↔◌, ℕ, zero, suc, ◌+◌, ◌-◌, ◌<◌, ◌≤◌, ◌^◌, ◌==◌, true, not, List, [], ◌∷◌, ◌++◌, length, filter_map, get_or, set, Contains, Option, Some, None, IsSome, count_by, refl, sym, ap, subst, ◌∙◌, inl, inr, length-append, length-set, arith}
 use Rattle.std.specs.Prelude.{nat_eq}
 use Rattle.std.specs.List.{AllByRecursion, cons_option}

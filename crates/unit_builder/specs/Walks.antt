@@ -29,7 +29,8 @@ abbrev pub calls_by : List Token → Outcome → List ℕ
 calls_by callees (Analysed unit) = numbers callees
 calls_by callees (Skipped reason) = []
 
--- The tokens of the methods that are called in the body of a method, in order of first use; none where it is not analysed.
+-- The tokens of the methods that are called in the body of a method, in order of first use; none where it is not
+-- analysed.
 abbrev pub body_calls : List ℕ → MethodRow → List ℕ
 body_calls asm method = calls_by (callee_tokens asm method) (outcome_of asm method)
 

@@ -47,8 +47,8 @@ pub(crate) fn callees_in(
     tokens_of(alloc, slot.callees())
 }
 
-/// The methods that are called in the body of the method of an entry, each once, in order of first use; none where the method is
-/// not analysed. The entry is one that `build_units` made of the same assembly.
+/// The methods that are called in the body of the method of an entry, each once, in order of first use; none where the
+/// method is not analysed. The entry is one that `build_units` made of the same assembly.
 ///
 /// Cost: what the method's code takes to be read.
 pub fn callee_tokens(

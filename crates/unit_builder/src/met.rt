@@ -21,8 +21,8 @@ pub(crate) fn index_of(token: Token) -> usize
     (token.0 - FIRST_METHOD) as usize
 }
 
-/// Methods of an assembly in the order in which they were met, each once. Contracts see their tokens, and how many methods the
-/// assembly has.
+/// Methods of an assembly in the order in which they were met, each once. Contracts see their tokens, and how many
+/// methods the assembly has.
 #[derive(Drop)]
 pub(crate) struct Met {
     order: Vec<Token>,

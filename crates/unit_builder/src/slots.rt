@@ -89,7 +89,8 @@ impl Slot {
         }
     }
 
-    /// The keys of the methods that the code calls, each once, in order of first use. None where the code does not read.
+    /// The keys of the methods that the code calls, each once, in order of first use. None where the code does not
+    /// read.
     #[tactic(auto, using(crate::proofs::CallFacts::whole_callees, crate::proofs::CallFacts::spent_callees))]
     pub(crate) fn callees(&self) -> &[u32]
         ensures { (asm : List ℕ) (method : MethodRow) → TellsClauses asm method self.now → il_fault asm method ≡ None → map as_token result.now ≡ callee_tokens asm method }

@@ -31,8 +31,8 @@ use std::marker::Model;
 
 /// The units of an assembly. Contracts see the assembly's file.
 ///
-/// The code of a method is read when it is first asked for, be it for its own unit or for a caller's, and not again as long as
-/// each unit is asked for once.
+/// The code of a method is read when it is first asked for, be it for its own unit or for a caller's, and not again as
+/// long as each unit is asked for once.
 #[derive(Drop)]
 pub struct Units<'a> {
     assembly: &'a Assembly<'a>,
@@ -135,8 +135,9 @@ impl<'a> Units<'a> {
     /// Returns what comes of the method of an index, counted from 0: its unit, or the first reason why it is not
     /// analysed.
     ///
-    /// Cost: what its code and the code of its callees take to be read, where nobody asked for them before; and besides the
-    /// passes that find kinds. The unit takes the instructions with it: who asks for the same unit again pays for the code again.
+    /// Cost: what its code and the code of its callees take to be read, where nobody asked for them before; and besides
+    /// the passes that find kinds. The unit takes the instructions with it: who asks for the same unit again pays for
+    /// the code again.
     pub fn outcome(&mut self, alloc: Global, index: usize) -> Result<Outcome, NoMemory>
         requires there { index < length (methods_of self.old) }
         ensures same { self.new ≡ self.old }

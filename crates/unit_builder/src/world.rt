@@ -114,15 +114,15 @@ fn world_in(alloc: Global, reached: Reached, order: &Met) -> Result<World, Alloc
 }
 
 /// The world of a method: its own unit, and after it, by rising token, those of the other methods that it reaches by
-/// calls in the
-/// bodies of analysed methods. An error is the least token of a method that it reaches and that is not analysed, or that memory
-/// ran out.
+/// calls in the bodies of analysed methods. An error is the least token of a method that it reaches and that is not
+/// analysed, or that memory ran out.
 ///
-/// Cost: what is reached is read and made into units, each method once. Besides there is a number for each method of the assembly.
+/// Cost: what is reached is read and made into units, each method once. Besides there is a number for each method of
+/// the assembly.
 pub fn world_of(alloc: Global, units: Units<'_>, method: Token) -> Result<World, WorldRefusal>
     requires there { IsSome (method_of units method) }
-    // The world is that of the method, and comes where each method that it reaches is analysed; the token is that of the first
-    // that is not.
+    // The world is that of the method, and comes where each method that it reaches is analysed; the token is that of
+    // the first that is not.
     ensures judged { JudgesWorld result (least_skipped units.entry method.0) (λ world. world ≡ world_of units.entry method.0) }
     // To be reached is to be in the least set with the method that is closed under calls.
     ensures reach { UnlessNoMemory result ((token : ℕ) → (is_reached units.entry method.0 token ≡ true) ↔ Reaches (calls_of units.entry) method.0 token) }

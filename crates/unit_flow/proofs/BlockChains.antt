@@ -1,5 +1,5 @@
--- The instructions of a block are a chain: each but the last goes on to the next alone, and wherever the last goes on in
--- the body, an edge leads.
+-- The instructions of a block are a chain: each but the last goes on to the next alone, and wherever the last goes on
+-- in the body, an edge leads.
 use Rattle.std.proofs.Common.{◌≡◌, ◌⊎◌, ℕ, zero, suc, ◌+◌, ◌<◌, ◌≤◌, ◌==◌, Bool, true, false, nat_le, nat_lt, List, [], ◌∷◌, ◌++◌, length, get_or, map, filter, slice_get, Option, Some, None, option_map, refl, sym, ap, subst, ◌∙◌, add-one, arith, inl, inr}
 use Rattle.std.specs.List.{AllByRecursion, AllPairs, Contains, flat_map, list_any}
 use Rattle.std.specs.Option.{option_to_list}

@@ -1,5 +1,5 @@
--- The instructions of a block: each but the last goes on to the next alone, each edge that leaves the block goes on from
--- the last, and wherever the last goes on in the body, an edge leads.
+-- The instructions of a block: each but the last goes on to the next alone, each edge that leaves the block goes on
+-- from the last, and wherever the last goes on in the body, an edge leads.
 use Rattle.std.specs.Prelude.{◌≡◌, ℕ, ◌+◌, ◌<◌, ◌≤◌, true, false, List, [], ◌∷◌, length, get_or, Some, slice_get}
 use Rattle.cil_model.specs.Blocks.{is_block_start}
 use Rattle.cil_model.specs.Bodies.{is_executed}

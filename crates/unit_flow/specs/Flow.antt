@@ -56,8 +56,8 @@ edge_at code edge = get_or code.graph.edges edge no_edge
 
 -- ---- points that go along an edge
 
--- The unit's frame at the one point is about to do this instruction, and by a step of its own it is at the other. A call
--- of a method gives any result and any heap that what the method ensures allows.
+-- The unit's frame at the one point is about to do this instruction, and by a step of its own it is at the other. A
+-- call of a method gives any result and any heap that what the method ensures allows.
 pub record Steps (unit : MethodUnit) (i : Instr) (p q : Point) : Type 0 where
   pub of : IsPointOf unit p
   pub to : instr_at unit.instrs p.frame.at ≡ Some i

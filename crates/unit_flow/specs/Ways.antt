@@ -1,6 +1,6 @@
--- The way that the machine takes on from an instruction (ECMA-335 III.3.5 to III.3.18 and III.3.66). Of a branch, the way
--- to the target has the number 0 and the one after the branch the number 1. The ways of a switch are numbered as its
--- targets, and the one after the switch comes last. Any other instruction has the way 0 alone.
+-- The way that the machine takes on from an instruction (ECMA-335 III.3.5 to III.3.18 and III.3.66). Of a branch, the
+-- way to the target has the number 0 and the one after the branch the number 1. The ways of a switch are numbered as
+-- its targets, and the one after the switch comes last. Any other instruction has the way 0 alone.
 use Rattle.std.specs.Prelude.{ℕ, ◌≤◌, Bool, true, not, min, List, ◌∷◌, length, Option, Some, option_map}
 use Rattle.cil_model.specs.Arithmetic.{unsigned}
 use Rattle.cil_model.specs.Comparisons.{is_true, compares_values}

@@ -11,8 +11,8 @@ use Rattle.unit_form.specs.declared.root.Root.{Root as RootInMemory}
 use Rattle.unit_form.specs.declared.field_fault.FieldFault.{FieldFault}
 use Rattle.unit_form.specs.declared.field_fault.FieldFault.TheVariants.{Short}
 
--- Of the roots of the tree at `start` the first 4,097 are kept as they are read; from the offset `at` on so many trees are left,
--- of so many roots at most.
+-- Of the roots of the tree at `start` the first 4,097 are kept as they are read; from the offset `at` on so many trees
+-- are left, of so many roots at most.
 pub record RootsLeft (bytes : List ℕ) (start : ℕ) (read : List Root) (most trees at : ℕ) : Type 0 where
   pub tests : first_of (tree_roots bytes start).tests ≡ first_of (roots_field most trees bytes at).tests
   pub value : take 4097 (tree_roots bytes start).value ≡ read ++ take (4097 - length read) (roots_field most trees bytes at).value

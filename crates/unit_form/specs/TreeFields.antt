@@ -115,8 +115,8 @@ arity CondRoot = 3
 
 -- ---- whole trees
 
--- The roots of so many trees, where at most so many roots are read. Each has a byte, so that the last of as many roots as the
--- file has bytes ends it.
+-- The roots of so many trees, where at most so many roots are read. Each has a byte, so that the last of as many roots
+-- as the file has bytes ends it.
 unfoldable pub roots_field : ℕ → ℕ → List ℕ → ℕ → Parse (List Root)
 roots_field most zero bytes at = record { tests = []; value = []; next = at }
 roots_field zero (suc trees) bytes at = record { tests = Some (Short at) ∷ []; value = []; next = at }
@@ -133,6 +133,7 @@ tree_roots bytes at = roots_field (length bytes) 1 bytes at
 abbrev pub tree_of_roots : List Root → Term
 tree_of_roots roots = first_term (terms_of roots)
 
--- The first 4,097 of some roots, one more than the nodes that a clause may have: with the next one, while there are not so many.
+-- The first 4,097 of some roots, one more than the nodes that a clause may have: with the next one, while there are not
+-- so many.
 unfoldable pub kept_with : {X : Type 0} → List X → X → List X
 kept_with roots root = if nat_lt (length roots) 4097 then roots ++ root ∷ [] else roots

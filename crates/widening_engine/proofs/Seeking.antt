@@ -8,7 +8,8 @@ use Rattle.widening_engine.specs.declared.kept.Kept.{Kept}
 use Rattle.widening_engine.proofs.Counting.{ticks_add, ticks_most}
 use Rattle.widening_engine.proofs.Working.{changes_up_to, first_by_number, none_step, round_more, some_step, sought_most, sought_none, up_to_more, up_to_tried, work_is}
 
--- These are the states of the round of this number, no round before is inductive, and the count rose by the changes so far.
+-- These are the states of the round of this number, no round before is inductive, and the count rose by the changes so
+-- far.
 pub record AreSought {S : Type 0} (flow : Flow S) (fits : ℕ → S → Type 0) (first number : ℕ) (kept : Kept S) (count : ℕ) : Type 0 where
   pub is_kept : IsKept flow fits kept
   pub is : states_of kept.blocks.items ≡ round flow number

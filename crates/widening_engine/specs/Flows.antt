@@ -34,7 +34,8 @@ pub record AreEdges {S : Type 0} (flow : Flow S) (edges : List Edge) : Type 0 wh
   pub from : (place : ℕ) → place < flow.edges → (edge_at edges place).from ≡ flow.source place
   pub to : (place : ℕ) → place < flow.edges → (edge_at edges place).to ≡ flow.target place
 
--- The graph has as many blocks and edges as the flow, and each edge at its place begins and ends where that of the flow does.
+-- The graph has as many blocks and edges as the flow, and each edge at its place begins and ends where that of the flow
+-- does.
 pub record IsGraphOf {S : Type 0} (flow : Flow S) (graph : Graph) : Type 0 where
   pub blocks : length graph.blocks ≡ flow.blocks
   pub edges : AreEdges flow graph.edges

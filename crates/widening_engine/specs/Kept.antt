@@ -47,8 +47,8 @@ all_behind flow states = map (behind flow states) (places flow.edges)
 abbrev pub flowing : {S : Type 0} → Flow S → List S → ℕ → S
 flowing flow states block = merge flow (incoming flow states block)
 
--- What is kept, where the states behind the edges are those from the states `before`: so is each join, but those of the blocks that are to be joined anew,
--- and what is known to be included was so in these states.
+-- What is kept, where the states behind the edges are those from the states `before`: so is each join, but those of the
+-- blocks that are to be joined anew, and what is known to be included was so in these states.
 pub record IsKeptOf {S : Type 0} (flow : Flow S) (fits : ℕ → S → Type 0) (before : List S) (kept : Kept S) : Type 0 where
   pub entry : kept.entry ≡ flow.entry
   pub blocks : length kept.blocks.items ≡ flow.blocks
@@ -110,8 +110,8 @@ pub record AreTold {S : Type 0} (flow : Flow S) (before states : List S) (change
   pub count : length changed ≡ flow.blocks
   pub told : (block : ℕ) → block < flow.blocks → TellsChange (state_at flow before block) (state_at flow states block) (get_or changed block false)
 
--- The edges whose source has changed are computed again, and each block to which another state flows is to be joined anew. Nothing
--- else counts as included than before, and nothing where one of the two states has changed.
+-- The edges whose source has changed are computed again, and each block to which another state flows is to be joined
+-- anew. Nothing else counts as included than before, and nothing where one of the two states has changed.
 pub record IsRefreshed {S : Type 0} (flow : Flow S) (changed : List Bool) (old new : Kept S) : Type 0 where
   pub entry : new.entry ≡ old.entry
   pub blocks : new.blocks.items ≡ old.blocks.items
@@ -133,7 +133,8 @@ pub record IsMarked (target : ℕ) (old new : List Bool) (same : Type 0) : Type 
   pub kept : (block : ℕ) → get_or new block false ≡ false → get_or old block false ≡ false
   pub told : get_or new target false ≡ false → same
 
--- No other mark is set than before. That of the edge is set only where its target has not changed, and what is told of the edge is so.
+-- No other mark is set than before. That of the edge is set only where its target has not changed, and what is told of
+-- the edge is so.
 pub record IsStillKnown (edge : ℕ) (changed : Bool) (old new : List Bool) (same : Type 0) : Type 0 where
   pub count : length new ≡ length old
   pub kept : (k : ℕ) → get_or new k false ≡ true → get_or old k false ≡ true

@@ -10,7 +10,8 @@ pub record Flow (S : Type 0) : Type 0 where
   -- The blocks where an edge begins and ends.
   pub source : ℕ → ℕ
   pub target : ℕ → ℕ
-  -- The state where the code begins, the one of what is never reached, and the one of a block about which nothing is known.
+  -- The state where the code begins, the one of what is never reached, and the one of a block about which nothing is
+  -- known.
   pub entry : S
   pub nothing : S
   pub unknown : ℕ → S
@@ -120,7 +121,7 @@ first_inductive flow = unwrap_or (find (is_inductive flow) (map (round flow) (pl
 unfoldable pub settled : {S : Type 0} → Flow S → List S → List S
 settled flow states = let later = next flow (next flow states) in if is_inductive flow later then later else states
 
--- What the analysis answers: the states of the first inductive round, or that nothing is known, and then two plain rounds
--- later, where those are inductive too.
+-- What the analysis answers: the states of the first inductive round, or that nothing is known, and then two plain
+-- rounds later, where those are inductive too.
 unfoldable pub limit : {S : Type 0} → Flow S → List S
 limit flow = settled flow (first_inductive flow)

@@ -29,7 +29,8 @@ abbrev pub sought : {S : Type 0} → Flow S → Option ℕ → List (List S)
 sought flow (Some number) = tried flow (Some number)
 sought flow None = tried flow None ++ all_unknown flow ∷ []
 
--- The states that the analysis goes through, in turn: the last of those that are sought are carried on for two plain rounds.
+-- The states that the analysis goes through, in turn: the last of those that are sought are carried on for two plain
+-- rounds.
 unfoldable pub rounds : {S : Type 0} → Flow S → List (List S)
 rounds flow = sought flow (first_stop flow) ++ next flow (first_inductive flow) ∷ next flow (next flow (first_inductive flow)) ∷ []
 

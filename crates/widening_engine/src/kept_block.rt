@@ -104,8 +104,8 @@ impl<S: FlowState + Drop> KeptBlock<S> {
         Ok(changed)
     }
 
-    /// Goes on to the next state, and tells whether it is another one: what flows into the block, or the widening of the
-    /// old state by that. `fresh` is what flows into it, where that was joined anew.
+    /// Goes on to the next state, and tells whether it is another one: what flows into the block, or the widening of
+    /// the old state by that. `fresh` is what flows into it, where that was joined anew.
     pub(crate) fn step(
         &mut self,
         alloc: Global,

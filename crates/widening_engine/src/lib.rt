@@ -1,5 +1,5 @@
-//! The rounds of an analysis: states flow along the edges between blocks until they settle. And what finds the invariants of
-//! units by them.
+//! The rounds of an analysis: states flow along the edges between blocks until they settle. And what finds the
+//! invariants of units by them.
 #![tactic(auto)]
 
 mod dirty;

@@ -47,7 +47,8 @@ pub fn judge_world(
     // There is one for each obligation, in the order of the code.
     ensures each { IfOk result (λ found.
         map (map (λ verdict. verdict.obligation)) found.items ≡ map (λ code. obligations_of code.unit) codes.now) }
-    // Where all are proved, each method is safe in every world of these units that agree on what they say of each other.
+    // Where all are proved, each method is safe in every world of these units that agree on what they say of each
+    // other.
     ensures sound { IfOk result (λ found. IsTrue (all_proved found.items) → MakesSafe codes.now) }
 {
     let found = judge_each(alloc, codes, invariants)?;

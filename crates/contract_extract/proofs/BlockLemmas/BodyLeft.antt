@@ -22,7 +22,8 @@ use Rattle.contract_extract.proofs.BlockLemmas.EmptyStart.{starts_empty}
 use Rattle.contract_extract.proofs.FaultLemmas.NoFaults.{no_first, none_in_both, none_of_each}
 use Rattle.contract_extract.proofs.BlockLemmas.Segments.{body_left, body_segment, body_starts, clause_faults_with, segment}
 
--- The body is all code from its start on. Nothing is wrong with an instruction of it, none closes anything, and the stack before it is empty.
+-- The body is all code from its start on. Nothing is wrong with an instruction of it, none closes anything, and the
+-- stack before it is empty.
 pub record BodyLeft (is : List Instr) (stacks : Stacks) : Type 0 where
   pub body : List Instr
   pub all_of : AreAllFrom is (start_of_body is) body
@@ -31,7 +32,8 @@ pub record BodyLeft (is : List Instr) (stacks : Stacks) : Type 0 where
   pub right : flat_map (body_faults (start_of_body is)) body ≡ []
 
 module _ (is : List Instr) (shape : Shape) (stacks : Stacks) (short : AreOfShortCode is) (decoded : AreDecoded is) (kinds : KindsOf shape is stacks) where
-  -- These instructions are left from an IL offset on, where the code of the next clause begins, or else the body: with an empty stack.
+  -- These instructions are left from an IL offset on, where the code of the next clause begins, or else the body: with
+  -- an empty stack.
   record IsLeft (start : ℕ) (rest : List Instr) : Type 0 where
     all_of : AreAllFrom is start rest
     empty : stack_at is stacks start ≡ Some []

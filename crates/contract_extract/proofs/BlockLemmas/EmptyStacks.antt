@@ -1,5 +1,5 @@
--- Behind a call that closes a clause, or the block, the stack of code that has kinds is empty: a way comes to the call with
--- as many values as typing has kinds there, and these are exactly the call's arguments.
+-- Behind a call that closes a clause, or the block, the stack of code that has kinds is empty: a way comes to the call
+-- with as many values as typing has kinds there, and these are exactly the call's arguments.
 use Rattle.std.proofs.Common.{◌≡◌, ℕ, zero, suc, ◌+◌, ◌<◌, ◌≤◌, Bool, true, false, nat_lt, nat_le, List, [], ◌∷◌, length, take, drop, Option, Some, None, option_map, if◌then◌else◌, slice_get, refl, sym, ap, subst, ◌∙◌, arith, inl, inr}
 use Rattle.std.specs.List.{AllByRecursion, flat_map}
 use Rattle.std.specs.Option.{option_and_then, option_map_or}
@@ -217,8 +217,8 @@ absorbs_empty before after empty absorbs =
 
 -- ---- the code up to a closing call
 
--- The code from an IL offset to a call that closes a clause, or the block, with nothing wrong with an instruction of it. No
--- other one of it closes anything.
+-- The code from an IL offset to a call that closes a clause, or the block, with nothing wrong with an instruction of
+-- it. No other one of it closes anything.
 pub record IsCode (is : List Instr) (shape : Shape) (start : ℕ) (call : Instr) : Type 0 where
   pub short : AreOfShortCode is
   pub closes_it : closes call.op ≡ true

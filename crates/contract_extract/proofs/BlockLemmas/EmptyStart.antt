@@ -1,4 +1,5 @@
--- Code that has kinds begins with an empty stack: the first instruction's is so before all passes, and no pass changes it.
+-- Code that has kinds begins with an empty stack: the first instruction's is so before all passes, and no pass changes
+-- it.
 use Rattle.std.proofs.Common.{◌≡◌, ℕ, zero, suc, ◌+◌, ◌==◌, List, [], ◌∷◌, length, Option, Some, None, Result, Ok, Err, refl, ap, subst, ◌∙◌, arith}
 use Rattle.std.specs.Option.{option_or}
 use Rattle.std.proofs.lemmas.Bool.{cond_both, eq-eqb}

@@ -85,8 +85,8 @@ module _ (is : List Instr) (shape : Shape) (stacks : Stacks) (short : AreOfShort
   abbrev IsNumber : ClauseKind × Option Term → Type 0
   IsNumber told = IsNumberTold shape told
 
-  -- The instructions from an IL offset on are left. The code of a clause begins at another, with an empty stack, and up to here
-  -- nothing is wrong with it, whatever call closes it.
+  -- The instructions from an IL offset on are left. The code of a clause begins at another, with an empty stack, and up
+  -- to here nothing is wrong with it, whatever call closes it.
   record Reading (start from : ℕ) (rest : List Instr) : Type 0 where
     lie : LieFrom from rest
     there : AllByRecursion (λ j. instr_at is j.at ≡ Some j) rest

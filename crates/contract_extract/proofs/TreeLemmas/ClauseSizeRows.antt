@@ -1,4 +1,5 @@
--- Clauses at their limits, worked by hand: the nodes, the conditions on a way, and parts that stand in a tree more than once.
+-- Clauses at their limits, worked by hand: the nodes, the conditions on a way, and parts that stand in a tree more than
+-- once.
 use Rattle.std.proofs.Common.{◌≡◌, ℕ, zero, suc, ◌+◌, pos, true, false, List, [], ◌∷◌, ◌++◌, Some, refl}
 use Rattle.cil_model.specs.ClauseTrees.{tree_of}
 use Rattle.cil_model.specs.Terms.{Term, Const, Arg, Un, Old, Cond, term_size, old_count}

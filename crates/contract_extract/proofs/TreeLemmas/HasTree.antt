@@ -277,7 +277,8 @@ module _ (is : List Instr) (shape : Shape) (last : ℕ) (allowed : ℕ → Bool)
 
 -- ---- the whole code
 
--- The code from an IL offset to a call that closes a clause, with nothing wrong in it. No other instruction of it closes anything.
+-- The code from an IL offset to a call that closes a clause, with nothing wrong in it. No other instruction of it
+-- closes anything.
 pub record IsClause (is : List Instr) (shape : Shape) (start : ℕ) (call : Instr) : Type 0 where
   pub short : AreOfShortCode is
   pub targets : AllByRecursion (λ i. AllByRecursion (λ at. begins_at is at ≡ true) (branch_targets i.op)) is

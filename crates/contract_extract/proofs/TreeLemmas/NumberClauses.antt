@@ -370,7 +370,8 @@ module _ (is : List Instr) (shape : Shape) (start : ℕ) (call : Instr) (clause 
       let same : i.at ≡ at = found_at is at i found in
       subst (NumbersAt most) same (instr_number most (numbers most) i (ap (instr_at is) same ∙ found) (omega (arith, same, above))) told items before few inside reached fits none
 
-  -- The clause of code with no fault is a number, where the method's code has kinds and the clause begins with an empty stack.
+  -- The clause of code with no fault is a number, where the method's code has kinds and the clause begins with an empty
+  -- stack.
   pub clause_is_number : (tree : Term) → stack_at is stacks start ≡ Some [] → start ≤ call.at → way_faults is shape start call ≡ [] → tree_of is start ≡ Some tree
       → kind_in shape.args shape.result (is_kind clause_kinds.Ensures clause.kind) tree ≡ Some Int
   clause_is_number tree empty inside none made =

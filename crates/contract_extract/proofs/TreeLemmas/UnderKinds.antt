@@ -1,4 +1,5 @@
--- The kind of a tree beside the kind that typing gives its value: a length counts as an int32, and null is of each kind of array.
+-- The kind of a tree beside the kind that typing gives its value: a length counts as an int32, and null is of each kind
+-- of array.
 use Rattle.std.proofs.Common.{◌≡◌, true, ◌&&◌, Some, refl, ap, subst, ◌∙◌, inl, inr}
 use Rattle.std.proofs.lemmas.Bool.{and_from, and_parts, false≢true, or_cases, or_left, or_right}
 use Rattle.std.proofs.lemmas.Option.{none-some, same_Some}

@@ -65,15 +65,16 @@ fn first_code_fault(alloc: Global, clause: &ClauseCode) -> Result<Option<ClauseF
 /// Answers the first fault of the code of one clause, but for its size. The code is that of the instructions from the
 /// one index up to the other, that of its closing call.
 ///
-/// The code is passed once, whatever its branches. What comes to an instruction is kept as the tops of stacks, each over an
-/// instruction to which the rest of it comes, and one instruction stands for all to which the same tops come. Where ways that
-/// meet have stacks of one height, whose values below the top have the same kinds and calls, at most seven tops come to an
-/// instruction, and the work is linear in the number of instructions. That holds unless different lists of tops share a
-/// number in the table by which equal ones are found: then those may be kept apart that are equal.
+/// The code is passed once, whatever its branches. What comes to an instruction is kept as the tops of stacks, each
+/// over an instruction to which the rest of it comes, and one instruction stands for all to which the same tops come.
+/// Where ways that meet have stacks of one height, whose values below the top have the same kinds and calls, at most
+/// seven tops come to an instruction, and the work is linear in the number of instructions. That holds unless different
+/// lists of tops share a number in the table by which equal ones are found: then those may be kept apart that are
+/// equal.
 ///
-/// Where ways meet whose stacks differ in height, which is a fault, or in kinds or calls below their tops, an instruction may
-/// have seven tops for each instruction before it. The work is then quadratic, and more where two operands are taken, since
-/// each pair of a top and a value below it is looked at.
+/// Where ways meet whose stacks differ in height, which is a fault, or in kinds or calls below their tops, an
+/// instruction may have seven tops for each instruction before it. The work is then quadratic, and more where two
+/// operands are taken, since each pair of a top and a value below it is looked at.
 pub(crate) fn check_clause(
     alloc: Global,
     instrs: &[Instr],

@@ -18,8 +18,8 @@ pub enum ClauseFault {
     /// A branch of the block to itself or to below.
     #[error("backward at IL_{0:04x}")]
     Backward(u32),
-    /// On some way that goes forward from where the clause's code starts, a call that closes something meets more values
-    /// than its own or fewer, or an operation before it meets too few.
+    /// On some way that goes forward from where the clause's code starts, a call that closes something meets more
+    /// values than its own or fewer, or an operation before it meets too few.
     #[error("stack left at IL_{0:04x}")]
     StackLeft(u32),
     /// A branch of a clause out of its own code, or of the body into the block.

@@ -1,5 +1,5 @@
-//! What lies ahead of the instructions of a clause's code: where the next part of its tree is made, and which values of the
-//! stack are dropped on each way. It is found once, from the last instruction to the first.
+//! What lies ahead of the instructions of a clause's code: where the next part of its tree is made, and which values of
+//! the stack are dropped on each way. It is found once, from the last instruction to the first.
 
 ghost use Rattle.std.specs.Prelude.{◌≡◌, ◌+◌, ◌<◌, ℕ, List, None, Some, IfOk, IfSome, length, map, slice_get};
 ghost use Rattle.cil_model.specs.ClauseTrees.{closing};

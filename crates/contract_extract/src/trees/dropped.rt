@@ -1,5 +1,5 @@
-//! Values on the stacks of a clause's code that its tree does not have. The call that closes a clause drops the value where a
-//! message should stand, and with it all that was made for that value alone.
+//! Values on the stacks of a clause's code that its tree does not have. The call that closes a clause drops the value
+//! where a message should stand, and with it all that was made for that value alone.
 
 ghost use Rattle.std.specs.Prelude.{◌≡◌, ◌+◌, ◌-◌, OnOk, IfOk};
 ghost use Rattle.contract_extract.specs.Dropping.{IsBelow, IsWithin, cut, makes, takes};

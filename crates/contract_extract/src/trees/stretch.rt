@@ -135,8 +135,8 @@ pub(crate) fn arrive(
     drop_values(stack, dropped, from.dropped.count)
 }
 
-/// Goes from an IL offset straight on to the instruction where the stretch ends, and leaves the stack that it finds. If the
-/// clause has a tree from the offset on, it is the one from there on.
+/// Goes from an IL offset straight on to the instruction where the stretch ends, and leaves the stack that it finds. If
+/// the clause has a tree from the offset on, it is the one from there on.
 pub(crate) fn run<'a>(
     alloc: Global,
     instrs: &'a [Instr],

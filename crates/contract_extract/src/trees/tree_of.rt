@@ -129,7 +129,8 @@ fn grow(
     )
 }
 
-/// The tree of the clause whose code begins at an IL offset, within limits. Nothing is grown where there is no such tree.
+/// The tree of the clause whose code begins at an IL offset, within limits. Nothing is grown where there is no such
+/// tree.
 pub(crate) fn grow_clause(
     alloc: Global,
     instrs: &[Instr],

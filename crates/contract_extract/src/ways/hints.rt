@@ -3,8 +3,8 @@
 use crate::ways::gather::KINDS;
 use std::alloc::{AllocError, Global};
 
-/// Where equal arrivals, and equal lists of them, may be found. What is found there is looked at before it is used, so what
-/// these hold does not matter.
+/// Where equal arrivals, and equal lists of them, may be found. What is found there is looked at before it is used, so
+/// what these hold does not matter.
 #[derive(Drop)]
 pub(crate) struct Hints {
     /// Places in the list that is gathered.

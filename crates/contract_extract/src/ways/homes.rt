@@ -70,8 +70,8 @@ fn is_home(stacks: &[Arrivals], index: usize, there: usize) -> bool
     there < index && are_same(arrivals_at(stacks, there), arrivals_at(stacks, index))
 }
 
-/// The instruction that stands for all to which the same arrivals come as to the one of this index. Where `homes` tells of
-/// none, it is that one itself. What `homes` holds does not matter.
+/// The instruction that stands for all to which the same arrivals come as to the one of this index. Where `homes` tells
+/// of none, it is that one itself. What `homes` holds does not matter.
 pub(crate) fn home(homes: &mut [usize], stacks: &[Arrivals], index: usize) -> usize
     ensures { IsHome stacks.now index result }
 {
