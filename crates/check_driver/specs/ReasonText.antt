@@ -3,8 +3,8 @@ use Rattle.std.specs.Prelude.{ℕ, ◌^◌, List, ◌++◌, nat_lt, if◌then◌
 use Rattle.cc_base.specs.Digits.{hex}
 use Rattle.cil_model.specs.declared.type_fault.TypeFault.{TypeFault}
 use Rattle.cil_model.specs.declared.type_fault.TypeFault.TheVariants as kinds
-use Rattle.contract_extract.specs.declared.faults.clause_fault.ClauseFault.{ClauseFault}
-use Rattle.contract_extract.specs.declared.faults.clause_fault.ClauseFault.TheVariants as clauses
+use Rattle.clause_faults.specs.declared.clause_fault.ClauseFault.{ClauseFault}
+use Rattle.clause_faults.specs.declared.clause_fault.ClauseFault.TheVariants as clauses
 use Rattle.il_decoder.specs.Labels.{label}
 use Rattle.il_decoder.specs.declared.fault.IlFault.{IlFault}
 use Rattle.il_decoder.specs.declared.fault.IlFault.TheVariants as code

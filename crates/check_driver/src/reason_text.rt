@@ -6,7 +6,7 @@ ghost use Rattle.check_driver.specs.ReasonText.{clause_reason, code_reason, kind
 
 use cc_base::put_hex;
 use cil_model::TypeFault;
-use contract_extract::ClauseFault;
+use clause_faults::ClauseFault;
 use il_decoder::{IlFault, put_label};
 use std::alloc::{AllocError, Global};
 use unit_builder::Reason;

@@ -1,4 +1,5 @@
 -- The contract block, clause by clause, and the body after it.
+pub mod BodyFaults
 pub mod BodyLeft
 pub mod BodyRuns
 pub mod ClausesByIndex

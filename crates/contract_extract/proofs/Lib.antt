@@ -1,4 +1,2 @@
-pub mod FaultLemmas
-pub mod WayLemmas
 pub mod TreeLemmas
 pub mod BlockLemmas

@@ -12,9 +12,9 @@ use Rattle.cil_model.specs.declared.clause.Clause.{Clause}
 use Rattle.cil_model.specs.declared.clause.ClauseKind.{ClauseKind}
 use Rattle.cil_model.specs.declared.instruction.Instr.{Instr}
 use Rattle.cil_model.specs.declared.shape.Shape.{Shape}
-use Rattle.contract_extract.specs.Faults.{faults_in, first_clause_fault, first_fault}
-use Rattle.contract_extract.specs.TooLarge.{passes_limit}
-use Rattle.contract_extract.specs.declared.faults.clause_fault.ClauseFault.{ClauseFault}
+use Rattle.clause_faults.specs.Faults.{faults_in, first_clause_fault, first_fault}
+use Rattle.clause_faults.specs.TooLarge.{passes_limit}
+use Rattle.clause_faults.specs.declared.clause_fault.ClauseFault.{ClauseFault}
 
 -- The kind of the clause that a call closes.
 abbrev pub closed_kind : Option (ClauseKind × Bool) → Option ClauseKind

@@ -1,13 +1,3 @@
-pub mod ClauseCodes
-pub mod PureCode
-pub mod Ways
-pub mod TooLarge
-pub mod Faults
-pub mod SharedStacks
-pub mod JoinedStacks
-pub mod ClauseLies
-pub mod GatheredStacks
-pub mod PassedInstr
 pub mod TreeStacks
 pub mod Growth
 pub mod Dropping

@@ -5,17 +5,15 @@ ghost use Rattle.std.specs.List.{AllByRecursion};
 ghost use Rattle.cil_model.specs.ClauseTrees.{closing, tree_of};
 ghost use Rattle.cil_model.specs.Code.{MeetsStarts};
 ghost use Rattle.cil_model.specs.ShortCode.{AreOfShortCode};
-ghost use Rattle.contract_extract.specs.ClauseLies.{clause_faults};
+ghost use Rattle.clause_faults.specs.ClauseLies.{clause_faults};
+ghost use Rattle.clause_faults.specs.Faults.{first_clause_fault, first_fault};
 ghost use Rattle.contract_extract.specs.Extracting.{ArePassed, BlockLeft, Goes, IsClosing, LeftBehind, ReadWithin, closed_kind, olds_of};
-ghost use Rattle.contract_extract.specs.Faults.{first_clause_fault, first_fault};
 
-use crate::faults::clause_code::check_clause;
-use crate::faults::clause_fault::{ClauseFault, ClauseRefusal};
-use crate::faults::own_faults::closes;
 use crate::read_clause::{ReadClause, read_clause};
 use cil_model::{
     Clause, ClauseKind, Instr, MAX_CLAUSES, MAX_OLD_VALUES, Op, Shape, UnitCall, unit_call,
 };
+use clause_faults::{ClauseFault, ClauseRefusal, check_clause, closes};
 use std::alloc::{AllocError, Global};
 
 /// The kind of the clause that an operation closes.

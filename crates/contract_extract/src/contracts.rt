@@ -10,13 +10,13 @@ ghost use Rattle.cil_model.specs.Passes.{KindsOf, Stacks};
 ghost use Rattle.cil_model.specs.ShortCode.{AreOfShortCode};
 ghost use Rattle.cil_model.specs.TreeKinds.{IsNumberClause};
 ghost use Rattle.cil_model.specs.WellFormed.{ClausesWithinLimits};
+ghost use Rattle.clause_faults.specs.Faults.{first_clause_fault};
 ghost use Rattle.contract_extract.specs.Extracting.{AreContracts};
-ghost use Rattle.contract_extract.specs.Faults.{first_clause_fault};
 
 use crate::block::read_clauses;
-use crate::faults::body_code::first_body_fault;
-use crate::faults::clause_fault::ClauseRefusal;
+use crate::body_code::first_body_fault;
 use cil_model::{Clause, Instr, List, Shape};
+use clause_faults::ClauseRefusal;
 use std::alloc::Global;
 
 /// What the contract block of a method says.

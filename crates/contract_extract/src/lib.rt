@@ -2,12 +2,9 @@
 #![tactic(auto)]
 
 mod block;
+mod body_code;
 mod contracts;
-mod faults;
-mod pure_code;
 mod read_clause;
 mod trees;
-mod ways;
 
 pub use contracts::{Contracts, extract};
-pub use faults::clause_fault::{ClauseFault, ClauseRefusal};

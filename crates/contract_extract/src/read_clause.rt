@@ -4,7 +4,7 @@ ghost use Rattle.std.specs.Prelude.{◌≡◌, true, false, None, Some, IfOk, If
 ghost use Rattle.cil_model.specs.ClauseTrees.{tree_of};
 ghost use Rattle.cil_model.specs.Terms.{old_count};
 ghost use Rattle.cil_model.specs.ShortCode.{AreOfShortCode};
-ghost use Rattle.contract_extract.specs.TooLarge.{is_too_large};
+ghost use Rattle.clause_faults.specs.TooLarge.{is_too_large};
 
 use crate::trees::limits::Limits;
 use crate::trees::tree_counts::old_values;

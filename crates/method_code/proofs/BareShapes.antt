@@ -17,12 +17,12 @@ use Rattle.cil_model.specs.declared.place.Place.{Place}
 use Rattle.cil_model.specs.declared.shape.Shape.{Shape}
 use Rattle.cil_model.specs.declared.unit_numbers.UnitCall.{UnitCall}
 use Rattle.cil_model.specs.declared.unit_numbers.UnitCall.TheVariants as calls
-use Rattle.contract_extract.specs.ClauseCodes.{closing_of, goes_forward, start_behind}
-use Rattle.contract_extract.specs.Faults.{body_faults, faults_in, faults_of, first_clause_fault, first_fault, limit_faults, with_clause}
-use Rattle.contract_extract.specs.PureCode.{is_clause_call, is_pure, is_pure_before, calls_with_message}
-use Rattle.contract_extract.specs.Ways.{Told, closing_faults, faults_at, faults_from, faults_here, stack_behind, stack_by, way_faults, ways_behind}
-use Rattle.contract_extract.specs.declared.faults.clause_fault.ClauseFault.{ClauseFault}
-use Rattle.contract_extract.specs.declared.faults.clause_fault.ClauseFault.TheVariants.{StackLeft}
+use Rattle.clause_faults.specs.ClauseCodes.{closing_of, goes_forward, start_behind}
+use Rattle.clause_faults.specs.Faults.{body_faults, faults_in, faults_of, first_clause_fault, first_fault, limit_faults, with_clause}
+use Rattle.clause_faults.specs.PureCode.{is_clause_call, is_pure, is_pure_before, calls_with_message}
+use Rattle.clause_faults.specs.Ways.{Told, closing_faults, faults_at, faults_from, faults_here, stack_behind, stack_by, way_faults, ways_behind}
+use Rattle.clause_faults.specs.declared.clause_fault.ClauseFault.{ClauseFault}
+use Rattle.clause_faults.specs.declared.clause_fault.ClauseFault.TheVariants.{StackLeft}
 
 -- The shape of this result and these arguments, and of nothing else.
 abbrev bare : Place → List Place → Shape

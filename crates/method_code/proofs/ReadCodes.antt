@@ -12,9 +12,9 @@ use Rattle.cil_model.specs.declared.clause.Clause.{Clause}
 use Rattle.cil_model.specs.declared.instruction.Instr.{Instr}
 use Rattle.cil_model.specs.declared.shape.Shape.{Shape}
 use Rattle.cil_model.proofs.Rows.{code_is_decoded}
+use Rattle.clause_faults.specs.Faults.{first_clause_fault}
+use Rattle.clause_faults.specs.declared.clause_fault.ClauseFault.{ClauseFault}
 use Rattle.contract_extract.specs.Extracting.{AreContracts}
-use Rattle.contract_extract.specs.Faults.{first_clause_fault}
-use Rattle.contract_extract.specs.declared.faults.clause_fault.ClauseFault.{ClauseFault}
 use Rattle.contract_extract.specs.declared.contracts.Contracts.{Contracts}
 use Rattle.contract_extract.proofs.TreeLemmas.AllNumbers.{all_numbers}
 use Rattle.contract_extract.proofs.BlockLemmas.BodyRuns.{body_runs}

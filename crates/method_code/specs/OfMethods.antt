@@ -16,7 +16,7 @@ use Rattle.cil_model.specs.declared.place.Kind.TheVariants as kinds
 use Rattle.cil_model.specs.declared.place.Place.{Place}
 use Rattle.cil_model.specs.declared.place.Place.TheVariants as places
 use Rattle.cil_model.specs.declared.shape.Shape.{Shape}
-use Rattle.contract_extract.specs.Faults.{first_clause_fault}
+use Rattle.clause_faults.specs.Faults.{first_clause_fault}
 use Rattle.il_decoder.specs.Body.{body_code}
 use Rattle.il_decoder.specs.Decoding.{code_tests, instructions_of}
 use Rattle.method_code.specs.Meanings.{Meaning}

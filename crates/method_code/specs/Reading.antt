@@ -11,8 +11,8 @@ use Rattle.cil_model.specs.TreeKinds.{IsNumberClause}
 use Rattle.cil_model.specs.WellFormed.{ClausesWithinLimits}
 use Rattle.cil_model.specs.declared.instruction.Instr.{Instr}
 use Rattle.cil_model.specs.declared.shape.Shape.{Shape}
+use Rattle.clause_faults.specs.Faults.{first_clause_fault}
 use Rattle.contract_extract.specs.Extracting.{AreContracts}
-use Rattle.contract_extract.specs.Faults.{first_clause_fault}
 use Rattle.contract_extract.specs.declared.contracts.Contracts.{Contracts}
 use Rattle.il_decoder.specs.Decoding.{code_tests, instructions_of}
 use Rattle.method_code.specs.Called.{callees_of}

@@ -3,7 +3,8 @@
 use crate::steps::{joined, shape};
 use cc_base::Refusal;
 use cil_model::Place;
-use contract_extract::{ClauseFault, Contracts, extract};
+use clause_faults::ClauseFault;
+use contract_extract::{Contracts, extract};
 use il_decoder::decode;
 use std::alloc::{AllocError, Global};
 use std::process::Abort;

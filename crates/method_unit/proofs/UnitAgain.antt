@@ -11,7 +11,7 @@ use Rattle.cil_model.specs.WellFormed.{IsWellFormed, told_by_code}
 use Rattle.cil_model.specs.declared.clause.Clause.{Clause}
 use Rattle.cil_model.specs.declared.instruction.Instr.{Instr}
 use Rattle.cil_model.specs.declared.unit.Unit.{Unit as MethodUnit}
-use Rattle.contract_extract.specs.Faults.{fault_at as clause_fault_at}
+use Rattle.clause_faults.specs.Faults.{fault_at as clause_fault_at}
 use Rattle.flow_graph.proofs.GraphFacts.{blocks_counted}
 use Rattle.flow_graph.specs.BlocksOf.{block_starts}
 use Rattle.il_decoder.proofs.Sequence.{code_only}

@@ -15,7 +15,7 @@ use Rattle.cil_model.specs.declared.instruction.Instr.{Instr}
 use Rattle.cil_model.specs.declared.shape.Shape.{Shape}
 use Rattle.cil_model.specs.declared.unit.Unit.{Unit as MethodUnit}
 use Rattle.cil_model.proofs.Rows.{code_is_decoded}
-use Rattle.contract_extract.specs.Faults.{first_clause_fault}
+use Rattle.clause_faults.specs.Faults.{first_clause_fault}
 use Rattle.flow_graph.specs.BlocksOf.{block_starts}
 use Rattle.flow_graph.proofs.GraphFacts.{blocks_counted}
 use Rattle.il_decoder.specs.Decoding.{instructions_of}

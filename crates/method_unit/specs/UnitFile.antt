@@ -17,7 +17,7 @@ use Rattle.cil_model.specs.declared.instruction.Op.{Op}
 use Rattle.cil_model.specs.declared.instruction.Op.TheVariants as ops
 use Rattle.cil_model.specs.declared.shape.Shape.{Shape}
 use Rattle.cil_model.specs.declared.unit.Unit.{Unit as MethodUnit}
-use Rattle.contract_extract.specs.Faults.{fault_at as clause_fault_at, first_clause_fault}
+use Rattle.clause_faults.specs.Faults.{fault_at as clause_fault_at, first_clause_fault}
 use Rattle.flow_graph.specs.BlocksOf.{block_starts}
 use Rattle.il_decoder.specs.Decoding.{code_tests, instructions_of}
 use Rattle.il_decoder.specs.Faults.{fault_at as il_fault_at}

@@ -10,7 +10,7 @@ use Rattle.cil_model.specs.WellFormed.{IsWellFormed}
 use Rattle.cil_model.specs.declared.instruction.Instr.{Instr}
 use Rattle.cil_model.specs.declared.shape.Shape.{Shape}
 use Rattle.cil_model.specs.declared.unit.Unit.{Unit as MethodUnit}
-use Rattle.contract_extract.specs.Faults.{first_clause_fault}
+use Rattle.clause_faults.specs.Faults.{first_clause_fault}
 use Rattle.cil_model.specs.Offsets.{AreLaidOut}
 
 -- The unit is well formed, and its code has no fault of clauses.

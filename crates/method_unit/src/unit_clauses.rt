@@ -24,7 +24,7 @@ use flow_graph::block_starts;
 use std::alloc::Global;
 
 /// The clauses of the code, which begins at the offset `base` of the file, and the start of its body.
-#[tactic(auto, using(contract_extract::proofs::FaultLemmas::FaultPlaces::clause_fault_place), unfolding(crate::specs::UnitFile::clause_test))]
+#[tactic(auto, using(clause_faults::proofs::FaultLemmas::FaultPlaces::clause_fault_place), unfolding(crate::specs::UnitFile::clause_test))]
 pub fn read_contracts(
     alloc: Global,
     instrs: &[Instr],

@@ -23,7 +23,7 @@ use Rattle.cil_model.specs.declared.instruction.Op.TheVariants as ops
 use Rattle.cil_model.specs.declared.shape.Shape.{Shape}
 use Rattle.cil_model.specs.declared.unit.CalleeInfo.{CalleeInfo}
 use Rattle.cil_model.specs.declared.unit.Unit.{Unit as MethodUnit}
-use Rattle.contract_extract.specs.Faults.{first_clause_fault}
+use Rattle.clause_faults.specs.Faults.{first_clause_fault}
 use Rattle.il_decoder.specs.Body.{body_code, body_fault, code_at, code_fault, header_at}
 use Rattle.il_decoder.specs.Decoding.{code_tests as decoding_tests}
 use Rattle.il_decoder.specs.declared.body.Header.{Header}

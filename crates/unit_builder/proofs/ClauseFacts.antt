@@ -13,8 +13,8 @@ use Rattle.cil_model.specs.declared.instruction.Instr.{Instr}
 use Rattle.cil_model.specs.declared.place.Kind.{Kind}
 use Rattle.cil_model.specs.declared.place.Kind.TheVariants as kinds
 use Rattle.cil_model.specs.declared.shape.Shape.{Shape}
-use Rattle.contract_extract.specs.Faults.{first_clause_fault}
-use Rattle.contract_extract.specs.declared.faults.clause_fault.ClauseFault.{ClauseFault}
+use Rattle.clause_faults.specs.Faults.{first_clause_fault}
+use Rattle.clause_faults.specs.declared.clause_fault.ClauseFault.{ClauseFault}
 use Rattle.contract_extract.specs.declared.contracts.Contracts.{Contracts}
 use Rattle.method_code.specs.OfMethods.{args_of, bare_shape, clauses_of as clauses_with, instrs_of, is_number, is_number_clause, known_clauses, result_of, told_clauses}
 use Rattle.method_code.specs.Reading.{AreContractsOf, IsCodeOf}

@@ -7,8 +7,8 @@ use Rattle.cc_base.specs.Tests.{first_of, Judges}
 use Rattle.cc_base.proofs.TestLemmas.{first_of-none}
 use Rattle.cil_model.specs.ShortCode.{AreOfShortCode}
 use Rattle.cil_model.specs.declared.instruction.Instr.{Instr}
-use Rattle.contract_extract.specs.Faults.{first_clause_fault}
-use Rattle.contract_extract.specs.declared.faults.clause_fault.ClauseFault.{ClauseFault}
+use Rattle.clause_faults.specs.Faults.{first_clause_fault}
+use Rattle.clause_faults.specs.declared.clause_fault.ClauseFault.{ClauseFault}
 use Rattle.contract_extract.specs.declared.contracts.Contracts.{Contracts}
 use Rattle.il_decoder.specs.Decoding.{instructions_of}
 use Rattle.method_code.proofs.BareShapes.{bare_faults}

@@ -8,8 +8,8 @@ use Rattle.cc_base.proofs.TestLemmas.{first_of-append_none, first_of-append_some
 use Rattle.cil_model.specs.Limits.{MAX_BLOCKS, MAX_CODE_BYTES, MAX_INSTRUCTIONS}
 use Rattle.cil_model.specs.declared.place.Place.{Place}
 use Rattle.cil_model.specs.declared.type_fault.TypeFault.{TypeFault}
-use Rattle.contract_extract.specs.Faults.{first_clause_fault}
-use Rattle.contract_extract.specs.declared.faults.clause_fault.ClauseFault.{ClauseFault}
+use Rattle.clause_faults.specs.Faults.{first_clause_fault}
+use Rattle.clause_faults.specs.declared.clause_fault.ClauseFault.{ClauseFault}
 use Rattle.il_decoder.specs.Body.{header_at}
 use Rattle.il_decoder.specs.declared.body.Header.{Header}
 use Rattle.il_decoder.specs.declared.fault.IlFault.{IlFault}

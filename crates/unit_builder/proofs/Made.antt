@@ -13,7 +13,7 @@ use Rattle.cil_model.specs.Bodies.{HasBody}
 use Rattle.cil_model.specs.WellFormed.{ClausesWithinLimits, InOrderOfUse, IsWellFormed, called_by, told_by_code}
 use Rattle.cil_model.specs.TreeKinds.{IsNumberClause}
 use Rattle.cil_model.specs.declared.unit.Unit.{Unit as MethodUnit}
-use Rattle.contract_extract.specs.Faults.{first_clause_fault}
+use Rattle.clause_faults.specs.Faults.{first_clause_fault}
 use Rattle.flow_graph.proofs.GraphFacts.{blocks_counted}
 use Rattle.il_decoder.specs.Body.{body_fault, header_at}
 use Rattle.il_decoder.specs.declared.body.Header.{Header}

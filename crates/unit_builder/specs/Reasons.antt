@@ -13,7 +13,7 @@ use Rattle.cil_model.specs.declared.instruction.Instr.{Instr}
 use Rattle.cil_model.specs.declared.place.Place.TheVariants as places
 use Rattle.cil_model.specs.declared.shape.Shape.{Shape}
 use Rattle.cil_model.specs.declared.unit.CalleeInfo.{CalleeInfo}
-use Rattle.contract_extract.specs.Faults.{first_clause_fault}
+use Rattle.clause_faults.specs.Faults.{first_clause_fault}
 use Rattle.flow_graph.specs.BlocksOf.{block_starts}
 use Rattle.il_decoder.specs.Body.{header_at}
 use Rattle.il_decoder.specs.declared.body.Header.{Header}

@@ -5,7 +5,7 @@ ghost use Rattle.cc_base.specs.declared.refusal.Refusal.TheVariants.{Bad};
 
 use cc_base::Refusal;
 use cil_model::TypeFault;
-use contract_extract::ClauseFault;
+use clause_faults::ClauseFault;
 use il_decoder::IlFault;
 
 /// The reasons why a method is not analysed. Where several hold, the first is reported.

@@ -13,13 +13,13 @@ use Rattle.cil_model.specs.declared.clause.ClauseKind.{ClauseKind}
 use Rattle.cil_model.specs.declared.instruction.Instr.{Instr}
 use Rattle.cil_model.specs.declared.shape.Shape.{Shape}
 use Rattle.cil_model.proofs.Lists.{all_append, all_split}
+use Rattle.clause_faults.specs.Faults.{body_faults, code_faults, faults_in, faults_of, first_clause_fault, limit_faults, with_clause}
+use Rattle.clause_faults.specs.Ways.{way_faults}
+use Rattle.clause_faults.proofs.FaultLemmas.NoFaults.{no_first, none_in_both, none_of_each}
 use Rattle.contract_extract.specs.Extracting.{NoneCloses}
-use Rattle.contract_extract.specs.Faults.{body_faults, code_faults, faults_in, faults_of, first_clause_fault, limit_faults, with_clause}
-use Rattle.contract_extract.specs.Ways.{way_faults}
 use Rattle.contract_extract.proofs.BlockLemmas.CodeFrom.{AreAllFrom, begins_below, found_behind, of_code, rest_behind, whole}
 use Rattle.contract_extract.proofs.BlockLemmas.EmptyStacks.{empty_behind}
 use Rattle.contract_extract.proofs.BlockLemmas.EmptyStart.{starts_empty}
-use Rattle.contract_extract.proofs.FaultLemmas.NoFaults.{no_first, none_in_both, none_of_each}
 use Rattle.contract_extract.proofs.BlockLemmas.Segments.{body_left, body_segment, body_starts, clause_faults_with, segment}
 
 -- The body is all code from its start on. Nothing is wrong with an instruction of it, none closes anything, and the

@@ -15,12 +15,12 @@ use Rattle.cil_model.specs.declared.instruction.Op.TheVariants as ops
 use Rattle.cil_model.specs.declared.shape.Shape.{Shape}
 use Rattle.cil_model.specs.declared.unit_numbers.UnitCall.{UnitCall}
 use Rattle.cil_model.specs.declared.unit_numbers.UnitCall.TheVariants as calls
-use Rattle.contract_extract.specs.Faults.{body_faults, fault_if, first_clause_fault}
-use Rattle.contract_extract.specs.Ways.{asked, asked_by}
-use Rattle.contract_extract.specs.declared.faults.clause_fault.ClauseFault.TheVariants.{IntoBlock, OldForm}
+use Rattle.clause_faults.specs.Faults.{body_faults, fault_if, first_clause_fault}
+use Rattle.clause_faults.specs.Ways.{asked, asked_by}
+use Rattle.clause_faults.specs.declared.clause_fault.ClauseFault.TheVariants.{IntoBlock, OldForm}
+use Rattle.clause_faults.proofs.FaultLemmas.NoFaults.{no_fault_if, none_in_both, none_of_each}
 use Rattle.contract_extract.proofs.BlockLemmas.BodyLeft.{body_is_left}
 use Rattle.contract_extract.proofs.BlockLemmas.CodeFrom.{all_found, of_rest, whole}
-use Rattle.contract_extract.proofs.FaultLemmas.NoFaults.{no_fault_if, none_in_both, none_of_each}
 
 -- ---- one instruction
 

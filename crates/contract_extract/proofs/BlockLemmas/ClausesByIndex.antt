@@ -10,12 +10,12 @@ use Rattle.cil_model.specs.Runs.{instr_at}
 use Rattle.cil_model.specs.declared.clause.ClauseKind.{ClauseKind}
 use Rattle.cil_model.specs.declared.instruction.Instr.{Instr}
 use Rattle.cil_model.specs.declared.shape.Shape.{Shape}
-use Rattle.cil_model.specs.ShortCode.{AreOfShortCode, IsOfShortCode, LieFrom}
-use Rattle.contract_extract.specs.Faults.{code_faults, faults_of, first_fault}
-use Rattle.contract_extract.specs.Ways.{way_faults}
+use Rattle.cil_model.specs.ShortCode.{AreOfShortCode}
+use Rattle.clause_faults.specs.Faults.{code_faults, faults_of, first_fault}
+use Rattle.clause_faults.specs.Ways.{way_faults}
+use Rattle.clause_faults.proofs.FaultLemmas.NoFaults.{no_first, none_in_both, none_of_each}
 use Rattle.contract_extract.proofs.TreeLemmas.HasTree.{IsClause, clause_has_tree}
-use Rattle.contract_extract.proofs.FaultLemmas.NoFaults.{no_first, none_in_both, none_of_each}
-use Rattle.contract_extract.proofs.BlockLemmas.SliceFound.{slice_found, slice_found_from}
+use Rattle.contract_extract.proofs.BlockLemmas.SliceFound.{in_order, slice_found}
 
 -- The instructions from the one index to the other are the code of a clause, the last its closing call, with no fault.
 pub record HasNoFault (is : List Instr) (shape : Shape) (first last : ℕ) (i call : Instr) : Type 0 where
@@ -45,16 +45,6 @@ index_found (i ∷ is) at j e = by (i.at == at) (index_found is at j) e
     by true rest e = (0, e)
     by false rest e = let (k, there) = rest e in (suc k, there)
 
-rise_from : (from : ℕ) (is : List Instr) (a b : ℕ) (x y : Instr) → LieFrom from is → AllByRecursion IsOfShortCode is → slice_get is a ≡ Some x → slice_get is b ≡ Some y
-    → a < b → x.at < y.at
-rise_from from [] a b x y lie each e f below = absurd cc
-rise_from from (i ∷ is) a zero x y lie each e f below = absurd (omega (arith, below))
-rise_from from (i ∷ is) zero (suc b) x y lie each e f below =
-    let same : i.at ≡ x.at = ap (λ (k : Instr). k.at) (same_Some i x e) in
-    let low : from + i.size ≤ y.at = (slice_found_from (from + i.size) is b y lie.1 each.1 f).0 in
-    omega (arith, same, low, lie.0, each.0.some)
-rise_from from (i ∷ is) (suc a) (suc b) x y lie each e f below = rise_from (from + i.size) is a b x y lie.1 each.1 e f (omega (arith, below))
-
 of_range : {X : Type 0} (P : X → Type 0) (xs : List X) (first n k : ℕ) (x : X) → AllByRecursion P (take n (drop first xs)) → slice_get xs k ≡ Some x
     → first ≤ k → k < first + n → P x
 of_range P [] first n k x all e low high = absurd cc
@@ -75,9 +65,6 @@ module _ (is : List Instr) (shape : Shape) (first last : ℕ) (i call : Instr) (
   pub no_way_faults : way_faults is shape i.at call ≡ []
   no_way_faults = none_wrong.1
 
-  offsets_rise : (a b : ℕ) (x y : Instr) → slice_get is a ≡ Some x → slice_get is b ≡ Some y → a < b → x.at < y.at
-  offsets_rise a b x y e f below = rise_from 0 is a b x y short.lie short.each e f below
-
   -- An instruction from the first one's offset on and below the call's has an index between theirs.
   record Among (j : Instr) : Type 0 where
     index : ℕ
@@ -91,7 +78,7 @@ module _ (is : List Instr) (shape : Shape) (first last : ℕ) (i call : Instr) (
       elim (cases_lt k last) [
         | inl high ↦
             elim (cases_lt k first) [
-              | inl low ↦ absurd (let up : j.at < i.at = offsets_rise k first j i there clean.first_is low in omega (arith, up, above))
+              | inl low ↦ absurd (let up : j.at < i.at = in_order is k first j i short low there clean.first_is in omega (arith, up, above))
               | inr low ↦ record { index = k; there = there; low = low; high = high }
             ]
         | inr high ↦ absurd (reaches k there high)
@@ -99,7 +86,7 @@ module _ (is : List Instr) (shape : Shape) (first last : ℕ) (i call : Instr) (
     where
       reaches : (k : ℕ) → slice_get is k ≡ Some j → last ≤ k → ⊥
       reaches k there high = elim (cases_lt last k) [
-        | inl more ↦ (let up : call.at < j.at = offsets_rise last k call j clean.last_is there more in omega (arith, up, below))
+        | inl more ↦ (let up : call.at < j.at = in_order is last k call j short more clean.last_is there in omega (arith, up, below))
         | inr same ↦
             let e : k ≡ last = omega (arith, same, high) in
             let one : j ≡ call = same_Some j call (sym there ∙ ap (slice_get is) e ∙ clean.last_is) in
@@ -127,7 +114,7 @@ module _ (is : List Instr) (shape : Shape) (first last : ℕ) (i call : Instr) (
 
   pub first_inside : i.at ≤ call.at
   first_inside = elim (cases_lt first last) [
-    | inl more ↦ (let up = offsets_rise first last i call clean.first_is clean.last_is more in omega (arith, up))
+    | inl more ↦ (let up = in_order is first last i call short more clean.first_is clean.last_is in omega (arith, up))
     | inr same ↦
         let e : first ≡ last = omega (arith, same, clean.order) in
         let one : i ≡ call = same_Some i call (sym clean.first_is ∙ ap (slice_get is) e ∙ clean.last_is) in

@@ -1,12 +1,12 @@
 -- One clause is closed: what is left of the block, or the first fault.
-use Rattle.std.proofs.Common.{◌≡◌, ℕ, zero, suc, ◌+◌, ◌-◌, ◌<◌, ◌≤◌, Bool, true, false, ◌||◌, get_or, List, [], ◌∷◌, ◌++◌, length, map, take, drop, Option, Some, None, IsSome, Result, Ok, Err, refl, sym, subst, ap, ◌∙◌, arith, append_assoc, append-nil, length-append, slice_get, slice_range, if◌then◌else◌}
+use Rattle.std.proofs.Common.{◌≡◌, ℕ, zero, suc, ◌+◌, ◌-◌, ◌<◌, ◌≤◌, Bool, false, get_or, List, [], ◌∷◌, ◌++◌, length, map, take, drop, Option, Some, None, IsSome, Result, Ok, Err, refl, sym, subst, ap, ◌∙◌, arith, append_assoc, append-nil, length-append, slice_get, slice_range, if◌then◌else◌}
 use Rattle.std.specs.Prelude.{nat_lt, IsErrAnd}
 use Rattle.cc_base.specs.Tests.{JudgesOrNoMemory}
 use Rattle.cc_base.specs.declared.refusal.Refusal.{Refusal}
 use Rattle.cc_base.specs.declared.refusal.Refusal.TheVariants.{Bad, NoMemory}
 use Rattle.std.specs.List.{AllByRecursion}
 use Rattle.std.specs.Option.{option_map_or}
-use Rattle.std.proofs.lemmas.Bool.{ltb-false}
+use Rattle.std.proofs.lemmas.Bool.{ltb-false, or_parts}
 use Rattle.std.proofs.lemmas.List.{map-append}
 use Rattle.std.proofs.lemmas.List.Sums.{sum_by_push}
 use Rattle.std.proofs.lemmas.Option.{get_or_from_slice_get, slice_get_within}
@@ -21,13 +21,14 @@ use Rattle.cil_model.specs.declared.clause.Clause.{Clause}
 use Rattle.cil_model.specs.declared.clause.ClauseKind.{ClauseKind}
 use Rattle.cil_model.specs.declared.instruction.Instr.{Instr}
 use Rattle.cil_model.specs.declared.shape.Shape.{Shape}
-use Rattle.contract_extract.specs.ClauseLies.{IsClauseCode, clause_faults, code_between}
+use Rattle.cil_model.proofs.Lists.{all_append}
+use Rattle.clause_faults.specs.ClauseLies.{IsClauseCode, clause_faults, code_between}
+use Rattle.clause_faults.specs.Faults.{code_faults, faults_in, first_clause_fault, first_fault, limit_faults, with_clause}
+use Rattle.clause_faults.specs.TooLarge.{are_too_many, is_too_large, old_values_in, passes_limit}
+use Rattle.clause_faults.specs.declared.clause_fault.ClauseFault.{ClauseFault}
+use Rattle.clause_faults.specs.declared.clause_fault.ClauseFault.TheVariants.{TooLong}
+use Rattle.clause_faults.proofs.WayLemmas.Between.{faults_are, from_drop}
 use Rattle.contract_extract.specs.Extracting.{BlockLeft, Goes, IsClosing, LeftBehind, NoneCloses, ReadWithin, closed_kind, olds_of}
-use Rattle.contract_extract.specs.Faults.{code_faults, faults_in, first_clause_fault, first_fault, limit_faults, with_clause}
-use Rattle.contract_extract.specs.TooLarge.{are_too_many, is_too_large, old_values_in, passes_limit}
-use Rattle.contract_extract.specs.declared.faults.clause_fault.ClauseFault.{ClauseFault}
-use Rattle.contract_extract.specs.declared.faults.clause_fault.ClauseFault.TheVariants.{TooLong}
-use Rattle.contract_extract.proofs.WayLemmas.Between.{faults_are}
 use Rattle.contract_extract.proofs.TreeLemmas.ClauseLimits.{told_length, told_olds}
 use Rattle.contract_extract.proofs.BlockLemmas.ClausesByIndex.{HasNoFault, has_tree}
 use Rattle.contract_extract.proofs.BlockLemmas.Extracted.{begins_there, between_is, by_code, by_rest, by_size, first_of_drop, lie_in_order, lies_behind, split_at}
@@ -54,7 +55,7 @@ first_of_code (i ∷ code) call rest = (i, refl)
 -- An instruction of the code, by its index.
 in_code : (is : List Instr) (first last : ℕ) → NoneCloses (take (last - first) (drop first is)) → (k : ℕ) (j : Instr) → first ≤ k → k < last → slice_get is k ≡ Some j → closes j.op ≡ false
 in_code is first last none k j above below there =
-    all_there (λ i. closes i.op ≡ false) (take (last - first) (drop first is)) (k - first) j none (in_front (last - first) (drop first is) (k - first) (omega (arith, above, below)) ∙ behind is first (k - first) ∙ ap (slice_get is) sum ∙ there)
+    all_there (λ i. closes i.op ≡ false) (take (last - first) (drop first is)) (k - first) j none (in_front (last - first) (drop first is) (k - first) (omega (arith, above, below)) ∙ sym (from_drop is first (k - first)) ∙ ap (slice_get is) sum ∙ there)
   where
     sum : first + (k - first) ≡ k
     sum = omega (arith, above)
@@ -65,32 +66,19 @@ in_code is first last none k j above below there =
     in_front (suc n) (x ∷ xs) zero l = refl
     in_front (suc n) (x ∷ xs) (suc m) l = in_front n xs m (omega (arith, l))
 
-    behind : (xs : List Instr) (n m : ℕ) → slice_get (drop n xs) m ≡ slice_get xs (n + m)
-    behind xs zero m = let same : m ≡ zero + m = omega arith in ap (slice_get xs) same
-    behind [] (suc n) m = refl
-    behind (x ∷ xs) (suc n) m = behind xs n m ∙ (let same : suc (n + m) ≡ suc n + m = omega arith in ap (slice_get (x ∷ xs)) same)
-
-neither : (a b : Bool) → (a || b) ≡ false → (a ≡ false) × (b ≡ false)
-neither false b e = (refl, e)
-neither true b e = absurd (cc)
-
-push_all : {X : Type 0} (P : X → Type 0) (xs : List X) (x : X) → AllByRecursion P xs → P x → AllByRecursion P (xs ++ x ∷ [])
-push_all P [] x all here = (here, tt)
-push_all P (y ∷ xs) x all here = (all.0, push_all P xs x all.1 here)
-
 -- A clause that keeps the limits with those before it.
 within_more : (clauses : List Clause) (kind : ClauseKind) (tree : Term) → ClausesWithinLimits clauses → passes_limit (map told_by_code clauses ++ (kind, Some tree) ∷ []) (Some tree) ≡ false
     → ClausesWithinLimits (clauses ++ record { kind = kind; tree = tree } ∷ [])
 within_more clauses kind tree within small =
     let all = map told_by_code clauses ++ (kind, Some tree) ∷ [] in
     let clause : Clause = record { kind = kind; tree = tree } in
-    let parts = neither (is_too_large tree) (are_too_many all) small in
-    let one = neither (nat_lt MAX_NODES (term_size tree)) (nat_lt MAX_CONDITIONS (condition_depth tree)) parts.0 in
-    let many = neither (nat_lt MAX_CLAUSES (length all)) (nat_lt MAX_OLD_VALUES (old_values_in all)) parts.1 in
+    let parts = or_parts (is_too_large tree) (are_too_many all) small in
+    let one = or_parts (nat_lt MAX_NODES (term_size tree)) (nat_lt MAX_CONDITIONS (condition_depth tree)) parts.0 in
+    let many = or_parts (nat_lt MAX_CLAUSES (length all)) (nat_lt MAX_OLD_VALUES (old_values_in all)) parts.1 in
     record {
       count = omega (arith, ltb-false _ _ many.0, told_length clauses kind (Some tree), length-append clauses (clause ∷ []));
-      nodes = push_all (λ clause. term_size clause.tree ≤ MAX_NODES) clauses clause within.nodes (ltb-false _ _ one.0);
-      conditions = push_all (λ clause. condition_depth clause.tree ≤ MAX_CONDITIONS) clauses clause within.conditions (ltb-false _ _ one.1);
+      nodes = all_append (λ clause. term_size clause.tree ≤ MAX_NODES) clauses (clause ∷ []) within.nodes (ltb-false _ _ one.0, tt);
+      conditions = all_append (λ clause. condition_depth clause.tree ≤ MAX_CONDITIONS) clauses (clause ∷ []) within.conditions (ltb-false _ _ one.1, tt);
       old_values = omega (arith, ltb-false _ _ many.1, told_olds clauses kind tree, sum_by_push (λ clause. old_count clause.tree) clauses clause);
     }
 

@@ -23,23 +23,22 @@ use Rattle.cil_model.specs.declared.instruction.Test.TheVariants as tests
 use Rattle.cil_model.specs.declared.place.Kind.{Kind}
 use Rattle.cil_model.specs.declared.place.Kind.TheVariants as kinds
 use Rattle.cil_model.specs.declared.place.Place.{Place}
-use Rattle.cil_model.specs.declared.place.Place.TheVariants as places
 use Rattle.cil_model.specs.declared.shape.Shape.{Shape}
 use Rattle.cil_model.specs.declared.unit_numbers.UnitCall.{UnitCall}
 use Rattle.cil_model.specs.declared.unit_numbers.UnitCall.TheVariants as calls
 use Rattle.cil_model.proofs.KindsGrow.{parts}
-use Rattle.cil_model.proofs.KindsSettle.{Absorbs, reached_begins, settled}
+use Rattle.cil_model.proofs.KindsSettle.{Absorbs, found_at, reached_begins, settled}
 use Rattle.cil_model.proofs.Lists.{of_found}
-use Rattle.contract_extract.specs.ClauseCodes.{goes_forward}
-use Rattle.contract_extract.specs.Faults.{faults_of}
-use Rattle.contract_extract.specs.PureCode.{calls_with_message, is_clause_call, is_pure, is_pure_before}
-use Rattle.contract_extract.specs.Ways.{Told, closing_faults, faults_at, faults_from, faults_here, made, stack_behind, way_faults, ways_behind}
-use Rattle.contract_extract.specs.declared.faults.clause_fault.ClauseFault.{ClauseFault}
-use Rattle.contract_extract.specs.declared.faults.clause_fault.ClauseFault.TheVariants.{StackLeft}
+use Rattle.clause_faults.specs.ClauseCodes.{goes_forward}
+use Rattle.clause_faults.specs.Faults.{faults_of}
+use Rattle.clause_faults.specs.PureCode.{calls_with_message, is_clause_call, is_pure, is_pure_before}
+use Rattle.clause_faults.specs.Ways.{Told, closing_faults, faults_at, faults_from, faults_here, made, stack_behind, way_faults, ways_behind}
+use Rattle.clause_faults.specs.declared.clause_fault.ClauseFault.{ClauseFault}
+use Rattle.clause_faults.specs.declared.clause_fault.ClauseFault.TheVariants.{StackLeft}
+use Rattle.clause_faults.proofs.FaultLemmas.NoFaults.{none_in_both}
 use Rattle.contract_extract.proofs.TreeLemmas.HasTree.{Onward, none_closing, none_here, right_from}
-use Rattle.contract_extract.proofs.BlockLemmas.InstrOffsets.{found_at, left, left_falls, left_most, left_some, next_begins}
-use Rattle.contract_extract.proofs.FaultLemmas.NoFaults.{none_in_both}
-use Rattle.contract_extract.proofs.TreeLemmas.PlacedCalls.{result_kind}
+use Rattle.contract_extract.proofs.BlockLemmas.InstrOffsets.{left, left_falls, left_most, left_some, next_begins}
+use Rattle.contract_extract.proofs.TreeLemmas.PlacedCalls.{result_kind, taken_kind}
 
 -- ---- as many values as kinds
 
@@ -118,14 +117,6 @@ test_long shape (tests.Cmp op) target told _ after long typed = absurd (none-som
 test_long shape test target told [] after long typed = absurd (none-some after typed)
 test_long shape test target told (kind ∷ rest) after long typed =
     dropped_one told kind rest long ∙ ap length (cond_some (is_tested kind) rest after typed).1
-
--- A place that takes a value holds one.
-taken_kind : (place : Place) (kind : Kind) → takes place kind ≡ true → (of_place : Kind) × (kind_of place ≡ Some of_place)
-taken_kind places.Void kind fits = absurd (false≢true fits)
-taken_kind places.Bool kind fits = (kinds.Int, refl)
-taken_kind places.Int kind fits = (kinds.Int, refl)
-taken_kind places.Bools kind fits = (kinds.Bools, refl)
-taken_kind places.Ints kind fits = (kinds.Ints, refl)
 
 old_long : (new : Told) (told : List Told) (place : Place) (before after : List Kind) → length told ≡ length before → behind_old place before ≡ Some after
     → length (new ∷ drop 1 told) ≡ length after

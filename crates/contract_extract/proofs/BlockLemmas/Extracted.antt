@@ -1,10 +1,10 @@
 -- One clause of a contract block after another.
-use Rattle.std.proofs.Common.{◌≡◌, ℕ, zero, suc, ◌+◌, ◌-◌, ◌<◌, ◌≤◌, ◌==◌, Bool, true, false, ◌&&◌, ◌||◌, List, [], ◌∷◌, ◌++◌, length, take, drop, get_or, length-append, length-drop, drop-drop, Option, Some, None, refl, sym, subst, ap, ◌∙◌, arith, append_assoc, slice_get}
+use Rattle.std.proofs.Common.{◌≡◌, ℕ, ◌+◌, ◌-◌, ◌<◌, ◌≤◌, ◌==◌, Bool, true, false, ◌&&◌, ◌||◌, List, [], ◌∷◌, ◌++◌, length, take, drop, length-append, length-drop, drop-drop, Option, Some, None, refl, sym, subst, ap, ◌∙◌, arith, append_assoc, slice_get}
 use Rattle.std.specs.Prelude.{nat_lt}
 use Rattle.std.specs.List.{AllByRecursion, flat_map}
 use Rattle.std.proofs.lemmas.Bool.Decides.{nat_tests}
 use Rattle.std.proofs.lemmas.List.{drop_more, length-take-le, take-append-drop, take_at}
-use Rattle.std.proofs.lemmas.Option.{slice_get_within}
+use Rattle.std.proofs.lemmas.Option.{get_or_from_slice_get, slice_get_within}
 use Rattle.cil_model.specs.Blocks.{closes}
 use Rattle.cil_model.specs.ClauseTrees.{closing}
 use Rattle.cil_model.specs.ShortCode.{AreOfShortCode, IsOfShortCode, LieFrom}
@@ -12,15 +12,17 @@ use Rattle.cil_model.specs.Terms.{Term}
 use Rattle.cil_model.specs.declared.clause.ClauseKind.{ClauseKind}
 use Rattle.cil_model.specs.declared.instruction.Instr.{Instr}
 use Rattle.cil_model.specs.declared.shape.Shape.{Shape}
-use Rattle.contract_extract.specs.ClauseLies.{LieInOrder, code_between}
-use Rattle.contract_extract.specs.ClauseLies as lies
+use Rattle.cil_model.proofs.Lists.{all_append}
+use Rattle.clause_faults.specs.ClauseLies.{LieInOrder, code_between}
+use Rattle.clause_faults.specs.ClauseLies as lies
+use Rattle.clause_faults.specs.Faults.{code_faults, comes_before, fault_at, fault_if, fault_rank, faults_in, faults_of, first_fault, limit_faults, with_clause}
+use Rattle.clause_faults.specs.SharedStacks.{either}
+use Rattle.clause_faults.specs.declared.clause_fault.ClauseFault.{ClauseFault}
+use Rattle.clause_faults.specs.declared.clause_fault.ClauseFault.TheVariants.{NotPure, Backward, StackLeft, IntoBlock, OldForm, TooLong}
+use Rattle.clause_faults.proofs.FaultLemmas.Earliest.{first_fault-append}
+use Rattle.clause_faults.proofs.FaultLemmas.FaultRanges.{Between, faults_above, faults_of_at, first_has, lower_first, way_faults_between}
+use Rattle.clause_faults.proofs.WayLemmas.Between.{from_drop}
 use Rattle.contract_extract.specs.Extracting.{NoneCloses}
-use Rattle.contract_extract.specs.Faults.{code_faults, comes_before, fault_at, fault_if, fault_rank, faults_in, faults_of, first_fault, limit_faults, with_clause}
-use Rattle.contract_extract.specs.SharedStacks.{either}
-use Rattle.contract_extract.specs.declared.faults.clause_fault.ClauseFault.{ClauseFault}
-use Rattle.contract_extract.specs.declared.faults.clause_fault.ClauseFault.TheVariants.{NotPure, Backward, StackLeft, IntoBlock, OldForm, TooLong}
-use Rattle.contract_extract.proofs.FaultLemmas.Earliest.{first_fault-append}
-use Rattle.contract_extract.proofs.FaultLemmas.FaultRanges.{Between, both_all, faults_above, faults_of_at, first_has, lower_first, way_faults_between}
 use Rattle.contract_extract.proofs.BlockLemmas.Segments.{clause_faults_with, segment}
 
 -- ---- where the code lies
@@ -32,18 +34,13 @@ in_order from (i ∷ is) lie each = (lie.0, each.0.some, omega (arith, lie.0, ea
 pub lie_in_order : (is : List Instr) → AreOfShortCode is → LieInOrder is
 lie_in_order is short = record { lie = in_order 0 is short.lie short.each }
 
-got : {X : Type 0} (xs : List X) (n : ℕ) (x : X) → slice_get xs n ≡ Some x → get_or xs n x ≡ x
-got [] n x there = absurd (cc)
-got (y ∷ xs) zero x there = cc
-got (y ∷ xs) (suc n) x there = got xs n x there
-
 -- The code up to a call, the call and what follows it.
 pub split_at : (is : List Instr) (first last : ℕ) (call : Instr) → first ≤ last → slice_get is last ≡ Some call → drop first is ≡ take (last - first) (drop first is) ++ call ∷ drop (last + 1) is
 split_at is first last call le there =
     let sum : first + (last - first) ≡ last = omega (arith, le) in
     sym (take-append-drop (last - first) (drop first is))
     ∙ ap (λ rest. take (last - first) (drop first is) ++ rest)
-    (drop-drop (last - first) first is ∙ ap (λ (n : ℕ). drop n is) sum ∙ drop_more is last call (slice_get_within is last call there) ∙ ap (λ c. c ∷ drop (last + 1) is) (got is last call there))
+    (drop-drop (last - first) first is ∙ ap (λ (n : ℕ). drop n is) sum ∙ drop_more is last call (slice_get_within is last call there) ∙ ap (λ c. c ∷ drop (last + 1) is) (get_or_from_slice_get is last call call there))
 
 pub between_is : (is : List Instr) (first last : ℕ) (call : Instr) → first ≤ last → slice_get is last ≡ Some call → code_between is first last ≡ take (last - first) (drop first is) ++ call ∷ []
 between_is is first last call le there =
@@ -61,10 +58,7 @@ starts_there start [] i lie there = absurd (cc)
 starts_there start (j ∷ rest) i lie there = let e : j ≡ i = cc in sym (ap (λ k. k.at) e) ∙ lie.0
 
 pub first_of_drop : (is : List Instr) (first : ℕ) → slice_get (drop first is) 0 ≡ slice_get is first
-first_of_drop [] zero = refl
-first_of_drop [] (suc first) = refl
-first_of_drop (i ∷ is) zero = refl
-first_of_drop (i ∷ is) (suc first) = first_of_drop is first
+first_of_drop is first = let e : first + 0 ≡ first = omega arith in sym (from_drop is first 0) ∙ ap (slice_get is) e
 
 pub begins_there : (is : List Instr) (first start : ℕ) (i : Instr) → LieFrom start (drop first is) → slice_get is first ≡ Some i → i.at ≡ start
 begins_there is first start i lie there = starts_there start (drop first is) i lie (first_of_drop is first ∙ there)
@@ -84,7 +78,7 @@ own_below : (is : List Instr) (shape : Shape) (start : ℕ) (call : Instr) (code
     → AllByRecursion (λ f. fault_at f ≤ call.at) (flat_map (faults_of is shape start call) code)
 own_below is shape start call [] all = tt
 own_below is shape start call (i ∷ code) all =
-    both_all (λ f. fault_at f ≤ call.at) (faults_of is shape start call i) _ (at_low i.at _ all.0 (faults_of_at is shape start call i)) (own_below is shape start call code all.1)
+    all_append (λ f. fault_at f ≤ call.at) (faults_of is shape start call i) _ (at_low i.at _ all.0 (faults_of_at is shape start call i)) (own_below is shape start call code all.1)
   where
     at_low : (at : ℕ) (faults : List ClauseFault) → at ≤ call.at → AllByRecursion (λ f. fault_at f ≡ at) faults → AllByRecursion (λ f. fault_at f ≤ call.at) faults
     at_low at [] le all = tt
@@ -98,7 +92,7 @@ code_below : (is : List Instr) (shape : Shape) (start : ℕ) (code : List Instr)
     → AllByRecursion (λ f. fault_at f ≤ call.at) (code_faults is shape start call (code ++ call ∷ []))
 code_below is shape start code call rest lie =
     let places = below_call start code call rest lie in
-    both_all (λ f. fault_at f ≤ call.at) (flat_map (faults_of is shape start call) (code ++ call ∷ [])) _ (own_below is shape start call (code ++ call ∷ []) places.1)
+    all_append (λ f. fault_at f ≤ call.at) (flat_map (faults_of is shape start call) (code ++ call ∷ [])) _ (own_below is shape start call (code ++ call ∷ []) places.1)
     (between_below start call.at _ (way_faults_between is shape start call places.0))
 
 rank_at_most : (f : ClauseFault) → fault_rank f ≤ 6

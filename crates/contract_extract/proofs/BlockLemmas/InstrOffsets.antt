@@ -1,5 +1,5 @@
 -- Instructions that lie one after another, by their IL offsets.
-use Rattle.std.proofs.Common.{◌≡◌, ℕ, ◌+◌, ◌<◌, ◌≤◌, ◌==◌, Bool, true, false, ◌||◌, List, [], ◌∷◌, length, Option, Some, None, if◌then◌else◌, refl, sym, ap, subst, ◌∙◌, arith}
+use Rattle.std.proofs.Common.{◌≡◌, ℕ, ◌+◌, ◌<◌, ◌≤◌, ◌==◌, Bool, true, false, ◌||◌, List, [], ◌∷◌, length, Some, None, if◌then◌else◌, refl, sym, ap, subst, arith}
 use Rattle.std.proofs.lemmas.Bool.{cond_both, eqb-true, eq-eqb, ne_eqb, false≢true, or_right, or_left}
 use Rattle.std.proofs.lemmas.Option.{none-some, same_Some}
 use Rattle.cil_model.specs.Code.{begins_at}
@@ -67,12 +67,6 @@ begin_found (j ∷ is) at begins = by (j.at == at) (begin_found is at) begins
         → (i : Instr) × ((if here then Some j else instr_at is at) ≡ Some i)
     by true rest begins = (j, refl)
     by false rest begins = rest begins
-
-pub found_at : (is : List Instr) (at : ℕ) (i : Instr) → instr_at is at ≡ Some i → i.at ≡ at
-found_at [] at i e = absurd (none-some i e)
-found_at (j ∷ is) at i e =
-    cond_both (j.at == at) _ _ (λ (found : Option Instr). found ≡ Some i → i.at ≡ at)
-    (λ here f. ap (λ (k : Instr). k.at) (sym (same_Some j i f)) ∙ eqb-true j.at at here) (λ later f. found_at is at i f) e
 
 found_from : (from : ℕ) (is : List Instr) (at : ℕ) (i : Instr) → LieFrom from is → instr_at is at ≡ Some i → from ≤ at
 found_from from [] at i lie found = absurd (none-some i found)

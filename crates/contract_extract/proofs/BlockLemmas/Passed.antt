@@ -1,5 +1,5 @@
 -- The instructions of a method are passed one by one.
-use Rattle.std.proofs.Common.{◌≡◌, ℕ, ◌+◌, ◌-◌, zero, suc, true, false, List, [], ◌∷◌, ◌++◌, drop, take, slice_get, length, map, Some, refl, sym, ap, subst, ◌∙◌, append-nil, length-drop, arith}
+use Rattle.std.proofs.Common.{◌≡◌, ℕ, ◌+◌, ◌-◌, suc, true, false, List, [], ◌∷◌, ◌++◌, drop, take, slice_get, length, map, Some, refl, sym, ap, subst, ◌∙◌, append-nil, length-drop, arith}
 use Rattle.std.specs.Prelude.{flat_map}
 use Rattle.std.proofs.Math.Seq.{take-length, take-suc}
 use Rattle.std.proofs.lemmas.Option.{get_or_from_slice_get, slice_get_within}
@@ -9,8 +9,10 @@ use Rattle.cil_model.specs.WellFormed.{told_by_code}
 use Rattle.cil_model.specs.declared.clause.Clause.{Clause}
 use Rattle.cil_model.specs.declared.instruction.Instr.{Instr}
 use Rattle.cil_model.specs.declared.shape.Shape.{Shape}
+use Rattle.cil_model.proofs.Lists.{all_append}
+use Rattle.clause_faults.specs.Faults.{body_faults, first_clause_fault, first_fault}
+use Rattle.clause_faults.proofs.WayLemmas.Between.{from_drop}
 use Rattle.contract_extract.specs.Extracting.{AreContracts, ArePassed, IsClosing, NoneCloses}
-use Rattle.contract_extract.specs.Faults.{body_faults, first_clause_fault, first_fault}
 use Rattle.contract_extract.proofs.BlockLemmas.Segments.{body_left, body_starts, no_clauses_left}
 
 -- ---- the first instruction, and one more
@@ -33,27 +35,18 @@ none_passed is shape short = record {
 take_more : (n : ℕ) (xs : List Instr) (x : Instr) → slice_get xs n ≡ Some x → take (suc n) xs ≡ take n xs ++ x ∷ []
 take_more n xs x there = take-suc xs n x (slice_get_within xs n x there) ∙ ap (λ y. take n xs ++ y ∷ []) (get_or_from_slice_get xs n x x there)
 
-behind : (xs : List Instr) (n m : ℕ) → slice_get (drop n xs) m ≡ slice_get xs (n + m)
-behind xs zero m = let same : m ≡ zero + m = omega arith in ap (slice_get xs) same
-behind [] (suc n) m = refl
-behind (x ∷ xs) (suc n) m = behind xs n m ∙ (let same : suc (n + m) ≡ suc n + m = omega arith in ap (slice_get (x ∷ xs)) same)
-
-one_more : (code : List Instr) (i : Instr) → NoneCloses code → closes i.op ≡ false → NoneCloses (code ++ i ∷ [])
-one_more [] i none stays = (stays, tt)
-one_more (j ∷ code) i none stays = (none.0, one_more code i none.1 stays)
-
 module _ (is : List Instr) (shape : Shape) (clauses : List Clause) (olds first start index : ℕ) (i : Instr)
     (passed : ArePassed is shape clauses olds first start index) (there : slice_get is index ≡ Some i) where
   pub passes_on : closes i.op ≡ false → ArePassed is shape clauses olds first start (index + 1)
   passes_on stays =
       let sum : first + (index - first) ≡ index = omega (arith, passed.order) in
-      let here : slice_get (drop first is) (index - first) ≡ Some i = behind is first (index - first) ∙ ap (slice_get is) sum ∙ there in
+      let here : slice_get (drop first is) (index - first) ≡ Some i = sym (from_drop is first (index - first)) ∙ ap (slice_get is) sum ∙ there in
       let more : suc (index - first) ≡ (index + 1) - first = omega (arith, passed.order) in
       record {
         left = passed.left;
         order = omega (arith, passed.order);
         none = subst (λ (n : ℕ). NoneCloses (take n (drop first is))) more
-            (subst NoneCloses (sym (take_more (index - first) (drop first is) i here)) (one_more (take (index - first) (drop first is)) i passed.none stays));
+            (subst NoneCloses (sym (take_more (index - first) (drop first is) i here)) (all_append (λ j. closes j.op ≡ false) (take (index - first) (drop first is)) (i ∷ []) passed.none (stays, tt)));
       }
 
   pub is_closing : closes i.op ≡ true → IsClosing is first index

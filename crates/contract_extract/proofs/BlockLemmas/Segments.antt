@@ -7,11 +7,11 @@ use Rattle.cil_model.specs.Terms.{Term}
 use Rattle.cil_model.specs.declared.clause.ClauseKind.{ClauseKind}
 use Rattle.cil_model.specs.declared.instruction.Instr.{Instr}
 use Rattle.cil_model.specs.declared.shape.Shape.{Shape}
-use Rattle.contract_extract.specs.ClauseCodes.{closing_of}
+use Rattle.clause_faults.specs.ClauseCodes.{closing_of}
+use Rattle.clause_faults.specs.Faults.{body_faults, code_faults, faults_in, faults_of, limit_faults, with_clause}
+use Rattle.clause_faults.specs.Ways.{way_faults}
+use Rattle.clause_faults.specs.declared.clause_fault.ClauseFault.{ClauseFault}
 use Rattle.contract_extract.specs.Extracting.{NoneCloses}
-use Rattle.contract_extract.specs.Faults.{body_faults, code_faults, faults_in, faults_of, limit_faults, with_clause}
-use Rattle.contract_extract.specs.Ways.{way_faults}
-use Rattle.contract_extract.specs.declared.faults.clause_fault.ClauseFault.{ClauseFault}
 
 closing_found : (code : List Instr) (call : Instr) (rest : List Instr) → NoneCloses code → closes call.op ≡ true → closing_of (code ++ call ∷ rest) ≡ Some call
 closing_found [] call rest none e = rw e refl

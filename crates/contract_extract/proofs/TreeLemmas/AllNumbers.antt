@@ -21,15 +21,15 @@ use Rattle.cil_model.specs.declared.instruction.Instr.{Instr}
 use Rattle.cil_model.specs.declared.place.Kind.TheVariants.{Int}
 use Rattle.cil_model.specs.declared.shape.Shape.{Shape}
 use Rattle.cil_model.proofs.Lists.{all_append}
-use Rattle.contract_extract.specs.ClauseCodes.{closing_of}
-use Rattle.contract_extract.specs.Faults.{body_faults, closed_faults, faults_in, faults_of, first_clause_fault, limit_faults, with_clause}
-use Rattle.contract_extract.specs.Ways.{way_faults}
-use Rattle.contract_extract.specs.declared.faults.clause_fault.ClauseFault.{ClauseFault}
+use Rattle.clause_faults.specs.ClauseCodes.{closing_of}
+use Rattle.clause_faults.specs.Faults.{body_faults, closed_faults, faults_in, faults_of, first_clause_fault, limit_faults, with_clause}
+use Rattle.clause_faults.specs.Ways.{way_faults}
+use Rattle.clause_faults.specs.declared.clause_fault.ClauseFault.{ClauseFault}
+use Rattle.clause_faults.proofs.FaultLemmas.NoFaults.{no_first, none_in_both}
 use Rattle.contract_extract.proofs.BlockLemmas.EmptyStacks.{empty_behind}
 use Rattle.contract_extract.proofs.BlockLemmas.EmptyStart.{starts_empty}
 use Rattle.contract_extract.proofs.TreeLemmas.HasTree.{IsClause}
 use Rattle.contract_extract.proofs.BlockLemmas.InstrOffsets.{next_begins}
-use Rattle.contract_extract.proofs.FaultLemmas.NoFaults.{no_first, none_in_both}
 use Rattle.contract_extract.proofs.TreeLemmas.NumberClauses.{clause_is_number}
 
 -- A clause as code tells it is a number, where it has a tree.

@@ -12,8 +12,8 @@ use Rattle.cil_model.specs.WellFormed.{told_by_code}
 use Rattle.cil_model.specs.declared.clause.Clause.{Clause}
 use Rattle.cil_model.specs.declared.clause.ClauseKind.{ClauseKind}
 use Rattle.cil_model.specs.declared.instruction.Instr.{Instr}
+use Rattle.clause_faults.specs.TooLarge.{are_too_many, is_too_large, old_values_in, passes_limit}
 use Rattle.contract_extract.specs.Extracting.{ReadWithin, olds_of}
-use Rattle.contract_extract.specs.TooLarge.{are_too_many, is_too_large, old_values_in, passes_limit}
 
 -- How many clauses and old values there are with one more.
 pub told_length : (clauses : List Clause) (kind : ClauseKind) (tree : Option Term) → length (map told_by_code clauses ++ (kind, tree) ∷ []) ≡ length clauses + 1

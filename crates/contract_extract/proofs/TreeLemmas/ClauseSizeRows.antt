@@ -9,7 +9,7 @@ use Rattle.cil_model.specs.declared.instruction.Op.TheVariants as ops
 use Rattle.cil_model.specs.declared.instruction.Test.TheVariants as tests
 use Rattle.cil_model.specs.declared.instruction.UnOp.TheVariants as unary
 use Rattle.cil_model.proofs.Laid.{laid_from}
-use Rattle.contract_extract.specs.TooLarge.{is_too_large}
+use Rattle.clause_faults.specs.TooLarge.{is_too_large}
 
 -- A constant that is negated so often.
 abbrev nested : ℕ → Term

@@ -1,7 +1,7 @@
 -- Trees that fit the kinds of the values that they stand for, along a clause's code.
 use Rattle.std.proofs.Common.{◌≡◌, ℕ, Bool, true, false, List, [], ◌∷◌, ◌++◌, map, take, drop, Option, Some, None, option_map, if◌then◌else◌, slice_get, refl, sym, ap, subst, ◌∙◌}
 use Rattle.std.specs.Option.{option_and_then, option_map_or}
-use Rattle.std.proofs.lemmas.Bool.{and_from, false≢true}
+use Rattle.std.proofs.lemmas.Bool.{and_from}
 use Rattle.std.proofs.lemmas.Option.{none-some, same_Some}
 use Rattle.cil_model.specs.ClauseTrees.{Item, Tree, Message, items_behind, with_call}
 use Rattle.cil_model.specs.Comparisons.{comparison_of}
@@ -24,10 +24,10 @@ use Rattle.cil_model.specs.declared.place.Place.TheVariants as places
 use Rattle.cil_model.specs.declared.shape.Shape.{Shape}
 use Rattle.cil_model.specs.declared.unit_numbers.UnitCall.{UnitCall}
 use Rattle.cil_model.specs.declared.unit_numbers.UnitCall.TheVariants as calls
-use Rattle.contract_extract.specs.Ways.{Told, asked, asked_by, calls_with, faults_here, is_old, is_old_value, made, old_faults_of, stack_by}
-use Rattle.contract_extract.specs.declared.faults.clause_fault.ClauseFault.TheVariants.{OldForm}
-use Rattle.contract_extract.proofs.TreeLemmas.PlacedCalls.{result_kind}
-use Rattle.contract_extract.proofs.FaultLemmas.NoFaults.{none_in_both}
+use Rattle.clause_faults.specs.Ways.{Told, asked, asked_by, calls_with, faults_here, is_old, is_old_value, made, old_faults_of, stack_by}
+use Rattle.clause_faults.specs.declared.clause_fault.ClauseFault.TheVariants.{OldForm}
+use Rattle.clause_faults.proofs.FaultLemmas.NoFaults.{none_in_both}
+use Rattle.contract_extract.proofs.TreeLemmas.PlacedCalls.{result_kind, taken_kind}
 use Rattle.contract_extract.proofs.TreeLemmas.UnderKinds.{Under, under_array, under_int, under_number, under_place, under_pushes, under_reference}
 
 module _ (shape : Shape) (ensured : Bool) where
@@ -269,13 +269,6 @@ module _ (shape : Shape) (ensured : Bool) where
       under = argument_under (Some place) kind is;
     }
 
-    held : (place : Place) (kind : Kind) → takes place kind ≡ true → (k : Kind) × (kind_of place ≡ Some k)
-    held places.Void kind fits = absurd (false≢true fits)
-    held places.Bool kind fits = (kinds.Int, refl)
-    held places.Int kind fits = (kinds.Int, refl)
-    held places.Bools kind fits = (kinds.Bools, refl)
-    held places.Ints kind fits = (kinds.Ints, refl)
-
     no_offsets : (ats : List ℕ) → map OldForm ats ≡ [] → ats ≡ []
     no_offsets [] none = refl
     no_offsets (at ∷ ats) none = absurd cc
@@ -306,7 +299,7 @@ module _ (shape : Shape) (ensured : Bool) where
           let asks_it : asked_by (ops.Call number) ≡ Some place = ap asked is in
           let right = may place asks_it in
           fits_when (takes place kind) (Some (Tree (terms.Old a) ∷ items)) (pushed_kind (kind_of place) below) (made shape i (t ∷ []) ∷ told) (λ taken.
-          let (new, is_new) = held place kind taken in
+          let (new, is_new) = taken_kind place kind taken in
           rw is_new (
             old_fits place a kind new t.calls (t.calls ++ []) (ap asked_by tie ∙ asks_it) right.0 (no_offsets t.calls (none_in_both (map OldForm t.calls) _ none).0) taken is_new fits.0,
             fits.1,

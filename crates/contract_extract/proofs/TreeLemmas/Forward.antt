@@ -10,7 +10,8 @@ use Rattle.cil_model.specs.Terms.{Term}
 use Rattle.cil_model.specs.declared.instruction.Instr.{Instr}
 use Rattle.cil_model.specs.ShortCode.{AreOfShortCode}
 use Rattle.contract_extract.specs.Growth.{forward, onward, tree_here}
-use Rattle.contract_extract.proofs.BlockLemmas.InstrOffsets.{found_at, left, left_falls, left_most, left_some, none_left}
+use Rattle.cil_model.proofs.KindsSettle.{found_at}
+use Rattle.contract_extract.proofs.BlockLemmas.InstrOffsets.{left, left_falls, left_most, left_some, none_left}
 use mathlib.Core.Path.{fun_ext}
 
 -- Two ways to go on that agree after an offset make one tree there.

@@ -34,9 +34,6 @@ abbrev Passes : Limits → Option Term → Type 0
 Passes limits tree = IfSome tree (λ t. passes limits t ≡ true)
 
 -- A condition passes limits where the trees beside it do, in what is left.
-more_nodes : (limits : Limits) (t : Term) → limits.nodes < term_size t → passes limits t ≡ true
-more_nodes limits t more = or_left (nat_lt limits.nodes (term_size t)) (nat_lt limits.conditions (condition_depth t)) (lt-ltb limits.nodes (term_size t) more)
-
 more_conditions : (limits : Limits) (t : Term) → limits.conditions < condition_depth t → passes limits t ≡ true
 more_conditions limits t more =
     or_right (nat_lt limits.nodes (term_size t)) (nat_lt limits.conditions (condition_depth t)) (lt-ltb limits.conditions (condition_depth t) more)
@@ -58,7 +55,7 @@ full_passes test limits target next full = over_both limits test.turned test.tre
   where
     larger : (a b : Term) → passes limits (terms.Cond test.tree a b) ≡ true
     larger a b = elim (or_cases (nat_lt limits.nodes (term_size test.tree + 1)) (nat_lt limits.conditions 1) full) [
-      | inl e ↦ (let few = ltb-true limits.nodes (term_size test.tree + 1) e in more_nodes limits (terms.Cond test.tree a b) (omega (arith, few)))
+      | inl e ↦ (let few = ltb-true limits.nodes (term_size test.tree + 1) e in leaf_passes limits (terms.Cond test.tree a b) (omega (arith, few)))
       | inr e ↦ (let few = ltb-true limits.conditions 1 e in more_conditions limits (terms.Cond test.tree a b) (omega (arith, few)))
     ]
 
@@ -74,7 +71,7 @@ exceeds limits t e = elim (or_cases (nat_lt limits.nodes (term_size t)) (nat_lt 
 
 passed : (limits : Limits) (t : Term) → Exceeds limits (term_size t) (condition_depth t) → passes limits t ≡ true
 passed limits t e = elim e.one [
-  | inl f ↦ more_nodes limits t f
+  | inl f ↦ leaf_passes limits t f
   | inr f ↦ more_conditions limits t f
 ]
 

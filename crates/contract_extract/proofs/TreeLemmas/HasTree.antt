@@ -23,15 +23,16 @@ use Rattle.cil_model.specs.declared.instruction.UnOp.TheVariants as unary
 use Rattle.cil_model.specs.declared.shape.Shape.{Shape}
 use Rattle.cil_model.specs.declared.unit_numbers.UnitCall.{UnitCall}
 use Rattle.cil_model.specs.declared.unit_numbers.UnitCall.TheVariants as calls
-use Rattle.contract_extract.specs.ClauseCodes.{goes_forward}
-use Rattle.contract_extract.specs.Faults.{branch_faults, fault_if, faults_of}
-use Rattle.contract_extract.specs.PureCode.{calls_with_message, is_clause_call, is_pure, is_pure_before, takes_message}
-use Rattle.contract_extract.specs.Ways.{Told, closing_faults, faults_at, faults_from, faults_here, made, stack_behind, stack_by, way_faults, ways_behind}
-use Rattle.contract_extract.specs.declared.faults.clause_fault.ClauseFault.{ClauseFault}
-use Rattle.contract_extract.specs.declared.faults.clause_fault.ClauseFault.TheVariants.{NotPure, Backward, IntoBlock, StackLeft}
-use Rattle.contract_extract.proofs.BlockLemmas.InstrOffsets.{begin_found, found_at, left, left_falls, left_most, left_some, next_begins}
+use Rattle.clause_faults.specs.ClauseCodes.{goes_forward}
+use Rattle.clause_faults.specs.Faults.{branch_faults, fault_if, faults_of}
+use Rattle.clause_faults.specs.PureCode.{calls_with_message, is_clause_call, is_pure, is_pure_before, takes_message}
+use Rattle.clause_faults.specs.Ways.{Told, closing_faults, faults_at, faults_from, faults_here, made, stack_behind, stack_by, way_faults, ways_behind}
+use Rattle.clause_faults.specs.declared.clause_fault.ClauseFault.{ClauseFault}
+use Rattle.clause_faults.specs.declared.clause_fault.ClauseFault.TheVariants.{NotPure, Backward, IntoBlock, StackLeft}
+use Rattle.clause_faults.proofs.FaultLemmas.NoFaults.{no_fault_if, none_in_both}
+use Rattle.contract_extract.proofs.BlockLemmas.InstrOffsets.{begin_found, left, left_falls, left_most, left_some, next_begins}
+use Rattle.cil_model.proofs.KindsSettle.{found_at}
 use Rattle.cil_model.proofs.Lists.{of_found}
-use Rattle.contract_extract.proofs.FaultLemmas.NoFaults.{no_fault_if, none_in_both}
 use Rattle.cil_model.specs.ShortCode.{AreOfShortCode, IsOfShortCode}
 
 -- ---- stacks
@@ -85,6 +86,11 @@ two_taken message g f makes new (t ∷ u ∷ told) (Tree b ∷ Tree a ∷ items)
 abbrev pub is_branch : Op → Bool
 is_branch (ops.Branch test target) = true
 is_branch _ = false
+
+pub open_call : (call : Option UnitCall) → is_closing_call call ≡ false → closed_by call ≡ None
+open_call (Some (calls.Requires m)) stays = absurd cc
+open_call (Some (calls.Ensures m)) stays = absurd cc
+open_call _ stays = refl
 
 trees_below : (message : Bool) (items : List Item) → AreTrees items → AreTreesBelow message items
 trees_below message [] trees = tt
@@ -268,11 +274,6 @@ module _ (is : List Instr) (shape : Shape) (last : ℕ) (allowed : ℕ → Bool)
   op_has ops.Nop message told items long trees stays pure there has next targets none = straight_has ops.Nop message told items long trees stays refl pure there has next none
   op_has (ops.Call number) message told items long trees stays pure there has next targets none =
       rw (open_call (unit_call number) stays) (straight_has (ops.Call number) message told items long trees stays refl pure there has next none)
-    where
-      open_call : (call : Option UnitCall) → is_closing_call call ≡ false → closed_by call ≡ None
-      open_call (Some (calls.Requires m)) stays = absurd cc
-      open_call (Some (calls.Ensures m)) stays = absurd cc
-      open_call _ stays = refl
   op_has op message told items long trees stays pure there has next targets none = straight_has op message told items long trees stays refl pure there has next none
 
 -- ---- the whole code

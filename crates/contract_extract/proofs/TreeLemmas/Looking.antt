@@ -24,7 +24,7 @@ use Rattle.contract_extract.specs.declared.trees.ahead.Ahead.{Ahead}
 use Rattle.contract_extract.specs.declared.trees.dropped.Dropped.{Dropped}
 use Rattle.contract_extract.proofs.TreeLemmas.Cutting.{others_behind}
 use Rattle.contract_extract.proofs.TreeLemmas.Found.{found_tree}
-use Rattle.contract_extract.proofs.BlockLemmas.InstrOffsets.{found_at}
+use Rattle.cil_model.proofs.KindsSettle.{found_at}
 use Rattle.contract_extract.proofs.TreeLemmas.Growing.{keeps_on, keeps_same, onward_later}
 use Rattle.contract_extract.proofs.BlockLemmas.SliceFound.{in_order, slice_found_from, some_within}
 use Rattle.contract_extract.proofs.TreeLemmas.Stretches.{pass_at}

@@ -4,7 +4,7 @@ use Rattle.std.specs.List.{AllByRecursion, flat_map}
 use Rattle.std.specs.Option.{option_and_then, option_map_or}
 use Rattle.std.proofs.lemmas.Bool.{and_from, cases_lt, eqb-true, false≢true, le-leb, lt-ltb, or_parts}
 use Rattle.std.proofs.lemmas.Option.{cond_some, same_Some, some_pair_parts}
-use Rattle.cil_model.specs.Blocks.{branch_targets, closes, is_closing_call}
+use Rattle.cil_model.specs.Blocks.{branch_targets, closes}
 use Rattle.cil_model.specs.ClauseTrees.{Item, Tree, Message, branch_operator, branch_tree, closed_by, closed_tree, closing, condition, items_behind, tree_at, tree_from, tree_of}
 use Rattle.cil_model.specs.Clauses.{is_kind}
 use Rattle.cil_model.specs.Comparisons.{comparison_of}
@@ -36,17 +36,17 @@ use Rattle.cil_model.specs.declared.unit_numbers.UnitCall.TheVariants as calls
 use Rattle.cil_model.proofs.KindsGrow.{parts}
 use Rattle.cil_model.proofs.Lists.{of_found}
 use Rattle.cil_model.specs.ShortCode.{IsOfShortCode}
-use Rattle.cil_model.proofs.KindsSettle.{Absorbs, reached_begins, settled}
-use Rattle.contract_extract.specs.ClauseCodes.{goes_forward}
-use Rattle.contract_extract.specs.Faults.{branch_faults, fault_if, is_misplaced, is_requires}
-use Rattle.contract_extract.specs.PureCode.{calls_with_message, is_pure, is_pure_before}
-use Rattle.contract_extract.specs.Ways.{Told, closing_faults, faults_at, faults_from, faults_here, is_old_value, stack_behind, stack_by, way_faults, ways_behind}
-use Rattle.contract_extract.specs.declared.faults.clause_fault.ClauseFault.{ClauseFault}
-use Rattle.contract_extract.specs.declared.faults.clause_fault.ClauseFault.TheVariants.{NotPure, OldForm, StackLeft}
+use Rattle.cil_model.proofs.KindsSettle.{Absorbs, found_at, reached_begins, settled}
+use Rattle.clause_faults.specs.ClauseCodes.{goes_forward}
+use Rattle.clause_faults.specs.Faults.{branch_faults, fault_if, is_misplaced, is_requires}
+use Rattle.clause_faults.specs.PureCode.{calls_with_message, is_pure, is_pure_before}
+use Rattle.clause_faults.specs.Ways.{Told, closing_faults, faults_at, faults_from, faults_here, is_old_value, stack_behind, stack_by, way_faults, ways_behind}
+use Rattle.clause_faults.specs.declared.clause_fault.ClauseFault.{ClauseFault}
+use Rattle.clause_faults.specs.declared.clause_fault.ClauseFault.TheVariants.{NotPure, OldForm, StackLeft}
+use Rattle.clause_faults.proofs.FaultLemmas.NoFaults.{no_fault_if, none_in_both}
 use Rattle.contract_extract.proofs.TreeLemmas.FitTrees.{FitAll, FitsIf, MayAsk, op_fits}
-use Rattle.contract_extract.proofs.TreeLemmas.HasTree.{IsClause, Onward, faults_behind, is_right, trees_behind}
-use Rattle.contract_extract.proofs.BlockLemmas.InstrOffsets.{found_at, left, left_falls, left_most, left_some, next_begins}
-use Rattle.contract_extract.proofs.FaultLemmas.NoFaults.{no_fault_if, none_in_both}
+use Rattle.contract_extract.proofs.TreeLemmas.HasTree.{IsClause, Onward, faults_behind, is_right, open_call, trees_behind}
+use Rattle.contract_extract.proofs.BlockLemmas.InstrOffsets.{left, left_falls, left_most, left_some, next_begins}
 use Rattle.contract_extract.proofs.TreeLemmas.UnderKinds.{Under, compares_pushes, under_compares, under_int, under_merged, under_tested}
 
 -- ---- stacks that merge
@@ -158,13 +158,8 @@ same_place a b e = same_Some a b (sym (back a) ∙ ap place_of_number e ∙ back
     back places.Bools = refl
     back places.Ints = refl
 
-call_stays : (call : Option UnitCall) → is_closing_call call ≡ false → closed_by call ≡ None
-call_stays (Some (calls.Requires m)) e = absurd cc
-call_stays (Some (calls.Ensures m)) e = absurd cc
-call_stays _ e = refl
-
 closing_none : (op : Op) → closes op ≡ false → closing op ≡ None
-closing_none (ops.Call number) e = call_stays (unit_call number) e
+closing_none (ops.Call number) e = open_call (unit_call number) e
 closing_none _ e = refl
 
 -- What no fault at an open instruction tells: it has its operands, and nothing is wrong here or after.

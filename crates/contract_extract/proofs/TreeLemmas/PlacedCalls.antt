@@ -1,6 +1,7 @@
--- The place of a Result is one that has values.
+-- The place of a Result is one that has values, and so is one that takes a value.
 use Rattle.std.proofs.Common.{◌≡◌, ℕ, ◌==◌, nat_le, Bool, true, false, Option, Some, if◌then◌else◌, refl}
-use Rattle.cil_model.specs.Kinds.{kind_of}
+use Rattle.std.proofs.lemmas.Bool.{false≢true}
+use Rattle.cil_model.specs.Kinds.{kind_of, takes}
 use Rattle.cil_model.specs.UnitCalls.{condition_call, place_call, unit_call}
 use Rattle.cil_model.specs.declared.place.Kind.{Kind}
 use Rattle.cil_model.specs.declared.place.Kind.TheVariants as kinds
@@ -36,3 +37,11 @@ result_kind n places.Bool is = (kinds.Int, refl)
 result_kind n places.Int is = (kinds.Int, refl)
 result_kind n places.Bools is = (kinds.Bools, refl)
 result_kind n places.Ints is = (kinds.Ints, refl)
+
+-- A place that takes a value holds one.
+pub taken_kind : (place : Place) (kind : Kind) → takes place kind ≡ true → (of_place : Kind) × (kind_of place ≡ Some of_place)
+taken_kind places.Void kind fits = absurd (false≢true fits)
+taken_kind places.Bool kind fits = (kinds.Int, refl)
+taken_kind places.Int kind fits = (kinds.Int, refl)
+taken_kind places.Bools kind fits = (kinds.Bools, refl)
+taken_kind places.Ints kind fits = (kinds.Ints, refl)

@@ -14,7 +14,7 @@ use Rattle.cil_model.specs.declared.instruction.Op.{Op}
 use Rattle.cil_model.specs.declared.instruction.Op.TheVariants as ops
 use Rattle.contract_extract.proofs.TreeLemmas.Found.{found_no_tree, found_tree}
 use Rattle.contract_extract.proofs.TreeLemmas.Growing.{keeps_on, keeps_same}
-use Rattle.contract_extract.proofs.BlockLemmas.InstrOffsets.{found_at}
+use Rattle.cil_model.proofs.KindsSettle.{found_at}
 use Rattle.contract_extract.proofs.TreeLemmas.Looking.{Settled, ahead_found, at_none, settled_at}
 use Rattle.contract_extract.proofs.BlockLemmas.SliceFound.{slice_own}
 

@@ -1,7 +1,7 @@
 use Rattle.std.proofs.Common.{◌∙◌, subst}
 use Rattle.cc_base.specs.Tests.{Judges}
+use Rattle.clause_faults.specs.Faults.{first_clause_fault}
 use Rattle.contract_extract.specs.Extracting.{AreContracts}
-use Rattle.contract_extract.specs.Faults.{first_clause_fault}
 use Rattle.method_code.proofs.ReadCodes.{code_read}
 use Rattle.method_code.proofs.code_reader.read_code.Goals as goal
 

@@ -1,5 +1,5 @@
 use Rattle.std.proofs.Common.{ℕ, ◌≤◌, subst, sym}
-use Rattle.contract_extract.proofs.FaultLemmas.FaultPlaces.{clause_fault_place}
+use Rattle.clause_faults.proofs.FaultLemmas.FaultPlaces.{clause_fault_place}
 use Rattle.method_unit.proofs.Places.{place_fits}
 use Rattle.method_unit.proofs.unit_clauses.read_contracts.Goals as goal
 

@@ -1,8 +1,8 @@
 use Rattle.std.proofs.Common.{Option, Some, option_map, sym, ap, subst, ◌∙◌, arith}
 use Rattle.cil_model.specs.ClauseTrees.{closing}
 use Rattle.cil_model.specs.declared.instruction.Instr.{Instr}
+use Rattle.clause_faults.specs.declared.clause_fault.ClauseFault.TheVariants.{TooLong}
 use Rattle.contract_extract.specs.Extracting.{ReadWithin, closed_kind}
-use Rattle.contract_extract.specs.declared.faults.clause_fault.ClauseFault.TheVariants.{TooLong}
 use Rattle.contract_extract.specs.declared.read_clause.ReadClause.{ReadClause}
 use Rattle.contract_extract.proofs.BlockLemmas.Closing.{clause_closed, end_closed, fault_in_size, few_olds, has_a_tree, met}
 use Rattle.contract_extract.proofs.block.Block.add_clause.Goals as goal

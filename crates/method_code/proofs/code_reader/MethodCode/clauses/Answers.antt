@@ -1,5 +1,5 @@
 use Rattle.std.proofs.Common.{Result, ap, ap₂, sym, ◌∙◌}
-use Rattle.contract_extract.specs.declared.faults.clause_fault.ClauseFault.{ClauseFault}
+use Rattle.clause_faults.specs.declared.clause_fault.ClauseFault.{ClauseFault}
 use Rattle.contract_extract.specs.declared.contracts.Contracts.{Contracts}
 use Rattle.method_code.specs.Reading.{with_instrs}
 use Rattle.method_code.proofs.ReadCodes.{clauses_if, clauses_known}

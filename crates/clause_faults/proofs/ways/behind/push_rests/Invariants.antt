@@ -1,0 +1,7 @@
+use Rattle.std.proofs.Common.{◌≡◌, ◌++◌, take}
+use Rattle.std.specs.List.{flat_map}
+use Rattle.clause_faults.specs.SharedStacks.{rest_of}
+use Rattle.clause_faults.proofs.ways.behind.push_rests.Given as goal
+
+abbrev pub invariant-loop-top : goal.invariant-loop-top
+invariant-loop-top l = l.out ≡ l.initial.out ++ flat_map (rest_of l.stacks) (take l.top-index l.tops)

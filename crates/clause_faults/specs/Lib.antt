@@ -1,0 +1,10 @@
+pub mod ClauseCodes
+pub mod PureCode
+pub mod Ways
+pub mod TooLarge
+pub mod Faults
+pub mod SharedStacks
+pub mod JoinedStacks
+pub mod ClauseLies
+pub mod GatheredStacks
+pub mod PassedInstr

@@ -1,6 +1,0 @@
-use Rattle.std.proofs.Common.{◌≡◌, [], ◌∷◌, replicate}
-use Rattle.contract_extract.specs.declared.ways.arrivals.Arrival.TheVariants.{Empty}
-use Rattle.contract_extract.proofs.faults.clause_code.first_stacks.Given as goal
-
-abbrev pub invariant-loop-made : goal.invariant-loop-made
-invariant-loop-made l = l.stacks.items ≡ (Empty ∷ []) ∷ replicate l._made []

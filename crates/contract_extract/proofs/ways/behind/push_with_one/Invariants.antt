@@ -1,7 +1,0 @@
-use Rattle.std.proofs.Common.{◌≡◌, ◌++◌, take}
-use Rattle.std.specs.List.{flat_map}
-use Rattle.contract_extract.specs.SharedStacks.{with_one}
-use Rattle.contract_extract.proofs.ways.behind.push_with_one.Given as goal
-
-abbrev pub invariant-loop-top : goal.invariant-loop-top
-invariant-loop-top l = l.out ≡ l.initial.out ++ flat_map (with_one l.args l.instr) (take l.top-index l.tops)
