@@ -26,3 +26,4 @@ pub mod WalkLemmas
 pub mod WorldLemmas
 pub mod ReachedWorlds
 pub mod ReachExamples
+pub mod WorldExamples
