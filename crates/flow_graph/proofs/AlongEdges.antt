@@ -1,66 +1,32 @@
 -- Steps go along the edges of the graph, and within its blocks.
-use Rattle.std.proofs.Common.{◌≡◌, ◌⊎◌, ℕ, zero, suc, ◌+◌, ◌<◌, ◌≤◌, ◌==◌, Bool, true, false, nat_le, ◌&&◌, ◌||◌, List, [], ◌∷◌, ◌++◌, map, filter, slice_get, Option, Some, option_map, refl, sym, ap, subst, ◌∙◌, arith, inl, inr}
-use Rattle.std.specs.List.{AllByRecursion, Contains, flat_map, list_any}
+use Rattle.std.proofs.Common.{◌≡◌, ◌⊎◌, ℕ, zero, suc, ◌+◌, ◌<◌, ◌≤◌, ◌==◌, true, false, nat_le, List, [], ◌∷◌, slice_get, Option, Some, option_map, refl, sym, ap, subst, ◌∙◌, arith, inl, inr}
+use Rattle.std.specs.List.{AllByRecursion, Contains}
 use Rattle.std.specs.Option.{option_to_list}
-use Rattle.std.proofs.lemmas.Bool.{cases_Bool, cond_both, eq-eqb, eqb-true, false≢true}
+use Rattle.std.proofs.lemmas.Bool.{cases_Bool, cond_both, eqb-true, false≢true}
 use Rattle.std.proofs.lemmas.Bool.Decides.{nat_tests}
 use Rattle.std.proofs.lemmas.List.Elements.{Contains-append_left, Contains-append_right}
 use Rattle.std.proofs.lemmas.Option.{none-some, same_Some}
-use Rattle.cil_model.specs.Blocks.{body_of, branch_targets, is_block_start, starts_at}
+use Rattle.cil_model.specs.Blocks.{body_of, is_block_start, starts_at}
 use Rattle.cil_model.specs.Code.{begins_at}
 use Rattle.cil_model.specs.Passes.{successors}
 use Rattle.cil_model.specs.Runs.{instr_at}
+use Rattle.cil_model.specs.ShortCode.{AreOfShortCode, LieFrom}
 use Rattle.cil_model.specs.declared.instruction.Instr.{Instr}
-use Rattle.cil_model.specs.declared.instruction.Op.{Op}
-use Rattle.cil_model.specs.declared.instruction.Op.TheVariants as ops
-use Rattle.cil_model.specs.declared.instruction.Test.TheVariants as tests
 use Rattle.cil_model.specs.declared.unit.Unit.{Unit as MethodUnit}
+use Rattle.cil_model.proofs.KindsSettle.{found_at}
 use Rattle.cil_model.proofs.Lists.{of_found}
 use Rattle.flow_graph.specs.BlocksOf.{block_at, blocks_of, last_place, place_of}
-use Rattle.flow_graph.specs.EdgesOf.{edge_to, edges_from, edges_out, edges_to}
+use Rattle.flow_graph.specs.EdgesOf.{edge_to, edges_from, edges_of, edges_out, edges_to}
 use Rattle.flow_graph.specs.Following.{IsAlongEdge, IsWithinBlock, StepsFollow}
 use Rattle.flow_graph.specs.GraphOf.{graph_of}
-use Rattle.cil_model.specs.ShortCode.{AreOfShortCode, LieFrom}
 use Rattle.flow_graph.specs.declared.graph.Edge.{Edge}
-use Rattle.flow_graph.proofs.EdgeOrder.{Starts, all_weaker, has_place, last_place_is, place_within}
-use Rattle.flow_graph.proofs.Lying.{all_passing}
-use Rattle.flow_graph.proofs.Marks.{list_any-numbers}
+use Rattle.flow_graph.proofs.BodyStarts.{blocks_all, marked_by, start_placed}
+use Rattle.flow_graph.proofs.EdgeOrder.{Starts, last_place_is, place_within}
+use Rattle.flow_graph.proofs.Found.{begins_found, flat_map_found, found_in_rest}
+use Rattle.flow_graph.proofs.Items.{all_weaker, passing_all}
+use Rattle.flow_graph.proofs.Lying.{all_after, all_passing}
 use Rattle.flow_graph.proofs.StepsGo.{step_goes}
-
-pub or_right : (a b : Bool) → b ≡ true → (a || b) ≡ true
-or_right true b e = refl
-or_right false b e = e
-
--- ---- the instruction at an offset
-
-found_at : (is : List Instr) (at : ℕ) (i : Instr) → instr_at is at ≡ Some i → i.at ≡ at
-found_at [] at i found = absurd (none-some i found)
-found_at (j ∷ is) at i found =
-    cond_both (j.at == at) _ _ (λ (other : Option Instr). other ≡ Some i → i.at ≡ at)
-    (λ e here. ap (λ (k : Instr). k.at) (sym (same_Some j i here)) ∙ eqb-true j.at at e) (λ e later. found_at is at i later) found
-
--- It passes each test that it passes among the others.
-found_passes : (q : Instr → Bool) (is : List Instr) (at : ℕ) (i : Instr) → instr_at is at ≡ Some i → q i ≡ true → list_any q is ≡ true
-found_passes q [] at i found e = absurd (none-some i found)
-found_passes q (j ∷ is) at i found e =
-    cond_both (j.at == at) _ _ (λ (other : Option Instr). other ≡ Some i → (q j || list_any q is) ≡ true)
-    (λ f here. rw (ap q (same_Some j i here) ∙ e) refl) (λ f later. or_right (q j) (list_any q is) (found_passes q is at i later e)) found
-
-found_in_rest : (start : ℕ) (is : List Instr) (at : ℕ) → start ≤ at → instr_at (filter (λ i. nat_le start i.at) is) at ≡ instr_at is at
-found_in_rest start [] at le = refl
-found_in_rest start (i ∷ is) at le =
-    elim (cases_Bool (nat_le start i.at)) [
-      | inl kept ↦ rw kept (elim (cases_Bool (i.at == at)) [ inl e ↦ rw e refl | inr e ↦ rw e (found_in_rest start is at le) ])
-      | inr dropped ↦ (let e : (i.at == at) ≡ false = grind (arith, nat_tests) in rw (dropped, e) (found_in_rest start is at le))
-    ]
-
-flat_map_found : (f : Instr → List Edge) (is : List Instr) (at : ℕ) (i : Instr) (e : Edge) → instr_at is at ≡ Some i → Contains (f i) e
-    → Contains (flat_map f is) e
-flat_map_found f [] at i e found has = absurd (none-some i found)
-flat_map_found f (j ∷ is) at i e found has =
-    cond_both (j.at == at) _ _ (λ (other : Option Instr). other ≡ Some i → Contains (f j ++ flat_map f is) e)
-    (λ t here. Contains-append_left (f j) (flat_map f is) e (subst (λ (k : Instr). Contains (f k) e) (sym (same_Some j i here)) has))
-    (λ t later. Contains-append_right (f j) (flat_map f is) e (flat_map_found f is at i e later has)) found
+use Rattle.flow_graph.proofs.Successors.{target_or_next}
 
 -- ---- edges
 
@@ -91,21 +57,15 @@ edges_from_has blocks block i n at to is there placed =
     (subst (λ (k : ℕ). Contains (edges_to blocks block 0 (successors i.op (i.at + i.size))) (record { from = block; to = to; number = k })) e
     (edges_to_has blocks block 0 (successors i.op (i.at + i.size)) n at to there placed))
 
--- ---- what holds of each block
+-- Where the n-th offset to which an instruction of a block goes on starts a block, the edge of number n goes there.
+pub edge_there : (unit : MethodUnit) (block n at to : ℕ) (i : Instr) → instr_at (body_of unit) i.at ≡ Some i → block_at (blocks_of unit) i.at ≡ Some block
+    → slice_get (successors i.op (i.at + i.size)) n ≡ Some at → place_of (blocks_of unit) at ≡ Some to
+    → Contains (edges_of unit) (record { from = block; to = to; number = n })
+edge_there unit block n at to i found is there placed =
+    flat_map_found (edges_from (blocks_of unit)) (body_of unit) i.at i (record { from = block; to = to; number = n }) found
+    (edges_from_has (blocks_of unit) block i n at to is there placed)
 
-blocks_all : (P : ℕ → Type 0) (q : ℕ → Bool) (is : List Instr) → AllByRecursion (λ i. q i.at ≡ true → P i.at) is
-    → AllByRecursion P (map (λ i. i.at) (filter (λ i. q i.at) is))
-blocks_all P q [] all = tt
-blocks_all P q (i ∷ is) all =
-    cond_both (q i.at) _ _ (λ (js : List Instr). AllByRecursion P (map (λ (j : Instr). j.at) js)) (λ e. (all.0 e, blocks_all P q is all.1)) (λ e. blocks_all P q is all.1)
-
-of_each : {X : Type 0} (P : X → Type 0) → ((x : X) → P x) → (xs : List X) → AllByRecursion P xs
-of_each P holds [] = tt
-of_each P holds (x ∷ xs) = (holds x, of_each P holds xs)
-
-pub passing_all : {X : Type 0} (p : X → Bool) (xs : List X) → AllByRecursion (λ x. p x ≡ true) (filter p xs)
-passing_all p [] = tt
-passing_all p (x ∷ xs) = cond_both (p x) _ _ (AllByRecursion (λ y. p y ≡ true)) (λ e. (e, passing_all p xs)) (λ e. passing_all p xs)
+-- ---- blocks up to an offset
 
 -- No block starts before all of them.
 none_before : (blocks : List ℕ) (low at : ℕ) → AllByRecursion (λ s. low ≤ s) blocks → at < low → Starts blocks at ≡ 0
@@ -128,10 +88,6 @@ same_starts (s ∷ blocks) a b all =
 abbrev IsApart : Instr → ℕ → Type 0
 IsApart i at = (at ≤ i.at) ⊎ (i.at + i.size ≤ at)
 
-pub all_after : (low at : ℕ) (is : List Instr) → low ≤ at → LieFrom at is → AllByRecursion (λ i. low ≤ i.at) is
-all_after low at [] le lie = tt
-all_after low at (i ∷ is) le lie = (omega (arith, lie.0), all_after low (at + i.size) is (omega arith) lie.1)
-
 all_apart : (from : ℕ) (is : List Instr) (at : ℕ) (i : Instr) → LieFrom from is → instr_at is at ≡ Some i → AllByRecursion (λ j. IsApart i j.at) is
 all_apart from [] at i lie found = tt
 all_apart from (j ∷ is) at i lie found =
@@ -144,26 +100,6 @@ all_apart from (j ∷ is) at i lie found =
 
 -- ---- where no block starts
 
-one_of_last : (xs : List ℕ) (next n at : ℕ) → slice_get (xs ++ next ∷ []) n ≡ Some at → (list_any (λ x. x == at) xs ≡ true) ⊎ (at ≡ next)
-one_of_last [] next zero at e = inr (sym (same_Some next at e))
-one_of_last [] next (suc n) at e = absurd (none-some at e)
-one_of_last (x ∷ xs) next zero at e = inl (rw (eq-eqb x at (same_Some x at e)) refl)
-one_of_last (x ∷ xs) next (suc n) at e =
-    elim (one_of_last xs next n at e) [ inl has ↦ inl (or_right (x == at) (list_any (λ y. y == at) xs) has) | inr same ↦ inr same ]
-
--- An offset to which the operation goes on is a target or the next one.
-target_or_next : (op : Op) (next n at : ℕ) → slice_get (successors op next) n ≡ Some at
-    → (list_any (λ x. x == at) (branch_targets op) ≡ true) ⊎ (at ≡ next)
-target_or_next ops.Return next n at e = absurd (none-some at e)
-target_or_next (ops.Branch tests.Always target) next n at e = inl (rw (eq-eqb target at (only target n at e)) refl)
-  where
-    only : (x n at : ℕ) → slice_get (x ∷ []) n ≡ Some at → x ≡ at
-    only x zero at e = same_Some x at e
-    only x (suc n) at e = absurd (none-some at e)
-target_or_next (ops.Branch test target) next n at e = one_of_last (target ∷ []) next n at e
-target_or_next (ops.Switch targets) next n at e = one_of_last targets next n at e
-target_or_next _ next n at e = one_of_last [] next n at e
-
 is_next : (i : Instr) (n at : ℕ) → slice_get (successors i.op (i.at + i.size)) n ≡ Some at → starts_at at i ≡ false → at ≡ i.at + i.size
 is_next i n at there none =
     elim (target_or_next i.op (i.at + i.size) n at there) [
@@ -173,22 +109,9 @@ is_next i n at there none =
 
 -- ---- steps
 
-begins_and_passes : (q : ℕ → Bool) (is : List Instr) (at : ℕ) → q at ≡ true → begins_at is at ≡ true → list_any (λ i. i.at == at && q i.at) is ≡ true
-begins_and_passes q [] at e begins = absurd (false≢true begins)
-begins_and_passes q (i ∷ is) at e begins =
-    elim (cases_Bool (i.at == at)) [
-      | inl here ↦ rw (here, ap q (eqb-true i.at at here) ∙ e) refl
-      | inr other ↦ or_right (i.at == at && q i.at) _ (begins_and_passes q is at e (rw other at begins))
-    ]
-
 module _ (unit : MethodUnit) (short : AreOfShortCode unit.instrs) where
   abbrev Blocks : List ℕ
   Blocks = blocks_of unit
-
-  start_placed : (at : ℕ) → is_block_start unit at ≡ true → begins_at (body_of unit) at ≡ true → (k : ℕ) × (place_of Blocks at ≡ Some k)
-  start_placed at is begins =
-      has_place Blocks at (list_any-numbers (λ (i : Instr). i.at) (λ i. is_block_start unit i.at) at (body_of unit)
-      ∙ begins_and_passes (is_block_start unit) (body_of unit) at is begins)
 
   -- A block starts in the body.
   starts_in_body : AllByRecursion (λ s. unit.body_start ≤ s) Blocks
@@ -211,14 +134,14 @@ module _ (unit : MethodUnit) (short : AreOfShortCode unit.instrs) where
     in_body : instr_at (body_of unit) i.at ≡ Some i
     in_body = found_in_rest unit.body_start unit.instrs i.at (block_in_body i.at block is) ∙ found
 
-    -- Where the n-th offset to which an instruction of a block goes on starts a block, the edge of number n goes there.
+    -- Where the offset starts a block, an edge goes there.
     pub along_edge : is_block_start unit at ≡ true → begins_at (body_of unit) at ≡ true → IsAlongEdge (graph_of unit) block i at
     along_edge starts begins =
-        let (to, placed) = start_placed at starts begins in
-        let edge : Edge = record { from = block; to = to; number = n } in
+        let (j, begun) = begins_found (body_of unit) at begins in
+        let (to, placed) = start_placed unit at j begun starts in
         record {
-          edge = edge;
-          is = flat_map_found (edges_from Blocks) (body_of unit) i.at i edge in_body (edges_from_has Blocks block i n at to is there placed);
+          edge = record { from = block; to = to; number = n };
+          is = edge_there unit block n at to i in_body is there placed;
           from = refl;
           to = (place_within Blocks at to placed).1;
           number = there;
@@ -226,9 +149,8 @@ module _ (unit : MethodUnit) (short : AreOfShortCode unit.instrs) where
 
     no_start : is_block_start unit at ≡ false → starts_at at i ≡ false
     no_start none =
-        let body = body_of unit in
         elim (cases_Bool (starts_at at i)) [
-          | inl e ↦ absurd (false≢true (sym none ∙ or_right (at == unit.body_start) (list_any (starts_at at) body) (found_passes (starts_at at) body i.at i in_body e)))
+          | inl e ↦ absurd (false≢true (sym none ∙ marked_by unit at i in_body e))
           | inr e ↦ e
         ]
 

@@ -7,22 +7,18 @@ use Rattle.std.proofs.lemmas.Bool.Decides.{nat_tests}
 use Rattle.std.proofs.lemmas.Option.{none-some, same_Some}
 use Rattle.cil_model.specs.Blocks.{ends_block}
 use Rattle.cil_model.specs.Passes.{successors}
+use Rattle.cil_model.specs.ShortCode.{IsOfShortCode, LieFrom}
 use Rattle.cil_model.specs.declared.instruction.Instr.{Instr}
-use Rattle.cil_model.specs.declared.instruction.Op.{Op}
-use Rattle.cil_model.specs.declared.instruction.Op.TheVariants as ops
 use Rattle.cil_model.proofs.Lists.{all_append}
 use Rattle.cil_model.proofs.Options.{map_from}
 use Rattle.flow_graph.specs.BlocksOf.{block_at, last_place, place_of}
 use Rattle.flow_graph.specs.EdgesOf.{ComesBefore, JoinsBlocks, edge_to, edges_from, edges_out, edges_to}
-use Rattle.cil_model.specs.ShortCode.{IsOfShortCode, LieFrom}
 use Rattle.flow_graph.specs.declared.graph.Edge.{Edge}
+use Rattle.flow_graph.proofs.Items.{all_weaker}
 use Rattle.flow_graph.proofs.Lying.{length-passing}
+use Rattle.flow_graph.proofs.Successors.{next_alone}
 
 -- ---- lists
-
-pub all_weaker : {X : Type 0} (P Q : X → Type 0) → ((x : X) → P x → Q x) → (xs : List X) → AllByRecursion P xs → AllByRecursion Q xs
-all_weaker P Q weaker [] all = tt
-all_weaker P Q weaker (x ∷ xs) all = (weaker x all.0, all_weaker P Q weaker xs all.1)
 
 module _ {X : Type 0} (p q : X → Bool) (sub : (x : X) → p x ≡ true → q x ≡ true) where
   -- What passes the wider test is no fewer, and stays so by as many with one more item.
@@ -84,21 +80,25 @@ module _ (blocks : List ℕ) (from : ℕ) where
   edge_all P number None holds = tt
   edge_all P number (Some to) holds = (holds to refl, tt)
 
-  edges_all : (P : Edge → Type 0) (number : ℕ) (ats : List ℕ)
-      → ((n at to : ℕ) → number ≤ n → place_of blocks at ≡ Some to → P (record { from = from; to = to; number = n }))
+  -- The edge to each offset has the number of its place among them.
+  pub edges_all : (P : Edge → Type 0) (number : ℕ) (ats : List ℕ)
+      → ((n at to : ℕ) → slice_get ats n ≡ Some at → place_of blocks at ≡ Some to → P (record { from = from; to = to; number = number + n }))
       → AllByRecursion P (edges_to blocks from number ats)
   edges_all P number [] holds = tt
   edges_all P number (at ∷ ats) holds =
       all_append P (option_to_list (edge_to blocks from number at)) (edges_to blocks from (number + 1) ats)
-      (edge_all P number (place_of blocks at) (λ to e. holds number at to (omega arith) e))
-      (edges_all P (number + 1) ats (λ n at to le e. holds n at to (omega arith) e))
+      (edge_all P number (place_of blocks at)
+      (λ to e. let same : number + 0 ≡ number = omega arith in subst (λ (k : ℕ). P (record { from = from; to = to; number = k })) same (holds 0 at to refl e)))
+      (edges_all P (number + 1) ats
+      (λ n x to there e. let same : number + suc n ≡ number + 1 + n = omega arith in
+      subst (λ (k : ℕ). P (record { from = from; to = to; number = k })) same (holds (suc n) x to there e)))
 
 edges_join : (blocks : List ℕ) (place : Option ℕ) (i : Instr) → ((from : ℕ) → place ≡ Some from → from < length blocks)
     → AllByRecursion (JoinsBlocks blocks) (edges_out blocks place i)
 edges_join blocks None i within = tt
 edges_join blocks (Some from) i within =
     edges_all blocks from (JoinsBlocks blocks) 0 (successors i.op (i.at + i.size))
-    (λ n at to le e. record { from = within from refl; to = (place_within blocks at to e).0 })
+    (λ n at to there e. record { from = within from refl; to = (place_within blocks at to e).0 })
 
 pub all_join : (blocks : List ℕ) (is : List Instr) → AllByRecursion (JoinsBlocks blocks) (flat_map (edges_from blocks) is)
 all_join blocks [] = tt
@@ -128,20 +128,13 @@ module _ (blocks : List ℕ) (from : ℕ) where
   edges_order number [] = tt
   edges_order number (at ∷ ats) =
       order_one number (place_of blocks at) (edges_to blocks from (number + 1) ats)
-      (edges_all blocks from (λ e. (from ≡ e.from) × (number < e.number)) (number + 1) ats (λ n at to le e. (refl, omega arith))) (edges_order (number + 1) ats)
+      (edges_all blocks from (λ e. (from ≡ e.from) × (number < e.number)) (number + 1) ats (λ n at to there e. (refl, omega arith))) (edges_order (number + 1) ats)
 
 -- Behind an instruction that ends a block, where another stands, a block starts.
 abbrev pub EndBefore : List ℕ → List Instr → Type 0
 EndBefore blocks [] = Unit {0}
 EndBefore blocks (i ∷ []) = Unit {0}
 EndBefore blocks (i ∷ j ∷ is) = (ends_block i.op ≡ true → (k : ℕ) × (place_of blocks (i.at + i.size) ≡ Some k)) × EndBefore blocks (j ∷ is)
-
--- An instruction that ends no block goes on to the next alone.
-pub next_alone : (op : Op) (next : ℕ) → ends_block op ≡ false → successors op next ≡ next ∷ []
-next_alone (ops.Branch test target) next e = absurd (false≢true (sym e))
-next_alone (ops.Switch targets) next e = absurd (false≢true (sym e))
-next_alone ops.Return next e = absurd (false≢true (sym e))
-next_alone _ next e = refl
 
 -- An instruction that ends no block, after which none starts, has no edges: the last of a block alone has some.
 pub no_edges : (blocks : List ℕ) (place : Option ℕ) (i : Instr) → ends_block i.op ≡ false → place_of blocks (i.at + i.size) ≡ None → edges_out blocks place i ≡ []
@@ -162,7 +155,7 @@ module _ (blocks : List ℕ) (i j : Instr) (later : List Edge) (some : 0 < i.siz
       let more = starts_lt blocks i.at (i.at + i.size) k (omega (arith, some)) found in
       order_append (edges_out blocks (Some from) i) later (edges_order blocks from 0 (successors i.op (i.at + i.size))) order
       (edges_all blocks from (λ x. AllByRecursion (ComesBefore x) later) 0 (successors i.op (i.at + i.size))
-      (λ n at to le e. all_weaker _ (ComesBefore (record { from = from; to = to; number = n })) (λ x h. inl (omega (arith, h, first, more))) later leave))
+      (λ n at to there e. all_weaker _ (ComesBefore (record { from = from; to = to; number = 0 + n })) (λ x h. inl (omega (arith, h, first, more))) later leave))
   joined (Some from) None is found ends =
       cond_both (ends_block i.op) 0 0 (λ (n : ℕ). InOrder (edges_out blocks (Some from) i ++ later))
       (λ e. absurd (none-some (ends e).0 (ends e).1))
@@ -173,7 +166,7 @@ edges_leave : (blocks : List ℕ) (i : Instr) (place : Option ℕ) → last_plac
 edges_leave blocks i None is = tt
 edges_leave blocks i (Some from) is =
     edges_all blocks from (λ e. Starts blocks i.at ≤ suc e.from) 0 (successors i.op (i.at + i.size))
-    (λ n at to le e. omega (arith, last_place_is (Starts blocks i.at) from is))
+    (λ n at to there e. omega (arith, last_place_is (Starts blocks i.at) from is))
 
 all_leave : (blocks : List ℕ) (at : ℕ) (is : List Instr) → LieFrom at is → LeaveFrom blocks at (flat_map (edges_from blocks) is)
 all_leave blocks at [] lie = tt

@@ -1,10 +1,9 @@
 -- Where a frame goes on: at one of the offsets to which its instruction goes on.
-use Rattle.std.proofs.Common.{◌≡◌, ℕ, zero, suc, ◌+◌, ℤ, pos, int_lt, int_le, int_eq, Bool, true, false, not, List, [], ◌∷◌, ◌++◌, length, slice_get, Option, Some, None, option_map, Result, Ok, Err, refl, sym, subst, inl, inr}
+use Rattle.std.proofs.Common.{◌≡◌, ℕ, ◌+◌, ℤ, pos, int_lt, int_le, int_eq, Bool, true, false, not, List, [], ◌∷◌, ◌++◌, length, slice_get, Option, Some, None, option_map, Result, Ok, Err, refl, sym, subst, inl, inr}
 use Rattle.std.specs.List.{AllByRecursion}
 use Rattle.std.proofs.lemmas.Bool.{cond_both}
-use Rattle.std.proofs.lemmas.Option.{none-some}
-use Rattle.cil_model.specs.Comparisons.{comparison_of, comparison_value, compares_values, is_true, number_of}
 use Rattle.cil_model.specs.Arithmetic.{operated, unsigned}
+use Rattle.cil_model.specs.Comparisons.{comparison_of, comparison_value, compares_values, is_true, number_of}
 use Rattle.cil_model.specs.Effects.{Effect, GoesOn, Faults, Assumes, HasEffect, arithmetic, array_length, at_index, below_message, binary, branches, branches_by, changes, comparison, contract_call, converts, duplicates, effects, effects_of, gives, goes_to, item_value, loads, makes_number, new_array, of_place, pops, pushes, stored, stores, stores_arg, stores_local, switches, switches_to, tests_condition, with_args, with_locals}
 use Rattle.cil_model.specs.Passes.{successors}
 use Rattle.cil_model.specs.UnitCalls.{array_place, unit_call}
@@ -28,6 +27,7 @@ use Rattle.cil_model.specs.declared.place.Place.{Place}
 use Rattle.cil_model.specs.declared.unit.Unit.{Unit as MethodUnit}
 use Rattle.cil_model.specs.declared.unit_numbers.UnitCall.{UnitCall}
 use Rattle.cil_model.specs.declared.unit_numbers.UnitCall.TheVariants as calls
+use Rattle.flow_graph.proofs.Items.{in_front, last_there}
 
 -- The offset is one of these, at some place.
 abbrev pub IsOneOf : List ℕ → ℕ → Type 0
@@ -175,15 +175,6 @@ module _ (ats : List ℕ) (unit : MethodUnit) (i : Instr) (f : Frame) (heap : He
 
 -- ---- targets
 
-among_front : (xs ys : List ℕ) (n x : ℕ) → slice_get xs n ≡ Some x → slice_get (xs ++ ys) n ≡ Some x
-among_front [] ys n x e = absurd (none-some x e)
-among_front (y ∷ xs) ys zero x e = e
-among_front (y ∷ xs) ys (suc n) x e = among_front xs ys n x e
-
-last_among : (xs : List ℕ) (x : ℕ) → slice_get (xs ++ x ∷ []) (length xs) ≡ Some x
-last_among [] x = refl
-last_among (y ∷ xs) x = last_among xs x
-
 always_goes : (target : ℕ) (f : Frame) (heap : Heap) (stack : List Value) → EachGoes (target ∷ []) (goes_to target f heap stack)
 always_goes target f heap stack = ((0, refl), tt)
 
@@ -208,7 +199,7 @@ module _ (unit : MethodUnit) (i : Instr) (f : Frame) (heap : Heap) where
   effects_of_go (ops.Branch tests.Always target) = always_goes target f heap f.stack
   effects_of_go (ops.Branch test target) = branches_by_goes (target ∷ Next ∷ []) unit i f heap (1, refl) target (0, refl) test f.stack
   effects_of_go (ops.Switch targets) =
-      switches_go (targets ++ Next ∷ []) unit i f heap (length targets, last_among targets Next) targets f.stack (λ n at e. (n, among_front targets (Next ∷ []) n at e))
+      switches_go (targets ++ Next ∷ []) unit i f heap (length targets, last_there targets Next) targets f.stack (λ n at e. (n, in_front targets (Next ∷ []) n at e))
   effects_of_go (ops.Bin operator) = binary_goes (Next ∷ []) unit i f heap (0, refl) operator (comparison_of operator) f.stack
   effects_of_go ops.Neg = changes_goes (Next ∷ []) unit i f heap (0, refl) unary.Neg f.stack
   effects_of_go ops.Not = changes_goes (Next ∷ []) unit i f heap (0, refl) unary.Not f.stack

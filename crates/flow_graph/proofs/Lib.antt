@@ -1,8 +1,12 @@
+pub mod Items
 pub mod Searches
+pub mod Successors
+pub mod Found
 pub mod Pushes
 pub mod Marks
 pub mod Lying
 pub mod EdgeOrder
+pub mod BodyStarts
 pub mod EffectsGo
 pub mod StepsGo
 pub mod AlongEdges

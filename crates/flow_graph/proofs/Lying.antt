@@ -1,5 +1,5 @@
 -- Instructions that lie one after another: their offsets, and those of the blocks.
-use Rattle.std.proofs.Common.{◌≡◌, ℕ, zero, suc, ◌+◌, ◌^◌, ◌<◌, ◌≤◌, Bool, true, nat_le, List, [], ◌∷◌, length, map, filter, refl, sym, ap, subst, arith, inl, inr}
+use Rattle.std.proofs.Common.{◌≡◌, ℕ, zero, suc, ◌+◌, ◌^◌, ◌<◌, ◌≤◌, Bool, true, nat_le, List, [], ◌∷◌, length, map, filter, Some, refl, sym, ap, subst, ◌∙◌, arith, inl, inr}
 use Rattle.std.specs.List.{All, AllByRecursion}
 use Rattle.std.specs.List.Sorted.{IsStrictlyIncreasing}
 use Rattle.std.proofs.lemmas.Bool.{cases_Bool, cond_both}
@@ -8,11 +8,16 @@ use Rattle.std.proofs.lemmas.List.{length-map}
 use Rattle.std.proofs.lemmas.List.Kept.{IsStrictlyIncreasing-filter}
 use Rattle.std.proofs.lemmas.List.Sums.{count_by-le-length, length-filter}
 use Rattle.cil_model.specs.Blocks.{body_of, is_block_start}
+use Rattle.cil_model.specs.Runs.{instr_at}
+use Rattle.cil_model.specs.ShortCode.{AreOfShortCode, IsOfShortCode, LieFrom}
 use Rattle.cil_model.specs.declared.instruction.Instr.{Instr}
 use Rattle.cil_model.specs.declared.unit.Unit.{Unit as MethodUnit}
+use Rattle.cil_model.proofs.KindsSettle.{found_at}
+use Rattle.cil_model.proofs.Lists.{of_found}
 use Rattle.cil_model.proofs.ShortCodes.{count_short, offsets_increase}
 use Rattle.flow_graph.specs.BlocksOf.{blocks_of}
-use Rattle.cil_model.specs.ShortCode.{AreOfShortCode, IsOfShortCode, LieFrom}
+use Rattle.flow_graph.proofs.Found.{found_in_rest}
+use Rattle.flow_graph.proofs.Items.{passing_all}
 
 -- ---- what holds of each instruction
 
@@ -31,11 +36,15 @@ length-passing p xs = omega (arith, length-filter p xs, count_by-le-length p xs)
 
 -- ---- the body
 
-all_behind : (start at : ℕ) (is : List Instr) → start ≤ at → LieFrom at is → filter (λ i. nat_le start i.at) is ≡ is
-all_behind start at [] le lie = refl
-all_behind start at (i ∷ is) le lie =
+pub all_after : (low at : ℕ) (is : List Instr) → low ≤ at → LieFrom at is → AllByRecursion (λ i. low ≤ i.at) is
+all_after low at [] le lie = tt
+all_after low at (i ∷ is) le lie = (omega (arith, lie.0), all_after low (at + i.size) is (omega arith) lie.1)
+
+pub all_kept : (start at : ℕ) (is : List Instr) → start ≤ at → LieFrom at is → filter (λ i. nat_le start i.at) is ≡ is
+all_kept start at [] le lie = refl
+all_kept start at (i ∷ is) le lie =
     let test : nat_le start i.at ≡ true = let e = lie.0 in grind (arith, nat_tests) in
-    rw test (ap (λ (js : List Instr). i ∷ js) (all_behind start (at + i.size) is (omega arith) lie.1))
+    rw test (ap (λ (js : List Instr). i ∷ js) (all_kept start (at + i.size) is (omega arith) lie.1))
 
 -- The instructions from some offset on lie one after another.
 rest_lies : (start at : ℕ) (is : List Instr) → LieFrom at is → (from : ℕ) × LieFrom from (filter (λ i. nat_le start i.at) is)
@@ -43,8 +52,23 @@ rest_lies start at [] lie = (at, tt)
 rest_lies start at (i ∷ is) lie =
     cond_both (nat_le start i.at) _ _ (λ (rest : List Instr). (from : ℕ) × LieFrom from rest)
     (λ e. let le : start ≤ at + i.size = (let f = lie.0 in grind (arith, nat_tests)) in
-    (at, (lie.0, subst (LieFrom (at + i.size)) (sym (all_behind start (at + i.size) is le lie.1)) lie.1)))
+    (at, (lie.0, subst (LieFrom (at + i.size)) (sym (all_kept start (at + i.size) is le lie.1)) lie.1)))
     (λ e. rest_lies start (at + i.size) is lie.1)
+
+-- From the start of one on they lie from there.
+pub lies_there : (start at : ℕ) (is : List Instr) (i : Instr) → LieFrom at is → instr_at is start ≡ Some i
+    → LieFrom start (filter (λ j. nat_le start j.at) is)
+lies_there start at is i lie found =
+    by (filter (λ j. nat_le start j.at) is) (rest_lies start at is lie) (passing_all (λ j. nat_le start j.at) is) (found_in_rest start is start (omega arith) ∙ found)
+  where
+    by : (rest : List Instr) → (from : ℕ) × LieFrom from rest → AllByRecursion (λ j. nat_le start j.at ≡ true) rest → instr_at rest start ≡ Some i
+        → LieFrom start rest
+    by [] lies high there = tt
+    by (j ∷ rest) (from, lies) high there =
+        let first : start ≤ j.at = (let e = high.0 in grind (arith, nat_tests)) in
+        let least = of_found (λ k. from ≤ k.at) (j ∷ rest) start i (all_after from from (j ∷ rest) (omega arith) lies) there in
+        let same : from ≡ start = omega (arith, first, lies.0, least, found_at (j ∷ rest) start i there) in
+        subst (λ (n : ℕ). LieFrom n (j ∷ rest)) same lies
 
 module _ (unit : MethodUnit) (short : AreOfShortCode unit.instrs) where
   pub body_lies : (from : ℕ) × LieFrom from (body_of unit)

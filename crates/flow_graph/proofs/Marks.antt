@@ -2,21 +2,16 @@
 use Rattle.std.proofs.Common.{◌≡◌, ℕ, ◌+◌, ◌<◌, ◌==◌, Bool, true, false, ◌&&◌, ◌||◌, List, [], ◌∷◌, ◌++◌, length, get_or, take, map, filter, refl, sym, ap, ◌∙◌, arith, inl, inr}
 use Rattle.std.specs.List.{list_any, range_with_len}
 use Rattle.std.specs.List.Sorted.{IsPermutation}
-use Rattle.std.proofs.lemmas.List.Sorted.{list_any-IsPermutation}
 use Rattle.std.proofs.lemmas.Bool.{cases_Bool}
 use Rattle.std.proofs.lemmas.Bool.Decides.{nat_tests}
+use Rattle.std.proofs.lemmas.List.Elements.{filter_agree}
 use Rattle.std.proofs.lemmas.List.Folds.{list_any-append, list_any_more}
-use Rattle.cil_model.specs.Blocks.{body_of, branch_targets, ends_block, is_block_start, starts_at}
+use Rattle.std.proofs.lemmas.List.Sorted.{list_any-IsPermutation}
+use Rattle.cil_model.specs.Blocks.{branch_targets, ends_block, starts_at}
 use Rattle.cil_model.specs.declared.instruction.Instr.{Instr}
-use Rattle.cil_model.specs.declared.unit.Unit.{Unit as MethodUnit}
 use Rattle.flow_graph.specs.BlocksOf.{starts_among}
 use Rattle.flow_graph.specs.HeadsOf.{goes_back, heads_of}
 use Rattle.flow_graph.specs.declared.graph.Edge.{Edge}
-
-module _ {X : Type 0} (p q : X → Bool) (same : (x : X) → p x ≡ q x) where
-  pub filter-same : (xs : List X) → filter p xs ≡ filter q xs
-  filter-same [] = refl
-  filter-same (x ∷ xs) = rw (same x, filter-same xs) refl
 
 -- What passes a test and has this number.
 pub list_any-numbers : {X : Type 0} (number : X → ℕ) (p : X → Bool) (n : ℕ) (xs : List X)
@@ -47,7 +42,7 @@ pub heads_by_numbers : (count : ℕ) (edges : List Edge) (targets sorted seen : 
     → IsPermutation targets sorted → seen ≡ sorted
     → filter (λ place. list_any (λ n. n == place) seen) (range_with_len 0 count) ≡ heads_of count edges
 heads_by_numbers count edges targets sorted seen are same in_order =
-    filter-same _ _ (λ place. ordered place targets sorted seen same in_order ∙ ap (list_any (λ n. n == place)) are
+    filter_agree _ _ (λ place. ordered place targets sorted seen same in_order ∙ ap (list_any (λ n. n == place)) are
     ∙ list_any-numbers (λ (edge : Edge). edge.to) goes_back place edges) (range_with_len 0 count)
 
 -- ---- where blocks start
@@ -62,7 +57,7 @@ pub blocks_by_numbers : (start : ℕ) (body : List Instr) (offsets sorted seen :
 blocks_by_numbers start body offsets sorted seen starts same in_order =
     let test : (i : Instr) → list_any (λ n. n == i.at) seen ≡ (i.at == start || list_any (starts_at i.at) body) =
     λ i. ordered i.at offsets sorted seen same in_order ∙ starts i.at in
-    ap (map (λ (i : Instr). i.at)) (filter-same _ _ test body)
+    ap (map (λ (i : Instr). i.at)) (filter_agree _ _ test body)
 
 pub starts_first : (start : ℕ) → AreStarts start [] (start ∷ [])
 starts_first start at = ap (λ (b : Bool). b || false) (same_either_way start at)

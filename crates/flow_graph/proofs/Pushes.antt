@@ -1,16 +1,13 @@
 -- Edges that are appended one after another.
-use Rattle.std.proofs.Common.{◌≡◌, ℕ, ◌+◌, ◌<◌, false, true, List, [], ◌∷◌, ◌++◌, length, get_or, take, append_assoc, append-nil, Some, refl, sym, ap, ◌∙◌, arith}
+use Rattle.std.proofs.Common.{◌≡◌, ℕ, ◌+◌, ◌<◌, true, false, List, [], ◌∷◌, ◌++◌, length, get_or, take, append_assoc, append-nil, Some, sym, ap, ◌∙◌, arith}
 use Rattle.std.specs.Option.{option_to_list}
-use Rattle.std.proofs.lemmas.Bool.{false≢true}
 use Rattle.std.proofs.lemmas.List.{length-take-le, take_more}
 use Rattle.cil_model.specs.Blocks.{branch_targets}
-use Rattle.cil_model.specs.Passes.{goes_behind, successors}
+use Rattle.cil_model.specs.Passes.{goes_behind}
 use Rattle.cil_model.specs.declared.instruction.Instr.{Instr}
-use Rattle.cil_model.specs.declared.instruction.Op.{Op}
-use Rattle.cil_model.specs.declared.instruction.Op.TheVariants as ops
-use Rattle.cil_model.specs.declared.instruction.Test.TheVariants as tests
 use Rattle.flow_graph.specs.EdgesOf.{edge_to, edges_to, edges_out}
 use Rattle.flow_graph.specs.declared.graph.Edge.{Edge}
+use Rattle.flow_graph.proofs.Successors.{successors_alone, successors_with_next}
 
 -- The list and its next item, as they are read.
 next_item : {X : Type 0} (xs : List X) (k : ℕ) (x : X) → k < length xs → x ≡ get_or xs k x → take (k + 1) xs ≡ take k xs ++ x ∷ []
@@ -42,17 +39,6 @@ module _ (blocks : List ℕ) (from : ℕ) where
   edges_more xs k x before inside is =
       ap (λ (n : ℕ). (before ++ edges_to blocks from 0 (take k xs)) ++ option_to_list (edge_to blocks from n x)) (sym (length-take-le k xs (omega arith)))
       ∙ one_more (take k xs) x before ∙ ap (λ (ys : List ℕ). before ++ edges_to blocks from 0 ys) (sym (next_item xs k x inside is))
-
--- What may follow an operation: its targets, and then what stands after.
-successors_with_next : (op : Op) (next : ℕ) → goes_behind op ≡ true → successors op next ≡ branch_targets op ++ next ∷ []
-successors_with_next ops.Return next e = absurd (false≢true e)
-successors_with_next (ops.Branch tests.Always target) next e = absurd (false≢true e)
-successors_with_next _ next e = refl
-
-successors_alone : (op : Op) (next : ℕ) → goes_behind op ≡ false → successors op next ≡ branch_targets op
-successors_alone ops.Return next e = refl
-successors_alone (ops.Branch tests.Always target) next e = refl
-successors_alone _ next e = absurd (false≢true (sym e))
 
 module _ (blocks : List ℕ) (from : ℕ) (i : Instr) (before : List Edge) where
   pub edges_with_next : goes_behind i.op ≡ true

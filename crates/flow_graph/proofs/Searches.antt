@@ -6,11 +6,11 @@ use Rattle.std.specs.Ordering.{nat_cmp}
 use Rattle.std.specs.Result.{result_ok}
 use Rattle.std.proofs.lemmas.Bool.{cases_lt, eq-eqb, ne_eqb}
 use Rattle.std.proofs.lemmas.Bool.Decides.{nat_tests}
-use Rattle.std.proofs.lemmas.List.{get_or_default, length-drop, take_all}
+use Rattle.std.proofs.lemmas.List.{get_or_default, length-drop, length-take-le, take_all}
 use Rattle.std.proofs.lemmas.List.Folds.{list_any_at, list_any_none}
-use Rattle.std.proofs.lemmas.List.Sums.{count_by-le-length, length-filter}
 use Rattle.std.proofs.lemmas.List.Kept.{AllPairs-from_increasing}
 use Rattle.std.proofs.lemmas.List.Sorted.{searched}
+use Rattle.std.proofs.lemmas.List.Sums.{count_by-le-length, length-filter}
 use Rattle.cil_model.specs.declared.instruction.Instr.{Instr}
 use Rattle.cil_model.proofs.ShortCodes.{Rises, not_falling}
 use Rattle.flow_graph.specs.BlocksOf.{block_at, place_of, last_place}
@@ -117,15 +117,20 @@ module _ {X : Type 0} (p : X → Bool) where
   Passes b x = p x ≡ b
 
   -- What passes is a front.
+  pub passing_front : (xs : List X) (k : ℕ) → k ≤ length xs → AllWithin (λ x. p x ≡ true) xs 0 k → AllWithin (λ x. p x ≡ false) xs k (length xs)
+      → take k xs ≡ filter p xs
+  passing_front [] zero le front behind = refl
+  passing_front [] (suc k) le front behind = refl
+  passing_front (x ∷ xs) zero le front behind =
+      rw (behind zero x (omega arith) (omega arith))
+      (passing_front xs zero (omega arith) (none_within (Passes true) xs) (tail_from_start (Passes false) x xs (length xs) behind))
+  passing_front (x ∷ xs) (suc k) le front behind =
+      rw (front zero x (omega arith) (omega arith))
+      (ap (λ (ys : List X). x ∷ ys) (passing_front xs k (omega arith) (tail_from_start (Passes true) x xs k front) (tail (Passes false) x xs k (length xs) behind)))
+
   pub length-passing_front : (xs : List X) (k : ℕ) → k ≤ length xs → AllWithin (λ x. p x ≡ true) xs 0 k → AllWithin (λ x. p x ≡ false) xs k (length xs)
       → length (filter p xs) ≡ k
-  length-passing_front [] k le front behind = omega arith
-  length-passing_front (x ∷ xs) zero le front behind =
-      rw (behind zero x (omega arith) (omega arith))
-      (length-passing_front xs zero (omega arith) (none_within (Passes true) xs) (tail_from_start (Passes false) x xs (length xs) behind))
-  length-passing_front (x ∷ xs) (suc k) le front behind =
-      rw (front zero x (omega arith) (omega arith))
-      (ap suc (length-passing_front xs k (omega arith) (tail_from_start (Passes true) x xs k front) (tail (Passes false) x xs k (length xs) behind)))
+  length-passing_front xs k le front behind = ap length (sym (passing_front xs k le front behind)) ∙ length-take-le k xs le
 
   -- What passes is a rest.
   pub passing_rest : (xs : List X) (k : ℕ) → k ≤ length xs → AllWithin (λ x. p x ≡ false) xs 0 k → AllWithin (λ x. p x ≡ true) xs k (length xs)

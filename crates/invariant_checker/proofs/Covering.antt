@@ -6,6 +6,7 @@ use Rattle.std.proofs.lemmas.Bool.Decides.{nat_tests}
 use Rattle.std.proofs.lemmas.Grind.{flat_map-append}
 use Rattle.std.proofs.lemmas.List.{map-append}
 use Rattle.std.proofs.lemmas.List.Kept.{AllPairs-from_increasing}
+use Rattle.std.proofs.lemmas.Option.{get_or_from_slice_get, slice_get-get_or, slice_get_past}
 use Rattle.cil_model.specs.Blocks.{body_of}
 use Rattle.cil_model.specs.ShortCode.{LieFrom}
 use Rattle.cil_model.specs.declared.instruction.Instr.{Instr}
@@ -13,8 +14,7 @@ use Rattle.cil_model.specs.declared.machine.FaultKind.{FaultKind}
 use Rattle.cil_model.specs.declared.machine.Obligation.{Obligation}
 use Rattle.cil_model.specs.declared.unit.Unit.{Unit as MethodUnit}
 use Rattle.flow_graph.specs.declared.graph.Graph.{Graph}
-use Rattle.flow_graph.proofs.AlongEdges.{all_after}
-use Rattle.flow_graph.proofs.Lying.{blocks_increase}
+use Rattle.flow_graph.proofs.Lying.{all_after, all_kept, blocks_increase}
 use Rattle.obligation_prover.specs.Avoiding.{avoid}
 use Rattle.obligation_prover.specs.Faults.{faults_of}
 use Rattle.obligation_prover.specs.Obligations.{obligation, obligations_at, obligations_in, obligations_of, own_obligations}
@@ -23,9 +23,9 @@ use Rattle.transfer_rules.specs.Inductive.{state_at}
 use Rattle.transfer_rules.specs.Post.{post}
 use Rattle.unit_flow.specs.Flow.{IsLawful, block_instrs, instrs_between, is_before}
 use Rattle.unit_flow.specs.declared.unit_flow.UnitFlow.{UnitFlow}
-use Rattle.unit_flow.proofs.BlockWays.{all_kept, none_before}
+use Rattle.unit_flow.proofs.BlockStarts.{none_before}
 use Rattle.unit_flow.proofs.LawfulCode as laws
-use Rattle.unit_flow.proofs.Places.{item_there, there_is}
+use Rattle.unit_flow.proofs.Slicing.{kept_all}
 use Rattle.invariant_checker.specs.Inducts.{is_inductive}
 use Rattle.invariant_checker.specs.Verdicts.{clause_verdicts, own_verdicts, unproved, verdicts, verdicts_at, verdicts_from, verdicts_in, verdicts_in_turn}
 use Rattle.invariant_checker.specs.declared.verdict.Verdict.{Verdict}
@@ -59,15 +59,6 @@ cut_at start end at (i ∷ is) le lie =
           ]
     ]
 
-all_early : (is : List Instr) → filter (λ i. is_before None i.at) is ≡ is
-all_early [] = refl
-all_early (i ∷ is) = ap (λ (js : List Instr). i ∷ js) (all_early is)
-
-none_there : (xs : List ℕ) (n : ℕ) → length xs ≤ n → slice_get xs n ≡ None
-none_there [] n le = refl
-none_there (x ∷ xs) zero le = absurd (omega (arith, le))
-none_there (x ∷ xs) (suc n) le = none_there xs n (omega (arith, le))
-
 module _ (starts : List ℕ) (is : List Instr) (at : ℕ) (pairs : AllPairs (λ a b. a < b) starts)
     (lie : LieFrom at is) where
   abbrev block : ℕ → List Instr
@@ -78,12 +69,12 @@ module _ (starts : List ℕ) (is : List Instr) (at : ℕ) (pairs : AllPairs (λ 
       → flat_map block (range_with_len b (suc n)) ≡ filter (λ i. nat_le (get_or starts b 0) i.at) is
   blocks_from b zero ends =
       let rest = filter (λ i. nat_le (get_or starts b 0) i.at) is in
-      let none : slice_get starts (b + 1) ≡ None = none_there starts (b + 1) (omega (arith, ends)) in
+      let none : slice_get starts (b + 1) ≡ None = slice_get_past starts (b + 1) (omega (arith, ends)) in
       append-nil (block b)
-      ∙ (ap (λ (end : Option ℕ). filter (λ i. is_before end i.at) rest) none ∙ all_early rest)
+      ∙ (ap (λ (end : Option ℕ). filter (λ i. is_before end i.at) rest) none ∙ kept_all rest)
   blocks_from b (suc n) ends =
       let there : slice_get starts (b + 1) ≡ Some (get_or starts (b + 1) 0) =
-      there_is starts (b + 1) 0 (omega (arith, ends)) in
+      slice_get-get_or starts (b + 1) 0 (omega (arith, ends)) in
       let less : get_or starts b 0 < get_or starts (b + 1) 0 = pairs b (b + 1) 0 (omega arith) (omega (arith, ends)) in
       let others = blocks_from (b + 1) n (omega (arith, ends)) in
       ap (λ (js : List Instr). block b ++ js) others
@@ -104,7 +95,7 @@ blocks_are_body code lawful = by (length code.graph.blocks) refl
         (AllPairs-from_increasing _ (blocks_increase code.unit (laws.short code lawful)))
 
     first : get_or code.graph.blocks 0 0 ≡ code.unit.body_start
-    first = item_there code.graph.blocks 0 code.unit.body_start 0 (laws.starts code lawful)
+    first = get_or_from_slice_get code.graph.blocks 0 code.unit.body_start 0 (laws.starts code lawful)
 
     by : (n : ℕ) → n ≡ length code.graph.blocks → flat_map (block_instrs code) (range_with_len 0 n) ≡ body_of code.unit
     by zero is = absurd (omega (arith, is, laws.has_block code lawful))

@@ -1,9 +1,10 @@
 -- Small units with their blocks and edges, and runs along them: a constant that is tested, an array that may be null,
 -- and a call of a method.
 use Rattle.std.proofs.Common.{◌≡◌, ℕ, ℤ, pos, FitsSigned, w32, List, [], ◌∷◌, Some, refl, inl, inr, codes, arith}
+use Rattle.std.specs.List.{AllByRecursion}
 use Rattle.std.proofs.lemmas.Int.{ints}
 use Rattle.cil_model.specs.UnitCalls.{unit_call}
-use Rattle.cil_model.specs.Values.{Heap, IsByte}
+use Rattle.cil_model.specs.Values.{FitPlaces, Heap, IsByte, IsValue}
 use Rattle.cil_model.specs.declared.instruction.CmpOp.TheVariants as comparisons
 use Rattle.cil_model.specs.declared.instruction.Instr.{Instr}
 use Rattle.cil_model.specs.declared.instruction.Op.{Op}
@@ -17,6 +18,7 @@ use Rattle.cil_model.specs.declared.unit.CalleeInfo.{CalleeInfo}
 use Rattle.cil_model.specs.declared.unit.Unit.{Unit as MethodUnit}
 use Rattle.cil_model.proofs.Laid.{method}
 use Rattle.flow_graph.specs.GraphOf.{graph_of}
+use Rattle.machine_points.specs.Points.{IsPointOf}
 use Rattle.machine_points.specs.declared.point.Point.{Point}
 use Rattle.unit_flow.specs.Flow.{GoesAlong, Steps, block_instrs, edge_at, kinds_at}
 use Rattle.unit_flow.specs.FlowOf.{flow_of, kinds_of}
@@ -39,6 +41,21 @@ at_offset at stack arg heap = record {
     entry_heap = heap;
   };
   heap = heap;
+}
+
+-- It is a point of the unit, where its argument and its stack fit.
+stands : (unit : MethodUnit) (at : ℕ) (stack : List Value) (arg : Value) → FitPlaces [] unit.args (arg ∷ [])
+    → FitPlaces [] unit.locals [] → AllByRecursion (IsValue []) stack → IsPointOf unit (at_offset at stack arg [])
+stands unit at stack arg fits none values = record {
+  heap = tt;
+  frame = record {
+    args = fits;
+    locals = none;
+    stack = values;
+    entry_heap_is = tt;
+    entry_args = fits;
+    kept = tt;
+  };
 }
 
 -- ---- a constant that is tested
@@ -76,33 +93,13 @@ goes_to_target : GoesAlong tested_code 0 (at_offset 0 [] (values.Int (pos 1)) []
 goes_to_target = (
   at_offset 1 (values.Int (pos 1) ∷ []) (values.Int (pos 1)) [],
   record {
-    of = record {
-      heap = tt;
-      frame = record {
-        args = (one_byte, tt);
-        locals = tt;
-        stack = tt;
-        entry_heap_is = tt;
-        entry_args = (one_byte, tt);
-        kept = tt;
-      };
-    };
+    of = stands tested 0 [] (values.Int (pos 1)) (one_byte, tt) tt tt;
     to = refl;
     goes = (instr 0 1 (ops.Const (pos 1)), refl, (_, inl refl, refl));
   },
   (
     record {
-      of = record {
-        heap = tt;
-        frame = record {
-          args = (one_byte, tt);
-          locals = tt;
-          stack = (omega (arith, ints), tt);
-          entry_heap_is = tt;
-          entry_args = (one_byte, tt);
-          kept = tt;
-        };
-      };
+      of = stands tested 1 (values.Int (pos 1) ∷ []) (values.Int (pos 1)) (one_byte, tt) tt (omega (arith, ints), tt);
       to = refl;
       goes = (instr 1 2 (ops.Branch tests.True 4), refl, (_, inl refl, refl));
     },
@@ -134,26 +131,13 @@ null_goes_on : GoesAlong given_code 1 (at_offset 0 [] values.Null []) (at_offset
 null_goes_on = (
   at_offset 1 (values.Null ∷ []) values.Null [],
   record {
-    of = record {
-      heap = tt;
-      frame = record { args = (tt, tt); locals = tt; stack = tt; entry_heap_is = tt; entry_args = (tt, tt); kept = tt };
-    };
+    of = stands given 0 [] values.Null (tt, tt) tt tt;
     to = refl;
     goes = (instr 0 1 (ops.LoadArg 0), refl, (_, inl refl, refl));
   },
   (
     record {
-      of = record {
-        heap = tt;
-        frame = record {
-          args = (tt, tt);
-          locals = tt;
-          stack = (tt, tt);
-          entry_heap_is = tt;
-          entry_args = (tt, tt);
-          kept = tt;
-        };
-      };
+      of = stands given 1 (values.Null ∷ []) values.Null (tt, tt) tt (tt, tt);
       to = refl;
       goes = (instr 1 2 (ops.Branch tests.True 4), refl, (_, inl refl, refl));
     },
@@ -197,17 +181,7 @@ any_is_given : (n : ℤ) → FitsSigned w32 n
     (at_offset 5 (values.Int n ∷ []) (values.Int (pos 1)) [])
 unfolding unit_call
 any_is_given n fits = record {
-  of = record {
-    heap = tt;
-    frame = record {
-      args = (one_byte, tt);
-      locals = tt;
-      stack = tt;
-      entry_heap_is = tt;
-      entry_args = (one_byte, tt);
-      kept = tt;
-    };
-  };
+  of = stands calling 0 [] (values.Int (pos 1)) (one_byte, tt) tt tt;
   to = refl;
   goes = (
     instr 0 5 (ops.Call 100),

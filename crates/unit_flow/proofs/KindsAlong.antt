@@ -1,6 +1,6 @@
 -- What typing and the machine know along an instruction: the kinds where it goes on take in those that it leaves, and a
 -- point that goes on by it has values of the machine.
-use Rattle.std.proofs.Common.{◌≡◌, ℕ, suc, ◌+◌, List, [], ◌∷◌, length, Option, Some, None, refl, sym, ap, subst, ◌∙◌}
+use Rattle.std.proofs.Common.{◌≡◌, ℕ, suc, ◌+◌, List, [], ◌∷◌, length, slice_get, Option, Some, None, refl, sym, ap, subst, ◌∙◌}
 use Rattle.std.proofs.lemmas.Option.{none-some, same_Some}
 use Rattle.cil_model.specs.FitKinds.{AreDecoded, OperandFits}
 use Rattle.cil_model.specs.Kinds as kinds
@@ -13,6 +13,7 @@ use Rattle.cil_model.specs.declared.unit.Unit.{Unit as MethodUnit}
 use Rattle.cil_model.proofs.KindsSettle.{Absorbs, Settled, settled}
 use Rattle.cil_model.proofs.Lists.{of_found}
 use Rattle.cil_model.proofs.StepsKeep.{MakesValues}
+use Rattle.flow_graph.proofs.Items.{of_place}
 use Rattle.machine_points.specs.MachineValues.{HasMachineValues}
 use Rattle.machine_points.specs.Points.{IsPointOf}
 use Rattle.machine_points.specs.declared.point.Point.{Point}
@@ -21,7 +22,6 @@ use Rattle.unit_flow.specs.Chains.{IsLeft, IsPassed}
 use Rattle.unit_flow.specs.Flow.{Begins, IsLawful, Steps}
 use Rattle.unit_flow.specs.declared.unit_flow.UnitFlow.{UnitFlow}
 use Rattle.unit_flow.proofs.LawfulCode as laws
-use Rattle.unit_flow.proofs.Places.{of_place}
 
 -- ---- stacks that merge
 
@@ -62,29 +62,27 @@ module _ (unit : MethodUnit) (stacks : Stacks) (decoded : AreDecoded unit.instrs
   pub operand : (i : Instr) → instr_at unit.instrs i.at ≡ Some i → OperandFits i.op
   operand i found = of_found (λ j. OperandFits j.op) unit.instrs i.at i decoded.constants found
 
-  pub left_along : (i : Instr) (at number target : ℕ) (stack : List Kind) → IsLeft unit at number target i
-      → before at ≡ Some stack → TypedAlong unit stacks i stack target
-  left_along i at number target stack left is =
-      let typed = typed_at i at stack left.here left.found is in
+  along : (i : Instr) (at number target : ℕ) (stack : List Kind) → i.at ≡ at → instr_at unit.instrs i.at ≡ Some i
+      → slice_get (successors i.op (i.at + i.size)) number ≡ Some target → before at ≡ Some stack
+      → TypedAlong unit stacks i stack target
+  along i at number target stack here found goes is =
+      let typed = typed_at i at stack here found is in
       record {
         after = typed.after;
         typed = typed.typed;
         absorbed =
             of_place (λ x. Absorbs (before x) typed.after)
-            (successors i.op (i.at + i.size)) number target typed.onward left.goes;
+            (successors i.op (i.at + i.size)) number target typed.onward goes;
       }
+
+  pub left_along : (i : Instr) (at number target : ℕ) (stack : List Kind) → IsLeft unit at number target i
+      → before at ≡ Some stack → TypedAlong unit stacks i stack target
+  left_along i at number target stack left is = along i at number target stack left.here left.found left.goes is
 
   pub passed_along : (i : Instr) (at : ℕ) (stack : List Kind) → IsPassed unit at i → before at ≡ Some stack
       → TypedAlong unit stacks i stack (i.at + i.size)
   passed_along i at stack passed is =
-      let typed = typed_at i at stack passed.here passed.found is in
-      record {
-        after = typed.after;
-        typed = typed.typed;
-        absorbed =
-            of_place (λ x. Absorbs (before x) typed.after) (successors i.op (i.at + i.size)) 0
-            (i.at + i.size) typed.onward (rw passed.next refl);
-      }
+      along i at 0 (i.at + i.size) stack passed.here passed.found (rw passed.next refl) is
 
 -- ---- values
 

@@ -2,7 +2,7 @@
 use Rattle.std.proofs.Common.{◌≡◌, ℕ, ◌+◌, ◌<◌, true, List, [], ◌∷◌, length, get_or, slice_get, Some, sym, ap, subst, ◌∙◌, add-one, arith}
 use Rattle.std.specs.List.{AllByRecursion}
 use Rattle.std.proofs.lemmas.List.Elements.{All-from_recursion}
-use Rattle.std.proofs.lemmas.Option.{none-some}
+use Rattle.std.proofs.lemmas.Option.{get_or_from_slice_get, none-some}
 use Rattle.cc_base.specs.Slices.{IsShort}
 use Rattle.cil_model.specs.Bodies.{HasBody}
 use Rattle.cil_model.specs.Code.{begins_at}
@@ -21,14 +21,14 @@ use Rattle.flow_graph.specs.EdgesOf.{edges_of, JoinsBlocks}
 use Rattle.flow_graph.specs.declared.graph.Edge.{Edge}
 use Rattle.flow_graph.specs.declared.graph.Graph.{Graph}
 use Rattle.flow_graph.proofs.EdgeOrder.{place_within}
+use Rattle.flow_graph.proofs.Found.{found_begins}
 use Rattle.flow_graph.proofs.GraphFacts.{edges_join, first_block}
 use Rattle.stack_typer.proofs.Unique.{kinds_once}
 use Rattle.unit_flow.specs.Chains.{IsWay}
 use Rattle.unit_flow.specs.Flow.{IsLawful, block_instrs, edge_at, instrs_between, kinds_at, no_edge, start_of}
 use Rattle.unit_flow.specs.Ways.{IsShortSwitch}
 use Rattle.unit_flow.specs.declared.unit_flow.UnitFlow.{UnitFlow}
-use Rattle.unit_flow.proofs.BlockWays.{Leaves, block_way, edges_leave_blocks, found_begins}
-use Rattle.unit_flow.proofs.Places.{item_there}
+use Rattle.unit_flow.proofs.BlockWays.{Leaves, block_way, edges_leave_blocks}
 use Rattle.unit_flow.proofs.SwitchSizes.{all_short}
 
 module _ (code : UnitFlow) (lawful : IsLawful code) where
@@ -73,7 +73,7 @@ module _ (code : UnitFlow) (lawful : IsLawful code) where
       by (b ∷ blocks) is = omega arith
 
   pub first_start : start_of code 0 ≡ unit.body_start
-  first_start = item_there code.graph.blocks 0 unit.body_start 0 starts
+  first_start = get_or_from_slice_get code.graph.blocks 0 unit.body_start 0 starts
 
   -- Nothing is on the stack there.
   pub first_kinds : kinds_at code 0 ≡ Some []
@@ -98,7 +98,7 @@ module _ (code : UnitFlow) (lawful : IsLawful code) where
     -- The target of the edge, as its way ends.
     target_is : leaves.1.at ≡ start_of code edge.to
     target_is = subst (λ (g : Graph). leaves.1.at ≡ get_or g.blocks edge.to 0) (sym lawful.graph)
-        (sym (item_there (blocks_of unit) edge.to leaves.1.at 0
+        (sym (get_or_from_slice_get (blocks_of unit) edge.to leaves.1.at 0
         (place_within (blocks_of unit) leaves.1.at edge.to leaves.1.placed).1))
 
     -- The instructions of the block that an edge leaves are the way to its target.

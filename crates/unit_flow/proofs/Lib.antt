@@ -1,4 +1,5 @@
-pub mod Places
+pub mod BlockStarts
+pub mod ShortChains
 pub mod BlockWays
 pub mod SwitchSizes
 pub mod LawfulCode

@@ -3,7 +3,6 @@
 use Rattle.std.proofs.Common.{◌≡◌, ◌⊎◌, ℕ, zero, suc, ◌+◌, ◌<◌, ◌≤◌, false, List, [], ◌∷◌, length, slice_get, Some, refl, sym, ap, subst, ◌∙◌, arith, inl, inr}
 use Rattle.std.specs.List.{AllByRecursion}
 use Rattle.std.proofs.lemmas.Bool.{false≢true}
-use Rattle.std.proofs.lemmas.Option.{none-some, same_Some}
 use Rattle.cil_model.specs.Blocks.{branch_targets, is_block_start}
 use Rattle.cil_model.specs.Calls.{entry_frame}
 use Rattle.cil_model.specs.FitKinds.{FrameFits, HasCode, TypedCodeSteps}
@@ -12,19 +11,18 @@ use Rattle.cil_model.specs.Runs.{LocalRuns, LocalStep, MayBegin, StepsTo, entry_
 use Rattle.cil_model.specs.Shapes.{shape_of}
 use Rattle.cil_model.specs.Values.{Heap}
 use Rattle.cil_model.specs.declared.instruction.Instr.{Instr}
-use Rattle.cil_model.specs.declared.instruction.Op.{Op}
-use Rattle.cil_model.specs.declared.instruction.Op.TheVariants as ops
-use Rattle.cil_model.specs.declared.instruction.Test.TheVariants as tests
 use Rattle.cil_model.specs.declared.machine.Config.{Config}
 use Rattle.cil_model.specs.declared.machine.Config.TheVariants as configs
 use Rattle.cil_model.specs.declared.machine.FaultKind.{FaultKind}
 use Rattle.cil_model.specs.declared.machine.Value.{Value}
 use Rattle.cil_model.specs.declared.unit.Unit.{Unit as MethodUnit}
 use Rattle.cil_model.proofs.KindsSettle.{found_at, reached_begins}
-use Rattle.cil_model.proofs.Lists.{all_append, of_found}
+use Rattle.cil_model.proofs.Lists.{of_found}
 use Rattle.cil_model.proofs.StepsKeep.{KeepsFrame, local_step_keeps}
 use Rattle.cil_model.proofs.TypedCode.{typed_code_steps}
+use Rattle.flow_graph.proofs.Items.{of_place}
 use Rattle.flow_graph.proofs.StepsGo.{step_goes}
+use Rattle.flow_graph.proofs.Successors.{all_successors, only_next}
 use Rattle.machine_points.specs.Points.{IsReached, lives_at, point}
 use Rattle.machine_points.specs.declared.point.Point.{Point}
 use Rattle.machine_points.proofs.PointsKeep.{entry_point}
@@ -36,7 +34,6 @@ use Rattle.unit_flow.specs.declared.unit_flow.UnitFlow.{UnitFlow}
 use Rattle.unit_flow.proofs.BlockChains.{IsStartOf, block_chain, block_starts_there}
 use Rattle.unit_flow.proofs.KindsAlong.{makes}
 use Rattle.unit_flow.proofs.LawfulCode as laws
-use Rattle.unit_flow.proofs.Places.{of_place}
 use Rattle.unit_flow.proofs.WayLaws.{takes_way}
 
 -- ---- through a block
@@ -103,20 +100,6 @@ passes_all unit number (k ∷ l ∷ is) p i q new (inr (mid, first, more)) step 
     (mid, first, passes_all unit number (l ∷ is) mid i q new more step way)
 
 -- ---- steps stay in the body
-
-successors_inside : (start : ℕ) (op : Op) (next : ℕ) → start ≤ next
-    → AllByRecursion (λ at. start ≤ at) (branch_targets op)
-    → AllByRecursion (λ at. start ≤ at) (successors op next)
-successors_inside start ops.Return next behind inside = tt
-successors_inside start (ops.Branch tests.Always target) next behind inside = inside
-successors_inside start (ops.Branch test target) next behind inside = (inside.0, (behind, tt))
-successors_inside start (ops.Switch targets) next behind inside =
-    all_append (λ at. start ≤ at) targets (next ∷ []) inside (behind, tt)
-successors_inside start _ next behind inside = (behind, tt)
-
-only : (next n at : ℕ) → slice_get (next ∷ []) n ≡ Some at → at ≡ next
-only next zero at e = sym (same_Some next at e)
-only next (suc n) at e = absurd (none-some at e)
 
 -- A point in the unit's body, whose stack fits the kinds there.
 pub record IsInBody (code : UnitFlow) (p : Point) : Type 0 where
@@ -209,7 +192,7 @@ module _ (code : UnitFlow) (lawful : IsLawful code) where
     goes_within way i j is passes chain =
         let passed : IsPassed unit p.frame.at i = chain.0.passed in
         let by = by_it i passed.here passed.found in
-        let next : q.frame.at ≡ i.at + i.size = only (i.at + i.size) (way_of i.op p.frame.stack) q.frame.at
+        let next : q.frame.at ≡ i.at + i.size = only_next (i.at + i.size) (way_of i.op p.frame.stack) q.frame.at
         (subst (λ (ats : List ℕ). slice_get ats (way_of i.op p.frame.stack) ≡ Some q.frame.at) passed.next
         (takes_way unit i p q by)) in
         record {
@@ -248,7 +231,8 @@ module _ (code : UnitFlow) (lawful : IsLawful code) where
       record {
         fits = typed.kept unit f q.frame p.heap q.heap itself in_body.fits step;
         inside = of_place (λ at. unit.body_start ≤ at) (successors i.op (i.at + i.size)) goes.0 q.frame.at
-            (successors_inside unit.body_start i.op (i.at + i.size) (omega (arith, here, inside)) targets) goes.1;
+            (all_successors (λ at. unit.body_start ≤ at) i.op (i.at + i.size) targets (omega (arith, here, inside)))
+            goes.1;
       }
 
   -- ---- runs

@@ -1,10 +1,10 @@
 -- What a step of a frame does by an instruction that calls no method: one of its effects, or a return.
-use Rattle.std.proofs.Common.{◌≡◌, ◌⊎◌, ℕ, ◌+◌, ◌<◌, List, [], ◌∷◌, ◌++◌, Option, Some, None, filter_map, length, refl, sym, subst, ◌∙◌, arith, inl, inr}
+use Rattle.std.proofs.Common.{◌≡◌, ◌⊎◌, ℕ, ◌+◌, ◌<◌, List, [], ◌∷◌, length, Option, Some, None, filter_map, refl, sym, subst, arith, inl, inr}
 use Rattle.std.specs.List.{AllByRecursion}
-use Rattle.std.proofs.lemmas.Option.{none-some, same_Some}
-use Rattle.cil_model.specs.Calls.{FreeCall, ReturnRow, Returned, ensures_fault}
+use Rattle.std.proofs.lemmas.Option.{none-some}
+use Rattle.cil_model.specs.Calls.{FreeCall, ReturnRow}
 use Rattle.cil_model.specs.Effects.{Effect, GoesOn, Faults, Assumes, FindsNoRoom, HasEffect, effects}
-use Rattle.cil_model.specs.Runs.{CallsBy, EffectRow, LocalStep, Row, config_after, instr_at}
+use Rattle.cil_model.specs.Runs.{CallsBy, EffectRow, Row, config_after}
 use Rattle.cil_model.specs.UnitCalls.{callee_of, unit_call}
 use Rattle.cil_model.specs.Values.{Heap}
 use Rattle.cil_model.specs.WellFormed.{InOrderOfUse, IsWellFormed, called_by}
@@ -15,19 +15,15 @@ use Rattle.cil_model.specs.declared.machine.Config.{Config}
 use Rattle.cil_model.specs.declared.machine.Config.TheVariants as configs
 use Rattle.cil_model.specs.declared.machine.FaultKind.{FaultKind}
 use Rattle.cil_model.specs.declared.machine.Frame.{Frame}
-use Rattle.cil_model.specs.declared.machine.Value.{Value}
 use Rattle.cil_model.specs.declared.unit.CalleeInfo.{CalleeInfo}
 use Rattle.cil_model.specs.declared.unit.Unit.{Unit as MethodUnit}
 use Rattle.cil_model.specs.declared.unit_numbers.UnitCall.{UnitCall}
 use Rattle.cil_model.specs.declared.unit_numbers.UnitCall.TheVariants as calls
 use Rattle.cil_model.proofs.Lists.{of_found}
+use Rattle.flow_graph.proofs.StepsGo.{goes_on, no_return, row_found}
 use Rattle.machine_points.specs.Points.{lives_at}
 use Rattle.machine_points.specs.declared.point.Point.{Point}
 use Rattle.unit_flow.specs.Flow.{Steps}
-
-no_caller : (outer : List Frame) (caller : Frame) → [] ≡ outer ++ caller ∷ [] → ⊥
-no_caller [] caller e = cc
-no_caller (g ∷ outer) caller e = cc
 
 module _ (unit : MethodUnit) (i : Instr) (f : Frame) (heap : Heap) where
   call_row : (call : Option UnitCall) (new : Config) → callee_of call ≡ None
@@ -42,37 +38,15 @@ module _ (unit : MethodUnit) (i : Instr) (f : Frame) (heap : Heap) where
   row_kind (ops.Call number) new calls_none row = inl (call_row (unit_call number) new calls_none row)
   row_kind _ new calls_none row = inl row
 
-  no_return_on : (g : Frame) (after : Heap) (result : Option Value) (fault : Option ℕ)
-      → Returned [] i f heap result fault (configs.Live (g ∷ []) after) → ⊥
-  no_return_on g after result (Some k) returned = cc
-  no_return_on g after result None (inl ends) = let to = ends.1 in cc
-  no_return_on g after result None (inr (outer, caller, are, to)) = no_caller outer caller are
-
   -- ---- a step that goes on
-
-  -- A frame that returns does not live on.
-  pub no_return : (g : Frame) (after : Heap) → ReturnRow [] unit i f heap (configs.Live (g ∷ []) after) → ⊥
-  no_return g after (result, is, returned) = no_return_on g after result (ensures_fault unit f heap result) returned
-
-  on_effect : (g : Frame) (after : Heap) (effect : Effect) → configs.Live (g ∷ []) after ≡ config_after [] f i effect
-      → effect ≡ GoesOn g after
-  on_effect g after (GoesOn new heap) is = cc
-  on_effect g after (Faults kind) is = absurd cc
-  on_effect g after Assumes is = absurd cc
-  on_effect g after FindsNoRoom is = absurd cc
-
-  -- Where it lives on by an effect, it goes on by it.
-  pub goes_on : (g : Frame) (after : Heap) → EffectRow [] unit i f heap (configs.Live (g ∷ []) after)
-      → HasEffect (effects unit i f heap) (GoesOn g after)
-  goes_on g after (effect, has, is) = subst (HasEffect (effects unit i f heap)) (on_effect g after effect is) has
 
   goes_by : (g : Frame) (after : Heap) → called_by i.op ≡ None
       → Row (FreeCall unit) i.op [] unit i f heap (configs.Live (g ∷ []) after)
       → HasEffect (effects unit i f heap) (GoesOn g after)
   goes_by g after calls_none row =
       elim (row_kind i.op (configs.Live (g ∷ []) after) calls_none row) [
-        | inl by ↦ goes_on g after by
-        | inr returns ↦ absurd (no_return g after returns.1)
+        | inl by ↦ goes_on unit i f heap g after by
+        | inr returns ↦ absurd (no_return unit i f heap g after returns.1)
       ]
 
   -- ---- a step to a fault
@@ -100,14 +74,6 @@ module _ (unit : MethodUnit) (i : Instr) (f : Frame) (heap : Heap) where
         | inl by ↦ inl (faults kind index at by)
         | inr returns ↦ inr returns
       ]
-
--- The row of the instruction that is found.
-pub row_found : (unit : MethodUnit) (i : Instr) (f : Frame) (heap : Heap) (new : Config)
-    → instr_at unit.instrs f.at ≡ Some i
-    → LocalStep unit (configs.Live (f ∷ []) heap) new → Row (FreeCall unit) i.op [] unit i f heap new
-row_found unit i f heap new found (j, found_j, row) =
-    let same : j ≡ i = same_Some j i (sym found_j ∙ found) in
-    subst (λ (k : Instr). Row (FreeCall unit) k.op [] unit k f heap new) same row
 
 -- A step by an instruction that calls no method is one of its effects.
 pub effect_of : (unit : MethodUnit) (i : Instr) (p q : Point) → called_by i.op ≡ None → Steps unit i p q

@@ -1,10 +1,10 @@
 -- The way that the machine takes leads where it goes on.
-use Rattle.std.proofs.Common.{◌≡◌, ℕ, zero, suc, ◌+◌, ◌≤◌, Bool, true, false, not, Option, Some, None, List, [], ◌∷◌, ◌++◌, length, min, refl, sym, ap, subst, ◌∙◌, ⊎_elim, arith}
+use Rattle.std.proofs.Common.{◌≡◌, ℕ, ◌+◌, ◌≤◌, Bool, true, false, not, List, [], ◌∷◌, ◌++◌, length, min, Option, Some, None, refl, sym, ap, subst, ◌∙◌, ⊎_elim, arith, inl, inr}
 use Rattle.std.specs.Prelude.{slice_get, option_map}
-use Rattle.std.proofs.lemmas.Option.{none-some}
+use Rattle.std.proofs.lemmas.Option.{none-some, slice_get_cases, slice_get_within}
 use Rattle.cil_model.specs.Arithmetic.{unsigned}
-use Rattle.cil_model.specs.Comparisons.{is_true, compares_values}
 use Rattle.cil_model.specs.Calls.{FreeCall}
+use Rattle.cil_model.specs.Comparisons.{is_true, compares_values}
 use Rattle.cil_model.specs.Effects.{GoesOn, HasEffect, effects_of, branches, branches_by, switches, switches_to}
 use Rattle.cil_model.specs.Passes.{successors}
 use Rattle.cil_model.specs.Runs.{EffectRow, Row}
@@ -20,34 +20,26 @@ use Rattle.cil_model.specs.declared.machine.Value.{Value}
 use Rattle.cil_model.specs.declared.machine.Value.TheVariants.{Int}
 use Rattle.cil_model.specs.declared.unit.Unit.{Unit as MethodUnit}
 use Rattle.flow_graph.proofs.EffectsGo.{IsOneOf}
-use Rattle.flow_graph.proofs.StepsGo.{step_goes}
+use Rattle.flow_graph.proofs.Items.{in_front, last_there}
+use Rattle.flow_graph.proofs.StepsGo.{goes_on, no_return, row_found, step_goes}
+use Rattle.flow_graph.proofs.Successors.{only_next}
 use Rattle.machine_points.specs.Points.{lives_at}
 use Rattle.machine_points.specs.declared.point.Point.{Point}
 use Rattle.unit_flow.specs.Flow.{Steps}
 use Rattle.unit_flow.specs.Runs.{TakesWay}
 use Rattle.unit_flow.specs.Ways.{side, way_of_test, way_of_switch, way_of}
-use Rattle.unit_flow.proofs.Places.{place_below}
-use Rattle.unit_flow.proofs.StepRows.{goes_on, no_return, row_found}
 
 -- ---- places in lists
 
 only_way : (next at : ℕ) → IsOneOf (next ∷ []) at → slice_get (next ∷ []) 0 ≡ Some at
-only_way next at (zero, is) = is
-only_way next at (suc n, is) = absurd (none-some at is)
-
-in_front : (xs ys : List ℕ) (n x : ℕ) → slice_get xs n ≡ Some x → slice_get (xs ++ ys) n ≡ Some x
-in_front [] ys n x is = absurd (none-some x is)
-in_front (y ∷ xs) ys zero x is = is
-in_front (y ∷ xs) ys (suc n) x is = in_front xs ys n x is
-
-behind_all : (xs : List ℕ) (x : ℕ) → slice_get (xs ++ x ∷ []) (length xs) ≡ Some x
-behind_all [] x = refl
-behind_all (y ∷ xs) x = behind_all xs x
+only_way next at (n, is) = ap Some (sym (only_next next n at is))
 
 none_behind : (xs : List ℕ) (n : ℕ) → slice_get xs n ≡ None → length xs ≤ n
-none_behind [] n is = omega arith
-none_behind (x ∷ xs) zero is = absurd (none-some x (sym is))
-none_behind (x ∷ xs) (suc n) is = let most = none_behind xs n is in omega (arith, most)
+none_behind xs n is =
+    elim (slice_get_cases xs n).1 [
+      | inl (x, below, some, read) ↦ absurd (none-some x (sym is ∙ some))
+      | inr past ↦ past.0
+    ]
 
 -- ---- branches
 
@@ -84,9 +76,9 @@ case_taken : (targets : List ℕ) (n : ℕ) (i : Instr) (f g : Frame) (heap afte
 case_taken targets n i f g heap after rest None is has =
     let most = none_behind targets n is in
     let last : min n (length targets) ≡ length targets = omega (arith, most) in
-    rw last (behind_all targets (i.at + i.size) ∙ at_of _ g heap after has)
+    rw last (last_there targets (i.at + i.size) ∙ at_of _ g heap after has)
 case_taken targets n i f g heap after rest (Some target) is has =
-    let below = place_below targets n target is in
+    let below = slice_get_within targets n target is in
     let here : min n (length targets) ≡ n = omega (arith, below) in
     rw here (in_front targets ((i.at + i.size) ∷ []) n target is ∙ at_of _ g heap after has)
 

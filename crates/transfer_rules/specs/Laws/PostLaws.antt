@@ -13,6 +13,7 @@ use Rattle.cil_model.specs.declared.instruction.Op.TheVariants as ops
 use Rattle.cil_model.specs.declared.unit.Unit.{Unit as MethodUnit}
 use Rattle.cil_model.specs.declared.unit_numbers.UnitCall.{UnitCall}
 use Rattle.cil_model.specs.declared.unit_numbers.UnitCall.TheVariants as calls
+use Rattle.flow_graph.proofs.StepsGo.{row_found}
 use Rattle.machine_points.specs.MachineValues.{HasMachineValues}
 use Rattle.machine_points.specs.Points.{IsPointOf, lives_at}
 use Rattle.machine_points.specs.declared.point.Point.{Point}
@@ -35,7 +36,7 @@ use Rattle.transfer_rules.specs.Steps.{HoldsAlong, HoldsBehind}
 use Rattle.transfer_rules.specs.Laws.Acting.{act_keeps}
 use Rattle.transfer_rules.specs.Laws.Calling.{call_there, callee_is}
 use Rattle.transfer_rules.specs.Laws.Choosing.{choose_keeps, chosen_stays}
-use Rattle.unit_flow.proofs.StepRows.{effect_of, row_found}
+use Rattle.unit_flow.proofs.StepRows.{effect_of}
 use Rattle.unit_flow.specs.Flow.{Steps}
 use Rattle.unit_flow.specs.Ways.{IsShortSwitch, way_of}
 

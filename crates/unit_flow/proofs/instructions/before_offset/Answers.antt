@@ -1,6 +1,6 @@
 use Rattle.std.proofs.Common.{rules, nat_lt}
 use Rattle.std.proofs.lemmas.List.Sorted.{IsPartitionPoint-from_clause, IsPartitionedBy-ltb}
-use Rattle.unit_flow.proofs.Slicing.{passing_front}
+use Rattle.flow_graph.proofs.Searches.{passing_front}
 use Rattle.unit_flow.proofs.instructions.before_offset.Goals as goal
 
 pub returns : goal.returns
