@@ -82,7 +82,7 @@ changing shape is (suc n) stacks e = by_answer (changing shape is n) (after_pass
     by_answer earlier (Ok before) same e = one_more_pass shape is n before stacks (earlier before same) e (pass_falls shape is is before stacks e)
 
 -- What is there after `most_passes` are the kinds.
-settles : (shape : Shape) (is : List Instr) (stacks : Stacks) → after_passes shape is (most_passes shape is) ≡ Ok stacks → KindsOf shape is stacks
+pub settles : (shape : Shape) (is : List Instr) (stacks : Stacks) → after_passes shape is (most_passes shape is) ≡ Ok stacks → KindsOf shape is stacks
 settles shape is stacks e = record { passes = most_passes shape is; brought = e; settled = by_change (changing shape is (most_passes shape is) stacks e) }
   where
     by_change : Changing shape is (most_passes shape is) stacks → pass shape is stacks ≡ Ok stacks

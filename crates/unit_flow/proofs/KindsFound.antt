@@ -6,12 +6,12 @@ use Rattle.cil_model.specs.Shapes.{shape_of}
 use Rattle.cil_model.specs.declared.type_fault.TypeFault.{TypeFault}
 use Rattle.cil_model.specs.declared.unit.Unit.{Unit as MethodUnit}
 use Rattle.stack_typer.specs.FirstTypeFault.{most_passes}
+use Rattle.stack_typer.proofs.Settling.{settles}
 use Rattle.stack_typer.proofs.Unique.{kinds_once, not_both}
 use Rattle.flow_graph.specs.GraphOf.{graph_of}
 use Rattle.flow_graph.specs.declared.graph.Graph.{Graph}
 use Rattle.unit_flow.specs.FlowOf.{flow_of, kinds_of}
 use Rattle.unit_flow.specs.declared.unit_flow.UnitFlow.{UnitFlow}
-use Rattle.unit_flow.proofs.Settled.{settles}
 
 pub found_kinds : (unit : MethodUnit) (stacks : Stacks) → KindsOf (shape_of unit) unit.instrs stacks
     → stacks ≡ kinds_of unit

@@ -9,7 +9,6 @@ pub mod WayLaws
 pub mod FrameSizes
 pub mod KindsAlong
 pub mod OnTheWay
-pub mod Settled
 pub mod KindsFound
 pub mod Slicing
 pub mod FlowExamples
