@@ -6,7 +6,6 @@ pub mod LawfulCode
 pub mod BlockChains
 pub mod StepRows
 pub mod WayLaws
-pub mod FrameSizes
 pub mod KindsAlong
 pub mod OnTheWay
 pub mod KindsFound
