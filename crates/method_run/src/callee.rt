@@ -2,22 +2,23 @@
 
 ghost use Rattle.std.specs.Prelude.{◌≡◌, slice_get};
 ghost use Rattle.std.specs.Option.{option_copied, option_and_then};
+ghost use Rattle.cil_eval.specs.Flows.{AreRunnable};
+ghost use Rattle.cil_model.specs.Offsets.{RiseFrom};
 ghost use Rattle.cil_model.specs.Runs.{instr_at};
 ghost use Rattle.cil_model.specs.WellFormed.{called_by};
 ghost use Rattle.method_run.specs.FaultTexts.{callee_at, called_at};
 
-use cil_model::{CalleeInfo, Instr, Op, Unit, UnitCall, World, unit_call};
+use cil_model::{CalleeInfo, Instr, Op, Unit, UnitCall, World, index_of, unit_call};
 
-/// The instruction at an offset.
+/// The instruction at an offset. It is found by halving.
 fn instr_at(instrs: &[Instr], at: u32) -> Option<&Instr>
+    requires { RiseFrom 0 instrs.now }
     ensures { option_copied result ≡ instr_at instrs.now at }
 {
-    for instr in instrs {
-        if instr.at == at {
-            return Some(instr);
-        }
+    match index_of(instrs, at) {
+        Some(index) => instrs.get(index),
+        None => None,
     }
-    None
 }
 
 /// The number of the callee that an operation calls.
@@ -64,6 +65,7 @@ fn called_by(op: &Op) -> Option<u32>
 
 /// The method that the instruction at an offset of a unit calls.
 fn callee_at(unit: &Unit, at: u32) -> Option<&CalleeInfo>
+    requires { RiseFrom 0 unit.now.instrs }
     ensures { option_copied result ≡ callee_at unit.now at }
 {
     let instr = instr_at(unit.instrs.as_slice(), at)?;
@@ -73,6 +75,7 @@ fn callee_at(unit: &Unit, at: u32) -> Option<&CalleeInfo>
 
 /// The method that is called at an offset in the code of the method of an index.
 pub(crate) fn called_at(world: &World, index: u32, at: u32) -> Option<&CalleeInfo>
+    requires { AreRunnable world.now }
     ensures { option_copied result ≡ called_at world.now index at }
 {
     let unit = world.units.as_slice().get(index as usize)?;

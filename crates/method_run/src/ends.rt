@@ -1,6 +1,7 @@
 //! How runs ended, as text.
 
 ghost use Rattle.std.specs.Prelude.{◌≡◌, ◌≢◌, ◌++◌, IfOk, codes, decimal};
+ghost use Rattle.cil_eval.specs.Flows.{AreRunnable};
 ghost use Rattle.method_run.specs.EndTexts.{end_status, end_text};
 ghost use Rattle.method_run.specs.FaultTexts.{position_text};
 ghost use Rattle.method_run.specs.RunAnswers.{IsTold, cells_answer, end_answer, refusal_answer};
@@ -53,6 +54,7 @@ fn end_text(
     machine: &Machine<'_>,
     stop: Stop,
 ) -> Result<Vec<u8>, AllocError>
+    requires { AreRunnable world.now }
     ensures { IfOk result (λ text. text.items ≡ end_text world.now limits place machine.now.store.heap stop) }
 {
     match stop {
@@ -87,6 +89,7 @@ pub(crate) fn end_answer(
     machine: &Machine<'_>,
     stop: Stop,
 ) -> Result<RunAnswer, AllocError>
+    requires { AreRunnable world.now }
     ensures answer { IfOk result (λ answer. answer ≡ end_answer world.now limits place machine.now.store.heap stop) }
     ensures told { IfOk result IsTold }
 {

@@ -1,6 +1,7 @@
 //! Faults and the methods that they are in, as text.
 
 ghost use Rattle.std.specs.Prelude.{◌≡◌, ◌++◌, IfOk, OnOk};
+ghost use Rattle.cil_eval.specs.Flows.{AreRunnable};
 ghost use Rattle.method_run.specs.FaultTexts as texts;
 ghost use Rattle.method_run.specs.FaultTexts.{method_text, position_text};
 
@@ -49,6 +50,7 @@ pub(crate) fn fault_text(
     index: u32,
     at: u32,
 ) -> Result<Vec<u8>, AllocError>
+    requires { AreRunnable world.now }
     ensures { IfOk result (λ text. text.items ≡ texts.fault_text world.now kind index at) }
 {
     let mut text = Vec::from_slice(alloc, b"fault ")?;
