@@ -8,13 +8,13 @@ use Rattle.unit_builder.specs.WorldOf.{places_in, world_tokens}
 use Rattle.unit_builder.specs.declared.entry.Outcome.TheVariants.{Skipped}
 use Rattle.unit_builder.specs.declared.reason.Reason.{Reason}
 
--- Of three methods 1, 2 and 3, the second calls 3 and then 1, which call none.
+-- Of three methods 1, 2 and 3, the second calls 3 and then 1, and the third calls none.
 module _ (asm : List ℕ) (tokens : tokens_in (methods_of asm) ≡ 1 ∷ 2 ∷ 3 ∷ []) (three : length (methods_of asm) ≡ 3)
-    (first : calls_of asm 1 ≡ []) (second : calls_of asm 2 ≡ 3 ∷ 1 ∷ []) (third : calls_of asm 3 ≡ []) where
+    (second : calls_of asm 2 ≡ 3 ∷ 1 ∷ []) (third : calls_of asm 3 ≡ []) where
   -- Its world has it first, and then the others by rising token.
   pub order : world_tokens asm 2 ≡ 2 ∷ 1 ∷ 3 ∷ []
   unfolding world_tokens is_reached
-  order = rw (tokens, three, second, third, first) refl
+  order = rw (tokens, three, second, third) refl
 
   -- Its callees are the last of them and then the one before.
   pub callees : places_in (world_tokens asm 2) (calls_of asm 2) ≡ 2 ∷ 1 ∷ []
