@@ -1,2 +1,3 @@
 pub mod KindRows
+pub mod LineLemmas
 pub mod Writings

@@ -1,3 +1,4 @@
+pub mod LineCounts
 pub mod Writing
 pub mod Counting
 pub mod Signatures

@@ -1,9 +1,9 @@
 -- What a call of the program leaves, however it ends.
 use Rattle.std.specs.Prelude.{◌≡◌, ◌≢◌, ◌⊎◌, ℕ, List, [], ◌++◌, Result, Ok, Err, Any, IfOk, OnErr, IsErrOf}
 use Rattle.cc_base.specs.Counts.{Rose, Kept}
-use Rattle.cc_base.specs.Sink.{appended, AppendsFront, IsFront}
+use Rattle.cc_base.specs.Sink.{appended, counted, AppendsFront, IsFront}
 use Rattle.answer_lines.specs.Answers.{Answer, error_answer, unread_line, UNWRITTEN_LINE, NO_MEMORY_LINE}
-use Rattle.answer_lines.specs.Writing.{Change}
+use Rattle.answer_lines.specs.Writing.{Change, PutsLines}
 use Rattle.answer_lines.specs.declared.interrupt.Interrupt.{Interrupt}
 use Rattle.answer_lines.specs.declared.interrupt.Interrupt.TheVariants as interrupts
 
@@ -17,6 +17,8 @@ pub record Gives (answer : Answer) (result : Result ℕ Interrupt) (out err : Ch
   pub status : IfOk result (λ status. status ≡ answer.status)
   pub out_all : IfOk result (λ _. WritesAll out answer.out)
   pub err_all : IfOk result (λ _. WritesAll err answer.err)
+  pub out_puts : IfOk result (λ _. PutsLines out answer.out)
+  pub err_puts : IfOk result (λ _. PutsLines err answer.err)
   pub out_front : OnErr result (AppendsFront out.old out.new answer.out)
   pub err_front : OnErr result (AppendsFront err.old err.new answer.err)
   pub cause : IsErrOf result interrupts.CannotWrite → Rose out.faults_before out.faults_after ⊎ Rose err.faults_before err.faults_after
@@ -56,11 +58,14 @@ pub record Leaves (expected : Answer) (names : List (List ℕ)) (failed : Type 0
   -- Where nothing interrupts it, the answer is the expected one.
   pub answered : status ≢ 4 → status ≢ 6 → status ≢ 7
       → (status ≡ expected.status) × WritesAll out expected.out × WritesAll err expected.err
+  -- Then each sink was put as often as its text has lines.
+  pub lines : status ≢ 4 → status ≢ 6 → status ≢ 7 → PutsLines out expected.out × PutsLines err expected.err
   -- What was written is a prefix of what is expected, whatever happens.
   pub front : AppendsFront out.old out.new expected.out
-  -- Status 4 comes with the line of one of the files alone, and nothing on the sink of output.
+  -- Status 4 comes with the line of one of the files alone, in one put, and nothing on the sink of output.
   pub unread : status ≡ 4 → failed × Any (λ name. WritesAll err (unread_line name)) names
   pub unread_out : status ≡ 4 → WritesAll out []
+  pub unread_lines : status ≡ 4 → (out.puts_after ≡ out.puts_before) × (err.puts_after ≡ counted 1 err.puts_before)
   -- Statuses 6 and 7 come after a prefix of what would have been written, and with a prefix of their line.
   pub unwritten : status ≡ 6 → Interrupted UNWRITTEN_LINE expected.err err
       ⊎ (failed × Any (λ name. Interrupted UNWRITTEN_LINE (unread_line name) err) names)

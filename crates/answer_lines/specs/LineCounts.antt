@@ -1,0 +1,13 @@
+-- How many lines a text has.
+use Rattle.std.specs.Prelude.{◌≡◌, ℕ, List, ◌==◌}
+use Rattle.std.specs.List.{All, count_by}
+use Rattle.std.specs.declared.alloc.Global.{Global}
+use Rattle.std.specs.declared.vec.Vec.{Vec}
+
+-- How many line feeds a text has. Each ends a line.
+unfoldable pub line_count : List ℕ → ℕ
+line_count text = count_by (λ byte. byte == 10) text
+
+-- Each of these texts has one line feed.
+abbrev pub AreLines : List (Vec ℕ Global) → Type 0
+AreLines lines = All (λ line. line_count line.items ≡ 1) lines
