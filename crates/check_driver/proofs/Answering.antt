@@ -183,7 +183,7 @@ gives_unread expected words indexes index failed r out err f (k, lt, at) gives =
 
 -- A text that was written whole, whatever is answered then.
 pub written_whole : {X Y : Type 0} (x : X) (y : Y) (sink : Change) (text whole : List ℕ) → text ≡ whole → Writes (Ok x) sink text → Writes (Ok y) sink whole
-written_whole x y sink text whole same w = record { whole = rw (sym same) w.whole; front = tt; cause = λ is. absurd cc; kept = w.kept }
+written_whole x y sink text whole same w = record { whole = rw (sym same) w.whole; puts = rw (sym same) w.puts; front = tt; cause = λ is. absurd cc; kept = w.kept }
 
 -- Memory ran out before anything was written.
 pub gives_no_memory : (x : Answer) (out err : Change) → out.new ≡ out.old → err.new ≡ err.old → Kept out.faults_before out.faults_after → Kept err.faults_before err.faults_after
@@ -192,6 +192,8 @@ gives_no_memory x out err out_same err_same out_kept err_kept = record {
   status = tt;
   out_all = tt;
   err_all = tt;
+  out_puts = tt;
+  err_puts = tt;
   out_front = AppendsFront-none out.old out.new x.out out_same;
   err_front = AppendsFront-none err.old err.new x.err err_same;
   cause = λ is. absurd cc;

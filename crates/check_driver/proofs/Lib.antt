@@ -20,6 +20,13 @@ pub mod Reported
 pub mod ShownLines
 pub mod ReportTexts
 pub mod FewMethods
+pub mod PlainCounts
+pub mod FirstLines
+pub mod FaultCounts
+pub mod CountedTexts
+pub mod CountedIl
+pub mod CountedRuns
+pub mod FoundWithin
 pub mod PrintedMethods
 pub mod PrintedSafety
 pub mod LinesOf

@@ -57,7 +57,7 @@ first_line text line first = by_lines (lines_of text) first (lines_one_line text
 
 -- ---- one of the lines
 
-ends_behind : (first before : List ℕ) → EndsLine before → EndsLine (as_line first ++ before)
+pub ends_behind : (first before : List ℕ) → EndsLine before → EndsLine (as_line first ++ before)
 ends_behind first before (inl empty) = inr (first, ap (λ (l : List ℕ). as_line first ++ l) empty ∙ append-nil (as_line first))
 ends_behind first before (inr (lines, is)) =
     inr (as_line first ++ lines, ap (λ (l : List ℕ). as_line first ++ l) is ∙ sym (append_assoc (as_line first) lines (codes "\n")))

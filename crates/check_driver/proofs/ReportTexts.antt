@@ -69,7 +69,7 @@ kind_no_feed (kinds.WrongKind at) = placed_no_feed (codes "N12 wrong kind") at r
 kind_no_feed (kinds.FallsOff at) = placed_no_feed (codes "N12 falls off") at refl
 kind_no_feed (kinds.Deep at) = placed_no_feed (codes "N12 deep") at refl
 
-reason_no_feed : (reason : Reason) → NoFeed (reason_text reason)
+pub reason_no_feed : (reason : Reason) → NoFeed (reason_text reason)
 reason_no_feed reasons.Instance = refl
 reason_no_feed reasons.Generic = refl
 reason_no_feed reasons.NoBody = refl
@@ -89,7 +89,7 @@ pub proved_no_feed : (proved : Bool) → NoFeed (proved_text proved)
 proved_no_feed true = refl
 proved_no_feed false = refl
 
-skipped_no_feed : (reason : List ℕ) → NoFeed reason → NoFeed (verdict_text (Unjudged reason))
+pub skipped_no_feed : (reason : List ℕ) → NoFeed reason → NoFeed (verdict_text (Unjudged reason))
 skipped_no_feed reason none = no_feed_behind (codes "not analysed: ") reason refl none
 
 finding_no_feed : (outcome : Outcome) → NoFeed (verdict_text (finding outcome))
@@ -97,15 +97,15 @@ finding_no_feed (Analysed unit) = proved_no_feed (all_proved (unit_verdicts unit
 finding_no_feed (Skipped reason) = skipped_no_feed (reason_text reason) (reason_no_feed reason)
 
 -- The callees' names have no line feed.
-abbrev AreNamed : List CalleeInfo → Type 0
+abbrev pub AreNamed : List CalleeInfo → Type 0
 AreNamed callees = AllByRecursion (λ callee. NoFeed callee.name) callees
 
-names_of : (callees : List CalleeInfo) → AllByRecursion IsCallee callees → AreNamed callees
+pub names_of : (callees : List CalleeInfo) → AllByRecursion IsCallee callees → AreNamed callees
 names_of [] all = tt
 names_of (callee ∷ callees) all = (graphic_no_feed callee.name all.0.name.graphic, names_of callees all.1)
 
 -- Nor has what is told of a callee.
-callee_no_feed : (callees : List CalleeInfo) (number : Option ℕ) → AreNamed callees → NoFeed (callee_text (callee_of callees number))
+pub callee_no_feed : (callees : List CalleeInfo) (number : Option ℕ) → AreNamed callees → NoFeed (callee_text (callee_of callees number))
 unfolding signature_text
 callee_no_feed callees None named = refl
 callee_no_feed callees (Some number) named = at callees number named
@@ -118,7 +118,7 @@ callee_no_feed callees (Some number) named = at callees number named
         (no_feed_behind opened (parameters_text callee.args) (no_feed_behind callee.name (codes "(") named.0 refl) (parameters_no_feed callee.args)) refl
     at (callee ∷ callees) (suc number) named = at callees number named.1
 
-fault_no_feed : (callee : Option CalleeInfo) (kind : FaultKind) → NoFeed (callee_text callee) → NoFeed (kind_text callee kind)
+pub fault_no_feed : (callee : Option CalleeInfo) (kind : FaultKind) → NoFeed (callee_text callee) → NoFeed (kind_text callee kind)
 fault_no_feed callee (faults.Requires k) named =
     no_feed_behind (codes "requires " ++ decimal k ++ codes " of ") (callee_text callee)
     (no_feed_behind (codes "requires " ++ decimal k) (codes " of ") (no_feed_behind (codes "requires ") (decimal k) refl (number_no_feed k)) refl) named
@@ -133,7 +133,7 @@ fault_no_feed callee faults.Overflow named = refl
 fault_no_feed callee faults.Shift named = refl
 fault_no_feed callee faults.ArraySize named = refl
 
-verdict_no_feed : (callees : List CalleeInfo) (v : Verdict) → AreNamed callees → NoFeed (verdict_said callees v)
+pub verdict_no_feed : (callees : List CalleeInfo) (v : Verdict) → AreNamed callees → NoFeed (verdict_said callees v)
 unfolding verdict_said
 verdict_no_feed callees v named =
     let place = codes "  IL_" ++ hex 4 v.obligation.at in

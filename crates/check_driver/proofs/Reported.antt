@@ -97,7 +97,7 @@ entries_are_lines show (entry ∷ entries) =
     ∙ ap (λ (l : List ℕ). l ++ as_lines (flat_map (entry_said show) entries)) (entry_is_lines show entry)
     ∙ ap (λ (l : List ℕ). entry_lines show entry ++ l) (entries_are_lines show entries)
 
-summary_is_line : (n : Counts) → as_line (summary_said n) ≡ summary_line n
+pub summary_is_line : (n : Counts) → as_line (summary_said n) ≡ summary_line n
 unfolding summary_said
 summary_is_line n = append_assoc (summary_front n) (codes " proved") (10 ∷ [])
 

@@ -1,5 +1,5 @@
 -- What a call of the program gives where nothing interrupts it.
-use Rattle.std.specs.Prelude.{ℕ, Bool, List, [], length, Option, Some, None, nat_le, if◌then◌else◌, codes, slice_index_or}
+use Rattle.std.specs.Prelude.{◌≡◌, ℕ, Bool, List, [], length, Option, Some, None, nat_le, if◌then◌else◌, codes, slice_index_or}
 use Rattle.std.specs.Option.{option_and_then}
 use Rattle.asm_image.specs.Bodies.{method_of}
 use Rattle.asm_image.specs.Faults.{FirstBroken}
@@ -23,6 +23,7 @@ use Rattle.method_run.specs.declared.answer.RunAnswer.{RunAnswer}
 use Rattle.method_run.specs.declared.answer.RunAnswer.TheVariants as runs
 use Rattle.unit_builder.specs.WorldOf.{least_skipped, world_of}
 use Rattle.answer_lines.specs.Answers.{Answer, USAGE, missing_line, error_answer, output_answer, refused_answer, misfit_answer}
+use Rattle.answer_lines.specs.LineCounts.{line_count}
 use Rattle.check_driver.specs.Analysis.{unit_verdicts}
 use Rattle.check_driver.specs.CheckText.{all_methods_proved, check_text, summary_text}
 use Rattle.check_driver.specs.FaultText.{unit_fault_text, assembly_fault_text}
@@ -85,6 +86,11 @@ gen_answer bytes = output_answer (if all_methods_proved bytes then 0 else 1) (su
 abbrev pub run_told : RunAnswer → Answer
 run_told (runs.Line status text) = output_answer status text
 run_told (runs.Misfit reason) = misfit_answer reason
+
+-- It is one line, or a reason without a line feed.
+abbrev pub TellsLine : RunAnswer → Type 0
+TellsLine (runs.Line status text) = line_count text ≡ 1
+TellsLine (runs.Misfit reason) = line_count reason ≡ 0
 
 -- The answer for the method of a token, where this is the least token that it reaches of a method that is not analysed,
 -- or there is none.

@@ -1,7 +1,8 @@
 -- What is found of methods, as the code has it.
 use Rattle.std.specs.Prelude.{◌≡◌, ℕ, ◌*◌, ◌<◌, ◌≤◌, Bool, List, [], ◌++◌, length, if◌then◌else◌}
-use Rattle.std.specs.List.{All}
+use Rattle.std.specs.List.{All, AllByRecursion}
 use Rattle.cil_model.specs.Limits.{MAX_CLAUSES, MAX_CODE_BYTES, MAX_INSTRUCTIONS}
+use Rattle.cil_model.specs.WellFormed.{IsCallee}
 use Rattle.cil_model.specs.declared.unit.CalleeInfo.{CalleeInfo}
 use Rattle.cil_model.specs.declared.unit.Unit.{Unit as MethodUnit}
 use Rattle.invariant_checker.specs.Verdicts.{verdicts}
@@ -10,6 +11,7 @@ use Rattle.state_facts.specs.StateFacts.{State}
 use Rattle.unit_flow.specs.declared.unit_flow.UnitFlow.{UnitFlow}
 use Rattle.asm_image.specs.declared.method_row.MethodRow.{MethodRow}
 use Rattle.check_driver.specs.Analysis.{shown_text, states_text, unit_verdicts}
+use Rattle.check_driver.specs.Checked.{EndsLine}
 use Rattle.check_driver.specs.CheckText.{Finding, Judged, Unjudged, finding_lines}
 use Rattle.check_driver.specs.ReasonText.{reason_text}
 use Rattle.check_driver.specs.declared.finding.Finding.{Finding as Found}
@@ -36,13 +38,16 @@ pub record AreWithin (found : List Verdict) : Type 0 where
   pub near : All (λ verdict. verdict.obligation.at < MAX_CODE_BYTES) found
   pub few : length found ≤ MAX_CLAUSES * MAX_INSTRUCTIONS
 
-abbrev pub IsWithin : Found → Type 0
-IsWithin found = AreWithin (verdicts_in (told found))
-
 -- What is shown of its unit's invariant.
 abbrev pub shown_in : Found → List ℕ
 shown_in (founds.Judged found) = found.judgement.shown.items
 shown_in (founds.Skipped reason) = []
+
+-- What is found keeps the limits, and can be told in whole lines.
+pub record IsWithin (found : Found) : Type 0 where
+  pub verdicts : AreWithin (verdicts_in (told found))
+  pub callees : AllByRecursion IsCallee (callees_in (told found))
+  pub shown : EndsLine (shown_in found)
 
 -- The lines of a method of which this is found.
 abbrev pub told_lines : MethodRow × Found → List ℕ

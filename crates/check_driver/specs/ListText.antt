@@ -1,6 +1,7 @@
 -- The lines of an assembly's list.
-use Rattle.std.specs.Prelude.{ℕ, List, ◌++◌, codes}
-use Rattle.std.specs.List.{flat_map}
+use Rattle.std.specs.Prelude.{◌≡◌, ℕ, List, ◌++◌, codes}
+use Rattle.std.specs.List.{AllByRecursion, flat_map}
+use Rattle.answer_lines.specs.LineCounts.{line_count}
 use Rattle.asm_image.specs.Rows.{methods_of}
 use Rattle.asm_image.specs.declared.method_row.MethodRow.{MethodRow}
 use Rattle.cc_base.specs.Digits.{hex}
@@ -12,6 +13,10 @@ line_of token name = hex 8 token.0 ++ codes " " ++ name ++ codes "\n"
 
 abbrev pub method_line : MethodRow → List ℕ
 method_line method = line_of method.token method.name
+
+-- No name of these methods has a line feed.
+abbrev pub AreNamedPlainly : List MethodRow → Type 0
+AreNamedPlainly methods = AllByRecursion (λ method. line_count method.name ≡ 0) methods
 
 -- The methods of an assembly, one line for each.
 unfoldable pub list_text : List ℕ → List ℕ

@@ -1,6 +1,6 @@
 //! The answer to `check FILE`, with `--show` or without.
 
-#![tactic(auto, using(cc_base::proofs::SinkLemmas::sinks, cc_base::proofs::CountLemmas::counts))]
+#![tactic(auto, using(cc_base::proofs::SinkLemmas::sinks, cc_base::proofs::CountLemmas::counts, answer_lines::proofs::LineLemmas::puts_none))]
 
 ghost use Rattle.std.specs.Prelude.{◌≡◌, ◌++◌, ◌<◌, ◌^◌, All, IfOk, OnOk, Some, if◌then◌else◌, length, map, slice_get, zip};
 ghost use Rattle.std.specs.List.{flat_map, list_all};
@@ -13,7 +13,9 @@ ghost use Rattle.check_driver.specs.Checked.{AreRunnable, IsReportable};
 ghost use Rattle.answer_lines.specs.Counting.{AreBelow};
 ghost use Rattle.check_driver.specs.Expected.{check_answer};
 ghost use Rattle.check_driver.specs.Findings.{IsWithin, shown_in, told, told_lines};
+ghost use Rattle.check_driver.specs.ListText.{AreNamedPlainly};
 ghost use Rattle.check_driver.specs.NothingOr.{NothingOr};
+ghost use Rattle.answer_lines.specs.LineCounts.{AreLines, line_count};
 ghost use Rattle.answer_lines.specs.Outcome.{Gives};
 ghost use Rattle.answer_lines.specs.Writing.{Writes, change_of, joined};
 ghost use Rattle.method_unit.specs.Units.{IsUnit};
@@ -52,8 +54,11 @@ fn append_finding(
     method: &MethodRow,
     finding: &Finding,
 ) -> Result<(), AllocError>
-    requires { IsWithin finding.now }
-    ensures { OnOk result (joined lines.new.items ≡ joined lines.old.items ++ told_lines (method.now, finding.now)) }
+    requires within { IsWithin finding.now }
+    requires name { line_count method.now.name ≡ 0 }
+    requires lines { AreLines lines.old.items }
+    ensures text { OnOk result (joined lines.new.items ≡ joined lines.old.items ++ told_lines (method.now, finding.now)) }
+    ensures lines { OnOk result (AreLines lines.new.items) }
 {
     lines.push(method_line(alloc, method, finding)?)?;
     append_verdict_lines(alloc, lines, finding.callees(), finding.verdicts())?;
@@ -68,7 +73,10 @@ fn append_findings(
     found: &[Finding],
 ) -> Result<(), AllocError>
     requires within { All IsWithin found.now }
-    ensures { OnOk result (joined lines.new.items ≡ joined lines.old.items ++ flat_map told_lines (zip methods.now found.now)) }
+    requires names { AreNamedPlainly methods.now }
+    requires lines { AreLines lines.old.items }
+    ensures text { OnOk result (joined lines.new.items ≡ joined lines.old.items ++ flat_map told_lines (zip methods.now found.now)) }
+    ensures lines { OnOk result (AreLines lines.new.items) }
 {
     for (method, finding) in methods.iter().zip(found.iter()) {
         append_finding(alloc, lines, method, finding)?;
@@ -178,6 +186,7 @@ fn check_lines(
     requires few { length found.now < 2 ^ 32 }
     requires runnable { AreRunnable assembly.now }
     ensures text { IfOk result (λ lines. joined lines.items ≡ check_text name.now show assembly.now) }
+    ensures lines { IfOk result (λ lines. AreLines lines.items) }
     ensures reportable { IfOk result (λ _. IsReportable assembly.now) }
 {
     let mut lines = Vec::new(alloc);
@@ -204,6 +213,7 @@ fn report_lines<D: Finder>(
 ) -> Result<ReportLines, AllocError>
     ensures status { IfOk result (λ report. report.status ≡ (if all_methods_proved assembly.now then 0 else 1)) }
     ensures text { IfOk result (λ report. joined report.lines.items ≡ check_text name.now show assembly.now) }
+    ensures lines { IfOk result (λ report. AreLines report.lines.items) }
     ensures reportable { IfOk result (λ _. IsReportable assembly.now) }
     ensures asked { Asks (units_asked assembly.now) result (D.asked finder.old) (D.asked finder.new) }
 {
@@ -254,7 +264,7 @@ fn answer_assembly<O: Sink, D: Finder>(
     finder: &mut D,
 ) -> Result<u8, Interrupt>
     ensures status { IfOk result (λ status. status ≡ (if all_methods_proved assembly.now then 0 else 1)) }
-    ensures written { Writes result (change_of O.written O.faults out.old out.new) (check_text name.now show assembly.now) }
+    ensures written { Writes result (change_of O.written O.puts O.faults out.old out.new) (check_text name.now show assembly.now) }
     ensures reportable { NothingOr (O.written out.old) (O.written out.new) (IsReportable assembly.now) }
     ensures asked { Asks (units_asked assembly.now) result (D.asked finder.old) (D.asked finder.new) }
 {
@@ -277,7 +287,7 @@ pub fn answer_check<O: Sink, E: Sink, D: Finder>(
     finder: &mut D,
 ) -> Result<u8, Interrupt>
     ensures answer { Gives (check_answer name.now show bytes.now (FirstBroken bytes.now)) result
-        (change_of O.written O.faults out.old out.new) (change_of E.written E.faults err.old err.new) }
+        (change_of O.written O.puts O.faults out.old out.new) (change_of E.written E.puts E.faults err.old err.new) }
     ensures reportable { NothingOr (O.written out.old) (O.written out.new) (IsReportable bytes.now) }
     ensures asked { Asks (check_asked bytes.now (FirstBroken bytes.now)) result (D.asked finder.old) (D.asked finder.new) }
 {

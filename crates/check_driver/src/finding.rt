@@ -30,6 +30,7 @@ pub enum Finding {
 impl Finding {
     /// Returns what is found of a method of which this comes. Where its unit is judged it is among those of the call
     /// from then on.
+    #[tactic(auto, using(crate::proofs::FoundWithin::within))]
     pub fn of<D: Finder>(
         alloc: Global,
         outcome: Outcome,

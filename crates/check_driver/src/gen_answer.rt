@@ -1,10 +1,11 @@
 //! The answer to `gen SEED COUNT`.
 
-#![tactic(auto, using(cc_base::proofs::SinkLemmas::sinks, cc_base::proofs::CountLemmas::counts))]
+#![tactic(auto, using(cc_base::proofs::SinkLemmas::sinks, cc_base::proofs::CountLemmas::counts, answer_lines::proofs::LineLemmas::puts_none))]
 
 ghost use Rattle.std.specs.Prelude.{◌≡◌, ◌≤◌, IfOk, if◌then◌else◌};
 ghost use Rattle.check_driver.specs.Asked.{Asks, units_asked};
 ghost use Rattle.check_driver.specs.CheckText.{all_methods_proved, summary_text};
+ghost use Rattle.answer_lines.specs.LineCounts.{line_count};
 ghost use Rattle.answer_lines.specs.Writing.{Writes, change_of};
 ghost use Rattle.written_assemblies.specs.GeneratedFiles.{generated_file};
 
@@ -32,6 +33,7 @@ fn summarise<D: Finder>(
 ) -> Result<Summary, AllocError>
     ensures status { IfOk result (λ summary. summary.status ≡ (if all_methods_proved assembly.now then 0 else 1)) }
     ensures line { IfOk result (λ summary. summary.line.items ≡ summary_text assembly.now) }
+    ensures one { IfOk result (λ summary. line_count summary.line.items ≡ 1) }
     ensures asked { Asks (units_asked assembly.now) result (D.asked finder.old) (D.asked finder.new) }
 {
     let found = find_all(alloc, assembly, false, finder)?;
@@ -49,7 +51,7 @@ fn answer_generated<O: Sink, D: Finder>(
     finder: &mut D,
 ) -> Result<u8, Interrupt>
     ensures status { IfOk result (λ status. status ≡ (if all_methods_proved assembly.now then 0 else 1)) }
-    ensures written { Writes result (change_of O.written O.faults out.old out.new) (summary_text assembly.now) }
+    ensures written { Writes result (change_of O.written O.puts O.faults out.old out.new) (summary_text assembly.now) }
     ensures asked { Asks (units_asked assembly.now) result (D.asked finder.old) (D.asked finder.new) }
 {
     let summary = summarise(alloc, assembly, finder)?;
@@ -70,7 +72,7 @@ pub fn answer_gen<O: Sink, D: Finder>(
 ) -> Result<u8, Interrupt>
     requires few { count ≤ 10000 }
     ensures status { IfOk result (λ status. status ≡ (if all_methods_proved (generated_file seed count) then 0 else 1)) }
-    ensures written { Writes result (change_of O.written O.faults out.old out.new) (summary_text (generated_file seed count)) }
+    ensures written { Writes result (change_of O.written O.puts O.faults out.old out.new) (summary_text (generated_file seed count)) }
     ensures asked { Asks (units_asked (generated_file seed count)) result (D.asked finder.old) (D.asked finder.new) }
 {
     let file = generated_file(alloc, seed, count)?;

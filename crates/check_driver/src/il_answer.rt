@@ -1,6 +1,6 @@
 //! The answer to `il FILE METHOD`.
 
-#![tactic(auto, using(cc_base::proofs::SinkLemmas::sinks, cc_base::proofs::CountLemmas::counts))]
+#![tactic(auto, using(cc_base::proofs::SinkLemmas::sinks, cc_base::proofs::CountLemmas::counts, answer_lines::proofs::LineLemmas::puts_none))]
 
 ghost use Rattle.std.specs.Prelude.{◌≡◌, ◌++◌, IfOk, OnOk};
 ghost use Rattle.std.specs.Option.{option_and_then, option_map};
@@ -38,7 +38,7 @@ fn put_instr<O: Sink>(
     instr: &Instr,
     out: &mut O,
 ) -> Result<(), Interrupt>
-    ensures { Writes result (change_of O.written O.faults out.old out.new) (il_line instr.now) }
+    ensures { Writes result (change_of O.written O.puts O.faults out.old out.new) (il_line instr.now) }
 {
     line.clear();
     append_line(alloc, line, instr)?;
@@ -48,7 +48,7 @@ fn put_instr<O: Sink>(
 /// Puts the line of each instruction.
 #[tactic(auto, unfolding(crate::specs::IlText::il_text))]
 fn put_instrs<O: Sink>(alloc: Global, instrs: &[Instr], out: &mut O) -> Result<(), Interrupt>
-    ensures { Writes result (change_of O.written O.faults out.old out.new) (il_text instrs.now) }
+    ensures { Writes result (change_of O.written O.puts O.faults out.old out.new) (il_text instrs.now) }
 {
     let mut line = Vec::new(alloc);
     for instr in instrs {
@@ -110,7 +110,7 @@ fn answer_instrs<O: Sink, E: Sink>(
     err: &mut E,
 ) -> Result<u8, Interrupt>
     ensures { Gives (instrs_answer (option_map (λ instrs. instrs.items) instrs)) result
-        (change_of O.written O.faults out.old out.new) (change_of E.written E.faults err.old err.new) }
+        (change_of O.written O.puts O.faults out.old out.new) (change_of E.written E.puts E.faults err.old err.new) }
 {
     match instrs {
         None => answer_misfit(alloc, b"not analysed", err),
@@ -130,7 +130,7 @@ fn answer_found<O: Sink, E: Sink>(
     err: &mut E,
 ) -> Result<u8, Interrupt>
     ensures { Gives (found_answer assembly.now found) result
-        (change_of O.written O.faults out.old out.new) (change_of E.written E.faults err.old err.new) }
+        (change_of O.written O.puts O.faults out.old out.new) (change_of E.written E.puts E.faults err.old err.new) }
 {
     match found {
         None => answer_misfit(alloc, b"no method", err),
@@ -155,7 +155,7 @@ pub fn answer_il<O: Sink, E: Sink>(
     err: &mut E,
 ) -> Result<u8, Interrupt>
     ensures { Gives (il_answer name.now method.now bytes.now (FirstBroken bytes.now)) result
-        (change_of O.written O.faults out.old out.new) (change_of E.written E.faults err.old err.new) }
+        (change_of O.written O.puts O.faults out.old out.new) (change_of E.written E.puts E.faults err.old err.new) }
 {
     match Assembly::read(alloc, bytes) {
         Err(AsmRefusal::NoMemory) => Err(Interrupt::NoMemory),

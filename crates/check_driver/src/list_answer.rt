@@ -1,13 +1,14 @@
 //! The answer to `list FILE`.
 
-#![tactic(auto, using(cc_base::proofs::SinkLemmas::sinks, cc_base::proofs::CountLemmas::counts))]
+#![tactic(auto, using(cc_base::proofs::SinkLemmas::sinks, cc_base::proofs::CountLemmas::counts, answer_lines::proofs::LineLemmas::puts_none))]
 
 ghost use Rattle.std.specs.Prelude.{◌≡◌, ◌++◌, OnOk};
 ghost use Rattle.std.specs.List.{flat_map};
 ghost use Rattle.asm_image.specs.Faults.{FirstBroken};
 ghost use Rattle.asm_image.specs.Rows.{first_name};
 ghost use Rattle.check_driver.specs.Expected.{list_answer};
-ghost use Rattle.check_driver.specs.ListText.{line_of, list_text, method_line};
+ghost use Rattle.check_driver.specs.ListText.{AreNamedPlainly, line_of, list_text, method_line};
+ghost use Rattle.answer_lines.specs.LineCounts.{line_count};
 ghost use Rattle.answer_lines.specs.Outcome.{Gives};
 ghost use Rattle.answer_lines.specs.Writing.{Writes, change_of};
 
@@ -42,7 +43,8 @@ fn put_method<O: Sink>(
     walk: &mut MethodWalk<'_, '_>,
     out: &mut O,
 ) -> Result<(), Interrupt>
-    ensures written { Writes result (change_of O.written O.faults out.old out.new) (line_of token (first_name walk.old)) }
+    requires { line_count (first_name walk.old) ≡ 0 }
+    ensures written { Writes result (change_of O.written O.puts O.faults out.old out.new) (line_of token (first_name walk.old)) }
     ensures kept { walk.new ≡ walk.old }
 {
     line.clear();
@@ -51,13 +53,14 @@ fn put_method<O: Sink>(
 }
 
 /// Puts the line of each method of a walk.
-#[tactic(auto, using(cc_base::proofs::SinkLemmas::sinks, cc_base::proofs::CountLemmas::counts, crate::proofs::Listing::listing))]
+#[tactic(auto, using(cc_base::proofs::SinkLemmas::sinks, cc_base::proofs::CountLemmas::counts, answer_lines::proofs::LineLemmas::puts_none, crate::proofs::Listing::listing))]
 fn put_methods<O: Sink>(
     alloc: Global,
     mut walk: MethodWalk<'_, '_>,
     out: &mut O,
 ) -> Result<(), Interrupt>
-    ensures { Writes result (change_of O.written O.faults out.old out.new) (flat_map method_line walk.entry) }
+    requires { AreNamedPlainly walk }
+    ensures { Writes result (change_of O.written O.puts O.faults out.old out.new) (flat_map method_line walk.entry) }
 {
     let mut line = Vec::new(alloc);
     while let Some(token) = walk.token() {
@@ -70,7 +73,7 @@ fn put_methods<O: Sink>(
 /// Puts the line of each method of an assembly.
 #[tactic(auto, unfolding(crate::specs::ListText::list_text))]
 fn put_list<O: Sink>(alloc: Global, file: &AssemblyFile<'_>, out: &mut O) -> Result<(), Interrupt>
-    ensures { Writes result (change_of O.written O.faults out.old out.new) (list_text file.now) }
+    ensures { Writes result (change_of O.written O.puts O.faults out.old out.new) (list_text file.now) }
 {
     put_methods(alloc, file.methods(alloc), out)
 }
@@ -86,7 +89,7 @@ pub fn answer_list<O: Sink, E: Sink>(
     err: &mut E,
 ) -> Result<u8, Interrupt>
     ensures { Gives (list_answer name.now bytes.now (FirstBroken bytes.now)) result
-        (change_of O.written O.faults out.old out.new) (change_of E.written E.faults err.old err.new) }
+        (change_of O.written O.puts O.faults out.old out.new) (change_of E.written E.puts E.faults err.old err.new) }
 {
     match AssemblyFile::read(bytes) {
         Err(fault) => answer_refused(alloc, name, assembly_fault_text(fault.cause), fault.at, err),

@@ -1,6 +1,6 @@
 //! The top call: the program's answer to its words.
 
-#![tactic(auto, using(cc_base::proofs::SinkLemmas::sinks, cc_base::proofs::CountLemmas::counts))]
+#![tactic(auto, using(cc_base::proofs::SinkLemmas::sinks, cc_base::proofs::CountLemmas::counts, answer_lines::proofs::LineLemmas::puts_none))]
 
 ghost use Rattle.std.specs.Prelude.{◌≡◌, ◌⊎◌, ◌<◌, ◌≤◌, All, Contains, List, ℕ, length, Option, Some, IfOk, IfSome, None};
 ghost use Rattle.asm_image.specs.Faults.{FirstBroken};
@@ -52,7 +52,7 @@ fn answer_run_words<O: Sink, E: Sink>(
     requires args { HasArguments run (words_bytes words.now) }
     ensures { let given = words_bytes words.now in
         Gives (run_file_answer (word_at given run.file) (word_at given run.method) (args_told run given) run.steps bytes.now (FirstBroken bytes.now)) result
-        (change_of O.written O.faults out.old out.new) (change_of E.written E.faults err.old err.new) }
+        (change_of O.written O.puts O.faults out.old out.new) (change_of E.written E.puts E.faults err.old err.new) }
 {
     let given = RunGiven {
         args: &words[3..run.args_end as usize],
@@ -85,7 +85,7 @@ fn answer_bytes<O: Sink, E: Sink, D: Finder>(
     requires arguments { IfRun command (λ run. HasArguments run (words_bytes words.now)) }
     requires few { IfGen command (λ seed count. count ≤ 10000) }
     ensures answer { Gives (bytes_answer command (words_bytes words.now) (bytes_read read.now)) result
-        (change_of O.written O.faults out.old out.new) (change_of E.written E.faults err.old err.new) }
+        (change_of O.written O.puts O.faults out.old out.new) (change_of E.written E.puts E.faults err.old err.new) }
     ensures reportable { NothingOr (O.written out.old) (O.written out.new) (IfCheck command (λ _. IsReportable (file_at (bytes_read read.now) 0))) }
     ensures asked { Asks (bytes_asked command (bytes_read read.now)) result (D.asked finder.old) (D.asked finder.new) }
     ensures spelled { NothingOr (O.written out.old) (O.written out.new) (IfUnit command (λ _. AreSpelled (file_at (bytes_read read.now) 0))) }
@@ -148,7 +148,7 @@ fn answer_command<F: Files, O: Sink, E: Sink, D: Finder>(
         let names = words_at given (file_indexes command) in
         (met : List (Option (List ℕ))) × AreUnder (F.held files.old) names met
         × GivesOrUnread (files_answer command given met) names (Rose (F.faults files.old) (F.faults files.new)) result
-        (change_of O.written O.faults out.old out.new) (change_of E.written E.faults err.old err.new)
+        (change_of O.written O.puts O.faults out.old out.new) (change_of E.written E.puts E.faults err.old err.new)
         × AnswerAsks (files_asked command given met) result (D.asked finder.old) (D.asked finder.new) }
     ensures missing { IfOk result (λ status. status ≡ 3 → Rose (F.missed files.old) (F.missed files.new)) }
     ensures reportable { NothingOr (O.written out.old) (O.written out.new)
@@ -177,7 +177,7 @@ fn answer_words<F: Files, O: Sink, E: Sink, D: Finder>(
     ensures answer { let given = words_bytes words.now in
         (met : List (Option (List ℕ))) × AreUnder (F.held files.old) (file_names given) met
         × GivesOrUnread (expected given met) (file_names given) (Rose (F.faults files.old) (F.faults files.new)) result
-        (change_of O.written O.faults out.old out.new) (change_of E.written E.faults err.old err.new)
+        (change_of O.written O.puts O.faults out.old out.new) (change_of E.written E.puts E.faults err.old err.new)
         × AnswerAsks (asked_by given met) result (D.asked finder.old) (D.asked finder.new) }
     ensures missing { IfOk result (λ status. status ≡ 3 → Rose (F.missed files.old) (F.missed files.new)) }
     ensures usage { command_of (words_bytes words.now) ≡ None → IfOk result (λ status. status ≡ 2) }
@@ -207,6 +207,7 @@ fn try_line<E: Sink>(alloc: Global, line: &[u8], err: &mut E)
 fn finish<E: Sink>(alloc: Global, answered: Result<u8, Interrupt>, err: &mut E) -> u8
     ensures status { result ≡ status_of answered }
     ensures front { AppendsFront (E.written err.old) (E.written err.new) (last_line answered) }
+    ensures puts { IfOk answered (λ _. E.puts err.new ≡ E.puts err.old) }
     ensures kept { Kept (E.faults err.old) (E.faults err.new) }
 {
     match answered {
@@ -240,7 +241,7 @@ pub fn run_words<F: Files, O: Sink, E: Sink, D: Finder>(
         let failed = Rose (F.faults files.old) (F.faults files.new) in
         (met : List (Option (List ℕ))) × AreUnder (F.held files.old) (file_names given) met
         × Leaves (expected given met) (file_names given) failed result
-        (change_of O.written O.faults out.old out.new) (change_of E.written E.faults err.old err.new)
+        (change_of O.written O.puts O.faults out.old out.new) (change_of E.written E.puts E.faults err.old err.new)
         × LeavesAsked (asked_by given met) result (D.asked finder.old) (D.asked finder.new) }
     ensures files { F.held files.new ≡ F.held files.old }
     // Where the report of an assembly has told each method that one reaches by calls to be proved, no run of that one

@@ -1,11 +1,11 @@
 //! The answer to `run FILE METHOD ARG..`.
 
-#![tactic(auto, using(cc_base::proofs::SinkLemmas::sinks, cc_base::proofs::CountLemmas::counts))]
+#![tactic(auto, using(cc_base::proofs::SinkLemmas::sinks, cc_base::proofs::CountLemmas::counts, answer_lines::proofs::LineLemmas::puts_none))]
 
 ghost use Rattle.std.specs.Prelude.{◌≡◌, All, IsSome, IsTrue, string_bytes};
 ghost use Rattle.asm_image.specs.Bodies.{method_of};
 ghost use Rattle.asm_image.specs.Faults.{FirstBroken};
-ghost use Rattle.check_driver.specs.Expected.{method_answer, run_file_answer, run_found_answer, run_told, world_answer};
+ghost use Rattle.check_driver.specs.Expected.{TellsLine, method_answer, run_file_answer, run_found_answer, run_told, world_answer};
 ghost use Rattle.answer_lines.specs.Outcome.{Gives};
 ghost use Rattle.command_words.specs.Words.{words_bytes};
 ghost use Rattle.answer_lines.specs.Writing.{change_of};
@@ -39,8 +39,9 @@ fn answer_told<O: Sink, E: Sink>(
     out: &mut O,
     err: &mut E,
 ) -> Result<u8, Interrupt>
+    requires { TellsLine answer }
     ensures { Gives (run_told answer) result
-        (change_of O.written O.faults out.old out.new) (change_of E.written E.faults err.old err.new) }
+        (change_of O.written O.puts O.faults out.old out.new) (change_of E.written E.puts E.faults err.old err.new) }
 {
     match answer {
         RunAnswer::Misfit(reason) => answer_misfit(alloc, reason.as_slice(), err),
@@ -52,7 +53,7 @@ fn answer_told<O: Sink, E: Sink>(
 }
 
 /// Answers for a run in a world, of its first method.
-#[tactic(auto, using(cc_base::proofs::SinkLemmas::sinks, cc_base::proofs::CountLemmas::counts))]
+#[tactic(auto, using(cc_base::proofs::SinkLemmas::sinks, cc_base::proofs::CountLemmas::counts, answer_lines::proofs::LineLemmas::puts_none))]
 fn answer_world<O: Sink, E: Sink>(
     alloc: Global,
     world: &World,
@@ -63,14 +64,14 @@ fn answer_world<O: Sink, E: Sink>(
     requires world { CanBeRun world.now }
     requires args { All (λ word. IsTrue (is_argument (string_bytes word))) given.args.now }
     ensures { Gives (run_told (run_answer world.now (words_bytes given.entry.args.now) given.entry.steps)) result
-        (change_of O.written O.faults out.old out.new) (change_of E.written E.faults err.old err.new) }
+        (change_of O.written O.puts O.faults out.old out.new) (change_of E.written E.puts E.faults err.old err.new) }
 {
     let answer = run_method(alloc, world, given.args, given.steps)?;
     answer_told(alloc, answer, out, err)
 }
 
 /// Answers for a run of the method of this token.
-#[tactic(auto, using(cc_base::proofs::SinkLemmas::sinks, cc_base::proofs::CountLemmas::counts, crate::proofs::Runnable::can_be_run))]
+#[tactic(auto, using(cc_base::proofs::SinkLemmas::sinks, cc_base::proofs::CountLemmas::counts, answer_lines::proofs::LineLemmas::puts_none, crate::proofs::Runnable::can_be_run))]
 fn answer_method<O: Sink, E: Sink>(
     alloc: Global,
     assembly: &Assembly<'_>,
@@ -82,7 +83,7 @@ fn answer_method<O: Sink, E: Sink>(
     requires there { IsSome (method_of assembly.now token) }
     requires args { All (λ word. IsTrue (is_argument (string_bytes word))) given.args.now }
     ensures { Gives (world_answer assembly.now token (words_bytes given.entry.args.now) given.entry.steps (least_skipped assembly.now token.0)) result
-        (change_of O.written O.faults out.old out.new) (change_of E.written E.faults err.old err.new) }
+        (change_of O.written O.puts O.faults out.old out.new) (change_of E.written E.puts E.faults err.old err.new) }
 {
     let units = Units::of(alloc, assembly)?;
     match world_of(alloc, units, token) {
@@ -103,7 +104,7 @@ fn answer_token<O: Sink, E: Sink>(
 ) -> Result<u8, Interrupt>
     requires args { All (λ word. IsTrue (is_argument (string_bytes word))) given.args.now }
     ensures { Gives (method_answer assembly.now token (words_bytes given.entry.args.now) given.entry.steps (method_of assembly.now token)) result
-        (change_of O.written O.faults out.old out.new) (change_of E.written E.faults err.old err.new) }
+        (change_of O.written O.puts O.faults out.old out.new) (change_of E.written E.puts E.faults err.old err.new) }
 {
     match assembly.method(token) {
         None => answer_misfit(alloc, b"no method", err),
@@ -122,7 +123,7 @@ fn answer_found<O: Sink, E: Sink>(
 ) -> Result<u8, Interrupt>
     requires args { All (λ word. IsTrue (is_argument (string_bytes word))) given.args.now }
     ensures { Gives (run_found_answer assembly.now (words_bytes given.entry.args.now) given.entry.steps found) result
-        (change_of O.written O.faults out.old out.new) (change_of E.written E.faults err.old err.new) }
+        (change_of O.written O.puts O.faults out.old out.new) (change_of E.written E.puts E.faults err.old err.new) }
 {
     match found {
         None => answer_misfit(alloc, b"no method", err),
@@ -146,7 +147,7 @@ pub fn answer_run<O: Sink, E: Sink>(
 ) -> Result<u8, Interrupt>
     requires args { All (λ word. IsTrue (is_argument (string_bytes word))) given.args.now }
     ensures { Gives (run_file_answer name.now method.now (words_bytes given.entry.args.now) given.entry.steps bytes.now (FirstBroken bytes.now)) result
-        (change_of O.written O.faults out.old out.new) (change_of E.written E.faults err.old err.new) }
+        (change_of O.written O.puts O.faults out.old out.new) (change_of E.written E.puts E.faults err.old err.new) }
 {
     match Assembly::read(alloc, bytes) {
         Err(AsmRefusal::NoMemory) => Err(Interrupt::NoMemory),

@@ -1,6 +1,6 @@
 //! The answer to `unit FILE`.
 
-#![tactic(auto, using(cc_base::proofs::SinkLemmas::sinks, cc_base::proofs::CountLemmas::counts))]
+#![tactic(auto, using(cc_base::proofs::SinkLemmas::sinks, cc_base::proofs::CountLemmas::counts, answer_lines::proofs::LineLemmas::puts_none))]
 
 ghost use Rattle.std.specs.Prelude.{◌≡◌, ◌<◌, [], ◌∷◌, length, IfOk};
 ghost use Rattle.check_driver.specs.Analysis.{unit_verdicts};
@@ -37,7 +37,7 @@ fn put_report<O: Sink, D: Finder>(
 ) -> Result<bool, Interrupt>
     requires { IsUnit unit }
     ensures proved { IfOk result (λ proved. proved ≡ all_proved (unit_verdicts unit)) }
-    ensures written { Writes result (change_of O.written O.faults out.old out.new) (unit_report unit) }
+    ensures written { Writes result (change_of O.written O.puts O.faults out.old out.new) (unit_report unit) }
     ensures asked { Asks (unit_bytes unit ∷ []) result (D.asked finder.old) (D.asked finder.new) }
 {
     let code = find_flow(alloc, unit)?;
@@ -58,7 +58,7 @@ fn answer_unit<O: Sink, E: Sink, D: Finder>(
 ) -> Result<u8, Interrupt>
     requires { length bytes.now < READ_LIMIT }
     ensures answer { Gives (unit_answer name.now bytes.now (first_unit_fault bytes.now)) result
-        (change_of O.written O.faults out.old out.new) (change_of E.written E.faults err.old err.new) }
+        (change_of O.written O.puts O.faults out.old out.new) (change_of E.written E.puts E.faults err.old err.new) }
     ensures asked { Asks (unit_asked bytes.now (first_unit_fault bytes.now)) result (D.asked finder.old) (D.asked finder.new) }
     ensures spelled { NothingOr (O.written out.old) (O.written out.new) (AreSpelled bytes.now) }
 {
@@ -84,7 +84,7 @@ pub fn answer_unit_file<O: Sink, E: Sink, D: Finder>(
     finder: &mut D,
 ) -> Result<u8, Interrupt>
     ensures answer { Gives (unit_file_answer name.now bytes.now) result
-        (change_of O.written O.faults out.old out.new) (change_of E.written E.faults err.old err.new) }
+        (change_of O.written O.puts O.faults out.old out.new) (change_of E.written E.puts E.faults err.old err.new) }
     ensures asked { Asks (unit_file_asked bytes.now) result (D.asked finder.old) (D.asked finder.new) }
     ensures spelled { NothingOr (O.written out.old) (O.written out.new) (AreSpelled bytes.now) }
 {

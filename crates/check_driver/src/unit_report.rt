@@ -1,10 +1,12 @@
 //! Reports, as lists of lines.
 
 ghost use Rattle.std.specs.Prelude.{◌≡◌, ◌++◌, ◌<◌, ◌≤◌, length, All, IfOk, OnOk, option_copied};
-ghost use Rattle.std.specs.List.{flat_map};
+ghost use Rattle.std.specs.List.{AllByRecursion, flat_map};
 ghost use Rattle.check_driver.specs.ReportText.{callee_of, unit_report, verdict_line};
 ghost use Rattle.check_driver.specs.Analysis.{unit_verdicts};
+ghost use Rattle.answer_lines.specs.LineCounts.{AreLines};
 ghost use Rattle.answer_lines.specs.Writing.{joined};
+ghost use Rattle.cil_model.specs.WellFormed.{IsCallee, IsWellFormed};
 
 use answer_lines::{Counts, append_kind, obligation_line, summary_line, unit_line};
 use cil_model::{CalleeInfo, Unit};
@@ -43,8 +45,11 @@ pub fn append_verdict_lines(
     callees: &[CalleeInfo],
     found: &[Verdict],
 ) -> Result<(), AllocError>
-    requires { All (λ verdict. verdict.obligation.at < 65536) found.now }
-    ensures { OnOk result (joined lines.new.items ≡ joined lines.old.items ++ flat_map (verdict_line callees.now) found.now) }
+    requires near { All (λ verdict. verdict.obligation.at < 65536) found.now }
+    requires callees { AllByRecursion IsCallee callees.now }
+    requires lines { AreLines lines.old.items }
+    ensures text { OnOk result (joined lines.new.items ≡ joined lines.old.items ++ flat_map (verdict_line callees.now) found.now) }
+    ensures lines { OnOk result (AreLines lines.new.items) }
 {
     for verdict in found {
         lines.push(verdict_line(alloc, callees, *verdict)?)?;
@@ -62,7 +67,9 @@ pub fn report_lines(
     requires verdicts { found.now ≡ unit_verdicts unit.now }
     requires few { length found.now ≤ 65536 }
     requires near { All (λ verdict. verdict.obligation.at < 65536) found.now }
-    ensures { IfOk result (λ lines. joined lines.items ≡ unit_report unit.now) }
+    requires formed { IsWellFormed unit.now }
+    ensures text { IfOk result (λ lines. joined lines.items ≡ unit_report unit.now) }
+    ensures lines { IfOk result (λ lines. AreLines lines.items) }
 {
     let proved = all_proved(found);
     let mut lines = Vec::new(alloc);

@@ -32,7 +32,7 @@ returns-in-Err-Missing-clause-answer g c =
       met.0,
       met.1,
       inl (rw (missing_answer c.args.command words met.0 name met.2.2)
-          (gives_error 3 (missing_line name) c.answer_missing.result (g.O.Sink.written c.args.out.now) (g.O.Sink.faults c.args.out.now) _ c.answer_missing.ensures.status written)),
+          (gives_error 3 (missing_line name) c.answer_missing.result (g.O.Sink.written c.args.out.now) (g.O.Sink.puts c.args.out.now) (g.O.Sink.faults c.args.out.now) _ c.answer_missing.ensures.status written)),
       rw (missing_asked c.args.command words met.0 name met.2.2) (answer_asks_none c.answer_missing.result (g.D.Finder.asked c.args.finder.now)),
     )
 
@@ -45,7 +45,7 @@ returns-in-Err-Failed-clause-answer g c =
       met.0,
       met.1,
       gives_unread (files_answer c.args.command words met.0) words (file_indexes c.args.command) c.in-Err-Failed.file _ c.answer_unread.result _ _ met.2.0 met.2.1
-          (gives_error 4 (unread_line name) c.answer_unread.result (g.O.Sink.written c.args.out.now) (g.O.Sink.faults c.args.out.now) _ c.answer_unread.ensures.status written),
+          (gives_error 4 (unread_line name) c.answer_unread.result (g.O.Sink.written c.args.out.now) (g.O.Sink.puts c.args.out.now) (g.O.Sink.faults c.args.out.now) _ c.answer_unread.ensures.status written),
       unread_asks (files_asked c.args.command words met.0) c.answer_unread.result (g.D.Finder.asked c.args.finder.now) c.answer_unread.ensures.status,
     )
 

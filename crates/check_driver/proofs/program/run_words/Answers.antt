@@ -18,7 +18,7 @@ returns-clause-output g c =
       answer.0,
       answer.1,
       rw c.finish.ensures.status
-          (leaves (expected words answer.0) (file_names words) _ c.answer_words-answered.result _ _ _ _ _ _ _ (plain_expected words answer.0) answer.2 c.finish.ensures.front),
+          (leaves (expected words answer.0) (file_names words) _ c.answer_words-answered.result _ _ _ _ _ _ _ _ _ _ (plain_expected words answer.0) answer.2 c.finish.ensures.front c.finish.ensures.puts),
       rw c.finish.ensures.status (leaves_asked (asked_by words answer.0) c.answer_words-answered.result _ _ answer.3),
     )
 
@@ -33,7 +33,7 @@ returns-clause-headline g c = λ held k bytes text method told assembly appended
       assembly = assembly;
       under = answer.1;
       appends = front_given (expected words answer.0) (file_names words) _ c.answer_words-answered.result
-          (change_of written g.O.Sink.faults c.args.out.now c.answer_words-answered.new.out) _ answer.2;
+          (change_of written g.O.Sink.puts g.O.Sink.faults c.args.out.now c.answer_words-answered.new.out) _ answer.2;
       known = c.answer_words-answered.ensures.reportable;
       appended = appended;
     }) method has all
@@ -45,7 +45,7 @@ returns-clause-single_unit g c = λ held bytes signature told asks prints.
     let written = g.O.Sink.written in
     proved_unit_is_safe (g.F.Files.held c.args.files.now) words held bytes signature answer.0 (written c.args.out.now) (written c.answer_words-answered.new.out) told asks answer.1
     (front_given (expected words answer.0) (file_names words) _ c.answer_words-answered.result
-    (change_of written g.O.Sink.faults c.args.out.now c.answer_words-answered.new.out) _ answer.2)
+    (change_of written g.O.Sink.puts g.O.Sink.faults c.args.out.now c.answer_words-answered.new.out) _ answer.2)
     c.answer_words-answered.ensures.spelled prints
 
 pub returns-clause-unread_cause : goal.returns-clause-unread_cause
@@ -78,7 +78,7 @@ returns-clause-checked g c = λ held k bytes text method told assembly appended 
       assembly = assembly;
       under = answer.1;
       appends = front_given (expected words answer.0) (file_names words) _ c.answer_words-answered.result
-          (change_of written g.O.Sink.faults c.args.out.now c.answer_words-answered.new.out) _ answer.2;
+          (change_of written g.O.Sink.puts g.O.Sink.faults c.args.out.now c.answer_words-answered.new.out) _ answer.2;
       known = c.answer_words-answered.ensures.reportable;
       appended = appended;
     }) method has line

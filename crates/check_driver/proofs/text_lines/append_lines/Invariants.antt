@@ -1,9 +1,15 @@
 use Rattle.std.proofs.Common.{◌≡◌, ◌++◌, length}
+use Rattle.answer_lines.specs.LineCounts.{AreLines}
 use Rattle.answer_lines.specs.Writing.{joined}
+use Rattle.check_driver.specs.Checked.{EndsLine}
 use Rattle.check_driver.proofs.text_lines.append_lines.Given as goal
 
 abbrev pub invariant-loop-rest : goal.invariant-loop-rest
-invariant-loop-rest l = joined l.lines.items ++ l.rest ≡ joined l.initial.lines.items ++ l.text
+invariant-loop-rest l = record {
+  text : joined l.lines.items ++ l.rest ≡ joined l.initial.lines.items ++ l.text;
+  whole : EndsLine l.rest;
+  lines : AreLines l.lines.items;
+}
 
 abbrev pub decreases-loop-rest : goal.decreases-loop-rest
 decreases-loop-rest l = length l.rest

@@ -1,6 +1,7 @@
-use Rattle.std.proofs.Common.{◌≡◌, refl, ap, ◌∙◌, arith}
+use Rattle.std.proofs.Common.{◌≡◌, refl, sym, ap, subst, ◌∙◌, arith}
 use Rattle.std.proofs.lemmas.Result.{err_from_is_err_and}
 use Rattle.answer_lines.specs.Writing.{joined}
+use Rattle.method_unit.specs.Units.{IsUnit}
 use Rattle.check_driver.specs.ReportText.{unit_report}
 use Rattle.check_driver.proofs.Answering.{written_whole}
 use Rattle.check_driver.proofs.Asking.{asks_nothing}
@@ -12,6 +13,12 @@ report_lines-requires-clause-few g c = rw c.deref.ensures.value (omega (arith, c
 pub report_lines-requires-clause-near : goal.report_lines-requires-clause-near
 report_lines-requires-clause-near g c = rw c.deref.ensures.value c.in_ok-found.ensures.value.within.near
 
+pub report_lines-requires-clause-formed : goal.report_lines-requires-clause-formed
+report_lines-requires-clause-formed g c = IsUnit.well_formed (subst IsUnit (sym c.in_ok-code.ensures.unit) c.requires)
+
+pub put_lines-requires : goal.put_lines-requires
+put_lines-requires g c = rw c.deref-2.ensures.value c.in_ok-lines.ensures.lines
+
 pub returns-in_err-code-clause-asked : goal.returns-in_err-code-clause-asked
 returns-in_err-code-clause-asked g c =
     let p = err_from_is_err_and c.from_residual.result c.from_residual.ensures.1 in
@@ -19,5 +26,5 @@ returns-in_err-code-clause-asked g c =
 
 pub returns-clause-written : goal.returns-clause-written
 returns-clause-written g c =
-    let same : joined c.deref-2.result.now ≡ unit_report c.args.unit = ap joined c.deref-2.ensures.value ∙ c.in_ok-lines.ensures ∙ ap unit_report c.in_ok-code.ensures.unit in
+    let same : joined c.deref-2.result.now ≡ unit_report c.args.unit = ap joined c.deref-2.ensures.value ∙ c.in_ok-lines.ensures.text ∙ ap unit_report c.in_ok-code.ensures.unit in
     written_whole c.in_ok-put_lines.field-0 c.all_proved.result _ _ _ same c.in_ok-put_lines.ensures

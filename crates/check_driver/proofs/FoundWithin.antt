@@ -1,0 +1,29 @@
+-- What is found of a method keeps the limits and can be told in whole lines.
+use Rattle.std.proofs.Common.{◌≡◌, Bool, [], refl, sym, subst, inl, arith}
+use Rattle.std.specs.List.{AllByRecursion}
+use Rattle.cil_model.specs.WellFormed.{IsCallee}
+use Rattle.cil_model.specs.declared.unit.Unit.{Unit as MethodUnit}
+use Rattle.method_unit.specs.Units.{IsUnit}
+use Rattle.unit_builder.specs.declared.reason.Reason.{Reason}
+use Rattle.check_driver.specs.Checked.{EndsLine}
+use Rattle.check_driver.specs.Findings.{IsFoundOf, IsWithin}
+use Rattle.check_driver.specs.declared.analysis.Judged.{Judged}
+use Rattle.check_driver.specs.declared.finding.Finding.TheVariants as founds
+use Rattle.check_driver.proofs.CountedTexts.{shown_ends}
+
+pub judged_within : (show : Bool) (unit : MethodUnit) (found : Judged) → IsUnit unit → found.callees ≡ unit.callees → IsFoundOf show unit found.judgement
+    → IsWithin (founds.Judged found)
+judged_within show unit found is same are = record {
+  verdicts = are.within;
+  callees = subst (AllByRecursion IsCallee) (sym same) is.well_formed.callees;
+  shown = subst EndsLine (sym are.shown) (shown_ends show unit);
+}
+
+pub skipped_within : (reason : Reason) → IsWithin (founds.Skipped reason)
+skipped_within reason = record {
+  verdicts = record { near = λ k v lt. absurd (omega (arith, lt)); few = omega arith };
+  callees = tt;
+  shown = inl refl;
+}
+
+pub ruleset within = (judged_within, skipped_within)
