@@ -8,9 +8,6 @@ mod bound_rules;
 mod definition_rules;
 mod name_rules;
 mod rules;
-mod segment_rules;
-mod segment_tests;
-mod segment_text;
 mod words;
 
 use rule_text::run_files;

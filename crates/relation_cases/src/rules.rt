@@ -1,11 +1,11 @@
 //! The rules, by the keywords of cases.
 
-use crate::segment_rules::SegmentRules;
 use crate::{apart_rules, bound_rules, definition_rules, name_rules};
 use alias_facts::Apart;
 use domain_api::{Expr, Paired};
 use pentagon_domain::Bounds;
 use rule_text::{Failure, Line, Rules};
+use segment_rules::SegmentRules;
 use std::alloc::Global;
 use symbolic_values::{Pairs, ReferencePairs};
 

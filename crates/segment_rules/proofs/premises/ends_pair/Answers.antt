@@ -1,8 +1,8 @@
 use Rattle.std.proofs.Common.{sym}
 use Rattle.array_segments.specs.SegmentLists.{last_bound}
 use Rattle.array_segments.specs.Segments.{lists_of}
-use Rattle.relation_cases.proofs.EndTests.{both_stand}
-use Rattle.relation_cases.proofs.segment_tests.ends_pair.Goals as goal
+use Rattle.segment_rules.proofs.EndTests.{both_stand}
+use Rattle.segment_rules.proofs.premises.ends_pair.Goals as goal
 
 pub returns-then-stands_at_ends : goal.returns-then-stands_at_ends
 returns-then-stands_at_ends c =

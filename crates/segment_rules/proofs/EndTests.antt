@@ -9,7 +9,7 @@ use Rattle.symbolic_values.specs.Pairing.{Pairing}
 use Rattle.array_segments.specs.Behind.{StandsForBoth}
 use Rattle.array_segments.specs.CommonBounds.{same_expr}
 use Rattle.array_segments.proofs.CommonLaw.{same_is}
-use Rattle.relation_cases.specs.Ends.{is_name, stands_for_both}
+use Rattle.segment_rules.specs.Ends.{is_name, stands_for_both}
 
 any_member : {X : Type 0} (test : X → Bool) (xs : List X) → list_any test xs ≡ true → (x : X) × Contains xs x × (test x ≡ true)
 any_member test [] there = absurd (false≢true there)

@@ -1,7 +1,7 @@
 //! The rules on segments of arrays.
 
-use crate::segment_tests::{ends_pair, formed, has_next, keeps_end, zero_stays};
-use crate::segment_text::check_segments;
+use crate::premises::{ends_pair, formed, has_next, keeps_end, zero_stays};
+use crate::text::check_segments;
 use array_segments::Segs;
 use domain_api::Expr;
 use fact_text::{expr, segment, segments};

@@ -6,7 +6,7 @@ ghost use Rattle.symbolic_values.specs.Names.{paired_expr, renamed};
 ghost use Rattle.array_segments.specs.Behind.{StandsForBoth};
 ghost use Rattle.array_segments.specs.SegmentLists.{HasForm, last_bound, zero_expr};
 ghost use Rattle.array_segments.specs.Segments.{lists_of};
-ghost use Rattle.relation_cases.specs.Ends.{is_name, stands_for_both};
+ghost use Rattle.segment_rules.specs.Ends.{is_name, stands_for_both};
 
 use array_segments::Segs;
 use domain_api::Expr;
