@@ -3,6 +3,7 @@
 ghost use Rattle.std.specs.Prelude.{◌≡◌, ◌+◌, length, map, IfOk, Some, option_map};
 ghost use Rattle.std.specs.Option.{ForSome};
 ghost use Rattle.array_contents.specs.Makings as makings;
+ghost use Rattle.frame_names.specs.ApartPairs as apart_pairs;
 ghost use Rattle.frame_names.specs.Frames.{AreAlike};
 ghost use Rattle.frame_names.specs.MergedReferences.{merged_references};
 ghost use Rattle.frame_names.specs.PairedFrames.{paired_frames};
@@ -10,6 +11,7 @@ ghost use Rattle.merged_numbers.specs.Known.{known};
 ghost use Rattle.merged_numbers.specs.Meaning.{AreMeasured};
 ghost use Rattle.merged_numbers.specs.Merging as outcomes;
 ghost use Rattle.state_facts.specs.Forms.{HasForm};
+ghost use Rattle.symbolic_values.specs.OwnNames.{own_names};
 ghost use Rattle.merged_states.specs.Alike.{AreComparable};
 ghost use Rattle.merged_states.specs.Following.{Follows};
 ghost use Rattle.merged_states.specs.Merging as states;
@@ -22,7 +24,7 @@ use crate::items::{contents_of_both, contents_of_one};
 use crate::sides::{frame_of, side_of};
 use alias_facts::Apart;
 use array_contents::{Contents, Making};
-use domain_api::NoMemory;
+use domain_api::{Expr, NoMemory};
 use frame_names::{
     MergedReference, PairedFrames, Reference, joined_apart, kept_apart, merged_references,
     name_frame, pair_frames,
@@ -97,33 +99,35 @@ fn references_of(
     merged.iter().map(|one| entry_of(one)).collect(alloc)
 }
 
-/// What is known of new symbols and references.
-fn known_of(
-    frames: PairedFrames,
-    numbers: Merged,
+/// What is known in new names, beside the numbers' ranges and bounds.
+#[derive(Drop)]
+struct Tables {
     definitions: Definitions,
     references: Vec<Reference>,
     apart: Apart,
     contents: Contents,
-) -> Known
+}
+
+/// What is known of new symbols and references.
+fn known_of(frames: PairedFrames, numbers: Merged, tables: Tables) -> Known
     ensures { result ≡ record {
       variables = frames.vars;
-      facts = record { ranges = numbers.ranges; definitions = definitions; bounds = numbers.bounds };
-      references = references.items;
-      apart = apart;
-      contents = contents;
+      facts = record { ranges = numbers.ranges; definitions = tables.definitions; bounds = numbers.bounds };
+      references = tables.references.items;
+      apart = tables.apart;
+      contents = tables.contents;
     } }
 {
     Known {
         variables: frames.vars,
         numbers: Numbers {
             ranges: numbers.ranges,
-            definitions,
+            definitions: tables.definitions,
             bounds: numbers.bounds,
         },
-        references,
-        apart,
-        contents,
+        references: tables.references,
+        apart: tables.apart,
+        contents: tables.contents,
     }
 }
 
@@ -149,6 +153,57 @@ fn numbers_of_both(
     )
 }
 
+/// The definitions that both states have, in the names of their frames.
+fn shared_definitions(
+    alloc: Global,
+    frames: &PairedFrames,
+    a: &Known,
+    b: &Known,
+) -> Result<Definitions, NoMemory>
+    ensures { IfOk result (λ definitions. definitions ≡ parts.definitions_from
+        (parts.def_of_both frames.now a.now.facts.definitions b.now.facts.definitions) 1 frames.now.numbers.keys) }
+{
+    let (first, second) = (a.numbers.definitions.rows(), b.numbers.definitions.rows());
+    let rows = definitions_of_both(alloc, frames, first, second)?;
+    Definitions::of_rows(alloc, rows)
+}
+
+/// What both states know in the names of their frames, beside the numbers' ranges and bounds.
+fn merged_tables(
+    alloc: Global,
+    rule: Merging,
+    frames: &PairedFrames,
+    a: &Known,
+    b: &Known,
+) -> Result<Tables, NoMemory>
+    requires first { HasForm a.now }
+    requires second { HasForm b.now }
+    requires alike { AreAlike a.now.variables b.now.variables }
+    requires paired { paired_frames a.now.variables a.now.references b.now.variables b.now.references
+        ≡ Some frames.now }
+    ensures definitions { IfOk result (λ tables. tables.definitions ≡ parts.definitions_from
+        (parts.def_of_both frames.now a.now.facts.definitions b.now.facts.definitions) 1 frames.now.numbers.keys) }
+    ensures references { IfOk result (λ tables. tables.references.items ≡
+        map parts.entry_of (merged_references a.now.references b.now.references frames.now.references.keys frames.now.lengths)) }
+    ensures apart { IfOk result (λ tables. tables.apart ≡
+        apart_pairs.joined_apart frames.now.references.keys a.now.references a.now.apart b.now.references b.now.apart) }
+    ensures contents { IfOk result (λ tables. tables.contents ≡ parts.if_numbered frames.now
+        (parts.contents_of_both (merges.rule_of rule).making frames.now a.now.contents b.now.contents)) }
+{
+    let (first, second) = (a.references.as_slice(), b.references.as_slice());
+    let references = references_of(alloc, frames, first, second)?;
+    let keys = frames.references.pairs.keys.as_slice();
+    let apart = joined_apart(alloc, keys, first, &a.apart, second, &b.apart)?;
+    let definitions = shared_definitions(alloc, frames, a, b)?;
+    let contents = contents_of_both(alloc, rule.making(), frames, a, b)?;
+    Ok(Tables {
+        definitions,
+        references,
+        apart,
+        contents,
+    })
+}
+
 /// What both states know in the names of their frames, given what they know of numbers.
 fn merged_as(
     alloc: Global,
@@ -165,19 +220,8 @@ fn merged_as(
     ensures { IfOk result (λ known. known ≡
         states.merged_as (merges.rule_of rule).making a.now b.now frames numbers) }
 {
-    let contents = contents_of_both(alloc, rule.making(), &frames, a, b)?;
-    let definitions = definitions_of_both(
-        alloc,
-        &frames,
-        a.numbers.definitions.rows(),
-        b.numbers.definitions.rows(),
-    )?;
-    let (first, second) = (a.references.as_slice(), b.references.as_slice());
-    let references = references_of(alloc, &frames, first, second)?;
-    let keys = frames.references.pairs.keys.as_slice();
-    let apart = joined_apart(alloc, keys, first, &a.apart, second, &b.apart)?;
-    let definitions = Definitions::of_rows(alloc, definitions)?;
-    Ok(known_of(frames, numbers, definitions, references, apart, contents))
+    let tables = merged_tables(alloc, rule, &frames, a, b)?;
+    Ok(known_of(frames, numbers, tables))
 }
 
 /// What both states know.
@@ -229,6 +273,52 @@ fn numbers_of_one(alloc: Global, keys: &[Key], a: &Known) -> Result<Option<Merge
     normed(alloc, keys, &side_of(a, spans.as_slice()))
 }
 
+/// The definitions of a state in the names of its frame, given the names of its symbols.
+fn own_definitions(
+    alloc: Global,
+    frames: &PairedFrames,
+    names: &[Option<Expr>],
+    a: &Known,
+) -> Result<Definitions, NoMemory>
+    requires names { names.now ≡ own_names frames.now.numbers (length a.now.facts.ranges + 1) }
+    ensures { IfOk result (λ definitions. definitions ≡ parts.definitions_from
+        (parts.def_of_one frames.now (length a.now.facts.ranges + 1) (length a.now.references + 1)
+        a.now.facts.definitions) 1 frames.now.numbers.keys) }
+{
+    let rows = renamed_definitions(alloc, frames, names, a)?;
+    Definitions::of_rows(alloc, rows)
+}
+
+/// What a state knows in the names of its frame, beside the numbers' ranges and bounds.
+fn named_tables(alloc: Global, frames: &PairedFrames, a: &Known) -> Result<Tables, NoMemory>
+    requires form { HasForm a.now }
+    requires paired { paired_frames a.now.variables a.now.references a.now.variables a.now.references
+        ≡ Some frames.now }
+    ensures definitions { IfOk result (λ tables. tables.definitions ≡ parts.definitions_from
+        (parts.def_of_one frames.now (length a.now.facts.ranges + 1) (length a.now.references + 1)
+        a.now.facts.definitions) 1 frames.now.numbers.keys) }
+    ensures references { IfOk result (λ tables. tables.references.items ≡
+        map parts.entry_of (merged_references a.now.references a.now.references frames.now.references.keys frames.now.lengths)) }
+    ensures apart { IfOk result (λ tables. tables.apart ≡ apart_pairs.kept_apart frames.now.references.keys a.now.apart) }
+    ensures contents { IfOk result (λ tables. tables.contents ≡ parts.if_numbered frames.now
+        (parts.contents_of_one frames.now (length a.now.facts.ranges + 1) a.now.contents)) }
+{
+    let known = a.references.as_slice();
+    let references = references_of(alloc, frames, known, known)?;
+    let keys = frames.references.pairs.keys.as_slice();
+    let apart = kept_apart(alloc, keys, &a.apart)?;
+    let pairs = &frames.numbers;
+    let names = pairs.names(alloc, a.numbers.ranges.len() + 1)?;
+    let definitions = own_definitions(alloc, frames, names.as_slice(), a)?;
+    let contents = contents_of_one(alloc, frames, names.as_slice(), a)?;
+    Ok(Tables {
+        definitions,
+        references,
+        apart,
+        contents,
+    })
+}
+
 /// What a state knows in the names of its frame, given what it knows of numbers.
 fn named_as(
     alloc: Global,
@@ -240,16 +330,8 @@ fn named_as(
     requires paired { paired_frames a.now.variables a.now.references a.now.variables a.now.references ≡ Some frames }
     ensures { IfOk result (λ known. known ≡ states.normal_as a.now frames numbers) }
 {
-    let pairs = &frames.numbers;
-    let names = pairs.names(alloc, a.numbers.ranges.len() + 1)?;
-    let contents = contents_of_one(alloc, &frames, names.as_slice(), a)?;
-    let definitions = renamed_definitions(alloc, &frames, names.as_slice(), a)?;
-    let known = a.references.as_slice();
-    let references = references_of(alloc, &frames, known, known)?;
-    let keys = frames.references.pairs.keys.as_slice();
-    let apart = kept_apart(alloc, keys, &a.apart)?;
-    let definitions = Definitions::of_rows(alloc, definitions)?;
-    Ok(known_of(frames, numbers, definitions, references, apart, contents))
+    let tables = named_tables(alloc, &frames, a)?;
+    Ok(known_of(frames, numbers, tables))
 }
 
 /// What a state knows in the names of its own first uses.
