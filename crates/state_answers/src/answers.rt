@@ -1,7 +1,7 @@
 //! The rules that tell something of a state.
 
 use abs_state::AbsState;
-use domain_api::Lattice;
+use domain_api::{Lattice, NoMemory};
 use fact_text::{expr, nullness_name, reference, symbol};
 use rule_text::{
     Failure, append_number, append_wide_range, asked, check, check_yes, operator, three_words,
@@ -13,44 +13,84 @@ use state_text::{
 };
 use std::alloc::Global;
 
-/// `after STATE`: the state is this one, and each is the other.
-pub fn after(alloc: Global, found: &AbsState, argument: &str) -> Result<(), Failure> {
-    let told = state(alloc, argument)?;
-    if found.same(&told) && told.same(found) {
+/// What was found is right, or it is told.
+fn expect(alloc: Global, found: &AbsState, is_right: bool) -> Result<(), Failure> {
+    if is_right {
         Ok(())
     } else {
         Err(Failure::Found(state_text(alloc, found)?))
     }
+}
+
+/// Each state is the other.
+fn are_one(a: &AbsState, b: &AbsState) -> bool {
+    a.same(b) && b.same(a)
+}
+
+/// Neither state is the other.
+fn are_two(a: &AbsState, b: &AbsState) -> bool {
+    !a.same(b) && !b.same(a)
+}
+
+/// `after STATE`: the state is this one, and each is the other.
+pub fn after(alloc: Global, found: &AbsState, argument: &str) -> Result<(), Failure> {
+    let told = state(alloc, argument)?;
+    expect(alloc, found, are_one(found, &told))
 }
 
 /// `differs STATE`: the state is another one.
 pub fn differs(alloc: Global, found: &AbsState, argument: &str) -> Result<(), Failure> {
     let told = state(alloc, argument)?;
-    if found.same(&told) || told.same(found) {
-        Err(Failure::Found(state_text(alloc, found)?))
-    } else {
-        Ok(())
-    }
+    expect(alloc, found, are_two(found, &told))
+}
+
+/// The state that is made of the lists of a copy.
+fn made_again(alloc: Global, first: &AbsState) -> Result<Option<AbsState>, NoMemory> {
+    let copy = first.copy(alloc)?;
+    let lists = copy.parts(alloc)?;
+    AbsState::of_parts(alloc, &lists)
+}
+
+/// The state that was made again is the first one, and has its text.
+fn check_again(
+    alloc: Global,
+    first: &AbsState,
+    again: Option<&AbsState>,
+    argument: &str,
+) -> Result<(), Failure> {
+    let Some(again) = again else {
+        return Err(Failure::Found(String::from_str(alloc, "none")?));
+    };
+    expect(alloc, again, again.same(first))?;
+    check(state_text(alloc, again)?, argument)
 }
 
 /// `made STATE`: the lists are those of a state, and come again, also of a copy.
 pub fn made(alloc: Global, argument: &str) -> Result<(), Failure> {
     let first = state(alloc, argument)?;
-    let lists = first.copy(alloc)?.parts(alloc)?;
-    match AbsState::of_parts(alloc, &lists)? {
-        Some(again) if again.same(&first) => check(state_text(alloc, &again)?, argument),
-        Some(again) => Err(Failure::Found(state_text(alloc, &again)?)),
-        None => Err(Failure::Found(String::from_str(alloc, "none")?)),
+    let again = made_again(alloc, &first)?;
+    check_again(alloc, &first, again.as_ref(), argument)
+}
+
+/// There is no state.
+fn check_none(alloc: Global, found: Option<&AbsState>) -> Result<(), Failure> {
+    match found {
+        Some(found) => expect(alloc, found, false),
+        None => Ok(()),
     }
 }
 
 /// `refused STATE`: the lists are not those of a state.
 pub fn refused(alloc: Global, argument: &str) -> Result<(), Failure> {
     let lists = parts(alloc, argument)?;
-    match AbsState::of_parts(alloc, &lists)? {
-        Some(state) => Err(Failure::Found(state_text(alloc, &state)?)),
-        None => Ok(()),
-    }
+    let made = AbsState::of_parts(alloc, &lists)?;
+    check_none(alloc, made.as_ref())
+}
+
+/// Tells whether a state says at least as much as another one.
+fn is_below(alloc: Global, found: &AbsState, other: &AbsState) -> Result<bool, Failure> {
+    are_alike(found, other)?;
+    Ok(found.leq(alloc, other)?)
 }
 
 /// `leq yes STATE`: whether the state says at least as much as this one.
@@ -59,8 +99,8 @@ pub fn leq(alloc: Global, found: &AbsState, argument: &str) -> Result<(), Failur
         return Err(Failure::Unread("yes or no, and a state"));
     };
     let other = state(alloc, other)?;
-    are_alike(found, &other)?;
-    check_yes(alloc, found.leq(alloc, &other)?, told)
+    let found = is_below(alloc, found, &other)?;
+    check_yes(alloc, found, told)
 }
 
 /// `ends s1+3 = 3..12!8`: the least and the greatest of a number, and the one that it is not.
