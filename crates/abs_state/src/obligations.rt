@@ -25,7 +25,7 @@ impl AbsState {
         self.is_entailed(condition)
     }
 
-    /// The same, by its rule.
+    /// What `entails` returns, without its law. `entails` proves that.
     fn is_entailed(&self, condition: Condition) -> bool
         requires there { ForSome self.now (λ known. IsThere known condition) }
         ensures value { result ≡ is_entailed condition self.now }
@@ -50,7 +50,7 @@ impl AbsState {
         self.assume_condition(condition)
     }
 
-    /// The same, by its rule.
+    /// What `assume_met` does, without its law. `assume_met` proves that.
     fn assume_condition(&mut self, condition: Condition) -> Result<(), NoMemory>
         requires there { ForSome self.old (λ known. IsThere known condition) }
         ensures ok { OnOk result (self.new ≡ rule.assume condition self.old) }
@@ -91,7 +91,7 @@ impl AbsState {
         Ok(all)
     }
 
-    /// The same of the conditions of an operator.
+    /// Judges the conditions of an operator, as `judge_each` does.
     fn judge_operator(&mut self, op: BinOp, a: Expr, b: Expr) -> Result<bool, NoMemory>
         requires there { ForSome self.old (λ known. AreThere known (operator_conditions op a b)) }
         ensures value { IfOk result (λ all. all ≡ (judged (operator_conditions op a b) self.old).entailed) }
@@ -111,7 +111,7 @@ impl AbsState {
         }
     }
 
-    /// The same of the conditions of an operation.
+    /// Judges the conditions of an operation, as `judge_each` does.
     fn judge_operation(&mut self, operation: Operation) -> Result<bool, NoMemory>
         requires there { ForSome self.old (λ known. AreThere known (conditions_of operation)) }
         ensures value { IfOk result (λ all. all ≡ (judged (conditions_of operation) self.old).entailed) }

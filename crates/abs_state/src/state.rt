@@ -62,7 +62,7 @@ impl AbsState {
         self.known.is_some()
     }
 
-    /// The same state again.
+    /// A copy.
     pub fn copy(&self, alloc: Global) -> Result<AbsState, NoMemory>
         ensures { IfOk result (λ again. again ≡ self.now) }
     {
@@ -101,7 +101,7 @@ impl AbsState {
         self.listed_var(i)
     }
 
-    /// The same, by its rule.
+    /// What `var` returns, with the clause of which it proves the form of the answer.
     fn listed_var(&self, i: u32) -> Var
         requires there { i < length (variables_in self.now) }
         ensures value { slice_get (variables_in self.now) i ≡ Some result }
@@ -191,7 +191,7 @@ impl AbsState {
     ///
     /// # Errors
     ///
-    /// Want of memory. This version takes none.
+    /// `NoMemory`. This version never answers it.
     pub fn pop(&mut self) -> Result<(), NoMemory>
         ensures ok { OnOk result (self.new ≡ rule.pop self.old) }
         ensures keeps { OnOk result (KeepsPop self.old self.new) }
@@ -226,7 +226,8 @@ impl AbsState {
         self.push_arith(op, a, b)
     }
 
-    /// Pushes 1 where a comparison is true and 0 where it is false, or a number of both.
+    /// Pushes 1 where the comparison is known to be true, 0 where it is known to be false, else a new symbol that is 0 or
+    /// 1.
     pub fn compare(&mut self, op: BinOp, a: Var, b: Var) -> Result<(), NoMemory>
         requires comparison { IsSome (comparison_of op) }
         requires first { ForSome self.old (λ known. HasVar known a) }
@@ -249,7 +250,8 @@ impl AbsState {
         self.assume_comparison(op, a, b, holds)
     }
 
-    /// Pushes the item of an array at an index: a number that the segments have which may lie there.
+    /// Pushes the item of an array at an index: a number of the hull of the ranges of the segments that may have the
+    /// index.
     ///
     /// Cost: a look at each bound of the reference.
     pub fn load(&mut self, r: u32, at: Expr) -> Result<(), NoMemory>

@@ -1,4 +1,5 @@
-//! What each call makes of a state.
+//! The bodies of the calls in state.rt. Each proves which state it leaves; the public call adds the law that what holds
+//! of the state before holds of that one after the step.
 
 ghost use Rattle.std.specs.Prelude.{◌≡◌, ◌+◌, ◌<◌, ◌≤◌, Some, OnOk, OnErr, IsSome, length};
 ghost use Rattle.std.specs.Option.{ForSome};

@@ -23,7 +23,8 @@ impl AbsState {
         self.listed_from_top(above)
     }
 
-    /// The same, by its rule.
+    /// What `from_top` returns. That the state has its form is a clause here, of which `from_top` proves the form of the
+    /// answer.
     fn listed_from_top(&self, above: usize) -> Option<Var>
         ensures value { result ≡ slice_get (reverse (variables_in self.now)) above }
         ensures form { ForSome self.now HasForm }
@@ -41,7 +42,7 @@ impl AbsState {
         self.listed_at(i)
     }
 
-    /// The same, by its rule.
+    /// What `var_at` returns, with the clause of which it proves the form of the answer.
     fn listed_at(&self, i: u64) -> Option<Var>
         ensures value { result ≡ slice_get (variables_in self.now) i }
         ensures form { ForSome self.now HasForm }

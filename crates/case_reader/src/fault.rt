@@ -18,6 +18,8 @@ pub enum CaseProblem {
     Outside,
     /// A case or a base begins inside another one.
     Inside,
+    /// The number of cases stands inside a case or a base.
+    Unended,
     /// A case or a base has no name.
     NoName,
     /// Two cases, or two bases, have one name.
@@ -35,6 +37,7 @@ impl fmt::Display for CaseProblem {
         let text = match self {
             CaseProblem::Outside => "a line outside of the cases",
             CaseProblem::Inside => "a case begins inside another one",
+            CaseProblem::Unended => "the number of cases inside a case",
             CaseProblem::NoName => "a case has no name",
             CaseProblem::SameName => "two cases have one name",
             CaseProblem::WrongCount => "not the number of cases",

@@ -4,6 +4,8 @@
 //! `case NAME`, has lines of a keyword and its argument, and ends with a line `end`. What several cases share stands
 //! before them in a *base*, which begins with `base NAME` and ends likewise. The last line is `cases N`, with the
 //! number of cases, so that a file which was cut is told from a whole one.
+//!
+//! No function has a clause: what the cases say is compared with what the program answers, and nothing rests on it.
 #![tactic(auto)]
 
 mod case;

@@ -24,7 +24,9 @@ struct Reader<'a> {
     has_count: bool,
 }
 
-/// The cases of a file with this text, or its first fault. It costs the text's length, and a search by name a case.
+/// The cases of a file with this text, or its first fault.
+///
+/// Cost: linear in the text, and one look-up by name for each case.
 pub fn read_cases<'a>(alloc: Global, text: &'a str) -> Result<CaseFile<'a>, Refusal<CaseFault>> {
     let mut reader = Reader {
         alloc,
@@ -56,6 +58,7 @@ pub fn read_cases<'a>(alloc: Global, text: &'a str) -> Result<CaseFile<'a>, Refu
     Ok(reader.file)
 }
 
+/// The refusal of a line.
 fn fault(line: u64, problem: CaseProblem) -> Refusal<CaseFault> {
     Refusal::Bad(CaseFault { line, problem })
 }
@@ -75,6 +78,7 @@ impl<'a> Reader<'a> {
         }
     }
 
+    /// Begins a section of this kind.
     fn begin(&mut self, section: Section, field: Field<'a>) -> Result<(), Refusal<CaseFault>> {
         if self.open.is_some() {
             return Err(fault(field.line, CaseProblem::Inside));
@@ -102,6 +106,7 @@ impl<'a> Reader<'a> {
         })
     }
 
+    /// Adds a line to the open section.
     fn add(&mut self, field: Field<'a>) -> Result<(), Refusal<CaseFault>> {
         match &mut self.open {
             None => Err(fault(field.line, CaseProblem::Outside)),
@@ -112,6 +117,7 @@ impl<'a> Reader<'a> {
         }
     }
 
+    /// Ends the open section.
     fn end(&mut self, line: u64) -> Result<(), Refusal<CaseFault>> {
         match self.open.take() {
             None => Err(fault(line, CaseProblem::Outside)),
@@ -126,9 +132,10 @@ impl<'a> Reader<'a> {
         }
     }
 
+    /// Notes the number of cases, the last line of a file.
     fn count(&mut self, field: Field<'a>) -> Result<(), Refusal<CaseFault>> {
         if self.open.is_some() {
-            return Err(fault(field.line, CaseProblem::Inside));
+            return Err(fault(field.line, CaseProblem::Unended));
         }
         match field.argument.parse::<usize>() {
             Ok(count) if count == self.file.cases.len() => {

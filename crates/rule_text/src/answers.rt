@@ -38,7 +38,7 @@ pub fn check(found: String, told: &str) -> Result<(), Failure> {
     }
 }
 
-/// The same of an answer that is `yes` or `no`.
+/// Compares what was found, yes or no, with what is told.
 pub fn check_yes(alloc: Global, found: bool, told: &str) -> Result<(), Failure> {
     check(
         String::from_str(alloc, if found { "yes" } else { "no" })?,

@@ -19,7 +19,7 @@ use number_spans::constant;
 use state_obligations::Condition;
 use std::alloc::Global;
 
-/// Where an argument stands among the variables.
+/// The list index of an argument among the variables.
 fn arg_place(unit: &Unit, n: u16) -> u32
     requires { length unit.now.args + length unit.now.locals + unit.now.max_stack ≤ MAX_VARIABLES }
     ensures { result ≡ rule.arg_place unit.now n }
@@ -27,7 +27,7 @@ fn arg_place(unit: &Unit, n: u16) -> u32
     (unit.args.as_slice().len() + n as usize) as u32
 }
 
-/// Where a local stands among the variables.
+/// The list index of a local among the variables.
 fn local_place(unit: &Unit, n: u16) -> u32
     requires { length unit.now.args + length unit.now.locals + unit.now.max_stack ≤ MAX_VARIABLES }
     ensures { result ≡ rule.local_place unit.now n }

@@ -15,7 +15,7 @@ use transfer_rules::{Invariant, UnitState};
 use unit_flow::UnitFlow;
 use unit_form::unit_bytes;
 
-/// A finder that computes the state along an edge again only where that of its source has changed.
+/// The finder that cccheck uses: the state along an edge is computed again only where that of its source has changed.
 #[derive(Drop)]
 pub struct Dirty {
     /// The bytes of the units that it was asked for, in order.

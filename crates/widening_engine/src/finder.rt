@@ -26,7 +26,7 @@ pub trait Finder {
         ensures kept { OnErr result (asked self.new ≡ asked self.old) };
 }
 
-/// What is known in states of a unit.
+/// The states of blocks, without the kinds of the unit's code.
 pub(crate) fn known(alloc: Global, states: Vec<UnitState>) -> Result<Vec<AbsState>, NoMemory>
     ensures { IfOk result (λ known. known.items ≡ map (λ a. a.state) states.items) }
 {

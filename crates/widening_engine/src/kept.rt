@@ -62,7 +62,7 @@ fn join_into<S: FlowState + Drop>(
     Ok(())
 }
 
-/// The join that a block takes. Where nothing flows into it, nothing is reached.
+/// The new join of a block. None unless it is stale; where nothing flows into a stale block, nothing is reached.
 fn fresh_join<S: FlowState + Drop>(stale: bool, join: Option<S>) -> Option<S>
     ensures { result ≡ fresh_join S.nothing stale join }
 {
@@ -89,14 +89,14 @@ fn widens_at(late: bool, head: bool) -> bool
     late && head
 }
 
-/// For each of so many blocks that nothing flows into it.
+/// A list of so many times None: nothing flows into a block yet.
 fn none_joined<S: Drop>(alloc: Global, count: usize) -> Result<Vec<Option<S>>, NoMemory>
     ensures { IfOk result (λ joins. joins.items ≡ map (λ block. None) (places count)) }
 {
     (0..count).map(|_| None).collect(alloc)
 }
 
-/// So many blocks that are not reached.
+/// A list of so many blocks that are not reached.
 fn no_blocks<S: FlowState + Drop>(
     alloc: Global,
     count: usize,
@@ -106,7 +106,7 @@ fn no_blocks<S: FlowState + Drop>(
     (0..count).map(|_| KeptBlock::unreached()).collect(alloc)
 }
 
-/// Behind each of so many edges nothing is reached.
+/// A list of the states after so many edges, where nothing is reached.
 fn nothing_behind<S: FlowState + Drop>(alloc: Global, count: usize) -> Result<Vec<S>, NoMemory>
     ensures { IfOk result (λ states. states.items ≡ map (λ edge. S.nothing) (places count)) }
 {
@@ -224,7 +224,7 @@ impl<S: FlowState + Drop> Kept<S> {
         Ok(joins)
     }
 
-    /// Goes on with each block, and tells which states changed.
+    /// Steps each block by one round. Returns for each whether its state changed.
     fn step_all(
         &mut self,
         alloc: Global,
@@ -349,7 +349,7 @@ impl<S: FlowState + Drop> Kept<S> {
 }
 
 impl<S: FlowState + Drop> Kept<S> {
-    /// Goes on by one round: a late one widens at heads.
+    /// Computes one round. A late round widens at the heads of loops.
     pub(crate) fn round(
         &mut self,
         alloc: Global,
@@ -377,7 +377,7 @@ impl<S: FlowState + Drop> Kept<S> {
         self.refresh(alloc, code, edges, changed.as_slice(), meter)
     }
 
-    /// Takes it of each block that nothing is known, and tells which states changed.
+    /// Sets each block's state to the one of which nothing is known. Returns for each whether its state changed.
     fn forget_all(&mut self, alloc: Global, code: &S::Code) -> Result<Vec<bool>, NoMemory>
         requires lawful { S.lawful code.now }
         requires few { S.block_count code.now < 2 ^ 32 }
@@ -393,7 +393,7 @@ impl<S: FlowState + Drop> Kept<S> {
         Ok(changed)
     }
 
-    /// Goes on to that nothing is known.
+    /// Gives up: sets each state to the one of which nothing is known, and computes the edges again.
     pub(crate) fn forget(
         &mut self,
         alloc: Global,
@@ -469,7 +469,7 @@ impl<S: FlowState + Drop> Kept<S> {
         Ok(kept)
     }
 
-    /// The states again.
+    /// Copies of the states, one for each block.
     pub(crate) fn copies(&self, alloc: Global) -> Result<Vec<S>, NoMemory>
         ensures { IfOk result (λ states. states.items ≡ states_of self.now.blocks.items) }
     {

@@ -73,7 +73,7 @@ impl<S: FlowState + Drop> KeptBlock<S> {
         true
     }
 
-    /// Takes what flows into the block as its state.
+    /// Sets the block's state to the join of what flows into it.
     fn become_join(&mut self) -> bool
         ensures state { self.new.state ≡ join_of self.old }
         ensures join { join_of self.new ≡ join_of self.old }
