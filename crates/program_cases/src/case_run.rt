@@ -34,6 +34,7 @@ struct Finders {
 }
 
 impl Finders {
+    /// Creates both finders, of which none was asked. The one of cccheck is used.
     fn new(alloc: Global) -> Finders {
         Finders {
             dirty: Dirty::new(alloc),
@@ -74,6 +75,7 @@ pub fn run_case(
     }
 }
 
+/// Runs a case, and compares what came with what it expects.
 fn try_case(alloc: Global, bases: &[Case<'_>], case: &Case<'_>) -> Result<(), Stop> {
     let mut script = Script {
         alloc,
@@ -119,6 +121,7 @@ impl Script {
         Ok(())
     }
 
+    /// `word TEXT`: one more word of the call.
     fn take_word(&mut self, line: u64, text: &str) -> Result<(), Stop> {
         self.words.push(word_of(self.alloc, line, text)?)?;
         Ok(())
@@ -191,6 +194,7 @@ impl Script {
         }
     }
 
+    /// Compares what was put to both sinks with what is expected there.
     fn compare_text(&self, line: u64) -> Result<(), Stop> {
         let out = self.out.sink.bytes.as_slice();
         if out != self.expected.out.as_slice() {
@@ -217,6 +221,7 @@ impl Script {
         compare_report(self.alloc, line, name, show, file, &self.out.sink.bytes)
     }
 
+    /// Compares the edges that were computed, and the units that were asked for, where the case tells them.
     fn compare_asked(&self, line: u64) -> Result<(), Stop> {
         if let Some(edges) = self.expected.edges
             && edges != self.finders.edges()

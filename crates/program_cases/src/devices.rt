@@ -15,6 +15,7 @@ pub struct CaseFiles {
 }
 
 impl CaseFiles {
+    /// Creates files without a name, of which no read lacks memory.
     pub fn new(alloc: Global) -> CaseFiles {
         CaseFiles {
             files: MapFiles::new(alloc),
@@ -54,6 +55,7 @@ pub struct CaseSink {
 }
 
 impl CaseSink {
+    /// Creates an empty sink, of which no put lacks memory.
     pub fn new(alloc: Global) -> CaseSink {
         CaseSink {
             sink: VecSink::new(alloc),

@@ -26,6 +26,7 @@ pub struct Expected {
 }
 
 impl Expected {
+    /// Expects no text, and no status yet.
     pub fn new(alloc: Global) -> Expected {
         Expected {
             status: None,
@@ -62,6 +63,7 @@ impl Expected {
         Ok(true)
     }
 
+    /// `status N`: the status of the call.
     fn take_status(&mut self, alloc: Global, field: Field<'_>) -> Result<(), Stop> {
         if self.status.is_some() {
             return Err(stop_at(alloc, field.line, "a second status"));
@@ -71,6 +73,7 @@ impl Expected {
         Ok(())
     }
 
+    /// One more unit that the finder is asked for.
     fn take_asked(&mut self, alloc: Global, unit: Vec<u8>) -> Result<(), Stop> {
         match &mut self.asked {
             Some(units) => units.push(unit)?,

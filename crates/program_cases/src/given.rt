@@ -16,6 +16,7 @@ pub struct Given {
 }
 
 impl Given {
+    /// Creates a given world without files.
     pub fn new(alloc: Global) -> Given {
         Given {
             files: CaseFiles::new(alloc),
@@ -54,6 +55,7 @@ impl Given {
         }
     }
 
+    /// Adds a method to the assembly that is planned.
     fn add_method(&mut self, alloc: Global, field: Field<'_>) -> Result<(), Stop> {
         match &mut self.plan {
             Some(plan) => plan.add(alloc, field),
@@ -139,6 +141,7 @@ impl Given {
         }
     }
 
+    /// Holds these bytes under a name, in place of what was there.
     fn put_back(&mut self, alloc: Global, line: u64, name: &str, bytes: &[u8]) -> Result<(), Stop> {
         let name = word_of(alloc, line, name)?;
         self.files.files.hold(alloc, name.as_str(), bytes)?;

@@ -77,6 +77,7 @@ fn run_file(
     })
 }
 
+/// Runs the files of cases that the words name. Returns whether no case failed.
 fn run(rt: &(impl Print + Eprint + Files + Env + AllocGlobal)) -> io::Result<bool> {
     let mut failed = 0u64;
     for name in env::args(rt)?.skip(1) {

@@ -87,6 +87,7 @@ fn method_of(alloc: Global, field: Field<'_>) -> Result<MethodPlan, Stop> {
     })
 }
 
+/// Returns whether the word says that a method is static.
 fn is_static(alloc: Global, line: u64, text: &str) -> Result<bool, Stop> {
     match text {
         "static" => Ok(true),
@@ -95,6 +96,7 @@ fn is_static(alloc: Global, line: u64, text: &str) -> Result<bool, Stop> {
     }
 }
 
+/// The type of a word.
 fn place_of(alloc: Global, line: u64, text: &str) -> Result<Place, Stop> {
     match text {
         "void" => Ok(Place::Void),
@@ -106,6 +108,7 @@ fn place_of(alloc: Global, line: u64, text: &str) -> Result<Place, Stop> {
     }
 }
 
+/// The types of a list with commas, or of none, `-`.
 fn places_of(alloc: Global, line: u64, text: &str) -> Result<Vec<Place>, Stop> {
     let mut places = Vec::new(alloc);
     if text != "-" {

@@ -9,7 +9,7 @@ pub struct Wrong {
     pub text: String,
 }
 
-/// Why a case goes on no further.
+/// Why a case ends early.
 #[derive(Drop)]
 pub enum Stop {
     /// The case or the answer is wrong.
