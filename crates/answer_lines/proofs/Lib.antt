@@ -1,3 +1,9 @@
 pub mod KindRows
 pub mod LineLemmas
+pub mod PlainTexts
+pub mod SingleLines
+pub mod WholeLines
+pub mod FirstLines
 pub mod Writings
+pub mod Leaving
+pub mod Causes

@@ -9,7 +9,7 @@ use Rattle.cc_base.specs.Counts.{Kept}
 use Rattle.cc_base.specs.Sink.{appended, counted, IsFront}
 use Rattle.cc_base.proofs.CountLemmas.{Kept-refl, Kept-trans, Kept-Rose}
 use Rattle.cc_base.proofs.SinkLemmas.{appended-appended, appended-nil, AppendsFront-none, AppendsFront-after, AppendsFront-front}
-use Rattle.answer_lines.specs.Answers.{error_answer, output_answer}
+use Rattle.answer_lines.specs.Answers.{Answer, error_answer, output_answer}
 use Rattle.answer_lines.specs.LineCounts.{line_count}
 use Rattle.answer_lines.specs.Outcome.{Gives}
 use Rattle.answer_lines.specs.Writing.{Change, Writes}
@@ -77,6 +77,10 @@ pub texts_stop : {X A : Type 0} (text : X → List ℕ) (items : List X) (k : �
 texts_stop {X} {A} text items k item e old mid new p0 p1 p2 f0 f1 f2 lt at so_far kept w =
     writes_stop {X = A} {Y = A} e old mid new p0 p1 p2 f0 f1 f2 (flat_map text (take k items)) (text item) (flat_map text items) so_far kept w (texts_front text items k item lt at)
 
+-- A text that was written whole, whatever is answered then.
+pub written_whole : {X Y : Type 0} (x : X) (y : Y) (sink : Change) (text whole : List ℕ) → text ≡ whole → Writes (Ok x) sink text → Writes (Ok y) sink whole
+written_whole x y sink text whole same w = record { whole = rw (sym same) w.whole; puts = rw (sym same) w.puts; front = tt; cause = λ is. absurd cc; kept = w.kept }
+
 -- ---- answers
 
 -- A line on the sink of errors is the answer.
@@ -141,3 +145,19 @@ gives_output status text (Ok given) out e p g is w = record {
   err_kept = Kept-refl g;
 }
 gives_output status text (Err i) out e p g is w = gives_output_stop {X = ℕ} status text i out e p g w
+
+-- Memory ran out before anything was written.
+pub gives_no_memory : (x : Answer) (out err : Change) → out.new ≡ out.old → err.new ≡ err.old → Kept out.faults_before out.faults_after → Kept err.faults_before err.faults_after
+    → Gives x (Err interrupts.NoMemory) out err
+gives_no_memory x out err out_same err_same out_kept err_kept = record {
+  status = tt;
+  out_all = tt;
+  err_all = tt;
+  out_puts = tt;
+  err_puts = tt;
+  out_front = AppendsFront-none out.old out.new x.out out_same;
+  err_front = AppendsFront-none err.old err.new x.err err_same;
+  cause = λ is. absurd cc;
+  out_kept = out_kept;
+  err_kept = err_kept;
+}

@@ -7,6 +7,7 @@ mod interrupt;
 mod lines;
 mod puts;
 mod signatures;
+mod text_lines;
 
 pub use errors::{NO_MEMORY, UNWRITTEN, USAGE};
 pub use fault_kinds::append_kind;
@@ -16,3 +17,4 @@ pub use puts::{
     answer_error, answer_misfit, answer_missing, answer_refused, answer_unread, put_line, put_lines,
 };
 pub use signatures::append_signature;
+pub use text_lines::append_lines;

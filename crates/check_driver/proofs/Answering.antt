@@ -1,62 +1,34 @@
 -- Answers, by what is met under the names of files and by the words.
-use Rattle.std.proofs.Common.{◌≡◌, ℕ, ◌≤◌, List, [], ◌∷◌, length, take, Vec, Global, Option, Some, None, Result, Ok, Err, Contains, refl, sym, ap, ◌∙◌, arith, inl, inr, length-take, slice_index_or, Bool}
+use Rattle.std.proofs.Common.{◌≡◌, ℕ, ◌≤◌, List, [], ◌∷◌, length, take, Vec, Global, Option, Some, None, Result, Contains, refl, sym, ap, ◌∙◌, arith, inl, inr, length-take, slice_index_or, Bool}
 use Rattle.std.specs.Prelude.{codes}
-use Rattle.std.proofs.lemmas.Bool.{cases_lt, le-leb, lt-leb}
+use Rattle.std.proofs.lemmas.Bool.{cases_lt, le-leb}
 use Rattle.std.proofs.lemmas.List.{take_all, get_or-map, length-map}
-use Rattle.asm_image.specs.Faults.{FirstBroken, assembly_tests, file_tests, large_test}
-use Rattle.asm_image.specs.declared.fault.Cause.TheVariants as causes
-use Rattle.cc_base.specs.Counts.{Kept}
-use Rattle.cc_base.specs.Tests.{first_of}
-use Rattle.cc_base.proofs.SinkLemmas.{AppendsFront-none}
+use Rattle.asm_image.specs.Faults.{FirstBroken}
 use Rattle.cc_base.specs.Files.{READ_LIMIT}
 use Rattle.cil_model.specs.Limits.{MAX_FILE_BYTES}
 use Rattle.answer_lines.specs.Answers.{Answer, USAGE, error_answer, refused_answer, missing_line}
 use Rattle.check_driver.specs.Asked.{asked_by, asked_unless, bytes_asked, check_asked, files_asked, unit_file_asked}
-use Rattle.check_driver.specs.Expected.{missing_or, expected, unit_file_answer, list_answer, check_answer, run_file_answer, bytes_answer, files_answer, file_at, il_answer}
+use Rattle.check_driver.specs.Expected.{missing_or, expected, unit_file_answer, check_answer, bytes_answer, files_answer, file_at}
 use Rattle.check_driver.specs.Met.{AreContents, first_missing, contents, bytes_read}
 use Rattle.answer_lines.specs.Outcome.{Gives, GivesOrUnread, unread_answer}
 use Rattle.command_words.specs.Words.{args_told, command_of, file_names, file_indexes, word_at, words_at}
-use Rattle.answer_lines.specs.Writing.{Change, Writes}
+use Rattle.answer_lines.specs.Writing.{Change}
 use Rattle.command_words.specs.declared.command.Command.{Command}
 use Rattle.command_words.specs.declared.command.Command.TheVariants as commands
 use Rattle.answer_lines.specs.declared.interrupt.Interrupt.{Interrupt}
-use Rattle.answer_lines.specs.declared.interrupt.Interrupt.TheVariants as interrupts
+use Rattle.assembly_answers.proofs.CutFiles.{il_cut, il_file_answer, large_first, list_cut, list_file_answer, run_bytes_answer, run_cut}
 use Rattle.check_driver.proofs.FilesRead.{none_missing}
 
 -- ---- bytes that a read cut off
-
--- An assembly past the limit has that fault first.
-pub large_first : (bytes : List ℕ) → READ_LIMIT ≤ length bytes → FirstBroken bytes ≡ Some (record { at = MAX_FILE_BYTES; cause = causes.Large })
-unfolding FirstBroken assembly_tests file_tests large_test first_of
-large_first bytes past = rw (lt-leb (length bytes) MAX_FILE_BYTES (omega (arith, past))) refl
 
 -- A file past the limit is refused.
 pub too_large : (name bytes : List ℕ) → READ_LIMIT ≤ length bytes → unit_file_answer name bytes ≡ refused_answer name (codes "file too large") MAX_FILE_BYTES
 too_large name bytes past = let test = le-leb READ_LIMIT (length bytes) past in rw test refl
 
-abbrev list_file_answer : List ℕ → List ℕ → Answer
-list_file_answer name bytes = list_answer name bytes (FirstBroken bytes)
-
 -- Bytes that were cut off past the limit have the answer of the whole.
 unit_cut : (name bytes : List ℕ) (limit : ℕ) → limit ≡ READ_LIMIT → READ_LIMIT ≤ length bytes → unit_file_answer name bytes ≡ unit_file_answer name (take limit bytes)
 unit_cut name bytes limit is past =
     too_large name bytes past ∙ sym (too_large name (take limit bytes) (omega (arith, length-take limit bytes)))
-
-list_cut : (name bytes : List ℕ) (limit : ℕ) → limit ≡ READ_LIMIT → READ_LIMIT ≤ length bytes → list_file_answer name bytes ≡ list_file_answer name (take limit bytes)
-list_cut name bytes limit is past =
-    let whole = large_first bytes past in
-    let cut = large_first (take limit bytes) (omega (arith, length-take limit bytes)) in
-    rw (whole, cut) refl
-
-abbrev pub il_file_answer : List ℕ → List ℕ → List ℕ → Answer
-il_file_answer name method bytes = il_answer name method bytes (FirstBroken bytes)
-
-il_cut : (name method bytes : List ℕ) (limit : ℕ) → limit ≡ READ_LIMIT → READ_LIMIT ≤ length bytes
-    → il_file_answer name method bytes ≡ il_file_answer name method (take limit bytes)
-il_cut name method bytes limit is past =
-    let whole = large_first bytes past in
-    let cut = large_first (take limit bytes) (omega (arith, length-take limit bytes)) in
-    rw (whole, cut) refl
 
 abbrev check_file_answer : List ℕ → Bool → List ℕ → Answer
 check_file_answer name show bytes = check_answer name show bytes (FirstBroken bytes)
@@ -64,16 +36,6 @@ check_file_answer name show bytes = check_answer name show bytes (FirstBroken by
 check_cut : (name : List ℕ) (show : Bool) (bytes : List ℕ) (limit : ℕ) → limit ≡ READ_LIMIT → READ_LIMIT ≤ length bytes
     → check_file_answer name show bytes ≡ check_file_answer name show (take limit bytes)
 check_cut name show bytes limit is past =
-    let whole = large_first bytes past in
-    let cut = large_first (take limit bytes) (omega (arith, length-take limit bytes)) in
-    rw (whole, cut) refl
-
-abbrev run_bytes_answer : List ℕ → List ℕ → List (List ℕ) → ℕ → List ℕ → Answer
-run_bytes_answer name method args steps bytes = run_file_answer name method args steps bytes (FirstBroken bytes)
-
-run_cut : (name method : List ℕ) (args : List (List ℕ)) (steps : ℕ) (bytes : List ℕ) (limit : ℕ) → limit ≡ READ_LIMIT → READ_LIMIT ≤ length bytes
-    → run_bytes_answer name method args steps bytes ≡ run_bytes_answer name method args steps (take limit bytes)
-run_cut name method args steps bytes limit is past =
     let whole = large_first bytes past in
     let cut = large_first (take limit bytes) (omega (arith, length-take limit bytes)) in
     rw (whole, cut) refl
@@ -180,26 +142,6 @@ pub gives_unread : (expected : Answer) (words : List (List ℕ)) (indexes : List
 gives_unread expected words indexes index failed r out err f (k, lt, at) gives =
     let there = ap (word_at words) at in
     inr (f, (k, word_at words index, simp length-map lt, get_or-map (word_at words) indexes k index (word_at words index) lt ∙ there, gives))
-
--- A text that was written whole, whatever is answered then.
-pub written_whole : {X Y : Type 0} (x : X) (y : Y) (sink : Change) (text whole : List ℕ) → text ≡ whole → Writes (Ok x) sink text → Writes (Ok y) sink whole
-written_whole x y sink text whole same w = record { whole = rw (sym same) w.whole; puts = rw (sym same) w.puts; front = tt; cause = λ is. absurd cc; kept = w.kept }
-
--- Memory ran out before anything was written.
-pub gives_no_memory : (x : Answer) (out err : Change) → out.new ≡ out.old → err.new ≡ err.old → Kept out.faults_before out.faults_after → Kept err.faults_before err.faults_after
-    → Gives x (Err interrupts.NoMemory) out err
-gives_no_memory x out err out_same err_same out_kept err_kept = record {
-  status = tt;
-  out_all = tt;
-  err_all = tt;
-  out_puts = tt;
-  err_puts = tt;
-  out_front = AppendsFront-none out.old out.new x.out out_same;
-  err_front = AppendsFront-none err.old err.new x.err err_same;
-  cause = λ is. absurd cc;
-  out_kept = out_kept;
-  err_kept = err_kept;
-}
 
 -- ---- answers to words
 

@@ -7,8 +7,8 @@ use Rattle.asm_image.specs.declared.method_row.MethodRow.{MethodRow}
 use Rattle.method_unit.specs.Units.{IsUnit}
 use Rattle.unit_builder.specs.Outcomes.{IfAnalysed, entries_of, entry_of, outcome_of}
 use Rattle.unit_builder.specs.declared.entry.MethodEntry.{MethodEntry}
-use Rattle.check_driver.specs.CheckText.{all_shown, finding, findings, outcome_shown}
-use Rattle.check_driver.specs.Findings.{shown_in, told}
+use Rattle.check_driver.specs.CheckText.{all_shown, outcome_finding, findings, outcome_shown}
+use Rattle.check_driver.specs.Findings.{shown_in, finding_in}
 use Rattle.check_driver.specs.declared.finding.Finding.{Finding as Found}
 
 -- The element at a place is the last of those up to it.
@@ -26,11 +26,11 @@ there xs n below =
     (next.0, next.1, ap (λ m. take m xs) one ∙ next.2)
 
 pub found_next : (asm : List ℕ) (methods : List MethodRow) (n : ℕ) (method : MethodRow) (found : List Found) (one : Found)
-    → take (n + 1) methods ≡ take n methods ++ method ∷ [] → map told found ≡ findings (map (entry_of asm) (take n methods)) → told one ≡ finding (outcome_of asm method)
-    → map told (found ++ one ∷ []) ≡ findings (map (entry_of asm) (take (n + 1) methods))
+    → take (n + 1) methods ≡ take n methods ++ method ∷ [] → map finding_in found ≡ findings (map (entry_of asm) (take n methods)) → finding_in one ≡ outcome_finding (outcome_of asm method)
+    → map finding_in (found ++ one ∷ []) ≡ findings (map (entry_of asm) (take (n + 1) methods))
 found_next asm methods n method found one next so_far is =
-    map-append told found (one ∷ [])
-    ∙ rw (so_far, is) (sym (ap (λ (l : List MethodRow). findings (map (entry_of asm) l)) next ∙ ap findings (map-append (entry_of asm) (take n methods) (method ∷ [])) ∙ map-append (λ (e : MethodEntry). finding e.outcome) (map (entry_of asm) (take n methods)) (entry_of asm method ∷ [])))
+    map-append finding_in found (one ∷ [])
+    ∙ rw (so_far, is) (sym (ap (λ (l : List MethodRow). findings (map (entry_of asm) l)) next ∙ ap findings (map-append (entry_of asm) (take n methods) (method ∷ [])) ∙ map-append (λ (e : MethodEntry). outcome_finding e.outcome) (map (entry_of asm) (take n methods)) (entry_of asm method ∷ [])))
 
 pub shown_next : (asm : List ℕ) (show : Bool) (methods : List MethodRow) (n : ℕ) (method : MethodRow) (found : List Found) (one : Found)
     → take (n + 1) methods ≡ take n methods ++ method ∷ [] → map shown_in found ≡ all_shown show (map (entry_of asm) (take n methods))
@@ -58,7 +58,7 @@ all_taken (x ∷ xs) zero long = absurd (omega (arith, long))
 all_taken (x ∷ xs) (suc n) long = ap (λ others. x ∷ others) (all_taken xs n (omega (arith, long)))
 
 -- There are as many findings as methods.
-pub found_few : (asm : List ℕ) (found : List Found) → map told found ≡ findings (entries_of asm) → length found ≡ length (methods_of asm)
+pub found_few : (asm : List ℕ) (found : List Found) → map finding_in found ≡ findings (entries_of asm) → length found ≡ length (methods_of asm)
 unfolding entries_of
 found_few asm found same =
-    sym (length-map found told) ∙ ap length same ∙ length-map (map (entry_of asm) (methods_of asm)) (λ (e : MethodEntry). finding e.outcome) ∙ length-map (methods_of asm) (entry_of asm)
+    sym (length-map found finding_in) ∙ ap length same ∙ length-map (map (entry_of asm) (methods_of asm)) (λ (e : MethodEntry). outcome_finding e.outcome) ∙ length-map (methods_of asm) (entry_of asm)

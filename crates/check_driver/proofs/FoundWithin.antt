@@ -1,17 +1,17 @@
 -- What is found of a method keeps the limits and can be told in whole lines.
-use Rattle.std.proofs.Common.{◌≡◌, Bool, [], refl, sym, subst, inl, arith}
+use Rattle.std.proofs.Common.{◌≡◌, Bool, refl, sym, subst, inl, arith}
 use Rattle.std.specs.List.{AllByRecursion}
 use Rattle.cil_model.specs.WellFormed.{IsCallee}
 use Rattle.cil_model.specs.declared.unit.Unit.{Unit as MethodUnit}
 use Rattle.method_unit.specs.Units.{IsUnit}
 use Rattle.unit_builder.specs.declared.reason.Reason.{Reason}
-use Rattle.check_driver.specs.Checked.{EndsLine}
-use Rattle.check_driver.specs.Findings.{IsFoundOf, IsWithin}
-use Rattle.check_driver.specs.declared.analysis.Judged.{Judged}
+use Rattle.answer_lines.specs.LineCounts.{EndsLine}
+use Rattle.check_driver.specs.Findings.{AreVerdictsOf, IsWithin}
+use Rattle.check_driver.specs.declared.analysis.JudgedUnit.{JudgedUnit}
 use Rattle.check_driver.specs.declared.finding.Finding.TheVariants as founds
 use Rattle.check_driver.proofs.CountedTexts.{shown_ends}
 
-pub judged_within : (show : Bool) (unit : MethodUnit) (found : Judged) → IsUnit unit → found.callees ≡ unit.callees → IsFoundOf show unit found.judgement
+pub judged_within : (show : Bool) (unit : MethodUnit) (found : JudgedUnit) → IsUnit unit → found.callees ≡ unit.callees → AreVerdictsOf show unit found.found
     → IsWithin (founds.Judged found)
 judged_within show unit found is same are = record {
   verdicts = are.within;

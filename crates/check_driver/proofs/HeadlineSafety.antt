@@ -48,7 +48,7 @@ use Rattle.check_driver.proofs.CheckedSafety.{known_of, printed_checked, somethi
 use Rattle.check_driver.proofs.FewMethods.{methods_are_few}
 use Rattle.check_driver.proofs.LinesOf.{section_line}
 use Rattle.check_driver.proofs.PrintedSafety.{all_at}
-use Rattle.check_driver.proofs.WholeLines.{as_line}
+use Rattle.answer_lines.proofs.WholeLines.{as_line}
 
 -- ---- the world of a method begins with its own unit
 

@@ -1,12 +1,12 @@
 -- What the lines that are read of a text tell of the text.
-use Rattle.std.proofs.Common.{◌≡◌, ◌≢◌, ℕ, zero, suc, ◌==◌, Bool, true, false, cond, List, [], ◌∷◌, ◌++◌, take, Some, slice_get, slice_index_or, refl, sym, ap, subst, ◌∙◌, append_assoc, append-nil, inl, inr, codes}
+use Rattle.std.proofs.Common.{◌≡◌, ◌≢◌, ℕ, zero, suc, ◌==◌, Bool, true, false, cond, List, [], ◌∷◌, ◌++◌, take, Some, slice_get, slice_index_or, refl, sym, ap, subst, ◌∙◌, append_assoc, inl, inr}
 use Rattle.std.specs.Prelude.{Contains}
 use Rattle.std.specs.List.{AllByRecursion, before_first, position_or_len}
 use Rattle.std.proofs.lemmas.Bool.{eq-eqb, eqb-true, true≢false}
-use Rattle.check_driver.specs.Checked.{EndsLine, HasLine}
+use Rattle.check_driver.specs.Checked.{HasLine}
 use Rattle.check_driver.specs.Sections.{begins_section, lines_of, longer, section, sections_of}
 use Rattle.check_driver.proofs.PrintedMethods.{contains_first, none_contained}
-use Rattle.check_driver.proofs.WholeLines.{IsOneLine, as_line, as_lines, is_first, is_later}
+use Rattle.answer_lines.proofs.WholeLines.{IsOneLine, as_line, as_lines, ends_behind, is_first, is_later}
 
 -- ---- lines of a text
 
@@ -56,11 +56,6 @@ first_line text line first = by_lines (lines_of text) first (lines_one_line text
         )
 
 -- ---- one of the lines
-
-pub ends_behind : (first before : List ℕ) → EndsLine before → EndsLine (as_line first ++ before)
-ends_behind first before (inl empty) = inr (first, ap (λ (l : List ℕ). as_line first ++ l) empty ∙ append-nil (as_line first))
-ends_behind first before (inr (lines, is)) =
-    inr (as_line first ++ lines, ap (λ (l : List ℕ). as_line first ++ l) is ∙ sym (append_assoc (as_line first) lines (codes "\n")))
 
 -- A line among others is a whole line of their text.
 line_in_lines : (lines : List (List ℕ)) (line : List ℕ) → Contains lines line → HasLine (as_lines lines) (as_line line)

@@ -11,12 +11,12 @@ use Rattle.pe_reader.specs.Addresses.{metadata}
 use Rattle.cil_model.specs.declared.unit.CalleeInfo.{CalleeInfo}
 use Rattle.invariant_checker.specs.Counts.{all_proved}
 use Rattle.invariant_checker.specs.declared.verdict.Verdict.{Verdict}
-use Rattle.check_driver.proofs.UnitVerdicts.{proved_unit_safe}
+use Rattle.check_driver.proofs.UnitSafety.{proved_unit_safe}
 use Rattle.method_unit.specs.Units.{IsUnit}
 use Rattle.unit_builder.specs.Outcomes.{IfAnalysed, entry_of, outcome_of}
 use Rattle.unit_builder.specs.declared.entry.Outcome.{Outcome}
 use Rattle.unit_builder.specs.declared.entry.Outcome.TheVariants.{Analysed, Skipped}
-use Rattle.check_driver.specs.CheckText.{Finding, Judged, Unjudged, finding, is_proved, verdict_text}
+use Rattle.check_driver.specs.CheckText.{Finding, WithVerdicts, NotAnalysed, outcome_finding, is_proved, verdict_text}
 use Rattle.check_driver.specs.Checked.{IsSafeMethod}
 use Rattle.answer_lines.specs.Lines.{proved_text}
 use Rattle.check_driver.proofs.Reported.{entry_said, finding_said, method_said, shown_said, verdict_said, verdicts_said}
@@ -125,8 +125,8 @@ no_verdict callees (v ∷ found) token name text has =
 
 none_of_finding : (found : Finding) (token : ℕ) (name text : List ℕ) → Contains (verdicts_said found) (method_said token name text) → ⊥
 unfolding verdicts_said
-none_of_finding (Judged callees found) token name text has = no_verdict callees found token name text has
-none_of_finding (Unjudged reason) token name text has = none_contained _ has
+none_of_finding (WithVerdicts callees found) token name text has = no_verdict callees found token name text has
+none_of_finding (NotAnalysed reason) token name text has = none_contained _ has
 
 none_of_shown : (show : Bool) (outcome : Outcome) (token : ℕ) (name text : List ℕ) → Contains (shown_said show outcome) (method_said token name text) → ⊥
 unfolding shown_said method_said
@@ -136,7 +136,7 @@ none_of_shown show outcome token name text has = no_shown_line show outcome _ re
 
 -- What is told of the method of a row.
 unfoldable pub row_said : List ℕ → ℕ → List ℕ
-row_said asm row = let method = method_row (metadata asm) row in method_said method.token.0 method.name (verdict_text (finding (outcome_of asm method)))
+row_said asm row = let method = method_row (metadata asm) row in method_said method.token.0 method.name (verdict_text (outcome_finding (outcome_of asm method)))
 
 pub among_rows : (asm : List ℕ) (show : Bool) (rows : List ℕ) (token : ℕ) (name text : List ℕ)
     → Contains (flat_map (entry_said show) (map (entry_of asm) (map (method_row (metadata asm)) rows))) (method_said token name text)
@@ -146,7 +146,7 @@ among_rows asm show [] token name text has = absurd (none_contained _ has)
 among_rows asm show (row ∷ rows) token name text has =
     let line = method_said token name text in
     let method = method_row (metadata asm) row in
-    let found = finding (outcome_of asm method) in
+    let found = outcome_finding (outcome_of asm method) in
     let said = row_said asm row ∷ verdicts_said found in
     elim (contains_behind (said ++ shown_said show (outcome_of asm method)) (flat_map (entry_said show) (map (entry_of asm) (map (method_row (metadata asm)) rows))) line has) [
       | inl here ↦
@@ -166,15 +166,15 @@ among_rows asm show (row ∷ rows) token name text has =
 -- ---- what a printed `proved` tells
 
 pub proved_tells : (found : Finding) → verdict_text found ≡ codes "proved" → is_proved found ≡ true
-proved_tells (Judged callees found) e = by_verdict (all_proved found) e
+proved_tells (WithVerdicts callees found) e = by_verdict (all_proved found) e
   where
     by_verdict : (proved : Bool) → proved_text proved ≡ codes "proved" → proved ≡ true
     by_verdict true e = refl
     by_verdict false e = absurd (let letters : 117 ≡ 112 = ap (λ (l : List ℕ). get_or l 0 0) e in omega (arith, letters))
-proved_tells (Unjudged reason) e = absurd (let letters : 110 ≡ 112 = ap (λ (l : List ℕ). get_or l 0 0) e in omega (arith, letters))
+proved_tells (NotAnalysed reason) e = absurd (let letters : 110 ≡ 112 = ap (λ (l : List ℕ). get_or l 0 0) e in omega (arith, letters))
 
 -- A method that is proved is analysed, and its unit has no obligation that is not proved.
-pub safe_by : (asm : List ℕ) (method : MethodRow) (outcome : Outcome) → outcome_of asm method ≡ outcome → is_proved (finding outcome) ≡ true → IfAnalysed outcome IsUnit → IsSafeMethod asm method
+pub safe_by : (asm : List ℕ) (method : MethodRow) (outcome : Outcome) → outcome_of asm method ≡ outcome → is_proved (outcome_finding outcome) ≡ true → IfAnalysed outcome IsUnit → IsSafeMethod asm method
 safe_by asm method (Analysed unit) same proved runnable =
     record { unit = unit; analysed = same; safe = proved_unit_safe unit runnable proved }
 safe_by asm method (Skipped reason) same proved runnable = absurd cc

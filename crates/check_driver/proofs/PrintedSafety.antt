@@ -12,13 +12,14 @@ use Rattle.pe_reader.specs.Addresses.{metadata}
 use Rattle.method_unit.specs.Units.{IsUnit}
 use Rattle.unit_builder.specs.Outcomes.{IfAnalysed, entries_of, entry_of, outcome_of}
 use Rattle.unit_builder.specs.declared.entry.MethodEntry.{MethodEntry}
-use Rattle.check_driver.specs.CheckText.{all_counts, check_text, finding, method_line, verdict_text}
+use Rattle.check_driver.specs.CheckText.{all_counts, check_text, outcome_finding, method_line, verdict_text}
 use Rattle.check_driver.specs.Checked.{AreRunnable, HasLine, IsSafeMethod}
 use Rattle.check_driver.proofs.FewMethods.{methods_are_few}
 use Rattle.check_driver.proofs.PrintedMethods.{among_rows, contains_behind, contains_first, behind_digits, none_contained, proved_tells, row_said, safe_by, same_said, same_text}
-use Rattle.check_driver.proofs.Reported.{entry_said, method_said, report_is_lines, report_said, summary_front, summary_said}
+use Rattle.check_driver.proofs.Reported.{entry_said, method_said, report_is_lines, report_said}
+use Rattle.answer_lines.proofs.SingleLines.{summary_front, summary_said}
 use Rattle.check_driver.proofs.ReportTexts.{all_behind, assembly_one_line, proved_one_line, rows_one_line, summary_one_line}
-use Rattle.check_driver.proofs.WholeLines.{IsOneLine, as_line, as_lines, line_among}
+use Rattle.answer_lines.proofs.WholeLines.{IsOneLine, as_line, as_lines, line_among}
 
 -- ---- rows
 
@@ -96,16 +97,16 @@ row_of_report name show bytes token method text has =
 -- Rows whose lines are equal but for what they tell are one.
 same_row : (bytes : List ℕ) (row other : ℕ) (text : List ℕ) → row < 2 ^ 23 + 1 → other < 2 ^ 23 + 1
     → row_said bytes other ≡ method_said (method_row (metadata bytes) row).token.0 (method_row (metadata bytes) row).name text
-    → (other ≡ row) × (verdict_text (finding (outcome_of bytes (method_row (metadata bytes) row))) ≡ text)
+    → (other ≡ row) × (verdict_text (outcome_finding (outcome_of bytes (method_row (metadata bytes) row))) ≡ text)
 unfolding row_said method_row
 same_row bytes row other text small few e =
     let mine = method_row (metadata bytes) row in
     let its = method_row (metadata bytes) other in
-    let both = same_said its.token.0 mine.token.0 its.name mine.name (verdict_text (finding (outcome_of bytes its))) text (omega (arith, few)) (omega (arith, small)) e in
+    let both = same_said its.token.0 mine.token.0 its.name mine.name (verdict_text (outcome_finding (outcome_of bytes its))) text (omega (arith, few)) (omega (arith, small)) e in
     let same : other ≡ row = omega (arith, both.0) in (
       same,
-      same_text mine.name (verdict_text (finding (outcome_of bytes mine))) text
-          (subst (λ (r : ℕ). behind_digits (method_row (metadata bytes) r).name (verdict_text (finding (outcome_of bytes (method_row (metadata bytes) r)))) ≡ behind_digits mine.name text) same both.1),
+      same_text mine.name (verdict_text (outcome_finding (outcome_of bytes mine))) text
+          (subst (λ (r : ℕ). behind_digits (method_row (metadata bytes) r).name (verdict_text (outcome_finding (outcome_of bytes (method_row (metadata bytes) r)))) ≡ behind_digits mine.name text) same both.1),
     )
 
 pub printed_method : (name : List ℕ) (show : Bool) (bytes text : List ℕ) (method : MethodRow) → FirstBroken bytes ≡ None → AreRunnable bytes
@@ -125,4 +126,4 @@ printed_method name show bytes text method whole runnable has line front =
     let same = same_row bytes row told.0 (codes "proved") (omega (arith, few, range_below 1 (method_count md) row mine.1)) (omega (arith, few, range_below 1 (method_count md) told.0 told.1)) told.2 in
     let is_runnable = all_at (λ (entry : MethodEntry). IfAnalysed entry.outcome IsUnit) (entry_of bytes) (methods_of bytes) (method_row md row) runnable (subst (Contains (methods_of bytes)) (sym mine.2) has) in
     subst (IsSafeMethod bytes) mine.2
-    (safe_by bytes (method_row md row) (outcome_of bytes (method_row md row)) refl (proved_tells (finding (outcome_of bytes (method_row md row))) same.1) is_runnable)
+    (safe_by bytes (method_row md row) (outcome_of bytes (method_row md row)) refl (proved_tells (outcome_finding (outcome_of bytes (method_row md row))) same.1) is_runnable)

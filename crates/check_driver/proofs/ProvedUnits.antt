@@ -6,12 +6,13 @@ use Rattle.std.proofs.lemmas.List.{append_cancel_left, length-append}
 use Rattle.cc_base.specs.Files.{Held, READ_LIMIT}
 use Rattle.cc_base.specs.Sink.{AppendsFront, IsFront}
 use Rattle.cc_base.proofs.SinkLemmas.{appended-nil}
-use Rattle.cil_model.specs.Places.{parameters_text}
 use Rattle.cil_model.specs.WellFormed.{IsUnitName}
 use Rattle.cil_model.specs.declared.unit.Unit.{Unit as MethodUnit}
 use Rattle.answer_lines.specs.Answers.{Answer}
 use Rattle.answer_lines.specs.Lines.{proved_text, summary_line, unit_line}
-use Rattle.answer_lines.specs.Signatures.{signature_text, unit_signature}
+use Rattle.answer_lines.specs.Signatures.{unit_signature}
+use Rattle.answer_lines.proofs.SingleLines.{none_in_unit, unit_said}
+use Rattle.answer_lines.proofs.WholeLines.{IsOneLine, one_line, same_first}
 use Rattle.command_words.specs.Words.{command_files, command_of, file_names, word_at, words_at}
 use Rattle.command_words.specs.declared.command.Command.{Command}
 use Rattle.command_words.specs.declared.command.Command.TheVariants as commands
@@ -19,7 +20,7 @@ use Rattle.method_unit.specs.UnitFile.{first_unit_fault, unit_of}
 use Rattle.method_unit.specs.declared.unit_fault.UnitFault.{UnitFault}
 use Rattle.invariant_checker.specs.Counts.{all_proved}
 use Rattle.check_driver.specs.Analysis.{unit_verdicts}
-use Rattle.check_driver.proofs.UnitVerdicts.{proved_unit_safe}
+use Rattle.check_driver.proofs.UnitSafety.{proved_unit_safe}
 use Rattle.check_driver.specs.Expected.{command_answer, expected, files_answer, unit_answer, unit_file_answer}
 use Rattle.check_driver.specs.Met.{AreUnder}
 use Rattle.check_driver.specs.ProvedUnit.{AreSpelled, AsksForUnit, IfUnit, IsHeldSpelled, PrintsProvedUnit, SpellSafeUnit}
@@ -27,31 +28,12 @@ use Rattle.check_driver.specs.ReportText.{unit_counts, unit_report, verdict_line
 use Rattle.check_driver.specs.Sections.{lines_of}
 use Rattle.check_driver.proofs.CheckedSafety.{same_appended}
 use Rattle.check_driver.proofs.LinesOf.{first_line}
-use Rattle.invariant_text.proofs.PlainTexts.{NoFeed, no_feed_behind}
-use Rattle.check_driver.proofs.PlainTexts.{graphic_no_feed, one_line, parameters_no_feed}
 use Rattle.check_driver.proofs.PrintedMethods.{same_parts}
-use Rattle.check_driver.proofs.ReportTexts.{proved_no_feed}
-use Rattle.check_driver.proofs.WholeLines.{IsOneLine, same_first}
 
 -- ---- the line of a unit
 
--- Without its line feed.
-abbrev pub unit_said : MethodUnit → Bool → List ℕ
-unit_said unit proved = codes "unit " ++ unit_signature unit ++ codes ": " ++ proved_text proved
-
-signature_no_feed : (unit : MethodUnit) → IsUnitName unit.name → NoFeed (unit_signature unit)
-unfolding signature_text
-signature_no_feed unit name =
-    let opened = unit.name ++ codes "(" in
-    no_feed_behind (opened ++ parameters_text unit.args) (codes ")")
-    (no_feed_behind opened (parameters_text unit.args) (no_feed_behind unit.name (codes "(") (graphic_no_feed unit.name name.graphic) refl) (parameters_no_feed unit.args)) refl
-
 unit_one_line : (unit : MethodUnit) (proved : Bool) → IsUnitName unit.name → IsOneLine (unit_said unit proved)
-unit_one_line unit proved name =
-    let head = codes "unit " ++ unit_signature unit in
-    one_line (unit_said unit proved)
-    (no_feed_behind (head ++ codes ": ") (proved_text proved)
-    (no_feed_behind head (codes ": ") (no_feed_behind (codes "unit ") (unit_signature unit) refl (signature_no_feed unit name)) refl) (proved_no_feed proved))
+unit_one_line unit proved name = one_line (unit_said unit proved) (none_in_unit unit proved name)
 
 -- Texts with ends of one length are equal part by part.
 same_ends : (a b x y : List ℕ) → length x ≡ length y → a ++ x ≡ b ++ y → (a ≡ b) × (x ≡ y)

@@ -11,7 +11,7 @@ use Rattle.check_driver.specs.Met.{AreContents, AreUnder, IsContent, bytes_read}
 use Rattle.command_words.specs.Words.{file_indexes, word_at, words_at}
 use Rattle.command_words.specs.declared.command.Command.{Command}
 use Rattle.command_words.specs.declared.command.Command.TheVariants as commands
-use Rattle.check_driver.proofs.Answering.{large_first}
+use Rattle.assembly_answers.proofs.CutFiles.{large_first}
 
 -- A file that was cut is refused.
 cut_same : (whole bytes : List ℕ) (limit : ℕ) → limit ≡ READ_LIMIT → take limit whole ≡ bytes → FirstBroken bytes ≡ None → bytes ≡ whole

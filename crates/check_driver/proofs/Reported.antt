@@ -1,7 +1,6 @@
 -- The report of an assembly is lines, and the lines that begin with `method` are those of its methods.
 use Rattle.std.proofs.Common.{◌≡◌, ℕ, Bool, List, [], ◌∷◌, ◌++◌, map, refl, sym, ap, ◌∙◌, append_assoc, append-nil, codes}
 use Rattle.std.specs.List.{flat_map}
-use Rattle.std.specs.Fmt.{decimal}
 use Rattle.cc_base.specs.Digits.{hex}
 use Rattle.cc_base.specs.Escapes.{escaped}
 use Rattle.invariant_checker.specs.declared.verdict.Verdict.{Verdict}
@@ -9,14 +8,14 @@ use Rattle.cil_model.specs.declared.unit.CalleeInfo.{CalleeInfo}
 use Rattle.unit_builder.specs.Outcomes.{entries_of}
 use Rattle.unit_builder.specs.declared.entry.MethodEntry.{MethodEntry}
 use Rattle.unit_builder.specs.declared.entry.Outcome.{Outcome}
-use Rattle.check_driver.specs.CheckText.{Finding, Judged, Unjudged, all_counts, assembly_line, check_text, entry_lines, finding, finding_lines, method_line, outcome_shown, verdict_lines, verdict_text}
+use Rattle.check_driver.specs.CheckText.{Finding, WithVerdicts, NotAnalysed, all_counts, assembly_line, check_text, entry_lines, outcome_finding, finding_lines, method_line, outcome_shown, verdict_lines, verdict_text}
 use Rattle.answer_lines.specs.FaultKinds.{kind_text}
-use Rattle.answer_lines.specs.Lines.{proved_text, summary_line}
+use Rattle.answer_lines.specs.Lines.{summary_line}
 use Rattle.check_driver.specs.ReportText.{callee_of, verdict_line}
-use Rattle.answer_lines.specs.declared.lines.Counts.{Counts}
+use Rattle.answer_lines.proofs.SingleLines.{obligation_said, summary_ends, summary_said}
 use Rattle.check_driver.specs.Sections.{lines_of}
 use Rattle.check_driver.proofs.ShownLines.{shown_are_lines}
-use Rattle.check_driver.proofs.WholeLines.{as_line, as_lines}
+use Rattle.answer_lines.proofs.WholeLines.{as_line, as_lines}
 
 -- ---- the texts of the lines, without their line feeds
 
@@ -25,23 +24,11 @@ method_said token name text = codes "method " ++ hex 8 token ++ codes " " ++ nam
 
 unfoldable pub verdict_said : List CalleeInfo → Verdict → List ℕ
 verdict_said callees v =
-    codes "  IL_" ++ hex 4 v.obligation.at ++ codes " " ++ kind_text (callee_of callees v.obligation.callee) v.obligation.kind
-    ++ codes ": " ++ proved_text v.proved
-
--- The summary up to its last number.
-unfoldable pub summary_front : Counts → List ℕ
-summary_front n =
-    codes "summary: " ++ decimal n.methods ++ codes " methods, " ++ decimal n.proved ++ codes " proved, "
-    ++ decimal n.unproved ++ codes " unproved, " ++ decimal n.skipped ++ codes " not analysed, "
-    ++ decimal n.obligations ++ codes " obligations, " ++ decimal n.proved_obligations
-
-unfoldable pub summary_said : Counts → List ℕ
-unfolding summary_front
-summary_said n = summary_front n ++ codes " proved"
+    obligation_said v.obligation.at (kind_text (callee_of callees v.obligation.callee) v.obligation.kind) v.proved
 
 unfoldable pub verdicts_said : Finding → List (List ℕ)
-verdicts_said (Judged callees found) = map (verdict_said callees) found
-verdicts_said (Unjudged reason) = []
+verdicts_said (WithVerdicts callees found) = map (verdict_said callees) found
+verdicts_said (NotAnalysed reason) = []
 
 unfoldable pub finding_said : ℕ → List ℕ → Finding → List (List ℕ)
 finding_said token name found = method_said token name (verdict_text found) ∷ verdicts_said found
@@ -51,7 +38,7 @@ unfoldable pub shown_said : Bool → Outcome → List (List ℕ)
 shown_said show outcome = lines_of (outcome_shown show outcome)
 
 unfoldable pub entry_said : Bool → MethodEntry → List (List ℕ)
-entry_said show entry = finding_said entry.token.0 entry.name (finding entry.outcome) ++ shown_said show entry.outcome
+entry_said show entry = finding_said entry.token.0 entry.name (outcome_finding entry.outcome) ++ shown_said show entry.outcome
 
 unfoldable pub report_said : List ℕ → Bool → List ℕ → List (List ℕ)
 report_said name show bytes =
@@ -76,8 +63,8 @@ verdicts_are_lines callees (v ∷ found) =
 
 said_of_finding : (found : Finding) → as_lines (verdicts_said found) ≡ verdict_lines found
 unfolding verdicts_said
-said_of_finding (Judged callees found) = verdicts_are_lines callees found
-said_of_finding (Unjudged reason) = refl
+said_of_finding (WithVerdicts callees found) = verdicts_are_lines callees found
+said_of_finding (NotAnalysed reason) = refl
 
 finding_is_lines : (token : ℕ) (name : List ℕ) (found : Finding) → as_lines (finding_said token name found) ≡ finding_lines token name found
 unfolding finding_said method_said
@@ -86,9 +73,9 @@ finding_is_lines token name found = ap (λ (l : List ℕ). method_line token nam
 entry_is_lines : (show : Bool) (entry : MethodEntry) → as_lines (entry_said show entry) ≡ entry_lines show entry
 unfolding entry_said shown_said
 entry_is_lines show entry =
-    lines_behind (finding_said entry.token.0 entry.name (finding entry.outcome)) (shown_said show entry.outcome)
-    ∙ ap (λ (l : List ℕ). l ++ as_lines (shown_said show entry.outcome)) (finding_is_lines entry.token.0 entry.name (finding entry.outcome))
-    ∙ ap (λ (l : List ℕ). finding_lines entry.token.0 entry.name (finding entry.outcome) ++ l) (shown_are_lines show entry.outcome)
+    lines_behind (finding_said entry.token.0 entry.name (outcome_finding entry.outcome)) (shown_said show entry.outcome)
+    ∙ ap (λ (l : List ℕ). l ++ as_lines (shown_said show entry.outcome)) (finding_is_lines entry.token.0 entry.name (outcome_finding entry.outcome))
+    ∙ ap (λ (l : List ℕ). finding_lines entry.token.0 entry.name (outcome_finding entry.outcome) ++ l) (shown_are_lines show entry.outcome)
 
 entries_are_lines : (show : Bool) (entries : List MethodEntry) → as_lines (flat_map (entry_said show) entries) ≡ flat_map (entry_lines show) entries
 entries_are_lines show [] = refl
@@ -96,10 +83,6 @@ entries_are_lines show (entry ∷ entries) =
     lines_behind (entry_said show entry) (flat_map (entry_said show) entries)
     ∙ ap (λ (l : List ℕ). l ++ as_lines (flat_map (entry_said show) entries)) (entry_is_lines show entry)
     ∙ ap (λ (l : List ℕ). entry_lines show entry ++ l) (entries_are_lines show entries)
-
-pub summary_is_line : (n : Counts) → as_line (summary_said n) ≡ summary_line n
-unfolding summary_said
-summary_is_line n = append_assoc (summary_front n) (codes " proved") (10 ∷ [])
 
 -- The lines before the last one, and the last.
 lines_and_last : (before : List (List ℕ)) (last line text : List ℕ) → as_line last ≡ line → as_lines before ≡ text → as_lines (before ++ last ∷ []) ≡ text ++ line
@@ -111,5 +94,5 @@ unfolding report_said check_text
 report_is_lines name show bytes =
     let entries = entries_of bytes in
     let counts = all_counts entries in
-    ap (λ (l : List ℕ). assembly_line name ++ l) (lines_and_last (flat_map (entry_said show) entries) (summary_said counts) (summary_line counts) (flat_map (entry_lines show) entries) (summary_is_line counts) (entries_are_lines show entries))
+    ap (λ (l : List ℕ). assembly_line name ++ l) (lines_and_last (flat_map (entry_said show) entries) (summary_said counts) (summary_line counts) (flat_map (entry_lines show) entries) (summary_ends counts) (entries_are_lines show entries))
     ∙ sym (append_assoc (assembly_line name) (flat_map (entry_lines show) entries) (summary_line counts))

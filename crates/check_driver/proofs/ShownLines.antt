@@ -1,10 +1,11 @@
 -- What is shown of an invariant is whole lines, and each begins with a space.
-use Rattle.std.proofs.Common.{◌≡◌, ℕ, zero, suc, Bool, true, false, List, [], ◌∷◌, ◌++◌, if◌then◌else◌, get_or, refl, ap, ◌∙◌, subst, append_assoc, arith}
+use Rattle.std.proofs.Common.{◌≡◌, ℕ, zero, suc, ◌==◌, not, Bool, true, false, List, [], ◌∷◌, ◌++◌, if◌then◌else◌, get_or, refl, ap, ◌∙◌, subst, append_assoc, arith}
 use Rattle.std.specs.Prelude.{Contains}
-use Rattle.std.proofs.lemmas.Bool.{ne_eqb}
+use Rattle.std.proofs.lemmas.Bool.{and_parts, ne_eqb}
 use Rattle.invariant_checker.specs.Inducts.{has_shape}
 use Rattle.invariant_text.specs.InvariantText.{invariant_text}
 use Rattle.invariant_text.proofs.Indented.{AreIndented, indented, more, none}
+use Rattle.invariant_text.proofs.PlainTexts.{NoFeed, has_no_feed}
 use Rattle.state_facts.specs.StateFacts.{State}
 use Rattle.unit_builder.specs.declared.entry.Outcome.{Outcome}
 use Rattle.unit_builder.specs.declared.entry.Outcome.TheVariants.{Analysed, Skipped}
@@ -14,10 +15,16 @@ use Rattle.widening_engine.specs.Limits.{limit_of}
 use Rattle.check_driver.specs.Analysis.{shown_text, states_text}
 use Rattle.check_driver.specs.CheckText.{outcome_shown}
 use Rattle.check_driver.specs.Sections.{lines_of}
-use Rattle.check_driver.proofs.PlainTexts.{one_line}
-use Rattle.check_driver.proofs.WholeLines.{IsOneLine, as_lines}
+use Rattle.answer_lines.proofs.WholeLines.{IsOneLine, as_lines}
 
 -- ---- lines of a text
+
+-- A text that passes the test of invariant_text is one line.
+one_line : (text : List ℕ) → NoFeed text → IsOneLine text
+one_line [] none = tt
+one_line (b ∷ text) none =
+    let both = and_parts (not (b == 10)) (has_no_feed text) none in
+    ((λ feed. absurd (let clash : false ≡ true = rw feed at both.0 in cc)), one_line text both.1)
 
 -- The lines of a line and more.
 lines_behind : (line rest : List ℕ) → IsOneLine line → lines_of (line ++ 10 ∷ rest) ≡ line ∷ lines_of rest

@@ -12,7 +12,7 @@ use Rattle.unit_builder.specs.declared.entry.Outcome.{Outcome}
 use Rattle.unit_builder.specs.declared.entry.Outcome.TheVariants.{Analysed, Skipped}
 use Rattle.answer_lines.specs.Counting.{counts_plus, no_counts}
 use Rattle.check_driver.specs.Analysis.{shown_text, unit_verdicts}
-use Rattle.check_driver.specs.ReasonText.{reason_text}
+use Rattle.assembly_answers.specs.ReasonText.{reason_text}
 use Rattle.answer_lines.specs.Lines.{proved_text, summary_line}
 use Rattle.check_driver.specs.ReportText.{verdict_line}
 use Rattle.answer_lines.specs.declared.lines.Counts.{Counts}
@@ -21,22 +21,22 @@ use Rattle.answer_lines.specs.declared.lines.Counts.{Counts}
 
 -- Its callees and the verdicts on its obligations, or the words that say why it is not analysed.
 pub data Finding : Type 0 where
-  Judged : List CalleeInfo → List Verdict → Finding
-  Unjudged : List ℕ → Finding
+  WithVerdicts : List CalleeInfo → List Verdict → Finding
+  NotAnalysed : List ℕ → Finding
 
-abbrev pub finding : Outcome → Finding
-finding (Analysed unit) = Judged unit.callees (unit_verdicts unit)
-finding (Skipped reason) = Unjudged (reason_text reason)
+abbrev pub outcome_finding : Outcome → Finding
+outcome_finding (Analysed unit) = WithVerdicts unit.callees (unit_verdicts unit)
+outcome_finding (Skipped reason) = NotAnalysed (reason_text reason)
 
 -- ---- its lines
 
 abbrev pub verdict_text : Finding → List ℕ
-verdict_text (Judged callees found) = proved_text (all_proved found)
-verdict_text (Unjudged reason) = codes "not analysed: " ++ reason
+verdict_text (WithVerdicts callees found) = proved_text (all_proved found)
+verdict_text (NotAnalysed reason) = codes "not analysed: " ++ reason
 
 abbrev pub verdict_lines : Finding → List ℕ
-verdict_lines (Judged callees found) = flat_map (verdict_line callees) found
-verdict_lines (Unjudged reason) = []
+verdict_lines (WithVerdicts callees found) = flat_map (verdict_line callees) found
+verdict_lines (NotAnalysed reason) = []
 
 -- The line of a method: its token, its name, and what is found of it.
 abbrev pub method_line : ℕ → List ℕ → List ℕ → List ℕ
@@ -57,17 +57,17 @@ all_shown show entries = map (λ entry. outcome_shown show entry.outcome) entrie
 
 abbrev pub entry_lines : Bool → MethodEntry → List ℕ
 entry_lines show entry =
-    finding_lines entry.token.0 entry.name (finding entry.outcome) ++ outcome_shown show entry.outcome
+    finding_lines entry.token.0 entry.name (outcome_finding entry.outcome) ++ outcome_shown show entry.outcome
 
 -- ---- the whole
 
 abbrev pub is_proved : Finding → Bool
-is_proved (Judged callees found) = all_proved found
-is_proved (Unjudged reason) = false
+is_proved (WithVerdicts callees found) = all_proved found
+is_proved (NotAnalysed reason) = false
 
 -- What one method adds to the counts.
 abbrev pub counts_of : Finding → Counts
-counts_of (Judged callees found) = record {
+counts_of (WithVerdicts callees found) = record {
   methods = 1;
   proved = if all_proved found then 1 else 0;
   unproved = if all_proved found then 0 else 1;
@@ -75,7 +75,7 @@ counts_of (Judged callees found) = record {
   obligations = length found;
   proved_obligations = proved_count found;
 }
-counts_of (Unjudged reason) = record { methods = 1; proved = 0; unproved = 0; skipped = 1; obligations = 0; proved_obligations = 0 }
+counts_of (NotAnalysed reason) = record { methods = 1; proved = 0; unproved = 0; skipped = 1; obligations = 0; proved_obligations = 0 }
 
 -- The counts of all methods of which these are found.
 abbrev pub found_counts : List Finding → Counts
@@ -83,7 +83,7 @@ found_counts found = fold (λ counts one. counts_plus counts (counts_of one)) no
 
 -- What is found of each method.
 abbrev pub findings : List MethodEntry → List Finding
-findings entries = map (λ entry. finding entry.outcome) entries
+findings entries = map (λ entry. outcome_finding entry.outcome) entries
 
 abbrev pub all_counts : List MethodEntry → Counts
 all_counts entries = found_counts (findings entries)

@@ -11,26 +11,27 @@ use Rattle.state_facts.specs.StateFacts.{State}
 use Rattle.unit_flow.specs.declared.unit_flow.UnitFlow.{UnitFlow}
 use Rattle.asm_image.specs.declared.method_row.MethodRow.{MethodRow}
 use Rattle.check_driver.specs.Analysis.{shown_text, states_text, unit_verdicts}
-use Rattle.check_driver.specs.Checked.{EndsLine}
-use Rattle.check_driver.specs.CheckText.{Finding, Judged, Unjudged, finding_lines}
-use Rattle.check_driver.specs.ReasonText.{reason_text}
+use Rattle.answer_lines.specs.LineCounts.{EndsLine}
+use Rattle.check_driver.specs.CheckText.{Finding, WithVerdicts, NotAnalysed, finding_lines}
+use Rattle.assembly_answers.specs.ReasonText.{reason_text}
 use Rattle.check_driver.specs.declared.finding.Finding.{Finding as Found}
 use Rattle.check_driver.specs.declared.finding.Finding.TheVariants as founds
-use Rattle.check_driver.specs.declared.judgement.Judgement.{Judgement}
+use Rattle.check_driver.specs.declared.unit_verdicts.UnitVerdicts.{UnitVerdicts}
 
-abbrev pub told : Found → Finding
-told (founds.Judged found) = Judged found.callees found.judgement.verdicts.items
-told (founds.Skipped reason) = Unjudged (reason_text reason)
+-- The finding that the code has.
+abbrev pub finding_in : Found → Finding
+finding_in (founds.Judged unit) = WithVerdicts unit.callees unit.found.verdicts.items
+finding_in (founds.Skipped reason) = NotAnalysed (reason_text reason)
 
 -- The verdicts. Of a method that is not analysed there are none.
 abbrev pub verdicts_in : Finding → List Verdict
-verdicts_in (Judged callees found) = found
-verdicts_in (Unjudged reason) = []
+verdicts_in (WithVerdicts callees found) = found
+verdicts_in (NotAnalysed reason) = []
 
 -- What its unit knows of the methods that it calls.
 abbrev pub callees_in : Finding → List CalleeInfo
-callees_in (Judged callees found) = callees
-callees_in (Unjudged reason) = []
+callees_in (WithVerdicts callees found) = callees
+callees_in (NotAnalysed reason) = []
 
 -- The verdicts are those of a unit that keeps the limits. An instruction has no more obligations than a method may have
 -- clauses.
@@ -40,30 +41,30 @@ pub record AreWithin (found : List Verdict) : Type 0 where
 
 -- What is shown of its unit's invariant.
 abbrev pub shown_in : Found → List ℕ
-shown_in (founds.Judged found) = found.judgement.shown.items
+shown_in (founds.Judged unit) = unit.found.shown.items
 shown_in (founds.Skipped reason) = []
 
 -- What is found keeps the limits, and can be told in whole lines.
 pub record IsWithin (found : Found) : Type 0 where
-  pub verdicts : AreWithin (verdicts_in (told found))
-  pub callees : AllByRecursion IsCallee (callees_in (told found))
+  pub verdicts : AreWithin (verdicts_in (finding_in found))
+  pub callees : AllByRecursion IsCallee (callees_in (finding_in found))
   pub shown : EndsLine (shown_in found)
 
 -- The lines of a method of which this is found.
-abbrev pub told_lines : MethodRow × Found → List ℕ
-told_lines (method, found) = finding_lines method.token.0 method.name (told found) ++ shown_in found
+abbrev pub found_lines : MethodRow × Found → List ℕ
+found_lines (method, found) = finding_lines method.token.0 method.name (finding_in found) ++ shown_in found
 
 -- ---- what is found of a unit
 
 -- These are the verdicts under states, one for each block, and the text of these where they are shown.
-pub record AreFoundBy (show : Bool) (code : UnitFlow) (states : List State) (found : Judgement) : Type 0 where
+pub record AreVerdictsUnder (show : Bool) (code : UnitFlow) (states : List State) (found : UnitVerdicts) : Type 0 where
   pub verdicts : found.verdicts.items ≡ verdicts code states
   pub shown : found.shown.items ≡ (if show then states_text code states else [])
   pub near : All (λ verdict. verdict.obligation.at < length code.unit.code) found.verdicts.items
   pub few : length found.verdicts.items ≤ MAX_CLAUSES * length code.unit.instrs
 
 -- These are the verdicts under what the finder answers of the unit.
-pub record IsFoundOf (show : Bool) (unit : MethodUnit) (found : Judgement) : Type 0 where
+pub record AreVerdictsOf (show : Bool) (unit : MethodUnit) (found : UnitVerdicts) : Type 0 where
   pub verdicts : found.verdicts.items ≡ unit_verdicts unit
   pub shown : found.shown.items ≡ shown_text show unit
   pub within : AreWithin found.verdicts.items

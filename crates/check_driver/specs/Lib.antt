@@ -1,15 +1,11 @@
 pub mod Met
-pub mod FaultText
 pub mod Analysis
 pub mod ReportText
-pub mod ReasonText
 pub mod CheckText
 pub mod Findings
-pub mod ListText
-pub mod IlText
 pub mod Expected
 pub mod Asked
-pub mod JudgedUnits
+pub mod VerdictCache
 pub mod Checked
 pub mod Sections
 pub mod Headline

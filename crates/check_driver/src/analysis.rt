@@ -2,12 +2,12 @@
 
 ghost use Rattle.std.specs.Prelude.{◌≡◌, [], ◌∷◌, IfOk};
 ghost use Rattle.check_driver.specs.Asked.{Asks};
-ghost use Rattle.check_driver.specs.Findings.{IsFoundOf};
+ghost use Rattle.check_driver.specs.Findings.{AreVerdictsOf};
 ghost use Rattle.method_unit.specs.Units.{IsUnit};
 ghost use Rattle.unit_flow.specs.FlowOf.{flow_of};
 ghost use Rattle.unit_form.specs.Spelling.{unit_bytes};
 
-use crate::judgement::{Judgement, judge_under};
+use crate::unit_verdicts::{UnitVerdicts, judge_under};
 use cil_model::{CalleeInfo, List};
 use stack_typer::TypedUnit;
 use std::alloc::{AllocError, Global};
@@ -23,47 +23,47 @@ pub fn find_flow(alloc: Global, unit: TypedUnit) -> Result<UnitFlow, AllocError>
     UnitFlow::of(alloc, unit)
 }
 
-/// What is found of a unit under the invariant that the finder answers, with the text of that where it is shown.
+/// The verdicts on a unit under the invariant that the finder answers, with the text of that where it is shown.
 pub fn judge_flow<D: Finder>(
     alloc: Global,
     code: &UnitFlow,
     show: bool,
     finder: &mut D,
-) -> Result<Judgement, AllocError>
+) -> Result<UnitVerdicts, AllocError>
     requires unit { IsUnit code.now.unit }
     requires flow { code.now ≡ flow_of code.now.unit }
-    ensures value { IfOk result (IsFoundOf show code.now.unit) }
+    ensures value { IfOk result (AreVerdictsOf show code.now.unit) }
     ensures asked { Asks (unit_bytes code.now.unit ∷ []) result (D.asked finder.old) (D.asked finder.new) }
 {
     let invariant = finder.find(alloc, code)?;
     judge_under(alloc, code, &invariant, show)
 }
 
-/// What is found of a unit, and what it knows of other methods.
+/// A unit that was judged, of which the rest is given up.
 #[derive(Drop)]
-pub struct Judged {
+pub struct JudgedUnit {
     /// What the unit knows of the methods that it calls.
     pub callees: List<CalleeInfo>,
-    /// What is found of it.
-    pub judgement: Judgement,
+    /// The verdicts on it.
+    pub found: UnitVerdicts,
 }
 
-/// The same, of a unit without its flow, which is given up but for its callees.
+/// Judges a unit under the invariant that the finder answers.
 pub fn judge_unit<D: Finder>(
     alloc: Global,
     unit: TypedUnit,
     show: bool,
     finder: &mut D,
-) -> Result<Judged, AllocError>
+) -> Result<JudgedUnit, AllocError>
     requires { IsUnit unit }
-    ensures callees { IfOk result (λ found. found.callees ≡ unit.callees) }
-    ensures value { IfOk result (λ found. IsFoundOf show unit found.judgement) }
+    ensures callees { IfOk result (λ judged. judged.callees ≡ unit.callees) }
+    ensures value { IfOk result (λ judged. AreVerdictsOf show unit judged.found) }
     ensures asked { Asks (unit_bytes unit ∷ []) result (D.asked finder.old) (D.asked finder.new) }
 {
     let code = find_flow(alloc, unit)?;
-    let judgement = judge_flow(alloc, &code, show, finder)?;
-    Ok(Judged {
+    let found = judge_flow(alloc, &code, show, finder)?;
+    Ok(JudgedUnit {
         callees: code.unit.callees,
-        judgement,
+        found,
     })
 }

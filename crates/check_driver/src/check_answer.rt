@@ -8,12 +8,12 @@ ghost use Rattle.asm_image.specs.Faults.{FirstBroken};
 ghost use Rattle.asm_image.specs.Rows.{methods_of};
 ghost use Rattle.asm_image.specs.declared.method_row.MethodRow.{MethodRow};
 ghost use Rattle.check_driver.specs.Asked.{Asks, check_asked, outcome_key, units_asked, unseen};
-ghost use Rattle.check_driver.specs.CheckText.{all_methods_proved, all_shown, assembly_line, check_text, finding, finding_lines, findings, found_counts, is_proved, method_line, outcome_shown, verdict_text};
+ghost use Rattle.check_driver.specs.CheckText.{all_methods_proved, all_shown, assembly_line, check_text, findings, found_counts, is_proved, method_line, outcome_finding, outcome_shown, verdict_text};
 ghost use Rattle.check_driver.specs.Checked.{AreRunnable, IsReportable};
 ghost use Rattle.answer_lines.specs.Counting.{AreBelow};
 ghost use Rattle.check_driver.specs.Expected.{check_answer};
-ghost use Rattle.check_driver.specs.Findings.{IsWithin, shown_in, told, told_lines};
-ghost use Rattle.check_driver.specs.ListText.{AreNamedPlainly};
+ghost use Rattle.check_driver.specs.Findings.{IsWithin, finding_in, found_lines, shown_in};
+ghost use Rattle.assembly_answers.specs.ListText.{AreNamedPlainly};
 ghost use Rattle.check_driver.specs.NothingOr.{NothingOr};
 ghost use Rattle.answer_lines.specs.LineCounts.{AreLines, line_count};
 ghost use Rattle.answer_lines.specs.Outcome.{Gives};
@@ -21,13 +21,12 @@ ghost use Rattle.answer_lines.specs.Writing.{Writes, change_of, joined};
 ghost use Rattle.method_unit.specs.Units.{IsUnit};
 ghost use Rattle.unit_builder.specs.Outcomes.{IfAnalysed, entries_of, outcome_of};
 
-use crate::fault_text::assembly_fault_text;
 use crate::finding::Finding;
-use crate::judged_units::JudgedUnits;
-use crate::text_lines::append_lines;
 use crate::unit_report::append_verdict_lines;
-use answer_lines::{Counts, Interrupt, answer_refused, put_lines, summary_line};
+use crate::verdict_cache::VerdictCache;
+use answer_lines::{Counts, Interrupt, answer_refused, append_lines, put_lines, summary_line};
 use asm_image::{AsmRefusal, Assembly, MethodRow};
+use assembly_answers::assembly_fault_text;
 use cc_base::{Sink, append_escaped, put_hex};
 use std::alloc::{AllocError, Global};
 use unit_builder::Units;
@@ -35,7 +34,7 @@ use widening_engine::Finder;
 
 /// The line of a method of which this is found.
 fn method_line(alloc: Global, method: &MethodRow, finding: &Finding) -> Result<Vec<u8>, AllocError>
-    ensures { IfOk result (λ line. line.items ≡ method_line method.now.token.0 method.now.name (verdict_text (told finding.now))) }
+    ensures { IfOk result (λ line. line.items ≡ method_line method.now.token.0 method.now.name (verdict_text (finding_in finding.now))) }
 {
     let mut line = Vec::from_slice(alloc, b"method ")?;
     put_hex(alloc, &mut line, method.token.0, 8)?;
@@ -57,7 +56,7 @@ fn append_finding(
     requires within { IsWithin finding.now }
     requires name { line_count method.now.name ≡ 0 }
     requires lines { AreLines lines.old.items }
-    ensures text { OnOk result (joined lines.new.items ≡ joined lines.old.items ++ told_lines (method.now, finding.now)) }
+    ensures text { OnOk result (joined lines.new.items ≡ joined lines.old.items ++ found_lines (method.now, finding.now)) }
     ensures lines { OnOk result (AreLines lines.new.items) }
 {
     lines.push(method_line(alloc, method, finding)?)?;
@@ -75,7 +74,7 @@ fn append_findings(
     requires within { All IsWithin found.now }
     requires names { AreNamedPlainly methods.now }
     requires lines { AreLines lines.old.items }
-    ensures text { OnOk result (joined lines.new.items ≡ joined lines.old.items ++ flat_map told_lines (zip methods.now found.now)) }
+    ensures text { OnOk result (joined lines.new.items ≡ joined lines.old.items ++ flat_map found_lines (zip methods.now found.now)) }
     ensures lines { OnOk result (AreLines lines.new.items) }
 {
     for (method, finding) in methods.iter().zip(found.iter()) {
@@ -89,24 +88,24 @@ fn find<D: Finder>(
     alloc: Global,
     units: &mut Units<'_>,
     index: usize,
-    judged: &mut JudgedUnits,
+    cache: &mut VerdictCache,
     finder: &mut D,
 ) -> Result<Finding, AllocError>
     requires there { index < length (methods_of units.old) }
     ensures same { units.new ≡ units.old }
-    ensures value { (method : MethodRow) → slice_get (methods_of units.old) index ≡ Some method → IfOk result (λ found. told found ≡ finding (outcome_of units.old method)) }
+    ensures value { (method : MethodRow) → slice_get (methods_of units.old) index ≡ Some method → IfOk result (λ found. finding_in found ≡ outcome_finding (outcome_of units.old method)) }
     ensures shown { (method : MethodRow) → slice_get (methods_of units.old) index ≡ Some method
-        → IfOk result (λ found. shown_in found ≡ outcome_shown judged.old.show (outcome_of units.old method)) }
-    ensures show { judged.new.show ≡ judged.old.show }
+        → IfOk result (λ found. shown_in found ≡ outcome_shown cache.old.show (outcome_of units.old method)) }
+    ensures show { cache.new.show ≡ cache.old.show }
     ensures within { IfOk result IsWithin }
     ensures runnable { (method : MethodRow) → slice_get (methods_of units.old) index ≡ Some method → IfOk result (λ _. IfAnalysed (outcome_of units.old method) IsUnit) }
-    ensures judged { (method : MethodRow) → slice_get (methods_of units.old) index ≡ Some method
-        → OnOk result (judged.new.keys ≡ judged.old.keys ++ unseen judged.old.keys (outcome_key (outcome_of units.old method))) }
+    ensures keys { (method : MethodRow) → slice_get (methods_of units.old) index ≡ Some method
+        → OnOk result (cache.new.keys ≡ cache.old.keys ++ unseen cache.old.keys (outcome_key (outcome_of units.old method))) }
     ensures asked { (method : MethodRow) → slice_get (methods_of units.old) index ≡ Some method
-        → Asks (unseen judged.old.keys (outcome_key (outcome_of units.old method))) result (D.asked finder.old) (D.asked finder.new) }
+        → Asks (unseen cache.old.keys (outcome_key (outcome_of units.old method))) result (D.asked finder.old) (D.asked finder.new) }
 {
     let outcome = units.outcome(alloc, index)?;
-    Finding::of(alloc, outcome, judged, finder)
+    Finding::of(alloc, outcome, cache, finder)
 }
 
 /// Returns what is found of each method of an assembly, with the text of its invariant where that is shown. Of equal
@@ -117,7 +116,7 @@ pub fn find_all<D: Finder>(
     show: bool,
     finder: &mut D,
 ) -> Result<Vec<Finding>, AllocError>
-    ensures value { IfOk result (λ found. map told found.items ≡ findings (entries_of assembly.now)) }
+    ensures value { IfOk result (λ found. map finding_in found.items ≡ findings (entries_of assembly.now)) }
     ensures shown { IfOk result (λ found. map shown_in found.items ≡ all_shown show (entries_of assembly.now)) }
     ensures within { IfOk result (λ found. All IsWithin found.items) }
     ensures few { IfOk result (λ found. length found.items < 2 ^ 32) }
@@ -125,10 +124,10 @@ pub fn find_all<D: Finder>(
     ensures asked { Asks (units_asked assembly.now) result (D.asked finder.old) (D.asked finder.new) }
 {
     let mut units = Units::of(alloc, assembly)?;
-    let mut judged = JudgedUnits::none(alloc, show);
+    let mut cache = VerdictCache::none(alloc, show);
     let mut found = Vec::new(alloc);
     for index in 0..assembly.methods().len() {
-        found.push(find(alloc, &mut units, index, &mut judged, finder)?)?;
+        found.push(find(alloc, &mut units, index, &mut cache, finder)?)?;
     }
     Ok(found)
 }
@@ -137,7 +136,7 @@ pub fn find_all<D: Finder>(
 pub fn count(found: &[Finding]) -> Counts
     requires within { All IsWithin found.now }
     requires few { length found.now < 2 ^ 32 }
-    ensures value { result ≡ found_counts (map told found.now) }
+    ensures value { result ≡ found_counts (map finding_in found.now) }
     ensures below { AreBelow (2 ^ 62) result }
 {
     let mut counts = Counts::none();
@@ -149,14 +148,14 @@ pub fn count(found: &[Finding]) -> Counts
 
 /// Returns whether each method of which these are found is proved.
 fn are_proved(found: &[Finding]) -> bool
-    ensures { result ≡ list_all (λ finding. is_proved (told finding)) found.now }
+    ensures { result ≡ list_all (λ finding. is_proved (finding_in finding)) found.now }
 {
     found.iter().all(Finding::is_proved)
 }
 
 /// The status of a report with these findings.
 pub fn status_of(found: &[Finding]) -> u8
-    ensures { result ≡ (if list_all (λ finding. is_proved (told finding)) found.now then 0 else 1) }
+    ensures { result ≡ (if list_all (λ finding. is_proved (finding_in finding)) found.now then 0 else 1) }
 {
     if are_proved(found) { 0 } else { 1 }
 }
@@ -172,7 +171,7 @@ fn assembly_line(alloc: Global, name: &[u8]) -> Result<Vec<u8>, AllocError>
 }
 
 /// The lines of the report of an assembly of which these are the findings.
-#[tactic(auto, using(crate::proofs::ReportLines::told_are_entries), unfolding(crate::specs::CheckText::check_text))]
+#[tactic(auto, using(crate::proofs::ReportLines::found_are_entries), unfolding(crate::specs::CheckText::check_text))]
 fn check_lines(
     alloc: Global,
     name: &[u8],
@@ -180,7 +179,7 @@ fn check_lines(
     assembly: &Assembly<'_>,
     found: &[Finding],
 ) -> Result<Vec<Vec<u8>>, AllocError>
-    requires value { map told found.now ≡ findings (entries_of assembly.now) }
+    requires value { map finding_in found.now ≡ findings (entries_of assembly.now) }
     requires shown { map shown_in found.now ≡ all_shown show (entries_of assembly.now) }
     requires within { All IsWithin found.now }
     requires few { length found.now < 2 ^ 32 }

@@ -1,72 +1,82 @@
 //! What is found of the methods of an assembly.
 
 ghost use Rattle.std.specs.Prelude.{◌≡◌, ◌++◌, ◌<◌, ◌≤◌, All, IfOk, OnOk, length};
+ghost use Rattle.assembly_answers.specs.ReasonText.{reason_text};
 ghost use Rattle.check_driver.specs.Asked.{Asks, outcome_key, unseen};
-ghost use Rattle.check_driver.specs.CheckText.{counts_of, finding, is_proved, outcome_shown, verdict_text};
+ghost use Rattle.check_driver.specs.CheckText.{NotAnalysed, counts_of, is_proved, outcome_finding, outcome_shown, verdict_text};
 ghost use Rattle.answer_lines.specs.Counting.{AreBelow};
 ghost use Rattle.method_unit.specs.Units.{IsUnit};
 ghost use Rattle.unit_builder.specs.Outcomes.{IfAnalysed};
-ghost use Rattle.check_driver.specs.Findings.{IsWithin, callees_in, shown_in, told, verdicts_in};
+ghost use Rattle.check_driver.specs.Findings.{IsWithin, callees_in, finding_in, shown_in, verdicts_in};
 
-use crate::analysis::Judged;
-use crate::judged_units::JudgedUnits;
-use crate::reason_text::append_skipped;
+use crate::analysis::JudgedUnit;
+use crate::verdict_cache::VerdictCache;
 use answer_lines::{Counts, proved_text};
+use assembly_answers::append_reason;
 use cil_model::CalleeInfo;
 use invariant_checker::{Verdict, all_proved, proved_count};
 use std::alloc::{AllocError, Global};
 use unit_builder::{Outcome, Reason};
 use widening_engine::Finder;
 
+/// Appends that a method is not analysed for this reason. An error may leave a part of the text.
+fn append_skipped(alloc: Global, text: &mut Vec<u8>, reason: Reason) -> Result<(), AllocError>
+    ensures { OnOk result (text.new.items ≡ text.old.items ++ verdict_text (NotAnalysed (reason_text reason))) }
+{
+    text.extend_from_slice(b"not analysed: ")?;
+    append_reason(alloc, text, reason)?;
+    Ok(())
+}
+
 /// What is found of a method.
 #[derive(Drop)]
 pub enum Finding {
-    /// It is analysed, and this is found of its unit.
-    Judged(Judged),
+    /// It is analysed, and its unit was judged.
+    Judged(JudgedUnit),
     /// It is not analysed for this reason.
     Skipped(Reason),
 }
 
 impl Finding {
-    /// Returns what is found of a method of which this comes. Where its unit is judged it is among those of the call
-    /// from then on.
+    /// Returns what is found of a method of which this comes. Where its unit is judged, the verdicts on it are in the
+    /// cache from then on.
     #[tactic(auto, using(crate::proofs::FoundWithin::within))]
     pub fn of<D: Finder>(
         alloc: Global,
         outcome: Outcome,
-        judged: &mut JudgedUnits,
+        cache: &mut VerdictCache,
         finder: &mut D,
     ) -> Result<Finding, AllocError>
         requires { IfAnalysed outcome IsUnit }
-        ensures value { IfOk result (λ found. told found ≡ finding outcome) }
-        ensures shown { IfOk result (λ found. shown_in found ≡ outcome_shown judged.old.show outcome) }
+        ensures value { IfOk result (λ found. finding_in found ≡ outcome_finding outcome) }
+        ensures shown { IfOk result (λ found. shown_in found ≡ outcome_shown cache.old.show outcome) }
         ensures within { IfOk result IsWithin }
-        ensures show { judged.new.show ≡ judged.old.show }
-        ensures judged { OnOk result (judged.new.keys ≡ judged.old.keys ++ unseen judged.old.keys (outcome_key outcome)) }
-        ensures asked { Asks (unseen judged.old.keys (outcome_key outcome)) result (D.asked finder.old) (D.asked finder.new) }
+        ensures show { cache.new.show ≡ cache.old.show }
+        ensures keys { OnOk result (cache.new.keys ≡ cache.old.keys ++ unseen cache.old.keys (outcome_key outcome)) }
+        ensures asked { Asks (unseen cache.old.keys (outcome_key outcome)) result (D.asked finder.old) (D.asked finder.new) }
     {
         match outcome {
             Outcome::Skipped(reason) => Ok(Finding::Skipped(reason)),
-            Outcome::Analysed(unit) => Ok(Finding::Judged(judged.judge(alloc, unit, finder)?)),
+            Outcome::Analysed(unit) => Ok(Finding::Judged(cache.judge(alloc, unit, finder)?)),
         }
     }
 
     /// The verdicts. A method that is not analysed has none.
     pub fn verdicts(&self) -> &[Verdict]
-        ensures { result.now ≡ verdicts_in (told self.now) }
+        ensures { result.now ≡ verdicts_in (finding_in self.now) }
     {
         match self {
-            Finding::Judged(found) => &found.judgement.verdicts,
+            Finding::Judged(unit) => &unit.found.verdicts,
             Finding::Skipped(_) => &[],
         }
     }
 
     /// What the method's unit knows of those that it calls. Of a method that is not analysed that is nothing.
     pub fn callees(&self) -> &[CalleeInfo]
-        ensures { result.now ≡ callees_in (told self.now) }
+        ensures { result.now ≡ callees_in (finding_in self.now) }
     {
         match self {
-            Finding::Judged(found) => found.callees.as_slice(),
+            Finding::Judged(unit) => unit.callees.as_slice(),
             Finding::Skipped(_) => &[],
         }
     }
@@ -76,17 +86,17 @@ impl Finding {
         ensures { result.now ≡ shown_in self.now }
     {
         match self {
-            Finding::Judged(found) => &found.judgement.shown,
+            Finding::Judged(unit) => &unit.found.shown,
             Finding::Skipped(_) => &[],
         }
     }
 
     /// Returns whether the method is proved.
     pub fn is_proved(&self) -> bool
-        ensures { result ≡ is_proved (told self.now) }
+        ensures { result ≡ is_proved (finding_in self.now) }
     {
         match self {
-            Finding::Judged(found) => all_proved(&found.judgement.verdicts),
+            Finding::Judged(unit) => all_proved(&unit.found.verdicts),
             Finding::Skipped(_) => false,
         }
     }
@@ -94,7 +104,7 @@ impl Finding {
     /// Returns what the method adds to the counts of a report.
     pub fn counts(&self) -> Counts
         requires { IsWithin self.now }
-        ensures counts { result ≡ counts_of (told self.now) }
+        ensures counts { result ≡ counts_of (finding_in self.now) }
         ensures small { AreBelow 65537 result }
     {
         let found = self.verdicts();
@@ -112,12 +122,12 @@ impl Finding {
 
     /// Appends what the method's line says of it.
     pub fn append_text(&self, alloc: Global, line: &mut Vec<u8>) -> Result<(), AllocError>
-        ensures { OnOk result (line.new.items ≡ line.old.items ++ verdict_text (told self.now)) }
+        ensures { OnOk result (line.new.items ≡ line.old.items ++ verdict_text (finding_in self.now)) }
     {
         match self {
-            Finding::Judged(found) => line.extend_from_slice(proved_text(all_proved(
-                &found.judgement.verdicts,
-            ))),
+            Finding::Judged(unit) => {
+                line.extend_from_slice(proved_text(all_proved(&unit.found.verdicts)))
+            }
             Finding::Skipped(reason) => append_skipped(alloc, line, *reason),
         }
     }

@@ -3,20 +3,14 @@
 
 mod analysis;
 mod check_answer;
-mod fault_text;
 mod finding;
 mod gen_answer;
-mod il_answer;
-mod judged_units;
-mod judgement;
-mod list_answer;
 mod program;
 mod reading;
-mod reason_text;
-mod run_answer;
-mod text_lines;
 mod unit_answer;
 mod unit_report;
+mod unit_verdicts;
+mod verdict_cache;
 
 pub use answer_lines::NO_MEMORY;
 pub use check_answer::report;

@@ -12,7 +12,8 @@ ghost use Rattle.cc_base.specs.Sink.{AppendsFront};
 ghost use Rattle.check_driver.specs.Asked.{AnswerAsks, Asks, LeavesAsked, asked_by, bytes_asked, files_asked};
 ghost use Rattle.cil_model.specs.Runs.{Safe};
 ghost use Rattle.check_driver.specs.Checked.{IfCheck, IsHeldReportable, IsReportable, IsSafeMethod};
-ghost use Rattle.check_driver.specs.Expected.{bytes_answer, expected, file_at, files_answer, run_file_answer};
+ghost use Rattle.assembly_answers.specs.Answers.{run_file_answer};
+ghost use Rattle.check_driver.specs.Expected.{bytes_answer, expected, file_at, files_answer};
 ghost use Rattle.check_driver.specs.Met.{AreUnder, bytes_read};
 ghost use Rattle.answer_lines.specs.Outcome.{Gives, GivesOrUnread, Leaves, last_line, status_of};
 ghost use Rattle.check_driver.specs.Headline.{IsAssemblyOf, TellAllProved, WasAppended};
@@ -25,14 +26,12 @@ ghost use Rattle.unit_builder.specs.WorldOf.{world_of};
 
 use crate::check_answer::answer_check;
 use crate::gen_answer::answer_gen;
-use crate::il_answer::answer_il;
-use crate::list_answer::answer_list;
 use crate::reading::{Unread, read_files};
-use crate::run_answer::{RunGiven, answer_run};
 use crate::unit_answer::answer_unit_file;
 use answer_lines::{
     Interrupt, NO_MEMORY, UNWRITTEN, USAGE, answer_error, answer_missing, answer_unread,
 };
+use assembly_answers::{RunGiven, answer_il, answer_list, answer_run};
 use cc_base::{Files, Sink};
 use command_words::{Command, RunWords, parse_words, word_at};
 use std::alloc::Global;

@@ -17,9 +17,9 @@ ghost use Rattle.method_unit.specs.Units.{IsUnit};
 ghost use Rattle.unit_form.specs.Spelling.{unit_bytes};
 
 use crate::analysis::{find_flow, judge_flow};
-use crate::fault_text::unit_fault_text;
 use crate::unit_report::report_lines;
 use answer_lines::{Interrupt, answer_refused, put_lines};
+use assembly_answers::unit_fault_text;
 use cc_base::{READ_LIMIT, Sink};
 use cil_model::MAX_FILE_BYTES;
 use invariant_checker::all_proved;

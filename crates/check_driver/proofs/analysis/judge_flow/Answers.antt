@@ -1,7 +1,7 @@
 use Rattle.std.proofs.Common.{subst, sym}
 use Rattle.unit_flow.specs.Flow.{IsLawful}
 use Rattle.check_driver.proofs.Asking.{asks_all}
-use Rattle.check_driver.proofs.UnitVerdicts.{found_of, lawful_flow}
+use Rattle.check_driver.proofs.UnitSafety.{found_of, lawful_flow}
 use Rattle.check_driver.proofs.analysis.judge_flow.Goals as goal
 
 pub find-requires : goal.find-requires

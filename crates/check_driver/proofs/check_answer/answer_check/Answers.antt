@@ -2,9 +2,9 @@ use Rattle.std.proofs.Common.{◌≡◌, Some, refl}
 use Rattle.asm_image.specs.Faults.{FirstBroken}
 use Rattle.check_driver.specs.CheckText.{check_text}
 use Rattle.answer_lines.specs.Answers.{refused_line}
-use Rattle.check_driver.specs.FaultText.{assembly_fault_text}
+use Rattle.assembly_answers.specs.FaultText.{assembly_fault_text}
 use Rattle.answer_lines.proofs.Writings.{gives_error, gives_output}
-use Rattle.check_driver.proofs.FaultCounts.{assembly_fault_plain}
+use Rattle.assembly_answers.proofs.PlainFaults.{assembly_fault_plain}
 use Rattle.check_driver.proofs.check_answer.answer_check.Goals as goal
 
 pub answer_refused-requires : goal.answer_refused-requires

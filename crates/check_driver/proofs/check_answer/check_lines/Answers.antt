@@ -1,5 +1,7 @@
 use Rattle.std.proofs.Common.{[], ◌∷◌, ◌++◌, ap, ◌∙◌}
-use Rattle.check_driver.proofs.CountedTexts.{assembly_is_line, lines_more, methods_plain, no_lines, summary_is_one}
+use Rattle.check_driver.proofs.CountedTexts.{assembly_is_line}
+use Rattle.answer_lines.proofs.SingleLines.{lines_more, no_lines, summary_is_line}
+use Rattle.assembly_answers.proofs.PlainTexts.{methods_plain}
 use Rattle.check_driver.proofs.ReportLines.{report_of}
 use Rattle.check_driver.proofs.check_answer.check_lines.Goals as goal
 
@@ -25,4 +27,4 @@ append_findings-requires-clause-lines c =
 pub returns-clause-lines : goal.returns-clause-lines
 returns-clause-lines c =
     lines_more c.append_findings.new.lines.items _ c.in_ok-summary_line.field-0 c.in_ok-append_findings.ensures.lines
-    (rw c.in_ok-summary_line.ensures (summary_is_one _)) c.in_ok-push-2.ensures.items
+    (rw c.in_ok-summary_line.ensures (summary_is_line _)) c.in_ok-push-2.ensures.items

@@ -28,7 +28,7 @@ loop-index-preserved g c =
     let below : n < length (methods_of asm) = rw (← c.methods-index-end.ensures.methods) c.loop-index-test.true in
     let method = there (methods_of asm) n below in
     let at = method.1 in
-    let judged = (rw same at c.in_ok-find.ensures.judged) method.0 at in
+    let keys = (rw same at c.in_ok-find.ensures.keys) method.0 at in
     record {
       same = c.find.ensures.same ∙ same;
       end = c.loop-index.invariant.end;
@@ -39,8 +39,8 @@ loop-index-preserved g c =
       within = rw c.in_ok-push.ensures.items (All-push IsWithin c.loop-index.found.items c.in_ok-find.field-0 c.loop-index.invariant.within c.in_ok-find.ensures.within);
       known = known_next asm (methods_of asm) n method.0 method.2 c.loop-index.invariant.known ((rw same at c.in_ok-find.ensures.runnable) method.0 at);
       asks = c.find.ensures.show ∙ c.loop-index.invariant.asks;
-      judged = judged_next asm (methods_of asm) n method.0 c.loop-index.judged.keys c.find.new.judged.keys method.2 c.loop-index.invariant.judged judged;
-      asked = asked_next (g.D.Finder.asked c.args.finder.now) c.loop-index.judged.keys _ _ _ _ c.loop-index.invariant.asked (Asks.whole ((rw same at c.in_ok-find.ensures.asked) method.0 at)) judged;
+      keys = judged_next asm (methods_of asm) n method.0 c.loop-index.cache.keys c.find.new.cache.keys method.2 c.loop-index.invariant.keys keys;
+      asked = asked_next (g.D.Finder.asked c.args.finder.now) c.loop-index.cache.keys _ _ _ _ c.loop-index.invariant.asked (Asks.whole ((rw same at c.in_ok-find.ensures.asked) method.0 at)) keys;
     }
 
 pub returns-clause-value : goal.returns-clause-value
@@ -84,7 +84,7 @@ returns-in_err-find-clause-asked g c =
     let p = err_from_is_err_and c.from_residual-in_err-find.result c.from_residual-in_err-find.ensures.1 in
     let front = Asks.front ((rw same at c.in_err-find.ensures.asked) method.0 method.1) in
     asks_front (units_asked asm) c.from_residual-in_err-find.result p.0 _ _ p.1
-    (front_at_next asm (methods_of asm) n method.0 c.loop-index.judged.keys _ _ _ method.2 c.loop-index.invariant.judged c.loop-index.invariant.asked front)
+    (front_at_next asm (methods_of asm) n method.0 c.loop-index.cache.keys _ _ _ method.2 c.loop-index.invariant.keys c.loop-index.invariant.asked front)
 
 pub returns-in_err-push-clause-asked : goal.returns-in_err-push-clause-asked
 unfolding units_asked entries_of
@@ -96,11 +96,11 @@ returns-in_err-push-clause-asked g c =
     let method = there (methods_of asm) n below in
     let p = err_from_is_err_and c.from_residual-in_err-push.result c.from_residual-in_err-push.ensures.1 in
     let old = g.D.Finder.asked c.args.finder.now in
-    let adds = (rw same at c.in_ok-find.ensures.judged) method.0 method.1 in
-    let judged = judged_next asm (methods_of asm) n method.0 c.loop-index.judged.keys c.find.new.judged.keys method.2 c.loop-index.invariant.judged adds in
-    let asked = asked_next old c.loop-index.judged.keys _ _ _ _ c.loop-index.invariant.asked (Asks.whole ((rw same at c.in_ok-find.ensures.asked) method.0 method.1)) adds in
+    let adds = (rw same at c.in_ok-find.ensures.keys) method.0 method.1 in
+    let keys = judged_next asm (methods_of asm) n method.0 c.loop-index.cache.keys c.find.new.cache.keys method.2 c.loop-index.invariant.keys adds in
+    let asked = asked_next old c.loop-index.cache.keys _ _ _ _ c.loop-index.invariant.asked (Asks.whole ((rw same at c.in_ok-find.ensures.asked) method.0 method.1)) adds in
     asks_front (units_asked asm) c.from_residual-in_err-push.result p.0 _ _ p.1
-    (front_of_whole asm (methods_of asm) (n + 1) old _ (front_all (distinct (keys_of asm (take (n + 1) (methods_of asm)))) old _ (asked ∙ ap (λ (l : List (List ℕ)). old ++ l) judged)))
+    (front_of_whole asm (methods_of asm) (n + 1) old _ (front_all (distinct (keys_of asm (take (n + 1) (methods_of asm)))) old _ (asked ∙ ap (λ (l : List (List ℕ)). old ++ l) keys)))
 
 pub returns-clause-asked : goal.returns-clause-asked
 unfolding units_asked entries_of
@@ -108,5 +108,5 @@ returns-clause-asked g c =
     let asm = c.args.assembly.now in
     let old = g.D.Finder.asked c.args.finder.now in
     let long : length (methods_of asm) ≤ c.loop-index.index = rw (← c.methods-index-end.ensures.methods) c.loop-index-test.false in
-    let judged : c.loop-index.judged.keys ≡ units_asked asm = c.loop-index.invariant.judged ∙ ap (λ methods. distinct (keys_of asm methods)) (all_taken (methods_of asm) c.loop-index.index long) in
-    asks_all (units_asked asm) _ old _ (c.loop-index.invariant.asked ∙ ap (λ (l : List (List ℕ)). old ++ l) judged)
+    let keys : c.loop-index.cache.keys ≡ units_asked asm = c.loop-index.invariant.keys ∙ ap (λ methods. distinct (keys_of asm methods)) (all_taken (methods_of asm) c.loop-index.index long) in
+    asks_all (units_asked asm) _ old _ (c.loop-index.invariant.asked ∙ ap (λ (l : List (List ℕ)). old ++ l) keys)

@@ -4,7 +4,7 @@ use Rattle.asm_image.specs.Rows.{methods_of}
 use Rattle.unit_builder.specs.Outcomes.{entry_of}
 use Rattle.check_driver.specs.Asked.{distinct}
 use Rattle.check_driver.specs.CheckText.{all_shown, findings}
-use Rattle.check_driver.specs.Findings.{IsWithin, shown_in, told}
+use Rattle.check_driver.specs.Findings.{IsWithin, shown_in, finding_in}
 use Rattle.check_driver.proofs.FindAll.{AreKnown}
 use Rattle.check_driver.proofs.KeysAsked.{keys_of}
 use Rattle.check_driver.proofs.check_answer.find_all.Given as goal
@@ -13,11 +13,11 @@ abbrev pub invariant-loop-index : goal.invariant-loop-index
 invariant-loop-index g l = record {
   same : l.units ≡ l.assembly;
   end : l.index-end ≡ length (methods_of l.assembly);
-  value : map told l.found.items ≡ findings (map (entry_of l.assembly) (take l.index (methods_of l.assembly)));
+  value : map finding_in l.found.items ≡ findings (map (entry_of l.assembly) (take l.index (methods_of l.assembly)));
   shown : map shown_in l.found.items ≡ all_shown l.show (map (entry_of l.assembly) (take l.index (methods_of l.assembly)));
   within : All IsWithin l.found.items;
   known : AreKnown l.assembly (take l.index (methods_of l.assembly));
-  asks : l.judged.show ≡ l.show;
-  judged : l.judged.keys ≡ distinct (keys_of l.assembly (take l.index (methods_of l.assembly)));
-  asked : g.D.Finder.asked l.finder ≡ g.D.Finder.asked l.initial.finder ++ l.judged.keys;
+  asks : l.cache.show ≡ l.show;
+  keys : l.cache.keys ≡ distinct (keys_of l.assembly (take l.index (methods_of l.assembly)));
+  asked : g.D.Finder.asked l.finder ≡ g.D.Finder.asked l.initial.finder ++ l.cache.keys;
 }

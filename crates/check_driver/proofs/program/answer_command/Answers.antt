@@ -4,12 +4,12 @@ use Rattle.answer_lines.specs.Answers.{missing_line, unread_line}
 use Rattle.check_driver.specs.Asked.{files_asked}
 use Rattle.check_driver.specs.Expected.{files_answer}
 use Rattle.command_words.specs.Words.{file_indexes, word_at, words_bytes}
-use Rattle.check_driver.proofs.Answering.{gives_no_memory, read_answer, read_asked, missing_answer, missing_asked, gives_unread}
+use Rattle.answer_lines.proofs.Writings.{gives_no_memory, gives_error}
+use Rattle.check_driver.proofs.Answering.{read_answer, read_asked, missing_answer, missing_asked, gives_unread}
 use Rattle.check_driver.proofs.Asking.{answer_asks, answer_asks_none, unasked, unread_asks}
-use Rattle.check_driver.proofs.Plain.{never_missing}
+use Rattle.check_driver.proofs.Statuses.{never_missing}
 use Rattle.check_driver.proofs.Reportable.{held_reportable}
 use Rattle.check_driver.proofs.SpelledUnits.{held_spelled}
-use Rattle.answer_lines.proofs.Writings.{gives_error}
 use Rattle.check_driver.proofs.program.answer_command.Goals as goal
 
 pub returns-in-Ok-clause-answer : goal.returns-in-Ok-clause-answer

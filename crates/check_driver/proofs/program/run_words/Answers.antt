@@ -4,9 +4,9 @@ use Rattle.check_driver.specs.Expected.{expected}
 use Rattle.command_words.specs.Words.{file_names, words_bytes}
 use Rattle.answer_lines.specs.Writing.{change_of}
 use Rattle.check_driver.proofs.Asking.{leaves_asked}
-use Rattle.check_driver.proofs.Causes.{unread_cause, unwritten_cause, usage_only}
-use Rattle.check_driver.proofs.Leaving.{front_given, leaves}
-use Rattle.check_driver.proofs.Plain.{plain_expected}
+use Rattle.answer_lines.proofs.Causes.{unread_cause, unwritten_cause}
+use Rattle.check_driver.proofs.Statuses.{usage_only, plain_expected}
+use Rattle.answer_lines.proofs.Leaving.{front_given, leaves}
 use Rattle.check_driver.proofs.HeadlineSafety.{headline_safe, section_safe}
 use Rattle.check_driver.proofs.ProvedUnits.{proved_unit_is_safe}
 use Rattle.check_driver.proofs.program.run_words.Goals as goal

@@ -1,11 +1,11 @@
 use Rattle.std.proofs.Common.{◌≡◌, Some, inr}
 use Rattle.answer_lines.specs.Answers.{refused_line}
-use Rattle.check_driver.specs.FaultText.{unit_fault_text}
+use Rattle.assembly_answers.specs.FaultText.{unit_fault_text}
 use Rattle.method_unit.specs.Faults.{fault_at}
 use Rattle.method_unit.specs.UnitFile.{first_unit_fault}
 use Rattle.answer_lines.proofs.Writings.{gives_error}
 use Rattle.check_driver.proofs.SpelledUnits.{are_spelled}
-use Rattle.check_driver.proofs.FaultCounts.{unit_fault_plain}
+use Rattle.assembly_answers.proofs.PlainFaults.{unit_fault_plain}
 use Rattle.check_driver.proofs.unit_answer.answer_unit.Goals as goal
 
 pub answer_refused-requires : goal.answer_refused-requires

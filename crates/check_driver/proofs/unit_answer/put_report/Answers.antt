@@ -3,7 +3,7 @@ use Rattle.std.proofs.lemmas.Result.{err_from_is_err_and}
 use Rattle.answer_lines.specs.Writing.{joined}
 use Rattle.method_unit.specs.Units.{IsUnit}
 use Rattle.check_driver.specs.ReportText.{unit_report}
-use Rattle.check_driver.proofs.Answering.{written_whole}
+use Rattle.answer_lines.proofs.Writings.{written_whole}
 use Rattle.check_driver.proofs.Asking.{asks_nothing}
 use Rattle.check_driver.proofs.unit_answer.put_report.Goals as goal
 

@@ -1,6 +1,7 @@
 use Rattle.std.proofs.Common.{arith}
 use Rattle.std.proofs.lemmas.Grind.{common_steps}
-use Rattle.check_driver.proofs.CountedTexts.{lines_more, verdict_is_line}
+use Rattle.answer_lines.proofs.SingleLines.{lines_more}
+use Rattle.check_driver.proofs.CountedTexts.{verdict_is_line}
 use Rattle.check_driver.proofs.unit_report.append_verdict_lines.Goals as goal
 
 pub loop-verdict-preserved : goal.loop-verdict-preserved

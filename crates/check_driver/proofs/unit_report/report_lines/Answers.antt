@@ -1,4 +1,4 @@
-use Rattle.check_driver.proofs.CountedTexts.{lines_more, no_lines, summary_is_one, unit_is_line}
+use Rattle.answer_lines.proofs.SingleLines.{lines_more, no_lines, summary_is_line, unit_is_line}
 use Rattle.check_driver.proofs.unit_report.report_lines.Goals as goal
 
 pub append_verdict_lines-requires-clause-lines : goal.append_verdict_lines-requires-clause-lines
@@ -9,4 +9,4 @@ append_verdict_lines-requires-clause-lines c =
 pub returns-clause-lines : goal.returns-clause-lines
 returns-clause-lines c =
     lines_more c.append_verdict_lines.new.lines.items _ c.in_ok-summary_line.field-0 c.in_ok-append_verdict_lines.ensures.lines
-    (rw c.in_ok-summary_line.ensures (summary_is_one _)) c.in_ok-push-2.ensures.items
+    (rw c.in_ok-summary_line.ensures (summary_is_line _)) c.in_ok-push-2.ensures.items

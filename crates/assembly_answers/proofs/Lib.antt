@@ -1,0 +1,9 @@
+pub mod PlainTexts
+pub mod PlainReasons
+pub mod PlainFaults
+pub mod CountedIl
+pub mod CountedRuns
+pub mod Listing
+pub mod Runnable
+pub mod Statuses
+pub mod CutFiles

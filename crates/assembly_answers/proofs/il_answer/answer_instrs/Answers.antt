@@ -1,0 +1,15 @@
+use Rattle.std.proofs.Common.{refl, codes}
+use Rattle.answer_lines.specs.LineCounts.{line_count}
+use Rattle.answer_lines.specs.Answers.{misfit_line}
+use Rattle.answer_lines.proofs.Writings.{gives_error}
+use Rattle.assembly_answers.proofs.il_answer.answer_instrs.Goals as goal
+
+pub answer_misfit-requires : goal.answer_misfit-requires
+unfolding line_count
+answer_misfit-requires g c = refl
+
+pub returns-in-None : goal.returns-in-None
+returns-in-None g c =
+    rw c.in-None.is
+    (gives_error 11 (misfit_line (codes "not analysed")) c.answer_misfit.result (g.O.Sink.written c.args.out.now) (g.O.Sink.puts c.args.out.now) (g.O.Sink.faults c.args.out.now) _
+    c.answer_misfit.ensures.status c.answer_misfit.ensures.written)

@@ -1,0 +1,5 @@
+pub mod FaultText
+pub mod ReasonText
+pub mod ListText
+pub mod IlText
+pub mod Answers

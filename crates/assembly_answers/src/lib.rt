@@ -1,0 +1,15 @@
+//! What is told of an assembly without an analysis: the answers to `list`, `il` and `run`, the words of the faults of
+//! files, and those of the reasons why methods are not analysed.
+#![tactic(auto)]
+
+mod fault_text;
+mod il_answer;
+mod list_answer;
+mod reason_text;
+mod run_answer;
+
+pub use fault_text::{assembly_fault_text, unit_fault_text};
+pub use il_answer::answer_il;
+pub use list_answer::answer_list;
+pub use reason_text::append_reason;
+pub use run_answer::{RunGiven, answer_run};

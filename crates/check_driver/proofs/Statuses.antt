@@ -1,0 +1,94 @@
+-- No answer has a status that tells an interruption, and only words that are no command are answered by the usage.
+use Rattle.std.proofs.Common.{◌≡◌, ◌≢◌, ℕ, Bool, true, false, List, Option, Some, None, Result, Ok, Err, if◌then◌else◌, nat_le, length, refl, sym, ◌∙◌, inl, inr, arith}
+use Rattle.std.specs.Prelude.{IfOk}
+use Rattle.asm_image.specs.Faults.{FirstBroken}
+use Rattle.asm_image.specs.declared.fault.AsmFault.{AsmFault}
+use Rattle.cc_base.specs.Files.{READ_LIMIT}
+use Rattle.command_words.specs.Words.{args_told, command_of, file_indexes, word_at, words_at}
+use Rattle.command_words.specs.declared.command.Command.{Command}
+use Rattle.command_words.specs.declared.command.Command.TheVariants as commands
+use Rattle.method_unit.specs.UnitFile.{first_unit_fault, unit_of}
+use Rattle.method_unit.specs.declared.unit_fault.UnitFault.{UnitFault}
+use Rattle.written_assemblies.specs.GeneratedFiles.{generated_file}
+use Rattle.invariant_checker.specs.Counts.{all_proved}
+use Rattle.answer_lines.specs.Answers.{Answer}
+use Rattle.answer_lines.specs.Outcome.{GivesOrUnread, status_of}
+use Rattle.answer_lines.specs.Writing.{Change}
+use Rattle.answer_lines.specs.declared.interrupt.Interrupt.{Interrupt}
+use Rattle.answer_lines.specs.declared.interrupt.Interrupt.TheVariants as interrupts
+use Rattle.answer_lines.proofs.Leaving.{IsUninterrupted}
+use Rattle.assembly_answers.proofs.Statuses.{IsOfBytes, of_few, of_il, of_list, of_refused, of_run_file, plain_below}
+use Rattle.check_driver.specs.Analysis.{unit_verdicts}
+use Rattle.check_driver.specs.CheckText.{all_methods_proved}
+use Rattle.check_driver.specs.Expected.{bytes_answer, check_answer, command_answer, expected, file_at, missing_or, unit_answer, unit_file_answer}
+use Rattle.check_driver.specs.Met.{contents, first_missing}
+
+of_report : (proved : Bool) → IsOfBytes (if proved then 0 else 1)
+of_report true = of_few 0 (omega arith)
+of_report false = of_few 1 (omega arith)
+
+of_unit : (name bytes : List ℕ) (fault : Option UnitFault) → IsOfBytes (unit_answer name bytes fault).status
+of_unit name bytes None = of_report (all_proved (unit_verdicts (unit_of bytes)))
+of_unit name bytes (Some fault) = of_refused
+
+of_either : (large : Bool) (refused answer : Answer) → IsOfBytes refused.status → IsOfBytes answer.status
+    → IsOfBytes (Answer.status (if large then refused else answer))
+of_either true refused answer r a = r
+of_either false refused answer r a = a
+
+of_unit_file : (name bytes : List ℕ) → IsOfBytes (unit_file_answer name bytes).status
+of_unit_file name bytes =
+    of_either (nat_le READ_LIMIT (length bytes)) _ (unit_answer name bytes (first_unit_fault bytes)) of_refused (of_unit name bytes (first_unit_fault bytes))
+
+of_check : (name : List ℕ) (show : Bool) (bytes : List ℕ) (fault : Option AsmFault) → IsOfBytes (check_answer name show bytes fault).status
+of_check name show bytes None = of_report (all_methods_proved bytes)
+of_check name show bytes (Some fault) = of_refused
+
+of_bytes : (command : Command) (words files : List (List ℕ)) → IsOfBytes (bytes_answer command words files).status
+of_bytes (commands.Unit file) words files = of_unit_file (word_at words file) (file_at files 0)
+of_bytes (commands.List file) words files = of_list (word_at words file) (file_at files 0) (FirstBroken (file_at files 0))
+of_bytes (commands.Il file method) words files = of_il (word_at words file) (word_at words method) (file_at files 0) (FirstBroken (file_at files 0))
+of_bytes (commands.Check file show) words files = of_check (word_at words file) show (file_at files 0) (FirstBroken (file_at files 0))
+of_bytes (commands.Run run) words files =
+    of_run_file (word_at words run.file) (word_at words run.method) (args_told run words) run.steps (file_at files 0) (FirstBroken (file_at files 0))
+of_bytes (commands.Gen seed count) words files = of_report (all_methods_proved (generated_file seed count))
+
+plain_missing : (missing : Option (List ℕ)) (answer : Answer) → IsUninterrupted answer.status → IsUninterrupted (missing_or missing answer).status
+plain_missing None answer plain = plain
+plain_missing (Some name) answer plain = plain_below 3 (omega arith)
+
+plain_command : (words : List (List ℕ)) (met : List (Option (List ℕ))) (command : Option Command) → IsUninterrupted (command_answer words met command).status
+plain_command words met None = plain_below 2 (omega arith)
+plain_command words met (Some command) =
+    plain_missing (first_missing (words_at words (file_indexes command)) met) (bytes_answer command words (contents met)) (of_bytes command words (contents met)).plain
+
+pub plain_expected : (words : List (List ℕ)) (met : List (Option (List ℕ))) → IsUninterrupted (expected words met).status
+plain_expected words met = plain_command words met (command_of words)
+
+-- ---- what a status tells
+
+-- An answer to bytes never tells a file to be missing.
+pub never_missing : (command : Command) (words files : List (List ℕ)) (r : Result ℕ Interrupt) (P : Type 0) → IfOk r (λ status. status ≡ (bytes_answer command words files).status)
+    → IfOk r (λ status. status ≡ 3 → P)
+never_missing command words files (Ok status) P is = λ e. absurd ((of_bytes command words files).missing (sym is ∙ e))
+never_missing command words files (Err e) P is = tt
+
+missing_usage : (missing : Option (List ℕ)) (answer : Answer) → IsOfBytes answer.status → (missing_or missing answer).status ≢ 2
+missing_usage None answer of = of.usage
+missing_usage (Some name) answer of = λ e. omega (arith, e)
+
+-- Only words that are no command are answered by the usage.
+command_usage : (words : List (List ℕ)) (met : List (Option (List ℕ))) (command : Option Command) → (command_answer words met command).status ≡ 2 → command ≡ None
+command_usage words met None e = refl
+command_usage words met (Some command) e =
+    absurd (missing_usage (first_missing (words_at words (file_indexes command)) met) (bytes_answer command words (contents met)) (of_bytes command words (contents met)) e)
+
+pub expected_usage : (words : List (List ℕ)) (met : List (Option (List ℕ))) → (expected words met).status ≡ 2 → command_of words ≡ None
+expected_usage words met e = command_usage words met (command_of words) e
+
+pub usage_only : (words : List (List ℕ)) (met : List (Option (List ℕ))) (names : List (List ℕ)) (failed : Type 0) (r : Result ℕ Interrupt) (out err : Change)
+    → GivesOrUnread (expected words met) names failed r out err → status_of r ≡ 2 → command_of words ≡ None
+usage_only words met names failed (Ok status) out err (inl g) e = expected_usage words met (sym g.status ∙ e)
+usage_only words met names failed (Ok status) out err (inr (f, (k, name, lt, at, g))) e = absurd (omega (arith, g.status, e))
+usage_only words met names failed (Err interrupts.CannotWrite) out err g e = absurd (omega (arith, e))
+usage_only words met names failed (Err interrupts.NoMemory) out err g e = absurd (omega (arith, e))

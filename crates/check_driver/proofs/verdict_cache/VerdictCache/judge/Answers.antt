@@ -1,0 +1,41 @@
+use Rattle.std.proofs.Common.{◌≡◌, true, refl, sym, ap, subst}
+use Rattle.std.proofs.lemmas.Result.{err_from_is_err_and}
+use Rattle.unit_form.specs.Spelling.{unit_bytes}
+use Rattle.check_driver.specs.Asked.{is_among}
+use Rattle.check_driver.specs.Findings.{AreVerdictsOf}
+use Rattle.check_driver.specs.VerdictCache.{CachedUnits}
+use Rattle.check_driver.proofs.Asking.{asks_none, asks_nothing}
+use Rattle.check_driver.proofs.UnitSafety.{found_again, found_copied, found_noted}
+use Rattle.check_driver.proofs.verdict_cache.VerdictCache.judge.Goals as goal
+
+pub returns-in_err-key-clause-asked : goal.returns-in_err-key-clause-asked
+returns-in_err-key-clause-asked g c =
+    let p = err_from_is_err_and c.from_residual.result c.from_residual.ensures.1 in
+    asks_nothing _ c.from_residual.result p.0 _ _ p.1 refl
+
+pub returns-in_err-found-clause-asked : goal.returns-in_err-found-clause-asked
+returns-in_err-found-clause-asked g c =
+    let p = err_from_is_err_and c.from_residual-in_err-found.result c.from_residual-in_err-found.ensures.1 in
+    asks_nothing _ c.from_residual-in_err-found.result p.0 _ _ p.1 refl
+
+pub returns-in-Some-clause-value : goal.returns-in-Some-clause-value
+returns-in-Some-clause-value g c =
+    let are = rw (c.deref.ensures.value, c.in_ok-key.ensures, c.unit-2.ensures) at c.in-Some.ensures.value in
+    found_copied c.args.self.now.show c.args.unit c.in-Some.known.now _ c.in_ok-found.ensures.verdicts c.in_ok-found.ensures.shown
+    (found_again c.args.self.now.show c.args.unit c.in-Some.known.now c.requires are)
+
+pub returns-in-Some-clause-asked : goal.returns-in-Some-clause-asked
+returns-in-Some-clause-asked g c =
+    let known : is_among c.args.self.now.keys (unit_bytes c.args.unit) ≡ true = sym (rw (c.deref.ensures.value, c.in_ok-key.ensures, c.unit-2.ensures) at c.in-Some.ensures.there) in
+    rw known (asks_none _ _ _ refl)
+
+pub note-requires-clause-verdicts : goal.note-requires-clause-verdicts
+note-requires-clause-verdicts g c =
+    let own = subst (λ show. AreVerdictsOf show c.args.unit c.in_ok-judged.judged.found) (ap (λ (cached : CachedUnits). cached.show) c.self.view_is) c.in_ok-judged.ensures.value in
+    rw (c.in_ok-key.ensures, c.unit-2.ensures)
+    (found_noted c.args.self.now.show c.args.unit _ c.requires
+    (found_copied c.args.self.now.show c.args.unit c.in_ok-judged.judged.found _ c.in_ok-noted.ensures.verdicts c.in_ok-noted.ensures.shown own))
+
+pub returns-clause-value : goal.returns-clause-value
+returns-clause-value g c =
+    subst (λ show. AreVerdictsOf show c.args.unit c.in_ok-judged.judged.found) (ap (λ (cached : CachedUnits). cached.show) c.self.view_is) c.in_ok-judged.ensures.value
