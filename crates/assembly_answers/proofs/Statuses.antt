@@ -1,5 +1,5 @@
 -- The statuses of the answers to `list`, `il` and `run`.
-use Rattle.std.proofs.Common.{◌≡◌, ◌≢◌, ℕ, ◌<◌, ◌≤◌, slice_get, List, Option, Some, None, arith}
+use Rattle.std.proofs.Common.{◌≢◌, ℕ, ◌<◌, ◌≤◌, slice_get, List, Option, Some, None, arith}
 use Rattle.std.specs.Option.{option_and_then}
 use Rattle.asm_image.specs.Bodies.{method_of}
 use Rattle.asm_image.specs.Find.{find_of}
