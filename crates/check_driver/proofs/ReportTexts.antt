@@ -1,5 +1,5 @@
 -- No text of a report's lines has a line feed.
-use Rattle.std.proofs.Common.{◌≡◌, ℕ, true, List, [], ◌∷◌, ◌++◌, map, refl, codes}
+use Rattle.std.proofs.Common.{◌≡◌, ℕ, Bool, true, List, [], ◌∷◌, ◌++◌, map, refl, codes}
 use Rattle.std.specs.List.{AllByRecursion, flat_map}
 use Rattle.asm_image.specs.Names.{printed_name}
 use Rattle.asm_image.specs.Rows.{method_row}

@@ -21,9 +21,9 @@ use Rattle.answer_lines.proofs.WholeLines.{IsOneLine, as_lines}
 
 -- A text that passes the test of invariant_text is one line.
 one_line : (text : List ℕ) → NoFeed text → IsOneLine text
-one_line [] none = tt
-one_line (b ∷ text) none =
-    let both = and_parts (not (b == 10)) (has_no_feed text) none in
+one_line [] plain = tt
+one_line (b ∷ text) plain =
+    let both = and_parts (not (b == 10)) (has_no_feed text) plain in
     ((λ feed. absurd (let clash : false ≡ true = rw feed at both.0 in cc)), one_line text both.1)
 
 -- The lines of a line and more.

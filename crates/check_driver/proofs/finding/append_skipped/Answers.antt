@@ -1,6 +1,6 @@
 use Rattle.std.proofs.Common.{ap, ◌++◌, ◌∙◌, append_assoc, codes, List, ℕ}
 use Rattle.assembly_answers.specs.ReasonText.{reason_text}
-use Rattle.assembly_answers.proofs.reason_text.append_skipped.Goals as goal
+use Rattle.check_driver.proofs.finding.append_skipped.Goals as goal
 
 pub returns : goal.returns
 returns c =
