@@ -1,12 +1,9 @@
 //! Running a case: one call of the program, or several on the same devices.
 
-use crate::arguments::{number_of, two_parts, word_of};
-use crate::devices::CaseSink;
-use crate::difference::difference;
-use crate::expected::Expected;
-use crate::given::Given;
 use crate::reported::{asked_report, compare_report};
-use crate::wrong::{Stop, Wrong, stop_at};
+use case_fixtures::{
+    CaseSink, Expected, Given, Stop, Wrong, difference, number_of, stop_at, two_parts, word_of,
+};
 use case_reader::{Case, Field};
 use check_driver::run_words;
 use std::alloc::{AllocError, Global};

@@ -3,15 +3,8 @@
 //! The words are the names of files of cases. What differs is told on both streams; the status is 0 where nothing does.
 #![tactic(auto)]
 
-mod arguments;
 mod case_run;
-mod devices;
-mod difference;
-mod expected;
-mod given;
-mod plan;
 mod reported;
-mod wrong;
 
 use case_reader::{CaseFile, read_cases};
 use case_run::run_case;

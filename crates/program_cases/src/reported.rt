@@ -1,8 +1,7 @@
 //! The report of a file as a call of its own.
 
-use crate::difference::difference;
-use crate::wrong::{Stop, Wrong, stop_at};
 use asm_image::Assembly;
+use case_fixtures::{Stop, Wrong, difference, stop_at};
 use check_driver::report;
 use std::alloc::Global;
 use widening_engine::Dirty;
