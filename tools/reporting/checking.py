@@ -4,15 +4,21 @@ import os
 import subprocess
 import sys
 
+from reporting.paths import LAUNCHER, TOP
 from reporting.reports import Report, reports_of
+from reporting.source_lines import NoLines, lines_of
 
-TOP = os.path.dirname(os.path.dirname(os.path.dirname(os.path.realpath(__file__))))
-LAUNCHER = os.path.join(TOP, "cccheck")
 ENDINGS = (".dll", ".exe")
+# What a fresh clone has of a program: the release, or what ./cccheck --build makes.
+PROGRAMS = ("release", "crates/cccheck/out/cccheck")
+# The launcher's status where it cannot run the program.
+NO_PROGRAM = 70
 
 
 def checked(words, path):
     """The report of a file by the launcher."""
+    if not os.path.lexists(path):
+        return Report(path, [], f"missing file {path}")
     ran = subprocess.run([*words, "check", path], capture_output=True, check=False, stdin=subprocess.DEVNULL)
     said = [line.removeprefix("cccheck: ") for line in ran.stderr.decode("utf-8", "replace").splitlines()]
     said = [line for line in said if not line.startswith("--try: this program")]
@@ -20,6 +26,8 @@ def checked(words, path):
         report = reports_of(ran.stdout.decode("ascii", "replace"), path)[0]
         report.notes = [" ".join(said)] if said else []
         return report
+    if ran.returncode == NO_PROGRAM:
+        raise ValueError(" ".join(said) or "cccheck does not run")
     return Report(path, [], " ".join(said) or f"status {ran.returncode}", ran.returncode == 5)
 
 
@@ -37,18 +45,42 @@ def files_in(paths):
     return list(dict.fromkeys(files)), named
 
 
-def read_all(options):
-    """The reports of all words, in order. A file of a folder that is no assembly is left out."""
-    if options.read:
-        texts = [sys.stdin.read() if path == "-" else open(path, encoding="utf-8").read() for path in options.paths]
-        return [report for text in texts for report in reports_of(text)]
-    words = [LAUNCHER, "--try"] if options.without_proofs else [LAUNCHER]
-    if not options.without_proofs:
-        # Else each process of the pool would begin a build.
-        built = subprocess.run([LAUNCHER, "--build"], stdin=subprocess.DEVNULL, check=False)
-        if built.returncode:
-            raise ValueError("cccheck is not built; --try does without")
+def launcher_words(options):
+    """The words that a command of the program is added to."""
+    return [LAUNCHER, "--try"] if options.without_proofs else [LAUNCHER]
+
+
+def need_program(options):
+    """Raises ValueError where there is no program, since the launcher may begin to build one."""
+    if not options.without_proofs and not any(os.path.exists(os.path.join(TOP, it)) for it in PROGRAMS):
+        raise ValueError("cccheck is not built; `./cccheck --build` builds it, and --try does without")
+
+
+def checked_files(options):
     files, named = files_in(options.paths)
+    missing = [path for path in files if not os.path.lexists(path)]
+    if len(missing) < len(files):
+        need_program(options)
+    words = launcher_words(options)
     with concurrent.futures.ThreadPoolExecutor(options.jobs) as pool:
         reports = list(pool.map(lambda path: checked(words, path), files))
     return [report for report in reports if report.path in named or not report.is_refused]
+
+
+def add_lines(report):
+    try:
+        report.lines = lines_of(report.path)
+    except NoLines as why:
+        report.notes.append(str(why))
+
+
+def read_all(options):
+    """The reports of all words, in order, with lines of source. A file of a folder that is no assembly is left out."""
+    if options.read:
+        texts = [sys.stdin.read() if path == "-" else open(path, encoding="utf-8").read() for path in options.paths]
+        reports = [report for text in texts for report in reports_of(text)]
+    else:
+        reports = checked_files(options)
+    for report in reports:
+        add_lines(report)
+    return reports

@@ -2,6 +2,9 @@
 import dataclasses
 import re
 
+from reporting.refutations import Refutation
+from reporting.source_lines import SourceLines
+
 VERDICTS = ("proved", "unproved", "not-analysed")
 
 METHOD = re.compile(r"method ([0-9a-f]{8}) (\S+): (proved|unproved|not analysed: (.+))$")
@@ -16,6 +19,8 @@ class Obligation:
     offset: int
     text: str
     proved: bool
+    # A run that faults here: the name of the method that was run, and how it ended.
+    witness: tuple[str, Refutation] | None = None
 
     @property
     def kind(self):
@@ -33,6 +38,7 @@ class Method:
     opcode: str = ""
     offset: int | None = None
     obligations: list = dataclasses.field(default_factory=list)
+    refutation: Refutation | None = None
 
 
 @dataclasses.dataclass
@@ -43,6 +49,7 @@ class Report:
     error: str = ""
     is_refused: bool = False
     notes: list = dataclasses.field(default_factory=list)
+    lines: SourceLines = dataclasses.field(default_factory=SourceLines)
 
     def count(self, verdict):
         return sum(method.verdict == verdict for method in self.methods)

@@ -1,38 +1,127 @@
-"""The log of SARIF 2.1.0."""
+"""The log of SARIF 2.1.0, with what GitHub's code scanning needs of one."""
+import collections
+import dataclasses
+import hashlib
 import json
 import os
+import re
 import sys
 import urllib.parse
 
+from reporting import VERSION
 from reporting.explanations import KINDS, REASONS
-from reporting.reports import VERDICTS
-from reporting.text import place_text
+from reporting.numbers import kind_number, reason_number
+from reporting.refutations import outcome_text
+from reporting.reports import Method, Obligation, VERDICTS
+from reporting.source_text import condition_of
+from reporting.text import reason_text
+
+# This repository has no public address yet; this page says what the contracts are.
+INFORMATION = "https://learn.microsoft.com/dotnet/framework/debug-trace-profile/code-contracts"
+FINGERPRINT = "methodKindCount/v1"
+# The one that GitHub's code scanning compares.
+GITHUB_FINGERPRINT = "primaryLocationLineHash"
+DRIVE = re.compile(r"[A-Za-z]:[/\\]")
 
 
-def rule_id(group, words):
-    return f"{group}/{words.replace(' ', '-')}"
+def rule(number, group, words, text, advice, level):
+    name = "".join(word.capitalize() for word in f"{group} {words}".split())
+    return {
+        "id": number,
+        "name": name,
+        "shortDescription": {"text": text},
+        "fullDescription": {"text": text},
+        "help": {"text": advice or text},
+        "defaultConfiguration": {"level": level},
+    }
 
 
 def rules():
     for kind, (asks, advice) in KINDS.items():
-        yield {
-            "id": rule_id("unproved", kind),
-            "shortDescription": {"text": f"It is not proved that {asks}."},
-            "help": {"text": advice},
-            "defaultConfiguration": {"level": "warning"},
-        }
+        yield rule(kind_number(kind), "unproved", kind, f"It is not proved that {asks}.", advice, "warning")
     for reason, (meaning, advice) in REASONS.items():
-        yield {
-            "id": rule_id("not-analysed", reason),
-            "shortDescription": {"text": f"The method is not analysed: {meaning}."},
-            "help": {"text": advice},
-            "defaultConfiguration": {"level": "note"},
-        }
+        text = f"The method is not analysed: {meaning}."
+        yield rule(reason_number(reason), "not analysed", reason, text, advice, "note")
 
 
 def uri_of(path):
-    quoted = urllib.parse.quote(path.replace(os.sep, "/"))
-    return f"file://{quoted}" if os.path.isabs(path) else quoted
+    """A path of this machine, or one of Windows that symbols have, as a URI."""
+    is_windows = DRIVE.match(path)
+    quoted = urllib.parse.quote(path.replace("\\", "/") if is_windows or os.sep == "\\" else path, safe="/:")
+    if is_windows:
+        return f"file:///{quoted}"
+    return f"file://{quoted}" if os.path.isabs(path) else quoted.replace(":", "%3A")
+
+
+def region_of(place):
+    """The lines and columns that the symbols have. SARIF counts them likewise, from 1, the last column excluded."""
+    region = {"startLine": place.line, "endLine": max(place.line, place.last_line)}
+    columns = {"startColumn": place.column, "endColumn": place.last_column if place.last_line else 0}
+    return region | {member: column for member, column in columns.items() if place.column and column}
+
+
+def fingerprints(path, finding):
+    """What stays where other lines and methods change, and where another obligation is proved."""
+    made_of = "\n".join((os.path.basename(path), finding.method.name, finding.kind))
+    value = f"{hashlib.sha256(made_of.encode()).hexdigest()[:16]}:{finding.count}"
+    return {FINGERPRINT: value, GITHUB_FINGERPRINT: value}
+
+
+def refutation_properties(method, it):
+    """On which arguments an obligation was met to fail, or how many were tried."""
+    if it.witness:
+        name, refutation = it.witness
+        return {"refuted": True, "method": name, "arguments": list(refutation.arguments)}
+    found = method.refutation
+    if found.error:
+        return {"refuted": False, "error": found.error}
+    if found.fault:
+        return {"refuted": False, "method": method.name, "arguments": list(found.arguments), "fault": str(found.fault)}
+    return {"refuted": False, "tried": found.tried, "started": found.started}
+
+
+@dataclasses.dataclass
+class Finding:
+    """What becomes a result. The count is that of its kind before it in its method."""
+    method: Method
+    number: str
+    kind: str
+    text: str
+    offset: int | None
+    level: str
+    count: int
+    obligation: Obligation | None = None
+
+    def properties(self):
+        it = self.obligation
+        return {"refutation": refutation_properties(self.method, it)} if it and self.method.refutation else None
+
+
+def reason_finding(method, count):
+    text = f"{method.name} is not analysed{reason_text(method)}."
+    return Finding(method, reason_number(method.reason), method.reason, text, method.offset, "note", count)
+
+
+def obligation_finding(report, method, it, count):
+    condition, _ = condition_of(report, method, it) or ("", None)
+    text = f"{method.name}: {it.text} at IL_{it.offset:04x} is not proved{condition and ': ' + condition}."
+    outcome = outcome_text(method, it) if method.refutation else ""
+    text += f" {outcome[0].upper()}{outcome[1:]}." if outcome else ""
+    return Finding(method, kind_number(it.kind), it.kind, text, it.offset, "warning", count, it)
+
+
+def findings(report, only):
+    """The findings of a report. Methods that print alike are counted as one, and what is proved is counted too."""
+    before = collections.Counter()
+    for method in report.methods:
+        is_asked = method.verdict in (only or VERDICTS)
+        if method.reason and is_asked:
+            yield reason_finding(method, before[method.name, method.reason])
+        for it in method.obligations:
+            if is_asked and not it.proved:
+                yield obligation_finding(report, method, it, before[method.name, it.kind])
+            before[method.name, it.kind] += 1
+        before[method.name, method.reason] += 1
 
 
 class Log:
@@ -41,68 +130,73 @@ class Log:
     def __init__(self):
         self.rules = list(rules())
         self.index_of = {rule["id"]: index for index, rule in enumerate(self.rules)}
-        self.artifacts, self.logical, self.results, self.notes = [], [], [], []
+        self.artifacts, self.logical, self.results, self.notes = {}, {}, [], []
 
-    def add_logical(self, location):
-        self.logical.append(location)
-        return len(self.logical) - 1
+    def artifact(self, path):
+        uri = uri_of(path)
+        return {"uri": uri, "index": self.artifacts.setdefault(uri, len(self.artifacts))}
 
-    def add_result(self, rule, message, method, at, offset, parent):
-        place = {"fullyQualifiedName": method.name, "index": parent}
-        if offset is not None:
-            label = f"IL_{offset:04x}"
-            name = f"{method.name}/{label}"
-            index = self.add_logical(
-                {"name": label, "fullyQualifiedName": name, "kind": "instruction", "parentIndex": parent}
-            )
-            place = {"fullyQualifiedName": name, "index": index}
-        # A reason or a kind that is newer than this table has no rule.
-        known = {"ruleIndex": self.index_of[rule]} if rule in self.index_of else {}
+    def add_logical(self, name, kind, parent=None):
+        """The location of this name within its parent. Its full name stands once in the log."""
+        full = f"{parent['fullyQualifiedName']}/{name}" if parent else name
+        within = {"parentIndex": parent["index"]} if parent else {}
+        made = {"name": name, "fullyQualifiedName": full, "kind": kind, **within}
+        index = self.logical.setdefault(full, (len(self.logical), made))[0]
+        return {"fullyQualifiedName": full, "index": index}
+
+    def location(self, report, finding):
+        method, it = finding.method, finding.obligation
+        module = self.add_logical(report.path, "module")
+        logical = self.add_logical(f"{method.token} {method.name}", "function", module)
+        if it:
+            logical = self.add_logical(f"IL_{it.offset:04x} {it.text}", "instruction", logical)
+        place = report.lines.at(method.token, finding.offset)
+        physical = {"artifactLocation": self.artifact(place.file if place else report.path)}
+        region = {"region": region_of(place)} if place else {}
+        return {"physicalLocation": {**physical, **region}, "logicalLocations": [logical]}
+
+    def add_finding(self, report, finding):
+        number, properties = finding.number, finding.properties()
+        # A reason or a kind that is newer than the tables has no rule.
+        known = {"ruleIndex": self.index_of[number]} if number in self.index_of else {}
         self.results.append({
-            "ruleId": rule,
+            "ruleId": number,
             **known,
-            "level": "note" if method.reason else "warning",
-            "message": {"text": message},
-            "locations": [{"physicalLocation": {"artifactLocation": at}, "logicalLocations": [place]}],
+            "level": finding.level,
+            "message": {"text": finding.text},
+            "locations": [self.location(report, finding)],
+            "partialFingerprints": fingerprints(report.path, finding),
+            **({"properties": properties} if properties else {}),
         })
-
-    def add_method(self, method, at):
-        parent = self.add_logical({
-            "name": method.name.rpartition("::")[2],
-            "fullyQualifiedName": method.name,
-            "kind": "function",
-        })
-        if method.reason:
-            message = f"{method.name} is not analysed{place_text(method)}."
-            self.add_result(rule_id("not-analysed", method.reason), message, method, at, method.offset, parent)
-        for it in method.obligations:
-            if not it.proved:
-                message = f"{method.name}: {it.text} at IL_{it.offset:04x} is not proved."
-                self.add_result(rule_id("unproved", it.kind), message, method, at, it.offset, parent)
 
     def add_report(self, report, only):
-        at = {"uri": uri_of(report.path), "index": len(self.artifacts)}
-        self.artifacts.append({"location": dict(at)})
         errors = [("error", report.error)] if report.error else []
         for level, text in errors + [("warning", note) for note in report.notes]:
             self.notes.append({
                 "level": level,
                 "message": {"text": text},
-                "locations": [{"physicalLocation": {"artifactLocation": at}}],
+                "locations": [{"physicalLocation": {"artifactLocation": self.artifact(report.path)}}],
             })
-        for method in report.methods:
-            if method.verdict != "proved" and method.verdict in (only or VERDICTS):
-                self.add_method(method, at)
+        for finding in findings(report, only):
+            self.add_finding(report, finding)
 
     def json(self, succeeded):
+        driver = {
+            "name": "cccheck",
+            "version": VERSION,
+            "semanticVersion": VERSION,
+            "informationUri": INFORMATION,
+            "rules": self.rules,
+        }
         return {
             "$schema": "https://json.schemastore.org/sarif-2.1.0.json",
             "version": "2.1.0",
             "runs": [{
-                "tool": {"driver": {"name": "cccheck", "rules": self.rules}},
+                "tool": {"driver": driver},
+                "columnKind": "utf16CodeUnits",
                 "invocations": [{"executionSuccessful": succeeded, "toolExecutionNotifications": self.notes}],
-                "artifacts": self.artifacts,
-                "logicalLocations": self.logical,
+                "artifacts": [{"location": {"uri": uri, "index": index}} for uri, index in self.artifacts.items()],
+                "logicalLocations": [location for _, location in self.logical.values()],
                 "results": self.results,
             }],
         }

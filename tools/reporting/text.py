@@ -4,29 +4,68 @@ import os
 import sys
 
 from reporting.explanations import KINDS, OPCODE_WORDS, OTHER, OTHER_OPCODE, REASONS
+from reporting.numbers import kind_number, reason_number
+from reporting.refutations import call_text, outcome_text
 from reporting.reports import VERDICTS
+from reporting.source_text import condition_of, line_at
 
 COLOURS = {"proved": "32", "unproved": "31", "not-analysed": "33"}
+OTHER_KIND = ("what this obligation asks", "")
 
 
 class Printer:
     """Prints lines, with colours on a terminal alone."""
 
-    def __init__(self):
+    def __init__(self, has_context):
         self.has_colours = sys.stdout.isatty() and "NO_COLOR" not in os.environ
+        self.has_context = has_context
 
     def coloured(self, verdict):
         words = verdict.replace("-", " ")
         return f"\033[{COLOURS[verdict]}m{words}\033[0m" if self.has_colours else words
 
-    def method(self, method):
-        print(f"  {self.coloured(method.verdict)} {method.name}{place_text(method)}")
-        for obligation in method.obligations:
-            if not obligation.proved:
-                print(f"    IL_{obligation.offset:04x} {obligation.text}")
+    def method(self, report, method):
+        print(f"  {self.coloured(method.verdict)} {method.name}{reason_text(method)}")
+        place = report.lines.at(method.token, method.offset) if method.reason else None
+        if place:
+            print(f"{place}: info {reason_number(method.reason)}: {method.name} is not analysed{reason_text(method)}")
+        for it in method.obligations:
+            if not it.proved:
+                self.obligation(report, method, it)
+        if method.refutation and not any(it.witness and it.witness[0] == method.name for it in method.obligations):
+            print(f"    {search_text(report, method)}")
+
+    def obligation(self, report, method, it):
+        """In the form that MSBuild and editors read, where the line is known."""
+        place = report.lines.at(method.token, it.offset)
+        label = f"IL_{it.offset:04x}"
+        found = outcome_text(method, it) if it.witness else ""
+        if not place:
+            print(f"    {label} {it.text}{found and ': ' + found}")
+            return
+        asks = KINDS.get(it.kind, OTHER_KIND)[0]
+        print(f"{place}: warning {kind_number(it.kind)}: {found or 'not proved: ' + asks} ({it.text} at {label})")
+        if self.has_context:
+            self.context(report, method, it, place)
+
+    def context(self, report, method, it, place):
+        print(f"        {line_at(place)}")
+        condition, contract = condition_of(report, method, it) or ("", None)
+        if condition:
+            print(f"        condition: {condition}" + ("" if contract == place else f"  [{contract}]"))
 
 
-def place_text(method):
+def search_text(report, method):
+    """How the search for arguments ended, where it met no obligation of the method itself."""
+    found = method.refutation
+    if not found.fault:
+        return str(found)
+    others = [it for it in report.methods if it.name == found.fault.method]
+    place = report.lines.at(others[0].token, found.fault.offset) if len(others) == 1 else None
+    return f"wrong: {call_text(method.name, found.arguments)} faults{f' at {place}' if place else ''}: {found.fault}"
+
+
+def reason_text(method):
     if method.verdict != "not-analysed":
         return ""
     opcode = f" {method.opcode}" if method.opcode else ""
@@ -63,8 +102,18 @@ def opcodes_counted(methods):
     return counted, lambda title: explained[title][:2]
 
 
-def print_text(reports, only):
-    printer = Printer()
+def print_refuted(reports):
+    """How many of the methods that were tried are wrong."""
+    tried = [method.refutation for report in reports for method in report.methods if method.refutation]
+    if tried:
+        wrong = sum(it.fault is not None for it in tried)
+        failed = sum(bool(it.error) for it in tried)
+        print(f"\nOf {len(tried)} unproved methods {wrong} are wrong, {len(tried) - wrong - failed} not shown to be"
+              f"{f', {failed} not tried' if failed else ''}.")
+
+
+def print_text(reports, only, has_context=False):
+    printer = Printer(has_context)
     for report in reports:
         shown = [method for method in report.methods if method.verdict in (only or ("unproved",))]
         if shown or report.error or not only:
@@ -72,7 +121,7 @@ def print_text(reports, only):
         if report.error:
             print(f"  no report: {report.error}")
         for method in shown:
-            printer.method(method)
+            printer.method(report, method)
         if not only and not report.error:
             print(f"  {sums_text([report])}")
             for note in report.notes:
@@ -88,3 +137,4 @@ def print_text(reports, only):
     print_counted(not_proved, unproved, lambda kind: KINDS.get(kind, OTHER))
     print_counted("Why methods are not analysed:", reasons, lambda reason: REASONS.get(reason, OTHER))
     print_counted("Of these, by the instruction outside the profile:", *opcodes_counted(methods))
+    print_refuted(reports)
