@@ -81,6 +81,6 @@ def read_all(options):
         reports = [report for text in texts for report in reports_of(text)]
     else:
         reports = checked_files(options)
-    for report in reports:
-        add_lines(report)
+    with concurrent.futures.ThreadPoolExecutor(options.jobs) as pool:
+        list(pool.map(add_lines, reports))
     return reports

@@ -52,6 +52,9 @@ class Report:
     lines: SourceLines = dataclasses.field(default_factory=SourceLines)
 
     def count(self, verdict):
+        """How many methods have a verdict, or are `wrong`: on some arguments they were met to fault."""
+        if verdict == "wrong":
+            return sum(bool(method.refutation and method.refutation.fault) for method in self.methods)
         return sum(method.verdict == verdict for method in self.methods)
 
 

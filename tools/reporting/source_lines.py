@@ -11,11 +11,14 @@ import os
 import shutil
 import subprocess
 import tempfile
+import threading
 
 from reporting.paths import TOP
 
 READER = os.path.join(TOP, "tools/source_lines.cs")
 EMBEDDED = b"MPDB"
+# Held while the reader is compiled, which the first of several threads does.
+COMPILING = threading.Lock()
 NEEDED = "mono-mcs libmono-cecil-private-cil libmono-compilerservices-symbolwriter4.0-cil"
 
 
@@ -79,7 +82,9 @@ def lines_of(path):
     """The source lines of an assembly; none where it has no symbols. Raises NoLines where they do not read."""
     if not os.path.isfile(path) or not symbols_of(path):
         return SourceLines()
-    ran = subprocess.run(["mono", compiled_reader(), path], capture_output=True, check=False, stdin=subprocess.DEVNULL)
+    with COMPILING:
+        reader = compiled_reader()
+    ran = subprocess.run(["mono", reader, path], capture_output=True, check=False, stdin=subprocess.DEVNULL)
     if ran.returncode:
         raise NoLines(f"no lines of source: {symbols_of(path)}: {ran.stderr.decode('utf-8', 'replace').strip()}")
     return SourceLines(ran.stdout.decode("utf-8"))

@@ -49,7 +49,8 @@ class Printer:
             self.context(report, method, it, place)
 
     def context(self, report, method, it, place):
-        print(f"        {line_at(place)}")
+        if line := line_at(place):
+            print(f"        {line}")
         condition, contract = condition_of(report, method, it) or ("", None)
         if condition:
             print(f"        condition: {condition}" + ("" if contract == place else f"  [{contract}]"))
