@@ -57,14 +57,12 @@ def compile_source(source, target, *words):
     subprocess.run(["mcs", "-target:library", "-optimize", *words, f"-out:{target}", source], check=True)
 
 
-def stand_in(folder, script, has_program=True):
-    """A copy of tools/report beside a launcher that is this script of bash; and whether a release stands there."""
+def stand_in(folder, script):
+    """A copy of tools/report beside a launcher that is this script of bash."""
     tools = os.path.join(folder, "tools")
     shutil.copytree(os.path.join(TOP, "tools"), tools, ignore=shutil.ignore_patterns("__pycache__"))
     launcher = os.path.join(folder, "cccheck")
     with open(launcher, "w", encoding="ascii") as file:
         file.write(f"#!/bin/bash\n{script}")
     os.chmod(launcher, 0o755)
-    if has_program:
-        os.mkdir(os.path.join(folder, "release"))
     return os.path.join(tools, "report")

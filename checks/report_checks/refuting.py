@@ -88,6 +88,7 @@ if [[ $1 == check ]]; then
     cat "$folder/report"
     exit 1
 fi
+[[ $1 != --program ]] || exit 0
 [[ $1 == refute && $2 == Lines.dll && $# == 3 ]] || exit 2
 echo "$3" >>"$folder/asked"
 for ((k = 0; k < 100; k++)); do

@@ -47,7 +47,7 @@ class SourceLines:
         for line in printed.splitlines():
             token, offset, *numbers, file = line.split("\t")
             points[token].append((int(offset, 16), Place(shown_path(file), *map(int, numbers))))
-        # The sort keeps the order of points of one offset, of which the last is the one that has the code.
+        # Of several points of one offset the last has the code; the sort keeps their order.
         self.points = {token: sorted(points[token], key=lambda it: it[0]) for token in points}
 
     def of_method(self, token):
