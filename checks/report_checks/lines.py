@@ -5,9 +5,11 @@ import os
 import re
 import shutil
 import subprocess
+import sys
 
 from report_checks.common import CHECKS, TOP, compile_source, report, want
 from report_checks.sarif_rules import look_at_log
+from report_checks.windows_symbols import make_windows_symbols
 
 # An offset of each method, and what the source has at the place of its sequence point, in that line the first such.
 # `monodis` shows the offsets: a statement begins after the one before it, and a loop's steps follow its body.
@@ -149,6 +151,29 @@ def look_at_portable(folder):
         want(os.path.exists(os.path.join(target, "Lines.pdb")) == (name == "beside"), f"symbols are not {name}")
         for region in look_at_places(target, f"portable symbols {name}"):
             want((region["endLine"], region["endColumn"]) == (region["startLine"] + 1, 5), f"{name}: {region}")
+    look_at_windows(os.path.join(folder, "beside"), rows)
+
+
+def look_at_windows(folder, rows):
+    """Symbols of Windows in place of the portable ones, where the machine has what makes and reads them."""
+    symbols = os.path.join(folder, "Lines.pdb")
+    os.remove(symbols)
+    if not all(shutil.which(it) for it in ("llvm-pdbutil", "pdb2mdb")):
+        print("checks/report: symbols of Windows are left out: they need llvm-pdbutil and pdb2mdb", file=sys.stderr)
+        return
+    with open(os.path.join(folder, "Lines.dll"), "rb") as file:
+        data = file.read()
+    at = data.index(b"RSDS") + 4
+    make_windows_symbols(symbols, data[at:at + 16], rows)
+    look_at_places(folder, "symbols of Windows")
+    make_windows_symbols(symbols, bytes(range(16)), rows)
+    mono = os.path.join(folder, "mono")
+    os.mkdir(mono)
+    for name in ("mono", "mcs"):
+        os.symlink(shutil.which(name), os.path.join(mono, name))
+    for path, said in ((None, "is of another compilation"), (mono, "has the form of Windows: that needs Debian's package")):
+        text = report("--read", "-", given=CONTRACTS, folder=folder, path=path)
+        want(WITHOUT in text and f"\n  note: no lines of source: Lines.pdb {said}" in text, f"of Windows:\n{text}")
 
 
 def look_at_context(folder):
@@ -187,11 +212,6 @@ def look_at_none(folder):
     for path in (None, ""):
         text = report(*words, given=CONTRACTS, folder=folder, path=path)
         want(text.startswith(WITHOUT) and "note" not in text, f"without symbols:\n{text}")
-    with open(os.path.join(folder, "Lines.pdb"), "wb") as file:
-        file.write(b"Microsoft C/C++ MSF 7.00\r\n")
-    text = report(*words, given=CONTRACTS, folder=folder)
-    want(WITHOUT in text and "pdb2mdb" in text, f"with a .pdb of Windows:\n{text}")
-    os.remove(os.path.join(folder, "Lines.pdb"))
     os.rename(symbols + ".kept", symbols)
     compile_source(os.path.join(folder, "Lines.cs"), os.path.join(folder, "Lines.dll"), "-d:CONTRACTS_FULL")
     text = report(*words, given=CONTRACTS, folder=folder)
