@@ -1,6 +1,7 @@
 """What the parts of checks/report share: calls of tools/report, compilers, and a stand-in for the program."""
 import os
 import pty
+import re
 import shutil
 import subprocess
 import sys
@@ -55,6 +56,20 @@ def on_terminal(*words, stream="stdout", folder=TOP, tool=REPORT):
 
 def compile_source(source, target, *words):
     subprocess.run(["mcs", "-target:library", "-optimize", *words, f"-out:{target}", source], check=True)
+
+
+def whole(text):
+    """The reports of a text, each with the summary that counts its lines."""
+    reports = re.split(r"^(?=assembly )", text, flags=re.MULTILINE)
+    return reports[0] + "".join(it + summary_of(it) for it in reports[1:])
+
+
+def summary_of(text):
+    methods = re.findall(r"^method .*: (proved|unproved|not analysed)(?:: .*)?$", text, re.MULTILINE)
+    obligations = re.findall(r"^  IL_.*: (proved|unproved)$", text, re.MULTILINE)
+    counts = [methods.count(verdict) for verdict in ("proved", "unproved", "not analysed")]
+    return (f"summary: {len(methods)} methods, {counts[0]} proved, {counts[1]} unproved, {counts[2]} not analysed, "
+            f"{len(obligations)} obligations, {obligations.count('proved')} proved\n")
 
 
 def stand_in(folder, script):

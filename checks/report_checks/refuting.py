@@ -3,7 +3,7 @@ import json
 import os
 import re
 
-from report_checks.common import on_terminal, report, stand_in, want
+from report_checks.common import on_terminal, report, stand_in, want, whole
 from report_checks.lines import compile_lines
 from report_checks.sarif_rules import look_at_log
 
@@ -106,7 +106,7 @@ def look_at_refuting(folder):
     folder = os.path.join(folder, "refuting")
     tool = stand_in(folder, script_of(ANSWERS))
     with open(os.path.join(folder, "report"), "w", encoding="ascii") as file:
-        file.write(REPORT)
+        file.write(whole(REPORT))
     compile_lines(folder)
     how = {"folder": folder, "tool": tool}
     text = report("--refute", "--jobs", "2", "Lines.dll", **how)
@@ -142,8 +142,9 @@ def look_at_log_of(how):
 def look_at_progress(folder, tool):
     """On stderr, and where that is a terminal alone."""
     words = ["--refute", "Lines.dll"]
-    want(on_terminal(*words, stream="stdout", folder=folder, tool=tool).count(b"refute:") == 0, "progress on the output")
-    counts = re.findall(rb"\rrefute: (\d) of 6 methods", on_terminal(*words, stream="stderr", folder=folder, tool=tool))
+    printed = {it: on_terminal(*words, stream=it, folder=folder, tool=tool) for it in ("stdout", "stderr")}
+    want(b"refute:" not in printed["stdout"], "progress on the output")
+    counts = re.findall(rb"\rrefute: (\d) of 6 methods", printed["stderr"])
     want(counts == [b"1", b"2", b"3", b"4", b"5", b"6"], f"progress {counts}")
 
 
@@ -152,8 +153,9 @@ def look_at_failing(folder, tool):
     how = {"folder": folder, "tool": tool}
     report("--refute", "--fail-on", "wrong", "Lines.dll", status=1, **how)
     report("--fail-on", "wrong", "Lines.dll", status=2, **how)
-    given = REPORT[:REPORT.index("method 06000001")] + REPORT[REPORT.index("method 06000004"):REPORT.index("method 06000006")]
-    report("--refute", "--fail-on", "wrong", "--read", "-", given=given, **how)
+    at = [REPORT.index(f"method 0600000{number}") for number in (1, 4, 6)]
+    given = REPORT[:at[0]] + REPORT[at[1]:at[2]]
+    report("--refute", "--fail-on", "wrong", "--read", "-", given=whole(given), **how)
     given = "assembly Other.dll\nmethod 06000001 A::b(): unproved\n  IL_0000 null: unproved\n"
-    text = report("--refute", "--read", "-", given=given, **how)
+    text = report("--refute", "--read", "-", given=whole(given), **how)
     want("    not tried: this cccheck has no command refute\n" in text, f"without the command:\n{text}")

@@ -81,11 +81,22 @@ def add_lines(report):
         report.notes.append(str(why))
 
 
+def read_together(paths):
+    """The reports of several calls, of which the same one counts once, as where two machines checked one file."""
+    reports = {}
+    for path in paths:
+        text = sys.stdin.read() if path == "-" else open(path, encoding="utf-8").read()
+        for report in reports_of(text):
+            same = reports.setdefault(report.path, [])
+            if (report.methods, report.error) not in [(it.methods, it.error) for it in same]:
+                same.append(report)
+    return [report for same in reports.values() for report in same]
+
+
 def read_all(options):
     """The reports of all words, in order, with lines of source. A file of a folder that is no assembly is left out."""
     if options.read:
-        texts = [sys.stdin.read() if path == "-" else open(path, encoding="utf-8").read() for path in options.paths]
-        reports = [report for text in texts for report in reports_of(text)]
+        reports = read_together(options.paths)
     else:
         reports = checked_files(options)
     with concurrent.futures.ThreadPoolExecutor(options.jobs) as pool:

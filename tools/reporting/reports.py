@@ -11,6 +11,13 @@ METHOD = re.compile(r"method ([0-9a-f]{8}) (\S+): (proved|unproved|not analysed:
 UNIT = re.compile(r"unit (\S+): (proved|unproved)$")
 OBLIGATION = re.compile(r"  IL_([0-9a-f]{4,}) (.+): (proved|unproved)$")
 KIND = re.compile(r"(requires|ensures) \d+(?: of \S+)?$")
+SUMMARY = re.compile(r"summary: (\d+) methods, (\d+) proved, (\d+) unproved, (\d+) not analysed, (\d+) obligations, "
+                     r"(\d+) proved$")
+# What stderr says of a file that has no report, of a report that is cut short, beside a report, and before one.
+REFUSED = re.compile(r"cccheck: (?:missing file|cannot read|refused) (\S+?)(?:: .+)?$")
+CUT_SHORT = re.compile(r"cccheck: (?:no memory|cannot write)$")
+NOTE = re.compile(r"cccheck: (?:.+ names nothing of |A compiler leaves contracts out |<DefineConstants>)")
+NO_NOTE = re.compile(r"cccheck: --try: ")
 REASON = re.compile(r"(N9 opcode) ([0-9a-f]+) at IL_([0-9a-f]{4,})$|(.*?)(?: at IL_([0-9a-f]{4,}))?$")
 
 
@@ -71,22 +78,76 @@ def method_of(line):
     return Method(token, name, "not-analysed", of_opcode or words, opcode or "", int(offset, 16) if offset else None)
 
 
-def reports_of(text, path=None):
-    """The reports in a text, of which each begins with `assembly FILE`; that of a unit begins with its line."""
-    reports = []
-    for line in text.splitlines():
-        method, obligation = method_of(line), OBLIGATION.match(line)
-        if line.startswith("assembly "):
-            reports.append(Report(path or line[len("assembly "):], []))
+class Reader:
+    """Reads the lines of reports, and those that cccheck writes to stderr, where they were put together."""
+
+    def __init__(self, path):
+        self.path = path
+        self.reports = []
+        # The last report has no summary yet.
+        self.is_open = False
+
+    def begin(self, path, error=""):
+        self.end()
+        self.reports.append(Report(self.path or path, [], error))
+        self.is_open = not error
+
+    def end(self, error="it is cut short: its lines are not those that its summary counts"):
+        """Of a report without its summary nothing is kept, since any method may be missing."""
+        if self.is_open:
+            self.reports[-1].methods, self.reports[-1].error = [], error
+        self.is_open = False
+
+    def summary(self, counts):
+        # That of a generated assembly stands without a report.
+        if self.is_open:
+            self.is_open = counts != counts_of(self.reports[-1])
+            self.end()
+
+    def said(self, line):
+        """A line that begins with `cccheck: `: an error, of a file or of all, or a note on the report before it."""
+        refused = REFUSED.match(line)
+        if refused:
+            self.begin(refused.group(1), line.removeprefix("cccheck: "))
+        elif CUT_SHORT.match(line) and self.is_open:
+            self.end(line.removeprefix("cccheck: "))
+        elif NOTE.match(line) and self.reports:
+            self.reports[-1].notes = [" ".join([*self.reports[-1].notes, line.removeprefix("cccheck: ")])]
+        elif not NO_NOTE.match(line):
+            raise ValueError(line)
+
+    def line(self, line):
+        method, obligation, summary = method_of(line), OBLIGATION.match(line), SUMMARY.match(line)
+        if line.startswith("cccheck: "):
+            self.said(line)
+        elif summary:
+            self.summary(tuple(map(int, summary.groups())))
+        elif line.startswith("assembly "):
+            self.begin(line[len("assembly "):])
         elif method:
             if not method.token:
-                reports.append(Report(path or method.name, []))
-            if not reports:
+                self.begin(method.name)
+            if not self.is_open:
                 raise ValueError(f"no line `assembly FILE` before: {line}")
-            reports[-1].methods.append(method)
-        elif obligation and reports and reports[-1].methods:
+            self.reports[-1].methods.append(method)
+        elif obligation and self.is_open and self.reports[-1].methods:
             offset, words, verdict = obligation.groups()
-            reports[-1].methods[-1].obligations.append(Obligation(int(offset, 16), words, verdict == "proved"))
-        elif not line.startswith("summary: "):
+            self.reports[-1].methods[-1].obligations.append(Obligation(int(offset, 16), words, verdict == "proved"))
+        else:
             raise ValueError(f"no line of a report: {line}")
-    return reports
+
+
+def counts_of(report):
+    """The numbers of its summary: methods, of each verdict, obligations, proved ones."""
+    obligations = [it for method in report.methods for it in method.obligations]
+    verdicts = [report.count(verdict) for verdict in VERDICTS]
+    return (len(report.methods), *verdicts, len(obligations), sum(it.proved for it in obligations))
+
+
+def reports_of(text, path=None):
+    """The reports in a text, of which each begins with `assembly FILE`; that of a unit begins with its line."""
+    reader = Reader(path)
+    for line in text.splitlines():
+        reader.line(line)
+    reader.end()
+    return reader.reports
