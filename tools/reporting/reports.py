@@ -1,5 +1,6 @@
 """The reports that `cccheck check` prints, read."""
 import dataclasses
+import functools
 import re
 
 from reporting.refutations import Refutation
@@ -57,6 +58,14 @@ class Report:
     is_refused: bool = False
     notes: list = dataclasses.field(default_factory=list)
     lines: SourceLines = dataclasses.field(default_factory=SourceLines)
+
+    @functools.cached_property
+    def named(self):
+        """The methods of each printed name, which several may share. It is asked when the report is whole."""
+        named = {}
+        for method in self.methods:
+            named.setdefault(method.name, []).append(method)
+        return named
 
     def count(self, verdict):
         """How many methods have a verdict, or are `wrong`: on some arguments they were met to fault."""

@@ -61,7 +61,7 @@ def search_text(report, method):
     found = method.refutation
     if not found.fault:
         return str(found)
-    others = [it for it in report.methods if it.name == found.fault.method]
+    others = report.named.get(found.fault.method, [])
     place = report.lines.at(others[0].token, found.fault.offset) if len(others) == 1 else None
     return f"wrong: {call_text(method.name, found.arguments)} faults{f' at {place}' if place else ''}: {found.fault}"
 
