@@ -63,7 +63,7 @@ static class SourceLines
         else if (File.Exists(mdb))
             PrintMdb(module, mdb);
         else
-            throw new InvalidDataException("its .pdb has the form of Windows: `pdb2mdb FILE` makes a .mdb of it");
+            throw new FileNotFoundException("there are no symbols that are read here");
     }
 
     static bool IsInside(ImageDebugHeaderEntry entry)

@@ -4,15 +4,22 @@ import os
 import subprocess
 import sys
 
-from reporting.paths import LAUNCHER, TOP
+from reporting.forms import add_forms, look_up_calls
+from reporting.paths import LAUNCHER
 from reporting.reports import Report, reports_of
 from reporting.source_lines import NoLines, lines_of
 
 ENDINGS = (".dll", ".exe")
-# What a fresh clone has of a program: the release, or what ./cccheck --build makes.
-PROGRAMS = ("release", "crates/cccheck/out/cccheck")
-# The launcher's status where it cannot run the program.
+# The launcher's status where it has no program, or cannot run it.
 NO_PROGRAM = 70
+
+
+def said_by(ran):
+    """What a call of the launcher printed on stderr, as one line, without what --try says of itself."""
+    lines = [line.removeprefix("cccheck: ") for line in ran.stderr.decode("utf-8", "replace").splitlines()]
+    if ran.returncode == NO_PROGRAM:
+        return "; ".join(lines)
+    return " ".join(line for line in lines if not line.startswith("--try: "))
 
 
 def checked(words, path):
@@ -20,15 +27,14 @@ def checked(words, path):
     if not os.path.lexists(path):
         return Report(path, [], f"missing file {path}")
     ran = subprocess.run([*words, "check", path], capture_output=True, check=False, stdin=subprocess.DEVNULL)
-    said = [line.removeprefix("cccheck: ") for line in ran.stderr.decode("utf-8", "replace").splitlines()]
-    said = [line for line in said if not line.startswith("--try: this program")]
+    said = said_by(ran)
     if ran.returncode in (0, 1):
         report = reports_of(ran.stdout.decode("ascii", "replace"), path)[0]
-        report.notes = [" ".join(said)] if said else []
+        report.notes = [said] if said else []
         return report
     if ran.returncode == NO_PROGRAM:
-        raise ValueError(" ".join(said) or "cccheck does not run")
-    return Report(path, [], " ".join(said) or f"status {ran.returncode}", ran.returncode == 5)
+        raise ValueError(said or "cccheck does not run")
+    return Report(path, [], said or f"status {ran.returncode}", ran.returncode == 5)
 
 
 def files_in(paths):
@@ -51,9 +57,11 @@ def launcher_words(options):
 
 
 def need_program(options):
-    """Raises ValueError where there is no program, since the launcher may begin to build one."""
-    if not options.without_proofs and not any(os.path.exists(os.path.join(TOP, it)) for it in PROGRAMS):
-        raise ValueError("cccheck is not built; `./cccheck --build` builds it, and --try does without")
+    """Raises ValueError, with what the launcher says, where it has no program. It starts no build."""
+    if not options.without_proofs:
+        asked = subprocess.run([LAUNCHER, "--program"], capture_output=True, check=False, stdin=subprocess.DEVNULL)
+        if asked.returncode == NO_PROGRAM:
+            raise ValueError(said_by(asked))
 
 
 def checked_files(options):
@@ -64,6 +72,8 @@ def checked_files(options):
     words = launcher_words(options)
     with concurrent.futures.ThreadPoolExecutor(options.jobs) as pool:
         reports = list(pool.map(lambda path: checked(words, path), files))
+    if not options.without_proofs:
+        look_up_calls(reports, words, options.jobs)
     return [report for report in reports if report.path in named or not report.is_refused]
 
 
@@ -92,6 +102,8 @@ def read_all(options):
         reports = read_together(options.paths)
     else:
         reports = checked_files(options)
+    with concurrent.futures.ThreadPoolExecutor(options.jobs) as pool:
+        list(pool.map(add_lines, reports))
     for report in reports:
-        add_lines(report)
+        add_forms(report)
     return reports

@@ -49,7 +49,7 @@ def refutation_of(status, printed, said):
         return Refutation(tried=int(not_refuted.group(1)), started=int(not_refuted.group(2)))
     if status == 2:
         return Refutation(error="this cccheck has no command refute")
-    lines = [line.removeprefix("cccheck: ") for line in said.splitlines() if "--try: this program" not in line]
+    lines = [line.removeprefix("cccheck: ") for line in said.splitlines() if not line.startswith("cccheck: --try: ")]
     return Refutation(error=" ".join(lines) or f"status {status}")
 
 

@@ -1,7 +1,10 @@
 """The reports that `cccheck check` prints, read."""
+import collections
 import dataclasses
+import functools
 import re
 
+from reporting.forms import Form
 from reporting.refutations import Refutation
 from reporting.source_lines import SourceLines
 
@@ -46,6 +49,9 @@ class Method:
     offset: int | None = None
     obligations: list = dataclasses.field(default_factory=list)
     refutation: Refutation | None = None
+    # Of a method that is not analysed: the instruction that may not stand, where it was looked up, and what was written.
+    instruction: str = ""
+    form: Form | None = None
 
 
 @dataclasses.dataclass
@@ -58,7 +64,15 @@ class Report:
     notes: list = dataclasses.field(default_factory=list)
     lines: SourceLines = dataclasses.field(default_factory=SourceLines)
 
+    @functools.cached_property
+    def names(self):
+        """How many methods have each name."""
+        return collections.Counter(method.name for method in self.methods)
+
     def count(self, verdict):
+        """How many methods have a verdict, or are `wrong`: on some arguments they were met to fault."""
+        if verdict == "wrong":
+            return sum(bool(method.refutation and method.refutation.fault) for method in self.methods)
         return sum(method.verdict == verdict for method in self.methods)
 
 

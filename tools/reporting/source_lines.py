@@ -11,11 +11,15 @@ import os
 import shutil
 import subprocess
 import tempfile
+import threading
 
 from reporting.paths import TOP
 
 READER = os.path.join(TOP, "tools/source_lines.cs")
-EMBEDDED = b"MPDB"
+# With what symbols within an assembly begin, those of Windows, and the entry that names the symbols of an assembly.
+EMBEDDED, WINDOWS, CODE_VIEW = b"MPDB", b"Microsoft C/C++ MSF 7.00", b"RSDS"
+# Held while the reader is compiled, which the first of several threads does.
+COMPILING = threading.Lock()
 NEEDED = "mono-mcs libmono-cecil-private-cil libmono-compilerservices-symbolwriter4.0-cil"
 
 
@@ -44,7 +48,7 @@ class SourceLines:
         for line in printed.splitlines():
             token, offset, *numbers, file = line.split("\t")
             points[token].append((int(offset, 16), Place(shown_path(file), *map(int, numbers))))
-        # The sort keeps the order of points of one offset, of which the last is the one that has the code.
+        # Of several points of one offset the last has the code; the sort keeps their order.
         self.points = {token: sorted(points[token], key=lambda it: it[0]) for token in points}
 
     def of_method(self, token):
@@ -66,22 +70,50 @@ def shown_path(file):
     return file if inside.startswith(os.pardir) else inside
 
 
+def is_of_windows(symbols):
+    with open(symbols, "rb") as file:
+        return file.read(len(WINDOWS)) == WINDOWS
+
+
 def symbols_of(path):
-    """Where the symbols of an assembly stand, if it has any."""
-    for beside in (os.path.splitext(path)[0] + ".pdb", path + ".mdb"):
-        if os.path.isfile(beside):
-            return beside
+    """Where the symbols of an assembly stand, if it has any; those of Windows only where there are no others."""
+    beside = [it for it in (os.path.splitext(path)[0] + ".pdb", path + ".mdb") if os.path.isfile(it)]
+    if beside:
+        return min(beside, key=is_of_windows)
     with open(path, "rb") as file:
         return path if EMBEDDED in file.read() else None
 
 
+def converted(path, symbols, folder):
+    """A copy of the assembly beside the .mdb that Mono's pdb2mdb makes of symbols of Windows."""
+    if not shutil.which("pdb2mdb"):
+        raise NoLines(f"no lines of source: {symbols} has the form of Windows: that needs Debian's package mono-devel")
+    with open(path, "rb") as assembly, open(symbols, "rb") as file:
+        data = assembly.read()
+        at = data.find(CODE_VIEW) + len(CODE_VIEW)
+        # pdb2mdb does not look at the number by which the two know each other.
+        if data[at:at + 16] not in file.read():
+            raise NoLines(f"no lines of source: {symbols} is of another compilation")
+    copy = shutil.copy(path, folder)
+    shutil.copy(symbols, folder)
+    subprocess.run(["pdb2mdb", copy], capture_output=True, check=False, stdin=subprocess.DEVNULL)
+    if not os.path.isfile(copy + ".mdb"):
+        raise NoLines(f"no lines of source: pdb2mdb does not read {symbols}")
+    return copy
+
+
 def lines_of(path):
     """The source lines of an assembly; none where it has no symbols. Raises NoLines where they do not read."""
-    if not os.path.isfile(path) or not symbols_of(path):
+    symbols = symbols_of(path) if os.path.isfile(path) else None
+    if not symbols:
         return SourceLines()
-    ran = subprocess.run(["mono", compiled_reader(), path], capture_output=True, check=False, stdin=subprocess.DEVNULL)
+    with COMPILING:
+        reader = compiled_reader()
+    with tempfile.TemporaryDirectory() as folder:
+        read = converted(path, symbols, folder) if is_of_windows(symbols) else path
+        ran = subprocess.run(["mono", reader, read], capture_output=True, check=False, stdin=subprocess.DEVNULL)
     if ran.returncode:
-        raise NoLines(f"no lines of source: {symbols_of(path)}: {ran.stderr.decode('utf-8', 'replace').strip()}")
+        raise NoLines(f"no lines of source: {symbols}: {ran.stderr.decode('utf-8', 'replace').strip()}")
     return SourceLines(ran.stdout.decode("utf-8"))
 
 
