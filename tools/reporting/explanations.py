@@ -83,7 +83,8 @@ OPCODES = [
     ("d0", "an array with listed items (`{ 1, 2, 3 }`), or typeof", "Assign the items one by one."),
     ("7a fe1a dc dd de", "`throw`, or another part of an exception's code", "Return a value that says so."),
     ("fe06 fe07", "a delegate or a lambda", "Call the method itself."),
-    ("74 75 79 8c a5", "a cast of objects, `is`, `as`, or a number made an object, as in a text", "Use int and bool."),
+    ("8c", "a number made an object, as for a text", "Let the message of a contract be a text alone."),
+    ("74 75 79 a5", "a cast of objects, `is` or `as`", "Use int and bool."),
     ("8f", "`a[i]++` or `a[i] += n`, which takes the item's address", "Write `a[i] = a[i] + 1`."),
     ("90 92 93 95 96 97 98 99 9a 9b 9d 9f a0 a1 a2 a3 a4", "an array of other items", "Use int[] or bool[]."),
 ]

@@ -11,6 +11,7 @@ import re
 import subprocess
 
 from reporting.explanations import OPCODES, OTHER, OTHER_OPCODE, REASONS
+from reporting.source_text import line_at
 
 # The methods that a compiler makes: of lambdas <M>b__0_0 (csc), <M>m__0 (mcs) in <>c, <>c__DisplayClass0_0 (csc) and
 # <M>c__AnonStorey0 (mcs), of local functions <M>g__F|0_0, of yield and await in <M>d__0 (csc), <M>c__Iterator0 (mcs).
@@ -32,34 +33,37 @@ class Form:
     advice: str
 
 
-LOOP = "Write a loop in place of the lambda; test or assume an item where it is read (`Contract.Assume(item > 0)`)"
-LAMBDA = Form("a lambda, as in Contract.ForAll", f"{LOOP}.")
-CLOSURE = Form("a lambda that uses a variable of its method, as in Contract.ForAll(0, n, i => a[i] > 0)", f"{LOOP}.")
-MADE_OF_LAMBDA = Form("what the compiler makes of a lambda", "Nothing: the method that has the lambda says what to do.")
+LOOP = "Write a loop; test or assume an item where it is read, as by `Contract.Assume(item > 0)`."
+LAMBDA = Form("a lambda, as in Contract.ForAll", LOOP)
+CLOSURE = Form("a lambda that uses a variable of its method, as in Contract.ForAll", LOOP)
+MADE_OF_LAMBDA = Form("what the compiler makes of a lambda", "See the method that has the lambda.")
 MADE_OF_YIELD = Form("what the compiler makes of yield or await", "Move the calculation into a static method.")
-CONSTRUCTOR = Form("a constructor", "Move what it computes into a static method that it calls; else nothing.")
+CONSTRUCTOR = Form(
+    "a constructor", "Move what it computes into a static method; one that the compiler adds computes nothing."
+)
 STATIC_CONSTRUCTOR = Form(
     "a static constructor, or the first values of static fields", "Move what it computes into a static method."
 )
-DESTRUCTOR = Form("a destructor", "Nothing: it computes no result.")
+DESTRUCTOR = Form("a destructor", "Nothing is to be done: it computes no result.")
 PROPERTY = Form("a property or an indexer", "Let it call a static method that takes the fields as arguments.")
-EVENT = Form("an event", "Nothing: the compiler writes it.")
+EVENT = Form("an event", "Nothing is to be done: the compiler writes it.")
 INVARIANT = Form(
     "an invariant of objects", "State it as Requires and Ensures of static methods that take the fields as arguments."
 )
-DELEGATE = Form("a delegate type", "Nothing: it has no code.")
+DELEGATE = Form("a delegate type", "Nothing is to be done: it has no code.")
 METHOD = Form("a method of an object or an interface", REASONS["N1 instance"][1])
 OPERATOR = Form("an operator of a type", "Let it call a static method on int, bool and their arrays.")
 LOCAL = Form("a local function", "Write it as a static method, and pass what it uses as arguments.")
 MAIN = Form("Main with its words", "Let it call a static method that takes numbers.")
 PARAMETER = Form(
-    "a parameter or result such as string, long, char, double, an object, a list, `ref` or `out`",
-    "Pass what is needed of it, as `text.Length` in place of `text`, or a text's characters as an int[].",
+    "a parameter or result such as string, long, an object or `ref int`",
+    "Pass what is needed of it, as `text.Length` in place of `text`, or its characters in an int[]; return a result.",
 )
 LOCAL_VARIABLE = Form(
-    "a local variable such as string, long, double, an object, or one that a foreach over a list or a switch on a text "
-    "needs", REASONS["N5 local type"][1],
+    "a local variable such as string, long or an object",
+    "Use int, bool and their arrays; a foreach over a list, a lock and a switch on a text make such variables too.",
 )
+THROW = Form("`if (..) throw`", "Write `Contract.Requires(..)` with the condition that must hold.")
 REQUIRES_OF_EXCEPTION = Form(
     "`Contract.Requires<E>`, or another generic method", "Write `Contract.Requires(..)` without the exception's type."
 )
@@ -69,12 +73,21 @@ CALL_IN_CONTRACT = Form(
 )
 STATEMENT = Form("a statement before or between contracts", "Let contracts stand first.")
 OTHER_CALL = Form(
-    "a method of another assembly, as Math.Max or Console.WriteLine", "Write it in this assembly, on int, bool and arrays."
+    "a method of another assembly, as Math.Max", "Write it in this assembly, on int, bool and their arrays."
 )
 OWN_CALL = Form(
-    "a method of this assembly that is not static, or takes other types", "Write it as a static one, on int and bool."
+    "a method of this assembly that is not static, or takes other types",
+    "Write it as a static method on int, bool and their arrays.",
 )
 ARRAY = Form("an array of other items", "Use int[] or bool[].")
+# What a line of source has, where symbols tell which one it is.
+LINE_FORMS = [
+    (re.compile(r"\bthrow\b"), THROW),
+    (re.compile(r"\bContract\.Requires<"), REQUIRES_OF_EXCEPTION),
+    (re.compile(r"=>"), LAMBDA),
+]
+# The reasons that are of an instruction, so that its line is that of what was written.
+LINE_REASONS = ("N9 opcode", "N10 not pure", "N11 token")
 
 OPCODE_FORMS = {opcode: Form(words, advice) for opcodes, words, advice in OPCODES for opcode in opcodes.split()}
 
@@ -157,12 +170,18 @@ def called_form(instruction, is_contract):
     return OWN_CALL if call.group(1) == OWN_METHOD else OTHER_CALL
 
 
-def form_of(method, names):
+def form_by_line(method, place):
+    """Of the line that has the instruction, where symbols tell it."""
+    line = line_at(place) if place and method.reason in LINE_REASONS else ""
+    return next((form for words, form in LINE_FORMS if words.search(line or "")), None)
+
+
+def form_of(method, names, place):
     """What was written in a method that is not analysed; without words where the reason says all."""
     of_type, name = split_name(method.name)
-    made = form_by_name(of_type, name, names)
-    if made:
-        return made
+    found = form_by_name(of_type, name, names) or form_by_line(method, place)
+    if found:
+        return found
     if method.reason == "N1 instance":
         return instance_form(method, name)
     if method.reason == "N4 signature type":
@@ -199,4 +218,4 @@ def add_forms(report):
     names = Names(report.methods)
     for method in report.methods:
         if method.reason:
-            method.form = form_of(method, names)
+            method.form = form_of(method, names, report.lines.at(method.token, method.offset))
