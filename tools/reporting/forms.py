@@ -197,19 +197,20 @@ def form_of(method, names, place):
 
 # ---- the instruction of a call
 
-def instruction_at(words, path, method):
+def instruction_at(program, path, method):
     """What `cccheck il` prints at the offset, or nothing where several methods have the name."""
-    ran = subprocess.run([*words, "il", path, method.name], capture_output=True, check=False, stdin=subprocess.DEVNULL)
+    words = [program, "il", path, method.name]
+    ran = subprocess.run(words, capture_output=True, check=False, stdin=subprocess.DEVNULL)
     found = re.search(rb"^IL_%04x (.+)$" % method.offset, ran.stdout, re.MULTILINE)
     return found.group(1).decode("ascii") if found and ran.returncode == 0 else ""
 
 
-def look_up_calls(reports, words, jobs):
+def look_up_calls(reports, program, jobs):
     """Gives each method that calls what may not be called the instruction that does so."""
     asked = [(report.path, method) for report in reports if os.path.exists(report.path) for method in report.methods
              if method.reason in ("N10 not pure", "N11 token")]
     with concurrent.futures.ThreadPoolExecutor(jobs) as pool:
-        found = pool.map(lambda it: instruction_at(words, *it), asked)
+        found = pool.map(lambda it: instruction_at(program, *it), asked)
     for (_, method), instruction in zip(asked, found):
         method.instruction = instruction
 

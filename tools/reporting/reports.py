@@ -20,7 +20,7 @@ SUMMARY = re.compile(r"summary: (\d+) methods, (\d+) proved, (\d+) unproved, (\d
 REFUSED = re.compile(r"cccheck: (?:missing file|cannot read|refused) (\S+?)(?:: .+)?$")
 CUT_SHORT = re.compile(r"cccheck: (?:no memory|cannot write)$")
 NOTE = re.compile(r"cccheck: (?:.+ names nothing of |A compiler leaves contracts out |<DefineConstants>)")
-NO_NOTE = re.compile(r"cccheck: --try: this program ")
+NO_NOTE = re.compile(r"cccheck: --try: ")
 REASON = re.compile(r"(N9 opcode) ([0-9a-f]+) at IL_([0-9a-f]{4,})$|(.*?)(?: at IL_([0-9a-f]{4,}))?$")
 
 
