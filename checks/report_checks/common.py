@@ -1,6 +1,7 @@
 """What the parts of checks/report share: calls of tools/report, compilers, and a stand-in for the program."""
 import os
 import pty
+import re
 import shutil
 import subprocess
 import sys
@@ -8,6 +9,10 @@ import sys
 TOP = os.path.dirname(os.path.dirname(os.path.dirname(os.path.realpath(__file__))))
 REPORT = os.path.join(TOP, "tools/report")
 CHECKS = os.path.join(TOP, "checks")
+# What the numbers of a summary count.
+SUMMARY_LINES = (
+    "method", r"method.*: proved$", r"method.*: unproved$", r"method.*: not analysed", "  IL_", r"  IL_.*: proved$",
+)
 
 
 def fail(message):
@@ -19,11 +24,27 @@ def want(holds, message):
         fail(message)
 
 
+def summed(text):
+    """The text with each summary counted anew, and with one where a report has none."""
+    lines = []
+    for report in re.split(r"^(?=assembly )", text, flags=re.MULTILINE):
+        kept = [line for line in report.splitlines() if not line.startswith("summary: ")]
+        counts = [sum(bool(re.match(it, line)) for line in kept) for it in SUMMARY_LINES]
+        words = "{} methods, {} proved, {} unproved, {} not analysed, {} obligations, {} proved".format(*counts)
+        # What stderr says follows the report.
+        at = next((k for k, line in enumerate(kept) if line.startswith("cccheck: ")), len(kept))
+        lines += kept[:at] + ([f"summary: {words}"] if report.startswith("assembly ") else []) + kept[at:]
+    return "".join(f"{line}\n" for line in lines)
+
+
 def ran(*words, status=0, given=None, folder=TOP, tool=REPORT, path=None):
-    """A call of tools/report, which must end with this status. The path is where it finds other programs."""
+    """A call of tools/report, which must end with this status. The path is where it finds other programs.
+
+    Reports that are given need no summaries.
+    """
     environment = os.environ if path is None else {**os.environ, "PATH": path}
-    it = subprocess.run([sys.executable, tool, *words], input=given, capture_output=True, text=True, cwd=folder,
-                        check=False, env=environment)
+    it = subprocess.run([sys.executable, tool, *words], input=given and summed(given), capture_output=True, text=True,
+                        cwd=folder, check=False, env=environment)
     want(it.returncode == status, f"status {it.returncode}, not {status}, of {words}: {it.stdout}{it.stderr}")
     return it
 

@@ -3,7 +3,7 @@ import json
 import os
 import re
 
-from report_checks.common import on_terminal, report, stand_in, want
+from report_checks.common import on_terminal, report, stand_in, summed, want
 from report_checks.lines import compile_lines
 from report_checks.sarif_rules import look_at_log
 
@@ -52,7 +52,7 @@ Lines.cs(29,13): warning CC0004: not proved: the array is not null (null at IL_0
   unproved Lines::Safe()
     IL_0000 overflow
     not shown: 1 argument lists tried, 1 started
-  unproved Lines::Twice(int32)
+  unproved Lines::Twice(int32) [06000006]
     IL_0000 overflow
     not tried: does not fit: several methods
   unproved Lines::Calls(bool)
@@ -106,7 +106,7 @@ def look_at_refuting(folder):
     folder = os.path.join(folder, "refuting")
     tool = stand_in(folder, script_of(ANSWERS))
     with open(os.path.join(folder, "report"), "w", encoding="ascii") as file:
-        file.write(REPORT)
+        file.write(summed(REPORT))
     compile_lines(folder)
     how = {"folder": folder, "tool": tool}
     text = report("--refute", "--jobs", "2", "Lines.dll", **how)
