@@ -9,10 +9,6 @@ import sys
 TOP = os.path.dirname(os.path.dirname(os.path.dirname(os.path.realpath(__file__))))
 REPORT = os.path.join(TOP, "tools/report")
 CHECKS = os.path.join(TOP, "checks")
-# What the numbers of a summary count.
-SUMMARY_LINES = (
-    "method", r"method.*: proved$", r"method.*: unproved$", r"method.*: not analysed", "  IL_", r"  IL_.*: proved$",
-)
 
 
 def fail(message):
@@ -24,27 +20,11 @@ def want(holds, message):
         fail(message)
 
 
-def summed(text):
-    """The text with each summary counted anew, and with one where a report has none."""
-    lines = []
-    for report in re.split(r"^(?=assembly )", text, flags=re.MULTILINE):
-        kept = [line for line in report.splitlines() if not line.startswith("summary: ")]
-        counts = [sum(bool(re.match(it, line)) for line in kept) for it in SUMMARY_LINES]
-        words = "{} methods, {} proved, {} unproved, {} not analysed, {} obligations, {} proved".format(*counts)
-        # What stderr says follows the report.
-        at = next((k for k, line in enumerate(kept) if line.startswith("cccheck: ")), len(kept))
-        lines += kept[:at] + ([f"summary: {words}"] if report.startswith("assembly ") else []) + kept[at:]
-    return "".join(f"{line}\n" for line in lines)
-
-
 def ran(*words, status=0, given=None, folder=TOP, tool=REPORT, path=None):
-    """A call of tools/report, which must end with this status. The path is where it finds other programs.
-
-    Reports that are given need no summaries.
-    """
+    """A call of tools/report, which must end with this status. The path is where it finds other programs."""
     environment = os.environ if path is None else {**os.environ, "PATH": path}
-    it = subprocess.run([sys.executable, tool, *words], input=given and summed(given), capture_output=True, text=True,
-                        cwd=folder, check=False, env=environment)
+    it = subprocess.run([sys.executable, tool, *words], input=given, capture_output=True, text=True, cwd=folder,
+                        check=False, env=environment)
     want(it.returncode == status, f"status {it.returncode}, not {status}, of {words}: {it.stdout}{it.stderr}")
     return it
 
@@ -76,6 +56,20 @@ def on_terminal(*words, stream="stdout", folder=TOP, tool=REPORT):
 
 def compile_source(source, target, *words):
     subprocess.run(["mcs", "-target:library", "-optimize", *words, f"-out:{target}", source], check=True)
+
+
+def whole(text):
+    """The reports of a text, each with the summary that counts its lines."""
+    reports = re.split(r"^(?=assembly )", text, flags=re.MULTILINE)
+    return reports[0] + "".join(it + summary_of(it) for it in reports[1:])
+
+
+def summary_of(text):
+    methods = re.findall(r"^method .*: (proved|unproved|not analysed)(?:: .*)?$", text, re.MULTILINE)
+    obligations = re.findall(r"^  IL_.*: (proved|unproved)$", text, re.MULTILINE)
+    counts = [methods.count(verdict) for verdict in ("proved", "unproved", "not analysed")]
+    return (f"summary: {len(methods)} methods, {counts[0]} proved, {counts[1]} unproved, {counts[2]} not analysed, "
+            f"{len(obligations)} obligations, {obligations.count('proved')} proved\n")
 
 
 def stand_in(folder, script):

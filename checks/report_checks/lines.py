@@ -7,7 +7,7 @@ import shutil
 import subprocess
 import sys
 
-from report_checks.common import CHECKS, TOP, compile_source, report, want
+from report_checks.common import CHECKS, TOP, compile_source, report, want, whole
 from report_checks.sarif_rules import look_at_log
 from report_checks.windows_symbols import make_windows_symbols
 
@@ -20,8 +20,8 @@ PLACES = {
         (0x3a, "Contract.Assert(\n"), (0x3b, "return checked"), (0x3e, "return checked"),
     ],
     "06000003": [
-        (0x6, "int i = 0"), (0x7, "numbers[i] = 1"), (0xa, "numbers[i] = 1"), (0xb, "i++"), (0xe, "i++"), (0xf, "i < 1"),
-        (0x15, "i < 1"), (0x16, "return Part"), (0x1d, "return Part"),
+        (0x6, "int i = 0"), (0x7, "numbers[i] = 1"), (0xa, "numbers[i] = 1"), (0xb, "i++"), (0xe, "i++"),
+        (0xf, "i < 1"), (0x15, "i < 1"), (0x16, "return Part"), (0x1d, "return Part"),
     ],
 }
 NAMES = {"06000001": "Lines::Sum(int32,int32)", "06000003": "Lines::First(int32[])"}
@@ -106,11 +106,11 @@ def wanted_places(folder):
 def look_at_places(folder, form):
     """The line is that of the greatest offset not above, in the text and in the log."""
     words = ["--read", "-"]
-    text = report("--only", "unproved", *words, given=report_of_places(), folder=folder)
+    text = report("--only", "unproved", *words, given=whole(report_of_places()), folder=folder)
     found = re.findall(r"^(\S+?)\((\d+),(\d+)\): warning CC0004: ", text, re.MULTILINE)
     wanted = wanted_places(folder)
     want([(file, int(line), int(column)) for file, line, column in found] == wanted, f"{form}: places {found}")
-    run = look_at_log(json.loads(report("--sarif", "-", *words, given=report_of_places(), folder=folder)))
+    run = look_at_log(json.loads(report("--sarif", "-", *words, given=whole(report_of_places()), folder=folder)))
     places = [it["locations"][0]["physicalLocation"] for it in run["results"]]
     found = [(it["artifactLocation"]["uri"], it["region"]["startLine"], it["region"]["startColumn"]) for it in places]
     want(found == wanted, f"{form}: regions {found}")
@@ -171,22 +171,22 @@ def look_at_windows(folder, rows):
     os.mkdir(mono)
     for name in ("mono", "mcs"):
         os.symlink(shutil.which(name), os.path.join(mono, name))
-    for path, said in ((None, "is of another compilation"), (mono, "has the form of Windows: that needs Debian's package")):
-        text = report("--read", "-", given=CONTRACTS, folder=folder, path=path)
+    for path, said in ((None, "is of another compilation"), (mono, "has the form of Windows: that needs ")):
+        text = report("--read", "-", given=whole(CONTRACTS), folder=folder, path=path)
         want(WITHOUT in text and f"\n  note: no lines of source: Lines.pdb {said}" in text, f"of Windows:\n{text}")
 
 
 def look_at_context(folder):
     words = ["--only", "unproved", "--read", "-"]
-    text = report("--context", *words, given=CONTRACTS, folder=folder)
+    text = report("--context", *words, given=whole(CONTRACTS), folder=folder)
     want(text == CONTEXT, f"--context prints\n{text}")
     warnings = "".join(line for line in CONTEXT.splitlines(True) if not line.startswith("    "))
-    want(report(*words, given=CONTRACTS, folder=folder) == warnings, "lines without --context")
-    run = look_at_log(json.loads(report("--sarif", "-", *words, given=CONTRACTS, folder=folder)))
+    want(report(*words, given=whole(CONTRACTS), folder=folder) == warnings, "lines without --context")
+    run = look_at_log(json.loads(report("--sarif", "-", *words, given=whole(CONTRACTS), folder=folder)))
     messages = [it["message"]["text"] for it in run["results"]]
     want("Lines::Sum(int32,int32): assert at IL_000f is not proved: low >= 0." in messages, f"messages {messages}")
     os.rename(os.path.join(folder, "Lines.cs"), os.path.join(folder, "moved.cs"))
-    text = report("--context", *words, given=CONTRACTS, folder=folder)
+    text = report("--context", *words, given=whole(CONTRACTS), folder=folder)
     want("Lines.cs(9,9): warning CC0003: " in text and "condition:" not in text, f"without the source:\n{text}")
     os.rename(os.path.join(folder, "moved.cs"), os.path.join(folder, "Lines.cs"))
 
@@ -195,7 +195,7 @@ def look_at_not_analysed(folder):
     """At the offset of the reason, or at the method's first line."""
     given = ("assembly Lines.dll\nmethod 06000001 Lines::Sum(int32,int32): not analysed: N8 too large\n"
              "method 06000003 Lines::First(int32[]): not analysed: N9 opcode 7e at IL_000b\n")
-    lines = report("--only", "not-analysed", "--read", "-", given=given, folder=folder).splitlines()
+    lines = report("--only", "not-analysed", "--read", "-", given=whole(given), folder=folder).splitlines()
     for line in ("Lines.cs(8,9): info CC0108: Lines::Sum(int32,int32) is not analysed: N8 too large",
                  "Lines.cs(27,32): info CC0111: Lines::First(int32[]) is not analysed: N9 opcode 7e at IL_000b, "
                  "a static field, also behind a property"):
@@ -206,16 +206,16 @@ def look_at_none(folder):
     """No symbols, symbols of another compilation or of another form, and a machine without Mono."""
     words = ["--read", "-"]
     symbols = os.path.join(folder, "Lines.dll.mdb")
-    text = report(*words, given=CONTRACTS, folder=folder, path="")
+    text = report(*words, given=whole(CONTRACTS), folder=folder, path="")
     want(WITHOUT in text and "\n  note: no lines of source: " in text, f"without Mono:\n{text}")
     want("mono-mcs" in text, f"without Mono:\n{text}")
     os.rename(symbols, symbols + ".kept")
     for path in (None, ""):
-        text = report(*words, given=CONTRACTS, folder=folder, path=path)
+        text = report(*words, given=whole(CONTRACTS), folder=folder, path=path)
         want(text.startswith(WITHOUT) and "note" not in text, f"without symbols:\n{text}")
     os.rename(symbols + ".kept", symbols)
     compile_source(os.path.join(folder, "Lines.cs"), os.path.join(folder, "Lines.dll"), "-d:CONTRACTS_FULL")
-    text = report(*words, given=CONTRACTS, folder=folder)
+    text = report(*words, given=whole(CONTRACTS), folder=folder)
     want(WITHOUT in text and "\n  note: no lines of source: Lines.dll.mdb: " in text, f"with other symbols:\n{text}")
 
 
@@ -226,11 +226,11 @@ def look_at_numbers():
     listed = {words: f"CC{int(first) + at:04}" for first, last, row in rows for at, words in enumerate(row.split(", "))}
     for first, last, row in rows:
         want(int(last) - int(first) + 1 == len(row.split(", ")), f"docs/CI.md: CC{first} to CC{last} are other numbers")
+    texts = [f"{words} 1" if words in ("requires", "ensures") else words for words in listed]
     given = "assembly a.dll\n" + "".join(
         f"method 06000001 A::b(): not analysed: {words}\n" if words[0] == "N" else
-        f"method 06000001 A::b(): unproved\n  IL_0000 {words}{' 1' if words in ('requires', 'ensures') else ''}: unproved\n"
-        for words in listed)
-    run = json.loads(report("--sarif", "-", "--read", "-", given=given))["runs"][0]
+        f"method 06000001 A::b(): unproved\n  IL_0000 {words}: unproved\n" for words in texts)
+    run = json.loads(report("--sarif", "-", "--read", "-", given=whole(given)))["runs"][0]
     want([it["ruleId"] for it in run["results"]] == list(listed.values()), "docs/CI.md lists other numbers")
     want({rule["id"] for rule in run["tool"]["driver"]["rules"]} == set(listed.values()), "docs/CI.md lacks numbers")
 

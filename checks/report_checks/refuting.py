@@ -3,12 +3,12 @@ import json
 import os
 import re
 
-from report_checks.common import on_terminal, report, stand_in, summed, want
+from report_checks.common import on_terminal, ran, report, stand_in, want, whole
 from report_checks.lines import compile_lines
 from report_checks.sarif_rules import look_at_log
 
-# What is faulted: an obligation of the method itself, one of a called method, and one that is not the first; and each
-# way in which none is met. The two Twice print alike.
+# What is faulted: an obligation of the method itself, one of a called method, one that the called method's own run
+# faults too, and one of no method here; and each way in which none is met. The two Twice print alike.
 REPORT = """\
 assembly Lines.dll
 method 06000001 Lines::Sum(int32,int32): unproved
@@ -28,6 +28,8 @@ method 06000006 Lines::Twice(int32): unproved
 method 06000007 Lines::Twice(int32): not analysed: N2 generic
 method 06000008 Lines::Calls(bool): unproved
   IL_0005 overflow: unproved
+method 06000009 Lines::Later(bool[]): unproved
+  IL_0005 overflow: unproved
 """
 ANSWERS = {
     "Lines::Sum(int32,int32)": (8, "refuted: 255 2147483647", "fault overflow at IL_003d in Lines::Sum(int32,int32)"),
@@ -36,6 +38,7 @@ ANSWERS = {
     "Lines::Safe()": (0, "not refuted: 1 tried, 1 started"),
     "Lines::Twice(int32)": (11, "cccheck: does not fit: several methods"),
     "Lines::Calls(bool)": (8, "refuted: true", "fault null at IL_0009 in Other::Called(int32[])"),
+    "Lines::Later(bool[])": (8, "refuted: null", "fault overflow at IL_003d in Lines::Sum(int32,int32)"),
 }
 TEXT = """\
 Lines.dll
@@ -58,8 +61,11 @@ Lines.cs(29,13): warning CC0004: not proved: the array is not null (null at IL_0
   unproved Lines::Calls(bool)
     IL_0005 overflow
     wrong: Lines::Calls(true) faults: null at IL_0009 in Other::Called(int32[])
+  unproved Lines::Later(bool[])
+    IL_0005 overflow
+    wrong: Lines::Later(null) faults at Lines.cs(15,9): overflow at IL_003d in Lines::Sum(int32,int32)
 """
-SUMS = "Of 6 unproved methods 3 are wrong, 2 not shown to be, 1 not tried."
+SUMS = "Of 7 unproved methods 4 are wrong, 2 not shown to be, 1 not tried."
 REFUTATIONS = [
     {"refuted": False, "method": "Lines::Sum(int32,int32)", "arguments": ["255", "2147483647"],
      "fault": "overflow at IL_003d in Lines::Sum(int32,int32)"},
@@ -73,6 +79,8 @@ REFUTATIONS = [
     None,
     {"refuted": False, "method": "Lines::Calls(bool)", "arguments": ["true"],
      "fault": "null at IL_0009 in Other::Called(int32[])"},
+    {"refuted": False, "method": "Lines::Later(bool[])", "arguments": ["null"],
+     "fault": "overflow at IL_003d in Lines::Sum(int32,int32)"},
 ]
 
 
@@ -106,10 +114,12 @@ def look_at_refuting(folder):
     folder = os.path.join(folder, "refuting")
     tool = stand_in(folder, script_of(ANSWERS))
     with open(os.path.join(folder, "report"), "w", encoding="ascii") as file:
-        file.write(summed(REPORT))
+        file.write(whole(REPORT))
     compile_lines(folder)
     how = {"folder": folder, "tool": tool}
-    text = report("--refute", "--jobs", "2", "Lines.dll", **how)
+    it = ran("--refute", "--jobs", "2", "Lines.dll", **how)
+    text = it.stdout
+    want(not it.stderr, f"--refute writes to stderr, which is no terminal: {it.stderr}")
     want(text.startswith(TEXT) and text.endswith(f"\n{SUMS}\n"), f"--refute prints\n{text}")
     with open(os.path.join(folder, "asked"), encoding="ascii") as file:
         asked = file.read().splitlines()
@@ -142,9 +152,10 @@ def look_at_log_of(how):
 def look_at_progress(folder, tool):
     """On stderr, and where that is a terminal alone."""
     words = ["--refute", "Lines.dll"]
-    want(on_terminal(*words, stream="stdout", folder=folder, tool=tool).count(b"refute:") == 0, "progress on the output")
-    counts = re.findall(rb"\rrefute: (\d) of 6 methods", on_terminal(*words, stream="stderr", folder=folder, tool=tool))
-    want(counts == [b"1", b"2", b"3", b"4", b"5", b"6"], f"progress {counts}")
+    printed = {it: on_terminal(*words, stream=it, folder=folder, tool=tool) for it in ("stdout", "stderr")}
+    want(b"refute:" not in printed["stdout"], "progress on the output")
+    counts = re.findall(rb"\rrefute: (\d) of 7 methods", printed["stderr"])
+    want(b"".join(counts) == b"1234567", f"progress {counts}")
 
 
 def look_at_failing(folder, tool):
@@ -152,8 +163,9 @@ def look_at_failing(folder, tool):
     how = {"folder": folder, "tool": tool}
     report("--refute", "--fail-on", "wrong", "Lines.dll", status=1, **how)
     report("--fail-on", "wrong", "Lines.dll", status=2, **how)
-    given = REPORT[:REPORT.index("method 06000001")] + REPORT[REPORT.index("method 06000004"):REPORT.index("method 06000006")]
-    report("--refute", "--fail-on", "wrong", "--read", "-", given=given, **how)
+    at = [REPORT.index(f"method 0600000{number}") for number in (1, 4, 6)]
+    given = REPORT[:at[0]] + REPORT[at[1]:at[2]]
+    report("--refute", "--fail-on", "wrong", "--read", "-", given=whole(given), **how)
     given = "assembly Other.dll\nmethod 06000001 A::b(): unproved\n  IL_0000 null: unproved\n"
-    text = report("--refute", "--read", "-", given=given, **how)
+    text = report("--refute", "--read", "-", given=whole(given), **how)
     want("    not tried: this cccheck has no command refute\n" in text, f"without the command:\n{text}")

@@ -3,7 +3,7 @@ import json
 import os
 import tempfile
 
-from report_checks.common import report, want
+from report_checks.common import report, want, whole
 from report_checks.lines import CONTRACTS, compile_lines
 from report_checks.sarif_rules import look_at_log, look_at_rules
 
@@ -84,24 +84,24 @@ def look_at_results(shop):
 
 
 def look_at_names():
-    run = look_at_log(log_of(ALIKE))
+    run = look_at_log(log_of(whole(ALIKE)))
     want(len(run["logicalLocations"]) == 2 + 4 + 5 and len(run["results"]) == 7, f"of methods that print alike: {run}")
     names = found(run)
     want(len({name for _, _, name in names[:6]}) == 6, f"results that are named alike: {names}")
     # A report that comes twice repeats its results, whose locations stand in the log once.
-    listed = log_of(ALIKE + ALIKE)["runs"][0]["logicalLocations"]
+    listed = log_of(whole(ALIKE + ALIKE))["runs"][0]["logicalLocations"]
     want(listed == run["logicalLocations"], f"of a report that comes twice: {listed}")
 
 
 def look_at_fingerprints():
-    before, after = ([it["partialFingerprints"] for it in look_at_log(log_of(given))["results"]]
+    before, after = ([it["partialFingerprints"] for it in look_at_log(log_of(whole(given)))["results"]]
                      for given in (BEFORE, AFTER))
     want([before.index(it) if it in before else None for it in after] == SAME, f"fingerprints {before} and {after}")
 
 
 def look_at_sarif(folder, shop):
     compile_lines(folder)
-    look_at_rules(log_of(OTHER + CONTRACTS, folder=folder))
+    look_at_rules(log_of(whole(OTHER + CONTRACTS), folder=folder))
     look_at_results(shop)
     look_at_names()
     look_at_fingerprints()

@@ -39,7 +39,8 @@ INSIDE = {
     "results": "result", "region": "region",
 }
 LISTS = {
-    "runs", "rules", "invocations", "toolExecutionNotifications", "locations", "logicalLocations", "artifacts", "results",
+    "runs", "rules", "invocations", "toolExecutionNotifications", "locations", "logicalLocations", "artifacts",
+    "results",
 }
 LEVELS = ("none", "note", "warning", "error")
 
@@ -80,7 +81,8 @@ def version(log):
 
 def driver(log):
     for it, at in named(log, "driver"):
-        if not it.get("name") or not re.fullmatch(r"\d+\.\d+\.\d+", it.get("semanticVersion", "")) or not it.get("version"):
+        number = re.fullmatch(r"\d+\.\d+\.\d+", it.get("semanticVersion", ""))
+        if not (it.get("name") and it.get("version") and number):
             yield f"{at} lacks a name or a version"
         parts = urllib.parse.urlsplit(it.get("informationUri", ""))
         if not (parts.scheme and parts.netloc):

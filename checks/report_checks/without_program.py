@@ -1,7 +1,7 @@
 """tools/report where there is no program, or nothing to check: it says so at once, and starts no build."""
 import os
 
-from report_checks.common import ran, stand_in, want
+from report_checks.common import ran, stand_in, want, whole
 
 # It has no program, or one that does not run here.
 SCRIPT = """\
@@ -29,12 +29,12 @@ def look_at_missing_program(folder):
         it = ran(*words, status=3, **how)
         want("  no report: missing file nope.dll\n" in it.stdout and not it.stderr, f"{words}: {it.stdout}{it.stderr}")
     # Reports that are there need no program.
-    ran("--read", "-", given="assembly a\nmethod 06000001 T::f(): proved\n", **how)
+    ran("--read", "-", given=whole("assembly a\nmethod 06000001 T::f(): proved\n"), **how)
     want(not called(here), f"the launcher was called: {called(here)}")
     for words in (["a.dll"], ["a.dll", "nope.dll"], ["--refute", "a.dll"], ["--sarif", "-", "."]):
         it = ran(*words, status=3, **how)
         want(it.stderr == SAID and not it.stdout, f"{words}: {it.stdout}{it.stderr}")
-    given = "assembly a\nmethod 06000001 T::f(): unproved\n"
+    given = whole("assembly a\nmethod 06000001 T::f(): unproved\n")
     want(ran("--refute", "--read", "-", given=given, status=3, **how).stderr == SAID, "--refute without a program")
     want(set(called(here)) == {"--program"}, f"the launcher was called: {called(here)}")
 
