@@ -197,7 +197,8 @@ def look_at_not_analysed(folder):
              "method 06000003 Lines::First(int32[]): not analysed: N9 opcode 7e at IL_000b\n")
     lines = report("--only", "not-analysed", "--read", "-", given=whole(given), folder=folder).splitlines()
     for line in ("Lines.cs(8,9): info CC0108: Lines::Sum(int32,int32) is not analysed: N8 too large",
-                 "Lines.cs(27,32): info CC0111: Lines::First(int32[]) is not analysed: N9 opcode 7e at IL_000b"):
+                 "Lines.cs(27,32): info CC0111: Lines::First(int32[]) is not analysed: N9 opcode 7e at IL_000b, "
+                 "a static field, also behind a property"):
         want(line in lines, f"no {line!r} in {lines}")
 
 

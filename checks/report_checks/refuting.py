@@ -55,7 +55,7 @@ Lines.cs(29,13): warning CC0004: not proved: the array is not null (null at IL_0
   unproved Lines::Safe()
     IL_0000 overflow
     not shown: 1 argument lists tried, 1 started
-  unproved Lines::Twice(int32)
+  unproved Lines::Twice(int32) [06000006]
     IL_0000 overflow
     not tried: does not fit: several methods
   unproved Lines::Calls(bool)

@@ -4,6 +4,7 @@ import os
 import subprocess
 import sys
 
+from reporting.forms import add_forms, look_up_calls
 from reporting.paths import LAUNCHER
 from reporting.reports import Report, reports_of
 from reporting.source_lines import NoLines, lines_of
@@ -56,21 +57,27 @@ def launcher_words(options):
 
 
 def need_program(options):
-    """Raises ValueError, with what the launcher says, where it has no program. It starts no build."""
-    if not options.without_proofs:
-        asked = subprocess.run([LAUNCHER, "--program"], capture_output=True, check=False, stdin=subprocess.DEVNULL)
-        if asked.returncode == NO_PROGRAM:
-            raise ValueError(said_by(asked))
+    """The program's file, where it is to be run. Raises ValueError, with what the launcher says, where there is none.
+
+    It starts no build.
+    """
+    if options.without_proofs:
+        return ""
+    asked = subprocess.run([LAUNCHER, "--program"], capture_output=True, check=False, stdin=subprocess.DEVNULL)
+    if asked.returncode == NO_PROGRAM:
+        raise ValueError(said_by(asked))
+    return os.fsdecode(asked.stdout).removesuffix("\n")
 
 
 def checked_files(options):
     files, named = files_in(options.paths)
     missing = [path for path in files if not os.path.lexists(path)]
-    if len(missing) < len(files):
-        need_program(options)
+    program = need_program(options) if len(missing) < len(files) else ""
     words = launcher_words(options)
     with concurrent.futures.ThreadPoolExecutor(options.jobs) as pool:
         reports = list(pool.map(lambda path: checked(words, path), files))
+    if program:
+        look_up_calls(reports, program, options.jobs)
     return [report for report in reports if report.path in named or not report.is_refused]
 
 
@@ -101,4 +108,6 @@ def read_all(options):
         reports = checked_files(options)
     with concurrent.futures.ThreadPoolExecutor(options.jobs) as pool:
         list(pool.map(add_lines, reports))
+    for report in reports:
+        add_forms(report)
     return reports

@@ -66,23 +66,26 @@ REASONS = {
 # For words that this table does not have.
 OTHER = ("docs/REPORTS.md says what it is", "")
 
-# Opcodes outside the profile, by what they are in the source.
+# Opcodes outside the profile, what was written, and what to write instead.
+POINTERS = " ".join(f"{k:02x}" for k in [*range(0x46, 0x58), 0xDF])
+CONVERSIONS = " ".join(f"{k:02x}" for k in [*range(0x82, 0x8C), *range(0xB3, 0xBB)])
 OPCODES = [
-    ("7b 7c 7d fe13", "a field, so not in the profile", "pass its value as an argument"),
-    ("7e 7f 80", "a static field, so not in the profile", "pass its value as an argument"),
-    ("6f fe16 29", "a call of an object's method", "call a static method"),
-    ("73", "an object that is made", "keep objects in the caller"),
-    ("0f 12 fe0a fe0d 70 71 81 fe15 fe1c " + " ".join(f"{k:02x}" for k in [*range(0x46, 0x58), 0xDF]),
-     "ref, out, a pointer or a struct", "pass values and return the result"),
-    ("21 22 23 6a 6b 6c 6d 6e 76 d3 e0 " + " ".join(f"{k:02x}" for k in [*range(0x82, 0x8C), *range(0xB3, 0xBB)]),
-     "a number other than int, or a checked cast", "use int"),
-    ("67 68 d1 d2", "a cast to byte, sbyte, short, ushort or char", "use `& 255` or the like"),
-    ("d7 d9 db d4 d5", "a checked operation without sign", "use int"),
-    ("d0", "typeof, or an array with listed items", "assign the items one by one"),
-    ("7a fe1a dc dd de", "an exception", "return a value that says so"),
-    ("fe06 fe07", "a delegate or a lambda", "call the method itself"),
-    ("74 75 79 8c a5", "a cast of objects, or boxing", "keep objects in the caller"),
-    ("8f 90 92 93 95 96 97 98 99 9a 9b 9d 9f a0 a1 a2 a3 a4", "an array of other items", "use int[] or bool[]"),
+    ("7b 7c 7d fe13", "a field", "Pass its value as an argument."),
+    ("7e 7f 80", "a static field, also behind a property", "Pass its value as an argument, or make it a `const`."),
+    ("6f fe16 29", "a call of an object's method or property", "Call a static method."),
+    ("73", "`new` of an object, as in `if (..) throw new ..`",
+     "Write `Contract.Requires(..)` for an `if` that throws; keep other objects in the caller."),
+    (f"0f 12 fe0a fe0d 70 71 81 fe15 fe1c {POINTERS}", "`ref`, `out`, a struct or a pointer",
+     "Pass values, and return the result."),
+    (f"21 22 23 6a 6b 6c 6d 6e 76 d3 e0 {CONVERSIONS}", "a number other than int, or a checked cast", "Use int."),
+    ("67 68 d1 d2", "a cast to byte, sbyte, short, ushort or char", "Use `& 255` or the like."),
+    ("d7 d9 db d4 d5", "a checked operation without sign", "Use int."),
+    ("d0", "an array with listed items (`{ 1, 2, 3 }`), or typeof", "Assign the items one by one."),
+    ("7a fe1a dc dd de", "`throw`, or another part of an exception's code", "Return a value that says so."),
+    ("fe06 fe07", "a delegate or a lambda", "Call the method itself."),
+    ("8c", "a number made an object, as for a text", "Let the message of a contract be a text alone."),
+    ("74 75 79 a5", "a cast of objects, `is` or `as`", "Use int and bool."),
+    ("8f", "`a[i]++` or `a[i] += n`, which takes the item's address", "Write `a[i] = a[i] + 1`."),
+    ("90 92 93 95 96 97 98 99 9a 9b 9d 9f a0 a1 a2 a3 a4", "an array of other items", "Use int[] or bool[]."),
 ]
-OPCODE_WORDS = {opcode: (words, advice) for opcodes, words, advice in OPCODES for opcode in opcodes.split()}
-OTHER_OPCODE = ("an instruction outside the profile", "write it otherwise")
+OTHER_OPCODE = ("an instruction outside the profile", "Write it otherwise.")

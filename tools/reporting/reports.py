@@ -3,6 +3,7 @@ import dataclasses
 import functools
 import re
 
+from reporting.forms import Form
 from reporting.refutations import Refutation
 from reporting.source_lines import SourceLines
 
@@ -47,6 +48,9 @@ class Method:
     offset: int | None = None
     obligations: list = dataclasses.field(default_factory=list)
     refutation: Refutation | None = None
+    # Of a method that is not analysed: the instruction that may not stand, where it was looked up, and what was written.
+    instruction: str = ""
+    form: Form | None = None
 
 
 @dataclasses.dataclass

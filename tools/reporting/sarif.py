@@ -98,7 +98,7 @@ class Finding:
 
 
 def reason_finding(method, count):
-    text = f"{method.name} is not analysed{reason_text(method)}."
+    text = f"{method.name} is not analysed{reason_text(method)}. {method.form.advice}".rstrip()
     return Finding(method, reason_number(method.reason), method.reason, text, method.offset, "note", count)
 
 

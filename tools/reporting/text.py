@@ -3,7 +3,7 @@ import collections
 import os
 import sys
 
-from reporting.explanations import KINDS, OPCODE_WORDS, OTHER, OTHER_OPCODE, REASONS
+from reporting.explanations import KINDS, OTHER, REASONS
 from reporting.numbers import kind_number, reason_number
 from reporting.refutations import call_text, outcome_text
 from reporting.reports import VERDICTS
@@ -25,7 +25,7 @@ class Printer:
         return f"\033[{COLOURS[verdict]}m{words}\033[0m" if self.has_colours else words
 
     def method(self, report, method):
-        print(f"  {self.coloured(method.verdict)} {method.name}{reason_text(method)}")
+        print(f"  {self.coloured(method.verdict)} {shown_name(report, method)}{reason_text(method)}")
         place = report.lines.at(method.token, method.offset) if method.reason else None
         if place:
             print(f"{place}: info {reason_number(method.reason)}: {method.name} is not analysed{reason_text(method)}")
@@ -66,11 +66,18 @@ def search_text(report, method):
     return f"wrong: {call_text(method.name, found.arguments)} faults{f' at {place}' if place else ''}: {found.fault}"
 
 
+def shown_name(report, method):
+    """The printed name, with the token where another method of the assembly has the same one."""
+    return method.name if len(report.named[method.name]) == 1 else f"{method.name} [{method.token}]"
+
+
 def reason_text(method):
     if method.verdict != "not-analysed":
         return ""
     opcode = f" {method.opcode}" if method.opcode else ""
-    return f": {method.reason}{opcode}" + ("" if method.offset is None else f" at IL_{method.offset:04x}")
+    offset = "" if method.offset is None else f" at IL_{method.offset:04x}"
+    form = f", {method.form.words}" if method.form and method.form.words else ""
+    return f": {method.reason}{opcode}{offset}{form}"
 
 
 def sums_text(reports):
@@ -80,27 +87,32 @@ def sums_text(reports):
             f"{len(obligations)} obligations, {sum(it.proved for it in obligations)} proved")
 
 
-def print_counted(title, counted, explained):
-    if not counted:
-        return
-    print(f"\n{title}")
-    for words, count in counted.most_common():
-        meaning, advice = explained(words)
-        print(f"{count:7} {words}: {meaning}.")
+def print_kinds(methods):
+    counted = collections.Counter(it.kind for method in methods for it in method.obligations if not it.proved)
+    if counted:
+        print("\nWhat is not proved, which may hold all the same: what is known of the values does not show it.")
+    for kind, count in counted.most_common():
+        asks, advice = KINDS.get(kind, OTHER)
+        print(f"{count:7} {kind}: {asks}.")
         if advice:
             print(f"        {advice}")
 
 
-def opcodes_counted(methods):
-    """How many methods each group of opcodes keeps from being analysed, with what it is and what to write instead."""
-    found = collections.defaultdict(collections.Counter)
+def print_reasons(methods):
+    """Each reason, and below it what was written and what to write instead."""
+    forms = collections.defaultdict(collections.Counter)
     for method in methods:
-        if method.opcode:
-            found[OPCODE_WORDS.get(method.opcode, OTHER_OPCODE)][method.opcode] += 1
-    explained = {f"opcode {' '.join(sorted(met))}": (words, advice[0].upper() + advice[1:] + ".", met.total())
-                 for (words, advice), met in found.items()}
-    counted = collections.Counter({title: count for title, (_, _, count) in explained.items()})
-    return counted, lambda title: explained[title][:2]
+        if method.reason:
+            forms[method.reason][method.form] += 1
+    if forms:
+        print("\nWhy methods are not analysed:")
+    for reason, counted in sorted(forms.items(), key=lambda it: -it[1].total()):
+        print(f"{counted.total():7} {reason}: {REASONS.get(reason, OTHER)[0]}.")
+        for form, count in counted.most_common():
+            if form.words:
+                print(f"        {count} {form.words}:")
+            if form.advice:
+                print(f"        {'    ' if form.words else ''}{form.advice}")
 
 
 def print_refuted(reports):
@@ -132,10 +144,6 @@ def print_text(reports, only, has_context=False):
     if len(reports) > 1:
         print(f"\n{len(reports)} files, {sums_text(reports)}")
     methods = [method for report in reports for method in report.methods]
-    unproved = collections.Counter(it.kind for method in methods for it in method.obligations if not it.proved)
-    reasons = collections.Counter(method.reason for method in methods if method.reason)
-    not_proved = "What is not proved, which may hold all the same: what is known of the values does not show it."
-    print_counted(not_proved, unproved, lambda kind: KINDS.get(kind, OTHER))
-    print_counted("Why methods are not analysed:", reasons, lambda reason: REASONS.get(reason, OTHER))
-    print_counted("Of these, by the instruction outside the profile:", *opcodes_counted(methods))
+    print_kinds(methods)
+    print_reasons(methods)
     print_refuted(reports)
