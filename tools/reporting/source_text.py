@@ -17,7 +17,7 @@ def lines_in(file):
     try:
         with open(file, encoding="utf-8-sig", errors="replace") as source:
             return tuple(source.read().split("\n"))
-    except OSError:
+    except (OSError, UnicodeEncodeError):
         return ()
 
 
