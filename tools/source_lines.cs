@@ -9,6 +9,7 @@
 using System;
 using System.IO;
 using System.Linq;
+using System.Text;
 using Mono.Cecil;
 using Mono.Cecil.Cil;
 using Mono.CompilerServices.SymbolWriter;
@@ -73,6 +74,7 @@ static class SourceLines
 
     static int Main(string[] words)
     {
+        Console.OutputEncoding = new UTF8Encoding(false);
         try
         {
             PrintAll(words[0]);

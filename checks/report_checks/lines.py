@@ -151,7 +151,19 @@ def look_at_portable(folder):
         want(os.path.exists(os.path.join(target, "Lines.pdb")) == (name == "beside"), f"symbols are not {name}")
         for region in look_at_places(target, f"portable symbols {name}"):
             want((region["endLine"], region["endColumn"]) == (region["startLine"] + 1, 5), f"{name}: {region}")
+    look_at_other_names(folder, rows)
     look_at_windows(os.path.join(folder, "beside"), rows)
+
+
+def look_at_other_names(folder, rows):
+    """A source that lies elsewhere, under a name of Windows with a blank and a letter outside ASCII."""
+    target = os.path.join(folder, "elsewhere")
+    make_portable(folder, target, [[*row[:6], "C:\\my src\\L\u00efnes.cs"] for row in rows])
+    words, how = ["--only", "unproved", "--read", "-"], {"given": whole(CONTRACTS), "folder": target}
+    want("\nC:\\my src\\L\u00efnes.cs(9,9): warning CC0003: " in report(*words, **how), "a name of Windows")
+    run = look_at_log(json.loads(report("--sarif", "-", *words, **how)))
+    found = {it["locations"][0]["physicalLocation"]["artifactLocation"]["uri"] for it in run["results"]}
+    want(found == {"file:///C:/my%20src/L%C3%AFnes.cs"}, f"the address of a name of Windows: {found}")
 
 
 def look_at_windows(folder, rows):

@@ -1,5 +1,4 @@
 """Arguments on which an unproved method goes wrong, found by `cccheck refute`."""
-import collections
 import concurrent.futures
 import dataclasses
 import re
@@ -74,9 +73,9 @@ def outcome_text(method, it):
 
 def mark_witnesses(report):
     """Each fault is kept beside the obligation that it breaks, in the method itself or in one that it calls."""
-    named = collections.Counter(method.name for method in report.methods)
     broken = {(method.name, it.offset, it.text): (method, it)
-              for method in report.methods if named[method.name] == 1 for it in method.obligations if not it.proved}
+              for method, *others in report.named.values() if not others
+              for it in method.obligations if not it.proved}
     for method in report.methods:
         fault = method.refutation and method.refutation.fault
         owner, it = broken.get((fault.method, fault.offset, fault.kind), (None, None)) if fault else (None, None)

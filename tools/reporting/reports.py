@@ -1,5 +1,4 @@
 """The reports that `cccheck check` prints, read."""
-import collections
 import dataclasses
 import functools
 import re
@@ -65,9 +64,12 @@ class Report:
     lines: SourceLines = dataclasses.field(default_factory=SourceLines)
 
     @functools.cached_property
-    def names(self):
-        """How many methods have each name."""
-        return collections.Counter(method.name for method in self.methods)
+    def named(self):
+        """The methods of each printed name, which several may share. It is asked when the report is whole."""
+        named = {}
+        for method in self.methods:
+            named.setdefault(method.name, []).append(method)
+        return named
 
     def count(self, verdict):
         """How many methods have a verdict, or are `wrong`: on some arguments they were met to fault."""

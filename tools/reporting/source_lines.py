@@ -67,7 +67,7 @@ class SourceLines:
 def shown_path(file):
     """The path from the current folder where the file lies below it, else as the symbols have it."""
     inside = os.path.relpath(file) if os.path.isabs(file) else file
-    return file if inside.startswith(os.pardir) else inside
+    return file if inside.split(os.sep)[0] == os.pardir else inside
 
 
 def is_of_windows(symbols):

@@ -17,7 +17,7 @@ def lines_in(file):
     try:
         with open(file, encoding="utf-8-sig", errors="replace") as source:
             return tuple(source.read().split("\n"))
-    except OSError:
+    except (OSError, UnicodeEncodeError):
         return ()
 
 
@@ -39,6 +39,7 @@ def first_argument(text):
     return ""
 
 
+@functools.lru_cache(maxsize=4096)
 def contract_at(place):
     """The name of the contract that is called at a place, and its condition; or None."""
     lines = lines_in(place.file)[place.line - 1:]
@@ -49,9 +50,10 @@ def contract_at(place):
     return (found.group(1), first_argument(text.lstrip()[found.end():])) if found else None
 
 
-def clauses_of(report, method, name):
+@functools.lru_cache(maxsize=4096)
+def clauses_of(lines, token, name):
     """The conditions of a method's Requires or Ensures and their places, in order."""
-    places = dict.fromkeys(report.lines.of_method(method.token))
+    places = dict.fromkeys(lines.of_method(token))
     found = ((contract_at(place), place) for place in places)
     return [(contract[1], place) for contract, place in found if contract and contract[0] == name]
 
@@ -61,8 +63,8 @@ def condition_of(report, method, obligation):
     clause = CLAUSE.match(obligation.text)
     if clause:
         kind, number, callee = clause.groups()
-        methods = [it for it in report.methods if it.name == callee] if callee else [method]
-        clauses = clauses_of(report, methods[0], kind.capitalize()) if len(methods) == 1 else []
+        methods = report.named.get(callee, []) if callee else [method]
+        clauses = clauses_of(report.lines, methods[0].token, kind.capitalize()) if len(methods) == 1 else []
         return clauses[int(number) - 1] if int(number) <= len(clauses) else None
     place = report.lines.at(method.token, obligation.offset)
     contract = contract_at(place) if place and obligation.text == "assert" else None

@@ -61,14 +61,14 @@ def search_text(report, method):
     found = method.refutation
     if not found.fault:
         return str(found)
-    others = [it for it in report.methods if it.name == found.fault.method]
+    others = report.named.get(found.fault.method, [])
     place = report.lines.at(others[0].token, found.fault.offset) if len(others) == 1 else None
     return f"wrong: {call_text(method.name, found.arguments)} faults{f' at {place}' if place else ''}: {found.fault}"
 
 
 def shown_name(report, method):
     """The printed name, with the token where another method of the assembly has the same one."""
-    return method.name if report.names[method.name] == 1 else f"{method.name} [{method.token}]"
+    return method.name if len(report.named[method.name]) == 1 else f"{method.name} [{method.token}]"
 
 
 def reason_text(method):
@@ -76,7 +76,8 @@ def reason_text(method):
         return ""
     opcode = f" {method.opcode}" if method.opcode else ""
     offset = "" if method.offset is None else f" at IL_{method.offset:04x}"
-    return f": {method.reason}{opcode}{offset}" + (f", {method.form.words}" if method.form and method.form.words else "")
+    form = f", {method.form.words}" if method.form and method.form.words else ""
+    return f": {method.reason}{opcode}{offset}{form}"
 
 
 def sums_text(reports):
