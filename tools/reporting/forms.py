@@ -35,7 +35,6 @@ class Form:
 
 LOOP = "Write a loop; test or assume an item where it is read, as by `Contract.Assume(item > 0)`."
 LAMBDA = Form("a lambda, as in Contract.ForAll", LOOP)
-CLOSURE = Form("a lambda that uses a variable of its method, as in Contract.ForAll", LOOP)
 MADE_OF_LAMBDA = Form("what the compiler makes of a lambda", "See the method that has the lambda.")
 MADE_OF_YIELD = Form("what the compiler makes of yield or await", "Move the calculation into a static method.")
 CONSTRUCTOR = Form(
@@ -187,7 +186,7 @@ def form_of(method, names, place):
     if method.reason == "N4 signature type":
         return signature_form(name)
     if method.reason == "N5 local type":
-        return CLOSURE if name in names.with_lambda else LOCAL_VARIABLE
+        return LAMBDA if name in names.with_lambda else LOCAL_VARIABLE
     if method.reason == "N9 opcode":
         return opcode_form(method, name, names)
     if method.reason in ("N10 not pure", "N11 token") and method.instruction:

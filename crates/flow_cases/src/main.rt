@@ -1,6 +1,6 @@
 //! Runs cases of states that flow along the edges of units, of forged invariants, and of the verdicts under them.
 //!
-//! The words are the names of files of cases. docs/RULE_CASES.md says how a case is written.
+//! The words are the names of files of cases. docs/CASES.md says how a case is written.
 #![tactic(auto)]
 
 mod flows;

@@ -1,6 +1,6 @@
 //! Runs cases of single rules on ranges, and on numbers of which ranges, bounds and definitions are known together.
 //!
-//! The words are the names of files of cases. docs/RULE_CASES.md says how a case is written.
+//! The words are the names of files of cases. docs/CASES.md says how a case is written.
 #![tactic(auto)]
 
 mod facts;

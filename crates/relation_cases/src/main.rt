@@ -1,6 +1,6 @@
 //! Runs cases of single rules on bounds, names and references: what each gives, or that it may not be asked.
 //!
-//! The words are the names of files of cases. docs/RULE_CASES.md says how a case is written.
+//! The words are the names of files of cases. docs/CASES.md says how a case is written.
 #![tactic(auto)]
 
 mod apart_rules;

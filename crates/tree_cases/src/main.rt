@@ -1,6 +1,6 @@
 //! Runs cases of trees of clauses in whole states, and of the conditions of operations.
 //!
-//! The words are the names of files of cases. docs/RULE_CASES.md says how a case is written.
+//! The words are the names of files of cases. docs/CASES.md says how a case is written.
 #![tactic(auto)]
 
 mod condition_rules;
