@@ -43,14 +43,14 @@ ANSWERS = {
 TEXT = """\
 Lines.dll
   unproved Lines::Sum(int32,int32)
-Lines.cs(10,9): warning CC0003: not proved: the condition of an Assert holds (assert at IL_0036)
+Lines.cs(10,9): warning CC0003: not proved that the condition of an Assert holds (assert at IL_0036)
 Lines.cs(15,9): warning CC0009: wrong: Lines::Sum(255, 2147483647) faults here (overflow at IL_003d)
   unproved Lines::Part(int32[],int32)
-Lines.cs(22,9): warning CC0006: not proved: the index is below the array's length (upper bound at IL_0033)
+Lines.cs(22,9): warning CC0006: not proved that the index is below the array's length (upper bound at IL_0033)
 Lines.cs(22,9): warning CC0002: wrong: Lines::First([1,2]) faults here (ensures 1 at IL_0034)
     not shown: 45 argument lists tried, 7 started
   unproved Lines::First(int32[])
-Lines.cs(29,13): warning CC0004: not proved: the array is not null (null at IL_000a)
+Lines.cs(29,13): warning CC0004: not proved that the array is not null (null at IL_000a)
     wrong: Lines::First([1,2]) faults at Lines.cs(22,9): ensures 1 at IL_0034 in Lines::Part(int32[],int32)
   unproved Lines::Safe()
     IL_0000 overflow
