@@ -119,8 +119,9 @@ def look_at_places(folder, form):
 
 def points_of_mdb(folder):
     """What the reader of symbols prints of Lines.dll, as rows of fields."""
-    cache = os.environ.get("XDG_CACHE_HOME") or os.path.expanduser("~/.cache")
-    reader = max(glob.glob(os.path.join(cache, "cccheck/source_lines-*.exe")), key=os.path.getmtime)
+    ask = "from reporting.source_lines import compiled_reader; print(compiled_reader(), end='')"
+    reader = subprocess.run([sys.executable, "-B", "-c", ask], capture_output=True, text=True, check=True,
+                            cwd=os.path.join(TOP, "tools")).stdout
     printed = subprocess.run(["mono", reader, os.path.join(folder, "Lines.dll")], capture_output=True, text=True,
                              check=True).stdout
     return [line.split("\t") for line in printed.splitlines()]
