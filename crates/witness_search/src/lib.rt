@@ -2,7 +2,11 @@
 #![tactic(auto)]
 
 mod answer;
-mod search;
+mod choice;
+mod lists;
+mod method_search;
+mod trial;
+mod values;
 
 pub use answer::{Search, SearchRefusal};
-pub use search::search;
+pub use method_search::search;

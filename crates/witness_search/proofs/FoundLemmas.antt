@@ -1,0 +1,136 @@
+-- What is found, list by list.
+use Rattle.std.proofs.Common.{◌≡◌, ◌≢◌, ℕ, zero, suc, ◌+◌, ◌<◌, ◌≤◌, Bool, true, false, is_none, is_some, List, [], ◌∷◌, ◌++◌, length, take, drop, Option, Some, None, IfOk, Result, slice_get, unwrap_or, if◌then◌else◌, cond, refl, sym, ap, subst, ◌∙◌, arith}
+use Rattle.std.specs.List.{AllByRecursion, cons_option, filter, filter_map}
+use Rattle.std.proofs.lemmas.List.{length-append, length-take-le, take_all}
+use Rattle.std.proofs.lemmas.List.Elements.{filter-append, filter_map-append}
+use Rattle.std.proofs.lemmas.Option.{same_Some}
+use Rattle.cil_model.specs.declared.arg.Arg.{Arg}
+use Rattle.cil_model.specs.declared.machine.FaultKind.{FaultKind}
+use Rattle.cil_model.specs.declared.machine.World.{World}
+use Rattle.cil_model.specs.declared.unit.Unit.{Unit as MethodUnit}
+use Rattle.cil_eval.specs.declared.stop.Stop.{Stop}
+use Rattle.cil_eval.specs.declared.stop.Stop.TheVariants as stops
+use Rattle.witness_search.specs.Searches.{HasTried, ending, fault_in, fault_of, found_among, is_started, not_found}
+use Rattle.witness_search.specs.declared.answer.Search.{Search}
+use Rattle.witness_search.specs.declared.answer.Search.TheVariants as searches
+
+-- ---- lists
+
+-- The first item that is left is the next one.
+next_taken : {X : Type 0} (xs : List X) (n : ℕ) (x : X) → slice_get (drop n xs) 0 ≡ Some x → take (n + 1) xs ≡ take n xs ++ x ∷ []
+next_taken [] zero x e = absurd cc
+next_taken [] (suc n) x e = absurd cc
+next_taken (first ∷ xs) zero x e = ap (λ x. x ∷ []) (same_Some first x e)
+next_taken (first ∷ xs) (suc n) x e = ap (λ rest. first ∷ rest) (next_taken xs n x e)
+
+next_is_there : {X : Type 0} (xs : List X) (n : ℕ) (x : X) → slice_get (drop n xs) 0 ≡ Some x → n < length xs
+next_is_there [] zero x e = absurd cc
+next_is_there [] (suc n) x e = absurd cc
+next_is_there (first ∷ xs) zero x e = omega arith
+next_is_there (first ∷ xs) (suc n) x e = omega (arith, next_is_there xs n x e)
+
+none_is_there : {X : Type 0} (xs : List X) (n : ℕ) → None ≡ slice_get (drop n xs) 0 → length xs ≤ n
+none_is_there [] n e = omega arith
+none_is_there (x ∷ xs) zero e = absurd cc
+none_is_there (x ∷ xs) (suc n) e = omega (arith, none_is_there xs n e)
+
+others_left : {X : Type 0} (xs : List X) (n : ℕ) → drop 1 (drop n xs) ≡ drop (n + 1) xs
+others_left [] zero = refl
+others_left [] (suc n) = refl
+others_left (x ∷ xs) zero = refl
+others_left (x ∷ xs) (suc n) = others_left xs n
+
+-- Of the first items, the one after those that give nothing is the first that gives something.
+first_given : {X Y : Type 0} (f : X → Option Y) (xs : List X) (n m : ℕ) (x : X) (y : Y) → filter_map f (take n xs) ≡ [] → slice_get (drop n xs) 0 ≡ Some x → f x ≡ Some y → n < m
+    → slice_get (filter_map f (take m xs)) 0 ≡ Some y
+first_given f xs n zero x y none e gives less = absurd (omega (arith, less))
+first_given f [] zero (suc m) x y none e gives less = absurd cc
+first_given f [] (suc n) (suc m) x y none e gives less = absurd cc
+first_given f (first ∷ xs) zero (suc m) x y none e gives less =
+    ap (λ given. slice_get (cons_option given (filter_map f (take m xs))) 0) (ap f (same_Some first x e) ∙ gives)
+first_given f (first ∷ xs) (suc n) (suc m) x y none e gives less = by (f first) none
+  where
+    by : (given : Option _) → cons_option given (filter_map f (take n xs)) ≡ [] → slice_get (cons_option given (filter_map f (take m xs))) 0 ≡ Some y
+    by None none = first_given f xs n m x y none e gives (omega (arith, less))
+    by (Some other) none = absurd cc
+
+-- ---- one list more
+
+pub nothing_tried : (w : World) (index : ℕ) (lists : List (List Arg)) → HasTried w index lists 0 0 lists
+nothing_tried w index lists = record { left_are = refl; few = omega arith; no_fault = refl; started_is = refl; few_started = omega arith }
+
+module _ (w : World) (index : ℕ) (lists : List (List Arg)) (tried started : ℕ) (left : List (List Arg)) (so_far : HasTried w index lists tried started left) where
+  module _ (given : List Arg) (next : Some given ≡ slice_get left 0) where
+    there : slice_get (drop tried lists) 0 ≡ Some given
+    there = ap (λ all. slice_get all 0) (sym so_far.left_are) ∙ sym next
+
+    taken : take (tried + 1) lists ≡ take tried lists ++ given ∷ []
+    taken = next_taken lists tried given there
+
+    count : Bool → ℕ
+    count b = if b then 1 else 0
+
+    counted_one : (b : Bool) → b ≡ is_started w index given → length (filter (is_started w index) (given ∷ [])) ≡ count b
+    counted_one b is = ap (λ b. length (cond b (given ∷ []) [])) (sym is) ∙ by b
+      where
+        by : (b : Bool) → length (cond b (given ∷ []) []) ≡ count b
+        by true = refl
+        by false = refl
+
+    at_most_one : (b : Bool) → count b ≤ 1
+    at_most_one true = omega arith
+    at_most_one false = omega arith
+
+    tried_more : (b : Bool) (more : ℕ) → fault_of w index given ≡ None → b ≡ is_started w index given → more ≡ started + count b → HasTried w index lists (tried + 1) more (drop 1 left)
+    tried_more b more none is sum = record {
+      left_are = ap (λ all. drop 1 all) so_far.left_are ∙ others_left lists tried;
+      few = omega (arith, next_is_there lists tried given there);
+      no_fault =
+          ap (filter_map (fault_of w index)) taken ∙ filter_map-append (fault_of w index) (take tried lists) (given ∷ [])
+          ∙ ap (λ found. found ++ cons_option (fault_of w index given) []) so_far.no_fault ∙ ap (λ fault. cons_option fault []) none;
+      started_is =
+          sum ∙ ap (λ n. n + count b) so_far.started_is ∙ ap (λ n. length (filter (is_started w index) (take tried lists)) + n) (sym (counted_one b is))
+          ∙ sym (ap (λ some. length (filter (is_started w index) some)) taken ∙ ap length (filter-append (is_started w index) (take tried lists) (given ∷ []))
+          ∙ length-append (filter (is_started w index) (take tried lists)) (filter (is_started w index) (given ∷ [])));
+      few_started = omega (arith, sum, at_most_one b, so_far.few_started);
+    }
+
+    is_no_fault : (stop : Option Stop) → ((kind : FaultKind) (unit at : ℕ) → stop ≢ Some (stops.Fault kind unit at)) → fault_in given stop ≡ None
+    is_no_fault None no = refl
+    is_no_fault (Some (stops.Fault kind unit at)) no = absurd (no kind unit at refl)
+    is_no_fault (Some (stops.Returned result)) no = refl
+    is_no_fault (Some (stops.Assumed unit at)) no = refl
+    is_no_fault (Some stops.Steps) no = refl
+    is_no_fault (Some stops.Depth) no = refl
+    is_no_fault (Some stops.Cells) no = refl
+
+    -- A list with which no run ends in a fault is tried.
+    pub tried_one : (stop : Option Stop) (more : ℕ) → stop ≡ ending w index given → is_some stop ≡ is_started w index given
+        → ((kind : FaultKind) (unit at : ℕ) → stop ≢ Some (stops.Fault kind unit at)) → more ≡ started + count (is_some stop) → HasTried w index lists (tried + 1) more (drop 1 left)
+    tried_one stop more ends starts no sum = tried_more (is_some stop) more (ap (fault_in given) (sym ends) ∙ is_no_fault stop no) starts sum
+
+    -- The first list with which a run ends in a fault is found.
+    pub found_one : (runs : ℕ) (kind : FaultKind) (unit at : ℕ) → Some (stops.Fault kind unit at) ≡ ending w index given → tried < runs
+        → searches.Found given kind unit at ≡ found_among w index (take runs lists)
+    found_one runs kind unit at ends less =
+        sym (ap (λ first. unwrap_or first (not_found w index (take runs lists)))
+        (first_given (fault_of w index) lists tried runs given (searches.Found given kind unit at) so_far.no_fault there (ap (fault_in given) (sym ends)) less))
+
+  counted : (some : List (List Arg)) → take tried lists ≡ some → length some ≡ tried → searches.NotFound tried started ≡ found_among w index some
+  counted some are many =
+      ap (λ n. searches.NotFound n started) (sym many)
+      ∙ ap (λ n. searches.NotFound (length some) n) (so_far.started_is ∙ ap (λ all. length (filter (is_started w index) all)) are)
+      ∙ sym (ap (λ found. unwrap_or (slice_get found 0) (not_found w index some)) (ap (filter_map (fault_of w index)) (sym are) ∙ so_far.no_fault))
+
+  -- No list is left.
+  pub none_is_left : (runs : ℕ) → None ≡ slice_get left 0 → tried ≤ runs → searches.NotFound tried started ≡ found_among w index (take runs lists)
+  none_is_left runs none few =
+      let all : length lists ≤ tried = none_is_there lists tried (none ∙ ap (λ all. slice_get all 0) so_far.left_are) in
+      let whole : take runs lists ≡ lists = take_all runs lists (omega (arith, all, few)) in
+      counted (take runs lists) (take_all tried lists all ∙ sym whole) (ap length whole ∙ omega (arith, all, so_far.few))
+
+  -- As many lists were tried as may be.
+  pub all_are_tried : (runs : ℕ) → tried ≡ runs → searches.NotFound runs started ≡ found_among w index (take runs lists)
+  all_are_tried runs e =
+      ap (λ n. searches.NotFound n started) (sym e)
+      ∙ counted (take runs lists) (ap (λ n. take n lists) e) (ap (λ n. length (take n lists)) (sym e) ∙ length-take-le tried lists so_far.few)

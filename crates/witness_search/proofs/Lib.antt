@@ -1,0 +1,4 @@
+pub mod ChoiceLemmas
+pub mod ListLemmas
+pub mod FoundLemmas
+pub mod FaultyRuns
