@@ -1,5 +1,5 @@
 -- What a search finds.
-use Rattle.std.specs.Prelude.{◌≡◌, ℕ, ◌≤◌, Bool, true, false, List, [], ◌∷◌, ◌++◌, length, take, drop, Option, Some, None, is_none, slice_get, unwrap_or, if◌then◌else◌}
+use Rattle.std.specs.Prelude.{◌≡◌, ◌≢◌, ℕ, ◌≤◌, Bool, true, false, List, [], ◌∷◌, ◌++◌, length, take, drop, Option, Some, None, is_none, slice_get, unwrap_or, if◌then◌else◌}
 use Rattle.std.specs.List.{AllByRecursion, filter, filter_map}
 use Rattle.std.specs.Option.{option_and_then, option_map_or}
 use Rattle.cil_eval.specs.Outcome.{outcome}
@@ -8,6 +8,7 @@ use Rattle.cil_eval.specs.declared.limits.Limits.{Limits}
 use Rattle.cil_eval.specs.declared.stop.Stop.{Stop}
 use Rattle.cil_eval.specs.declared.stop.Stop.TheVariants as stops
 use Rattle.cil_model.specs.declared.arg.Arg.{Arg}
+use Rattle.cil_model.specs.declared.machine.FaultKind.{FaultKind}
 use Rattle.cil_model.specs.declared.machine.World.{World}
 use Rattle.cil_model.specs.declared.unit.Unit.{Unit as MethodUnit}
 use Rattle.witness_search.specs.Choices.{argument_lists}
@@ -92,6 +93,10 @@ is_found (searches.Found given kind unit at) = true
 is_found (searches.NotFound tried started) = false
 
 -- ---- a search that goes on
+
+-- The run did not end in a fault.
+abbrev pub EndsInNoFault : Option Stop → Type 0
+EndsInNoFault stop = (kind : FaultKind) (unit at : ℕ) → stop ≢ Some (stops.Fault kind unit at)
 
 -- So many of the lists were tried, with so many of them a run was started, with none it ended in a fault, and these are
 -- left.

@@ -7,13 +7,13 @@ ghost use Rattle.witness_search.specs.Searches.{Tells, found_among, is_found, se
 
 use crate::answer::{Search, SearchRefusal};
 use crate::lists::ArgumentLists;
-use crate::trial::{LIMITS, ending};
-use cil_eval::{Machine, Stop};
+use crate::trial::{LIMITS, ending, fault_in};
+use cil_eval::Machine;
 use cil_model::World;
 use std::alloc::{AllocError, Global};
 
 /// Tries up to `runs` of these lists with the method of this unit, up to the first with which its run ends in a fault.
-#[tactic(auto, using(crate::proofs::FoundLemmas::nothing_tried, crate::proofs::FoundLemmas::tried_one, crate::proofs::FoundLemmas::found_one, crate::proofs::FoundLemmas::none_is_left, crate::proofs::FoundLemmas::all_are_tried))]
+#[tactic(auto, using(crate::proofs::FoundLemmas::nothing_tried, crate::proofs::FoundLemmas::found_one, crate::proofs::FoundLemmas::all_are_tried))]
 fn first_fault(
     alloc: Global,
     machine: &mut Machine<'_>,
@@ -31,12 +31,12 @@ fn first_fault(
             return Ok(Search::NotFound { tried, started });
         };
         let stop = ending(machine, unit, args);
-        if let Some(Stop::Fault(kind, unit, at)) = stop {
+        if let Some(fault) = fault_in(stop) {
             return Ok(Search::Found {
                 args: lists.into_first(),
-                kind,
-                unit,
-                at,
+                kind: fault.kind,
+                unit: fault.unit,
+                at: fault.at,
             });
         }
         started += u32::from(stop.is_some());

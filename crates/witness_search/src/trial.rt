@@ -1,12 +1,12 @@
 //! Runs with one argument list.
 
-ghost use Rattle.std.specs.Prelude.{◌≡◌, is_some};
+ghost use Rattle.std.specs.Prelude.{◌≡◌, Some, MatchOption, is_some};
 ghost use Rattle.cil_eval.specs.Machines.{IsSameMachine};
 ghost use Rattle.cil_eval.specs.RunWorlds.{CanBeRun};
-ghost use Rattle.witness_search.specs.Searches.{ending, is_started, search_limits};
+ghost use Rattle.witness_search.specs.Searches.{EndsInNoFault, ending, is_started, search_limits};
 
 use cil_eval::{Limits, Machine, Stop};
-use cil_model::Arg;
+use cil_model::{Arg, FaultKind};
 
 /// The limits of each run.
 pub(crate) const LIMITS: Limits = Limits {
@@ -14,6 +14,26 @@ pub(crate) const LIMITS: Limits = Limits {
     cells: 65_536,
     depth: 100,
 };
+
+/// A fault in which a run ended.
+#[derive(Clone, Copy, Debug)]
+pub(crate) struct Fault {
+    pub kind: FaultKind,
+    /// The index in the world of the unit that it is in.
+    pub unit: u32,
+    /// Its IL offset.
+    pub at: u32,
+}
+
+/// The fault in which a run ended, if it ended in one.
+pub(crate) fn fault_in(stop: Option<Stop>) -> Option<Fault>
+    ensures { MatchOption result (EndsInNoFault stop) (λ fault. stop ≡ Some (Stop.Fault fault.kind fault.unit fault.at)) }
+{
+    match stop {
+        Some(Stop::Fault(kind, unit, at)) => Some(Fault { kind, unit, at }),
+        _ => None,
+    }
+}
 
 /// How a run of the method of this unit ends with these arguments. None where it does not start.
 pub(crate) fn ending(machine: &mut Machine<'_>, unit: u32, args: &[Arg]) -> Option<Stop>
