@@ -74,6 +74,7 @@ first_goes_on old new olds news all others later is made next none same went e =
         (next_value old (went_on old) olds news last.0 last.1 same refl at (omega (arith, at, ltb-true _ _ more)))
     by false more e =
         let at : (went_on old).chosen ≡ 0 = ap (λ b. if b then old.chosen + 1 else 0) more in
-        subst (IsNextOf (old ∷ olds) (went_on old ∷ news)) (sym (e ∙ ap (λ n. nat_lt 0 n) at))
-        (last_value old (went_on old) olds news last.0 last.1 same refl (omega (arith, ltb-false _ _ more)),
-        first_again old (went_on old) olds news last.0 last.1 same refl at (omega (arith, made)))
+        subst (IsNextOf (old ∷ olds) (went_on old ∷ news)) (sym (e ∙ ap (λ n. nat_lt 0 n) at)) (
+          last_value old (went_on old) olds news last.0 last.1 same refl (omega (arith, ltb-false _ _ more)),
+          first_again old (went_on old) olds news last.0 last.1 same refl at (omega (arith, made)),
+        )

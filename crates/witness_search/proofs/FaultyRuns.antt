@@ -1,6 +1,7 @@
 -- A method of which a run ends in a fault is not safe.
-use Rattle.std.proofs.Common.{◌≡◌, ℕ, zero, suc, Bool, true, false, is_none, List, [], ◌∷◌, ◌++◌, map, take, length, Option, Some, None, slice_get, unwrap_or, refl, sym, ap, subst, ◌∙◌, arith}
+use Rattle.std.proofs.Common.{◌≡◌, ℕ, zero, suc, Bool, true, false, is_none, List, [], ◌∷◌, ◌++◌, map, take, length, Option, Some, None, slice_get, if◌then◌else◌, refl, sym, ap, subst, ◌∙◌, arith}
 use Rattle.std.specs.List.{AllByRecursion}
+use Rattle.std.proofs.lemmas.Option.{same_Some}
 use Rattle.cil_model.specs.Calls.{clauses_in_force}
 use Rattle.cil_model.specs.Clauses.{false_requires}
 use Rattle.cil_model.specs.Runs.{Runs, Safe, Step, StepsTo, entry_config}
@@ -29,21 +30,22 @@ module _ (w : World) (limits : Limits) (kind : FaultKind) (inside at : ℕ) wher
     pub count : ℕ
     pub steps : StepsTo (Step w) start count (configs.Fault kind inside at)
 
+  turn_comes : (t : Turn) (n : ℕ) (s : State) (start : Config) (count : ℕ) → StepsTo (Step w) start count (config_of s) → Comes limits (Step w (config_of s)) t
+      → ((next : State) → StepsTo (Step w) start (suc count) (config_of next) → outcome w limits n next ≡ Some (stops.Fault kind inside at) → ComesToFault start)
+      → elim t [ To next ↦ outcome w limits n next | Ends stop ↦ Some stop | Stuck ↦ None ] ≡ Some (stops.Fault kind inside at) → ComesToFault start
+  turn_comes (To next) n s start count steps step later ends = later next (config_of s, steps, step) ends
+  turn_comes (Ends stop) n s start count steps step later ends = record {
+    count = suc count;
+    steps = (config_of s, steps, subst (λ stop. Comes limits (Step w (config_of s)) (Ends stop)) (same_Some stop (stops.Fault kind inside at) ends) step);
+  }
+  turn_comes Stuck n s start count steps step later ends = absurd cc
+
   fault_comes : (n : ℕ) (s : State) (start : Config) (count : ℕ) → StepsTo (Step w) start count (config_of s) → outcome w limits n s ≡ Some (stops.Fault kind inside at)
       → ComesToFault start
   unfolding outcome
   fault_comes zero s start count steps ends = absurd cc
-  fault_comes (suc n) s start count steps ends = by (turn w limits s) (turn_steps w limits s) ends
-    where
-      by : (t : Turn) → Comes limits (Step w (config_of s)) t
-          → elim t [ To next ↦ outcome w limits n next | Ends stop ↦ Some stop | Stuck ↦ None ] ≡ Some (stops.Fault kind inside at) → ComesToFault start
-      by (To next) step ends = fault_comes n next start (suc count) (config_of s, steps, step) ends
-      by (Ends (stops.Fault k u a)) step ends = record {
-        count = suc count;
-        steps = (config_of s, steps, subst (λ stop. Comes limits (Step w (config_of s)) (Ends stop)) (same_stop ends) step);
-      }
-      by (Ends _) step ends = absurd cc
-      by Stuck step ends = absurd cc
+  fault_comes (suc n) s start count steps ends =
+      turn_comes (turn w limits s) n s start count steps (turn_steps w limits s) (λ next more ends. fault_comes n next start (suc count) more ends) ends
 
 -- ---- starts
 

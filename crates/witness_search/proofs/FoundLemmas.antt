@@ -1,16 +1,19 @@
 -- What is found, list by list.
-use Rattle.std.proofs.Common.{◌≡◌, ◌≢◌, ℕ, zero, suc, ◌+◌, ◌<◌, ◌≤◌, Bool, true, false, is_none, is_some, List, [], ◌∷◌, ◌++◌, length, take, drop, Option, Some, None, IfSome, slice_get, unwrap_or, if◌then◌else◌, cond, refl, sym, ap, subst, ◌∙◌, arith}
+use Rattle.std.proofs.Common.{◌≡◌, ◌≢◌, ℕ, zero, suc, ◌+◌, ◌<◌, ◌≤◌, Bool, true, false, is_none, is_some, List, [], ◌∷◌, ◌++◌, length, take, drop, Option, Some, None, IfSome, slice_get, get_or, unwrap_or, cond, refl, sym, ap, subst, ◌∙◌, arith}
 use Rattle.std.specs.List.{AllByRecursion, cons_option, filter, filter_map}
+use Rattle.std.specs.Option.{option_map_or}
 use Rattle.std.proofs.lemmas.List.{length-append, length-take-le, take_all}
 use Rattle.std.proofs.lemmas.List.Elements.{filter-append, filter_map-append}
-use Rattle.std.proofs.lemmas.Option.{same_Some}
+use Rattle.std.proofs.lemmas.Option.{same_Some, slice_get_read}
 use Rattle.cil_model.specs.declared.arg.Arg.{Arg}
 use Rattle.cil_model.specs.declared.machine.FaultKind.{FaultKind}
 use Rattle.cil_model.specs.declared.machine.World.{World}
+use Rattle.cil_model.specs.declared.place.Place.{Place}
 use Rattle.cil_model.specs.declared.unit.Unit.{Unit as MethodUnit}
 use Rattle.cil_eval.specs.declared.stop.Stop.{Stop}
 use Rattle.cil_eval.specs.declared.stop.Stop.TheVariants as stops
-use Rattle.witness_search.specs.Searches.{EndsInNoFault, HasTried, ending, fault_in, fault_of, found_among, is_started, not_found}
+use Rattle.witness_search.specs.Choices.{argument_lists}
+use Rattle.witness_search.specs.Searches.{EndsInNoFault, HasTried, ending, fault_in, fault_of, found_among, is_started, not_found, searched}
 use Rattle.witness_search.specs.declared.answer.Search.{Search}
 use Rattle.witness_search.specs.declared.answer.Search.TheVariants as searches
 
@@ -152,15 +155,15 @@ module _ (w : World) (index : ℕ) (lists : List (List Arg)) (tried started : �
 -- ---- what a search tells
 
 -- Where something is given first, there is an item that gives it, and those before give nothing.
-record GivesFirst (X Y : Type 0) (f : X → Option Y) (xs : List X) (y : Y) : Type 0 where
-  before : List X
-  item : X
-  after : List X
-  items_are : xs ≡ before ++ item ∷ after
-  none_before : AllByRecursion (λ x. f x ≡ None) before
-  gives : f item ≡ Some y
+pub record GivesFirst (X Y : Type 0) (f : X → Option Y) (xs : List X) (y : Y) : Type 0 where
+  pub before : List X
+  pub item : X
+  pub after : List X
+  pub items_are : xs ≡ before ++ item ∷ after
+  pub none_before : AllByRecursion (λ x. f x ≡ None) before
+  pub gives : f item ≡ Some y
 
-gives_first : {X Y : Type 0} (f : X → Option Y) (xs : List X) (y : Y) → slice_get (filter_map f xs) 0 ≡ Some y → GivesFirst X Y f xs y
+pub gives_first : {X Y : Type 0} (f : X → Option Y) (xs : List X) (y : Y) → slice_get (filter_map f xs) 0 ≡ Some y → GivesFirst X Y f xs y
 gives_first f [] y e = absurd cc
 gives_first f (x ∷ xs) y e = by (f x) refl (λ rest. gives_first f xs y rest) e
   where
@@ -178,7 +181,7 @@ gives_first f (x ∷ xs) y e = by (f x) refl (λ rest. gives_first f xs y rest) 
         }
     by (Some found) is later e = record { before = []; item = x; after = xs; items_are = refl; none_before = tt; gives = is ∙ ap Some (same_Some found y e) }
 
-give_nothing : {X Y : Type 0} (f : X → Option Y) (xs : List X) → slice_get (filter_map f xs) 0 ≡ None → AllByRecursion (λ x. f x ≡ None) xs
+pub give_nothing : {X Y : Type 0} (f : X → Option Y) (xs : List X) → slice_get (filter_map f xs) 0 ≡ None → AllByRecursion (λ x. f x ≡ None) xs
 give_nothing f [] e = tt
 give_nothing f (x ∷ xs) e = by (f x) refl (λ rest. give_nothing f xs rest) e
   where
@@ -186,3 +189,15 @@ give_nothing f (x ∷ xs) e = by (f x) refl (λ rest. give_nothing f xs rest) e
         → slice_get (cons_option given (filter_map f xs)) 0 ≡ None → (f x ≡ None) × AllByRecursion (λ x. f x ≡ None) xs
     by None is later e = (is, later e)
     by (Some found) is later e = absurd cc
+
+-- ---- the search of a method
+
+-- What is found among the first lists of a method is what the search finds.
+pub searched_of : (w v : World) (index runs : ℕ) (units : List MethodUnit) (unit : MethodUnit) (types : List Place) (lists : List (List Arg)) → v ≡ w → units ≡ w.units
+    → index < length w.units → unit ≡ get_or units index unit → types ≡ unit.args → lists ≡ argument_lists types → found_among v index (take runs lists) ≡ searched w index runs
+unfolding searched
+searched_of w v index runs units unit types lists same all inside is types_are lists_are =
+    let of : slice_get w.units index ≡ Some unit = slice_get_read w.units (length w.units) index unit refl inside (is ∙ ap (λ units. get_or units index unit) all) in
+    ap (λ w. found_among w index (take runs lists)) same
+    ∙ ap (λ lists. found_among w index (take runs lists)) (lists_are ∙ ap argument_lists types_are
+    ∙ sym (ap (λ unit. option_map_or (λ (unit : MethodUnit). argument_lists unit.args) unit []) of))

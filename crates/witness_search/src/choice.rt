@@ -31,7 +31,11 @@ impl Choice {
         ensures { result ≡ next_of self.now }
     {
         let count = self.values.as_slice().len();
-        if self.chosen + 1 < count { self.chosen + 1 } else { 0 }
+        if self.chosen + 1 < count {
+            self.chosen + 1
+        } else {
+            0
+        }
     }
 
     /// A copy of the value after the one that is chosen.

@@ -48,6 +48,18 @@ fn first_fault(
     })
 }
 
+/// The search of a method, where memory may run out.
+fn search_method(alloc: Global, world: &World, unit: u32, runs: u32) -> Result<Search, AllocError>
+    requires world { CanBeRun world.now }
+    requires unit { unit < length world.now.units }
+    ensures { IfOk result (λ found. found ≡ searched world.now unit runs) }
+{
+    let method = &world.units.as_slice()[unit as usize];
+    let lists = ArgumentLists::make(alloc, method.args.as_slice())?;
+    let mut machine = Machine::make(alloc, world, LIMITS)?;
+    first_fault(alloc, &mut machine, lists, unit, runs)
+}
+
 /// Tries the method of this unit with small arguments, and answers the first of the argument lists with which its run
 /// ends in a fault. Up to `runs` lists are tried, each from a new start, under limits of 10,000 steps, 65,536 cells and
 /// 100 frames.
@@ -57,7 +69,7 @@ fn first_fault(
 /// # Errors
 ///
 /// Memory runs out.
-#[tactic(auto, using(crate::proofs::FoundLemmas::tells, crate::proofs::FaultyRuns::found_is_unsafe))]
+#[tactic(auto, using(crate::proofs::ToldLemmas::tells, crate::proofs::ToldLemmas::found_is_unsafe))]
 pub fn search(alloc: Global, world: &World, unit: u32, runs: u32) -> Result<Search, SearchRefusal>
     requires world { CanBeRun world.now }
     requires unit { unit < length world.now.units }
@@ -67,8 +79,5 @@ pub fn search(alloc: Global, world: &World, unit: u32, runs: u32) -> Result<Sear
     // A method with which a fault is found is not safe.
     ensures not_safe { IfOk result (λ found. is_found found ≡ true → Safe world.now unit → ⊥) }
 {
-    let method = &world.units.as_slice()[unit as usize];
-    let lists = ArgumentLists::make(alloc, method.args.as_slice())?;
-    let mut machine = Machine::make(alloc, world, LIMITS)?;
-    Ok(first_fault(alloc, &mut machine, lists, unit, runs)?)
+    Ok(search_method(alloc, world, unit, runs)?)
 }

@@ -28,11 +28,7 @@ fn put_ints(values: &mut Vec<Arg>, numbers: &[i32]) -> Result<(), AllocError>
 }
 
 /// Appends an argument for each array.
-fn put_int_arrays(
-    alloc: Global,
-    values: &mut Vec<Arg>,
-    arrays: &[&[i32]],
-) -> Result<(), AllocError>
+fn put_int_arrays(alloc: Global, values: &mut Vec<Arg>, arrays: &[&[i32]]) -> Result<(), AllocError>
     ensures { OnOk result (values.new.items ≡ values.old.items ++ map (λ items. args.Ints items.now) arrays.now) }
 {
     for items in arrays {

@@ -13,7 +13,7 @@ loop-tried-preserved c = (
   c.ending-stop.ensures.same.world ∙ c.loop-tried.invariant.0,
   c.ending-stop.ensures.same.limits ∙ c.loop-tried.invariant.1,
   subst (HasTried c.args.machine.now.world c.args.unit c.args.lists (c.loop-tried.tried + 1) (c.loop-tried.started + c.from-started.result)) (sym c.in_ok-go_on.ensures)
-  (tried_one c.args.machine.now.world c.args.unit c.args.lists c.loop-tried.tried c.loop-tried.started c.loop-tried.lists c.loop-tried.invariant.2
-  c.in-Some.args.now c.in-Some.ensures c.loop-tried.machine.world c.loop-tried.invariant.0 c.ending-stop.result c.ending-stop.ensures.ending
-  (c.loop-tried.started + c.from-started.result) c.ending-stop.ensures.started c.in_default-fault_in.ensures (ap (λ n. c.loop-tried.started + n) (c.from-started.ensures ∙ ap number_of c.is_some.ensures))),
+      (tried_one c.args.machine.now.world c.args.unit c.args.lists c.loop-tried.tried c.loop-tried.started c.loop-tried.lists c.loop-tried.invariant.2
+      c.in-Some.args.now c.in-Some.ensures c.loop-tried.machine.world c.loop-tried.invariant.0 c.ending-stop.result c.ending-stop.ensures.ending
+      (c.loop-tried.started + c.from-started.result) c.ending-stop.ensures.started c.in_default-fault_in.ensures (ap (λ n. c.loop-tried.started + n) (c.from-started.ensures ∙ ap number_of c.is_some.ensures))),
 )
