@@ -1,6 +1,7 @@
 pub mod ChoiceLemmas
 pub mod ListLemmas
 pub mod FoundLemmas
-pub mod IntChoices
-pub mod FaultyRuns
 pub mod ToldLemmas
+pub mod IntChoices
+pub mod FaultSteps
+pub mod FaultyRuns

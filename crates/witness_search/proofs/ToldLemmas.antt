@@ -1,4 +1,4 @@
--- What a search tells, and that a method with which a fault is found is not safe.
+-- What a search tells of the lists that it tried.
 use Rattle.std.proofs.Common.{◌≡◌, ℕ, Bool, true, false, is_none, List, [], ◌∷◌, ◌++◌, Option, Some, None, slice_get, unwrap_or, if◌then◌else◌, refl, sym, ap, subst, ◌∙◌}
 use Rattle.std.specs.List.{AllByRecursion, filter_map}
 use Rattle.std.specs.Option.{option_and_then}
@@ -18,9 +18,7 @@ use Rattle.cil_eval.specs.declared.stop.Stop.TheVariants as stops
 use Rattle.witness_search.specs.Searches.{HasNoFault, IsFirstFault, Tells, ending, fault_in, fault_of, found_among, is_found, not_found, outcome_of, search_limits, searched, tried_lists}
 use Rattle.witness_search.specs.declared.answer.Search.{Search}
 use Rattle.witness_search.specs.declared.answer.Search.TheVariants as searches
-use Rattle.witness_search.proofs.FaultyRuns.{fault_is_unsafe}
 use Rattle.witness_search.proofs.FoundLemmas.{GivesFirst, give_nothing, gives_first}
-use Rattle.witness_search.proofs.IntChoices.{tried_are}
 
 -- ---- one list
 
@@ -87,21 +85,3 @@ module _ (w : World) (index : ℕ) (lists : List (List Arg)) where
 pub tells : (w : World) (index runs : ℕ) (found : Search) → found ≡ searched w index runs → Tells w index (tried_lists w index runs) found
 unfolding searched
 tells w index runs found is = subst (Tells w index (tried_lists w index runs)) (sym is) (tells_among w index (tried_lists w index runs))
-
-first_is_unsafe : (w : World) (index : ℕ) (lists : List (List Arg)) (given : List Arg) (kind : FaultKind) (unit at : ℕ) → IsFirstFault w index lists given (stops.Fault kind unit at)
-    → AllByRecursion AreInts lists → Safe w index → ⊥
-first_is_unsafe w index lists given kind unit at first ints safe =
-    let rest = all_split AreInts first.before (given ∷ first.after) (subst (AllByRecursion AreInts) first.lists_are ints) in
-    fault_is_unsafe w search_limits search_limits.steps first.unit index given kind unit at first.unit_is first.starts rest.1.0 first.ends safe
-
--- A method with which a fault is found is not safe.
-pub found_is_unsafe : (w : World) (index runs : ℕ) (found : Search) → found ≡ searched w index runs → is_found found ≡ true → Safe w index → ⊥
-found_is_unsafe w index runs found is found_one = by found (tells w index runs found is) found_one
-  where
-    by : (found : Search) → Tells w index (tried_lists w index runs) found → is_found found ≡ true → Safe w index → ⊥
-    by (searches.Found given kind unit at) told e safe = first_is_unsafe w index (tried_lists w index runs) given kind unit at told (tried_are w index runs) safe
-    by (searches.NotFound tried started) told e safe = absurd cc
-
--- The same of the definition.
-pub searched_is_unsafe : (w : World) (index runs : ℕ) (given : List Arg) (kind : FaultKind) (unit at : ℕ) → searched w index runs ≡ searches.Found given kind unit at → Safe w index → ⊥
-searched_is_unsafe w index runs given kind unit at e = found_is_unsafe w index runs (searches.Found given kind unit at) (sym e) refl

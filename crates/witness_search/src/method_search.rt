@@ -69,7 +69,7 @@ fn search_method(alloc: Global, world: &World, unit: u32, runs: u32) -> Result<S
 /// # Errors
 ///
 /// Memory runs out.
-#[tactic(auto, using(crate::proofs::ToldLemmas::tells, crate::proofs::ToldLemmas::found_is_unsafe))]
+#[tactic(auto, using(crate::proofs::ToldLemmas::tells, crate::proofs::FaultyRuns::found_is_unsafe))]
 pub fn search(alloc: Global, world: &World, unit: u32, runs: u32) -> Result<Search, SearchRefusal>
     requires world { CanBeRun world.now }
     requires unit { unit < length world.now.units }
