@@ -35,7 +35,8 @@ use Rattle.method_run.specs.ArgumentWords.{arguments_of}
 use Rattle.method_run.specs.EndTexts.{end_text}
 use Rattle.method_run.specs.FaultTexts.{called_at, callee_at, fault_text, method_text, position_text}
 use Rattle.method_run.specs.RunAnswers.{end_answer, entry_answer, outcome_answer, refusal_answer, run_answer, run_limits, start_answer}
-use Rattle.method_run.specs.ValueTexts.{is_of_bools, items_text, number_text, returned_text, value_text}
+use Rattle.method_run.specs.ValueTexts.{returned_text, value_text}
+use Rattle.run_arguments.specs.Texts.{is_of_bools, items_text, number_text}
 use Rattle.assembly_answers.specs.Answers.{TellsLine}
 use Rattle.assembly_answers.proofs.PlainTexts.{none_in_label}
 
