@@ -1,5 +1,5 @@
-//! What is told of an assembly without an analysis: the answers to `list`, `il`, `run` and `refute`, the words of the faults of
-//! files, and those of the reasons why methods are not analysed.
+//! What is told of an assembly without an analysis: the answers to `list`, `il`, `run` and `refute`, the words of the
+//! faults of files, and those of the reasons why methods are not analysed.
 #![tactic(auto)]
 
 mod fault_text;

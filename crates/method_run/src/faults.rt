@@ -66,6 +66,7 @@ pub(crate) fn fault_text(
 /// # Errors
 ///
 /// Memory runs out.
+#[tactic(auto, using(cil_eval::proofs::RunnableUnits::world_can))]
 pub fn fault_line(
     alloc: Global,
     world: &World,
