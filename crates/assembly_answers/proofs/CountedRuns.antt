@@ -1,5 +1,5 @@
 -- What a run prints is one line, and a reason why there is none has no line feed. The lines of a search are lines, too.
-use Rattle.std.proofs.Common.{◌≡◌, ℕ, zero, suc, ℤ, Bool, true, false, ◌&&◌, List, [], ◌∷◌, ◌++◌, map, Option, Some, None, if◌then◌else◌, slice_get, refl, codes}
+use Rattle.std.proofs.Common.{◌≡◌, ℕ, zero, suc, ℤ, Bool, true, false, ◌&&◌, List, [], ◌∷◌, ◌++◌, map, Option, Some, None, if◌then◌else◌, slice_get, append_assoc, refl, subst, codes}
 use Rattle.std.specs.Prelude.{pos, decimal}
 use Rattle.std.specs.Fmt.{signed_decimal}
 use Rattle.std.specs.List.{AllByRecursion, flat_map, join_with_byte}
@@ -187,11 +187,13 @@ fault_is_line w kind index at can = line_of_text (fault_text w kind index at) (f
 pub not_refuted_is_line : (tried started : ℕ) → line_count (not_refuted_line tried started) ≡ 1
 unfolding line_count
 not_refuted_is_line tried started =
-    line_of_text (codes "not refuted: " ++ decimal tried ++ codes " tried, " ++ decimal started ++ codes " started")
-    (none_behind (codes "not refuted: " ++ decimal tried ++ codes " tried, " ++ decimal started) (codes " started")
-    (none_behind (codes "not refuted: " ++ decimal tried ++ codes " tried, ") (decimal started)
+    let counts = codes "not refuted: " ++ decimal tried ++ codes " tried, " ++ decimal started in
+    let none : line_count counts ≡ 0 =
+    none_behind (codes "not refuted: " ++ decimal tried ++ codes " tried, ") (decimal started)
     (none_behind (codes "not refuted: " ++ decimal tried) (codes " tried, ")
-    (none_behind (codes "not refuted: ") (decimal tried) refl (none_in_number tried)) refl) (none_in_number started)) refl)
+    (none_behind (codes "not refuted: ") (decimal tried) refl (none_in_number tried)) refl) (none_in_number started) in
+    subst (λ (text : List ℕ). line_count text ≡ 1) (append_assoc counts (codes " started") (codes "\n"))
+    (line_of_text (counts ++ codes " started") (none_behind counts (codes " started") none refl))
 
 -- ---- answers
 

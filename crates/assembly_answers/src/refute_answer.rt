@@ -2,10 +2,11 @@
 
 #![tactic(auto, using(cc_base::proofs::SinkLemmas::sinks, cc_base::proofs::CountLemmas::counts, answer_lines::proofs::LineLemmas::puts_none))]
 
-ghost use Rattle.std.specs.Prelude.{◌≡◌, ◌<◌, IfOk, length};
+ghost use Rattle.std.specs.Prelude.{◌≡◌, ◌<◌, ◌++◌, IfOk, length};
 ghost use Rattle.asm_image.specs.Faults.{FirstBroken};
 ghost use Rattle.assembly_answers.specs.Answers.{refute_file_answer, search_told};
 ghost use Rattle.assembly_answers.specs.RefuteText.{not_refuted_line, refuted_line, refuted_text};
+ghost use Rattle.answer_lines.specs.LineCounts.{line_count};
 ghost use Rattle.answer_lines.specs.Outcome.{Gives};
 ghost use Rattle.answer_lines.specs.Writing.{Writes, change_of};
 ghost use Rattle.cil_eval.specs.RunWorlds.{CanBeRun};
@@ -46,7 +47,23 @@ fn not_refuted_line(alloc: Global, tried: u32, started: u32) -> Result<Vec<u8>, 
     Ok(line)
 }
 
+/// Puts two lines.
+fn put_both<S: Sink>(
+    alloc: Global,
+    sink: &mut S,
+    first: &[u8],
+    second: &[u8],
+) -> Result<(), Interrupt>
+    requires first { line_count first.now ≡ 1 }
+    requires second { line_count second.now ≡ 1 }
+    ensures { Writes result (change_of S.written S.puts S.faults sink.old sink.new) (first.now ++ second.now) }
+{
+    put_line(alloc, sink, first)?;
+    put_line(alloc, sink, second)
+}
+
 /// Answers with what a search of a world found.
+#[tactic(auto, using(cc_base::proofs::SinkLemmas::sinks, cc_base::proofs::CountLemmas::counts, answer_lines::proofs::LineLemmas::puts_none, crate::proofs::CountedRuns::refuted_is_line, crate::proofs::CountedRuns::fault_is_line))]
 fn answer_search<O: Sink>(
     alloc: Global,
     world: &World,
@@ -66,8 +83,7 @@ fn answer_search<O: Sink>(
         } => {
             let line = refuted_line(alloc, args.as_slice())?;
             let fault = fault_line(alloc, world, kind, unit, at)?;
-            put_line(alloc, out, &line)?;
-            put_line(alloc, out, &fault)?;
+            put_both(alloc, out, &line, &fault)?;
             Ok(8)
         }
         Search::NotFound { tried, started } => {
