@@ -5,6 +5,6 @@ pub mod CountedIl
 pub mod CountedRuns
 pub mod Listing
 pub mod Runnable
-pub mod MethodWorlds
+pub mod BothTexts
 pub mod Statuses
 pub mod CutFiles

@@ -1,4 +1,4 @@
-use Rattle.assembly_answers.proofs.MethodWorlds.{second_writes}
+use Rattle.assembly_answers.proofs.BothTexts.{second_writes}
 use Rattle.assembly_answers.proofs.refute_answer.put_both.Goals as goal
 
 pub returns : goal.returns
