@@ -62,8 +62,8 @@ world_told : (name : List ℕ) (answer : World → Answer) (named : Result World
 world_told name answer (Ok w) others begins = record { world = w; is = refl; begins = begins }
 world_told name answer (Err none) others begins = absurd (nothing_told name none others begins)
 
-same_ok : (a b : World) → Ok {E = NoWorld} a ≡ Ok b → a ≡ b
-same_ok a b e = cc
+same_ok : (named : Result World NoWorld) (a b : World) → named ≡ Ok a → named ≡ Ok b → a ≡ b
+same_ok named a b e f = cc
 
 -- The world of a name that means one method is that of the method.
 world_is : (bytes method : List ℕ) (token : Token) (fault : Option AsmFault) (w : World) → find_of bytes method ≡ Some (One token)
@@ -73,7 +73,7 @@ world_is bytes method token None w named is = by_method (method_of bytes token) 
   where
     by_skipped : (skipped : Option ℕ) → world_unless bytes token skipped ≡ Ok w → world_of bytes token.0 ≡ w
     by_skipped (Some skipped) e = absurd cc
-    by_skipped None e = same_ok (world_of bytes token.0) w e
+    by_skipped None e = same_ok (world_unless bytes token None) (world_of bytes token.0) w refl e
 
     by_method : (found : Option MethodRow) → world_at bytes token found ≡ Ok w → world_of bytes token.0 ≡ w
     by_method None e = absurd cc

@@ -39,6 +39,19 @@ use command_words::{Command, RunWords, parse_words, word_at};
 use std::alloc::Global;
 use widening_engine::Finder;
 
+/// The names of a file and of a method that words tell.
+fn names_at(words: &[String], file: u32, method: u32) -> (&[u8], &[u8])
+    requires file { file < length words.now }
+    requires method { method < length words.now }
+    ensures file { result.0.now ≡ word_at (words_bytes words.now) file }
+    ensures method { result.1.now ≡ word_at (words_bytes words.now) method }
+{
+    (
+        word_at(words, file).as_bytes(),
+        word_at(words, method).as_bytes(),
+    )
+}
+
 /// Answers the words of a run for what was read of its file.
 fn answer_run_words<O: Sink, E: Sink>(
     alloc: Global,
@@ -59,16 +72,8 @@ fn answer_run_words<O: Sink, E: Sink>(
         args: &words[3..run.args_end as usize],
         steps: run.steps,
     };
-    let (name, method) = (word_at(words, run.file), word_at(words, run.method));
-    answer_run(
-        alloc,
-        name.as_bytes(),
-        method.as_bytes(),
-        given,
-        bytes,
-        out,
-        err,
-    )
+    let (name, method) = names_at(words, run.file, run.method);
+    answer_run(alloc, name, method, given, bytes, out, err)
 }
 
 /// Answers a command for what was read of its files, of each at most `READ_LIMIT` bytes.
@@ -106,15 +111,8 @@ fn answer_bytes<O: Sink, E: Sink, D: Finder>(
             answer_list(alloc, word_at(words, file).as_bytes(), &read[0], out, err)
         }
         Command::Il(file, method) => {
-            let (name, method) = (word_at(words, file), word_at(words, method));
-            answer_il(
-                alloc,
-                name.as_bytes(),
-                method.as_bytes(),
-                &read[0],
-                out,
-                err,
-            )
+            let (name, method) = names_at(words, file, method);
+            answer_il(alloc, name, method, &read[0], out, err)
         }
         Command::Check { file, show } => {
             answer_check(
@@ -129,16 +127,8 @@ fn answer_bytes<O: Sink, E: Sink, D: Finder>(
         }
         Command::Run(run) => answer_run_words(alloc, run, words, &read[0], out, err),
         Command::Refute { file, method, runs } => {
-            let (name, method) = (word_at(words, file), word_at(words, method));
-            answer_refute(
-                alloc,
-                name.as_bytes(),
-                method.as_bytes(),
-                runs,
-                &read[0],
-                out,
-                err,
-            )
+            let (name, method) = names_at(words, file, method);
+            answer_refute(alloc, name, method, runs, &read[0], out, err)
         }
         Command::Gen(seed, count) => answer_gen(alloc, seed, count, out, finder),
     }
