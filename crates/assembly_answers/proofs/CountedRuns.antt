@@ -1,14 +1,15 @@
--- What a run prints is one line, and a reason why there is none has no line feed.
-use Rattle.std.proofs.Common.{◌≡◌, ℕ, zero, suc, ℤ, ◌&&◌, List, [], ◌∷◌, ◌++◌, map, Option, Some, None, if◌then◌else◌, slice_get, refl, codes}
+-- What a run prints is one line, and a reason why there is none has no line feed. The lines of a search are lines, too.
+use Rattle.std.proofs.Common.{◌≡◌, ℕ, zero, suc, ℤ, Bool, true, false, ◌&&◌, List, [], ◌∷◌, ◌++◌, map, Option, Some, None, if◌then◌else◌, slice_get, append_assoc, refl, subst, codes}
 use Rattle.std.specs.Prelude.{pos, decimal}
 use Rattle.std.specs.Fmt.{signed_decimal}
-use Rattle.std.specs.List.{AllByRecursion, join_with_byte}
+use Rattle.std.specs.List.{AllByRecursion, flat_map, join_with_byte}
 use Rattle.std.specs.Option.{option_and_then, option_map_or}
 use Rattle.std.specs.Ordering.{int_eq}
 use Rattle.cil_model.specs.Runs.{instr_at}
 use Rattle.cil_model.specs.Values.{Heap}
 use Rattle.cil_model.specs.WellFormed.{IsWellFormed, called_by}
 use Rattle.cil_model.specs.declared.arg.Arg.{Arg}
+use Rattle.cil_model.specs.declared.arg.Arg.TheVariants as args
 use Rattle.cil_model.specs.declared.instruction.Instr.{Instr}
 use Rattle.cil_model.specs.declared.machine.FaultKind.{FaultKind}
 use Rattle.cil_model.specs.declared.machine.Value.{Value}
@@ -30,13 +31,15 @@ use Rattle.answer_lines.specs.FaultKinds.{callee_text, kind_text}
 use Rattle.answer_lines.specs.LineCounts.{line_count}
 use Rattle.answer_lines.specs.Signatures.{unit_signature}
 use Rattle.answer_lines.proofs.LineLemmas.{line_of_text, none_behind}
-use Rattle.answer_lines.proofs.PlainTexts.{none_in_callee, none_in_either, none_in_graphic, none_in_kind, none_in_number, none_in_signature, none_in_signed}
+use Rattle.answer_lines.proofs.PlainTexts.{none_in_callee, none_in_each, none_in_either, none_in_graphic, none_in_kind, none_in_number, none_in_signature, none_in_signed}
 use Rattle.method_run.specs.ArgumentWords.{arguments_of}
 use Rattle.method_run.specs.EndTexts.{end_text}
-use Rattle.method_run.specs.FaultTexts.{called_at, callee_at, fault_text, method_text, position_text}
+use Rattle.method_run.specs.FaultTexts.{called_at, callee_at, fault_line, fault_text, method_text, position_text}
 use Rattle.method_run.specs.RunAnswers.{end_answer, entry_answer, outcome_answer, refusal_answer, run_answer, run_limits, start_answer}
-use Rattle.method_run.specs.ValueTexts.{is_of_bools, items_text, number_text, returned_text, value_text}
+use Rattle.method_run.specs.ValueTexts.{returned_text, value_text}
+use Rattle.run_arguments.specs.Texts.{bool_text, is_of_bools, items_text, list_text, number_text, text_of}
 use Rattle.assembly_answers.specs.Answers.{TellsLine}
+use Rattle.assembly_answers.specs.RefuteText.{next_argument, not_refuted_line, refuted_line}
 use Rattle.assembly_answers.proofs.PlainTexts.{none_in_label}
 
 -- ---- values
@@ -65,13 +68,17 @@ joined_plain (x ∷ y ∷ items) all =
     none_behind x (44 ∷ join_with_byte 44 (y ∷ items)) all.0
     (none_behind (44 ∷ []) (join_with_byte 44 (y ∷ items)) refl (joined_plain (y ∷ items) all.1))
 
+list_plain : (items : List (List ℕ)) → AllByRecursion HasNoFeed items → line_count (list_text items) ≡ 0
+unfolding line_count
+list_plain items all =
+    let joined = join_with_byte 44 items in
+    none_behind (91 ∷ []) (joined ++ 93 ∷ []) refl (none_behind joined (93 ∷ []) (joined_plain items all) refl)
+
 items_plain : (place : Place) (found : Option (List ℤ)) → line_count (option_map_or (items_text place) found []) ≡ 0
 unfolding line_count
 items_plain place None = refl
 items_plain place (Some items) =
-    let joined = join_with_byte 44 (map (number_text place) items) in
-    none_behind (91 ∷ []) (joined ++ 93 ∷ []) refl
-    (none_behind joined (93 ∷ []) (joined_plain (map (number_text place) items) (numbers_plain place items)) refl)
+    list_plain (map (number_text place) items) (numbers_plain place items)
 
 value_plain : (place : Place) (heap : Heap) (value : Value) → line_count (value_text place heap value) ≡ 0
 unfolding line_count
@@ -139,6 +146,54 @@ end_tells : (w : World) (limits : Limits) (place : Place) (heap : Heap) (stop : 
 end_tells w limits place heap stop can =
     let text = end_text w limits place heap stop in
     line_of_text text (end_plain w limits place heap stop can)
+
+-- ---- arguments that end in a fault
+
+ints_plain : (ns : List ℤ) → AllByRecursion HasNoFeed (map signed_decimal ns)
+ints_plain [] = tt
+ints_plain (n ∷ ns) = (none_in_signed n, ints_plain ns)
+
+bool_plain : (b : Bool) → line_count (bool_text b) ≡ 0
+unfolding line_count
+bool_plain true = refl
+bool_plain false = refl
+
+bools_plain : (bs : List Bool) → AllByRecursion HasNoFeed (map bool_text bs)
+bools_plain [] = tt
+bools_plain (b ∷ bs) = (bool_plain b, bools_plain bs)
+
+argument_plain : (arg : Arg) → line_count (text_of arg) ≡ 0
+unfolding line_count
+argument_plain (args.Int n) = none_in_signed n
+argument_plain (args.Bool b) = bool_plain b
+argument_plain args.Null = refl
+argument_plain (args.Ints ns) = list_plain (map signed_decimal ns) (ints_plain ns)
+argument_plain (args.Bools bs) = list_plain (map bool_text bs) (bools_plain bs)
+argument_plain (args.Same k) = none_behind (64 ∷ []) (decimal k) refl (none_in_number k)
+
+next_plain : (arg : Arg) → line_count (next_argument arg) ≡ 0
+unfolding line_count
+next_plain arg = none_behind (codes " ") (text_of arg) refl (argument_plain arg)
+
+pub refuted_is_line : (given : List Arg) → line_count (refuted_line given) ≡ 1
+unfolding line_count
+refuted_is_line given =
+    line_of_text (codes "refuted:" ++ flat_map next_argument given)
+    (none_behind (codes "refuted:") (flat_map next_argument given) refl (none_in_each next_argument given next_plain))
+
+pub fault_is_line : (w : World) (kind : FaultKind) (index at : ℕ) → CanBeRun w → line_count (fault_line w kind index at) ≡ 1
+fault_is_line w kind index at can = line_of_text (fault_text w kind index at) (fault_plain w kind index at can)
+
+pub not_refuted_is_line : (tried started : ℕ) → line_count (not_refuted_line tried started) ≡ 1
+unfolding line_count
+not_refuted_is_line tried started =
+    let counts = codes "not refuted: " ++ decimal tried ++ codes " tried, " ++ decimal started in
+    let none : line_count counts ≡ 0 =
+    none_behind (codes "not refuted: " ++ decimal tried ++ codes " tried, ") (decimal started)
+    (none_behind (codes "not refuted: " ++ decimal tried) (codes " tried, ")
+    (none_behind (codes "not refuted: ") (decimal tried) refl (none_in_number tried)) refl) (none_in_number started) in
+    subst (λ (text : List ℕ). line_count text ≡ 1) (append_assoc counts (codes " started") (codes "\n"))
+    (line_of_text (counts ++ codes " started") (none_behind counts (codes " started") none refl))
 
 -- ---- answers
 

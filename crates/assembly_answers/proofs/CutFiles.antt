@@ -7,7 +7,7 @@ use Rattle.cc_base.specs.Files.{READ_LIMIT}
 use Rattle.cc_base.specs.Tests.{first_of}
 use Rattle.cil_model.specs.Limits.{MAX_FILE_BYTES}
 use Rattle.answer_lines.specs.Answers.{Answer}
-use Rattle.assembly_answers.specs.Answers.{il_answer, list_answer, run_file_answer}
+use Rattle.assembly_answers.specs.Answers.{il_answer, list_answer, refute_file_answer, run_file_answer}
 
 -- An assembly past the limit has that fault first.
 pub large_first : (bytes : List ℕ) → READ_LIMIT ≤ length bytes → FirstBroken bytes ≡ Some (record { at = MAX_FILE_BYTES; cause = causes.Large })
@@ -39,6 +39,16 @@ run_bytes_answer name method args steps bytes = run_file_answer name method args
 pub run_cut : (name method : List ℕ) (args : List (List ℕ)) (steps : ℕ) (bytes : List ℕ) (limit : ℕ) → limit ≡ READ_LIMIT → READ_LIMIT ≤ length bytes
     → run_bytes_answer name method args steps bytes ≡ run_bytes_answer name method args steps (take limit bytes)
 run_cut name method args steps bytes limit is past =
+    let whole = large_first bytes past in
+    let cut = large_first (take limit bytes) (omega (arith, length-take limit bytes)) in
+    rw (whole, cut) refl
+
+abbrev pub refute_bytes_answer : List ℕ → List ℕ → ℕ → List ℕ → Answer
+refute_bytes_answer name method runs bytes = refute_file_answer name method runs bytes (FirstBroken bytes)
+
+pub refute_cut : (name method : List ℕ) (runs : ℕ) (bytes : List ℕ) (limit : ℕ) → limit ≡ READ_LIMIT → READ_LIMIT ≤ length bytes
+    → refute_bytes_answer name method runs bytes ≡ refute_bytes_answer name method runs (take limit bytes)
+refute_cut name method runs bytes limit is past =
     let whole = large_first bytes past in
     let cut = large_first (take limit bytes) (omega (arith, length-take limit bytes)) in
     rw (whole, cut) refl

@@ -5,5 +5,6 @@ pub mod CountedIl
 pub mod CountedRuns
 pub mod Listing
 pub mod Runnable
+pub mod BothTexts
 pub mod Statuses
 pub mod CutFiles

@@ -1,5 +1,5 @@
--- The statuses of the answers to `list`, `il` and `run`.
-use Rattle.std.proofs.Common.{◌≢◌, ℕ, ◌<◌, ◌≤◌, slice_get, List, Option, Some, None, arith}
+-- The statuses of the answers to `list`, `il`, `run` and `refute`.
+use Rattle.std.proofs.Common.{◌≢◌, ℕ, ◌<◌, ◌≤◌, slice_get, List, Option, Some, None, Result, Ok, Err, arith}
 use Rattle.std.specs.Option.{option_and_then}
 use Rattle.asm_image.specs.Bodies.{method_of}
 use Rattle.asm_image.specs.Find.{find_of}
@@ -7,7 +7,6 @@ use Rattle.asm_image.specs.declared.fault.AsmFault.{AsmFault}
 use Rattle.asm_image.specs.declared.found.Found.{Found}
 use Rattle.asm_image.specs.declared.found.Found.TheVariants.{One, Several}
 use Rattle.asm_image.specs.declared.method_row.MethodRow.{MethodRow}
-use Rattle.cc_base.specs.declared.token.Token.{Token}
 use Rattle.cil_eval.specs.Outcome.{last_state, outcome}
 use Rattle.cil_eval.specs.Starts.{start_refusal, start_state}
 use Rattle.cil_eval.specs.declared.limits.Limits.{Limits}
@@ -24,10 +23,15 @@ use Rattle.cil_model.specs.declared.unit.Unit.{Unit as MethodUnit}
 use Rattle.method_run.specs.ArgumentWords.{arguments_of}
 use Rattle.method_run.specs.EndTexts.{end_status}
 use Rattle.method_run.specs.RunAnswers.{entry_answer, outcome_answer, refusal_answer, run_answer, run_limits, start_answer}
-use Rattle.unit_builder.specs.WorldOf.{least_skipped, world_of}
+use Rattle.answer_lines.specs.Answers.{Answer}
 use Rattle.answer_lines.proofs.Leaving.{IsUninterrupted}
-use Rattle.assembly_answers.specs.Answers.{found_answer, il_answer, instrs_answer, list_answer, method_answer, run_file_answer, run_found_answer, run_told, world_answer}
+use Rattle.assembly_answers.specs.Answers.{found_answer, il_answer, instrs_answer, list_answer, no_world_answer, refute_file_answer, run_file_answer, run_told, search_told, world_answer, world_named}
 use Rattle.assembly_answers.specs.IlText.{method_instrs}
+use Rattle.assembly_answers.specs.declared.method_world.NoWorld.{NoWorld}
+use Rattle.assembly_answers.specs.declared.method_world.NoWorld.TheVariants.{NoMethod, NotAnalysed, Refused, SeveralMethods}
+use Rattle.witness_search.specs.Searches.{searched}
+use Rattle.witness_search.specs.declared.answer.Search.{Search}
+use Rattle.witness_search.specs.declared.answer.Search.TheVariants as searches
 
 -- ---- statuses
 
@@ -110,19 +114,26 @@ of_run : (w : World) (words : List (List ℕ)) (steps : ℕ) → IsOfBytes (run_
 unfolding run_answer
 of_run w words steps = of_entry w (run_limits steps) words (slice_get w.units 0)
 
-of_world : (bytes : List ℕ) (token : Token) (args : List (List ℕ)) (steps : ℕ) (skipped : Option ℕ) → IsOfBytes (world_answer bytes token args steps skipped).status
-of_world bytes token args steps (Some skipped) = of_misfit
-of_world bytes token args steps None = of_run (world_of bytes token.0) args steps
+-- ---- methods and their worlds
 
-of_method : (bytes : List ℕ) (token : Token) (args : List (List ℕ)) (steps : ℕ) (method : Option MethodRow) → IsOfBytes (method_answer bytes token args steps method).status
-of_method bytes token args steps None = of_misfit
-of_method bytes token args steps (Some method) = of_world bytes token args steps (least_skipped bytes token.0)
+of_none : (name : List ℕ) (none : NoWorld) → IsOfBytes (no_world_answer name none).status
+of_none name (Refused fault) = of_refused
+of_none name NoMethod = of_misfit
+of_none name SeveralMethods = of_misfit
+of_none name NotAnalysed = of_misfit
 
-of_run_found : (bytes : List ℕ) (args : List (List ℕ)) (steps : ℕ) (found : Option Found) → IsOfBytes (run_found_answer bytes args steps found).status
-of_run_found bytes args steps None = of_misfit
-of_run_found bytes args steps (Some Several) = of_misfit
-of_run_found bytes args steps (Some (One token)) = of_method bytes token args steps (method_of bytes token)
+of_world : (name : List ℕ) (answer : World → Answer) (named : Result World NoWorld) → ((w : World) → IsOfBytes (answer w).status)
+    → IsOfBytes (world_answer name answer named).status
+of_world name answer (Ok w) of = of w
+of_world name answer (Err none) of = of_none name none
 
 pub of_run_file : (name method : List ℕ) (args : List (List ℕ)) (steps : ℕ) (bytes : List ℕ) (fault : Option AsmFault) → IsOfBytes (run_file_answer name method args steps bytes fault).status
-of_run_file name method args steps bytes None = of_run_found bytes args steps (find_of bytes method)
-of_run_file name method args steps bytes (Some fault) = of_refused
+of_run_file name method args steps bytes fault = of_world name (λ w. run_told (run_answer w args steps)) (world_named method bytes fault) (λ w. of_run w args steps)
+
+of_search : (w : World) (found : Search) → IsOfBytes (search_told w found).status
+of_search w (searches.Found args kind unit at) = of_high 8 (omega arith)
+of_search w (searches.NotFound tried started) = of_few 0 (omega arith)
+
+pub of_refute_file : (name method : List ℕ) (runs : ℕ) (bytes : List ℕ) (fault : Option AsmFault) → IsOfBytes (refute_file_answer name method runs bytes fault).status
+of_refute_file name method runs bytes fault =
+    of_world name (λ w. search_told w (searched w 0 runs)) (world_named method bytes fault) (λ w. of_search w (searched w 0 runs))

@@ -2,26 +2,22 @@
 
 #![tactic(auto, using(cc_base::proofs::SinkLemmas::sinks, cc_base::proofs::CountLemmas::counts, answer_lines::proofs::LineLemmas::puts_none))]
 
-ghost use Rattle.std.specs.Prelude.{◌≡◌, All, IsSome, IsTrue, string_bytes};
-ghost use Rattle.asm_image.specs.Bodies.{method_of};
+ghost use Rattle.std.specs.Prelude.{All, IsTrue, string_bytes};
 ghost use Rattle.asm_image.specs.Faults.{FirstBroken};
-ghost use Rattle.assembly_answers.specs.Answers.{TellsLine, method_answer, run_file_answer, run_found_answer, run_told, world_answer};
+ghost use Rattle.assembly_answers.specs.Answers.{TellsLine, run_file_answer, run_told};
 ghost use Rattle.answer_lines.specs.Outcome.{Gives};
 ghost use Rattle.command_words.specs.Words.{words_bytes};
 ghost use Rattle.answer_lines.specs.Writing.{change_of};
 ghost use Rattle.cil_eval.specs.RunWorlds.{CanBeRun};
 ghost use Rattle.method_run.specs.RunAnswers.{run_answer};
 ghost use Rattle.run_arguments.specs.Arguments.{is_argument};
-ghost use Rattle.unit_builder.specs.WorldOf.{least_skipped};
 
-use crate::fault_text::assembly_fault_text;
-use answer_lines::{Interrupt, answer_misfit, answer_refused, put_line};
-use asm_image::{AsmRefusal, Assembly, Found};
-use cc_base::{Sink, Token};
+use crate::method_world::{answer_no_world, named_world};
+use answer_lines::{Interrupt, answer_misfit, put_line};
+use cc_base::Sink;
 use cil_model::World;
 use method_run::{RunAnswer, run_method};
 use std::alloc::Global;
-use unit_builder::{Units, WorldRefusal, world_of};
 
 /// The words of a run after the method's name.
 #[derive(Clone, Copy)]
@@ -70,68 +66,6 @@ fn answer_world<O: Sink, E: Sink>(
     answer_told(alloc, answer, out, err)
 }
 
-/// Answers for a run of the method of this token.
-#[tactic(auto, using(cc_base::proofs::SinkLemmas::sinks, cc_base::proofs::CountLemmas::counts, answer_lines::proofs::LineLemmas::puts_none, crate::proofs::Runnable::can_be_run))]
-fn answer_method<O: Sink, E: Sink>(
-    alloc: Global,
-    assembly: &Assembly<'_>,
-    token: Token,
-    given: RunGiven<'_>,
-    out: &mut O,
-    err: &mut E,
-) -> Result<u8, Interrupt>
-    requires there { IsSome (method_of assembly.now token) }
-    requires args { All (λ word. IsTrue (is_argument (string_bytes word))) given.args.now }
-    ensures { Gives (world_answer assembly.now token (words_bytes given.entry.args.now) given.entry.steps (least_skipped assembly.now token.0)) result
-        (change_of O.written O.puts O.faults out.old out.new) (change_of E.written E.puts E.faults err.old err.new) }
-{
-    let units = Units::of(alloc, assembly)?;
-    match world_of(alloc, units, token) {
-        Err(WorldRefusal::NoMemory) => Err(Interrupt::NoMemory),
-        Err(WorldRefusal::NotAnalysed(_)) => answer_misfit(alloc, b"not analysed", err),
-        Ok(world) => answer_world(alloc, &world, given, out, err),
-    }
-}
-
-/// Answers for a token, by the method that it names.
-fn answer_token<O: Sink, E: Sink>(
-    alloc: Global,
-    assembly: &Assembly<'_>,
-    token: Token,
-    given: RunGiven<'_>,
-    out: &mut O,
-    err: &mut E,
-) -> Result<u8, Interrupt>
-    requires args { All (λ word. IsTrue (is_argument (string_bytes word))) given.args.now }
-    ensures { Gives (method_answer assembly.now token (words_bytes given.entry.args.now) given.entry.steps (method_of assembly.now token)) result
-        (change_of O.written O.puts O.faults out.old out.new) (change_of E.written E.puts E.faults err.old err.new) }
-{
-    match assembly.method(token) {
-        None => answer_misfit(alloc, b"no method", err),
-        Some(_) => answer_method(alloc, assembly, token, given, out, err),
-    }
-}
-
-/// Answers for what the name of a method means in an assembly.
-fn answer_found<O: Sink, E: Sink>(
-    alloc: Global,
-    assembly: &Assembly<'_>,
-    found: Option<Found>,
-    given: RunGiven<'_>,
-    out: &mut O,
-    err: &mut E,
-) -> Result<u8, Interrupt>
-    requires args { All (λ word. IsTrue (is_argument (string_bytes word))) given.args.now }
-    ensures { Gives (run_found_answer assembly.now (words_bytes given.entry.args.now) given.entry.steps found) result
-        (change_of O.written O.puts O.faults out.old out.new) (change_of E.written E.puts E.faults err.old err.new) }
-{
-    match found {
-        None => answer_misfit(alloc, b"no method", err),
-        Some(Found::Several) => answer_misfit(alloc, b"several methods", err),
-        Some(Found::One(token)) => answer_token(alloc, assembly, token, given, out, err),
-    }
-}
-
 /// Answers `run FILE METHOD ARG..` for the bytes of the file.
 ///
 /// Cost: the assembly's tables are read, the code of the methods that the entry reaches, and one step of the run after
@@ -149,11 +83,8 @@ pub fn answer_run<O: Sink, E: Sink>(
     ensures { Gives (run_file_answer name.now method.now (words_bytes given.entry.args.now) given.entry.steps bytes.now (FirstBroken bytes.now)) result
         (change_of O.written O.puts O.faults out.old out.new) (change_of E.written E.puts E.faults err.old err.new) }
 {
-    match Assembly::read(alloc, bytes) {
-        Err(AsmRefusal::NoMemory) => Err(Interrupt::NoMemory),
-        Err(AsmRefusal::Bad(fault)) => {
-            answer_refused(alloc, name, assembly_fault_text(fault.cause), fault.at, err)
-        }
-        Ok(assembly) => answer_found(alloc, &assembly, assembly.find(method), given, out, err),
+    match named_world(alloc, method, bytes)? {
+        Ok(world) => answer_world(alloc, &world, given, out, err),
+        Err(none) => answer_no_world(alloc, name, none, err),
     }
 }

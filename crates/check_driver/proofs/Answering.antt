@@ -16,7 +16,7 @@ use Rattle.answer_lines.specs.Writing.{Change}
 use Rattle.command_words.specs.declared.command.Command.{Command}
 use Rattle.command_words.specs.declared.command.Command.TheVariants as commands
 use Rattle.answer_lines.specs.declared.interrupt.Interrupt.{Interrupt}
-use Rattle.assembly_answers.proofs.CutFiles.{il_cut, il_file_answer, large_first, list_cut, list_file_answer, run_bytes_answer, run_cut}
+use Rattle.assembly_answers.proofs.CutFiles.{il_cut, il_file_answer, large_first, list_cut, list_file_answer, refute_bytes_answer, refute_cut, run_bytes_answer, run_cut}
 use Rattle.check_driver.proofs.FilesRead.{none_missing}
 
 -- ---- bytes that a read cut off
@@ -74,6 +74,9 @@ bytes_alike (commands.Il file method) words met read h =
     (λ bytes past. il_cut (word_at words file) (word_at words method) bytes READ_LIMIT refl past) h
 bytes_alike (commands.Check file show) words met read h =
     first_alike (check_file_answer (word_at words file) show) met read (λ bytes past. check_cut (word_at words file) show bytes READ_LIMIT refl past) h
+bytes_alike (commands.Refute file method runs) words met read h =
+    first_alike (refute_bytes_answer (word_at words file) (word_at words method) runs) met read
+    (λ bytes past. refute_cut (word_at words file) (word_at words method) runs bytes READ_LIMIT refl past) h
 bytes_alike (commands.Gen seed count) words met read h = refl
 bytes_alike (commands.Run run) words met read h =
     first_alike (run_bytes_answer (word_at words run.file) (word_at words run.method) (args_told run words) run.steps) met read
@@ -102,6 +105,7 @@ asked_alike (commands.Check file show) met read h = first_alike check_file_asked
 asked_alike (commands.List file) met read h = refl
 asked_alike (commands.Il file method) met read h = refl
 asked_alike (commands.Run run) met read h = refl
+asked_alike (commands.Refute file method runs) met read h = refl
 asked_alike (commands.Gen seed count) met read h = refl
 
 -- The bytes of the only file.

@@ -12,9 +12,9 @@ use Rattle.cc_base.proofs.SinkLemmas.{appended-nil}
 use Rattle.check_driver.specs.CheckText.{check_text, method_line}
 use Rattle.check_driver.specs.Checked.{AsksToCheck, IfCheck, IsHeldReportable, IsReportable, IsSafeMethod, PrintsMethod}
 use Rattle.answer_lines.specs.Answers.{Answer}
-use Rattle.check_driver.specs.Expected.{check_answer, command_answer, expected, files_answer}
-use Rattle.check_driver.specs.Met.{AreUnder}
-use Rattle.command_words.specs.Words.{command_files, command_of, file_names, word_at, words_at}
+use Rattle.check_driver.specs.Expected.{bytes_answer, check_answer, command_answer, expected, files_answer, missing_or}
+use Rattle.check_driver.specs.Met.{AreUnder, first_missing}
+use Rattle.command_words.specs.Words.{command_files, command_of, file_indexes, file_names, word_at, words_at}
 use Rattle.command_words.specs.declared.command.Command.{Command}
 use Rattle.command_words.specs.declared.command.Command.TheVariants as commands
 use Rattle.check_driver.proofs.PrintedSafety.{printed_method}
@@ -37,15 +37,16 @@ something_printed old new method same prints =
     let nothing : [] ≡ prints.text = same_appended old new [] prints.before prints.text (same ∙ sym (appended-nil old)) prints.was prints.is in
     no_line line.before line.behind method (nothing ∙ line.is)
 
--- What is met is the file.
-check_asked : (words : List (List ℕ)) (file : ℕ) (show : Bool) (held : Held) (bytes : List ℕ) (met : List (Option (List ℕ))) → held (word_at words file) ≡ Some bytes
-    → command_of words ≡ Some (commands.Check file show) → AreUnder (Some held) (words_at words (file ∷ [])) met
-    → expected words met ≡ check_answer (word_at words file) show bytes (FirstBroken bytes)
-check_asked words file show held bytes (under ∷ []) at command (is, last) =
+-- What is met is the file of a command that has one.
+pub file_asked : (words : List (List ℕ)) (command : Command) (file : ℕ) (held : Held) (bytes : List ℕ) (met : List (Option (List ℕ))) → file_indexes command ≡ file ∷ []
+    → held (word_at words file) ≡ Some bytes → command_of words ≡ Some command → AreUnder (Some held) (words_at words (file ∷ [])) met
+    → expected words met ≡ bytes_answer command words (bytes ∷ [])
+file_asked words command file held bytes (under ∷ []) one at asked (is, last) =
     let met_is : under ≡ Some bytes = sym (is held refl) ∙ at in
-    ap (command_answer words (under ∷ [])) command ∙ ap (λ (u : Option (List ℕ)). files_answer (commands.Check file show) words (u ∷ [])) met_is
-check_asked words file show held bytes [] at command h = absurd h
-check_asked words file show held bytes (under ∷ other ∷ met) at command h = absurd h.1
+    ap (command_answer words (under ∷ [])) asked ∙ ap (λ (u : Option (List ℕ)). files_answer command words (u ∷ [])) met_is
+    ∙ ap (λ (indexes : List ℕ). missing_or (first_missing (words_at words indexes) (Some bytes ∷ [])) (bytes_answer command words (bytes ∷ []))) one
+file_asked words command file held bytes [] one at asked h = absurd h
+file_asked words command file held bytes (under ∷ other ∷ met) one at asked h = absurd h.1
 
 -- What was printed begins the report.
 front_of_check : (words : List (List ℕ)) (held : Held) (bytes : List ℕ) (met : List (Option (List ℕ))) (text : List ℕ) (asks : AsksToCheck words held bytes)
@@ -53,7 +54,7 @@ front_of_check : (words : List (List ℕ)) (held : Held) (bytes : List ℕ) (met
 front_of_check words held bytes met text asks under accepted front =
     let name = word_at words asks.file in
     let here = subst (λ (command : Option Command). AreUnder (Some held) (command_files words command) met) asks.command under in
-    let answer = check_asked words asks.file asks.show held bytes met asks.is_held asks.command here ∙ ap (check_answer name asks.show bytes) accepted in
+    let answer = file_asked words (commands.Check asks.file asks.show) asks.file held bytes met refl asks.is_held asks.command here ∙ ap (check_answer name asks.show bytes) accepted in
     subst (λ (a : Answer). IsFront text a.out) answer front
 
 pub known_of : (told : Option Held) (words : List (List ℕ)) (held : Held) (bytes : List ℕ) → told ≡ Some held → AsksToCheck words held bytes

@@ -185,6 +185,7 @@ asks_to_check words held k bytes is = by_command (command_of words) refl is.kth
     by_command (Some (commands.List file)) same kth = absurd (none-some is.name kth)
     by_command (Some (commands.Il file method)) same kth = absurd (none-some is.name kth)
     by_command (Some (commands.Run run)) same kth = absurd (none-some is.name kth)
+    by_command (Some (commands.Refute file method runs)) same kth = absurd (none-some is.name kth)
     by_command (Some (commands.Gen seed count)) same kth = absurd (none-some is.name kth)
     by_command None same kth = absurd (none-some is.name kth)
 

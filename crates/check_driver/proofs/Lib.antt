@@ -6,6 +6,7 @@ pub mod CacheLemmas
 pub mod KeysAsked
 pub mod CheckedSafety
 pub mod Reportable
+pub mod RefutedMethods
 pub mod FilesRead
 pub mod ReportLines
 pub mod FindAll

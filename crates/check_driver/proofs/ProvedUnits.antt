@@ -26,7 +26,7 @@ use Rattle.check_driver.specs.Met.{AreUnder}
 use Rattle.check_driver.specs.ProvedUnit.{AreSpelled, AsksForUnit, IfUnit, IsHeldSpelled, PrintsProvedUnit, SpellSafeUnit}
 use Rattle.check_driver.specs.ReportText.{unit_counts, unit_report, verdict_line}
 use Rattle.check_driver.specs.Sections.{lines_of}
-use Rattle.check_driver.proofs.CheckedSafety.{same_appended}
+use Rattle.check_driver.proofs.CheckedSafety.{file_asked, same_appended}
 use Rattle.check_driver.proofs.LinesOf.{first_line}
 use Rattle.check_driver.proofs.PrintedMethods.{same_parts}
 
@@ -92,15 +92,6 @@ answer_report : (name bytes text line : List ℕ) (fault : Option UnitFault) →
 answer_report name bytes text line None first front = (refl, front)
 answer_report name bytes text line (Some fault) first front = absurd (nothing_has_lines text line first front)
 
--- What is met is the file.
-file_met : (words : List (List ℕ)) (file : ℕ) (held : Held) (bytes : List ℕ) (met : List (Option (List ℕ))) → held (word_at words file) ≡ Some bytes
-    → command_of words ≡ Some (commands.Unit file) → AreUnder (Some held) (words_at words (file ∷ [])) met → expected words met ≡ unit_file_answer (word_at words file) bytes
-file_met words file held bytes (under ∷ []) at command (is, last) =
-    let met_is : under ≡ Some bytes = sym (is held refl) ∙ at in
-    ap (command_answer words (under ∷ [])) command ∙ ap (λ (u : Option (List ℕ)). files_answer (commands.Unit file) words (u ∷ [])) met_is
-file_met words file held bytes [] at command h = absurd h
-file_met words file held bytes (under ∷ other ∷ met) at command h = absurd h.1
-
 -- A text with a line that begins what is expected begins the report of the unit.
 front_of_report : (words : List (List ℕ)) (held : Held) (bytes : List ℕ) (met : List (Option (List ℕ))) (text line : List ℕ) → AsksForUnit words held bytes
     → AreUnder (Some held) (file_names words) met → slice_get (lines_of text) 0 ≡ Some line → IsFront text (Answer.out (expected words met))
@@ -108,7 +99,7 @@ front_of_report : (words : List (List ℕ)) (held : Held) (bytes : List ℕ) (me
 front_of_report words held bytes met text line asks under first front =
     let name = word_at words asks.file in
     let here = subst (λ (command : Option Command). AreUnder (Some held) (command_files words command) met) asks.command under in
-    let answer = file_met words asks.file held bytes met asks.is_held asks.command here in
+    let answer = file_asked words (commands.Unit asks.file) asks.file held bytes met refl asks.is_held asks.command here in
     let begins : IsFront text (Answer.out (unit_file_answer name bytes)) = subst (λ (a : Answer). IsFront text a.out) answer front in
     answer_report name bytes text line (first_unit_fault bytes) first
     (front_of_answer (nat_le READ_LIMIT (length bytes)) _ (unit_answer name bytes (first_unit_fault bytes)) text line first refl begins)

@@ -47,4 +47,5 @@ held_reportable files (commands.Unit file) words met read same under contents (i
 held_reportable files (commands.List file) words met read same under contents (inr known) = inr tt
 held_reportable files (commands.Il file method) words met read same under contents (inr known) = inr tt
 held_reportable files (commands.Run run) words met read same under contents (inr known) = inr tt
+held_reportable files (commands.Refute file method runs) words met read same under contents (inr known) = inr tt
 held_reportable files (commands.Gen seed count) words met read same under contents (inr known) = inr tt

@@ -57,4 +57,5 @@ held_spelled files (commands.Check file show) words met read same under contents
 held_spelled files (commands.List file) words met read same under contents (inr known) = inr tt
 held_spelled files (commands.Il file method) words met read same under contents (inr known) = inr tt
 held_spelled files (commands.Run run) words met read same under contents (inr known) = inr tt
+held_spelled files (commands.Refute file method runs) words met read same under contents (inr known) = inr tt
 held_spelled files (commands.Gen seed count) words met read same under contents (inr known) = inr tt

@@ -17,7 +17,7 @@ use Rattle.answer_lines.specs.Writing.{Change}
 use Rattle.answer_lines.specs.declared.interrupt.Interrupt.{Interrupt}
 use Rattle.answer_lines.specs.declared.interrupt.Interrupt.TheVariants as interrupts
 use Rattle.answer_lines.proofs.Leaving.{IsUninterrupted}
-use Rattle.assembly_answers.proofs.Statuses.{IsOfBytes, of_few, of_il, of_list, of_refused, of_run_file, plain_below}
+use Rattle.assembly_answers.proofs.Statuses.{IsOfBytes, of_few, of_il, of_list, of_refused, of_refute_file, of_run_file, plain_below}
 use Rattle.check_driver.specs.Analysis.{unit_verdicts}
 use Rattle.check_driver.specs.CheckText.{all_methods_proved}
 use Rattle.check_driver.specs.Expected.{bytes_answer, check_answer, command_answer, expected, file_at, missing_or, unit_answer, unit_file_answer}
@@ -51,6 +51,8 @@ of_bytes (commands.Il file method) words files = of_il (word_at words file) (wor
 of_bytes (commands.Check file show) words files = of_check (word_at words file) show (file_at files 0) (FirstBroken (file_at files 0))
 of_bytes (commands.Run run) words files =
     of_run_file (word_at words run.file) (word_at words run.method) (args_told run words) run.steps (file_at files 0) (FirstBroken (file_at files 0))
+of_bytes (commands.Refute file method runs) words files =
+    of_refute_file (word_at words file) (word_at words method) runs (file_at files 0) (FirstBroken (file_at files 0))
 of_bytes (commands.Gen seed count) words files = of_report (all_methods_proved (generated_file seed count))
 
 plain_missing : (missing : Option (List ℕ)) (answer : Answer) → IsUninterrupted answer.status → IsUninterrupted (missing_or missing answer).status

@@ -12,7 +12,7 @@ use Rattle.invariant_checker.specs.Counts.{all_proved}
 use Rattle.answer_lines.specs.Answers.{Answer, USAGE, missing_line, error_answer, output_answer, refused_answer}
 use Rattle.check_driver.specs.Analysis.{unit_verdicts}
 use Rattle.check_driver.specs.CheckText.{all_methods_proved, check_text, summary_text}
-use Rattle.assembly_answers.specs.Answers.{il_answer, list_answer, run_file_answer}
+use Rattle.assembly_answers.specs.Answers.{il_answer, list_answer, refute_file_answer, run_file_answer}
 use Rattle.assembly_answers.specs.FaultText.{unit_fault_text, assembly_fault_text}
 use Rattle.check_driver.specs.Met.{first_missing, contents}
 use Rattle.check_driver.specs.ReportText.{unit_report}
@@ -60,6 +60,8 @@ bytes_answer (commands.Check file show) words files =
     check_answer (word_at words file) show (file_at files 0) (FirstBroken (file_at files 0))
 bytes_answer (commands.Run run) words files =
     run_file_answer (word_at words run.file) (word_at words run.method) (args_told run words) run.steps (file_at files 0) (FirstBroken (file_at files 0))
+bytes_answer (commands.Refute file method runs) words files =
+    refute_file_answer (word_at words file) (word_at words method) runs (file_at files 0) (FirstBroken (file_at files 0))
 bytes_answer (commands.Gen seed count) words files = gen_answer (generated_file seed count)
 
 -- The answer where the first file that is missing has this name, or where none is.

@@ -10,4 +10,5 @@ pub mod Checked
 pub mod Sections
 pub mod Headline
 pub mod ProvedUnit
+pub mod Refuted
 pub mod NothingOr

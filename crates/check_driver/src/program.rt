@@ -9,6 +9,7 @@ ghost use Rattle.asm_image.specs.declared.method_row.MethodRow.{MethodRow};
 ghost use Rattle.cc_base.specs.Counts.{Rose, Kept};
 ghost use Rattle.cc_base.specs.Files.{Held};
 ghost use Rattle.cc_base.specs.Sink.{AppendsFront};
+ghost use Rattle.cc_base.specs.declared.token.Token.{Token};
 ghost use Rattle.check_driver.specs.Asked.{AnswerAsks, Asks, LeavesAsked, asked_by, bytes_asked, files_asked};
 ghost use Rattle.cil_model.specs.Runs.{Safe};
 ghost use Rattle.check_driver.specs.Checked.{IfCheck, IsHeldReportable, IsReportable, IsSafeMethod};
@@ -19,6 +20,7 @@ ghost use Rattle.answer_lines.specs.Outcome.{Gives, GivesOrUnread, Leaves, last_
 ghost use Rattle.check_driver.specs.Headline.{IsAssemblyOf, TellAllProved, WasAppended};
 ghost use Rattle.check_driver.specs.NothingOr.{NothingOr};
 ghost use Rattle.check_driver.specs.ProvedUnit.{AreSpelled, AsksForUnit, IfUnit, IsHeldSpelled, PrintsProvedUnit, SpellSafeUnit};
+ghost use Rattle.check_driver.specs.Refuted.{AsksToRefute, PrintsRefuted};
 ghost use Rattle.check_driver.specs.Sections.{HasProvedLine, section};
 ghost use Rattle.command_words.specs.Words.{HasArguments, IfGen, IfRun, args_told, command_of, file_indexes, file_names, used_indexes, word_at, words_at, words_bytes};
 ghost use Rattle.answer_lines.specs.Writing.{change_of};
@@ -31,11 +33,24 @@ use crate::unit_answer::answer_unit_file;
 use answer_lines::{
     Interrupt, NO_MEMORY, UNWRITTEN, USAGE, answer_error, answer_missing, answer_unread,
 };
-use assembly_answers::{RunGiven, answer_il, answer_list, answer_run};
+use assembly_answers::{RunGiven, answer_il, answer_list, answer_refute, answer_run};
 use cc_base::{Files, Sink};
 use command_words::{Command, RunWords, parse_words, word_at};
 use std::alloc::Global;
 use widening_engine::Finder;
+
+/// The names of a file and of a method that words tell.
+fn names_at(words: &[String], file: u32, method: u32) -> (&[u8], &[u8])
+    requires file { file < length words.now }
+    requires method { method < length words.now }
+    ensures file { result.0.now ≡ word_at (words_bytes words.now) file }
+    ensures method { result.1.now ≡ word_at (words_bytes words.now) method }
+{
+    (
+        word_at(words, file).as_bytes(),
+        word_at(words, method).as_bytes(),
+    )
+}
 
 /// Answers the words of a run for what was read of its file.
 fn answer_run_words<O: Sink, E: Sink>(
@@ -57,16 +72,8 @@ fn answer_run_words<O: Sink, E: Sink>(
         args: &words[3..run.args_end as usize],
         steps: run.steps,
     };
-    let (name, method) = (word_at(words, run.file), word_at(words, run.method));
-    answer_run(
-        alloc,
-        name.as_bytes(),
-        method.as_bytes(),
-        given,
-        bytes,
-        out,
-        err,
-    )
+    let (name, method) = names_at(words, run.file, run.method);
+    answer_run(alloc, name, method, given, bytes, out, err)
 }
 
 /// Answers a command for what was read of its files, of each at most `READ_LIMIT` bytes.
@@ -104,15 +111,8 @@ fn answer_bytes<O: Sink, E: Sink, D: Finder>(
             answer_list(alloc, word_at(words, file).as_bytes(), &read[0], out, err)
         }
         Command::Il(file, method) => {
-            let (name, method) = (word_at(words, file), word_at(words, method));
-            answer_il(
-                alloc,
-                name.as_bytes(),
-                method.as_bytes(),
-                &read[0],
-                out,
-                err,
-            )
+            let (name, method) = names_at(words, file, method);
+            answer_il(alloc, name, method, &read[0], out, err)
         }
         Command::Check { file, show } => {
             answer_check(
@@ -126,6 +126,10 @@ fn answer_bytes<O: Sink, E: Sink, D: Finder>(
             )
         }
         Command::Run(run) => answer_run_words(alloc, run, words, &read[0], out, err),
+        Command::Refute { file, method, runs } => {
+            let (name, method) = names_at(words, file, method);
+            answer_refute(alloc, name, method, runs, &read[0], out, err)
+        }
         Command::Gen(seed, count) => answer_gen(alloc, seed, count, out, finder),
     }
 }
@@ -253,6 +257,10 @@ pub fn run_words<F: Files, O: Sink, E: Sink, D: Finder>(
     ensures single_unit { (held : Held) (bytes signature : List ℕ) → F.held files.old ≡ Some held
         → AsksForUnit (words_bytes words.now) held bytes
         → PrintsProvedUnit (O.written out.old) (O.written out.new) signature → SpellSafeUnit bytes signature }
+    // A method of which arguments were told that end in a fault is not safe in its world, whatever the status.
+    ensures refuted { (held : Held) (bytes : List ℕ) (token : Token) → F.held files.old ≡ Some held
+        → AsksToRefute (words_bytes words.now) held bytes token → PrintsRefuted (O.written out.old) (O.written out.new)
+        → Safe (world_of bytes token.0) 0 → ⊥ }
     // The unit of a method of an assembly that the assembly's report has told to be proved is safe.
     ensures checked { (held : Held) (k : ℕ) (bytes text : List ℕ) (method : MethodRow) → F.held files.old ≡ Some held
         → IsAssemblyOf (words_bytes words.now) held k bytes → WasAppended (O.written out.old) (O.written out.new) text

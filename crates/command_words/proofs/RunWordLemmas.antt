@@ -42,6 +42,7 @@ no_run (commands.List file) words none = tt
 no_run (commands.Il file method) words none = tt
 no_run (commands.Check file show) words none = tt
 no_run (commands.Run run) words none = absurd none
+no_run (commands.Refute file method runs) words none = tt
 no_run (commands.Gen seed count) words none = tt
 
 pub none_runs : (command : Option Command) (words : List (List ℕ)) → IfSome command (λ some. IfRun some (λ run. ⊥)) → IfSome command (λ some. IfRun some (λ run. HasArguments run words))

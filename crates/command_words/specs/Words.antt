@@ -128,6 +128,32 @@ abbrev pub IfGen : Command → (ℕ → ℕ → Type 0) → Type 0
 IfGen (commands.Gen seed count) P = P seed count
 IfGen _ P = Unit {0}
 
+-- ---- searches for arguments that fault
+
+-- How many runs a search may try unless it is told, and the most that it may be told.
+abbrev pub RUNS : ℕ
+RUNS = 1000
+
+abbrev pub MAX_RUNS : ℕ
+MAX_RUNS = 10000
+
+-- The number, where it is told and not 0.
+abbrev pub at_least_one : Option ℕ → Option ℕ
+at_least_one (Some number) = if number == 0 then None else Some number
+at_least_one None = None
+
+-- How many runs the words after the method allow: none of them, or `--runs` and the number.
+abbrev pub runs_told : List (List ℕ) → Option ℕ
+runs_told [] = Some RUNS
+runs_told (option ∷ number ∷ []) = if bytes_eq option (codes "--runs") then at_least_one (number_of_word MAX_RUNS number) else None
+runs_told _ = None
+
+-- The command that searches for arguments with which a run of a method ends in a fault: its file, its name, and perhaps
+-- how many runs it may try.
+abbrev pub refute_command : List ℕ → List ℕ → List (List ℕ) → Option Command
+refute_command file method options =
+    if is_name_word file && is_name_word method then option_map (commands.Refute 1 2) (runs_told options) else None
+
 -- ---- commands
 
 -- The command that the words are, if they are one.
@@ -135,6 +161,7 @@ abbrev pub command_of : List (List ℕ) → Option Command
 command_of (word ∷ file ∷ []) = command_of_two word file
 command_of (word ∷ first ∷ second ∷ args) =
     if bytes_eq word (codes "run") then run_command (word ∷ first ∷ second ∷ args)
+    else if bytes_eq word (codes "refute") then refute_command first second args
     else if length args == 0 then command_of_three word first second
     else None
 command_of _ = None
@@ -146,6 +173,7 @@ file_indexes (commands.List file) = file ∷ []
 file_indexes (commands.Il file method) = file ∷ []
 file_indexes (commands.Check file show) = file ∷ []
 file_indexes (commands.Run run) = run.file ∷ []
+file_indexes (commands.Refute file method runs) = file ∷ []
 file_indexes (commands.Gen seed count) = []
 
 -- The indexes of those among them that name the assemblies whose reports the command makes, in the order of these.
@@ -155,6 +183,7 @@ checked_indexes (commands.List file) = []
 checked_indexes (commands.Il file method) = []
 checked_indexes (commands.Check file show) = file ∷ []
 checked_indexes (commands.Run run) = []
+checked_indexes (commands.Refute file method runs) = []
 checked_indexes (commands.Gen seed count) = []
 
 -- The indexes of all words that the command uses.
@@ -164,6 +193,7 @@ used_indexes (commands.List file) = file ∷ []
 used_indexes (commands.Il file method) = file ∷ method ∷ []
 used_indexes (commands.Check file show) = file ∷ []
 used_indexes (commands.Run run) = run.file ∷ run.method ∷ []
+used_indexes (commands.Refute file method runs) = file ∷ method ∷ []
 used_indexes (commands.Gen seed count) = []
 
 -- The words at these indexes.

@@ -2,8 +2,9 @@
 
 ghost use Rattle.std.specs.Prelude.{◌≡◌, ◌+◌, ◌<◌, ◌≤◌, ◌^◌, All, IfSome, IsTrue, length, string_bytes};
 ghost use Rattle.std.specs.List.{list_all};
-ghost use Rattle.command_words.specs.Words.{HasArguments, IfGen, IfRun, args_end, check_command, command_of, command_of_three, command_of_two, file_indexes, gen_command, il_command, is_name_word, names_run, run_args, run_command, run_steps, shown_command, tells_steps, used_indexes, word_at, words_bytes};
+ghost use Rattle.command_words.specs.Words.{HasArguments, IfGen, IfRun, args_end, at_least_one, check_command, command_of, command_of_three, command_of_two, file_indexes, gen_command, il_command, is_name_word, names_run, refute_command, run_args, run_command, run_steps, runs_told, shown_command, tells_steps, used_indexes, word_at, words_bytes};
 ghost use Rattle.run_arguments.specs.Arguments as arguments;
+ghost use Rattle.run_arguments.specs.Numbers.{number_of_word};
 
 use run_arguments::{is_argument, read_number};
 use std::slice;
@@ -27,6 +28,15 @@ pub enum Command {
     },
     /// A run of a method.
     Run(RunWords),
+    /// A search for arguments with which a run of a method ends in a fault.
+    Refute {
+        /// The index of the word that names the file of the assembly.
+        file: u32,
+        /// The index of the word that names the method.
+        method: u32,
+        /// The number of runs that may be tried, 1 to 10,000.
+        runs: u32,
+    },
     /// The summary of the report of an assembly that is generated: its seed, then the number of its methods.
     Gen(u32, u32),
 }
@@ -54,7 +64,8 @@ impl Command {
             | Command::List(file)
             | Command::Il(file, _)
             | Command::Check { file, .. }
-            | Command::Run(RunWords { file, .. }) => slice::from_ref(file),
+            | Command::Run(RunWords { file, .. })
+            | Command::Refute { file, .. } => slice::from_ref(file),
             Command::Gen(_, _) => &[],
         }
     }
@@ -270,6 +281,54 @@ fn run_command(words: &[String]) -> Option<Command>
     }))
 }
 
+/// The number of runs that a search may try where the words give none.
+const RUNS: u32 = 1_000;
+
+/// The greatest number of runs that the words of a search may give.
+const MAX_RUNS: u32 = 10_000;
+
+/// The number of runs that a word allows, of which there is at least one.
+fn read_runs(word: &str) -> Option<u32>
+    ensures { result ≡ at_least_one (number_of_word 10000 word.now) }
+{
+    let runs = read_number(word, MAX_RUNS)?;
+    if runs == 0 {
+        return None;
+    }
+    Some(runs)
+}
+
+/// Returns how many runs the words after the method allow a search, none where they are neither no words nor `--runs`
+/// and a number.
+fn runs_told(options: &[String]) -> Option<u32>
+    ensures { result ≡ runs_told (words_bytes options.now) }
+{
+    match options {
+        [] => Some(RUNS),
+        [option, number] if option.as_str() == "--runs" => read_runs(number.as_str()),
+        _ => None,
+    }
+}
+
+/// The command that searches for arguments of a method that end in a fault, where the words may name a file and a
+/// method and the others allow a number of runs.
+fn refute_command(file: &str, method: &str, options: &[String]) -> Option<Command>
+    ensures inside { IfSome result (λ command. All (λ index. index < 3) (used_indexes command)) }
+    ensures no_run { IfSome result (λ command. IfRun command (λ run. ⊥)) }
+    ensures few { IfSome result (λ command. IfGen command (λ seed count. count ≤ 10000)) }
+    ensures command { result ≡ refute_command file.now method.now (words_bytes options.now) }
+{
+    if !is_name_word(file) || !is_name_word(method) {
+        return None;
+    }
+    let runs = runs_told(options)?;
+    Some(Command::Refute {
+        file: 1,
+        method: 2,
+        runs,
+    })
+}
+
 /// The command that the words are, if they are one.
 pub fn parse_words(words: &[String]) -> Option<Command>
     ensures inside { IfSome result (λ command. All (λ index. index < length words.now) (used_indexes command)) }
@@ -280,6 +339,9 @@ pub fn parse_words(words: &[String]) -> Option<Command>
     match words {
         [word, file] => command_of_two(word.as_str(), file.as_str()),
         [word, _, _, ..] if word.as_str() == "run" => run_command(words),
+        [word, file, method, options @ ..] if word.as_str() == "refute" => {
+            refute_command(file.as_str(), method.as_str(), options)
+        }
         [word, first, second] => command_of_three(word.as_str(), first.as_str(), second.as_str()),
         _ => None,
     }

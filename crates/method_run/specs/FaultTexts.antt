@@ -42,3 +42,7 @@ position_text w index at = codes " at " ++ label at ++ codes " in " ++ method_te
 -- A fault at an offset in the code of the method of this index.
 abbrev pub fault_text : World → FaultKind → ℕ → ℕ → List ℕ
 fault_text w kind index at = codes "fault " ++ kind_text (called_at w index at) kind ++ position_text w index at
+
+-- The line that tells of it.
+abbrev pub fault_line : World → FaultKind → ℕ → ℕ → List ℕ
+fault_line w kind index at = fault_text w kind index at ++ codes "\n"

@@ -1,35 +1,12 @@
 -- What a method returned, as text.
-use Rattle.std.specs.Prelude.{ℕ, ℤ, pos, Bool, true, false, ◌&&◌, List, [], ◌++◌, map, Option, Some, None, if◌then◌else◌, codes}
-use Rattle.std.specs.Ordering.{int_eq}
-use Rattle.std.specs.Fmt.{signed_decimal}
+use Rattle.std.specs.Prelude.{ℕ, List, [], ◌++◌, Option, Some, None, codes}
 use Rattle.std.specs.Option.{option_map_or}
 use Rattle.cil_model.specs.Values.{Heap}
 use Rattle.cil_model.specs.declared.machine.Value.{Value}
 use Rattle.cil_model.specs.declared.machine.Value.TheVariants as values
 use Rattle.cil_model.specs.declared.place.Place.{Place}
-use Rattle.cil_model.specs.declared.place.Place.TheVariants as places
 use Rattle.clause_eval.specs.Lookups.{items_at}
-use Rattle.run_arguments.specs.Texts.{list_text}
-
--- The type is bool, or that of arrays of bool.
-abbrev pub is_of_bools : Place → Bool
-is_of_bools places.Bool = true
-is_of_bools places.Bools = true
-is_of_bools _ = false
-
--- A number of this type, or in an array of it. As a bool, 0 and 1 have names.
-abbrev pub number_text : Place → ℤ → List ℕ
-number_text place n =
-    if is_of_bools place && int_eq n (pos 0) then codes "false"
-    else if is_of_bools place && int_eq n (pos 1) then codes "true"
-    else signed_decimal n
-
--- A number after a comma.
-abbrev pub next_item : Place → ℤ → List ℕ
-next_item place n = codes "," ++ number_text place n
-
-abbrev pub items_text : Place → List ℤ → List ℕ
-items_text place items = list_text (map (number_text place) items)
+use Rattle.run_arguments.specs.Texts.{items_text, number_text}
 
 -- A value of this type, over this heap. There are values that no type has: they have no text.
 abbrev pub value_text : Place → Heap → Value → List ℕ

@@ -2,6 +2,7 @@
 
 ghost use Rattle.std.specs.Prelude.{◌≡◌, ◌++◌, IfOk, OnOk};
 ghost use Rattle.cil_eval.specs.Flows.{AreRunnable};
+ghost use Rattle.cil_eval.specs.RunWorlds.{CanBeRun};
 ghost use Rattle.method_run.specs.FaultTexts as texts;
 ghost use Rattle.method_run.specs.FaultTexts.{method_text, position_text};
 
@@ -57,4 +58,26 @@ pub(crate) fn fault_text(
     append_kind(alloc, &mut text, called_at(world, index, at), kind)?;
     put_position(alloc, &mut text, world, index, at)?;
     Ok(text)
+}
+
+/// The line that `run` answers for a fault at an offset in the code of the method of an index: its kind, its offset and
+/// the method's name.
+///
+/// # Errors
+///
+/// Memory runs out.
+#[tactic(auto, using(cil_eval::proofs::RunnableUnits::world_can))]
+pub fn fault_line(
+    alloc: Global,
+    world: &World,
+    kind: FaultKind,
+    index: u32,
+    at: u32,
+) -> Result<Vec<u8>, AllocError>
+    requires { CanBeRun world.now }
+    ensures { IfOk result (λ line. line.items ≡ texts.fault_line world.now kind index at) }
+{
+    let mut line = fault_text(alloc, world, kind, index, at)?;
+    line.push(b'\n')?;
+    Ok(line)
 }

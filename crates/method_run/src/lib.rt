@@ -10,4 +10,5 @@ mod run;
 mod values;
 
 pub use answer::RunAnswer;
+pub use faults::fault_line;
 pub use run::run_method;

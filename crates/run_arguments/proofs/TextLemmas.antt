@@ -1,5 +1,5 @@
 -- A word is an argument exactly where it is an argument's text.
-use Rattle.std.proofs.Common.{◌≡◌, ◌⊎◌, inl, inr, ℕ, ◌-◌, ◌^◌, ◌<◌, Bool, true, false, ◌&&◌, List, [], ◌∷◌, ◌++◌, length, get_or, take, map, refl, sym, ap, ap₂, subst, ◌∙◌, arith, ℤ, pos, negsuc, Option, Some, None, Result, Ok, Err, IfOk, is_some, option_map, option_and_then, filter_map, codes, FitsSigned, w32, ◌==◌, if◌then◌else◌}
+use Rattle.std.proofs.Common.{◌≡◌, ◌≢◌, ◌⊎◌, inl, inr, ℕ, ◌-◌, ◌^◌, ◌<◌, Bool, true, false, ◌&&◌, List, [], ◌∷◌, ◌++◌, length, get_or, take, map, refl, sym, ap, ap₂, subst, ◌∙◌, arith, ℤ, pos, negsuc, Option, Some, None, Result, Ok, Err, IfOk, is_some, option_map, option_and_then, filter_map, codes, FitsSigned, w32, ◌==◌, if◌then◌else◌}
 use Rattle.std.proofs.Math.Logic.{⊎_elim}
 use Rattle.std.proofs.lemmas.Bool.{eqb-true}
 use Rattle.std.proofs.lemmas.Fmt.{decimal_nonempty}
@@ -14,7 +14,7 @@ use Rattle.cil_model.specs.declared.arg.Arg.{Arg}
 use Rattle.cil_model.specs.declared.arg.Arg.TheVariants as args
 use Rattle.run_arguments.specs.Numbers.{int_of_word, number_of_word}
 use Rattle.run_arguments.specs.Arguments.{bool_of_word, is_int, is_bool, earlier_of_word, between_brackets, items_of, empty_of, list_of_items, list_of, null_of_word, argument_of, is_argument}
-use Rattle.run_arguments.specs.Texts.{bool_text, list_text, text_of, IsInRange}
+use Rattle.run_arguments.specs.Texts.{bool_text, list_text, text_of, IsInRange, IsReadFor}
 use Rattle.run_arguments.proofs.NumberLemmas.{begins_otherwise, int_none, int_some, int_text, number_some, number_text}
 use Rattle.run_arguments.proofs.WordLemmas.{brackets_at, last_apart}
 use Rattle.run_arguments.proofs.ListLemmas.{joined_split, shown_again, read_again, each_read, split_joined, joined_some, ints_plain, bools_plain}
@@ -211,24 +211,59 @@ bools_read place b bs =
     ∙ ap (λ (t : Bool). list_by false t texts) again.0
     ∙ ap (λ (xs : List Bool). Some (args.Bools xs)) again.1
 
+-- It is no list without items.
+abbrev HasItems : Arg → Type 0
+HasItems (args.Ints []) = ⊥
+HasItems (args.Bools []) = ⊥
+HasItems _ = Unit {0}
+
+-- Such an argument is what its text is as a word.
+plain_is_word : (place : Place) (arg : Arg) → IsInRange arg → HasItems arg → argument_of place (text_of arg) ≡ Some arg
+unfolding argument_of
+plain_is_word place (args.Int n) r some =
+    ap (λ (o : Option ℤ). option_or (option_map args.Int o) (behind_int place (signed_decimal n))) (int_some _ n r refl)
+plain_is_word place (args.Bool true) r some = no_int place (codes "true") (bool_is_no_int true)
+plain_is_word place (args.Bool false) r some = no_int place (codes "false") (bool_is_no_int false)
+plain_is_word place args.Null r some = no_int place (codes "null") (int_otherwise (codes "null") (omega arith))
+plain_is_word place (args.Same k) r some =
+    no_int place (64 ∷ decimal k) (int_otherwise (64 ∷ decimal k) (omega arith))
+    ∙ ap (λ (o : Option ℕ). option_or (option_map args.Same o) (option_and_then (list_of place) (between_brackets (64 ∷ decimal k))))
+    (number_some 4294967295 (decimal k) k (omega arith) (omega arith) refl)
+plain_is_word place (args.Ints []) r some = absurd some
+plain_is_word place (args.Ints (n ∷ ns)) r some = bracketed place (join_with_byte 44 (map signed_decimal (n ∷ ns))) ∙ ints_read place n ns r
+plain_is_word place (args.Bools []) r some = absurd some
+plain_is_word place (args.Bools (b ∷ bs)) r some = bracketed place (join_with_byte 44 (map bool_text (b ∷ bs))) ∙ bools_read place b bs
+
 -- The text of an argument is a word that is this argument, but that `[]` is the list without items of the type that is
 -- asked.
 pub text_is_word : (place : Place) (arg : Arg) → IsInRange arg
     → (argument_of place (text_of arg) ≡ Some arg) ⊎ ((text_of arg ≡ codes "[]") × (argument_of place (text_of arg) ≡ Some (empty_of place)))
-unfolding argument_of
-text_is_word place (args.Int n) r =
-    inl (ap (λ (o : Option ℤ). option_or (option_map args.Int o) (behind_int place (signed_decimal n))) (int_some _ n r refl))
-text_is_word place (args.Bool true) r = inl (no_int place (codes "true") (bool_is_no_int true))
-text_is_word place (args.Bool false) r = inl (no_int place (codes "false") (bool_is_no_int false))
-text_is_word place args.Null r = inl (no_int place (codes "null") (int_otherwise (codes "null") (omega arith)))
-text_is_word place (args.Same k) r =
-    inl (no_int place (64 ∷ decimal k) (int_otherwise (64 ∷ decimal k) (omega arith))
-    ∙ ap (λ (o : Option ℕ). option_or (option_map args.Same o) (option_and_then (list_of place) (between_brackets (64 ∷ decimal k))))
-    (number_some 4294967295 (decimal k) k (omega arith) (omega arith) refl))
 text_is_word place (args.Ints []) r = inr (refl, bracketed place [])
-text_is_word place (args.Ints (n ∷ ns)) r = inl (bracketed place (join_with_byte 44 (map signed_decimal (n ∷ ns))) ∙ ints_read place n ns r)
 text_is_word place (args.Bools []) r = inr (refl, bracketed place [])
-text_is_word place (args.Bools (b ∷ bs)) r = inl (bracketed place (join_with_byte 44 (map bool_text (b ∷ bs))) ∙ bools_read place b bs)
+text_is_word place (args.Int n) r = inl (plain_is_word place (args.Int n) r tt)
+text_is_word place (args.Bool b) r = inl (plain_is_word place (args.Bool b) r tt)
+text_is_word place args.Null r = inl (plain_is_word place args.Null r tt)
+text_is_word place (args.Same k) r = inl (plain_is_word place (args.Same k) r tt)
+text_is_word place (args.Ints (n ∷ ns)) r = inl (plain_is_word place (args.Ints (n ∷ ns)) r tt)
+text_is_word place (args.Bools (b ∷ bs)) r = inl (plain_is_word place (args.Bools (b ∷ bs)) r tt)
+
+empty_ints : (place : Place) → place ≢ places.Bools → empty_of place ≡ args.Ints []
+empty_ints places.Void other = refl
+empty_ints places.Int other = refl
+empty_ints places.Bool other = refl
+empty_ints places.Ints other = refl
+empty_ints places.Bools other = absurd (other refl)
+
+-- The text of an argument is a word that is this argument, where it is read for its type.
+pub text_is_read : (place : Place) (arg : Arg) → IsInRange arg → IsReadFor place arg → argument_of place (text_of arg) ≡ Some arg
+text_is_read place (args.Ints []) r for = bracketed place [] ∙ ap (λ (arg : Arg). Some arg) (empty_ints place for)
+text_is_read place (args.Bools []) r for = bracketed place [] ∙ ap (λ (p : Place). Some (empty_of p)) for
+text_is_read place (args.Int n) r for = plain_is_word place (args.Int n) r tt
+text_is_read place (args.Bool b) r for = plain_is_word place (args.Bool b) r tt
+text_is_read place args.Null r for = plain_is_word place args.Null r tt
+text_is_read place (args.Same k) r for = plain_is_word place (args.Same k) r tt
+text_is_read place (args.Ints (n ∷ ns)) r for = plain_is_word place (args.Ints (n ∷ ns)) r tt
+text_is_read place (args.Bools (b ∷ bs)) r for = plain_is_word place (args.Bools (b ∷ bs)) r tt
 
 -- A word in brackets is the list between them.
 pub list_given : {E : Type 0} (place : Place) (word inner : List ℕ) (given : Result Arg E) → Some inner ≡ between_brackets word

@@ -9,6 +9,7 @@ use Rattle.check_driver.proofs.Statuses.{usage_only, plain_expected}
 use Rattle.answer_lines.proofs.Leaving.{front_given, leaves}
 use Rattle.check_driver.proofs.HeadlineSafety.{headline_safe, section_safe}
 use Rattle.check_driver.proofs.ProvedUnits.{proved_unit_is_safe}
+use Rattle.check_driver.proofs.RefutedMethods.{refuted_is_unsafe}
 use Rattle.check_driver.proofs.program.run_words.Goals as goal
 
 pub returns-clause-output : goal.returns-clause-output
@@ -37,6 +38,16 @@ returns-clause-headline g c = λ held k bytes text method told assembly appended
       known = c.answer_words-answered.ensures.reportable;
       appended = appended;
     }) method has all
+
+pub returns-clause-refuted : goal.returns-clause-refuted
+returns-clause-refuted g c = λ held bytes token told asks prints safe.
+    let words = words_bytes c.args.words.now in
+    let answer = c.answer_words-answered.ensures.answer in
+    let written = g.O.Sink.written in
+    refuted_is_unsafe (g.F.Files.held c.args.files.now) words held bytes token answer.0 (written c.args.out.now) (written c.answer_words-answered.new.out) told asks answer.1
+    (front_given (expected words answer.0) (file_names words) _ c.answer_words-answered.result
+    (change_of written g.O.Sink.puts g.O.Sink.faults c.args.out.now c.answer_words-answered.new.out) _ answer.2)
+    prints safe
 
 pub returns-clause-single_unit : goal.returns-clause-single_unit
 returns-clause-single_unit g c = λ held bytes signature told asks prints.
