@@ -1,4 +1,4 @@
-//! A finder that computes each round anew.
+//! A finder that computes every edge in each round.
 
 ghost use Rattle.std.specs.Prelude.{◌≡◌, ◌≤◌, ◌+◌, ◌*◌, ◌++◌, ◌∷◌, [], length, map, IfOk, OnOk, OnErr};
 ghost use Rattle.unit_flow.specs.Flow.{IsLawful};
@@ -12,7 +12,7 @@ use std::alloc::Global;
 use transfer_rules::Invariant;
 use unit_flow::UnitFlow;
 
-/// A finder that computes each round anew.
+/// A finder that computes every edge in each round.
 #[derive(Drop)]
 pub struct Plain {
     /// The bytes of the units that it was asked for, in order.
