@@ -1,5 +1,5 @@
 -- Counting edges and ticks.
-use Rattle.std.proofs.Common.{◌≡◌, ℕ, zero, suc, ◌+◌, ◌<◌, ◌≤◌, Bool, true, false, ◌&&◌, List, [], ◌∷◌, cond, refl, sym, ap, subst, zero-add, get_or, ◌∙◌, arith, inl, inr}
+use Rattle.std.proofs.Common.{◌≡◌, ℕ, zero, suc, ◌+◌, ◌<◌, ◌≤◌, Bool, true, false, ◌&&◌, [], ◌∷◌, cond, refl, sym, ap, subst, zero-add, ◌∙◌, arith, inl, inr}
 use Rattle.std.specs.List.{count_by, list_all}
 use Rattle.std.proofs.lemmas.Bool.{cases_lt}
 use Rattle.std.proofs.lemmas.List.Folds.{list_all-append}
@@ -64,13 +64,10 @@ pub ticks_add : (m n count : ℕ) → after_ticks (m + n) count ≡ after_ticks 
 ticks_add m zero count = let e : m + 0 ≡ m = omega arith in rw e refl
 ticks_add m (suc n) count = let e : m + suc n ≡ suc (m + n) = omega arith in rw e (ap after_tick (ticks_add m n count))
 
-pub tick_more : (n count : ℕ) → after_tick (after_ticks n count) ≡ after_ticks (n + 1) count
-tick_more n count = let longer : suc n ≡ n + 1 = omega arith in ap (λ (k : ℕ). after_ticks k count) longer
-
 pub ticks_most : (n count : ℕ) → after_ticks n count ≤ count + n
 ticks_most zero count = omega arith
 ticks_most (suc n) count = let h = ticks_most n count in omega (arith, h)
 
--- One tick, if the block is marked.
-pub same_tick : (marks : List Bool) (a b : ℕ) → a ≡ b → cond {A = ℕ} (get_or marks a false) 1 0 ≡ cond (get_or marks b false) 1 0
-same_tick marks a b same = ap {B = ℕ} (λ (k : ℕ). cond (get_or marks k false) 1 0) same
+-- One tick, if the edge is computed.
+pub same_tick : (a b : Bool) → a ≡ b → cond {A = ℕ} a 1 0 ≡ cond b 1 0
+same_tick a b same = ap {B = ℕ} (λ (t : Bool). cond t 1 0) same

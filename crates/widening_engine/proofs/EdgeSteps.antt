@@ -1,18 +1,16 @@
--- What a pass knows one edge later.
-use Rattle.std.proofs.Common.{◌≡◌, ◌≢◌, ℕ, zero, suc, ◌+◌, ◌<◌, ◌≤◌, ◌==◌, Bool, true, false, ◌&&◌, List, [], ◌∷◌, ◌++◌, cond, length, get_or, map, filter, Option, Some, None, IfSome, unwrap_or, refl, sym, ap, subst, ◌∙◌, arith, set, inl, inr, append_assoc, append-nil, eq-eqb}
-use Rattle.std.specs.List.{list_all, reduce}
+-- What flows into a block, with one more edge, and that it fits the block.
+use Rattle.std.proofs.Common.{◌≡◌, ◌≢◌, ℕ, zero, suc, ◌+◌, ◌<◌, ◌≤◌, ◌==◌, Bool, true, false, List, [], ◌∷◌, ◌++◌, cond, length, get_or, map, filter, Option, Some, None, IfSome, unwrap_or, refl, sym, ap, subst, ◌∙◌, arith, inl, inr, append_assoc, append-nil, eq-eqb}
+use Rattle.std.specs.List.{reduce}
 use Rattle.std.proofs.lemmas.Bool.{cases_eq, ne_eqb}
-use Rattle.std.proofs.lemmas.List.{get_or_read, map-append}
+use Rattle.std.proofs.lemmas.List.{map-append}
 use Rattle.std.proofs.lemmas.List.Elements.{filter-append}
-use Rattle.std.proofs.lemmas.List.Folds.{list_all-append}
 use Rattle.std.proofs.lemmas.List.FromFn.{get_or-map-range_with_len, length-map-range_with_len}
 use Rattle.domain_api.specs.declared.flow_state.FlowState.{Ghosts as FlowWords}
 use Rattle.domain_api.specs.declared.lattice.Lattice.{Ghosts as LatticeWords}
 use Rattle.widening_engine.specs.Flows.{FitBlocks, flow_of}
-use Rattle.widening_engine.specs.Merging.{HasPassed, joined, merged_by}
-use Rattle.widening_engine.specs.declared.passes.Pass.{Pass}
-use Rattle.widening_engine.specs.Rounds.{Flow, behind, entering, incoming, incoming_by, is_begun, is_carried, merge, next, places, state_at}
-use Rattle.widening_engine.proofs.Lists.{map_map, map_same, map_set, range_one_more, reduce_more}
+use Rattle.widening_engine.specs.Merging.{joined, merged_by}
+use Rattle.widening_engine.specs.Rounds.{Flow, behind, entering, incoming, incoming_by, is_head, merge, next, places, state_at, widened}
+use Rattle.widening_engine.proofs.Lists.{range_one_more, reduce_more}
 
 -- What holds of the states that flow: those of one block stay states of that block.
 pub record Keeps {S : Type 0} (flow : Flow S) (fits : ℕ → S → Type 0) : Type 0 where
@@ -51,37 +49,9 @@ module _ {S : Type 0} (flow : Flow S) (states : List S) where
       ∙ ap (λ (t : Bool). incoming_by flow (places n) states block ++ map (behind flow states) (cond t (n ∷ []) [])) not_there
       ∙ append-nil (incoming_by flow (places n) states block))
 
-  -- The states that flow into blocks, with what is after one more edge.
-  pub merged_more : (n : ℕ) → flow.target n < flow.blocks
-      → set (map (merged_by flow (places n) states) (places flow.blocks)) (flow.target n) (Some (joined flow.join (merged_by flow (places n) states (flow.target n)) (behind flow states n)))
-      ≡ map (merged_by flow (places (n + 1)) states) (places flow.blocks)
-  merged_more n below = map_set (merged_by flow (places n) states) (merged_by flow (places (n + 1)) states) flow.blocks (flow.target n) _ below (merged-here n)
-      (merged-elsewhere n)
-
-  pub carried_more : (n : ℕ) → (is_begun flow states && list_all (is_carried flow states) (places (n + 1)))
-      ≡ ((is_begun flow states && list_all (is_carried flow states) (places n)) && is_carried flow states n)
-  carried_more n =
-      ap (λ (es : List ℕ). is_begun flow states && list_all (is_carried flow states) es) (range_one_more n)
-      ∙ ap (λ (t : Bool). is_begun flow states && t) (list_all-append (is_carried flow states) (places n) (n ∷ []))
-      ∙ in_turn (is_begun flow states) (list_all (is_carried flow states) (places n)) (is_carried flow states n)
-    where
-      in_turn : (a b c : Bool) → (a && (b && (c && true))) ≡ ((a && b) && c)
-      in_turn false b c = refl
-      in_turn true false c = refl
-      in_turn true true true = refl
-      in_turn true true false = refl
-
   pub merge_is : (all : List S) → unwrap_or (reduce flow.join all) flow.nothing ≡ merge flow all
   merge_is [] = refl
   merge_is (a ∷ others) = refl
-
-  -- After the last edge they are the next states.
-  pub next_from_merged : map (λ state. unwrap_or state flow.nothing) (map (merged_by flow (places flow.edges) states) (places flow.blocks)) ≡ next flow states
-  unfolding next merged_by
-  next_from_merged =
-      map_map (λ (state : Option S). unwrap_or state flow.nothing) (merged_by flow (places flow.edges) states) (places flow.blocks)
-      ∙ map_same (λ block. unwrap_or (merged_by flow (places flow.edges) states block) flow.nothing) (λ block. merge flow (incoming flow states block)) flow.blocks
-      (λ block. merge_is (incoming flow states block))
 
 -- ---- all states of one block fit it
 
@@ -147,48 +117,23 @@ module _ {S : Type 0} (flow : Flow S) (fits : ℕ → S → Type 0) (keeps : Kee
         subst (fits block) (sym value) (fits-merged block h);
   }
 
--- ---- passes
-
-module _ {S : Type 0} (flow : Flow S) (states : List S) where
-  -- A state that was read from its place.
-  pub read_at : (i j : ℕ) (x : S) → length states ≡ flow.blocks → i ≡ j → j < flow.blocks → x ≡ get_or states i x → x ≡ state_at flow states j
-  read_at i j x count same below read = subst (λ (k : ℕ). x ≡ get_or states k flow.nothing) same
-      (get_or_read states i x (rw count (rw same below)) read flow.nothing)
-
-  -- A pass that has gone over no edge.
-  pub passed_none : (pass : Pass S) → 0 < flow.blocks → pass.inductive ≡ is_begun flow states
-      → pass.merged.items ≡ set (map (λ block. None) (places flow.blocks)) 0 (Some flow.entry) → HasPassed flow states [] pass
-  unfolding merged_by
-  passed_none pass below begun merged = record {
-    inductive = begun ∙ sym (and_true (is_begun flow states));
-    merged = merged ∙ map_set (λ block. None) (merged_by flow [] states) flow.blocks 0 (Some flow.entry) below refl
-        (λ k ne. ap (λ (t : Bool). reduce flow.join (cond t (flow.entry ∷ []) [] ++ [])) (ne_eqb k 0 ne));
-  }
-    where
-      and_true : (a : Bool) → (a && true) ≡ a
-      and_true true = refl
-      and_true false = refl
-
-  -- What is at a place among what is merged.
-  pub merged_at : (n block : ℕ) (pass : Pass S) → HasPassed flow states (places n) pass → block < flow.blocks
-      → get_or pass.merged.items block None ≡ merged_by flow (places n) states block
-  merged_at n block pass passed below =
-      let there : 0 + block ≡ block = omega arith in
-      ap (λ (items : List (Option S)). get_or items block None) passed.merged
-      ∙ get_or-map-range_with_len (merged_by flow (places n) states) 0 flow.blocks block block None below there
-
-  -- A pass that has gone over one more edge.
-  pub passed_more : (n : ℕ) (pass new : Pass S) → flow.target n < flow.blocks → HasPassed flow states (places n) pass
-      → new.inductive ≡ (pass.inductive && is_carried flow states n)
-      → new.merged.items ≡ set pass.merged.items (flow.target n) (Some (joined flow.join (get_or pass.merged.items (flow.target n) None) (behind flow states n)))
-      → HasPassed flow states (places (n + 1)) new
-  passed_more n pass new below passed inductive merged = record {
-    inductive = inductive ∙ ap (λ (t : Bool). t && is_carried flow states n) passed.inductive ∙ sym (carried_more flow states n);
-    merged = merged
-        ∙ ap (λ (before : Option S). set pass.merged.items (flow.target n) (Some (joined flow.join before (behind flow states n)))) (merged_at n (flow.target n) pass passed below)
-        ∙ ap (λ (items : List (Option S)). set items (flow.target n) (Some (joined flow.join (merged_by flow (places n) states (flow.target n)) (behind flow states n)))) passed.merged
-        ∙ merged_more flow states n below;
-  }
+-- Widened states fit as the old and the new ones do.
+pub widened_fits : {S : Type 0} (flow : Flow S) (fits : ℕ → S → Type 0) (old new : List S) → Keeps flow fits → FitBlocks flow fits old → FitBlocks flow fits new
+    → FitBlocks flow fits (widened flow old new)
+unfolding widened
+widened_fits flow fits old new law first second =
+    let state = λ (block : ℕ). cond (is_head flow block) (flow.widen (state_at flow old block) (state_at flow new block)) (state_at flow new block) in
+    record {
+      count = length-map-range_with_len state 0 flow.blocks;
+      fit = λ block h.
+          let there : 0 + block ≡ block = omega arith in
+          subst (fits block) (sym (get_or-map-range_with_len state 0 flow.blocks block block flow.nothing h there)) (either block (is_head flow block) (first.fit block h) (second.fit block h));
+    }
+  where
+    either : (block : ℕ) (head : Bool) → fits block (state_at flow old block) → fits block (state_at flow new block)
+        → fits block (cond head (flow.widen (state_at flow old block) (state_at flow new block)) (state_at flow new block))
+    either block true a b = law.widen block (state_at flow old block) (state_at flow new block) a b
+    either block false a b = b
 
 -- What fits a block is like what flowed into it before.
 pub like_before : {S : Type 0} (fits : S → Type 0) (like : S → S → Type 0) (state : S) → ((a : S) → fits a → like a state) → (before : Option S)

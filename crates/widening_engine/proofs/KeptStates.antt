@@ -1,20 +1,19 @@
 -- What is kept of a round, and what it is in the next one.
-use Rattle.std.proofs.Common.{◌≡◌, ℕ, zero, suc, ◌+◌, ◌<◌, ◌≤◌, ◌==◌, Bool, true, false, not, ◌&&◌, List, [], ◌∷◌, ◌++◌, cond, length, get_or, map, filter, Option, Some, None, unwrap_or, refl, sym, ap, subst, ◌∙◌, arith, inl, inr, set, get_or-set_same, get_or-set_other}
+use Rattle.std.proofs.Common.{◌≡◌, ℕ, zero, suc, ◌+◌, ◌<◌, ◌≤◌, ◌==◌, Bool, true, false, not, ◌&&◌, ◌||◌, List, [], ◌∷◌, ◌++◌, cond, length, get_or, map, filter, Option, Some, None, unwrap_or, refl, sym, ap, subst, ◌∙◌, arith, inl, inr, set, get_or-set_same, get_or-set_other}
 use Rattle.std.specs.List.{count_by, list_all, reduce}
 use Rattle.std.proofs.lemmas.Bool.{cases_Bool, cases_eq, eqb-true, ne_eqb}
 use Rattle.std.proofs.lemmas.List.{get_or-map, get_or_read, length-map, length-set, map-append}
 use Rattle.std.proofs.lemmas.List.Elements.{filter-append}
 use Rattle.std.proofs.lemmas.List.FromFn.{fill_by_all, get_or-map-range_with_len, length-map-range_with_len}
 use Rattle.widening_engine.specs.Flows.{FitBlocks}
-use Rattle.widening_engine.specs.Kept.{AreForgotten, AreStepped, AreTold, IsKept, IsKeptOf, IsRefreshed, all_behind, block_at, flowing, fresh_join, join_of, joined_anew, no_block, states_of, IsSettled, TellsChange}
+use Rattle.widening_engine.specs.Kept.{AreForgotten, AreStepped, AreTold, IsKept, IsKeptOf, IsRefreshed, all_behind, block_at, flowing, fresh_join, is_computed, join_of, joined_anew, no_block, states_of, IsSettled, TellsChange}
 use Rattle.widening_engine.specs.Merging.{joined, merged_by}
 use Rattle.widening_engine.specs.Rounds.{Flow, all_unknown, behind, entering, incoming, is_begun, is_carried, is_head, is_inductive, merge, never_reached, next, places, state_at, widened}
-use Rattle.widening_engine.specs.Work.{HasCounted, HasCountedAtMost, IsEquality, after_ticks, begins_anew, changes}
+use Rattle.widening_engine.specs.Work.{HasCountedBy, HasCountedAtMostBy, IsTestOf, after_ticks, begins_anew, changes}
 use Rattle.widening_engine.specs.declared.kept.Kept.{Kept}
 use Rattle.widening_engine.specs.declared.kept_block.KeptBlock.{KeptBlock}
-use Rattle.widening_engine.proofs.BlockSteps.{widened_fits}
 use Rattle.widening_engine.proofs.Counting.{all_pass, count_more, one_fails}
-use Rattle.widening_engine.proofs.EdgeSteps.{FitsIfAny, Keeps, fits-merged, merge_is, merged-elsewhere, merged-here, merged_fits, next_fits}
+use Rattle.widening_engine.proofs.EdgeSteps.{FitsIfAny, Keeps, fits-merged, merge_is, merged-elsewhere, merged-here, merged_fits, next_fits, widened_fits}
 use Rattle.widening_engine.proofs.Rounds.{unknown_fits}
 use Rattle.widening_engine.proofs.Lists.{map_map, map_same, map_set, range_one_more}
 
@@ -200,16 +199,16 @@ module _ {S : Type 0} (flow : Flow S) (fits : ℕ → S → Type 0) (law : Keeps
 -- ---- the edges are computed again
 
 module _ {S : Type 0} (flow : Flow S) (fits : ℕ → S → Type 0) (law : Keeps flow fits) where
-  pub refreshed_kept : (before : List S) (changed : List Bool) (old new : Kept S) → 0 < flow.blocks → IsKeptOf flow fits before old → AreTold flow before (states_of old.blocks.items) changed
-      → IsRefreshed flow changed old new → IsKept flow fits new
-  refreshed_kept before changed old new first kept told again =
+  pub refreshed_kept : (every : Bool) (before : List S) (changed : List Bool) (old new : Kept S) → 0 < flow.blocks → IsKeptOf flow fits before old → AreTold flow before (states_of old.blocks.items) changed
+      → IsRefreshed flow every changed old new → IsKept flow fits new
+  refreshed_kept every before changed old new first kept told again =
       let states : List S = states_of old.blocks.items in
       let states_are : states_of new.blocks.items ≡ states = ap states_of again.blocks in
       let value : (edge : ℕ) → edge < flow.edges → get_or new.behind.items edge flow.nothing ≡ behind flow states edge =
       λ edge h. again.behind edge h
-      ∙ either (get_or changed (flow.source edge) false) (behind flow states edge) (get_or old.behind.items edge flow.nothing)
+      ∙ either (is_computed flow every changed edge) (behind flow states edge) (get_or old.behind.items edge flow.nothing)
       (λ same. behind_at flow before old.behind.items edge kept.behind h
-      ∙ ap (λ (a : S). flow.along a edge) (sym ((told.told (flow.source edge) (law.source_below edge h)).0 same))) in
+      ∙ ap (λ (a : S). flow.along a edge) (sym ((told.told (flow.source edge) (law.source_below edge h)).0 (as_before every (get_or changed (flow.source edge) false) same)))) in
       record {
         entry = again.entry ∙ kept.entry;
         blocks = ap length again.blocks ∙ kept.blocks;
@@ -241,6 +240,10 @@ module _ {S : Type 0} (flow : Flow S) (fits : ℕ → S → Type 0) (law : Keeps
       either true a b same = refl
       either false a b same = same refl
 
+      as_before : (a b : Bool) → (a || b) ≡ false → b ≡ false
+      as_before false b not = not
+      as_before true b not = cc
+
   begun_states : (blocks : List (KeptBlock S)) → blocks ≡ map (λ block. no_block flow.nothing) (places flow.blocks) → states_of blocks ≡ never_reached flow
   begun_states blocks are = ap states_of are ∙ map_map (λ (b : KeptBlock S). b.state) (λ block. no_block flow.nothing) (places flow.blocks)
 
@@ -254,9 +257,9 @@ module _ {S : Type 0} (flow : Flow S) (fits : ℕ → S → Type 0) (law : Keeps
 
   -- The same where all edges are computed and all blocks are to be joined anew.
   pub begun_kept : (changed : List Bool) (old new : Kept S) → old.entry ≡ flow.entry → old.blocks.items ≡ map (λ block. no_block flow.nothing) (places flow.blocks)
-      → old.begun ≡ false → old.carried.items ≡ map (λ edge. false) (places flow.edges) → old.stale.items ≡ map (λ block. true) (places flow.blocks) → changed ≡ map (λ block. true) (places flow.blocks)
-      → IsRefreshed flow changed old new → IsKept flow fits new × (states_of new.blocks.items ≡ never_reached flow)
-  begun_kept changed old new entry blocks begun carried stale all again =
+      → old.begun ≡ false → old.carried.items ≡ map (λ edge. false) (places flow.edges) → old.stale.items ≡ map (λ block. true) (places flow.blocks)
+      → IsRefreshed flow true changed old new → IsKept flow fits new × (states_of new.blocks.items ≡ never_reached flow)
+  begun_kept changed old new entry blocks begun carried stale again =
       let states_are : states_of new.blocks.items ≡ never_reached flow =
       ap states_of again.blocks ∙ begun_states old.blocks.items blocks in
       let block_is : (block : ℕ) → block < flow.blocks → block_at flow new.blocks.items block ≡ no_block flow.nothing =
@@ -275,7 +278,6 @@ module _ {S : Type 0} (flow : Flow S) (fits : ℕ → S → Type 0) (law : Keeps
           fit = subst (λ (items : List (KeptBlock S)). FitBlocks flow fits (states_of items)) (sym again.blocks) (begun_fit old.blocks.items blocks);
           behind = fill_by_all (behind flow (states_of new.blocks.items)) new.behind.items flow.edges flow.nothing again.edges
               (λ edge h. again.behind edge h
-              ∙ ap (λ (t : Bool). cond t (behind flow (states_of old.blocks.items) edge) (get_or old.behind.items edge flow.nothing)) (set changed (flow.source edge) all (law.source_below edge h))
               ∙ ap (λ (items : List (KeptBlock S)). behind flow (states_of items) edge) (sym again.blocks));
           begun = λ yes. absurd_of (sym (again.begun yes).0 ∙ begun);
           marks = again.marks ∙ ap length carried ∙ length-map-range_with_len (λ edge. false) 0 flow.edges;
@@ -339,18 +341,19 @@ count_same p q (suc n) same =
     let here = same n (omega arith) in
     ap (λ (m : ℕ). count_by p (places m)) longer ∙ count_more p n ∙ (λ i. before i + cond (here i) 1 0) ∙ sym (count_more q n) ∙ ap (λ (m : ℕ). count_by q (places m)) (sym longer)
 
--- They are those whose sources have different states.
-pub told_changes : {S : Type 0} (flow : Flow S) (equal : S → S → Bool) (before states : List S) (changed : List Bool) → IsEquality equal
+-- They are those whose sources have different states by the test.
+pub told_changes : {S : Type 0} (flow : Flow S) (equal : S → S → Bool) (every : Bool) (before states : List S) (changed : List Bool) → IsTestOf every equal
     → ((edge : ℕ) → edge < flow.edges → flow.source edge < flow.blocks) → AreTold flow before states changed
-    → count_by (λ edge. get_or changed (flow.source edge) false) (places flow.edges) ≡ changes equal flow before states
+    → count_by (is_computed flow every changed) (places flow.edges) ≡ changes equal flow before states
 unfolding changes
-told_changes flow equal before states changed tells below told =
-    count_same (λ edge. get_or changed (flow.source edge) false) (begins_anew equal flow before states) flow.edges
-    (λ edge h. as_told (state_at flow before (flow.source edge)) (state_at flow states (flow.source edge)) (get_or changed (flow.source edge) false) (told.told (flow.source edge) (below edge h)))
+told_changes {S} flow equal every before states changed tells below told =
+    count_same (is_computed flow every changed) (begins_anew equal flow before states) flow.edges
+    (λ edge h. as_told every tells (state_at flow before (flow.source edge)) (state_at flow states (flow.source edge)) (get_or changed (flow.source edge) false) (told.told (flow.source edge) (below edge h)))
   where
-    as_told : (a b : _) (t : Bool) → TellsChange a b t → t ≡ not (equal a b)
-    as_told a b false told = ap not (sym ((tells a b).1 (sym (told.0 refl))))
-    as_told a b true told = elim (cases_Bool (equal a b)) [
+    as_told : (e : Bool) → IsTestOf e equal → (a b : S) (t : Bool) → TellsChange a b t → (e || t) ≡ not (equal a b)
+    as_told true never a b t told = ap not (sym (never a b))
+    as_told false tells a b false told = ap not (sym ((tells a b).1 (sym (told.0 refl))))
+    as_told false tells a b true told = elim (cases_Bool (equal a b)) [
       | inl same ↦ cc (told.1 (sym ((tells a b).0 same)))
       | inr other ↦ ap not (sym other)
     ]
@@ -474,7 +477,7 @@ anew_fits flow fits states stale law fit n block h = either (get_or stale block 
 
 -- ---- counting
 
-count_each : (n : ℕ) → count_by (λ (k : ℕ). true) (places n) ≡ n
+pub count_each : (n : ℕ) → count_by (λ (k : ℕ). true) (places n) ≡ n
 count_each zero = refl
 count_each (suc n) =
     let longer : suc n ≡ n + 1 = omega arith in
@@ -482,27 +485,21 @@ count_each (suc n) =
     subst (λ (m : ℕ). count_by (λ (k : ℕ). true) (places m) ≡ m) (sym longer) (omega (arith, more, count_each n))
 
 -- All edges are computed again.
-pub all_count : {S : Type 0} (flow : Flow S) (changed : List Bool) → changed ≡ map (λ block. true) (places flow.blocks) → ((edge : ℕ) → edge < flow.edges → flow.source edge < flow.blocks)
-    → count_by (λ edge. get_or changed (flow.source edge) false) (places flow.edges) ≡ flow.edges
-all_count flow changed are below =
-    count_same (λ edge. get_or changed (flow.source edge) false) (λ k. true) flow.edges
-    (λ edge h.
-    let there : 0 + flow.source edge ≡ flow.source edge = omega arith in
-    ap (λ (items : List Bool). get_or items (flow.source edge) false) are ∙ get_or-map-range_with_len (λ b. true) 0 flow.blocks (flow.source edge) (flow.source edge) false (below edge h) there)
-    ∙ count_each flow.edges
+pub all_count : {S : Type 0} (flow : Flow S) (changed : List Bool) → count_by (is_computed flow true changed) (places flow.edges) ≡ flow.edges
+all_count flow changed = count_each flow.edges
 
 -- The count rose by as many as there are edges whose sources have different states.
-pub counted : {S : Type 0} (flow : Flow S) (before states after : List S) (changed given : List Bool) (old new : ℕ) → ((edge : ℕ) → edge < flow.edges → flow.source edge < flow.blocks)
+pub counted : {S : Type 0} (flow : Flow S) (every : Bool) (before states after : List S) (changed given : List Bool) (old new : ℕ) → ((edge : ℕ) → edge < flow.edges → flow.source edge < flow.blocks)
     → AreTold flow before states changed → states ≡ after → given ≡ changed
-    → new ≡ after_ticks (count_by (λ edge. get_or given (flow.source edge) false) (places flow.edges)) old → HasCounted (λ equal. changes equal flow before after) old new
-counted flow before states after changed given old new below told are same ticked = λ equal tells.
-    ticked ∙ ap (λ (marks : List Bool). after_ticks (count_by (λ edge. get_or marks (flow.source edge) false) (places flow.edges)) old) same
-    ∙ ap (λ (n : ℕ). after_ticks n old) (told_changes flow equal before states changed tells below told ∙ ap (changes equal flow before) are)
+    → new ≡ after_ticks (count_by (is_computed flow every given) (places flow.edges)) old → HasCountedBy every (λ equal. changes equal flow before after) old new
+counted flow every before states after changed given old new below told are same ticked = λ equal tells.
+    ticked ∙ ap (λ (marks : List Bool). after_ticks (count_by (is_computed flow every marks) (places flow.edges)) old) same
+    ∙ ap (λ (n : ℕ). after_ticks n old) (told_changes flow equal every before states changed tells below told ∙ ap (changes equal flow before) are)
 
-pub counted_most : {S : Type 0} (flow : Flow S) (before states after : List S) (changed given : List Bool) (old new : ℕ) → ((edge : ℕ) → edge < flow.edges → flow.source edge < flow.blocks)
+pub counted_most : {S : Type 0} (flow : Flow S) (every : Bool) (before states after : List S) (changed given : List Bool) (old new : ℕ) → ((edge : ℕ) → edge < flow.edges → flow.source edge < flow.blocks)
     → AreTold flow before states changed → states ≡ after → given ≡ changed
-    → new ≤ old + count_by (λ edge. get_or given (flow.source edge) false) (places flow.edges) → HasCountedAtMost (λ equal. changes equal flow before after) old new
-counted_most flow before states after changed given old new below told are same most = λ equal tells.
+    → new ≤ old + count_by (is_computed flow every given) (places flow.edges) → HasCountedAtMostBy every (λ equal. changes equal flow before after) old new
+counted_most flow every before states after changed given old new below told are same most = λ equal tells.
     subst (λ (n : ℕ). new ≤ old + n)
-    (ap (λ (marks : List Bool). count_by (λ edge. get_or marks (flow.source edge) false) (places flow.edges)) same
-    ∙ told_changes flow equal before states changed tells below told ∙ ap (changes equal flow before) are) most
+    (ap (λ (marks : List Bool). count_by (is_computed flow every marks) (places flow.edges)) same
+    ∙ told_changes flow equal every before states changed tells below told ∙ ap (changes equal flow before) are) most

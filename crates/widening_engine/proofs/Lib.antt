@@ -1,7 +1,6 @@
 pub mod Lists
 pub mod EdgeSteps
 pub mod Marks
-pub mod BlockSteps
 pub mod Rounds
 mod Examples
 pub mod UnitSizes
@@ -12,4 +11,4 @@ pub mod Stepping
 pub mod Working
 pub mod Forgetting
 pub mod Seeking
-pub mod Tries
+pub mod EveryEdge

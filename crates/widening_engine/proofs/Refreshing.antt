@@ -2,21 +2,21 @@
 use Rattle.std.proofs.Common.{◌≡◌, ◌≢◌, ℕ, ◌+◌, ◌<◌, ◌≤◌, Bool, true, false, not, ◌&&◌, List, cond, length, get_or, refl, sym, ap, subst, ◌∙◌, arith, set, inl, inr, get_or-set_same, get_or-set_other}
 use Rattle.std.proofs.lemmas.Bool.{cases_eq}
 use Rattle.std.proofs.lemmas.List.{length-set}
-use Rattle.widening_engine.specs.Kept.{IsMarked, IsRefreshed, IsStillKnown, states_of}
+use Rattle.widening_engine.specs.Kept.{IsMarked, IsRefreshed, IsStillKnown, is_computed, states_of}
 use Rattle.widening_engine.specs.Rounds.{Flow, behind}
 use Rattle.widening_engine.specs.declared.kept.Kept.{Kept}
 
--- The state behind the edge, computed again if its source has changed.
-abbrev pub computed : {S : Type 0} → Flow S → List Bool → Kept S → ℕ → S
-computed flow changed old edge = cond (get_or changed (flow.source edge) false) (behind flow (states_of old.blocks.items) edge) (get_or old.behind.items edge flow.nothing)
+-- The state behind the edge, computed again or as it was.
+abbrev pub computed : {S : Type 0} → Flow S → Bool → List Bool → Kept S → ℕ → S
+computed flow every changed old edge = cond (is_computed flow every changed edge) (behind flow (states_of old.blocks.items) edge) (get_or old.behind.items edge flow.nothing)
 
 -- The first edges are computed again.
-pub record AreRefreshing {S : Type 0} (flow : Flow S) (changed : List Bool) (old : Kept S) (edge : ℕ) (new : Kept S) : Type 0 where
+pub record AreRefreshing {S : Type 0} (flow : Flow S) (every : Bool) (changed : List Bool) (old : Kept S) (edge : ℕ) (new : Kept S) : Type 0 where
   pub entry : new.entry ≡ old.entry
   pub blocks : new.blocks.items ≡ old.blocks.items
   pub count : length new.stale.items ≡ length old.stale.items
   pub edges : length new.behind.items ≡ length old.behind.items
-  pub done : (k : ℕ) → k < edge → get_or new.behind.items k flow.nothing ≡ computed flow changed old k
+  pub done : (k : ℕ) → k < edge → get_or new.behind.items k flow.nothing ≡ computed flow every changed old k
   pub rest : (k : ℕ) → edge ≤ k → get_or new.behind.items k flow.nothing ≡ get_or old.behind.items k flow.nothing
   pub stale : (block : ℕ) → get_or new.stale.items block false ≡ false → get_or old.stale.items block false ≡ false
   pub begun : new.begun ≡ true → (old.begun ≡ true) × (get_or changed 0 false ≡ false)
@@ -31,9 +31,9 @@ still_true true false e = (refl, refl)
 still_true true true e = (refl, sym e)
 still_true false changed e = cc
 
-module _ {S : Type 0} (flow : Flow S) (changed : List Bool) (old : Kept S) where
+module _ {S : Type 0} (flow : Flow S) (every : Bool) (changed : List Bool) (old : Kept S) where
   pub refreshing_none : (new : Kept S) (first : Bool) → first ≡ get_or changed 0 false → new.entry ≡ old.entry → new.blocks.items ≡ old.blocks.items → new.behind.items ≡ old.behind.items
-      → new.stale.items ≡ old.stale.items → new.carried.items ≡ old.carried.items → new.begun ≡ (old.begun && not first) → AreRefreshing flow changed old 0 new
+      → new.stale.items ≡ old.stale.items → new.carried.items ≡ old.carried.items → new.begun ≡ (old.begun && not first) → AreRefreshing flow every changed old 0 new
   refreshing_none new first first_is entry blocks behind stale carried begun = record {
     entry = entry;
     blocks = blocks;
@@ -51,15 +51,15 @@ module _ {S : Type 0} (flow : Flow S) (changed : List Bool) (old : Kept S) where
   }
 
   -- One more edge.
-  pub refreshing_more : (edge : ℕ) (again other : Bool) (mid new : Kept S) → again ≡ get_or changed (flow.source edge) false → other ≡ get_or changed (flow.target edge) false
+  pub refreshing_more : (edge : ℕ) (again other : Bool) (mid new : Kept S) → again ≡ is_computed flow every changed edge → other ≡ get_or changed (flow.target edge) false
       → edge < length old.behind.items
-      → AreRefreshing flow changed old edge mid → new.entry ≡ mid.entry → new.blocks.items ≡ mid.blocks.items
+      → AreRefreshing flow every changed old edge mid → new.entry ≡ mid.entry → new.blocks.items ≡ mid.blocks.items
       → new.behind.items ≡ set mid.behind.items edge (cond again (behind flow (states_of mid.blocks.items) edge) (get_or mid.behind.items edge flow.nothing))
       → new.begun ≡ mid.begun → IsStillKnown edge other mid.carried.items new.carried.items (new.behind.items ≡ mid.behind.items)
-      → IsMarked (flow.target edge) mid.stale.items new.stale.items (new.behind.items ≡ mid.behind.items) → AreRefreshing flow changed old (edge + 1) new
+      → IsMarked (flow.target edge) mid.stale.items new.stale.items (new.behind.items ≡ mid.behind.items) → AreRefreshing flow every changed old (edge + 1) new
   refreshing_more edge again other_target mid new tells tells_target inside so_far entry blocks behind_is begun known marked =
       let value : S = cond again (behind flow (states_of mid.blocks.items) edge) (get_or mid.behind.items edge flow.nothing) in
-      let value_is : value ≡ computed flow changed old edge = λ i. cond (tells i) (behind flow (states_of (so_far.blocks i)) edge) (so_far.rest edge (omega arith) i) in
+      let value_is : value ≡ computed flow every changed old edge = λ i. cond (tells i) (behind flow (states_of (so_far.blocks i)) edge) (so_far.rest edge (omega arith) i) in
       let other : (k : ℕ) → k ≢ edge → get_or new.behind.items k flow.nothing ≡ get_or mid.behind.items k flow.nothing =
       λ k ne. ap (λ (items : List S). get_or items k flow.nothing) behind_is ∙ get_or-set_other mid.behind.items edge k value flow.nothing ne in
       let here : get_or new.behind.items edge flow.nothing ≡ value =
@@ -70,7 +70,7 @@ module _ {S : Type 0} (flow : Flow S) (changed : List Bool) (old : Kept S) where
         count = marked.count ∙ so_far.count;
         edges = ap length behind_is ∙ length-set mid.behind.items edge value ∙ so_far.edges;
         done = λ k h. elim (cases_eq k edge) [
-          | inl e ↦ subst (λ (j : ℕ). get_or new.behind.items j flow.nothing ≡ computed flow changed old j) (sym e) (here ∙ value_is)
+          | inl e ↦ subst (λ (j : ℕ). get_or new.behind.items j flow.nothing ≡ computed flow every changed old j) (sym e) (here ∙ value_is)
           | inr ne ↦ other k ne ∙ so_far.done k (omega arith)
         ];
         rest = λ k h. let ne : k ≢ edge = omega arith in other k ne ∙ so_far.rest k (omega arith);
@@ -96,7 +96,7 @@ module _ {S : Type 0} (flow : Flow S) (changed : List Bool) (old : Kept S) where
       }
 
   -- All edges.
-  pub refreshing_all : (new : Kept S) → length old.behind.items ≡ flow.edges → AreRefreshing flow changed old flow.edges new → IsRefreshed flow changed old new
+  pub refreshing_all : (new : Kept S) → length old.behind.items ≡ flow.edges → AreRefreshing flow every changed old flow.edges new → IsRefreshed flow every changed old new
   refreshing_all new many all = record {
     entry = all.entry;
     blocks = all.blocks;

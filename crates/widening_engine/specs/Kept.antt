@@ -1,5 +1,5 @@
 -- What is kept of blocks and edges from one round to the next.
-use Rattle.std.specs.Prelude.{◌≡◌, ◌↔◌, ℕ, ◌<◌, Bool, true, false, ◌&&◌, if◌then◌else◌, List, length, map, get_or, Option, Some, None, unwrap_or}
+use Rattle.std.specs.Prelude.{◌≡◌, ◌↔◌, ℕ, ◌<◌, Bool, true, false, ◌&&◌, ◌||◌, if◌then◌else◌, List, length, map, get_or, Option, Some, None, unwrap_or}
 use Rattle.widening_engine.specs.Flows.{FitBlocks}
 use Rattle.widening_engine.specs.Merging.{merged_by}
 use Rattle.widening_engine.specs.Rounds.{Flow, behind, incoming, is_begun, is_carried, merge, places, state_at}
@@ -110,15 +110,19 @@ pub record AreTold {S : Type 0} (flow : Flow S) (before states : List S) (change
   pub count : length changed ≡ flow.blocks
   pub told : (block : ℕ) → block < flow.blocks → TellsChange (state_at flow before block) (state_at flow states block) (get_or changed block false)
 
--- The edges whose source has changed are computed again, and each block to which another state flows is to be joined
--- anew. Nothing else counts as included than before, and nothing where one of the two states has changed.
-pub record IsRefreshed {S : Type 0} (flow : Flow S) (changed : List Bool) (old new : Kept S) : Type 0 where
+-- The edge is computed again: every edge is, or its source has changed.
+abbrev pub is_computed : {S : Type 0} → Flow S → Bool → List Bool → ℕ → Bool
+is_computed flow every changed edge = every || get_or changed (flow.source edge) false
+
+-- These edges are computed again, and each block to which another state flows is to be joined anew. Nothing else counts
+-- as included than before, and nothing where one of the two states has changed.
+pub record IsRefreshed {S : Type 0} (flow : Flow S) (every : Bool) (changed : List Bool) (old new : Kept S) : Type 0 where
   pub entry : new.entry ≡ old.entry
   pub blocks : new.blocks.items ≡ old.blocks.items
   pub count : length new.stale.items ≡ length old.stale.items
   pub edges : length new.behind.items ≡ flow.edges
   pub behind : (edge : ℕ) → edge < flow.edges → get_or new.behind.items edge flow.nothing
-      ≡ (if get_or changed (flow.source edge) false then behind flow (states_of old.blocks.items) edge else get_or old.behind.items edge flow.nothing)
+      ≡ (if is_computed flow every changed edge then behind flow (states_of old.blocks.items) edge else get_or old.behind.items edge flow.nothing)
   pub stale : (block : ℕ) → get_or new.stale.items block false ≡ false → get_or old.stale.items block false ≡ false
   pub begun : new.begun ≡ true → (old.begun ≡ true) × (get_or changed 0 false ≡ false)
   pub marks : length new.carried.items ≡ length old.carried.items

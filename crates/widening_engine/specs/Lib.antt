@@ -2,7 +2,6 @@ pub mod Rounds
 pub mod Flows
 pub mod Merging
 pub mod Marks
-pub mod Finding
 pub mod Limits
 pub mod Work
 pub mod Kept

@@ -4,16 +4,13 @@ ghost use Rattle.std.specs.Prelude.{◌≡◌, ◌≤◌, ◌+◌, ◌++◌, ◌
 ghost use Rattle.unit_flow.specs.Flow.{IsLawful};
 ghost use Rattle.unit_form.specs.Spelling.{unit_bytes};
 ghost use Rattle.widening_engine.specs.Limits.{limit_of, unit_flow};
-ghost use Rattle.widening_engine.specs.Rounds.{limit};
 ghost use Rattle.widening_engine.specs.Work.{HasCounted, HasCountedAtMost, work};
 
-use crate::finder::{Finder, known};
-use crate::keeping::kept_rounds;
+use crate::finder::{Finder, find_invariant};
 use domain_api::{NoMemory, Ticks};
 use std::alloc::Global;
-use transfer_rules::{Invariant, UnitState};
+use transfer_rules::Invariant;
 use unit_flow::UnitFlow;
-use unit_form::unit_bytes;
 
 /// The finder that cccheck uses: the state along an edge is computed again only where that of its source has changed.
 #[derive(Drop)]
@@ -22,20 +19,6 @@ pub struct Dirty {
     pub asked: Vec<Vec<u8>>,
     /// The edges that it computed.
     pub meter: Ticks,
-}
-
-/// The states of a unit where they settle.
-fn settled_states(
-    alloc: Global,
-    code: &UnitFlow,
-    meter: &mut Ticks,
-) -> Result<Vec<UnitState>, NoMemory>
-    requires { IsLawful code.now }
-    ensures value { IfOk result (λ states. states.items ≡ limit (unit_flow code.now)) }
-    ensures work { HasCountedAtMost (λ equal. work equal (unit_flow code.now)) meter.old.count meter.new.count }
-    ensures ticked { OnOk result (HasCounted (λ equal. work equal (unit_flow code.now)) meter.old.count meter.new.count) }
-{
-    kept_rounds::<UnitState>(alloc, code, &code.graph, meter)
 }
 
 impl Dirty {
@@ -70,10 +53,6 @@ impl Finder for Dirty {
         ensures work { HasCountedAtMost (λ equal. work equal (unit_flow code.now)) self.old.meter.count self.new.meter.count }
         ensures ticked { OnOk result (HasCounted (λ equal. work equal (unit_flow code.now)) self.old.meter.count self.new.meter.count) }
     {
-        let bytes = unit_bytes(alloc, &code.unit)?;
-        let states = settled_states(alloc, code, &mut self.meter)?;
-        let states = known(alloc, states)?;
-        self.asked.push(bytes)?;
-        Ok(Invariant { states })
+        find_invariant(alloc, code, false, &mut self.asked, &mut self.meter)
     }
 }

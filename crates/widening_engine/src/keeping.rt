@@ -1,10 +1,10 @@
-//! The rounds where only what changed is computed again, and where they settle.
+//! The rounds, and where they settle. What is kept from one to the next spares most of the work.
 
-ghost use Rattle.std.specs.Prelude.{◌≡◌, ◌<◌, ◌+◌, ◌^◌, ◌∷◌, [], map, length, IfOk, OnOk};
+ghost use Rattle.std.specs.Prelude.{◌≡◌, ◌⊎◌, ◌<◌, ◌≤◌, ◌+◌, ◌*◌, ◌^◌, ◌∷◌, [], true, map, length, IfOk, OnOk};
 ghost use Rattle.widening_engine.specs.Flows.{AreEdges, AreNumbered, FitBlocks, IsGraphOf, flow_of};
 ghost use Rattle.widening_engine.specs.Kept.{IsKept, states_of};
-ghost use Rattle.widening_engine.specs.Rounds.{first_inductive, is_head, limit, never_reached, next, places, settled};
-ghost use Rattle.widening_engine.specs.Work.{HasCounted, HasCountedAtMost, IsTried, changes_along, first_stop, sought, tried, work};
+ghost use Rattle.widening_engine.specs.Rounds.{all_unknown, first_inductive, is_head, is_inductive, limit, never_reached, next, places, settled};
+ghost use Rattle.widening_engine.specs.Work.{HasCounted, HasCountedAtMost, HasCountedAtMostBy, HasCountedBy, IsTried, after_ticks, changes_along, first_stop, rounds, sought, tried, work};
 
 use crate::heads::heads;
 use crate::kept::Kept;
@@ -22,6 +22,7 @@ fn seek<S: FlowState + Drop>(
     edges: &[Edge],
     heads: &[bool],
     kept: &mut Kept<S>,
+    every: bool,
     meter: &mut S::Gauge,
 ) -> Result<bool, NoMemory>
     requires lawful { S.lawful code.now }
@@ -33,9 +34,9 @@ fn seek<S: FlowState + Drop>(
     ensures kept { OnOk result (IsKept (flow_of S.FlowState.own S.Lattice code.now) (S.fits code.now) kept.new) }
     ensures found { IfOk result (λ found. IsTried (flow_of S.FlowState.own S.Lattice code.now) found (states_of kept.new.blocks.items)) }
     ensures ticked { let flow = flow_of S.FlowState.own S.Lattice code.now in
-        OnOk result (HasCounted (λ equal. changes_along equal flow (tried flow (first_stop flow))) (S.Gauge.count meter.old) (S.Gauge.count meter.new)) }
+        OnOk result (HasCountedBy every (λ equal. changes_along equal flow (tried flow (first_stop flow))) (S.Gauge.count meter.old) (S.Gauge.count meter.new)) }
     ensures most { let flow = flow_of S.FlowState.own S.Lattice code.now in
-        HasCountedAtMost (λ equal. changes_along equal flow (tried flow (first_stop flow))) (S.Gauge.count meter.old) (S.Gauge.count meter.new) }
+        HasCountedAtMostBy every (λ equal. changes_along equal flow (tried flow (first_stop flow))) (S.Gauge.count meter.old) (S.Gauge.count meter.new) }
 {
     for number in 0..40 + 4 * heads.len() as u64 {
         let inductive = kept.is_inductive(alloc, code, edges)?;
@@ -43,7 +44,7 @@ fn seek<S: FlowState + Drop>(
             return Ok(true);
         }
         let late = number + 1 >= 3;
-        kept.round(alloc, code, edges, heads, late, meter)?;
+        kept.round(alloc, code, edges, heads, late, every, meter)?;
     }
     let last = kept.is_inductive(alloc, code, edges)?;
     Ok(last)
@@ -56,6 +57,7 @@ fn seek_or_forget<S: FlowState + Drop>(
     edges: &[Edge],
     heads: &[bool],
     kept: &mut Kept<S>,
+    every: bool,
     meter: &mut S::Gauge,
 ) -> Result<(), NoMemory>
     requires lawful { S.lawful code.now }
@@ -67,15 +69,15 @@ fn seek_or_forget<S: FlowState + Drop>(
     ensures kept { OnOk result (IsKept (flow_of S.FlowState.own S.Lattice code.now) (S.fits code.now) kept.new) }
     ensures states { OnOk result (states_of kept.new.blocks.items ≡ first_inductive (flow_of S.FlowState.own S.Lattice code.now)) }
     ensures ticked { let flow = flow_of S.FlowState.own S.Lattice code.now in
-        OnOk result (HasCounted (λ equal. changes_along equal flow (sought flow (first_stop flow))) (S.Gauge.count meter.old) (S.Gauge.count meter.new)) }
+        OnOk result (HasCountedBy every (λ equal. changes_along equal flow (sought flow (first_stop flow))) (S.Gauge.count meter.old) (S.Gauge.count meter.new)) }
     ensures most { let flow = flow_of S.FlowState.own S.Lattice code.now in
-        HasCountedAtMost (λ equal. changes_along equal flow (sought flow (first_stop flow))) (S.Gauge.count meter.old) (S.Gauge.count meter.new) }
+        HasCountedAtMostBy every (λ equal. changes_along equal flow (sought flow (first_stop flow))) (S.Gauge.count meter.old) (S.Gauge.count meter.new) }
 {
-    let found = seek(alloc, code, edges, heads, kept, meter)?;
+    let found = seek(alloc, code, edges, heads, kept, every, meter)?;
     if found {
         return Ok(());
     }
-    kept.forget(alloc, code, edges, meter)
+    kept.forget(alloc, code, edges, every, meter)
 }
 
 /// The states two plain rounds later, if they are inductive, and else the states themselves.
@@ -85,6 +87,7 @@ fn settle<S: FlowState + Drop>(
     edges: &[Edge],
     heads: &[bool],
     mut kept: Kept<S>,
+    every: bool,
     meter: &mut S::Gauge,
 ) -> Result<States<S>, NoMemory>
     requires lawful { S.lawful code.now }
@@ -93,22 +96,82 @@ fn settle<S: FlowState + Drop>(
     requires heads { heads.now ≡ map (is_head (flow_of S.FlowState.own S.Lattice code.now)) (places (S.block_count code.now)) }
     requires kept { IsKept (flow_of S.FlowState.own S.Lattice code.now) (S.fits code.now) kept }
     ensures value { IfOk result (λ states. states.items ≡ settled (flow_of S.FlowState.own S.Lattice code.now) (states_of kept.blocks.items)) }
+    ensures fit { IfOk result (λ states. FitBlocks (flow_of S.FlowState.own S.Lattice code.now) (S.fits code.now) states.items) }
     ensures most { let flow = flow_of S.FlowState.own S.Lattice code.now in let states = states_of kept.blocks.items in
-        HasCountedAtMost (λ equal. changes_along equal flow (states ∷ next flow states ∷ next flow (next flow states) ∷ []))
+        HasCountedAtMostBy every (λ equal. changes_along equal flow (states ∷ next flow states ∷ next flow (next flow states) ∷ []))
         (S.Gauge.count meter.old) (S.Gauge.count meter.new) }
     ensures ticked { let flow = flow_of S.FlowState.own S.Lattice code.now in let states = states_of kept.blocks.items in
-        OnOk result (HasCounted (λ equal. changes_along equal flow (states ∷ next flow states ∷ next flow (next flow states) ∷ []))
+        OnOk result (HasCountedBy every (λ equal. changes_along equal flow (states ∷ next flow states ∷ next flow (next flow states) ∷ []))
         (S.Gauge.count meter.old) (S.Gauge.count meter.new)) }
 {
     let found = kept.copies(alloc)?;
-    kept.round(alloc, code, edges, heads, false, meter)?;
-    kept.round(alloc, code, edges, heads, false, meter)?;
+    kept.round(alloc, code, edges, heads, false, every, meter)?;
+    kept.round(alloc, code, edges, heads, false, every, meter)?;
     let inductive = kept.is_inductive(alloc, code, edges)?;
     if inductive {
         let states = kept.into_states(alloc)?;
         return Ok(states);
     }
     Ok(found)
+}
+
+/// The states where the analysis of code settles, one for each block. In each round every edge is computed, or those
+/// whose source has changed.
+pub(crate) fn kept_limit<S: FlowState + Drop>(
+    alloc: Global,
+    code: &S::Code,
+    graph: &Graph,
+    every: bool,
+    meter: &mut S::Gauge,
+) -> Result<States<S>, NoMemory>
+    requires lawful { S.lawful code.now }
+    requires graph { IsGraphOf (flow_of S.FlowState.own S.Lattice code.now) graph.now }
+    requires numbered { AreNumbered (flow_of S.FlowState.own S.Lattice code.now) }
+    ensures value { IfOk result (λ states. states.items ≡ limit (flow_of S.FlowState.own S.Lattice code.now)) }
+    ensures fit { IfOk result (λ states. FitBlocks (flow_of S.FlowState.own S.Lattice code.now) (S.fits code.now) states.items) }
+    ensures work { HasCountedAtMostBy every (λ equal. work equal (flow_of S.FlowState.own S.Lattice code.now)) (S.Gauge.count meter.old) (S.Gauge.count meter.new) }
+    ensures ticked { OnOk result
+        (HasCountedBy every (λ equal. work equal (flow_of S.FlowState.own S.Lattice code.now)) (S.Gauge.count meter.old) (S.Gauge.count meter.new)) }
+{
+    let edges = graph.edges.as_slice();
+    let count = graph.blocks.as_slice().len();
+    let heads = heads(alloc, count, edges)?;
+    let marks = heads.as_slice();
+    let mut kept = Kept::begin(alloc, code, count, edges, meter)?;
+    seek_or_forget(alloc, code, edges, marks, &mut kept, every, meter)?;
+    let states = settle(alloc, code, edges, marks, kept, every, meter)?;
+    Ok(states)
+}
+
+/// The states where the analysis of code settles, one for each block.
+///
+/// At first nothing is reached anywhere. A round joins what flows into each block along its edges, and from the third
+/// round on heads of loops are widened. The states of the first inductive round are carried on for two plain rounds,
+/// and are the answer themselves where that is not inductive. Where no round is inductive up to number 40 and four for
+/// each block, nothing is known, and that is carried on in the same way. `NoMemory` where memory runs out.
+///
+/// Cost: in each round one walk along each edge, and besides what [`kept_rounds`](crate::kept_rounds) costs.
+pub fn limit<S: FlowState + Drop>(
+    alloc: Global,
+    code: &S::Code,
+    graph: &Graph,
+    meter: &mut S::Gauge,
+) -> Result<Vec<S>, NoMemory>
+    requires lawful { S.lawful code.now }
+    requires graph { IsGraphOf (flow_of S.FlowState.own S.Lattice code.now) graph.now }
+    requires numbered { AreNumbered (flow_of S.FlowState.own S.Lattice code.now) }
+    ensures value { IfOk result (λ states. states.items ≡ limit (flow_of S.FlowState.own S.Lattice code.now)) }
+    ensures fit { IfOk result (λ states. FitBlocks (flow_of S.FlowState.own S.Lattice code.now) (S.fits code.now) states.items) }
+    // They are inductive, or nothing is known.
+    ensures settled { let flow = flow_of S.FlowState.own S.Lattice code.now in
+        IfOk result (λ states. (is_inductive flow states.items ≡ true) ⊎ (states.items ≡ all_unknown flow)) }
+    // Each edge is computed in each round, and in every answer no other is counted.
+    ensures ticked { let flow = flow_of S.FlowState.own S.Lattice code.now in
+        OnOk result (S.Gauge.count meter.new ≡ after_ticks (length (rounds flow) * flow.edges) (S.Gauge.count meter.old)) }
+    ensures most { let flow = flow_of S.FlowState.own S.Lattice code.now in
+        S.Gauge.count meter.new ≤ S.Gauge.count meter.old + length (rounds flow) * flow.edges }
+{
+    kept_limit(alloc, code, graph, true, meter)
 }
 
 /// The states where the analysis of code settles, one for each block, as [`limit`](crate::limit) tells it.
@@ -137,12 +200,5 @@ pub fn kept_rounds<S: FlowState + Drop>(
     ensures ticked { OnOk result
         (HasCounted (λ equal. work equal (flow_of S.FlowState.own S.Lattice code.now)) (S.Gauge.count meter.old) (S.Gauge.count meter.new)) }
 {
-    let edges = graph.edges.as_slice();
-    let count = graph.blocks.as_slice().len();
-    let heads = heads(alloc, count, edges)?;
-    let marks = heads.as_slice();
-    let mut kept = Kept::begin(alloc, code, count, edges, meter)?;
-    seek_or_forget(alloc, code, edges, marks, &mut kept, meter)?;
-    let states = settle(alloc, code, edges, marks, kept, meter)?;
-    Ok(states)
+    kept_limit(alloc, code, graph, false, meter)
 }

@@ -1,11 +1,11 @@
 //! What is kept of all blocks and edges from one round to the next, so that only what changed is computed again.
 
-ghost use Rattle.std.specs.Prelude.{◌≡◌, ◌↔◌, ◌<◌, ◌≤◌, ◌+◌, ◌^◌, ◌==◌, ◌&&◌, not, ℕ, Bool, true, false, map, length, get_or, slice_set, slice_index_or, if◌then◌else◌, None, Some, IfOk, OnOk, IfSome, unwrap_or, count_by, replicate};
+ghost use Rattle.std.specs.Prelude.{◌≡◌, ◌↔◌, ◌<◌, ◌≤◌, ◌+◌, ◌^◌, ◌==◌, ◌&&◌, ◌||◌, not, ℕ, Bool, true, false, map, length, get_or, slice_set, slice_index_or, if◌then◌else◌, None, Some, IfOk, OnOk, IfSome, unwrap_or, count_by, replicate};
 ghost use Rattle.widening_engine.specs.Flows.{AreEdges, AreNumbered, FitBlocks, flow_of};
-ghost use Rattle.widening_engine.specs.Kept.{AreForgotten, AreStepped, IsKept, IsMarked, IsRefreshed, IsStillKnown, fresh_join, joined_anew, no_block, states_of};
+ghost use Rattle.widening_engine.specs.Kept.{AreForgotten, AreStepped, IsKept, IsMarked, IsRefreshed, IsStillKnown, fresh_join, is_computed, joined_anew, no_block, states_of};
 ghost use Rattle.widening_engine.specs.Merging.{joined};
 ghost use Rattle.widening_engine.specs.Rounds.{all_unknown, behind, is_begun, is_carried, is_head, is_inductive, never_reached, places};
-ghost use Rattle.widening_engine.specs.Work.{HasCounted, HasCountedAtMost, after_round, after_ticks, changes};
+ghost use Rattle.widening_engine.specs.Work.{HasCountedAtMostBy, HasCountedBy, after_round, after_ticks, changes};
 
 use crate::heads::no_marks;
 use crate::kept_block::KeptBlock;
@@ -87,6 +87,13 @@ fn widens_at(late: bool, head: bool) -> bool
     ensures { result ≡ (late && head) }
 {
     late && head
+}
+
+/// Whether the state behind an edge is computed again: where every edge is, or that of its source has changed.
+fn is_computed(every: bool, changed: bool) -> bool
+    ensures { result ≡ (every || changed) }
+{
+    every || changed
 }
 
 /// A list of so many times None: nothing flows into a block yet.
@@ -314,13 +321,14 @@ impl<S: FlowState + Drop> Kept<S> {
         Ok(())
     }
 
-    /// Computes the states behind the edges again whose sources have changed.
+    /// Computes the states behind the edges again: every one, or those whose sources have changed.
     fn refresh(
         &mut self,
         alloc: Global,
         code: &S::Code,
         edges: &[Edge],
         changed: &[bool],
+        every: bool,
         meter: &mut S::Gauge,
     ) -> Result<(), NoMemory>
         requires lawful { S.lawful code.now }
@@ -331,16 +339,16 @@ impl<S: FlowState + Drop> Kept<S> {
         requires carried { length self.old.carried.items ≡ S.edge_count code.now }
         requires stale { length self.old.stale.items ≡ S.block_count code.now }
         requires changed { length changed.now ≡ S.block_count code.now }
-        ensures refreshed { OnOk result (IsRefreshed (flow_of S.FlowState.own S.Lattice code.now) changed.now self.old self.new) }
-        ensures ticked { OnOk result (S.Gauge.count meter.new
-            ≡ after_ticks (count_by (λ edge. get_or changed.now (S.source code.now edge) false) (places (S.edge_count code.now))) (S.Gauge.count meter.old)) }
-        ensures most { S.Gauge.count meter.new
-            ≤ S.Gauge.count meter.old + count_by (λ edge. get_or changed.now (S.source code.now edge) false) (places (S.edge_count code.now)) }
+        ensures refreshed { OnOk result (IsRefreshed (flow_of S.FlowState.own S.Lattice code.now) every changed.now self.old self.new) }
+        ensures ticked { let flow = flow_of S.FlowState.own S.Lattice code.now in OnOk result
+            (S.Gauge.count meter.new ≡ after_ticks (count_by (is_computed flow every changed.now) (places flow.edges)) (S.Gauge.count meter.old)) }
+        ensures most { let flow = flow_of S.FlowState.own S.Lattice code.now in
+            S.Gauge.count meter.new ≤ S.Gauge.count meter.old + count_by (is_computed flow every changed.now) (places flow.edges) }
     {
         self.begun = still_known(self.begun, changed[0]);
         for place in 0..edges.len() {
             let edge = edges[place];
-            let again = changed[edge.from as usize];
+            let again = is_computed(every, changed[edge.from as usize]);
             let other = changed[edge.to as usize];
             self.refresh_edge(alloc, code, place as u32, edge, again, other, meter)?;
         }
@@ -349,7 +357,8 @@ impl<S: FlowState + Drop> Kept<S> {
 }
 
 impl<S: FlowState + Drop> Kept<S> {
-    /// Computes one round. A late round widens at the heads of loops.
+    /// Computes one round. A late round widens at the heads of loops. The states behind edges are computed again: every
+    /// one, or those whose sources have changed.
     pub(crate) fn round(
         &mut self,
         alloc: Global,
@@ -357,6 +366,7 @@ impl<S: FlowState + Drop> Kept<S> {
         edges: &[Edge],
         heads: &[bool],
         late: bool,
+        every: bool,
         meter: &mut S::Gauge,
     ) -> Result<(), NoMemory>
         requires lawful { S.lawful code.now }
@@ -368,13 +378,13 @@ impl<S: FlowState + Drop> Kept<S> {
         ensures states { OnOk result (states_of self.new.blocks.items
             ≡ after_round (flow_of S.FlowState.own S.Lattice code.now) late (states_of self.old.blocks.items)) }
         ensures ticked { let flow = flow_of S.FlowState.own S.Lattice code.now in let states = states_of self.old.blocks.items in
-            OnOk result (HasCounted (λ equal. changes equal flow states (after_round flow late states)) (S.Gauge.count meter.old) (S.Gauge.count meter.new)) }
+            OnOk result (HasCountedBy every (λ equal. changes equal flow states (after_round flow late states)) (S.Gauge.count meter.old) (S.Gauge.count meter.new)) }
         ensures most { let flow = flow_of S.FlowState.own S.Lattice code.now in let states = states_of self.old.blocks.items in
-            HasCountedAtMost (λ equal. changes equal flow states (after_round flow late states)) (S.Gauge.count meter.old) (S.Gauge.count meter.new) }
+            HasCountedAtMostBy every (λ equal. changes equal flow states (after_round flow late states)) (S.Gauge.count meter.old) (S.Gauge.count meter.new) }
     {
         let joins = self.joins(alloc, code, edges)?;
         let changed = self.step_all(alloc, code, heads, late, joins)?;
-        self.refresh(alloc, code, edges, changed.as_slice(), meter)
+        self.refresh(alloc, code, edges, changed.as_slice(), every, meter)
     }
 
     /// Sets each block's state to the one of which nothing is known. Returns for each whether its state changed.
@@ -399,6 +409,7 @@ impl<S: FlowState + Drop> Kept<S> {
         alloc: Global,
         code: &S::Code,
         edges: &[Edge],
+        every: bool,
         meter: &mut S::Gauge,
     ) -> Result<(), NoMemory>
         requires lawful { S.lawful code.now }
@@ -408,12 +419,12 @@ impl<S: FlowState + Drop> Kept<S> {
         ensures kept { OnOk result (IsKept (flow_of S.FlowState.own S.Lattice code.now) (S.fits code.now) self.new) }
         ensures states { OnOk result (states_of self.new.blocks.items ≡ all_unknown (flow_of S.FlowState.own S.Lattice code.now)) }
         ensures ticked { let flow = flow_of S.FlowState.own S.Lattice code.now in let states = states_of self.old.blocks.items in
-            OnOk result (HasCounted (λ equal. changes equal flow states (all_unknown flow)) (S.Gauge.count meter.old) (S.Gauge.count meter.new)) }
+            OnOk result (HasCountedBy every (λ equal. changes equal flow states (all_unknown flow)) (S.Gauge.count meter.old) (S.Gauge.count meter.new)) }
         ensures most { let flow = flow_of S.FlowState.own S.Lattice code.now in let states = states_of self.old.blocks.items in
-            HasCountedAtMost (λ equal. changes equal flow states (all_unknown flow)) (S.Gauge.count meter.old) (S.Gauge.count meter.new) }
+            HasCountedAtMostBy every (λ equal. changes equal flow states (all_unknown flow)) (S.Gauge.count meter.old) (S.Gauge.count meter.new) }
     {
         let changed = self.forget_all(alloc, code)?;
-        self.refresh(alloc, code, edges, changed.as_slice(), meter)
+        self.refresh(alloc, code, edges, changed.as_slice(), every, meter)
     }
 
     /// Nothing is reached yet, and no edge computed.
@@ -465,7 +476,7 @@ impl<S: FlowState + Drop> Kept<S> {
     {
         let mut kept = Kept::unreached(alloc, code, count, edges.len())?;
         let all = all_marks(alloc, count)?;
-        kept.refresh(alloc, code, edges, all.as_slice(), meter)?;
+        kept.refresh(alloc, code, edges, all.as_slice(), true, meter)?;
         Ok(kept)
     }
 

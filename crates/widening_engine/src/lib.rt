@@ -8,13 +8,9 @@ mod heads;
 mod keeping;
 mod kept;
 mod kept_block;
-mod passes;
 mod plain;
-mod settling;
-mod widening;
 
 pub use dirty::Dirty;
 pub use finder::Finder;
-pub use keeping::{States, kept_rounds};
+pub use keeping::{States, kept_rounds, limit};
 pub use plain::Plain;
-pub use settling::limit;

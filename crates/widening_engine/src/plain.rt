@@ -1,41 +1,24 @@
-//! A finder that computes each round anew.
+//! A finder that computes every edge in each round.
 
 ghost use Rattle.std.specs.Prelude.{◌≡◌, ◌≤◌, ◌+◌, ◌*◌, ◌++◌, ◌∷◌, [], length, map, IfOk, OnOk, OnErr};
 ghost use Rattle.unit_flow.specs.Flow.{IsLawful};
 ghost use Rattle.unit_form.specs.Spelling.{unit_bytes};
 ghost use Rattle.widening_engine.specs.Limits.{limit_of, unit_flow};
-ghost use Rattle.widening_engine.specs.Rounds.{limit};
 ghost use Rattle.widening_engine.specs.Work.{after_ticks, rounds};
 
-use crate::finder::{Finder, known};
-use crate::settling::limit;
+use crate::finder::{Finder, find_invariant};
 use domain_api::{NoMemory, Ticks};
 use std::alloc::Global;
-use transfer_rules::{Invariant, UnitState};
+use transfer_rules::Invariant;
 use unit_flow::UnitFlow;
-use unit_form::unit_bytes;
 
-/// A finder that computes each round anew.
+/// A finder that computes every edge in each round.
 #[derive(Drop)]
 pub struct Plain {
     /// The bytes of the units that it was asked for, in order.
     pub asked: Vec<Vec<u8>>,
     /// The edges that it computed.
     pub meter: Ticks,
-}
-
-/// The states of a unit where they settle.
-fn settled_states(
-    alloc: Global,
-    code: &UnitFlow,
-    meter: &mut Ticks,
-) -> Result<Vec<UnitState>, NoMemory>
-    requires { IsLawful code.now }
-    ensures value { IfOk result (λ states. states.items ≡ limit (unit_flow code.now)) }
-    ensures most { meter.new.count ≤ meter.old.count + length (rounds (unit_flow code.now)) * length code.now.graph.edges }
-    ensures ticked { OnOk result (meter.new.count ≡ after_ticks (length (rounds (unit_flow code.now)) * length code.now.graph.edges) meter.old.count) }
-{
-    limit::<UnitState>(alloc, code, &code.graph, meter)
 }
 
 impl Plain {
@@ -71,10 +54,6 @@ impl Finder for Plain {
         ensures ticked { OnOk result
             (self.new.meter.count ≡ after_ticks (length (rounds (unit_flow code.now)) * length code.now.graph.edges) self.old.meter.count) }
     {
-        let bytes = unit_bytes(alloc, &code.unit)?;
-        let states = settled_states(alloc, code, &mut self.meter)?;
-        let states = known(alloc, states)?;
-        self.asked.push(bytes)?;
-        Ok(Invariant { states })
+        find_invariant(alloc, code, true, &mut self.asked, &mut self.meter)
     }
 }

@@ -12,7 +12,7 @@ loop-number-init g c =
     let flow : Flow _ = flow_of g.S.FlowState g.S.Lattice code in
     let fits = g.S.FlowState.fits code in
     let first = g.S.Gauge.Meter.count c.args.meter.now in
-    sought_first flow fits first c.args.kept.now c.requires.kept c.requires.states
+    sought_first flow fits c.args.every first c.args.kept.now c.requires.kept c.requires.states
 
 pub loop-number-preserved : goal.loop-number-preserved
 loop-number-preserved g c =
@@ -22,8 +22,8 @@ loop-number-preserved g c =
     let fits = g.S.FlowState.fits code in
     let first = g.S.Gauge.Meter.count c.args.meter.now in
     let l = c.loop-number in
-    let sought = sought_same flow fits first l.number l.kept (g.S.Gauge.Meter.count l.meter) l.invariant c.is_inductive.new.self c.in_ok-inductive.ensures.kept c.in_ok-inductive.ensures.blocks in
-    sought_more flow fits first l.number c.is_inductive.new.self (g.S.Gauge.Meter.count l.meter) sought c.round.new.self _ (sym c.in_ok-inductive.ensures.value ∙ c.if-inductive.false)
+    let sought = sought_same flow fits c.args.every first l.number l.kept (g.S.Gauge.Meter.count l.meter) l.invariant c.is_inductive.new.self c.in_ok-inductive.ensures.kept c.in_ok-inductive.ensures.blocks in
+    sought_more flow fits c.args.every first l.number c.is_inductive.new.self (g.S.Gauge.Meter.count l.meter) sought c.round.new.self _ (sym c.in_ok-inductive.ensures.value ∙ c.if-inductive.false)
     c.in_ok-round.ensures.kept c.in_ok-round.ensures.states c.in_ok-round.ensures.ticked
 
 pub returns-in_err-inductive-clause-most : goal.returns-in_err-inductive-clause-most
@@ -35,7 +35,7 @@ returns-in_err-inductive-clause-most g c =
     let first = g.S.Gauge.Meter.count c.args.meter.now in
     let l = c.loop-number in
     let many = ap length c.requires.heads ∙ length-map-range_with_len (is_head flow) 0 flow.blocks in
-    within flow fits first l.number l.kept (g.S.Gauge.Meter.count l.meter) l.invariant (omega (arith, many))
+    within flow fits c.args.every first l.number l.kept (g.S.Gauge.Meter.count l.meter) l.invariant (omega (arith, many))
 
 pub returns-in_err-round-clause-most : goal.returns-in_err-round-clause-most
 returns-in_err-round-clause-most g c =
@@ -46,8 +46,8 @@ returns-in_err-round-clause-most g c =
     let first = g.S.Gauge.Meter.count c.args.meter.now in
     let l = c.loop-number in
     let many = ap length c.requires.heads ∙ length-map-range_with_len (is_head flow) 0 flow.blocks in
-    let sought = sought_same flow fits first l.number l.kept (g.S.Gauge.Meter.count l.meter) l.invariant c.is_inductive.new.self c.in_ok-inductive.ensures.kept c.in_ok-inductive.ensures.blocks in
-    within_more flow fits first l.number c.is_inductive.new.self (g.S.Gauge.Meter.count l.meter) sought _ (omega (arith, many)) (sym c.in_ok-inductive.ensures.value ∙ c.if-inductive.false) c.round.ensures.most
+    let sought = sought_same flow fits c.args.every first l.number l.kept (g.S.Gauge.Meter.count l.meter) l.invariant c.is_inductive.new.self c.in_ok-inductive.ensures.kept c.in_ok-inductive.ensures.blocks in
+    within_more flow fits c.args.every first l.number c.is_inductive.new.self (g.S.Gauge.Meter.count l.meter) sought _ (omega (arith, many)) (sym c.in_ok-inductive.ensures.value ∙ c.if-inductive.false) c.round.ensures.most
 
 pub returns-then-inductive-clause-found : goal.returns-then-inductive-clause-found
 returns-then-inductive-clause-found g c =
@@ -58,8 +58,8 @@ returns-then-inductive-clause-found g c =
     let first = g.S.Gauge.Meter.count c.args.meter.now in
     let l = c.loop-number in
     let many = ap length c.requires.heads ∙ length-map-range_with_len (is_head flow) 0 flow.blocks in
-    let sought = sought_same flow fits first l.number l.kept (g.S.Gauge.Meter.count l.meter) l.invariant c.is_inductive.new.self c.in_ok-inductive.ensures.kept c.in_ok-inductive.ensures.blocks in
-    tried_found flow fits first l.number c.is_inductive.new.self (g.S.Gauge.Meter.count l.meter) sought (omega (arith, many)) (sym c.in_ok-inductive.ensures.value ∙ c.if-inductive.true)
+    let sought = sought_same flow fits c.args.every first l.number l.kept (g.S.Gauge.Meter.count l.meter) l.invariant c.is_inductive.new.self c.in_ok-inductive.ensures.kept c.in_ok-inductive.ensures.blocks in
+    tried_found flow fits c.args.every first l.number c.is_inductive.new.self (g.S.Gauge.Meter.count l.meter) sought (omega (arith, many)) (sym c.in_ok-inductive.ensures.value ∙ c.if-inductive.true)
 
 pub returns-then-inductive-clause-ticked : goal.returns-then-inductive-clause-ticked
 returns-then-inductive-clause-ticked g c =
@@ -70,8 +70,8 @@ returns-then-inductive-clause-ticked g c =
     let first = g.S.Gauge.Meter.count c.args.meter.now in
     let l = c.loop-number in
     let many = ap length c.requires.heads ∙ length-map-range_with_len (is_head flow) 0 flow.blocks in
-    let sought = sought_same flow fits first l.number l.kept (g.S.Gauge.Meter.count l.meter) l.invariant c.is_inductive.new.self c.in_ok-inductive.ensures.kept c.in_ok-inductive.ensures.blocks in
-    ticked_found flow fits first l.number c.is_inductive.new.self (g.S.Gauge.Meter.count l.meter) sought (omega (arith, many)) (sym c.in_ok-inductive.ensures.value ∙ c.if-inductive.true)
+    let sought = sought_same flow fits c.args.every first l.number l.kept (g.S.Gauge.Meter.count l.meter) l.invariant c.is_inductive.new.self c.in_ok-inductive.ensures.kept c.in_ok-inductive.ensures.blocks in
+    ticked_found flow fits c.args.every first l.number c.is_inductive.new.self (g.S.Gauge.Meter.count l.meter) sought (omega (arith, many)) (sym c.in_ok-inductive.ensures.value ∙ c.if-inductive.true)
 
 pub returns-then-inductive-clause-most : goal.returns-then-inductive-clause-most
 returns-then-inductive-clause-most g c =
@@ -82,8 +82,8 @@ returns-then-inductive-clause-most g c =
     let first = g.S.Gauge.Meter.count c.args.meter.now in
     let l = c.loop-number in
     let many = ap length c.requires.heads ∙ length-map-range_with_len (is_head flow) 0 flow.blocks in
-    let sought = sought_same flow fits first l.number l.kept (g.S.Gauge.Meter.count l.meter) l.invariant c.is_inductive.new.self c.in_ok-inductive.ensures.kept c.in_ok-inductive.ensures.blocks in
-    within flow fits first l.number c.is_inductive.new.self (g.S.Gauge.Meter.count l.meter) sought (omega (arith, many))
+    let sought = sought_same flow fits c.args.every first l.number l.kept (g.S.Gauge.Meter.count l.meter) l.invariant c.is_inductive.new.self c.in_ok-inductive.ensures.kept c.in_ok-inductive.ensures.blocks in
+    within flow fits c.args.every first l.number c.is_inductive.new.self (g.S.Gauge.Meter.count l.meter) sought (omega (arith, many))
 
 pub returns-in_err-last-clause-most : goal.returns-in_err-last-clause-most
 returns-in_err-last-clause-most g c =
@@ -95,8 +95,8 @@ returns-in_err-last-clause-most g c =
     let l = c.loop-number in
     let many = ap length c.requires.heads ∙ length-map-range_with_len (is_head flow) 0 flow.blocks in
     let all : l.number ≡ last_round flow = omega (arith, many) in
-    let sought = subst (λ n. AreSought flow fits first n l.kept (g.S.Gauge.Meter.count l.meter)) all l.invariant in
-    within flow fits first (last_round flow) l.kept (g.S.Gauge.Meter.count l.meter) sought (omega arith)
+    let sought = subst (λ n. AreSought flow fits c.args.every first n l.kept (g.S.Gauge.Meter.count l.meter)) all l.invariant in
+    within flow fits c.args.every first (last_round flow) l.kept (g.S.Gauge.Meter.count l.meter) sought (omega arith)
 
 pub returns-clause-kept : goal.returns-clause-kept
 returns-clause-kept g c =
@@ -108,8 +108,8 @@ returns-clause-kept g c =
     let l = c.loop-number in
     let many = ap length c.requires.heads ∙ length-map-range_with_len (is_head flow) 0 flow.blocks in
     let all : l.number ≡ last_round flow = omega (arith, many) in
-    let sought = subst (λ n. AreSought flow fits first n l.kept (g.S.Gauge.Meter.count l.meter)) all l.invariant in
-    let again = sought_same flow fits first (last_round flow) l.kept (g.S.Gauge.Meter.count l.meter) sought c.is_inductive-2.new.self c.in_ok-last.ensures.kept c.in_ok-last.ensures.blocks in
+    let sought = subst (λ n. AreSought flow fits c.args.every first n l.kept (g.S.Gauge.Meter.count l.meter)) all l.invariant in
+    let again = sought_same flow fits c.args.every first (last_round flow) l.kept (g.S.Gauge.Meter.count l.meter) sought c.is_inductive-2.new.self c.in_ok-last.ensures.kept c.in_ok-last.ensures.blocks in
     again.is_kept
 
 pub returns-clause-found : goal.returns-clause-found
@@ -122,9 +122,9 @@ returns-clause-found g c =
     let l = c.loop-number in
     let many = ap length c.requires.heads ∙ length-map-range_with_len (is_head flow) 0 flow.blocks in
     let all : l.number ≡ last_round flow = omega (arith, many) in
-    let sought = subst (λ n. AreSought flow fits first n l.kept (g.S.Gauge.Meter.count l.meter)) all l.invariant in
-    let again = sought_same flow fits first (last_round flow) l.kept (g.S.Gauge.Meter.count l.meter) sought c.is_inductive-2.new.self c.in_ok-last.ensures.kept c.in_ok-last.ensures.blocks in
-    tried_last flow fits first c.is_inductive-2.new.self (g.S.Gauge.Meter.count l.meter) again c.in_ok-last.last c.in_ok-last.ensures.value
+    let sought = subst (λ n. AreSought flow fits c.args.every first n l.kept (g.S.Gauge.Meter.count l.meter)) all l.invariant in
+    let again = sought_same flow fits c.args.every first (last_round flow) l.kept (g.S.Gauge.Meter.count l.meter) sought c.is_inductive-2.new.self c.in_ok-last.ensures.kept c.in_ok-last.ensures.blocks in
+    tried_last flow fits c.args.every first c.is_inductive-2.new.self (g.S.Gauge.Meter.count l.meter) again c.in_ok-last.last c.in_ok-last.ensures.value
 
 pub returns-clause-ticked : goal.returns-clause-ticked
 returns-clause-ticked g c =
@@ -136,9 +136,9 @@ returns-clause-ticked g c =
     let l = c.loop-number in
     let many = ap length c.requires.heads ∙ length-map-range_with_len (is_head flow) 0 flow.blocks in
     let all : l.number ≡ last_round flow = omega (arith, many) in
-    let sought = subst (λ n. AreSought flow fits first n l.kept (g.S.Gauge.Meter.count l.meter)) all l.invariant in
-    let again = sought_same flow fits first (last_round flow) l.kept (g.S.Gauge.Meter.count l.meter) sought c.is_inductive-2.new.self c.in_ok-last.ensures.kept c.in_ok-last.ensures.blocks in
-    ticked_last flow fits first c.is_inductive-2.new.self (g.S.Gauge.Meter.count l.meter) again c.in_ok-last.last c.in_ok-last.ensures.value
+    let sought = subst (λ n. AreSought flow fits c.args.every first n l.kept (g.S.Gauge.Meter.count l.meter)) all l.invariant in
+    let again = sought_same flow fits c.args.every first (last_round flow) l.kept (g.S.Gauge.Meter.count l.meter) sought c.is_inductive-2.new.self c.in_ok-last.ensures.kept c.in_ok-last.ensures.blocks in
+    ticked_last flow fits c.args.every first c.is_inductive-2.new.self (g.S.Gauge.Meter.count l.meter) again c.in_ok-last.last c.in_ok-last.ensures.value
 
 pub returns-clause-most : goal.returns-clause-most
 returns-clause-most g c =
@@ -150,6 +150,6 @@ returns-clause-most g c =
     let l = c.loop-number in
     let many = ap length c.requires.heads ∙ length-map-range_with_len (is_head flow) 0 flow.blocks in
     let all : l.number ≡ last_round flow = omega (arith, many) in
-    let sought = subst (λ n. AreSought flow fits first n l.kept (g.S.Gauge.Meter.count l.meter)) all l.invariant in
-    let again = sought_same flow fits first (last_round flow) l.kept (g.S.Gauge.Meter.count l.meter) sought c.is_inductive-2.new.self c.in_ok-last.ensures.kept c.in_ok-last.ensures.blocks in
-    within flow fits first (last_round flow) c.is_inductive-2.new.self (g.S.Gauge.Meter.count l.meter) again (omega arith)
+    let sought = subst (λ n. AreSought flow fits c.args.every first n l.kept (g.S.Gauge.Meter.count l.meter)) all l.invariant in
+    let again = sought_same flow fits c.args.every first (last_round flow) l.kept (g.S.Gauge.Meter.count l.meter) sought c.is_inductive-2.new.self c.in_ok-last.ensures.kept c.in_ok-last.ensures.blocks in
+    within flow fits c.args.every first (last_round flow) c.is_inductive-2.new.self (g.S.Gauge.Meter.count l.meter) again (omega arith)

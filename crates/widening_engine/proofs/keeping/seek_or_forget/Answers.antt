@@ -14,7 +14,7 @@ returns-in_err-found-clause-most g c =
     let flow : Flow _ = flow_of g.S.FlowState g.S.Lattice code in
     let fits = g.S.FlowState.fits code in
     let first = g.S.Gauge.Meter.count c.args.meter.now in
-    tried_most flow first _ c.seek.ensures.most
+    tried_most flow c.args.every first _ c.seek.ensures.most
 
 pub returns-then-found-clause-states : goal.returns-then-found-clause-states
 returns-then-found-clause-states g c =
@@ -24,7 +24,7 @@ returns-then-found-clause-states g c =
     let fits = g.S.FlowState.fits code in
     let first = g.S.Gauge.Meter.count c.args.meter.now in
     let tried = subst (λ (t : Bool). IsTried flow t (states_of c.seek.new.kept.blocks.items)) c.if-found.true c.in_ok-found.ensures.found in
-    found_states flow first _ tried
+    found_states flow c.args.every first _ tried
 
 pub returns-then-found-clause-ticked : goal.returns-then-found-clause-ticked
 returns-then-found-clause-ticked g c =
@@ -34,7 +34,7 @@ returns-then-found-clause-ticked g c =
     let fits = g.S.FlowState.fits code in
     let first = g.S.Gauge.Meter.count c.args.meter.now in
     let tried = subst (λ (t : Bool). IsTried flow t (states_of c.seek.new.kept.blocks.items)) c.if-found.true c.in_ok-found.ensures.found in
-    found_ticked flow first _ _ tried c.in_ok-found.ensures.ticked
+    found_ticked flow c.args.every first _ _ tried c.in_ok-found.ensures.ticked
 
 pub returns-then-found-clause-most : goal.returns-then-found-clause-most
 returns-then-found-clause-most g c =
@@ -43,7 +43,7 @@ returns-then-found-clause-most g c =
     let flow : Flow _ = flow_of g.S.FlowState g.S.Lattice code in
     let fits = g.S.FlowState.fits code in
     let first = g.S.Gauge.Meter.count c.args.meter.now in
-    tried_most flow first _ c.seek.ensures.most
+    tried_most flow c.args.every first _ c.seek.ensures.most
 
 pub returns-clause-states : goal.returns-clause-states
 returns-clause-states g c =
@@ -53,7 +53,7 @@ returns-clause-states g c =
     let fits = g.S.FlowState.fits code in
     let first = g.S.Gauge.Meter.count c.args.meter.now in
     let tried = subst (λ (t : Bool). IsTried flow t (states_of c.seek.new.kept.blocks.items)) c.if-found.false c.in_ok-found.ensures.found in
-    on_ok_weaker c.forget.result (λ are. unknown_first flow first _ _ tried are) c.forget.ensures.states
+    on_ok_weaker c.forget.result (λ are. unknown_first flow c.args.every first _ _ tried are) c.forget.ensures.states
 
 pub returns-clause-ticked : goal.returns-clause-ticked
 returns-clause-ticked g c =
@@ -63,7 +63,7 @@ returns-clause-ticked g c =
     let fits = g.S.FlowState.fits code in
     let first = g.S.Gauge.Meter.count c.args.meter.now in
     let tried = subst (λ (t : Bool). IsTried flow t (states_of c.seek.new.kept.blocks.items)) c.if-found.false c.in_ok-found.ensures.found in
-    on_ok_weaker c.forget.result (λ ticked. unknown_ticked flow first _ _ _ tried c.in_ok-found.ensures.ticked ticked) c.forget.ensures.ticked
+    on_ok_weaker c.forget.result (λ ticked. unknown_ticked flow c.args.every first _ _ _ tried c.in_ok-found.ensures.ticked ticked) c.forget.ensures.ticked
 
 pub returns-clause-most : goal.returns-clause-most
 returns-clause-most g c =
@@ -73,4 +73,4 @@ returns-clause-most g c =
     let fits = g.S.FlowState.fits code in
     let first = g.S.Gauge.Meter.count c.args.meter.now in
     let tried = subst (λ (t : Bool). IsTried flow t (states_of c.seek.new.kept.blocks.items)) c.if-found.false c.in_ok-found.ensures.found in
-    unknown_most flow first _ _ _ tried c.in_ok-found.ensures.ticked c.forget.ensures.most
+    unknown_most flow c.args.every first _ _ _ tried c.in_ok-found.ensures.ticked c.forget.ensures.most

@@ -35,8 +35,7 @@ returns-clause-kept g c =
     let blocks = c.in_ok-kept.ensures.blocks ∙ ap (λ n. map (λ block. no_block flow.nothing) (places n)) c.requires.count in
     let carried = c.in_ok-kept.ensures.carried ∙ ap (λ n. map (λ edge. false) (places n)) c.requires.edges.count in
     let stale = c.in_ok-kept.ensures.stale ∙ ap (λ n. map (λ block. true) (places n)) c.requires.count in
-    let all = c.as_slice.ensures.value ∙ c.in_ok-all.ensures ∙ ap (λ n. map (λ block. true) (places n)) c.requires.count in
-    (begun_kept flow (g.S.FlowState.fits code) law _ c.in_ok-kept.kept _ c.in_ok-kept.ensures.entry blocks c.in_ok-kept.ensures.begun carried stale all c.in_ok-refresh.ensures.refreshed).0
+    (begun_kept flow (g.S.FlowState.fits code) law _ c.in_ok-kept.kept _ c.in_ok-kept.ensures.entry blocks c.in_ok-kept.ensures.begun carried stale c.in_ok-refresh.ensures.refreshed).0
 
 pub returns-clause-states : goal.returns-clause-states
 returns-clause-states g c =
@@ -47,32 +46,19 @@ returns-clause-states g c =
     let blocks = c.in_ok-kept.ensures.blocks ∙ ap (λ n. map (λ block. no_block flow.nothing) (places n)) c.requires.count in
     let carried = c.in_ok-kept.ensures.carried ∙ ap (λ n. map (λ edge. false) (places n)) c.requires.edges.count in
     let stale = c.in_ok-kept.ensures.stale ∙ ap (λ n. map (λ block. true) (places n)) c.requires.count in
-    let all = c.as_slice.ensures.value ∙ c.in_ok-all.ensures ∙ ap (λ n. map (λ block. true) (places n)) c.requires.count in
-    (begun_kept flow (g.S.FlowState.fits code) law _ c.in_ok-kept.kept _ c.in_ok-kept.ensures.entry blocks c.in_ok-kept.ensures.begun carried stale all c.in_ok-refresh.ensures.refreshed).1
+    (begun_kept flow (g.S.FlowState.fits code) law _ c.in_ok-kept.kept _ c.in_ok-kept.ensures.entry blocks c.in_ok-kept.ensures.begun carried stale c.in_ok-refresh.ensures.refreshed).1
 
 pub returns-clause-ticked : goal.returns-clause-ticked
 returns-clause-ticked g c =
-    let m = g.met.S.FlowState in
-    let code = c.args.code.now in
-    let flow : Flow _ = flow_of g.S.FlowState g.S.Lattice code in
-    let law = keeps g.S.FlowState g.S.Lattice code c.requires.lawful m.source_below m.target_below m.along_fits m.join_fits m.widen_fits m.entry_fits m.nothing_fits m.unknown_fits in
-    let all = c.as_slice.ensures.value ∙ c.in_ok-all.ensures ∙ ap (λ n. map (λ block. true) (places n)) c.requires.count in
-    c.in_ok-refresh.ensures.ticked ∙ ap (λ n. after_ticks n (g.S.Gauge.Meter.count c.args.meter.now)) (all_count flow _ all law.source_below)
+    let flow : Flow _ = flow_of g.S.FlowState g.S.Lattice c.args.code.now in
+    c.in_ok-refresh.ensures.ticked ∙ ap (λ n. after_ticks n (g.S.Gauge.Meter.count c.args.meter.now)) (all_count flow c.as_slice.result.now)
 
 pub returns-in_err-refresh-clause-most : goal.returns-in_err-refresh-clause-most
 returns-in_err-refresh-clause-most g c =
-    let m = g.met.S.FlowState in
-    let code = c.args.code.now in
-    let flow : Flow _ = flow_of g.S.FlowState g.S.Lattice code in
-    let law = keeps g.S.FlowState g.S.Lattice code c.requires.lawful m.source_below m.target_below m.along_fits m.join_fits m.widen_fits m.entry_fits m.nothing_fits m.unknown_fits in
-    let all = c.as_slice.ensures.value ∙ c.in_ok-all.ensures ∙ ap (λ n. map (λ block. true) (places n)) c.requires.count in
-    subst (λ n. g.S.Gauge.Meter.count c.refresh.new.meter ≤ g.S.Gauge.Meter.count c.args.meter.now + n) (all_count flow _ all law.source_below) c.refresh.ensures.most
+    let flow : Flow _ = flow_of g.S.FlowState g.S.Lattice c.args.code.now in
+    subst (λ n. g.S.Gauge.Meter.count c.refresh.new.meter ≤ g.S.Gauge.Meter.count c.args.meter.now + n) (all_count flow c.as_slice.result.now) c.refresh.ensures.most
 
 pub returns-clause-most : goal.returns-clause-most
 returns-clause-most g c =
-    let m = g.met.S.FlowState in
-    let code = c.args.code.now in
-    let flow : Flow _ = flow_of g.S.FlowState g.S.Lattice code in
-    let law = keeps g.S.FlowState g.S.Lattice code c.requires.lawful m.source_below m.target_below m.along_fits m.join_fits m.widen_fits m.entry_fits m.nothing_fits m.unknown_fits in
-    let all = c.as_slice.ensures.value ∙ c.in_ok-all.ensures ∙ ap (λ n. map (λ block. true) (places n)) c.requires.count in
-    subst (λ n. g.S.Gauge.Meter.count c.refresh.new.meter ≤ g.S.Gauge.Meter.count c.args.meter.now + n) (all_count flow _ all law.source_below) c.refresh.ensures.most
+    let flow : Flow _ = flow_of g.S.FlowState g.S.Lattice c.args.code.now in
+    subst (λ n. g.S.Gauge.Meter.count c.refresh.new.meter ≤ g.S.Gauge.Meter.count c.args.meter.now + n) (all_count flow c.as_slice.result.now) c.refresh.ensures.most

@@ -28,7 +28,7 @@ returns-clause-kept g c =
     let mid = c.forget_all.new.self in
     let changed = c.in_ok-changed.changed.items in
     let told = forgotten_told flow (g.S.FlowState.fits code) law old mid changed kept c.in_ok-changed.ensures in
-    on_ok_weaker c.refresh.result (λ again. refreshed_kept flow (g.S.FlowState.fits code) law (states_of old.blocks.items) _ mid _ (m.first_block code c.requires.lawful)
+    on_ok_weaker c.refresh.result (λ again. refreshed_kept flow (g.S.FlowState.fits code) law c.args.every (states_of old.blocks.items) _ mid _ (m.first_block code c.requires.lawful)
     (forgotten_kept flow (g.S.FlowState.fits code) law old mid changed kept c.in_ok-changed.ensures)
     (subst (λ (marks : List Bool). AreTold flow (states_of old.blocks.items) (states_of mid.blocks.items) marks) (sym c.as_slice.ensures.value) told) again) c.refresh.ensures.refreshed
 
@@ -50,7 +50,7 @@ returns-clause-ticked g c =
     let old = c.args.self.now in
     let mid = c.forget_all.new.self in
     let changed = c.in_ok-changed.changed.items in
-    on_ok_weaker c.refresh.result (λ ticked. counted flow (states_of old.blocks.items) (states_of mid.blocks.items) (all_unknown flow) changed _ _ _ law.source_below
+    on_ok_weaker c.refresh.result (λ ticked. counted flow c.args.every (states_of old.blocks.items) (states_of mid.blocks.items) (all_unknown flow) changed _ _ _ law.source_below
     (forgotten_told flow (g.S.FlowState.fits code) law old mid changed c.requires.kept c.in_ok-changed.ensures)
     (forgotten_states flow (g.S.FlowState.fits code) law old mid changed c.requires.kept c.in_ok-changed.ensures) c.as_slice.ensures.value ticked) c.refresh.ensures.ticked
 
@@ -63,6 +63,6 @@ returns-clause-most g c =
     let old = c.args.self.now in
     let mid = c.forget_all.new.self in
     let changed = c.in_ok-changed.changed.items in
-    counted_most flow (states_of old.blocks.items) (states_of mid.blocks.items) (all_unknown flow) changed _ _ _ law.source_below
+    counted_most flow c.args.every (states_of old.blocks.items) (states_of mid.blocks.items) (all_unknown flow) changed _ _ _ law.source_below
     (forgotten_told flow (g.S.FlowState.fits code) law old mid changed c.requires.kept c.in_ok-changed.ensures)
     (forgotten_states flow (g.S.FlowState.fits code) law old mid changed c.requires.kept c.in_ok-changed.ensures) c.as_slice.ensures.value c.refresh.ensures.most

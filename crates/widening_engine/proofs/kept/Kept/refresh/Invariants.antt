@@ -1,5 +1,6 @@
-use Rattle.std.proofs.Common.{◌≡◌, get_or, count_by, false}
+use Rattle.std.proofs.Common.{◌≡◌, count_by}
 use Rattle.widening_engine.specs.Flows.{flow_of}
+use Rattle.widening_engine.specs.Kept.{is_computed}
 use Rattle.widening_engine.specs.Rounds.{places}
 use Rattle.widening_engine.specs.Work.{after_ticks}
 use Rattle.widening_engine.proofs.Refreshing.{AreRefreshing}
@@ -7,6 +8,6 @@ use Rattle.widening_engine.proofs.kept.Kept.refresh.Given as goal
 
 abbrev pub invariant-loop-place : goal.invariant-loop-place
 invariant-loop-place g l = record {
-  refreshing : AreRefreshing (flow_of g.S.FlowState g.S.Lattice l.fn.code) l.changed l.fn.self l.place l.self;
-  ticked : g.S.Gauge.Meter.count l.meter ≡ after_ticks (count_by (λ edge. get_or l.changed (g.S.FlowState.source l.fn.code edge) false) (places l.place)) (g.S.Gauge.Meter.count l.fn.meter);
+  refreshing : AreRefreshing (flow_of g.S.FlowState g.S.Lattice l.fn.code) l.every l.changed l.fn.self l.place l.self;
+  ticked : g.S.Gauge.Meter.count l.meter ≡ after_ticks (count_by (is_computed (flow_of g.S.FlowState g.S.Lattice l.fn.code) l.every l.changed) (places l.place)) (g.S.Gauge.Meter.count l.fn.meter);
 }

@@ -3,7 +3,7 @@ use Rattle.widening_engine.specs.Limits.{limit_of, unit_flow}
 use Rattle.widening_engine.specs.Work.{work}
 use Rattle.widening_engine.proofs.Seeking.{at_most}
 use Rattle.widening_engine.proofs.UnitSizes.{spelled}
-use Rattle.widening_engine.proofs.dirty.DirtyFinder.find.Goals as goal
+use Rattle.widening_engine.proofs.finder.find_invariant.Goals as goal
 
 pub unit_bytes-requires : goal.unit_bytes-requires
 unit_bytes-requires c = record { fields = spelled c.args.code.now c.requires.lawful }
@@ -13,10 +13,10 @@ unfolding limit_of
 returns-clause-value c = c.in_ok-states-2.ensures ∙ ap (map (λ a. a.state)) c.in_ok-states.ensures.value
 
 pub returns-in_err-states-2-clause-work : goal.returns-in_err-states-2-clause-work
-returns-in_err-states-2-clause-work c = at_most (λ equal. work equal (unit_flow c.args.code.now)) _ _ c.in_ok-states.ensures.ticked
+returns-in_err-states-2-clause-work c = at_most c.args.every (λ equal. work equal (unit_flow c.args.code.now)) _ _ c.in_ok-states.ensures.ticked
 
 pub returns-in_err-push-clause-work : goal.returns-in_err-push-clause-work
-returns-in_err-push-clause-work c = at_most (λ equal. work equal (unit_flow c.args.code.now)) _ _ c.in_ok-states.ensures.ticked
+returns-in_err-push-clause-work c = at_most c.args.every (λ equal. work equal (unit_flow c.args.code.now)) _ _ c.in_ok-states.ensures.ticked
 
 pub returns-clause-work : goal.returns-clause-work
-returns-clause-work c = at_most (λ equal. work equal (unit_flow c.args.code.now)) _ _ c.in_ok-states.ensures.ticked
+returns-clause-work c = at_most c.args.every (λ equal. work equal (unit_flow c.args.code.now)) _ _ c.in_ok-states.ensures.ticked

@@ -4,25 +4,25 @@ use Rattle.widening_engine.specs.Rounds.{Flow}
 use Rattle.widening_engine.proofs.Marks.{heads_in_flow}
 use Rattle.widening_engine.proofs.Rounds.{limit_from}
 use Rattle.widening_engine.proofs.Seeking.{begun_most, sought_within, whole, whole_most}
-use Rattle.widening_engine.proofs.keeping.kept_rounds.Goals as goal
+use Rattle.widening_engine.proofs.keeping.kept_limit.Goals as goal
 
 pub returns-in_err-kept-clause-work : goal.returns-in_err-kept-clause-work
 returns-in_err-kept-clause-work g c =
     let flow : Flow _ = flow_of g.S.FlowState g.S.Lattice c.args.code.now in
     let first = g.S.Gauge.Meter.count c.args.meter.now in
-    begun_most flow first _ c.begin.ensures.most
+    begun_most flow c.args.every first _ c.begin.ensures.most
 
 pub returns-in_err-seek_or_forget-clause-work : goal.returns-in_err-seek_or_forget-clause-work
 returns-in_err-seek_or_forget-clause-work g c =
     let flow : Flow _ = flow_of g.S.FlowState g.S.Lattice c.args.code.now in
     let first = g.S.Gauge.Meter.count c.args.meter.now in
-    sought_within flow first _ _ c.in_ok-kept.ensures.ticked c.seek_or_forget.ensures.most
+    sought_within flow c.args.every first _ _ c.in_ok-kept.ensures.ticked c.seek_or_forget.ensures.most
 
 pub returns-in_err-states-clause-work : goal.returns-in_err-states-clause-work
 returns-in_err-states-clause-work g c =
     let flow : Flow _ = flow_of g.S.FlowState g.S.Lattice c.args.code.now in
     let first = g.S.Gauge.Meter.count c.args.meter.now in
-    whole_most flow first _ _ _ _ c.in_ok-kept.ensures.ticked c.in_ok-seek_or_forget.ensures.states c.in_ok-seek_or_forget.ensures.ticked c.settle.ensures.most
+    whole_most flow c.args.every first _ _ _ _ c.in_ok-kept.ensures.ticked c.in_ok-seek_or_forget.ensures.states c.in_ok-seek_or_forget.ensures.ticked c.settle.ensures.most
 
 pub returns-clause-value : goal.returns-clause-value
 returns-clause-value g c =
@@ -34,13 +34,13 @@ pub returns-clause-work : goal.returns-clause-work
 returns-clause-work g c =
     let flow : Flow _ = flow_of g.S.FlowState g.S.Lattice c.args.code.now in
     let first = g.S.Gauge.Meter.count c.args.meter.now in
-    whole_most flow first _ _ _ _ c.in_ok-kept.ensures.ticked c.in_ok-seek_or_forget.ensures.states c.in_ok-seek_or_forget.ensures.ticked c.settle.ensures.most
+    whole_most flow c.args.every first _ _ _ _ c.in_ok-kept.ensures.ticked c.in_ok-seek_or_forget.ensures.states c.in_ok-seek_or_forget.ensures.ticked c.settle.ensures.most
 
 pub returns-clause-ticked : goal.returns-clause-ticked
 returns-clause-ticked g c =
     let flow : Flow _ = flow_of g.S.FlowState g.S.Lattice c.args.code.now in
     let first = g.S.Gauge.Meter.count c.args.meter.now in
-    whole flow first _ _ _ _ c.in_ok-kept.ensures.ticked c.in_ok-seek_or_forget.ensures.states c.in_ok-seek_or_forget.ensures.ticked c.in_ok-states.ensures.ticked
+    whole flow c.args.every first _ _ _ _ c.in_ok-kept.ensures.ticked c.in_ok-seek_or_forget.ensures.states c.in_ok-seek_or_forget.ensures.ticked c.in_ok-states.ensures.ticked
 
 pub begin-requires-clause-count : goal.begin-requires-clause-count
 begin-requires-clause-count g c =
