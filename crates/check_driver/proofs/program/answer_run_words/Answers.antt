@@ -8,4 +8,4 @@ answer_run-requires g c = record { args = are_arguments (c.args.run.args_end - 3
 pub returns : goal.returns
 returns g c =
     let args = words_between (c.args.run.args_end - 3) 3 c.args.words.now in
-    rw (c.as_bytes.ensures.value, c.word_at-name.ensures, c.as_bytes-2.ensures.value, c.word_at-method.ensures, args) at c.answer_run.ensures
+    rw (c.names_at.ensures.file, c.names_at.ensures.method, args) at c.answer_run.ensures
