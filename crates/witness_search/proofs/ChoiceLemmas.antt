@@ -1,13 +1,12 @@
 -- The lists that come after some choices.
-use Rattle.std.proofs.Common.{◌≡◌, ℕ, zero, suc, ◌+◌, ◌<◌, ◌≤◌, nat_lt, Bool, true, false, if◌then◌else◌, List, [], ◌∷◌, ◌++◌, length, map, drop, get_or, refl, sym, ap, subst, ◌∙◌, arith}
-use Rattle.std.specs.List.{AllByRecursion}
+use Rattle.std.proofs.Common.{◌≡◌, ◌+◌, ◌<◌, ◌≤◌, nat_lt, Bool, true, false, if◌then◌else◌, List, [], ◌∷◌, ◌++◌, length, map, drop, get_or, refl, sym, ap, subst, ◌∙◌, arith}
 use Rattle.std.proofs.lemmas.Bool.{lt-ltb, ltb-false, ltb-true}
 use Rattle.std.proofs.Math.ListN.{drop_of_length-le}
 use Rattle.std.proofs.lemmas.List.{drop_more}
 use Rattle.cil_model.specs.declared.arg.Arg.{Arg}
 use Rattle.cil_model.specs.declared.arg.Arg.TheVariants as args
 use Rattle.witness_search.specs.Choices.{choices}
-use Rattle.witness_search.specs.ListsLeft.{AreChosen, IsMade, IsNextOf, chosen_list, lists_from, next_of, value_of, values_in, went_on}
+use Rattle.witness_search.specs.ListsLeft.{IsMade, IsNextOf, chosen_list, lists_from, value_of, values_in, went_on}
 use Rattle.witness_search.specs.declared.choice.Choice.{Choice}
 
 -- The choices from a list of values on for the first parameter.

@@ -1,10 +1,9 @@
 -- A method of which a run ends in a fault is not safe.
-use Rattle.std.proofs.Common.{◌≡◌, ℕ, zero, suc, Bool, true, false, is_none, List, [], ◌∷◌, ◌++◌, map, take, length, Option, Some, None, slice_get, if◌then◌else◌, refl, sym, ap, subst, ◌∙◌, arith}
-use Rattle.std.specs.List.{AllByRecursion}
+use Rattle.std.proofs.Common.{◌≡◌, ℕ, zero, suc, Bool, true, false, List, Option, Some, None, slice_get, if◌then◌else◌, refl, sym, ap, subst, ◌∙◌}
 use Rattle.std.proofs.lemmas.Option.{same_Some}
 use Rattle.cil_model.specs.Calls.{clauses_in_force}
 use Rattle.cil_model.specs.Clauses.{false_requires}
-use Rattle.cil_model.specs.Runs.{Runs, Safe, Step, StepsTo, entry_config}
+use Rattle.cil_model.specs.Runs.{Safe, Step, StepsTo}
 use Rattle.cil_model.specs.declared.arg.Arg.{Arg}
 use Rattle.cil_model.specs.declared.machine.Config.{Config}
 use Rattle.cil_model.specs.declared.machine.Config.TheVariants as configs
@@ -17,7 +16,6 @@ use Rattle.cil_eval.specs.Outcome.{State, Turn, To, Ends, Stuck, config_of, outc
 use Rattle.cil_eval.specs.Starts.{requires_refusal, start_refusal, start_state, unit_refusal}
 use Rattle.cil_eval.specs.declared.limits.Limits.{Limits}
 use Rattle.cil_eval.specs.declared.start_refusal.StartRefusal.TheVariants as refusals
-use Rattle.cil_eval.specs.declared.stop.Stop.{Stop}
 use Rattle.cil_eval.specs.declared.stop.Stop.TheVariants as stops
 use Rattle.cil_eval.proofs.GivenValues.{may_begin}
 use Rattle.cil_eval.proofs.TurnSteps.{Comes, turn_steps}

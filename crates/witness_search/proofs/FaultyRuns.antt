@@ -1,5 +1,5 @@
 -- A method with which a search finds a fault is not safe.
-use Rattle.std.proofs.Common.{◌≡◌, ℕ, true, List, ◌∷◌, ◌++◌, subst}
+use Rattle.std.proofs.Common.{◌≡◌, ℕ, true, List, ◌∷◌, subst}
 use Rattle.std.specs.List.{AllByRecursion}
 use Rattle.cil_model.specs.Runs.{Safe}
 use Rattle.cil_model.specs.declared.arg.Arg.{Arg}

@@ -1,5 +1,5 @@
 -- What is found, list by list.
-use Rattle.std.proofs.Common.{◌≡◌, ◌≢◌, ℕ, zero, suc, ◌+◌, ◌<◌, ◌≤◌, Bool, true, false, is_none, is_some, List, [], ◌∷◌, ◌++◌, length, take, drop, Option, Some, None, IfSome, slice_get, get_or, unwrap_or, cond, refl, sym, ap, subst, ◌∙◌, arith}
+use Rattle.std.proofs.Common.{◌≡◌, ℕ, zero, suc, ◌+◌, ◌<◌, ◌≤◌, Bool, true, false, is_some, List, [], ◌∷◌, ◌++◌, length, take, drop, Option, Some, None, IfSome, slice_get, get_or, unwrap_or, cond, refl, sym, ap, subst, ◌∙◌, arith}
 use Rattle.std.specs.List.{AllByRecursion, cons_option, filter, filter_map}
 use Rattle.std.specs.Option.{option_map_or}
 use Rattle.std.proofs.lemmas.List.{length-append, length-take-le, take_all}
@@ -14,7 +14,6 @@ use Rattle.cil_eval.specs.declared.stop.Stop.{Stop}
 use Rattle.cil_eval.specs.declared.stop.Stop.TheVariants as stops
 use Rattle.witness_search.specs.Choices.{argument_lists}
 use Rattle.witness_search.specs.Searches.{EndsInNoFault, HasTried, ending, fault_in, fault_of, found_among, is_started, not_found, searched}
-use Rattle.witness_search.specs.declared.answer.Search.{Search}
 use Rattle.witness_search.specs.declared.answer.Search.TheVariants as searches
 
 -- ---- lists

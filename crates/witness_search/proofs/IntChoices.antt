@@ -1,5 +1,5 @@
 -- The numbers in the lists that are tried are int32.
-use Rattle.std.proofs.Common.{ℕ, ℤ, ◌+◌, ◌∷◌, ◌++◌, pos, negsuc, Bool, true, false, List, [], map, take, Option, Some, None, slice_get, if◌then◌else◌, arith}
+use Rattle.std.proofs.Common.{ℕ, ℤ, ◌+◌, ◌∷◌, ◌++◌, pos, Bool, true, false, List, [], map, take, Option, Some, None, slice_get, if◌then◌else◌, arith}
 use Rattle.std.specs.Prelude.{FitsSigned}
 use Rattle.std.specs.Int.{w32}
 use Rattle.std.specs.List.{AllByRecursion, flat_map}

@@ -1,24 +1,21 @@
 -- What a search tells of the lists that it tried.
-use Rattle.std.proofs.Common.{◌≡◌, ℕ, Bool, true, false, is_none, List, [], ◌∷◌, ◌++◌, Option, Some, None, slice_get, unwrap_or, if◌then◌else◌, refl, sym, ap, subst, ◌∙◌}
-use Rattle.std.specs.List.{AllByRecursion, filter_map}
+use Rattle.std.proofs.Common.{◌≡◌, ℕ, is_none, List, Option, Some, None, slice_get, unwrap_or, if◌then◌else◌, refl, sym, subst}
+use Rattle.std.specs.List.{filter_map}
 use Rattle.std.specs.Option.{option_and_then}
 use Rattle.std.proofs.lemmas.Option.{same_Some}
-use Rattle.cil_model.specs.Runs.{Safe}
 use Rattle.cil_model.specs.declared.arg.Arg.{Arg}
 use Rattle.cil_model.specs.declared.machine.FaultKind.{FaultKind}
 use Rattle.cil_model.specs.declared.machine.World.{World}
 use Rattle.cil_model.specs.declared.unit.Unit.{Unit as MethodUnit}
-use Rattle.cil_model.proofs.Lists.{all_split}
-use Rattle.cil_eval.specs.Given.{AreInts}
 use Rattle.cil_eval.specs.Outcome.{outcome}
 use Rattle.cil_eval.specs.Starts.{start_refusal, start_state}
 use Rattle.cil_eval.specs.declared.start_refusal.StartRefusal.{StartRefusal}
 use Rattle.cil_eval.specs.declared.stop.Stop.{Stop}
 use Rattle.cil_eval.specs.declared.stop.Stop.TheVariants as stops
-use Rattle.witness_search.specs.Searches.{HasNoFault, IsFirstFault, Tells, ending, fault_in, fault_of, found_among, is_found, not_found, outcome_of, search_limits, searched, tried_lists}
+use Rattle.witness_search.specs.Searches.{Tells, ending, fault_in, fault_of, found_among, not_found, outcome_of, search_limits, searched, tried_lists}
 use Rattle.witness_search.specs.declared.answer.Search.{Search}
 use Rattle.witness_search.specs.declared.answer.Search.TheVariants as searches
-use Rattle.witness_search.proofs.FoundLemmas.{GivesFirst, give_nothing, gives_first}
+use Rattle.witness_search.proofs.FoundLemmas.{give_nothing, gives_first}
 
 -- ---- one list
 
