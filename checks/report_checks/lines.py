@@ -41,24 +41,24 @@ method 06000003 Lines::First(int32[]): unproved
 CONTEXT = """\
 Lines.dll
   unproved Lines::Sum(int32,int32)
-Lines.cs(9,9): warning CC0003: not proved: the condition of an Assert holds (assert at IL_000f)
+Lines.cs(9,9): warning CC0003: not proved that the condition of an Assert holds (assert at IL_000f)
         Contract.Assert(low >= 0);
         condition: low >= 0
-Lines.cs(10,9): warning CC0003: not proved: the condition of an Assert holds (assert at IL_0036)
+Lines.cs(10,9): warning CC0003: not proved that the condition of an Assert holds (assert at IL_0036)
         Contract.Assert(
         condition: b >= 0 && (low < 256 || a == ')')
-Lines.cs(15,9): warning CC0009: not proved: the checked sum, difference or product is an int (overflow at IL_003d)
+Lines.cs(15,9): warning CC0009: not proved that the checked sum, difference or product is an int (overflow at IL_003d)
         return checked(low + b);
   unproved Lines::Part(int32[],int32)
-Lines.cs(22,9): warning CC0002: not proved: the method's own Ensures holds at its return (ensures 1 at IL_0034)
+Lines.cs(22,9): warning CC0002: not proved that the method's own Ensures holds at its return (ensures 1 at IL_0034)
         return numbers[at];
         condition: Contract.Result<int>() >= 0  [Lines.cs(21,9)]
   unproved Lines::First(int32[])
-Lines.cs(31,9): warning CC0001: not proved: a Requires of the called method holds \
+Lines.cs(31,9): warning CC0001: not proved that a Requires of the called method holds \
 (requires 1 of Lines::Part(int32[],int32) at IL_0018)
         return Part(numbers, 0);
         condition: numbers != null  [Lines.cs(20,9)]
-Lines.cs(31,9): warning CC0001: not proved: a Requires of the called method holds \
+Lines.cs(31,9): warning CC0001: not proved that a Requires of the called method holds \
 (requires 2 of Lines::Part(int32[],int32) at IL_0018)
         return Part(numbers, 0);
         condition: 0 <= at && at < numbers.Length  [Lines.cs(20,45)]
@@ -119,8 +119,9 @@ def look_at_places(folder, form):
 
 def points_of_mdb(folder):
     """What the reader of symbols prints of Lines.dll, as rows of fields."""
-    cache = os.environ.get("XDG_CACHE_HOME") or os.path.expanduser("~/.cache")
-    reader = max(glob.glob(os.path.join(cache, "cccheck/source_lines-*.exe")), key=os.path.getmtime)
+    ask = "from reporting.source_lines import compiled_reader; print(compiled_reader(), end='')"
+    reader = subprocess.run([sys.executable, "-B", "-c", ask], capture_output=True, text=True, check=True,
+                            cwd=os.path.join(TOP, "tools")).stdout
     printed = subprocess.run(["mono", reader, os.path.join(folder, "Lines.dll")], capture_output=True, text=True,
                              check=True).stdout
     return [line.split("\t") for line in printed.splitlines()]

@@ -2,6 +2,7 @@
 import json
 import os
 import re
+import shutil
 
 from report_checks.common import on_terminal, ran, report, stand_in, want, whole
 from report_checks.lines import compile_lines
@@ -43,14 +44,14 @@ ANSWERS = {
 TEXT = """\
 Lines.dll
   unproved Lines::Sum(int32,int32)
-Lines.cs(10,9): warning CC0003: not proved: the condition of an Assert holds (assert at IL_0036)
+Lines.cs(10,9): warning CC0003: not proved that the condition of an Assert holds (assert at IL_0036)
 Lines.cs(15,9): warning CC0009: wrong: Lines::Sum(255, 2147483647) faults here (overflow at IL_003d)
   unproved Lines::Part(int32[],int32)
-Lines.cs(22,9): warning CC0006: not proved: the index is below the array's length (upper bound at IL_0033)
+Lines.cs(22,9): warning CC0006: not proved that the index is below the array's length (upper bound at IL_0033)
 Lines.cs(22,9): warning CC0002: wrong: Lines::First([1,2]) faults here (ensures 1 at IL_0034)
     not shown: 45 argument lists tried, 7 started
   unproved Lines::First(int32[])
-Lines.cs(29,13): warning CC0004: not proved: the array is not null (null at IL_000a)
+Lines.cs(29,13): warning CC0004: not proved that the array is not null (null at IL_000a)
     wrong: Lines::First([1,2]) faults at Lines.cs(22,9): ensures 1 at IL_0034 in Lines::Part(int32[],int32)
   unproved Lines::Safe()
     IL_0000 overflow
@@ -85,7 +86,7 @@ REFUTATIONS = [
 
 
 def script_of(answers):
-    """A launcher that prints the report, answers `refute`, and waits until two ask at a time."""
+    """A launcher that prints the report, and a program that answers `refute`, and waits until two ask at a time."""
     cases = "".join(
         f"'{name}')\n    printf '%s\\n' {' '.join(repr(line) for line in lines)} >&{2 if status == 11 else 1}\n"
         f"    exit {status}\n    ;;\n"
@@ -96,8 +97,11 @@ if [[ $1 == check ]]; then
     cat "$folder/report"
     exit 1
 fi
-[[ $1 != --program ]] || exit 0
-[[ $1 == refute && $2 == Lines.dll && $# == 3 ]] || exit 2
+if [[ $1 == --program ]]; then
+    echo "$folder/program"
+    exit 0
+fi
+[[ $0 == */program && $1 == refute && $2 == Lines.dll && $# == 3 ]] || exit 2
 echo "$3" >>"$folder/asked"
 for ((k = 0; k < 100; k++)); do
     [[ $(wc -l <"$folder/asked") -lt 2 ]] || break
@@ -113,6 +117,7 @@ def look_at_refuting(folder):
     os.mkdir(os.path.join(folder, "refuting"))
     folder = os.path.join(folder, "refuting")
     tool = stand_in(folder, script_of(ANSWERS))
+    shutil.copy(os.path.join(folder, "cccheck"), os.path.join(folder, "program"))
     with open(os.path.join(folder, "report"), "w", encoding="ascii") as file:
         file.write(whole(REPORT))
     compile_lines(folder)

@@ -18,7 +18,7 @@ method 06000003 A::c(int32): unproved
   IL_0002 divide overflow: unproved
   IL_0009 requires 1 of A::d(int32): unproved
   IL_0009 requires 2 of A::d(int32): unproved
-assembly b/Other.dll
+assembly b/Alike.dll
 method 06000003 A::c(int32): unproved
   IL_0002 divide by zero: unproved
 """

@@ -62,7 +62,7 @@ def region_of(place):
 
 def fingerprints(path, finding):
     """What stays where other lines and methods change, and where another obligation is proved."""
-    made_of = "\n".join((os.path.basename(path), finding.method.name, finding.kind))
+    made_of = "\n".join(counted_as(path, finding.method, finding.kind))
     value = f"{hashlib.sha256(made_of.encode()).hexdigest()[:16]}:{finding.count}"
     return {FINGERPRINT: value, GITHUB_FINGERPRINT: value}
 
@@ -110,18 +110,25 @@ def obligation_finding(report, method, it, count):
     return Finding(method, kind_number(it.kind), it.kind, text, it.offset, "warning", count, it)
 
 
-def findings(report, only):
-    """The findings of a report. Methods that print alike are counted as one, and what is proved is counted too."""
-    before = collections.Counter()
+def counted_as(path, method, kind):
+    """What is counted as one: assemblies of one file name, as in two folders, and methods that print alike."""
+    return os.path.basename(path), method.name, kind
+
+
+def findings(report, only, before):
+    """The findings of a report, after so many of each kind. What is proved is counted too."""
     for method in report.methods:
         is_asked = method.verdict in (only or VERDICTS)
-        if method.reason and is_asked:
-            yield reason_finding(method, before[method.name, method.reason])
+        if method.reason:
+            counted = counted_as(report.path, method, method.reason)
+            if is_asked:
+                yield reason_finding(method, before[counted])
+            before[counted] += 1
         for it in method.obligations:
+            counted = counted_as(report.path, method, it.kind)
             if is_asked and not it.proved:
-                yield obligation_finding(report, method, it, before[method.name, it.kind])
-            before[method.name, it.kind] += 1
-        before[method.name, method.reason] += 1
+                yield obligation_finding(report, method, it, before[counted])
+            before[counted] += 1
 
 
 class Log:
@@ -131,6 +138,8 @@ class Log:
         self.rules = list(rules())
         self.index_of = {rule["id"]: index for index, rule in enumerate(self.rules)}
         self.artifacts, self.logical, self.results, self.notes = {}, {}, [], []
+        # How many findings of each kind came before.
+        self.before = collections.Counter()
 
     def artifact(self, path):
         uri = uri_of(path)
@@ -177,7 +186,7 @@ class Log:
                 "message": {"text": text},
                 "locations": [{"physicalLocation": {"artifactLocation": self.artifact(report.path)}}],
             })
-        for finding in findings(report, only):
+        for finding in findings(report, only, self.before):
             self.add_finding(report, finding)
 
     def json(self, succeeded):

@@ -10,7 +10,7 @@ from reporting.reports import VERDICTS
 from reporting.source_text import condition_of, line_at
 
 COLOURS = {"proved": "32", "unproved": "31", "not-analysed": "33"}
-OTHER_KIND = ("what this obligation asks", "")
+OTHER_KIND = ("this obligation holds", "")
 
 
 class Printer:
@@ -44,7 +44,7 @@ class Printer:
             print(f"    {label} {it.text}{found and ': ' + found}")
             return
         asks = KINDS.get(it.kind, OTHER_KIND)[0]
-        print(f"{place}: warning {kind_number(it.kind)}: {found or 'not proved: ' + asks} ({it.text} at {label})")
+        print(f"{place}: warning {kind_number(it.kind)}: {found or 'not proved that ' + asks} ({it.text} at {label})")
         if self.has_context:
             self.context(report, method, it, place)
 
