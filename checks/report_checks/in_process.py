@@ -38,7 +38,8 @@ class Report:
         sys.path.remove(tools)
 
     def __call__(self, *words, given=""):
-        out, err, argv, stdin = io.StringIO(), io.StringIO(), sys.argv, sys.stdin
+        out, err = (io.TextIOWrapper(io.BytesIO(), encoding="utf-8", write_through=True) for _ in range(2))
+        argv, stdin = sys.argv, sys.stdin
         sys.argv, sys.stdin, status = ["tools/report", *words], io.StringIO(given), 0
         try:
             with contextlib.redirect_stdout(out), contextlib.redirect_stderr(err):
@@ -47,7 +48,7 @@ class Report:
             status = ended.code or 0
         finally:
             sys.argv, sys.stdin = argv, stdin
-        return Done(status, out.getvalue(), err.getvalue())
+        return Done(status, out.buffer.getvalue().decode("utf-8"), err.buffer.getvalue().decode("utf-8"))
 
 
 def is_caught(folder, bug, look_at_all):

@@ -2,6 +2,7 @@
 import json
 import os
 import re
+import shutil
 
 from report_checks.common import on_terminal, ran, report, stand_in, want, whole
 from report_checks.lines import compile_lines
@@ -85,7 +86,7 @@ REFUTATIONS = [
 
 
 def script_of(answers):
-    """A launcher that prints the report, answers `refute`, and waits until two ask at a time."""
+    """A launcher that prints the report, and a program that answers `refute`, and waits until two ask at a time."""
     cases = "".join(
         f"'{name}')\n    printf '%s\\n' {' '.join(repr(line) for line in lines)} >&{2 if status == 11 else 1}\n"
         f"    exit {status}\n    ;;\n"
@@ -96,8 +97,11 @@ if [[ $1 == check ]]; then
     cat "$folder/report"
     exit 1
 fi
-[[ $1 != --program ]] || exit 0
-[[ $1 == refute && $2 == Lines.dll && $# == 3 ]] || exit 2
+if [[ $1 == --program ]]; then
+    echo "$folder/program"
+    exit 0
+fi
+[[ $0 == */program && $1 == refute && $2 == Lines.dll && $# == 3 ]] || exit 2
 echo "$3" >>"$folder/asked"
 for ((k = 0; k < 100; k++)); do
     [[ $(wc -l <"$folder/asked") -lt 2 ]] || break
@@ -113,6 +117,7 @@ def look_at_refuting(folder):
     os.mkdir(os.path.join(folder, "refuting"))
     folder = os.path.join(folder, "refuting")
     tool = stand_in(folder, script_of(ANSWERS))
+    shutil.copy(os.path.join(folder, "cccheck"), os.path.join(folder, "program"))
     with open(os.path.join(folder, "report"), "w", encoding="ascii") as file:
         file.write(whole(REPORT))
     compile_lines(folder)
