@@ -1,5 +1,5 @@
-// What docs/KNOWLEDGE.md shows, as whole methods. Before each stands its verdict, and of an unproved one the obligations
-// that are not proved. checks/knowledge compiles and checks them, and looks for each form of the page here.
+// What docs/KNOWLEDGE.md shows, as whole methods. Before each stands its verdict, and of an unproved one which
+// obligations are not proved. checks/knowledge compiles and checks them, and looks for each form of the page here.
 using System.Diagnostics.Contracts;
 
 public static class Knowledge

@@ -173,7 +173,7 @@ def read_baseline(path):
 # ---- compared
 
 def successors(before, now):
-    """For each method that is gone the new one that stands for it: of its name, with other parameters or another number.
+    """For each method that is gone the new one of its name, with other parameters, that stands for it.
 
     Where there are several, the most proved stands for the most proved.
     """
@@ -201,7 +201,7 @@ def compare_obligations(found, key, old, new):
             worse = [f"{key}: new and unproved: {text} {it} of {now.total}" for it in now.numbers - before.numbers]
             better = [f"{key}: no more unproved: {text} {it} of {before.total}" for it in before.numbers - now.numbers]
         found.worse += worse
-        # The change of the verdict says it of a method that is proved now, and of one that is not analysed it is not so.
+        # Of a method that is proved now the verdict says it; of one that is not analysed nothing is better.
         found.better += better if new.verdict == "unproved" else []
 
 

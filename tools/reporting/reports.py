@@ -48,7 +48,7 @@ class Method:
     offset: int | None = None
     obligations: list = dataclasses.field(default_factory=list)
     refutation: Refutation | None = None
-    # Of a method that is not analysed: the instruction that may not stand, where it was looked up, and what was written.
+    # Of a method that is not analysed: the instruction that is to blame, where it was looked up, and what was written.
     instruction: str = ""
     form: Form | None = None
 
