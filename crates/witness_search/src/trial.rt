@@ -16,7 +16,7 @@ pub(crate) const LIMITS: Limits = Limits {
 };
 
 /// A fault in which a run ended.
-#[derive(Clone, Copy, Debug)]
+#[derive(Clone, Copy)]
 pub(crate) struct Fault {
     pub kind: FaultKind,
     /// The index in the world of the unit that it is in.
