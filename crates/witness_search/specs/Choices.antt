@@ -26,7 +26,8 @@ bool_arrays = [] ∷ (false ∷ []) ∷ (true ∷ false ∷ []) ∷ []
 abbrev pub same_as_from : ℕ → Place → List Place → List Arg
 same_as_from k place [] = []
 same_as_from k place (earlier ∷ others) =
-    if same_place earlier place then args.Same k ∷ same_as_from (k + 1) place others else same_as_from (k + 1) place others
+    if same_place earlier place then args.Same k ∷ same_as_from (k + 1) place others
+    else same_as_from (k + 1) place others
 
 -- What each earlier parameter of this type was given, whatever that is.
 abbrev pub same_as : Place → List Place → List Arg

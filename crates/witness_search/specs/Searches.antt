@@ -31,7 +31,8 @@ outcome_of w index given unit = outcome w search_limits search_limits.steps (sta
 
 -- How the run of the method of this index with these arguments ends, if it starts.
 abbrev pub ending : World → ℕ → List Arg → Option Stop
-ending w index given = if is_started w index given then option_and_then (outcome_of w index given) (slice_get w.units index) else None
+ending w index given =
+    if is_started w index given then option_and_then (outcome_of w index given) (slice_get w.units index) else None
 
 -- A fault is found, and no other end.
 abbrev pub fault_in : List Arg → Option Stop → Option Search
@@ -54,7 +55,8 @@ found_among w index lists = unwrap_or (slice_get (filter_map (fault_of w index) 
 
 -- The lists that are tried of the method of this index: the first ones, so many at most.
 abbrev pub tried_lists : World → ℕ → ℕ → List (List Arg)
-tried_lists w index runs = take runs (option_map_or (λ (unit : MethodUnit). argument_lists unit.args) (slice_get w.units index) [])
+tried_lists w index runs =
+    take runs (option_map_or (λ (unit : MethodUnit). argument_lists unit.args) (slice_get w.units index) [])
 
 -- What is found of the method of this index, where so many lists are tried at most.
 unfoldable pub searched : World → ℕ → ℕ → Search
