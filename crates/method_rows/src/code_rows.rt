@@ -25,11 +25,7 @@ fn no_instruction_stands_behind_the_code(rt: HostRuntime) -> Result<(), Fail> {
     for (code, at) in ENDS {
         assert!(rt; code.len() <= 100);
         let found = decode_one(alloc, code, at).err();
-        assert_eq!(rt;
-            found,
-            Some(IlRefusal::Bad(IlFault::Short(at))),
-            "at {at} of {code:?}"
-        );
+        assert_eq!(rt; found, Some(IlRefusal::Bad(IlFault::Short(at))), "at {at}");
     }
     Ok(())
 }

@@ -4,28 +4,27 @@ use crate::steps::{joined, shape};
 use cc_base::Refusal;
 use cil_model::Place;
 use clause_faults::ClauseFault;
-use contract_extract::{Contracts, extract};
+use contract_extract::extract;
 use il_decoder::decode;
 use std::alloc::{AllocError, Global};
 use std::process::Abort;
 use std::test::Fail;
 
-/// Returns what is read of code in a method with result int32, or its first fault.
+/// The first fault of the clauses of code in a method with result int32, if it has one.
 #[tactic(auto, using(cil_model::proofs::ShortCodes::code_is_short))]
-fn read(
+fn fault_of(
     rt: &impl Abort,
     alloc: Global,
     code: &[u8],
-) -> Result<Result<Contracts, ClauseFault>, AllocError> {
+) -> Result<Option<ClauseFault>, AllocError> {
     assert!(rt; code.len() <= 100_000);
-    let Ok(instrs) = decode(alloc, code) else {
-        assert!(rt; false, "no code");
-        return Err(AllocError);
-    };
     let shape = shape(alloc, Place::Int, 8)?;
+    let Ok(instrs) = decode(alloc, code) else {
+        panic!(rt; "no code");
+    };
     match extract(alloc, &instrs, &shape) {
-        Ok(contracts) => Ok(Ok(contracts)),
-        Err(Refusal::Bad(fault)) => Ok(Err(fault)),
+        Ok(_) => Ok(None),
+        Err(Refusal::Bad(fault)) => Ok(Some(fault)),
         Err(Refusal::NoMemory) => Err(AllocError),
     }
 }
@@ -46,7 +45,7 @@ fn a_tree_of_code_has_4096_nodes(rt: HostRuntime) -> Result<(), Fail> {
     ];
     for (count, fault) in rows {
         let code = operators(alloc, count)?;
-        assert_eq!(rt; read(&rt, alloc, &code)?.err(), fault);
+        assert_eq!(rt; fault_of(&rt, alloc, &code)?, fault);
     }
     Ok(())
 }

@@ -1,6 +1,5 @@
 //! Flow graphs of code that no verdict depends on: the starts of blocks, the edges and the heads of loops.
 
-use cc_base::Refusal;
 use cil_model::{List, Place, Unit};
 use flow_graph::{Edge, Graph};
 use il_decoder::decode;
@@ -44,58 +43,52 @@ const ROWS: [Row; 3] = [
     },
 ];
 
-fn list<T: Drop>(alloc: Global) -> List<T> {
-    List::from_vec(Vec::new(alloc))
-}
-
-fn graph(
+/// The graph of a method of this code without arguments, locals and contracts.
+fn graph_of(
     rt: &impl Abort,
     alloc: Global,
     code: &[u8],
     body_start: u32,
 ) -> Result<Graph, AllocError> {
     assert!(rt; code.len() <= 100);
-    let instrs = decode(alloc, code);
-    assert!(rt; !matches!(instrs, Err(Refusal::Bad(_))), "{code:?}");
-    let Ok(instrs) = instrs else {
-        return Err(AllocError);
+    let bytes = Vec::from_slice(alloc, code)?;
+    let Ok(instrs) = decode(alloc, code) else {
+        panic!(rt; "no code");
     };
     let unit = Unit {
-        name: list(alloc),
+        name: List::from_vec(Vec::new(alloc)),
         result: Place::Void,
-        args: list(alloc),
-        locals: list(alloc),
+        args: List::from_vec(Vec::new(alloc)),
+        locals: List::from_vec(Vec::new(alloc)),
         max_stack: 8,
-        callees: list(alloc),
-        code: List::from_vec(Vec::from_slice(alloc, code)?),
-        clauses: list(alloc),
+        callees: List::from_vec(Vec::new(alloc)),
+        code: List::from_vec(bytes),
+        clauses: List::from_vec(Vec::new(alloc)),
         body_start,
         instrs: List::from_vec(instrs),
     };
     Graph::of(alloc, &unit)
 }
 
-fn edge(ends: &(u32, u32, u32)) -> Edge {
-    Edge {
-        from: ends.0,
-        to: ends.1,
-        number: ends.2,
-    }
+fn are_edges(found: &[Edge], told: &[(u32, u32, u32)]) -> bool {
+    found.len() == told.len()
+        && found.iter().zip(told.iter()).all(|(edge, ends)| {
+            edge.from == ends.0 && edge.to == ends.1 && edge.number == ends.2
+        })
 }
 
-fn assert_graph(rt: &impl Abort, alloc: Global, row: &Row) -> Result<(), AllocError> {
-    let graph = graph(rt, alloc, row.code, row.body_start)?;
-    let edges: Vec<Edge> = row.edges.iter().map(edge).collect(alloc)?;
-    assert_eq!(rt; graph.blocks.as_slice(), row.blocks, "{:?}", row.code);
-    assert_eq!(rt; graph.edges.as_slice(), edges.as_slice(), "{:?}", row.code);
-    assert_eq!(rt; graph.heads.as_slice(), row.heads, "{:?}", row.code);
-    Ok(())
+/// Returns whether the graph is that of the row.
+fn is_graph(graph: &Graph, row: &Row) -> bool {
+    graph.blocks.as_slice() == row.blocks
+        && are_edges(graph.edges.as_slice(), row.edges)
+        && graph.heads.as_slice() == row.heads
 }
 
 #[test]
 fn code_has_its_graph(rt: HostRuntime) -> Result<(), Fail> {
-    for row in &ROWS {
-        assert_graph(&rt, rt.alloc(), row)?;
+    for (row, number) in ROWS.iter().zip(1..) {
+        let graph = graph_of(&rt, rt.alloc(), row.code, row.body_start)?;
+        assert!(rt; is_graph(&graph, row), "row {number}");
     }
     Ok(())
 }

@@ -7,10 +7,9 @@ ghost use Rattle.cil_model.specs.Worlds.{info_of};
 ghost use Rattle.cil_eval.specs.RunWorlds.{CanBeRun};
 ghost use Rattle.method_unit.specs.Units.{IsUnit};
 
-use cc_base::Refusal;
+use crate::steps::unit_of;
 use cil_eval::{Limits, Machine, StartRefusal, Stop};
 use cil_model::{Arg, List, Unit, Value, World};
-use method_unit::read_unit;
 use std::alloc::{AllocError, Global};
 use std::process::Abort;
 use std::test::Fail;
@@ -83,15 +82,23 @@ const REFUSED: [(File, &[Given], u32, StartRefusal); 3] = [
     (ALIAS, &[Ints(&[1, 2]), Ints(&[])], 3, StartRefusal::Cells),
 ];
 
+/// The argument that stands in a row.
+fn arg_of(alloc: Global, given: &Given) -> Result<Arg, AllocError> {
+    match given {
+        Given::Int(n) => Ok(Arg::Int(*n)),
+        Given::Same(k) => Ok(Arg::Same(*k)),
+        Given::Ints(items) => {
+            let items = Vec::from_slice(alloc, items)?;
+            Ok(Arg::Ints(List::from_vec(items)))
+        }
+    }
+}
+
 /// The arguments that stand in a row.
 fn args_of(alloc: Global, row: &[Given]) -> Result<Vec<Arg>, AllocError> {
     let mut args = Vec::new(alloc);
     for given in row {
-        args.push(match given {
-            Given::Int(n) => Arg::Int(*n),
-            Given::Ints(items) => Arg::Ints(List::from_vec(Vec::from_slice(alloc, items)?)),
-            Given::Same(k) => Arg::Same(*k),
-        })?;
+        args.push(arg_of(alloc, given)?)?;
     }
     Ok(args)
 }
@@ -100,48 +107,41 @@ fn args_of(alloc: Global, row: &[Given]) -> Result<Vec<Arg>, AllocError> {
 fn read_world(rt: &impl Abort, alloc: Global, file: &[u8]) -> Result<World, AllocError>
     ensures { IfOk result CanBeRun }
 {
-    assert!(rt; file.len() <= 100_000);
-    match read_unit(alloc, file) {
-        Ok(unit) => {
-            let Some(world) = world_of(alloc, unit.into_unit())? else {
-                assert!(rt; false, "another method is called");
-                return Err(AllocError);
-            };
-            Ok(world)
-        }
-        Err(Refusal::Bad(fault)) => {
-            assert!(rt; false, "{fault:?}");
-            Err(AllocError)
-        }
-        Err(Refusal::NoMemory) => Err(AllocError),
+    let unit = unit_of(rt, alloc, file)?;
+    match world_of(alloc, unit.into_unit())? {
+        Some(world) => Ok(world),
+        None => panic!(rt; "another method is called"),
     }
 }
 
-/// Why a run of the method of a file does not start, if it does not.
+/// Why a run of a world's first method does not start with so many cells, if it does not.
 fn refusal_of(
-    rt: &impl Abort,
     alloc: Global,
-    file: &[u8],
-    given: &[Given],
-    limits: Limits,
-) -> Result<Option<StartRefusal>, AllocError> {
-    assert!(rt; 1 <= limits.depth);
-    let world = read_world(rt, alloc, file)?;
-    let args = args_of(alloc, given)?;
-    let mut machine = Machine::make(alloc, &world, limits)?;
-    Ok(machine.start(0, &args).err())
+    world: &World,
+    args: &[Arg],
+    cells: u32,
+) -> Result<Option<StartRefusal>, AllocError>
+    requires { CanBeRun world.now }
+{
+    let limits = Limits {
+        steps: 1000,
+        cells,
+        depth: 10,
+    };
+    let mut machine = Machine::make(alloc, world, limits)?;
+    Ok(machine.start(0, args).err())
 }
 
 #[test]
 fn runs_do_not_start(rt: HostRuntime) -> Result<(), Fail> {
-    for (file, given, cells, refusal) in REFUSED {
-        let limits = Limits {
-            steps: 1000,
-            cells,
-            depth: 10,
-        };
-        let found = refusal_of(&rt, rt.alloc(), file, given, limits)?;
-        assert_eq!(rt; found, Some(refusal), "{file:?}");
+    let alloc = rt.alloc();
+    for (file, given, cells, told) in REFUSED {
+        let args = args_of(alloc, given)?;
+        let world = read_world(&rt, alloc, file)?;
+        assert!(rt;
+            refusal_of(alloc, &world, &args, cells)? == Some(told),
+            "{cells} cells"
+        );
     }
     Ok(())
 }
@@ -182,18 +182,23 @@ fn goes_on(machine: &mut Machine<'_>) -> bool {
         && steps_to(machine, Some(end))
 }
 
+/// Returns whether a machine that was told to run another unit, and ran twice, did so.
+fn starts_anew(machine: &mut Machine<'_>, same: &[Arg], two: &[Arg]) -> bool {
+    machine.start(1, same) == Err(StartRefusal::Unit)
+        && starts(machine, same)
+        && goes_on(machine)
+        && starts(machine, two)
+        && ends_in(machine, 10, Stop::Returned(Some(Value::Int(1))))
+        && has_elements(machine, 1, &[9, 5])
+}
+
 #[test]
 fn a_machine_goes_on_and_starts_anew(rt: HostRuntime) -> Result<(), Fail> {
     let alloc = rt.alloc();
-    let world = read_world(&rt, alloc, ALIAS)?;
     let same = args_of(alloc, &[Ints(&[1, 2]), Same(0)])?;
     let two = args_of(alloc, &[Ints(&[1]), Ints(&[4, 5])])?;
+    let world = read_world(&rt, alloc, ALIAS)?;
     let mut machine = Machine::make(alloc, &world, WIDE)?;
-    assert!(rt; machine.start(1, &same) == Err(StartRefusal::Unit));
-    assert!(rt; starts(&mut machine, &same));
-    assert!(rt; goes_on(&mut machine));
-    assert!(rt; starts(&mut machine, &two));
-    assert!(rt; ends_in(&mut machine, 10, Stop::Returned(Some(Value::Int(1)))));
-    assert!(rt; has_elements(&machine, 1, &[9, 5]));
+    assert!(rt; starts_anew(&mut machine, &same, &two));
     Ok(())
 }

@@ -1,10 +1,15 @@
-//! What tables of code share: operations, and the code and the shapes that are made of them.
+//! What tables of code share: operations, the code and the shapes that are made of them, and the units of files.
 
-ghost use Rattle.std.specs.Prelude.{◌≡◌, true};
+ghost use Rattle.std.specs.Prelude.{◌≡◌, true, IfOk};
 ghost use Rattle.cil_model.specs.Offsets.{AreLaidOut, LieFrom};
+ghost use Rattle.method_unit.specs.Units.{IsUnit};
 
+use cc_base::Refusal;
 use cil_model::{CalleeInfo, Instr, List, Op, Place, Shape};
+use method_unit::read_unit;
+use stack_typer::TypedUnit;
 use std::alloc::{AllocError, Global};
+use std::process::Abort;
 
 /// An operation in a table.
 #[derive(Clone, Copy)]
@@ -74,25 +79,34 @@ pub fn places(alloc: Global, places: &[Place]) -> Result<List<Place>, AllocError
 
 /// A method that is called, without a name.
 fn callee(alloc: Global, result_place: Place, args: &[Place]) -> Result<CalleeInfo, AllocError> {
+    let args = places(alloc, args)?;
     Ok(CalleeInfo {
         name: List::from_vec(Vec::new(alloc)),
         result: result_place,
-        args: places(alloc, args)?,
+        args,
         clauses: List::from_vec(Vec::new(alloc)),
     })
+}
+
+/// `bool[] f(int32, int32[])` and `void g()`.
+fn callees(alloc: Global) -> Result<List<CalleeInfo>, AllocError> {
+    let f = callee(alloc, Place::Bools, &[Place::Int, Place::Ints])?;
+    let g = callee(alloc, Place::Void, &[])?;
+    Ok(List::from_vec(vec![in alloc; f, g]?))
 }
 
 /// A method of four arguments, an int32, an int32[], a bool[] and a bool, of two locals, an int32 and an int32[], and
 /// of two callees, `bool[] f(int32, int32[])` and `void g()`.
 pub fn shape(alloc: Global, result_place: Place, max_stack: u16) -> Result<Shape, AllocError> {
-    let f = callee(alloc, Place::Bools, &[Place::Int, Place::Ints])?;
-    let g = callee(alloc, Place::Void, &[])?;
+    let args = places(alloc, &[Place::Int, Place::Ints, Place::Bools, Place::Bool])?;
+    let locals = places(alloc, &[Place::Int, Place::Ints])?;
+    let callees = callees(alloc)?;
     Ok(Shape {
         result: result_place,
-        args: places(alloc, &[Place::Int, Place::Ints, Place::Bools, Place::Bool])?,
-        locals: places(alloc, &[Place::Int, Place::Ints])?,
+        args,
+        locals,
         max_stack,
-        callees: List::from_vec(vec![in alloc; f, g]?),
+        callees,
     })
 }
 
@@ -103,4 +117,16 @@ pub fn joined(alloc: Global, parts: &[&[u8]]) -> Result<Vec<u8>, AllocError> {
         bytes.extend_from_slice(part)?;
     }
     Ok(bytes)
+}
+
+/// The unit of a file.
+pub fn unit_of(rt: &impl Abort, alloc: Global, file: &[u8]) -> Result<TypedUnit, AllocError>
+    ensures { IfOk result IsUnit }
+{
+    assert!(rt; file.len() <= 100_000);
+    match read_unit(alloc, file) {
+        Ok(unit) => Ok(unit),
+        Err(Refusal::NoMemory) => Err(AllocError),
+        Err(Refusal::Bad(_)) => panic!(rt; "no unit"),
+    }
 }

@@ -1,9 +1,10 @@
-//! Whole units, read from their files and written again.
-//!
-//! Expected values are the files themselves: a unit has one spelling.
+//! Whole units, read from their files and compared with each other.
 
-use cc_base::Refusal;
-use method_unit::{read_unit, same_unit, unit_bytes};
+ghost use Rattle.method_unit.specs.Units.{IsUnit};
+
+use crate::steps::unit_of;
+use cil_model::Unit;
+use method_unit::same_unit;
 use std::alloc::{AllocError, Global};
 use std::process::Abort;
 use std::test::Fail;
@@ -25,49 +26,32 @@ const FILES: [&[u8]; 12] = [
     b"CCU1\x01\0g\x02\0\0\x01\x01\0\x01\0m\x02\0\x01\x02\x07\xc2\x01\x05\0\0\0\x01\x06\0\0\0\x06\0\0\0\x28\x64\0\0\0\x2a",
 ];
 
-/// Asserts that the file is that of a unit, and is written for it again.
-fn assert_written(rt: &impl Abort, alloc: Global, file: &[u8]) -> Result<(), AllocError> {
-    assert!(rt; file.len() <= 1000);
-    match read_unit(alloc, file) {
-        Ok(unit) => {
-            let bytes = unit_bytes(alloc, unit.unit())?;
-            assert_eq!(rt; bytes.as_slice(), file);
-            Ok(())
+/// Returns whether a unit is the same as that of a file.
+fn is_same(rt: &impl Abort, alloc: Global, unit: &Unit, file: &[u8]) -> Result<bool, AllocError>
+    requires { IsUnit unit.now }
+{
+    let other = unit_of(rt, alloc, file)?;
+    Ok(same_unit(unit, other.unit()))
+}
+
+/// Returns whether a unit is the same as that of the file of this index, and as that of no other file.
+fn is_that_of(rt: &impl Abort, alloc: Global, unit: &Unit, index: usize) -> Result<bool, AllocError>
+    requires { IsUnit unit.now }
+{
+    for (at, file) in FILES.iter().enumerate() {
+        if is_same(rt, alloc, unit, file)? != (at == index) {
+            return Ok(false);
         }
-        Err(Refusal::Bad(fault)) => panic!(rt; "{fault}"),
-        Err(Refusal::NoMemory) => Err(AllocError),
     }
-}
-
-#[test]
-fn units_are_written_as_they_are_read(rt: HostRuntime) -> Result<(), Fail> {
-    for file in FILES {
-        assert_written(&rt, rt.alloc(), file)?;
-    }
-    Ok(())
-}
-
-/// Returns whether the units of two files are equal: nothing, where one of them is none.
-fn are_same(
-    rt: &impl Abort,
-    alloc: Global,
-    first: &[u8],
-    second: &[u8],
-) -> Result<Option<bool>, AllocError> {
-    assert!(rt; first.len() <= 1000 && second.len() <= 1000);
-    match (read_unit(alloc, first), read_unit(alloc, second)) {
-        (Ok(a), Ok(b)) => Ok(Some(same_unit(a.unit(), b.unit()))),
-        (Err(Refusal::NoMemory), _) | (_, Err(Refusal::NoMemory)) => Err(AllocError),
-        _ => Ok(None),
-    }
+    Ok(true)
 }
 
 #[test]
 fn a_unit_is_the_same_as_itself_alone(rt: HostRuntime) -> Result<(), Fail> {
-    for (i, first) in FILES.iter().enumerate() {
-        for (j, second) in FILES.iter().enumerate() {
-            assert_eq!(rt; are_same(&rt, rt.alloc(), first, second)?, Some(i == j));
-        }
+    let alloc = rt.alloc();
+    for (index, file) in FILES.iter().enumerate() {
+        let unit = unit_of(&rt, alloc, file)?;
+        assert!(rt; is_that_of(&rt, alloc, unit.unit(), index)?, "unit {index}");
     }
     Ok(())
 }

@@ -4,6 +4,7 @@ use cc_base::{
     Files, MapFiles, Offset, PutRefusal, ReadRefusal, ReplaceRefusal, Sink, Token, VecSink,
     little_endian_law, put_hex, put_number, u16_at, u32_at, u64_at, wrap32,
 };
+use std::alloc::{AllocError, Global};
 use std::test::Fail;
 
 /// Numbers of 64 bits that no operation gives, and the int32 of the same low 32 bits.
@@ -43,20 +44,30 @@ fn numbers_wrap_as_twos_complement(rt: HostRuntime) {
     }
 }
 
+/// Returns whether a number is appended as this text.
+fn is_appended(alloc: Global, number: i64, text: &[u8]) -> Result<bool, AllocError> {
+    let mut line = Vec::from_slice(alloc, b"n=")?;
+    put_number(alloc, &mut line, number)?;
+    Ok(line.strip_prefix(b"n=") == Some(text))
+}
+
 #[test]
 fn numbers_are_appended_as_text(rt: HostRuntime) -> Result<(), Fail> {
-    let alloc = rt.alloc();
     for (number, text) in DECIMALS {
-        let mut line = Vec::from_slice(alloc, b"n=")?;
-        put_number(alloc, &mut line, number)?;
-        assert_eq!(rt; line.strip_prefix(b"n="), Some(text), "{number}");
+        assert!(rt; is_appended(rt.alloc(), number, text)?, "{number}");
     }
+    Ok(())
+}
+
+#[test]
+fn numbers_are_appended_in_hexadecimal(rt: HostRuntime) -> Result<(), Fail> {
+    let alloc = rt.alloc();
     let mut line = Vec::new(alloc);
     put_hex(alloc, &mut line, 0x2a, 2)?;
     put_hex(alloc, &mut line, 9, 4)?;
     put_hex(alloc, &mut line, 0xdead_beef, 8)?;
     put_hex(alloc, &mut line, 0xf, 1)?;
-    assert_eq!(rt; line.as_slice(), b"2a0009deadbeeff".as_slice());
+    assert!(rt; line.as_slice() == b"2a0009deadbeeff".as_slice());
     Ok(())
 }
 
@@ -74,31 +85,69 @@ fn a_token_is_a_table_and_a_row(rt: HostRuntime) {
     assert!(rt; Offset(2) < Offset(0x100));
 }
 
-#[test]
-fn files_are_read_and_replaced(rt: HostRuntime) -> Result<(), Fail> {
-    let alloc = rt.alloc();
+/// A call of files, with its answer.
+enum Call {
+    Read(&'static str, Result<&'static [u8], ReadRefusal>),
+    Replace(&'static str, &'static [u8], Result<(), ReplaceRefusal>),
+}
+
+use Call::{Read, Replace};
+
+/// Calls of files that hold `a.dll`, of which the second and the third read fail, and the first replacement.
+const CALLS: [Call; 8] = [
+    Read("a.dll", Ok(&[1, 2])),
+    Read("a.dll", Err(ReadRefusal::Failed)),
+    // It fails as it lacks the file: only a file that is held can be refused.
+    Read("b.dll", Err(ReadRefusal::Missing)),
+    Replace("a.dll", &[3], Err(ReplaceRefusal::Failed)),
+    Replace("b.dll", &[3], Ok(())),
+    Replace("a.dll", &[4], Ok(())),
+    Read("b.dll", Ok(&[3])),
+    Read("a.dll", Ok(&[4])),
+];
+
+/// Files that hold `a.dll`, with the calls that fail.
+fn given_files(alloc: Global) -> Result<MapFiles, AllocError> {
     let mut files = MapFiles::new(alloc);
     files.hold(alloc, "a.dll", &[1, 2])?;
     files.fail_reads.push(2)?;
     files.fail_reads.push(3)?;
     files.fail_replaces.push(1)?;
-    assert_eq!(rt; files.read(alloc, "a.dll")?.as_slice(), [1, 2].as_slice());
-    assert_eq!(rt; files.read(alloc, "a.dll").err(), Some(ReadRefusal::Failed));
-    assert_eq!(rt;
-        files.read(alloc, "b.dll").err(),
-        Some(ReadRefusal::Missing)
-    );
-    assert_eq!(rt;
-        files.replace(alloc, "a.dll", &[3]),
-        Err(ReplaceRefusal::Failed)
-    );
-    assert_eq!(rt; files.get("a.dll"), Some([1, 2].as_slice()));
-    files.replace(alloc, "b.dll", &[3])?;
-    files.replace(alloc, "a.dll", &[4])?;
-    assert_eq!(rt; files.read(alloc, "b.dll")?.as_slice(), [3].as_slice());
-    assert_eq!(rt; files.read(alloc, "a.dll")?.as_slice(), [4].as_slice());
-    assert_eq!(rt; (files.reads, files.replaces), (5, 3));
-    assert_eq!(rt; (files.missed, files.faults), (1, 2));
+    Ok(files)
+}
+
+/// Returns whether a read has this answer.
+fn reads_so(
+    alloc: Global,
+    files: &mut MapFiles,
+    name: &str,
+    told: Result<&[u8], ReadRefusal>,
+) -> bool {
+    match files.read(alloc, name) {
+        Ok(found) => told == Ok(found.as_slice()),
+        Err(refusal) => told == Err(refusal),
+    }
+}
+
+/// Returns whether a call has its answer. A replacement that failed leaves what `a.dll` held at first.
+fn answers(alloc: Global, files: &mut MapFiles, call: &Call) -> bool {
+    match call {
+        Call::Read(name, told) => reads_so(alloc, files, name, *told),
+        Call::Replace(name, bytes, told) => {
+            files.replace(alloc, name, bytes) == *told
+                && (told.is_ok() || files.get("a.dll") == Some(&[1, 2]))
+        }
+    }
+}
+
+#[test]
+fn files_are_read_and_replaced(rt: HostRuntime) -> Result<(), Fail> {
+    let mut files = given_files(rt.alloc())?;
+    for (call, number) in CALLS.iter().zip(1..) {
+        assert!(rt; answers(rt.alloc(), &mut files, call), "call {number}");
+    }
+    assert!(rt; files.reads == 5 && files.replaces == 3);
+    assert!(rt; files.missed == 1 && files.faults == 2);
     Ok(())
 }
 

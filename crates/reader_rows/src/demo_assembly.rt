@@ -5,26 +5,36 @@ use cil_model::Place;
 use std::alloc::{AllocError, Global};
 
 /// The method `void Nothing()`.
-fn nothing(alloc: Global) -> Result<Vec<MethodPlan>, AllocError> {
-    let method = MethodPlan {
-        name: Vec::from_slice(alloc, b"Nothing")?,
+fn nothing(alloc: Global) -> Result<MethodPlan, AllocError> {
+    let name = Vec::from_slice(alloc, b"Nothing")?;
+    let code = Vec::from_slice(alloc, b"\x2a")?;
+    Ok(MethodPlan {
+        name,
         is_static: true,
         result: Place::Void,
         args: Vec::new(alloc),
         locals: Vec::new(alloc),
         max_stack: 8,
-        code: Vec::from_slice(alloc, b"\x2a")?,
-    };
-    Ok(vec![in alloc; method]?)
+        code,
+    })
+}
+
+/// The class with this method.
+fn plan(alloc: Global) -> Result<AsmPlan, AllocError> {
+    let namespace = Vec::from_slice(alloc, b"Demo")?;
+    let class = Vec::from_slice(alloc, b"Calc")?;
+    let method = nothing(alloc)?;
+    let methods = vec![in alloc; method]?;
+    Ok(AsmPlan {
+        namespace,
+        class,
+        wide: false,
+        methods,
+    })
 }
 
 /// The file of the class with this method.
 pub fn file(alloc: Global) -> Result<Vec<u8>, WriteRefusal> {
-    let plan = AsmPlan {
-        namespace: Vec::from_slice(alloc, b"Demo")?,
-        class: Vec::from_slice(alloc, b"Calc")?,
-        wide: false,
-        methods: nothing(alloc)?,
-    };
+    let plan = plan(alloc)?;
     write_assembly(alloc, &plan)
 }

@@ -7,9 +7,8 @@ use metadata_tables::TableFault;
 use method_unit::UnitFault;
 use pe_reader::PeFault;
 use signature_blobs::SigFault;
-use std::alloc::Global;
+use std::alloc::{AllocError, Global};
 use std::fmt::Display;
-use std::process::Abort;
 use std::test::Fail;
 
 /// Faults of PE files, with their words and their offsets. The words of the others likewise.
@@ -63,50 +62,92 @@ const IL_FAULTS: [(IlFault, &str, u32); 4] = [
     (IlFault::Header(0), "header at 0000", 0),
 ];
 
-/// Asserts how something is printed.
-fn assert_text(
-    rt: &impl Abort,
-    alloc: Global,
-    printed: &impl Display,
-    text: &str,
-) -> Result<(), Fail> {
+/// Returns whether something is printed so.
+fn is_printed(alloc: Global, printed: &impl Display, text: &str) -> Result<bool, AllocError> {
     let found = format!(in alloc; "{printed}")?;
-    assert_eq!(rt; found.as_str(), text);
+    Ok(found.as_str() == text)
+}
+
+#[test]
+fn faults_of_pe_files_have_their_words(rt: HostRuntime) -> Result<(), Fail> {
+    for (fault, text, at) in PE_FAULTS {
+        assert!(rt;
+            is_printed(rt.alloc(), &fault, text)? && fault.at() == at,
+            "{text}"
+        );
+    }
     Ok(())
 }
 
 #[test]
-fn faults_have_their_words(rt: HostRuntime) -> Result<(), Fail> {
-    let alloc = rt.alloc();
-    for (fault, text, at) in PE_FAULTS {
-        assert_text(&rt, alloc, &fault, text)?;
-        assert_eq!(rt; fault.at(), at);
-    }
+fn faults_of_tables_have_their_words(rt: HostRuntime) -> Result<(), Fail> {
     for (fault, text, at) in TABLE_FAULTS {
-        assert_text(&rt, alloc, &fault, text)?;
-        assert_eq!(rt; fault.at(), at);
+        assert!(rt;
+            is_printed(rt.alloc(), &fault, text)? && fault.at() == at,
+            "{text}"
+        );
     }
+    Ok(())
+}
+
+#[test]
+fn faults_of_signatures_have_their_words(rt: HostRuntime) -> Result<(), Fail> {
     for (fault, text, at) in SIGNATURE_FAULTS {
-        assert_text(&rt, alloc, &fault, text)?;
-        assert_eq!(rt; fault.at(), at);
+        assert!(rt;
+            is_printed(rt.alloc(), &fault, text)? && fault.at() == at,
+            "{text}"
+        );
     }
+    Ok(())
+}
+
+#[test]
+fn faults_of_units_have_their_words(rt: HostRuntime) -> Result<(), Fail> {
     for (fault, text, at) in UNIT_FAULTS {
-        assert_text(&rt, alloc, &fault, text)?;
-        assert_eq!(rt; fault.at(), at);
+        assert!(rt;
+            is_printed(rt.alloc(), &fault, text)? && fault.at() == at,
+            "{text}"
+        );
     }
+    Ok(())
+}
+
+#[test]
+fn faults_of_code_have_their_words(rt: HostRuntime) -> Result<(), Fail> {
     for (fault, text, at) in IL_FAULTS {
-        assert_text(&rt, alloc, &fault, text)?;
-        assert_eq!(rt; fault.at(), at);
+        assert!(rt;
+            is_printed(rt.alloc(), &fault, text)? && fault.at() == at,
+            "{text}"
+        );
     }
-    let cause = Cause::Pe(PeFault::NotPe(0));
-    let refusal = AsmRefusal::Bad(AsmFault { at: 0, cause });
-    let text = "not a PE file at 00000000, in the file at 00000000";
-    assert_text(&rt, alloc, &refusal, text)?;
-    let at = 0x0400_0000;
-    let cause = Cause::Large;
-    let text = "file too large, in the file at 04000000";
-    assert_text(&rt, alloc, &AsmFault { at, cause }, text)?;
-    assert_text(&rt, alloc, &AsmRefusal::NoMemory, "out of memory")?;
+    Ok(())
+}
+
+/// Refusals of assemblies, with their words.
+const ASSEMBLY_REFUSALS: [(AsmRefusal, &str); 3] = [
+    (
+        AsmRefusal::Bad(AsmFault {
+            at: 0,
+            cause: Cause::Pe(PeFault::NotPe(0)),
+        }),
+        "not a PE file at 00000000, in the file at 00000000",
+    ),
+    (
+        AsmRefusal::Bad(AsmFault {
+            at: 0x0400_0000,
+            cause: Cause::Large,
+        }),
+        "file too large, in the file at 04000000",
+    ),
+    (AsmRefusal::NoMemory, "out of memory"),
+];
+
+#[test]
+fn refusals_have_their_words(rt: HostRuntime) -> Result<(), Fail> {
+    for (refusal, text) in ASSEMBLY_REFUSALS {
+        assert!(rt; is_printed(rt.alloc(), &refusal, text)?, "{text}");
+    }
     let bad: Refusal<SigFault> = Refusal::Bad(SigFault::Form(1));
-    assert_text(&rt, alloc, &bad, "form at 00000001")
+    assert!(rt; is_printed(rt.alloc(), &bad, "form at 00000001")?);
+    Ok(())
 }

@@ -3,11 +3,12 @@
 
 use crate::changes::{Change, put, zeros_with};
 use crate::demo_assembly::file;
-use asm_image::{Assembly, AssemblyFile};
+use asm_image::{Assembly, AssemblyFile, MethodWalk};
 use cil_model::Place;
 use metadata_tables::{TableFault, Tables};
 use pe_reader::Image;
 use signature_blobs::{SigFault, compressed};
+use std::alloc::{AllocError, Global};
 use std::test::Fail;
 
 /// Where the file of one method ends, without the zeros behind its metadata, and the address of that end.
@@ -37,7 +38,7 @@ fn no_byte_stands_at_the_end_of_a_file(rt: HostRuntime) -> Result<(), Fail> {
     Ok(())
 }
 
-/// Metadata without tables: the root and three streams, of which `#~` stands at 48.
+/// Metadata without tables: the root and three streams, of which `#~` stands at 48, and Valid at 50.
 const SMALL: [Change; 4] = [
     (0, b"BSJB\x01\0\x01\0\0\0\0\0\x04\0\0\0v4.0\0\0\x03\0"),
     (0x18, b"\x48\0\0\0\x18\0\0\0#~\0\0"),
@@ -51,6 +52,13 @@ const NO_TABLES: [u8; 26] = [
     0x36, 0x37, 0x38, 0x39, 0x3a, 0x3b, 0x3c, 0x3d, 0x3e, 0x3f,
 ];
 
+/// Returns whether metadata with this Valid is refused for this bit.
+fn is_refused_for(md: &mut [u8], valid: u64, bit: u8) -> bool {
+    put(md, 0x50, &valid.to_le_bytes())
+        && md.len() <= 0x100
+        && Tables::read(md).err() == Some(TableFault::BadTables(bit, 0x50))
+}
+
 #[test]
 fn the_lowest_bit_of_no_table_is_told(rt: HostRuntime) -> Result<(), Fail> {
     let mut md = zeros_with(&rt, rt.alloc(), 0x68, &SMALL)?;
@@ -58,19 +66,37 @@ fn the_lowest_bit_of_no_table_is_told(rt: HostRuntime) -> Result<(), Fail> {
         assert!(rt; bit < 64);
         // The bit alone, with all higher ones, and with that of Module.
         for valid in [1u64 << bit, u64::MAX << bit, 1u64 << bit | 1] {
-            assert!(rt; put(&mut md, 0x50, &valid.to_le_bytes()));
-            assert!(rt; md.len() <= 0x100);
-            let want = TableFault::BadTables(bit, 0x50);
-            assert_eq!(rt; Tables::read(&md).err(), Some(want));
+            assert!(rt; is_refused_for(&mut md, valid, bit), "{bit}");
         }
     }
-    assert!(rt; put(&mut md, 0x50, &[0; 8]));
-    assert!(rt; md.len() <= 0x100);
-    let tables = Tables::read(&md)?;
-    for table in [0, 0x2d, 0xff] {
-        assert_eq!(rt; tables.row_count(table), 0);
-    }
     Ok(())
+}
+
+/// Returns whether metadata has no row of these tables.
+fn has_no_rows(md: &[u8]) -> bool {
+    if md.len() > 0x100 {
+        return false;
+    }
+    match Tables::read(md) {
+        Ok(tables) => [0, 0x2d, 0xff]
+            .iter()
+            .all(|table| tables.row_count(*table) == 0),
+        Err(_) => false,
+    }
+}
+
+#[test]
+fn metadata_without_tables_has_no_rows(rt: HostRuntime) -> Result<(), Fail> {
+    let md = zeros_with(&rt, rt.alloc(), 0x68, &SMALL)?;
+    assert!(rt; has_no_rows(&md));
+    Ok(())
+}
+
+/// Returns whether a walk over methods is after the last one.
+fn is_after_the_last(alloc: Global, walk: &mut MethodWalk<'_, '_>) -> Result<bool, AllocError> {
+    let mut line = Vec::new(alloc);
+    walk.append_name(alloc, &mut line)?;
+    Ok(walk.current().is_none() && walk.token().is_none() && line.is_empty())
 }
 
 #[test]
@@ -81,12 +107,16 @@ fn nothing_is_behind_the_last_method(rt: HostRuntime) -> Result<(), Fail> {
     let mut walk = assembly.methods(alloc);
     for _ in 0..3 {
         walk.advance();
-        assert!(rt; walk.current().is_none() && walk.token().is_none());
-        let mut line = Vec::new(alloc);
-        walk.append_name(alloc, &mut line)?;
-        assert!(rt; line.is_empty());
+        assert!(rt; is_after_the_last(alloc, &mut walk)?);
     }
-    assert_eq!(rt; Assembly::read(alloc, &bytes)?.find(b""), None);
+    Ok(())
+}
+
+#[test]
+fn no_method_has_the_empty_name(rt: HostRuntime) -> Result<(), Fail> {
+    let alloc = rt.alloc();
+    let bytes = file(alloc)?;
+    assert!(rt; Assembly::read(alloc, &bytes)?.find(b"").is_none());
     Ok(())
 }
 

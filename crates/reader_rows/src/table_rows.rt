@@ -78,17 +78,35 @@ const FRONT: &[u8] =
 /// The bits of the tables that there are.
 const VALID: u64 = 0x1fff_3fb7_ff57;
 
-/// The front of metadata with one row in each table, up to the first row. The stream `#~` has this size.
-fn front(alloc: Global, heap_sizes: u8, size: u32) -> Result<Vec<u8>, AllocError> {
-    let mut front = Vec::from_slice(alloc, FRONT)?;
+/// Appends the size of the stream `#~`, its name, and its header up to HeapSizes.
+fn append_stream(front: &mut Vec<u8>, heap_sizes: u8, size: u32) -> Result<(), AllocError> {
     front.extend_from_slice(&size.to_le_bytes())?;
     front.extend_from_slice(b"#~\0\0\0\0\0\0\x02\0")?;
     front.extend_from_slice(&[heap_sizes, 1])?;
+    Ok(())
+}
+
+/// Appends Valid and Sorted.
+fn append_bits(front: &mut Vec<u8>) -> Result<(), AllocError> {
     front.extend_from_slice(&VALID.to_le_bytes())?;
     front.extend_from_slice(&[0; 8])?;
+    Ok(())
+}
+
+/// Appends one row for each table.
+fn append_counts(front: &mut Vec<u8>) -> Result<(), AllocError> {
     for _ in SCHEMAS {
         front.extend_from_slice(&[1, 0, 0, 0])?;
     }
+    Ok(())
+}
+
+/// The front of metadata with one row in each table, up to the first row. The stream `#~` has this size.
+fn front(alloc: Global, heap_sizes: u8, size: u32) -> Result<Vec<u8>, AllocError> {
+    let mut front = Vec::from_slice(alloc, FRONT)?;
+    append_stream(&mut front, heap_sizes, size)?;
+    append_bits(&mut front)?;
+    append_counts(&mut front)?;
     Ok(front)
 }
 
@@ -130,34 +148,68 @@ fn width(kind: u8, heap_sizes: u8) -> u32
     if heap_sizes & bit == 0 { 2 } else { 4 }
 }
 
+/// The metadata of these heap sizes, with one row in each table. From the first row on, each byte is the low byte of its
+/// own offset.
+fn metadata(
+    rt: &impl Abort,
+    alloc: Global,
+    heap_sizes: u8,
+    end: u32,
+) -> Result<Vec<u8>, AllocError> {
+    assert!(rt; end >= 0xf8 && end < 0x300);
+    let mut md = front(alloc, heap_sizes, end - 0x48)?;
+    assert!(rt; md.len() == 0xf8);
+    for number in 0xf8..end {
+        md.push((number % 256) as u8)?;
+    }
+    Ok(md)
+}
+
+/// Returns whether a cell stands at this offset, and has the number of the bytes there.
+fn stands(md: &[u8], cell: Cell, at: u32, width: u32) -> bool {
+    let bytes = cell.number.to_le_bytes();
+    cell.at == at
+        && at < 0x300
+        && width <= 4
+        && bytes.get(..width as usize) == md.get(at as usize..(at + width) as usize)
+        && (width == 4 || cell.number < 0x1_0000)
+}
+
+/// Returns where the row of a table ends that begins at this offset. Each of its cells stands there.
+fn end_of_row(
+    rt: &impl Abort,
+    md: &[u8],
+    tables: &Tables<'_>,
+    table: u8,
+    kinds: &[u8],
+    heap_sizes: u8,
+    at: u32,
+) -> u32 {
+    assert!(rt; columns(table).len() == kinds.len(), "table {table}");
+    let mut at = at;
+    for (kind, column) in kinds.iter().zip(0..) {
+        let cell = cell_of(rt, tables, table, 1, column);
+        let width = width(*kind, heap_sizes);
+        assert!(rt;
+            stands(md, cell, at, width),
+            "table {table}, column {column}"
+        );
+        at = at.saturating_add(width);
+    }
+    at
+}
+
 #[test]
 fn each_cell_has_its_place(rt: HostRuntime) -> Result<(), Fail> {
-    let alloc = rt.alloc();
     for (heap_sizes, end) in ENDS {
-        assert!(rt; end >= 0x48 && end < 0x300);
-        let mut md = front(alloc, heap_sizes, end - 0x48)?;
-        assert_eq!(rt; md.len(), 0xf8);
-        for number in 0xf8..end {
-            md.push((number % 256) as u8)?;
-        }
+        let md = metadata(&rt, rt.alloc(), heap_sizes, end)?;
         assert!(rt; md.len() < 0x300);
         let tables = Tables::read(&md)?;
         let mut at = 0xf8;
         for (table, kinds) in SCHEMAS {
-            assert_eq!(rt; columns(table).len(), kinds.len());
-            for (kind, column) in kinds.iter().zip(0..) {
-                let cell = cell_of(&rt, &tables, table, 1, column);
-                assert_eq!(rt; cell.at, at, "{table} {column}");
-                assert!(rt; at < 0x300);
-                let width = width(*kind, heap_sizes);
-                let stored = md.get(at as usize..(at + width) as usize);
-                let bytes = cell.number.to_le_bytes();
-                assert_eq!(rt; bytes.get(..width as usize), stored, "{table} {column}");
-                assert!(rt; width == 4 || cell.number < 0x1_0000);
-                at += width;
-            }
+            at = end_of_row(&rt, &md, &tables, table, kinds, heap_sizes, at);
         }
-        assert_eq!(rt; at, end);
+        assert!(rt; at == end);
     }
     Ok(())
 }

@@ -1,6 +1,6 @@
 //! Methods at the limits of the writer, and one past; a file of so many methods that indexes have four bytes.
 
-use asm_image::Assembly;
+use asm_image::{Assembly, MethodRow};
 use asm_writer::{AsmPlan, MethodPlan, WriteRefusal, write_assembly};
 use cc_base::Token;
 use cil_model::Place;
@@ -31,34 +31,51 @@ fn plan_of(
     max_stack: u8,
     code: usize,
 ) -> Result<MethodPlan, AllocError> {
+    let name = Vec::from_slice(alloc, b"m")?;
+    let args = vec![in alloc; Place::Int; args]?;
+    let locals = vec![in alloc; Place::Bools; locals]?;
+    let code = vec![in alloc; 0; code]?;
     Ok(MethodPlan {
-        name: Vec::from_slice(alloc, b"m")?,
+        name,
         is_static: true,
         result: Place::Void,
-        args: vec![in alloc; Place::Int; args]?,
-        locals: vec![in alloc; Place::Bools; locals]?,
+        args,
+        locals,
         max_stack,
-        code: vec![in alloc; 0; code]?,
+        code,
     })
+}
+
+/// The plan of a class with these methods.
+fn class_of(alloc: Global, methods: Vec<MethodPlan>) -> Result<AsmPlan, AllocError> {
+    let class = Vec::from_slice(alloc, b"C")?;
+    Ok(AsmPlan {
+        namespace: Vec::new(alloc),
+        class,
+        wide: false,
+        methods,
+    })
+}
+
+/// Returns whether an assembly is not written, as it is too large.
+fn is_too_large(alloc: Global, plan: &AsmPlan) -> Result<bool, AllocError> {
+    match write_assembly(alloc, plan) {
+        Ok(_) => Ok(false),
+        Err(WriteRefusal::TooLarge) => Ok(true),
+        Err(WriteRefusal::NoMemory) => Err(AllocError),
+    }
 }
 
 #[test]
 fn methods_beyond_a_limit_are_not_written(rt: HostRuntime) -> Result<(), Fail> {
     let alloc = rt.alloc();
     for (args, locals, max_stack, code, is_within) in LIMITS {
-        let plan = AsmPlan {
-            namespace: Vec::new(alloc),
-            class: Vec::from_slice(alloc, b"C")?,
-            wide: false,
-            methods: vec![in alloc; plan_of(alloc, args, locals, max_stack, code)?]?,
-        };
-        let refusal = write_assembly(alloc, &plan).err();
-        let want = if is_within {
-            None
-        } else {
-            Some(WriteRefusal::TooLarge)
-        };
-        assert_eq!(rt; refusal, want, "{args} {locals} {max_stack} {code}");
+        let method = plan_of(alloc, args, locals, max_stack, code)?;
+        let plan = class_of(alloc, vec![in alloc; method]?)?;
+        assert!(rt;
+            is_too_large(alloc, &plan)? != is_within,
+            "{args} {locals} {max_stack} {code}"
+        );
     }
     Ok(())
 }
@@ -72,26 +89,26 @@ fn plans(alloc: Global, count: u32) -> Result<Vec<MethodPlan>, AllocError> {
     Ok(plans)
 }
 
+/// Returns whether the last of so many methods is there, by its token, its name and its address.
+fn has_last(methods: &[MethodRow], count: usize) -> bool {
+    methods.len() == count
+        && match methods.last() {
+            Some(last) => {
+                last.token == Token(0x0601_0000)
+                    && last.name.as_slice() == b"C::m()".as_slice()
+                    && last.rva == 0x10_2038
+            }
+            None => false,
+        }
+}
+
 #[test]
 fn indexes_have_four_bytes_in_a_large_file(rt: HostRuntime) -> Result<(), Fail> {
     let alloc = rt.alloc();
-    let plan = AsmPlan {
-        namespace: Vec::new(alloc),
-        class: Vec::from_slice(alloc, b"C")?,
-        wide: false,
-        methods: plans(alloc, 65_536)?,
-    };
+    let plan = class_of(alloc, plans(alloc, 65_536)?)?;
     let bytes = write_assembly(alloc, &plan)?;
     // HeapSizes: `#Strings` and `#Blob` have indexes of four bytes.
-    assert_eq!(rt; bytes.get(0x10_02ba), Some(&5));
-    let assembly = Assembly::read(alloc, &bytes)?;
-    let methods = assembly.methods();
-    assert_eq!(rt; methods.len(), 65_536);
-    let Some(last) = methods.last() else {
-        panic!(rt; "no methods");
-    };
-    assert_eq!(rt; last.token, Token(0x0601_0000));
-    assert_eq!(rt; last.name.as_slice(), b"C::m()".as_slice());
-    assert_eq!(rt; last.rva, 0x10_2038);
+    assert!(rt; bytes.get(0x10_02ba) == Some(&5));
+    assert!(rt; has_last(Assembly::read(alloc, &bytes)?.methods(), 65_536));
     Ok(())
 }
