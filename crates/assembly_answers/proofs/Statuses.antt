@@ -6,7 +6,6 @@ use Rattle.asm_image.specs.Find.{find_of}
 use Rattle.asm_image.specs.declared.fault.AsmFault.{AsmFault}
 use Rattle.asm_image.specs.declared.found.Found.{Found}
 use Rattle.asm_image.specs.declared.found.Found.TheVariants.{One, Several}
-use Rattle.asm_image.specs.declared.method_row.MethodRow.{MethodRow}
 use Rattle.cil_eval.specs.Outcome.{last_state, outcome}
 use Rattle.cil_eval.specs.Starts.{start_refusal, start_state}
 use Rattle.cil_eval.specs.declared.limits.Limits.{Limits}

@@ -5,7 +5,7 @@
 ghost use Rattle.std.specs.Prelude.{◌≡◌, ◌<◌, ◌++◌, IfOk, length};
 ghost use Rattle.asm_image.specs.Faults.{FirstBroken};
 ghost use Rattle.assembly_answers.specs.Answers.{refute_file_answer, search_told};
-ghost use Rattle.assembly_answers.specs.RefuteText.{not_refuted_line, refuted_line, refuted_text};
+ghost use Rattle.assembly_answers.specs.RefuteText.{not_refuted_line, refuted_line};
 ghost use Rattle.answer_lines.specs.LineCounts.{line_count};
 ghost use Rattle.answer_lines.specs.Outcome.{Gives};
 ghost use Rattle.answer_lines.specs.Writing.{Writes, change_of};

@@ -13,7 +13,7 @@ use Rattle.answer_lines.specs.Lines.{proved_text, summary_line, unit_line}
 use Rattle.answer_lines.specs.Signatures.{unit_signature}
 use Rattle.answer_lines.proofs.SingleLines.{none_in_unit, unit_said}
 use Rattle.answer_lines.proofs.WholeLines.{IsOneLine, one_line, same_first}
-use Rattle.command_words.specs.Words.{command_files, command_of, file_names, word_at, words_at}
+use Rattle.command_words.specs.Words.{command_files, command_of, file_names, word_at}
 use Rattle.command_words.specs.declared.command.Command.{Command}
 use Rattle.command_words.specs.declared.command.Command.TheVariants as commands
 use Rattle.method_unit.specs.UnitFile.{first_unit_fault, unit_of}
@@ -21,7 +21,7 @@ use Rattle.method_unit.specs.declared.unit_fault.UnitFault.{UnitFault}
 use Rattle.invariant_checker.specs.Counts.{all_proved}
 use Rattle.check_driver.specs.Analysis.{unit_verdicts}
 use Rattle.check_driver.proofs.UnitSafety.{proved_unit_safe}
-use Rattle.check_driver.specs.Expected.{command_answer, expected, files_answer, unit_answer, unit_file_answer}
+use Rattle.check_driver.specs.Expected.{expected, unit_answer, unit_file_answer}
 use Rattle.check_driver.specs.Met.{AreUnder}
 use Rattle.check_driver.specs.ProvedUnit.{AreSpelled, AsksForUnit, IfUnit, IsHeldSpelled, PrintsProvedUnit, SpellSafeUnit}
 use Rattle.check_driver.specs.ReportText.{unit_counts, unit_report, verdict_line}

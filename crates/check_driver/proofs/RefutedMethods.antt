@@ -1,5 +1,5 @@
 -- Where arguments were told with which a run of a method ends in a fault, the method is not safe.
-use Rattle.std.proofs.Common.{◌≡◌, ℕ, true, List, [], ◌∷◌, ◌++◌, Option, Some, None, Result, Ok, Err, codes, refl, sym, ap, subst, ◌∙◌, get_or, arith}
+use Rattle.std.proofs.Common.{◌≡◌, ℕ, true, List, [], ◌++◌, Option, Some, None, Result, Ok, Err, codes, refl, sym, ap, subst, ◌∙◌, get_or, arith}
 use Rattle.asm_image.specs.Bodies.{method_of}
 use Rattle.asm_image.specs.Faults.{FirstBroken}
 use Rattle.asm_image.specs.Find.{find_of}
@@ -11,7 +11,7 @@ use Rattle.cc_base.specs.Sink.{AppendsFront, IsFront}
 use Rattle.cc_base.specs.declared.token.Token.{Token}
 use Rattle.cil_model.specs.Runs.{Safe}
 use Rattle.cil_model.specs.declared.machine.World.{World}
-use Rattle.command_words.specs.Words.{command_files, command_of, file_names, word_at}
+use Rattle.command_words.specs.Words.{command_files, file_names, word_at}
 use Rattle.command_words.specs.declared.command.Command.{Command}
 use Rattle.command_words.specs.declared.command.Command.TheVariants as commands
 use Rattle.unit_builder.specs.WorldOf.{least_skipped, world_of}
