@@ -1,9 +1,10 @@
 //! The text of what is known of numbers.
 
-use fact_text::{Fact, add_range, append_bounds, append_definitions, append_ranges, read_fact};
 use number_facts::{Definitions, Numbers};
 use pentagon_domain::Bounds;
-use rule_text::Failure;
+use rule_text::{
+    Fact, Failure, add_range, append_bounds, append_definitions, append_ranges, read_fact,
+};
 use std::alloc::{AllocError, Global};
 
 /// Nothing is known.

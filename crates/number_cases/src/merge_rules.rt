@@ -7,12 +7,11 @@ ghost use Rattle.merged_numbers.specs.Meaning.{AreMeasured, IsMeasured};
 use crate::facts::facts_text;
 use crate::number_rules::{end, is_there};
 use domain_api::Expr;
-use fact_text::{expr, symbol};
 use frame_names::Bound;
 use merged_numbers::{Merged, Side, includes, joined, normed, widened};
 use number_facts::{Definitions, Numbers};
 use number_spans::Span;
-use rule_text::{Failure, asked, check, check_yes, two_words};
+use rule_text::{Failure, asked, check, check_yes, expr, symbol, two_words};
 use std::alloc::{AllocError, Global};
 use symbolic_values::Key;
 

@@ -5,11 +5,10 @@ ghost use Rattle.number_facts.specs.Facts.{AreNarrow, IsThere};
 
 use crate::facts::facts_text;
 use domain_api::{Expr, Order};
-use fact_text::{expr, symbol};
 use number_facts::Numbers;
 use rule_text::{
-    Failure, append_number, append_wide_range, are_narrow, asked, check, comparison, may_operate,
-    operator, three_words, two_words,
+    Failure, append_number, append_wide_range, are_narrow, asked, check, comparison, expr,
+    may_operate, operator, symbol, three_words, two_words,
 };
 use std::alloc::{AllocError, Global};
 

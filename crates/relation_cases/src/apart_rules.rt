@@ -1,8 +1,7 @@
 //! The rules on references.
 
 use alias_facts::{Apart, Nullness};
-use fact_text::{reference, separate};
-use rule_text::{Failure, asked, check, check_yes, two_words};
+use rule_text::{Failure, asked, check, check_yes, reference, separate, two_words};
 use std::alloc::{AllocError, Global};
 
 /// What is known of a reference, by its name.

@@ -2,9 +2,10 @@
 
 use crate::words::number_text;
 use domain_api::{Expr, Order};
-use fact_text::{expr, separate, symbol};
 use pentagon_domain::{BoundRow, Bounds, raised_gap};
-use rule_text::{Failure, append_number, asked, check, check_yes, three_words, two_words};
+use rule_text::{
+    Failure, append_number, asked, check, check_yes, expr, separate, symbol, three_words, two_words,
+};
 use std::alloc::{AllocError, Global};
 
 /// The row of a text: `s1+3 <= s2`.

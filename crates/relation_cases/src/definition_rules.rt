@@ -2,8 +2,7 @@
 
 use crate::name_rules::two_sides;
 use domain_api::Expr;
-use fact_text::{expr, reference};
-use rule_text::{Failure, append_number, asked, check};
+use rule_text::{Failure, append_number, asked, check, expr, reference};
 use std::alloc::{AllocError, Global};
 use symbolic_values::{Def, Pairs, ReferencePairs};
 

@@ -6,8 +6,9 @@ ghost use Rattle.symbolic_values.specs.Pairing.{AreNear, IsNear};
 
 use crate::words::expr_text;
 use domain_api::Expr;
-use fact_text::{expr, exprs, reference, separate};
-use rule_text::{Failure, append_number, asked, check, two_words};
+use rule_text::{
+    Failure, append_number, asked, check, expr, exprs, reference, separate, two_words,
+};
 use std::alloc::{AllocError, Global};
 use symbolic_values::{Env, Pairs, ReferencePairs, first_use_order, pair_up, renamed};
 

@@ -149,6 +149,18 @@ fn run_case<R: Rules>(alloc: Global, case: &Case<'_>, bases: &[Case<'_>]) -> Res
     Ok(run.answers)
 }
 
+/// Tells what is wrong in a case.
+fn tell_wrong(
+    rt: &(impl Print + Eprint),
+    alloc: Global,
+    name: &str,
+    case: &Case<'_>,
+    wrong: &Wrong,
+) -> io::Result<()> {
+    let text = format!(in alloc; "{name}:{}: {}: {}", wrong.line, case.name, wrong.failure)?;
+    tell(rt, &text)
+}
+
 /// Runs the cases of a file.
 fn run_cases<R: Rules>(
     rt: &(impl Print + Eprint),
@@ -163,11 +175,7 @@ fn run_cases<R: Rules>(
             Ok(more) => answers = answers.saturating_add(more),
             Err(wrong) => {
                 failed = failed.saturating_add(1);
-                let text = format!(in alloc;
-                    "{name}:{}: {}: {}",
-                    wrong.line, case.name, wrong.failure
-                )?;
-                tell(rt, &text)?;
+                tell_wrong(rt, alloc, name, case, &wrong)?;
             }
         }
     }
@@ -208,16 +216,25 @@ fn run_file<R: Rules>(
     }
 }
 
+/// Runs a file of cases, and tells its tally.
+fn run_named<R: Rules>(
+    rt: &(impl Print + Eprint + Files + AllocGlobal),
+    name: &str,
+) -> io::Result<Tally> {
+    let tally = run_file::<R>(rt, rt.alloc(), name)?;
+    println!(rt;
+        "{name}: {} cases, {} answers, {} failed",
+        tally.cases, tally.answers, tally.failed
+    )?;
+    Ok(tally)
+}
+
 /// Runs the files of cases that the program's words name. Answers whether no case failed.
 fn run_words<R: Rules>(rt: &(impl Print + Eprint + Files + Env + AllocGlobal)) -> io::Result<bool> {
     let mut cases = 0u64;
     let mut failed = 0u64;
     for name in env::args(rt)?.skip(1) {
-        let tally = run_file::<R>(rt, rt.alloc(), &name)?;
-        println!(rt;
-            "{name}: {} cases, {} answers, {} failed",
-            tally.cases, tally.answers, tally.failed
-        )?;
+        let tally = run_named::<R>(rt, &name)?;
         cases = cases.saturating_add(tally.cases);
         failed = failed.saturating_add(tally.failed);
     }

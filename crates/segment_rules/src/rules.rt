@@ -4,11 +4,12 @@ use crate::premises::{ends_pair, formed, has_next, keeps_end, zero_stays};
 use crate::text::check_segments;
 use array_segments::Segs;
 use domain_api::Expr;
-use fact_text::{expr, segment, segments};
 use interval_domain::Range;
 use number_facts::{Definitions, Numbers};
 use pentagon_domain::Bounds;
-use rule_text::{Failure, Line, append_range, asked, check, check_yes, range, two_words};
+use rule_text::{
+    Failure, Line, append_range, asked, check, check_yes, expr, range, segment, segments, two_words,
+};
 use std::alloc::{AllocError, Global};
 use symbolic_values::Pairs;
 

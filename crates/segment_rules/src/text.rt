@@ -1,9 +1,8 @@
 //! Whether the segments that were found are those that are told.
 
 use array_segments::Segs;
-use fact_text::append_segments;
 use interval_domain::Range;
-use rule_text::{Failure, check};
+use rule_text::{Failure, append_segments, check};
 use std::alloc::Global;
 
 /// The segments that were found are those that are told.

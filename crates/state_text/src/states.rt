@@ -3,12 +3,12 @@
 use abs_state::{AbsState, Contents, Parts, Reference, Segs, Var};
 use cil_model::Place;
 use domain_api::{Expr, Values};
-use fact_text::{
-    Fact, add_range, append_bounds, append_definitions, append_ranges, append_reference,
-    append_segments, expr, nullness, nullness_name, read_fact, reference, segments, separate_fact,
-};
 use interval_domain::Range;
-use rule_text::{Failure, append_number, operand, place};
+use rule_text::{
+    Fact, Failure, add_range, append_bounds, append_definitions, append_number, append_ranges,
+    append_reference, append_segments, expr, nullness, nullness_name, operand, place, read_fact,
+    reference, segments, separate_fact,
+};
 use std::alloc::{AllocError, Global};
 
 /// Whether a word is one of a reference.
@@ -106,8 +106,8 @@ fn add_reference(parts: &mut Parts, text: &str) -> Result<(), Failure> {
         None => unknown_segments(alloc, next.place, next.length)?,
         Some(told) => segments(alloc, told)?,
     };
-    parts.references.push(next)?;
     parts.contents.segments.push(segs)?;
+    parts.references.push(next)?;
     Ok(())
 }
 
@@ -142,19 +142,29 @@ fn nothing_listed(alloc: Global) -> Parts {
     }
 }
 
+/// Adds facts, each behind a `;`.
+fn add_facts(parts: &mut Parts, facts: &str) -> Result<(), Failure> {
+    for fact in facts.split(';') {
+        add_fact(parts, fact.trim())?;
+    }
+    Ok(())
+}
+
+/// Adds what a text tells.
+fn read_parts(parts: &mut Parts, text: &str) -> Result<(), Failure> {
+    match text.split_once(';') {
+        None => read_variables(parts, text),
+        Some((variables, facts)) => {
+            read_variables(parts, variables)?;
+            add_facts(parts, facts)
+        }
+    }
+}
+
 /// The lists that a text tells: variables, then facts, each behind a `;`. They may be those of no state.
 pub fn parts(alloc: Global, text: &str) -> Result<Parts, Failure> {
     let mut parts = nothing_listed(alloc);
-    let (variables, facts) = match text.split_once(';') {
-        None => (text, None),
-        Some((variables, facts)) => (variables, Some(facts)),
-    };
-    read_variables(&mut parts, variables)?;
-    if let Some(facts) = facts {
-        for fact in facts.split(';') {
-            add_fact(&mut parts, fact.trim())?;
-        }
-    }
+    read_parts(&mut parts, text)?;
     Ok(parts)
 }
 
@@ -208,6 +218,13 @@ fn segments_text(alloc: Global, segs: &Segs<Range>) -> Result<String, AllocError
     Ok(text)
 }
 
+/// Whether segments tell nothing of the items of an array.
+fn tell_nothing(alloc: Global, known: &Reference, segs: &Segs<Range>) -> Result<bool, AllocError> {
+    let unknown = unknown_segments(alloc, known.place, known.length)?;
+    let unknown = segments_text(alloc, &unknown)?;
+    Ok(segments_text(alloc, segs)? == unknown)
+}
+
 /// Appends the segments of a reference, unless they are those of an array of whose items nothing is known.
 fn append_contents(
     alloc: Global,
@@ -215,25 +232,28 @@ fn append_contents(
     known: &Reference,
     segs: &Segs<Range>,
 ) -> Result<(), AllocError> {
-    let told = segments_text(alloc, segs)?;
-    let unknown = segments_text(alloc, &unknown_segments(alloc, known.place, known.length)?)?;
-    if told == unknown {
+    if tell_nothing(alloc, known, segs)? {
         return Ok(());
     }
     text.push(' ')?;
-    text.push_str(told.as_str())
+    append_segments(text, segs)
+}
+
+/// Appends what is known of a reference, but for its segments.
+fn append_known(text: &mut String, index: usize, known: &Reference) -> Result<(), AllocError> {
+    write!(text, "r{} is ", index.saturating_add(1))?;
+    text.push_str(place_name(known.place))?;
+    text.push(' ')?;
+    text.push_str(nullness_name(known.nullness))?;
+    text.push_str(" length ")?;
+    append_number(text, known.length)
 }
 
 /// Appends what is known of each reference.
 fn append_references(alloc: Global, text: &mut String, parts: &Parts) -> Result<(), AllocError> {
     for (index, known) in parts.references.iter().enumerate() {
         separate_fact(text)?;
-        write!(text, "r{} is ", index.saturating_add(1))?;
-        text.push_str(place_name(known.place))?;
-        text.push(' ')?;
-        text.push_str(nullness_name(known.nullness))?;
-        text.push_str(" length ")?;
-        append_number(text, known.length)?;
+        append_known(text, index, known)?;
         if let Some(segs) = parts.contents.segments.get(index) {
             append_contents(alloc, text, known, segs)?;
         }
@@ -252,18 +272,28 @@ fn append_apart(text: &mut String, pairs: &[(u32, u32)]) -> Result<(), AllocErro
     Ok(())
 }
 
-/// The text of a state.
-pub fn state_text(alloc: Global, state: &AbsState) -> Result<String, AllocError> {
-    let parts = state.parts(alloc)?;
+/// Appends the variables, and then each fact.
+fn append_parts(alloc: Global, text: &mut String, parts: &Parts) -> Result<(), AllocError> {
+    append_variables(text, parts.variables.as_slice())?;
+    append_ranges(text, parts.ranges.as_slice())?;
+    append_bounds(text, parts.bounds.as_slice())?;
+    append_definitions(text, parts.definitions.as_slice())?;
+    append_references(alloc, text, parts)?;
+    append_apart(text, parts.apart.as_slice())
+}
+
+/// The text of the lists of a state.
+fn parts_text(alloc: Global, parts: &Parts) -> Result<String, AllocError> {
     if !parts.reached {
         return String::from_str(alloc, "unreachable");
     }
     let mut text = String::new(alloc);
-    append_variables(&mut text, parts.variables.as_slice())?;
-    append_ranges(&mut text, parts.ranges.as_slice())?;
-    append_bounds(&mut text, parts.bounds.as_slice())?;
-    append_definitions(&mut text, parts.definitions.as_slice())?;
-    append_references(alloc, &mut text, &parts)?;
-    append_apart(&mut text, parts.apart.as_slice())?;
+    append_parts(alloc, &mut text, parts)?;
     Ok(text)
+}
+
+/// The text of a state.
+pub fn state_text(alloc: Global, state: &AbsState) -> Result<String, AllocError> {
+    let parts = state.parts(alloc)?;
+    parts_text(alloc, &parts)
 }

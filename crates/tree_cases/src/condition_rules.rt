@@ -6,8 +6,7 @@ ghost use Rattle.state_obligations.specs.Conditions.{AreThere, IsThere, conditio
 
 use abs_state::AbsState;
 use cil_model::FaultKind;
-use fact_text::{expr, reference};
-use rule_text::{Failure, asked, check, check_yes, fault, operator};
+use rule_text::{Failure, asked, check, check_yes, expr, fault, operator, reference};
 use state_obligations::{Condition, Operation};
 use state_text::{has_number, has_reference};
 use std::alloc::Global;

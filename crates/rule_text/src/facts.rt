@@ -1,11 +1,13 @@
 //! The text of facts on symbols.
 
 use crate::definitions::{append_definition, definition};
+use crate::failure::Failure;
+use crate::numbers::append_number;
+use crate::ranges::{append_range, range};
 use crate::words::{expr, symbol};
 use domain_api::Expr;
 use interval_domain::Range;
 use pentagon_domain::BoundRow;
-use rule_text::{Failure, append_number, append_range, range};
 use std::alloc::AllocError;
 use symbolic_values::Def;
 

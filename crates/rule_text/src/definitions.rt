@@ -1,8 +1,9 @@
 //! The text of definitions.
 
+use crate::failure::Failure;
+use crate::numbers::append_number;
 use crate::words::{append_reference, expr, reference};
 use domain_api::Expr;
-use rule_text::{Failure, append_number};
 use std::alloc::AllocError;
 use symbolic_values::Def;
 

@@ -1,10 +1,12 @@
 //! The text of segments.
 
+use crate::failure::Failure;
+use crate::numbers::append_number;
+use crate::ranges::{append_range, range};
 use crate::words::{exprs, separate};
 use array_segments::Segs;
 use domain_api::Expr;
 use interval_domain::Range;
-use rule_text::{Failure, append_number, append_range, range};
 use std::alloc::{AllocError, Global};
 
 /// The content of a segment and its mark: `0..9`, or `0..9 ?` where it may be empty.

@@ -1,7 +1,8 @@
 //! The words of symbols, references and numbers.
 
+use crate::failure::Failure;
+use crate::numbers::number;
 use domain_api::Expr;
-use rule_text::{Failure, number};
 use std::alloc::{AllocError, Global};
 
 /// The number of a word: `7`, or `s2+7`.

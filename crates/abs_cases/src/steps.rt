@@ -3,8 +3,9 @@
 use abs_state::AbsState;
 use cil_model::{BinOp, Place};
 use domain_api::Lattice;
-use fact_text::{expr, reference};
-use rule_text::{Failure, comparison, may_operate, operator, place, three_words, two_words};
+use rule_text::{
+    Failure, comparison, expr, may_operate, operator, place, reference, three_words, two_words,
+};
 use state_text::{
     are_alike, has_number, has_reference, has_value, has_variable, has_variables, is_array_place,
     is_comparison, state, value,

@@ -2,10 +2,9 @@
 
 use abs_state::AbsState;
 use domain_api::{Lattice, NoMemory};
-use fact_text::{expr, nullness_name, reference, symbol};
 use rule_text::{
-    Failure, append_number, append_wide_range, asked, check, check_yes, operator, three_words,
-    two_words,
+    Failure, append_number, append_wide_range, asked, check, check_yes, expr, nullness_name,
+    operator, reference, symbol, three_words, two_words,
 };
 use state_text::{
     append_value, are_alike, has_number, has_reference, has_symbol, parts, reached, state,

@@ -1,7 +1,7 @@
 //! The words of what is known of whether a reference is null.
 
+use crate::failure::Failure;
 use alias_facts::Nullness;
-use rule_text::Failure;
 
 /// What is known of a reference, by its name.
 pub fn nullness(name: &str) -> Result<Nullness, Failure> {
