@@ -3,9 +3,7 @@
 //! The words are the names of files of cases. docs/CASES.md says how a case is written.
 #![tactic(auto)]
 
-mod answers;
 mod rules;
-mod steps;
 
 use rule_text::run_files;
 use rules::AbsRules;

@@ -1,6 +1,5 @@
 //! The rules, by the keywords of cases.
 
-use crate::{answers, steps};
 use abs_state::AbsState;
 use rule_text::{Failure, Line, Rules};
 use state_text::state;
@@ -19,17 +18,17 @@ impl AbsRules {
     fn ask(&self, keyword: &str, argument: &str) -> Result<(), Failure> {
         let (alloc, state) = (self.alloc, &self.state);
         match keyword {
-            "made" => answers::made(alloc, argument),
-            "refused" => answers::refused(alloc, argument),
-            "after" => answers::after(alloc, state, argument),
-            "differs" => answers::differs(alloc, state, argument),
-            "leq" => answers::leq(alloc, state, argument),
-            "ends" => answers::ends(alloc, state, argument),
-            "exact" => answers::exact(alloc, state, argument),
-            "gap" => answers::gap(alloc, state, argument),
-            "nullness" => answers::nullness(alloc, state, argument),
-            "length" => answers::length(alloc, state, argument),
-            "variable" => answers::variable(alloc, state, argument),
+            "made" => state_answers::made(alloc, argument),
+            "refused" => state_answers::refused(alloc, argument),
+            "after" => state_answers::after(alloc, state, argument),
+            "differs" => state_answers::differs(alloc, state, argument),
+            "leq" => state_answers::leq(alloc, state, argument),
+            "ends" => state_answers::ends(alloc, state, argument),
+            "exact" => state_answers::exact(alloc, state, argument),
+            "gap" => state_answers::gap(alloc, state, argument),
+            "nullness" => state_answers::nullness(alloc, state, argument),
+            "length" => state_answers::length(alloc, state, argument),
+            "variable" => state_answers::variable(alloc, state, argument),
             _ => Err(Failure::Unread("a keyword")),
         }
     }
@@ -38,20 +37,20 @@ impl AbsRules {
     fn step(&mut self, keyword: &str, argument: &str) -> Result<bool, Failure> {
         let (alloc, state) = (self.alloc, &mut self.state);
         match keyword {
-            "push" => steps::push(alloc, state, argument)?,
+            "push" => state_steps::push(alloc, state, argument)?,
             "pop" => state.pop()?,
-            "put" => steps::put(alloc, state, argument)?,
-            "arith" => steps::arith(alloc, state, argument)?,
-            "compare" => steps::compare(alloc, state, argument)?,
-            "assume" => steps::assume(alloc, state, argument, true)?,
-            "assume-not" => steps::assume(alloc, state, argument, false)?,
-            "load" => steps::load(alloc, state, argument)?,
-            "store" => steps::store(alloc, state, argument)?,
-            "new-array" => steps::new_array(alloc, state, argument)?,
-            "forget" => steps::forget(alloc, state, argument)?,
+            "put" => state_steps::put(alloc, state, argument)?,
+            "arith" => state_steps::arith(alloc, state, argument)?,
+            "compare" => state_steps::compare(alloc, state, argument)?,
+            "assume" => state_steps::assume(alloc, state, argument, true)?,
+            "assume-not" => state_steps::assume(alloc, state, argument, false)?,
+            "load" => state_steps::load(alloc, state, argument)?,
+            "store" => state_steps::store(alloc, state, argument)?,
+            "new-array" => state_steps::new_array(alloc, state, argument)?,
+            "forget" => state_steps::forget(alloc, state, argument)?,
             "norm" => *state = state.norm(alloc)?,
-            "join" => *state = steps::join(alloc, state, argument)?,
-            "widen" => *state = steps::widen(alloc, state, argument)?,
+            "join" => *state = state_steps::join(alloc, state, argument)?,
+            "widen" => *state = state_steps::widen(alloc, state, argument)?,
             _ => return Ok(false),
         }
         Ok(true)
