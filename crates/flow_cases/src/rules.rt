@@ -112,9 +112,18 @@ impl Rules for FlowRules {
 
     fn take(&mut self, keyword: &str, argument: &str) -> Result<Line, Failure> {
         match keyword {
-            "unit" => self.begin(argument).map(|_| Line::Setting),
-            "at" => self.put(argument).map(|_| Line::Step),
-            _ => self.ask(keyword, argument).map(|_| Line::Answer),
+            "unit" => {
+                self.begin(argument)?;
+                Ok(Line::Setting)
+            }
+            "at" => {
+                self.put(argument)?;
+                Ok(Line::Step)
+            }
+            _ => {
+                self.ask(keyword, argument)?;
+                Ok(Line::Answer)
+            }
         }
     }
 }

@@ -1,12 +1,12 @@
 //! The rules on two states as one, on one in other names, and on inclusion.
 
-ghost use Rattle.std.specs.Prelude.{◌≡◌, true, ◌≤◌, length, OnOk};
+ghost use Rattle.std.specs.Prelude.{◌≡◌, true, IfOk, OnOk};
 ghost use Rattle.number_spans.specs.Sizes.{IsWide};
 ghost use Rattle.merged_numbers.specs.Meaning.{AreMeasured, IsMeasured};
 
 use crate::facts::facts_text;
 use crate::number_rules::{end, is_there};
-use domain_api::Expr;
+use domain_api::{Expr, NoMemory};
 use frame_names::Bound;
 use merged_numbers::{Merged, Side, includes, joined, normed, widened};
 use number_facts::{Definitions, Numbers};
@@ -69,6 +69,15 @@ fn spans(alloc: Global, numbers: &Numbers) -> Result<Vec<Span>, Failure> {
     Ok(spans)
 }
 
+/// The same, of which each end is at most 2^65.
+fn measured_spans(alloc: Global, numbers: &Numbers) -> Result<Vec<Span>, Failure>
+    ensures { IfOk result (λ spans. AreMeasured spans.items) }
+{
+    let spans = spans(alloc, numbers)?;
+    measured(spans.as_slice())?;
+    Ok(spans)
+}
+
 /// `s1 s2 -3 3`: a key, with its symbols, its shift and the constant of its first use.
 fn key(text: &str) -> Result<Key, Failure> {
     let mut words = text.split_whitespace();
@@ -110,6 +119,46 @@ fn merged_text(alloc: Global, merged: Option<Merged>) -> Result<String, AllocErr
     )
 }
 
+/// Two states as one, or the first in other names, by the keyword.
+fn made_by(
+    alloc: Global,
+    keyword: &str,
+    keys: &[Key],
+    a: &Side<'_>,
+    b: &Side<'_>,
+) -> Result<Option<Merged>, NoMemory>
+    requires first { AreMeasured a.now.spans.now }
+    requires second { AreMeasured b.now.spans.now }
+{
+    match keyword {
+        "joined" => joined(alloc, keys, a, b),
+        "widened" => widened(alloc, keys, a, b),
+        _ => normed(alloc, keys, a),
+    }
+}
+
+/// What a rule makes of two states, for the keys of a text.
+fn made_of(
+    alloc: Global,
+    numbers: &Numbers,
+    beside: &Numbers,
+    keyword: &str,
+    of: &str,
+) -> Result<Option<Merged>, Failure> {
+    let keys = keys(alloc, of)?;
+    let first = measured_spans(alloc, numbers)?;
+    let second = measured_spans(alloc, beside)?;
+    let a = Side {
+        spans: first.as_slice(),
+        bounds: &numbers.bounds,
+    };
+    let b = Side {
+        spans: second.as_slice(),
+        bounds: &beside.bounds,
+    };
+    Ok(made_by(alloc, keyword, keys.as_slice(), &a, &b)?)
+}
+
 /// `joined s1 s1 0 0, s2 s0 3 0 = s1 in 0..9`: what is known of new symbols, one for each key; `widened` likewise, and
 /// `normed`, where what stands beside counts for nothing.
 pub fn merged(
@@ -120,24 +169,17 @@ pub fn merged(
     argument: &str,
 ) -> Result<(), Failure> {
     let (of, told) = asked(argument)?;
-    let keys = keys(alloc, of)?;
-    let (first, second) = (spans(alloc, numbers)?, spans(alloc, beside)?);
-    measured(first.as_slice())?;
-    measured(second.as_slice())?;
-    let a = Side {
-        spans: first.as_slice(),
-        bounds: &numbers.bounds,
-    };
-    let b = Side {
-        spans: second.as_slice(),
-        bounds: &beside.bounds,
-    };
-    let made = match keyword {
-        "joined" => joined(alloc, keys.as_slice(), &a, &b)?,
-        "widened" => widened(alloc, keys.as_slice(), &a, &b)?,
-        _ => normed(alloc, keys.as_slice(), &a)?,
-    };
+    let made = made_of(alloc, numbers, beside, keyword, of)?;
     check(merged_text(alloc, made)?, told)
+}
+
+/// A value and an offset.
+fn binding(text: &str) -> Result<Bound, Failure> {
+    let (value, offset) = two_words(text)?;
+    Ok(Bound {
+        value: expr(value)?,
+        offset: end(offset)?,
+    })
 }
 
 /// The values and offsets of a text, each two behind a `,`; `none` where there are none.
@@ -147,11 +189,7 @@ fn bindings(alloc: Global, text: &str) -> Result<Vec<Bound>, Failure> {
         return Ok(bindings);
     }
     for text in text.split(',') {
-        let (value, offset) = two_words(text)?;
-        bindings.push(Bound {
-            value: expr(value)?,
-            offset: end(offset)?,
-        })?;
+        bindings.push(binding(text)?)?;
     }
     Ok(bindings)
 }
@@ -166,8 +204,7 @@ pub fn within(
 ) -> Result<(), Failure> {
     let (of, told) = asked(argument)?;
     let bindings = bindings(alloc, of)?;
-    let spans = spans(alloc, numbers)?;
-    measured(spans.as_slice())?;
+    let spans = measured_spans(alloc, numbers)?;
     let a = Side {
         spans: spans.as_slice(),
         bounds: &numbers.bounds,

@@ -1,27 +1,10 @@
 //! The rules on references.
 
-use alias_facts::{Apart, Nullness};
-use rule_text::{Failure, asked, check, check_yes, reference, separate, two_words};
+use alias_facts::Apart;
+use rule_text::{
+    Failure, asked, check, check_yes, nullness, nullness_name, reference, separate, two_words,
+};
 use std::alloc::{AllocError, Global};
-
-/// What is known of a reference, by its name.
-fn nullness(name: &str) -> Result<Nullness, Failure> {
-    match name {
-        "may-be-null" => Ok(Nullness::May),
-        "not-null" => Ok(Nullness::NotNull),
-        "null" => Ok(Nullness::Null),
-        _ => Err(Failure::Unread("what is known of a reference")),
-    }
-}
-
-/// The name of what is known of a reference.
-fn nullness_name(known: Nullness) -> &'static str {
-    match known {
-        Nullness::May => "may-be-null",
-        Nullness::NotNull => "not-null",
-        Nullness::Null => "null",
-    }
-}
 
 /// The text of pairs.
 fn pairs_text(alloc: Global, pairs: &[(u32, u32)]) -> Result<String, AllocError> {

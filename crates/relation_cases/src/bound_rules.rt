@@ -1,6 +1,6 @@
 //! The rules on bounds and gaps.
 
-use crate::words::number_text;
+use crate::words::{append_found, number_text};
 use domain_api::{Expr, Order};
 use pentagon_domain::{BoundRow, Bounds, raised_gap};
 use rule_text::{
@@ -159,11 +159,9 @@ pub fn gaps(alloc: Global, bounds: &Bounds, argument: &str) -> Result<(), Failur
     let Ok(count) = count.parse::<u16>() else {
         return Err(Failure::Unread("how many symbols"));
     };
-    let mut gaps = Vec::with_capacity(alloc, usize::from(count))?;
-    for _ in 0..count {
-        gaps.push(Some(i64::MAX))?;
-    }
-    bounds.gaps_from(symbol(s)?, &mut gaps);
+    let s = symbol(s)?;
+    let mut gaps = vec![in alloc; Some(i64::MAX); usize::from(count)]?;
+    bounds.gaps_from(s, &mut gaps);
     check(gaps_text(alloc, &gaps)?, told)
 }
 
@@ -172,7 +170,7 @@ fn gaps_text(alloc: Global, gaps: &[Option<i64>]) -> Result<String, AllocError> 
     let mut text = String::new(alloc);
     for (index, gap) in gaps.iter().enumerate() {
         separate(&mut text, index, " ")?;
-        text.push_str(&number_text(alloc, *gap)?)?;
+        append_found(&mut text, *gap)?;
     }
     Ok(text)
 }

@@ -4,13 +4,13 @@ ghost use Rattle.std.specs.Prelude.{◌≡◌, true, length, OnOk};
 ghost use Rattle.std.specs.List.{AllByRecursion};
 ghost use Rattle.symbolic_values.specs.Pairing.{AreNear, IsNear};
 
-use crate::words::expr_text;
+use crate::words::{append_expr, expr_text};
 use domain_api::Expr;
 use rule_text::{
     Failure, append_number, asked, check, expr, exprs, reference, separate, two_words,
 };
 use std::alloc::{AllocError, Global};
-use symbolic_values::{Env, Pairs, ReferencePairs, first_use_order, pair_up, renamed};
+use symbolic_values::{Env, Key, Pairs, ReferencePairs, first_use_order, pair_up, renamed};
 
 /// The constant of a number is one of -2^32 to 2^32.
 fn is_near(e: Expr) -> bool
@@ -97,17 +97,22 @@ pub fn pair_references(alloc: Global, argument: &str) -> Result<ReferencePairs, 
     Ok(symbolic_values::pair_references(alloc, a.as_slice(), b.as_slice())?)
 }
 
-/// `keys s1 s2 -3 3, s0 s1 2 0`: the keys in order, each with its symbols, its shift and the constant of its first use.
-pub fn keys(alloc: Global, pairs: &Pairs, told: &str) -> Result<(), Failure> {
+/// The text of keys.
+fn keys_text(alloc: Global, keys: &[Key]) -> Result<String, AllocError> {
     let mut text = String::new(alloc);
-    if pairs.keys.is_empty() {
+    if keys.is_empty() {
         text.push_str("none")?;
     }
-    for (index, key) in pairs.keys.iter().enumerate() {
+    for (index, key) in keys.iter().enumerate() {
         separate(&mut text, index, ", ")?;
         write!(text, "s{} s{} {} {}", key.s, key.t, key.shift, key.first)?;
     }
-    check(text, told)
+    Ok(text)
+}
+
+/// `keys s1 s2 -3 3, s0 s1 2 0`: the keys in order, each with its symbols, its shift and the constant of its first use.
+pub fn keys(alloc: Global, pairs: &Pairs, told: &str) -> Result<(), Failure> {
+    check(keys_text(alloc, pairs.keys.as_slice())?, told)
 }
 
 /// The text of numbers in order.
@@ -130,6 +135,16 @@ pub fn names(alloc: Global, pairs: &Pairs, told: &str) -> Result<(), Failure> {
     check(names_text(alloc, again.exprs.as_slice())?, told)
 }
 
+/// The text of names that may be none.
+fn found_text(alloc: Global, names: &[Option<Expr>]) -> Result<String, AllocError> {
+    let mut text = String::new(alloc);
+    for (index, name) in names.iter().enumerate() {
+        separate(&mut text, index, " ")?;
+        append_expr(&mut text, *name)?;
+    }
+    Ok(text)
+}
+
 /// `own-names 3 = 0 s2-1 none`: the new numbers of so many symbols, from symbol 0 on, where a state is paired with
 /// itself.
 pub fn own_names(alloc: Global, pairs: &Pairs, argument: &str) -> Result<(), Failure> {
@@ -137,12 +152,8 @@ pub fn own_names(alloc: Global, pairs: &Pairs, argument: &str) -> Result<(), Fai
     let Ok(count) = count.parse::<u16>() else {
         return Err(Failure::Unread("how many symbols"));
     };
-    let mut text = String::new(alloc);
-    for (index, name) in pairs.names(alloc, usize::from(count))?.iter().enumerate() {
-        separate(&mut text, index, " ")?;
-        text.push_str(&expr_text(alloc, *name)?)?;
-    }
-    check(text, told)
+    let names = pairs.names(alloc, usize::from(count))?;
+    check(found_text(alloc, names.as_slice())?, told)
 }
 
 /// `reference-names r1 null`: the new reference of each pair, and also those of a copy.
@@ -177,13 +188,16 @@ pub fn named(alloc: Global, pairs: &Pairs, argument: &str) -> Result<(), Failure
     check(expr_text(alloc, again.named(e, f))?, told)
 }
 
-/// `first-uses s3 s1+2 = s3 s1`: the symbols in the order of their first uses.
-pub fn first_uses(alloc: Global, argument: &str) -> Result<(), Failure> {
-    let (question, told) = asked(argument)?;
+/// The symbols of a list of words, in the order of their first uses.
+fn first_used(alloc: Global, text: &str) -> Result<Vec<u32>, Failure> {
     let env = Env {
-        exprs: exprs(alloc, question)?,
+        exprs: exprs(alloc, text)?,
     };
-    let symbols = first_use_order(alloc, &env)?;
+    Ok(first_use_order(alloc, &env)?)
+}
+
+/// The text of symbols.
+fn symbols_text(alloc: Global, symbols: &[u32]) -> Result<String, AllocError> {
     let mut text = String::new(alloc);
     if symbols.is_empty() {
         text.push_str("none")?;
@@ -192,7 +206,14 @@ pub fn first_uses(alloc: Global, argument: &str) -> Result<(), Failure> {
         separate(&mut text, index, " ")?;
         write!(text, "s{sym}")?;
     }
-    check(text, told)
+    Ok(text)
+}
+
+/// `first-uses s3 s1+2 = s3 s1`: the symbols in the order of their first uses.
+pub fn first_uses(alloc: Global, argument: &str) -> Result<(), Failure> {
+    let (question, told) = asked(argument)?;
+    let symbols = first_used(alloc, question)?;
+    check(symbols_text(alloc, symbols.as_slice())?, told)
 }
 
 /// `symbol-names 0 s3-1 none`: the names of symbols, from symbol 0 on.

@@ -137,10 +137,12 @@ impl SegmentRules {
 
     /// What is known of the symbols, with these bounds.
     fn known(&self, bounds: &Bounds) -> Result<Numbers, AllocError> {
+        let ranges = Vec::from_slice(self.alloc, self.ranges.as_slice())?;
+        let bounds = bounds.copy(self.alloc)?;
         Ok(Numbers {
-            ranges: Vec::from_slice(self.alloc, self.ranges.as_slice())?,
+            ranges,
             definitions: Definitions::new(self.alloc),
-            bounds: bounds.copy(self.alloc)?,
+            bounds,
         })
     }
 
@@ -168,8 +170,8 @@ impl SegmentRules {
         argument: &str,
     ) -> Result<Line, Failure> {
         let (at, value) = two_words(argument)?;
-        let known = self.known(bounds)?;
         let (at, value) = (expr(at)?, content(value)?);
+        let known = self.known(bounds)?;
         if keyword == "weak-store" {
             store_weakly(&mut self.segs, &known, at, value)?;
         } else {
@@ -186,13 +188,24 @@ impl SegmentRules {
         Ok(Line::Answer)
     }
 
+    /// What is loaded at an index, with these bounds.
+    fn loaded(&self, bounds: &Bounds, at: Expr) -> Result<Range, Failure> {
+        let known = self.known(bounds)?;
+        loaded(&self.segs, &known, at)
+    }
+
     /// `load s1 = 0..5`: what is loaded at an index.
     pub fn load(&self, bounds: &Bounds, argument: &str) -> Result<Line, Failure> {
         let (at, told) = asked(argument)?;
-        let known = self.known(bounds)?;
-        let found = loaded(&self.segs, &known, expr(at)?)?;
+        let found = self.loaded(bounds, expr(at)?)?;
         check(range_text(self.alloc, found)?, told)?;
         Ok(Line::Answer)
+    }
+
+    /// Whether the segments are shown to say at least as much as the other ones, with these bounds.
+    fn is_below(&self, bounds: &Bounds, names: &[Option<Expr>]) -> Result<bool, Failure> {
+        let known = self.known(bounds)?;
+        is_below(&self.segs, &self.other, &known, names)
     }
 
     /// `includes yes`: whether the segments are shown to say at least as much as the other ones, in the names of their
@@ -203,9 +216,7 @@ impl SegmentRules {
         names: &[Option<Expr>],
         told: &str,
     ) -> Result<Line, Failure> {
-        let known = self.known(bounds)?;
-        let found = is_below(&self.segs, &self.other, &known, names)?;
-        check_yes(self.alloc, found, told)?;
+        check_yes(self.alloc, self.is_below(bounds, names)?, told)?;
         Ok(Line::Answer)
     }
 

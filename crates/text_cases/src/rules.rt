@@ -28,11 +28,6 @@ fn read_number(word: &str) -> Result<u32, Failure> {
     word.parse::<u32>().ok().ok_or(Failure::Unread("a number"))
 }
 
-/// An empty list.
-fn none<T: Drop>(alloc: Global) -> List<T> {
-    List::from_vec(Vec::new(alloc))
-}
-
 /// So many types.
 fn places(alloc: Global, count: u32) -> Result<List<Place>, NoMemory> {
     let mut places = Vec::new(alloc);
@@ -42,20 +37,38 @@ fn places(alloc: Global, count: u32) -> Result<List<Place>, NoMemory> {
     Ok(List::from_vec(places))
 }
 
+/// A unit with these arguments and locals.
+fn unit_of(alloc: Global, args: List<Place>, locals: List<Place>) -> Unit {
+    Unit {
+        name: List::from_vec(Vec::new(alloc)),
+        result: Place::Void,
+        args,
+        locals,
+        max_stack: 8,
+        callees: List::from_vec(Vec::new(alloc)),
+        code: List::from_vec(Vec::new(alloc)),
+        clauses: List::from_vec(Vec::new(alloc)),
+        body_start: 0,
+        instrs: List::from_vec(Vec::new(alloc)),
+    }
+}
+
 /// A unit with so many arguments and locals.
 fn unit(alloc: Global, args: u32, locals: u32) -> Result<Unit, NoMemory> {
-    Ok(Unit {
-        name: none(alloc),
-        result: Place::Void,
-        args: places(alloc, args)?,
-        locals: places(alloc, locals)?,
-        max_stack: 8,
-        callees: none(alloc),
-        code: none(alloc),
-        clauses: none(alloc),
-        body_start: 0,
-        instrs: none(alloc),
-    })
+    let args = places(alloc, args)?;
+    let locals = places(alloc, locals)?;
+    Ok(unit_of(alloc, args, locals))
+}
+
+/// The text that was found is the one that is told.
+fn check_text(found: Vec<u8>, told: &str) -> Result<(), Failure> {
+    if found.as_slice() == told.as_bytes() {
+        return Ok(());
+    }
+    match String::from_utf8(found) {
+        Ok(text) => Err(Failure::Found(text)),
+        Err(_) => Err(Failure::Unread("a text")),
+    }
 }
 
 impl TextRules {
@@ -79,21 +92,19 @@ impl TextRules {
         Ok(())
     }
 
-    /// `text LINES`: the text of all blocks.
-    fn test(&self, lines: &str) -> Result<(), Failure> {
+    /// The text of all blocks.
+    fn found(&self) -> Result<Vec<u8>, Failure> {
         if self.blocks.len() != self.states.len() {
             return Err(Failure::Unmet("there is a state for each block"));
         }
         let unit = unit(self.alloc, self.args, self.locals)?;
-        let found = invariant_text(self.alloc, &unit, &self.blocks, &self.states)?;
+        Ok(invariant_text(self.alloc, &unit, &self.blocks, &self.states)?)
+    }
+
+    /// `text LINES`: the text of all blocks.
+    fn test(&self, lines: &str) -> Result<(), Failure> {
         let told = told_text(self.alloc, lines)?;
-        if found.as_slice() == told.as_bytes() {
-            return Ok(());
-        }
-        match String::from_utf8(found) {
-            Ok(text) => Err(Failure::Found(text)),
-            Err(_) => Err(Failure::Unread("a text")),
-        }
+        check_text(self.found()?, told.as_str())
     }
 }
 
@@ -110,9 +121,18 @@ impl Rules for TextRules {
 
     fn take(&mut self, keyword: &str, argument: &str) -> Result<Line, Failure> {
         match keyword {
-            "unit" => self.begin(argument).map(|_| Line::Begin),
-            "block" => self.add(argument).map(|_| Line::Step),
-            "text" => self.test(argument).map(|_| Line::Answer),
+            "unit" => {
+                self.begin(argument)?;
+                Ok(Line::Begin)
+            }
+            "block" => {
+                self.add(argument)?;
+                Ok(Line::Step)
+            }
+            "text" => {
+                self.test(argument)?;
+                Ok(Line::Answer)
+            }
             _ => Err(Failure::Unread("a keyword")),
         }
     }
