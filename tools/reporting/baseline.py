@@ -214,6 +214,14 @@ def compare_method(found, key, new, old_key, old):
     compare_obligations(found, key, old, new)
 
 
+def lost_methods(before, now, stood_for):
+    """The judged methods that are gone from assemblies that have a report, and for which no other one stands."""
+    for key in before.entries.keys() - now.entries.keys() - stood_for:
+        verdict = before.entries[key].verdict
+        if key.assembly in now.assemblies and RANKS[verdict] > RANKS["not-analysed"]:
+            yield f"{key}: {verdict} before, and gone"
+
+
 def compared(before, now):
     found = Comparison()
     lost = before.assemblies - now.assemblies
@@ -222,7 +230,9 @@ def compared(before, now):
         found.worse.append(f"{name}: no report, so that {count} methods are lost")
     for name in before.with_contracts & now.assemblies - now.with_contracts:
         found.worse.append(f"{name}: no contract is left: compile with the define CONTRACTS_FULL")
-    old_of = {new: old for old, new in successors(before, now).items()}
+    new_of = successors(before, now)
+    found.worse += lost_methods(before, now, new_of.keys())
+    old_of = {new: old for old, new in new_of.items()}
     for key, entry in now.entries.items():
         old_key = old_of.get(key, key)
         if old_key in before.entries:
