@@ -33,7 +33,7 @@ pub struct MethodPlan {
     /// Its local variables.
     pub locals: Vec<Place>,
     /// The number of stack slots that its body has.
-    pub max_stack: u8,
+    pub max_stack: u16,
     /// The bytes of its instructions, with the tokens of the file that is written.
     pub code: Vec<u8>,
 }

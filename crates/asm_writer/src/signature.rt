@@ -1,6 +1,7 @@
 //! The signatures of methods and locals (ECMA-335 II.23.2), and their blobs (II.24.2.4).
 
 ghost use Rattle.std.specs.Prelude.{◌≡◌, ◌+◌, ◌*◌, ◌<◌, ◌≤◌, ◌++◌, length, flat_map, OnOk, IsTrue};
+ghost use Rattle.cil_model.specs.Limits.{MAX_VARIABLES};
 ghost use Rattle.asm_writer.specs.Signatures.{compressed, blob, type_bytes, signature, local_signature, signature_blob, local_blob};
 
 use crate::plan::MethodPlan;
@@ -35,7 +36,7 @@ fn type_bytes(place: Place) -> &'static [u8]
 
 /// Returns how many bytes types have together.
 fn types_size(places: &[Place]) -> usize
-    requires { length places.now ≤ 128 }
+    requires { length places.now ≤ MAX_VARIABLES }
     ensures is { result ≡ length (flat_map type_bytes places.now) }
     ensures bound { result ≤ 2 * length places.now }
 {
@@ -84,9 +85,9 @@ fn append_types(out: &mut Vec<u8>, places: &[Place]) -> Result<(), AllocError>
 /// Returns how many bytes the signature of a method has.
 #[tactic(auto, unfolding(crate::specs::Signatures::signature))]
 fn signature_size(method: &MethodPlan) -> usize
-    requires { length method.now.args.items ≤ 128 }
+    requires { length method.now.args.items ≤ MAX_VARIABLES }
     ensures is { result ≡ length (signature method.now) }
-    ensures bound { result ≤ 261 }
+    ensures bound { result ≤ 517 }
 {
     let result = type_bytes(method.result).len();
     1 + compressed_size(method.args.len()) + result + types_size(&method.args)
@@ -95,7 +96,7 @@ fn signature_size(method: &MethodPlan) -> usize
 /// Appends the blob of the signature of a method.
 #[tactic(auto, unfolding(crate::specs::Signatures::signature, crate::specs::Signatures::signature_blob, crate::specs::Signatures::blob))]
 pub fn append_signature_blob(out: &mut Vec<u8>, method: &MethodPlan) -> Result<(), AllocError>
-    requires { length method.now.args.items ≤ 128 }
+    requires { length method.now.args.items ≤ MAX_VARIABLES }
     ensures { OnOk result (out.new.items ≡ out.old.items ++ signature_blob method.now) }
 {
     append_compressed(out, signature_size(method))?;
@@ -108,7 +109,7 @@ pub fn append_signature_blob(out: &mut Vec<u8>, method: &MethodPlan) -> Result<(
 /// Appends the blob of local variables, where there are any.
 #[tactic(auto, unfolding(crate::specs::Signatures::local_signature, crate::specs::Signatures::local_blob, crate::specs::Signatures::blob))]
 pub fn append_local_blob(out: &mut Vec<u8>, locals: &[Place]) -> Result<(), AllocError>
-    requires { length locals.now ≤ 128 }
+    requires { length locals.now ≤ MAX_VARIABLES }
     ensures { OnOk result (out.new.items ≡ out.old.items ++ local_blob locals.now) }
 {
     if locals.is_empty() {

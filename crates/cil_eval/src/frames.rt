@@ -69,10 +69,10 @@ impl Frames {
         ensures { IsTrue result ↔ HasSpace self.now }
     {
         self.stack.has_room_for(1)
-            && self.args.has_room_for(MAX_VARIABLES as u8)
-            && self.locals.has_room_for(MAX_VARIABLES as u8)
-            && self.entry_args.has_room_for(MAX_VARIABLES as u8)
-            && self.olds.has_room_for(MAX_OLD_VALUES as u8)
+            && self.args.has_room_for(MAX_VARIABLES as u16)
+            && self.locals.has_room_for(MAX_VARIABLES as u16)
+            && self.entry_args.has_room_for(MAX_VARIABLES as u16)
+            && self.olds.has_room_for(MAX_OLD_VALUES as u16)
             && self.positions.has_room_for(1)
             && 1 <= self.positions.len()
     }

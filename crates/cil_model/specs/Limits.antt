@@ -15,11 +15,11 @@ MAX_INSTRUCTIONS = 4_096
 
 -- The most arguments, locals and stack slots of a method together.
 abbrev pub MAX_VARIABLES : ℕ
-MAX_VARIABLES = 128
+MAX_VARIABLES = 256
 
 -- The most blocks of a method's body.
 abbrev pub MAX_BLOCKS : ℕ
-MAX_BLOCKS = 256
+MAX_BLOCKS = 512
 
 -- The most bytes of a method's name in its unit, without the types of its parameters.
 abbrev pub MAX_NAME_BYTES : ℕ

@@ -10,10 +10,10 @@ pub const MAX_CODE_BYTES: usize = 65_536;
 pub const MAX_INSTRUCTIONS: usize = 4_096;
 
 /// The most variables of a method: its arguments, locals and stack slots together.
-pub const MAX_VARIABLES: usize = 128;
+pub const MAX_VARIABLES: usize = 256;
 
 /// The most blocks of a method's body.
-pub const MAX_BLOCKS: usize = 256;
+pub const MAX_BLOCKS: usize = 512;
 
 /// The most bytes of a method's name in its unit, without the types of its parameters.
 pub const MAX_NAME_BYTES: usize = 65_535;

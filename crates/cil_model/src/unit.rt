@@ -26,7 +26,7 @@ pub struct Unit {
     pub args: List<Place>,
     pub locals: List<Place>,
     /// The number of values that the stack holds at most.
-    pub max_stack: u8,
+    pub max_stack: u16,
     /// The methods that the code calls, in order of first use.
     pub callees: List<CalleeInfo>,
     pub code: List<u8>,

@@ -69,7 +69,7 @@ impl<T: Copy + Drop> Pile<T> {
     }
 
     /// Returns whether there is room for so many more items, and for one more list.
-    pub fn has_room_for(&self, count: u8) -> bool
+    pub fn has_room_for(&self, count: u16) -> bool
         ensures { IsTrue result ↔ HasRoomFor count self.now }
     {
         self.items.len() + usize::from(count) <= self.room && self.starts.len() < self.depth

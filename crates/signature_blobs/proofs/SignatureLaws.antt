@@ -1,4 +1,5 @@
 -- A signature is read where a blob begins with one of its spellings, and what was read stands there.
+use Rattle.cil_model.specs.Limits.{MAX_VARIABLES}
 use Rattle.std.proofs.Common.{◌≡◌, ◌≢◌, ℕ, ◌+◌, ◌%◌, ◌<◌, ◌≤◌, Bool, true, false, List, [], ◌∷◌, ◌++◌, length, slice_index, Some, Result, Ok, refl, ap, subst, ◌∙◌, arith}
 use Rattle.std.specs.List.{flat_map}
 use Rattle.std.proofs.lemmas.Bool.{le-ltb, eq-eqb}
@@ -24,11 +25,11 @@ no_count blob = record { bytes = []; holds = refl; stand = nothing_stands blob 1
 pub some_count : (blob : List ℕ) (n after : ℕ) → SomeStand (SpellsNumber n) blob 1 after → SomeStand (SpellsTypeCount true) blob 1 after
 some_count blob n after number = record { bytes = number.bytes; holds = (n, number.holds); stand = number.stand }
 
-counted : (places : List Place) (n : ℕ) (bytes : List ℕ) → SpellsNumber n bytes → n ≤ 128 → length places ≡ n → AreValues places → SpellsCount places bytes
+counted : (places : List Place) (n : ℕ) (bytes : List ℕ) → SpellsNumber n bytes → n ≤ MAX_VARIABLES → length places ≡ n → AreValues places → SpellsCount places bytes
 counted places n bytes spells few number values = record { number = rw number spells; few = omega arith; values = values }
 
 pub types_stand : (blob : List ℕ) (generic : Bool) (result : Place) (args : List Place) (n at mid end : ℕ) → SomeStand (SpellsTypeCount generic) blob 1 at
-    → SomeStand (SpellsNumber n) blob at mid → n ≤ 128 → Stands (type_bytes result) blob mid end → length args ≡ n → StandFrom (SpellsPlaces args) blob end
+    → SomeStand (SpellsNumber n) blob at mid → n ≤ MAX_VARIABLES → Stands (type_bytes result) blob mid end → length args ≡ n → StandFrom (SpellsPlaces args) blob end
     → StandFrom (SpellsTypes generic (record { result = result; args = args })) blob 1
 types_stand blob generic result args n at mid end types count few gives number takes =
     let w = flat_map type_bytes args in
@@ -55,7 +56,7 @@ method_begins blob convention signature lt first default types =
     begins (SpellsTypes (is_generic convention) signature) (SpellsMethod (has_this convention) (is_generic convention) signature) blob convention lt first types
     (λ bytes spells. record { convention = convention; behind = bytes; default = default; this_is = refl; generic_is = refl; types = spells; parts = refl })
 
-pub list_stands : (blob : List ℕ) (places : List Place) (n mid : ℕ) → SomeStand (SpellsNumber n) blob 1 mid → n ≤ 128
+pub list_stands : (blob : List ℕ) (places : List Place) (n mid : ℕ) → SomeStand (SpellsNumber n) blob 1 mid → n ≤ MAX_VARIABLES
     → length places ≡ n → StandFrom (SpellsPlaces places) blob mid → StandFrom (SpellsList places) blob 1
 list_stands blob places n mid count few number takes = record {
   after = takes.after;
@@ -91,9 +92,9 @@ pub ruleset stand = (no_count, some_count, types_stand, method_begins, list_stan
 
 -- ---- what stands there is read
 
-count_read : (blob bytes : List ℕ) (at n after : ℕ) → SpellsNumber n bytes → n ≤ 128 → Stands bytes blob at after → count_at blob at ≡ Ok (Some (n, after))
+count_read : (blob bytes : List ℕ) (at n after : ℕ) → SpellsNumber n bytes → n ≤ MAX_VARIABLES → Stands bytes blob at after → count_at blob at ≡ Ok (Some (n, after))
 unfolding count_at
-count_read blob bytes at n after spells few stands = rw (number_read blob bytes at n after spells stands, le-ltb 128 n few) refl
+count_read blob bytes at n after spells few stands = rw (number_read blob bytes at n after spells stands, le-ltb MAX_VARIABLES n few) refl
 
 parameters_read : (blob bytes : List ℕ) (generic : Bool) (at : ℕ) → SpellsTypeCount generic bytes → Stands bytes blob 1 at → parameters_at blob generic ≡ Ok at
 unfolding parameters_at

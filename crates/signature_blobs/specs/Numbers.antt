@@ -19,7 +19,7 @@ placed blob at (Err Form) = Err (faults.Form at)
 unfoldable pub compressed_at : List ℕ → ℕ → Result (ℕ × ℕ) SigFault
 compressed_at blob at = placed blob at (compressed (drop at blob))
 
--- A number of parameters or locals, and the offset after it. There are at most 128 of them.
+-- A number of parameters or locals, and the offset after it. There are at most as many as a method has variables.
 unfoldable pub count_at : List ℕ → ℕ → Reading (ℕ × ℕ)
 count_at blob at = do
   count ← known (compressed_at blob at)

@@ -64,7 +64,7 @@ abbrev pub SpellsTypeCount : Bool → List ℕ → Type 0
 SpellsTypeCount true bytes = (n : ℕ) × SpellsNumber n bytes
 SpellsTypeCount false bytes = bytes ≡ []
 
--- A number of places and the places, of which the profile has at most 128.
+-- A number of places and the places, of which there are at most as many as a method has variables.
 pub record SpellsCount (places : List Place) (bytes : List ℕ) : Type 0 where
   pub number : SpellsNumber (length places) bytes
   pub few : length places ≤ MAX_VARIABLES

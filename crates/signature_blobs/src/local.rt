@@ -20,7 +20,7 @@ const LOCAL_SIG: u8 = 0x07;
 pub enum LocalSig {
     /// The types of the locals, in order.
     Known(Places),
-    /// More than 128 locals, or a type outside the profile.
+    /// More than 256 locals, or a type outside the profile.
     Other,
 }
 
@@ -59,7 +59,7 @@ fn locals_of(blob: &[u8]) -> Result<LocalSig, SigFault>
 
 /// The signature of locals that a blob says.
 ///
-/// A type outside the profile ends the reading, as more than 128 locals do, and bytes after the last
+/// A type outside the profile ends the reading, as more than 256 locals do, and bytes after the last
 /// type are not read. Another first byte than that of a signature of locals is `Form` at 0, a blob that
 /// ends too early `Short` at its end.
 pub fn local_sig(blob: &[u8]) -> Result<LocalSig, SigFault>

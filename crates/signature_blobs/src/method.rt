@@ -137,7 +137,7 @@ fn method_of(blob: &[u8]) -> Result<MethodSig, SigFault>
 
 /// The signature of a method that a blob says.
 ///
-/// A convention or a type outside the profile ends the reading, as more than 128 parameters do, and
+/// A convention or a type outside the profile ends the reading, as more than 256 parameters do, and
 /// bytes after the last type are not read. A convention byte that names no convention is `Form` at 0,
 /// a blob that ends too early `Short` at its end.
 pub fn method_sig(blob: &[u8]) -> Result<MethodSig, SigFault>

@@ -3,6 +3,7 @@
 ghost use Rattle.std.specs.Prelude.{◌≡◌, ◌≤◌, ◌+◌, ℕ, List, [], ◌∷◌, length, Ok, IfOk, IfErr, IfSome};
 ghost use Rattle.cc_base.specs.Compressed.{SpellsNumber};
 ghost use Rattle.cc_base.specs.Slices.{IsShort};
+ghost use Rattle.cil_model.specs.Limits as limits;
 ghost use Rattle.signature_blobs.specs.Faults.{offset_of};
 ghost use Rattle.signature_blobs.specs.Numbers.{compressed_at, count_at};
 ghost use Rattle.signature_blobs.specs.Spelling.{Stands, SomeStand};
@@ -66,7 +67,7 @@ pub fn count_at(blob: &[u8], at: u32) -> Result<Option<(u32, u32)>, SigFault>
     requires { IsShort blob.now }
     ensures exact { result ≡ count_at blob.now at }
     ensures within { IfErr result (λ fault. offset_of fault ≤ length blob.now) }
-    ensures room { IfOk result (λ found. IfSome found (λ count. count.0 ≤ 128)) }
+    ensures room { IfOk result (λ found. IfSome found (λ count. count.0 ≤ limits.MAX_VARIABLES)) }
     ensures found { IfOk result (λ found. IfSome found (λ count.
         SomeStand (SpellsNumber count.0) blob.now at count.1)) }
 {

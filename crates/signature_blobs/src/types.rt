@@ -3,6 +3,7 @@
 //! Each reader answers None at a type outside the profile.
 
 ghost use Rattle.std.specs.Prelude.{◌≡◌, ℕ, ◌≤◌, length, IfErr, IfOk, IfSome, ◌≢◌};
+ghost use Rattle.cil_model.specs.Limits.{MAX_VARIABLES};
 ghost use Rattle.cil_model.specs.declared.place.Place.TheVariants.{Void};
 ghost use Rattle.cc_base.specs.Slices.{IsShort};
 ghost use Rattle.signature_blobs.specs.Faults.{offset_of};
@@ -67,7 +68,7 @@ pub fn result_at(blob: &[u8], at: u32) -> Result<Option<(Place, u32)>, SigFault>
 #[tactic(auto, using(crate::proofs::Loop::goes_on, crate::proofs::Loop::fails, crate::proofs::Loop::leaves, crate::proofs::Loop::is_done, crate::proofs::TypeLaws::types))]
 pub fn types_at(blob: &[u8], at: u32, count: u32) -> Result<Option<Places>, SigFault>
     requires blob { IsShort blob.now }
-    requires room { count ≤ 128 }
+    requires room { count ≤ MAX_VARIABLES }
     ensures exact { result ≡ types_at blob.now at count }
     ensures number { IfOk result (λ found. IfSome found (λ places. length places ≡ count)) }
     ensures found { IfOk result (λ found. IfSome found (λ places.

@@ -92,7 +92,7 @@ pub(crate) fn make_unit(
         result: shape.result,
         args: shape.args,
         locals: shape.locals,
-        max_stack: shape.max_stack as u8,
+        max_stack: shape.max_stack,
         callees: shape.callees,
         code: List::from_vec(code),
         clauses: own.contracts.clauses,

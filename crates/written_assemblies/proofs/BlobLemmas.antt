@@ -1,4 +1,5 @@
 -- Blobs and signatures that were written, as they are read.
+use Rattle.cil_model.specs.Limits.{MAX_VARIABLES}
 use Rattle.std.proofs.Common.{◌≡◌, ℕ, ◌+◌, ◌*◌, ◌/◌, ◌%◌, ◌^◌, ◌<◌, ◌≤◌, List, [], ◌∷◌, ◌++◌, length, take, drop, Bool, true, false, not, Some, Ok, refl, sym, ap, ap₂, ◌∙◌, append_assoc, arith, inl, inr}
 use Rattle.std.specs.Prelude.{option_map, nat_lt, if◌then◌else◌}
 use Rattle.std.specs.List.{flat_map}
@@ -73,7 +74,7 @@ convention_is : (is_static : Bool) → (convention is_static % 16 ≡ 0) × (has
 convention_is true = (refl, refl, refl)
 convention_is false = (refl, refl, refl)
 
-spells_method : (m : MethodPlan) → length m.args.items ≤ 128 → AreValues m.args.items
+spells_method : (m : MethodPlan) → length m.args.items ≤ MAX_VARIABLES → AreValues m.args.items
     → SpellsMethod (not m.is_static) false (record { result = m.result; args = m.args.items }) (signature m)
 unfolding signature
 spells_method m few values = record {
@@ -95,7 +96,7 @@ spells_method m few values = record {
 }
 
 -- What is read of a method's signature.
-pub signature_back : (m : MethodPlan) → length m.args.items ≤ 128 → AreValues m.args.items
+pub signature_back : (m : MethodPlan) → length m.args.items ≤ MAX_VARIABLES → AreValues m.args.items
     → method_signature (signature m) ≡ Ok (record { has_this = not m.is_static; generic = false; types = Known (record { result = m.result; args = m.args.items }) })
 signature_back m few values =
     method_read (signature m) (not m.is_static) false (record { result = m.result; args = m.args.items })
@@ -103,7 +104,7 @@ signature_back m few values =
 
 -- ---- that of its locals
 
-spells_locals : (ps : List Place) → length ps ≤ 128 → AreValues ps → SpellsLocals ps (written.local_signature ps)
+spells_locals : (ps : List Place) → length ps ≤ MAX_VARIABLES → AreValues ps → SpellsLocals ps (written.local_signature ps)
 unfolding written.local_signature
 spells_locals ps few values = record {
   behind = compressed (length ps) ++ flat_map type_bytes ps;
@@ -115,7 +116,7 @@ spells_locals ps few values = record {
   parts = refl;
 }
 
-pub locals_back : (ps : List Place) → length ps ≤ 128 → AreValues ps → local_signature (written.local_signature ps) ≡ Ok (locals.Known ps)
+pub locals_back : (ps : List Place) → length ps ≤ MAX_VARIABLES → AreValues ps → local_signature (written.local_signature ps) ≡ Ok (locals.Known ps)
 locals_back ps few values =
     local_read (written.local_signature ps) ps
     (record { front = written.local_signature ps; rest = []; holds = spells_locals ps few values; parts = sym (append-nil (written.local_signature ps)) })
@@ -145,7 +146,7 @@ count_short : (n : ℕ) → length (compressed n) ≤ 2
 unfolding compressed
 count_short n = either_short n (nat_lt n 0x80)
 
-pub signature_short : (m : MethodPlan) → length m.args.items ≤ 128 → length (signature m) < 2 ^ 14
+pub signature_short : (m : MethodPlan) → length m.args.items ≤ MAX_VARIABLES → length (signature m) < 2 ^ 14
 unfolding signature
 signature_short m few =
     let count = count_short (length m.args.items) in
@@ -155,7 +156,7 @@ signature_short m few =
     let front = length-append (compressed (length m.args.items)) (type_bytes m.result) in
     omega (arith, count, result, args, all, front, few)
 
-pub locals_short : (ps : List Place) → length ps ≤ 128 → length (written.local_signature ps) < 2 ^ 14
+pub locals_short : (ps : List Place) → length ps ≤ MAX_VARIABLES → length (written.local_signature ps) < 2 ^ 14
 unfolding written.local_signature
 locals_short ps few =
     let count = count_short (length ps) in

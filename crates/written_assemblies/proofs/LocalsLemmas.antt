@@ -1,4 +1,5 @@
 -- The locals of methods, as they are read.
+use Rattle.cil_model.specs.Limits.{MAX_VARIABLES}
 use Rattle.std.proofs.Common.{◌≡◌, ℕ, zero, suc, ◌+◌, ◌*◌, ◌/◌, ◌%◌, ◌^◌, ◌<◌, ◌≤◌, List, [], ◌∷◌, ◌++◌, length, take, get_or, Bool, true, false, Some, refl, sym, ap, subst, ◌∙◌, arith, slice_index}
 use Rattle.std.specs.Prelude.{◌==◌, if◌then◌else◌}
 use Rattle.std.specs.List.{sum_by}
@@ -121,7 +122,7 @@ row_named_by md row some few small =
     let number : (17 * 2 ^ 24 + row) % 2 ^ 24 ≡ row = omega (arith, small) in
     rw (table, number, le-leb 1 row some, le-leb row (row_count md 17) few) refl
 
-few_locals : (m : MethodPlan) → length m.args.items + length m.locals.items + m.max_stack ≤ 128 → length m.locals.items ≤ 128
+few_locals : (m : MethodPlan) → length m.args.items + length m.locals.items + m.max_stack ≤ MAX_VARIABLES → length m.locals.items ≤ MAX_VARIABLES
 few_locals m few = omega (arith, few)
 
 one_at_most : (has : Bool) → count_by has ≤ 1

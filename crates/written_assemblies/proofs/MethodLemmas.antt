@@ -1,4 +1,5 @@
 -- The types and methods that were written, as they are read.
+use Rattle.cil_model.specs.Limits.{MAX_VARIABLES}
 use Rattle.std.proofs.Common.{◌≡◌, ℕ, ◌+◌, ◌*◌, ◌-◌, ◌^◌, ◌<◌, ◌≤◌, List, [], ◌∷◌, length, drop, get_or, Bool, true, false, Some, refl, sym, ap, ap₂, ◌∙◌, append_assoc, arith, slice_index}
 use Rattle.std.specs.List.{flat_map}
 use Rattle.metadata_tables.specs.Heaps.{string_at, blob_at, item_of}
@@ -143,7 +144,7 @@ pub name_read : (plan : AsmPlan) (i : ℕ) (m : MethodPlan) → Sound plan → i
 name_read plan i m s within is no_zero =
     ap (string_at (md_for plan)) (name_cell plan i m s within is) ∙ text_read plan m.name.items _ s no_zero (method_name_stands plan i m within is)
 
-pub signature_read : (plan : AsmPlan) (i : ℕ) (m : MethodPlan) → Sound plan → i < length plan.methods.items → get_or plan.methods.items i m ≡ m → length m.args.items ≤ 128
+pub signature_read : (plan : AsmPlan) (i : ℕ) (m : MethodPlan) → Sound plan → i < length plan.methods.items → get_or plan.methods.items i m ≡ m → length m.args.items ≤ MAX_VARIABLES
     → blob_at (md_for plan) (cell (md_for plan) 6 (i + 1) 4) ≡ Some (signatures.signature m)
 unfolding signatures.signature_blob
 signature_read plan i m s within is few =

@@ -13,7 +13,7 @@ use Rattle.asm_image.specs.Cells.{type_count, method_count, method_list, signatu
 use Rattle.asm_image.specs.Faults.{list_test, least_list, type_tests, types_tests, signature_fault, signature_tests, method_tests, methods_tests}
 use Rattle.asm_image.specs.Names.{short_name, printed_name}
 use Rattle.asm_image.specs.Rows.{method_row as read_row, rows_of}
-use Rattle.cil_model.specs.Limits.{MAX_CODE_BYTES}
+use Rattle.cil_model.specs.Limits.{MAX_CODE_BYTES, MAX_VARIABLES}
 use Rattle.signature_blobs.specs.Signatures.{method_signature}
 use Rattle.signature_blobs.specs.declared.method.SigTypes.TheVariants.{Known}
 use Rattle.asm_writer.specs.declared.field.Field.{Field}
@@ -177,7 +177,7 @@ each_within [] all = tt
 each_within (m ∷ ms) all =
     (and_left (is_within m) (list_all is_within ms) all, each_within ms (and_right (is_within m) (list_all is_within ms) all))
 
-few_variables : (m : MethodPlan) → is_within m ≡ true → length m.args.items + length m.locals.items + m.max_stack ≤ 128
+few_variables : (m : MethodPlan) → is_within m ≡ true → length m.args.items + length m.locals.items + m.max_stack ≤ MAX_VARIABLES
 unfolding is_within
 few_variables m within = leb-true _ _ (and_right _ _ within)
 
@@ -188,7 +188,7 @@ pub record IsTaken (plan : AsmPlan) : Type 0 where
   pub within : list_all is_within plan.methods.items ≡ true
   pub few : length (bodies plan.methods.items).bytes < 2 ^ 31
 
-pub few_variables_at : (plan : AsmPlan) (i : ℕ) (m : MethodPlan) → IsTaken plan → i < length plan.methods.items → get_or plan.methods.items i m ≡ m → length m.args.items + length m.locals.items + m.max_stack ≤ 128
+pub few_variables_at : (plan : AsmPlan) (i : ℕ) (m : MethodPlan) → IsTaken plan → i < length plan.methods.items → get_or plan.methods.items i m ≡ m → length m.args.items + length m.locals.items + m.max_stack ≤ MAX_VARIABLES
 few_variables_at plan i m t within is = few_variables m (at_index (λ n. is_within n ≡ true) plan.methods.items i m (each_within plan.methods.items t.within) within is)
 
 few_code : (m : MethodPlan) → is_within m ≡ true → length m.code.items ≤ MAX_CODE_BYTES
@@ -198,7 +198,7 @@ few_code m within = leb-true _ _ (and_left _ _ within)
 pub few_code_at : (plan : AsmPlan) (i : ℕ) (m : MethodPlan) → IsTaken plan → i < length plan.methods.items → get_or plan.methods.items i m ≡ m → length m.code.items ≤ MAX_CODE_BYTES
 few_code_at plan i m t within is = few_code m (at_index (λ n. is_within n ≡ true) plan.methods.items i m (each_within plan.methods.items t.within) within is)
 
-few_args : (plan : AsmPlan) (i : ℕ) (m : MethodPlan) → IsTaken plan → i < length plan.methods.items → get_or plan.methods.items i m ≡ m → length m.args.items ≤ 128
+few_args : (plan : AsmPlan) (i : ℕ) (m : MethodPlan) → IsTaken plan → i < length plan.methods.items → get_or plan.methods.items i m ≡ m → length m.args.items ≤ MAX_VARIABLES
 few_args plan i m t within is = let few = few_variables_at plan i m t within is in omega (arith, few)
 
 pub readable_at : (plan : AsmPlan) (i : ℕ) (m : MethodPlan) → IsTaken plan → i < length plan.methods.items → get_or plan.methods.items i m ≡ m → IsReadableMethod m
