@@ -45,9 +45,11 @@ pub grows_by : (known : StateFacts) (facts : Facts) (s : ℕ) (def : Def) → Ha
     → facts.definitions ≡ known.facts.definitions ++ (s, def) ∷ [] → TestsOf (length known.references) def → Grows known facts
 grows_by known facts s def form kept later is names = record {
   form = kept;
-  rising = rw is (all_pushed (λ (d : ℕ × Def). 1 ≤ d.0) known.facts.definitions (s, def) form.rising.0 (omega (arith, later)),
-      rising_pushed known.facts.definitions (s, def) form.rising.1
-      (all_weaker (NamesOwn (length known.facts.ranges)) (λ (e : ℕ × Def). e.0 < s) known.facts.definitions (λ d own. below d.0 own.0) form.named.definitions));
+  rising = rw is (
+    all_pushed (λ (d : ℕ × Def). 1 ≤ d.0) known.facts.definitions (s, def) form.rising.0 (omega (arith, later)),
+    rising_pushed known.facts.definitions (s, def) form.rising.1
+        (all_weaker (NamesOwn (length known.facts.ranges)) (λ (e : ℕ × Def). e.0 < s) known.facts.definitions (λ d own. below d.0 own.0) form.named.definitions),
+  );
   tests = rw is (all_pushed (λ (d : ℕ × Def). TestsOf (length known.references) d.1) known.facts.definitions (s, def) form.tests names);
 }
   where
