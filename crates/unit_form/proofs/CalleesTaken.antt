@@ -143,8 +143,12 @@ clauses_taken form args result bytes at fits passed =
 
 -- ---- callees
 
+-- A callee whose arguments can be counted in this form.
+abbrev pub IsSpelledCallee : UnitForm → CalleeInfo → Type 0
+IsSpelledCallee form callee = IsCallee callee × IsCount form (length callee.args)
+
 pub callee_taken : (form : UnitForm) (bytes : List ℕ) → IsBytes bytes → (before : List CalleeInfo) (at : ℕ) → first_of (next_callee form bytes before at).tests ≡ None
-    → Stands bytes at (next_callee form bytes before at) (callee_bytes form (next_callee form bytes before at).value) × IsCallee (next_callee form bytes before at).value × IsCount form (length (next_callee form bytes before at).value.args)
+    → Stands bytes at (next_callee form bytes before at) (callee_bytes form (next_callee form bytes before at).value) × IsSpelledCallee form (next_callee form bytes before at).value
 unfolding callee_field
 callee_taken form bytes fits before at passed =
     let name = name_field bytes at in
@@ -164,13 +168,8 @@ callee_taken form bytes fits before at passed =
             ∙ sym (append_assoc (places_bytes form args.value) (clauses_bytes form clauses.value) _)))
             ∙ sym (append_assoc (name_bytes name.value) (place_number result.value ∷ (places_bytes form args.value ++ clauses_bytes form clauses.value)) _);
       },
-      record { args = three.hold; few_args = omega (arith, three.few); name = one.name; clauses = four.limits; ints = four.ints; numbers = four.numbers },
-      three.count,
+      (record { args = three.hold; few_args = omega (arith, three.few); name = one.name; clauses = four.limits; ints = four.ints; numbers = four.numbers }, three.count),
     )
-
--- A callee whose arguments can be counted in this form.
-abbrev pub IsSpelledCallee : UnitForm → CalleeInfo → Type 0
-IsSpelledCallee form callee = IsCallee callee × IsCount form (length callee.args)
 
 all_callees : (form : UnitForm) (before callees : List CalleeInfo) → AllGood (λ earlier callee. IsSpelledCallee form callee) before callees
     → AllByRecursion IsCallee callees × AllByRecursion (λ callee. IsCount form (length callee.args)) callees
@@ -184,4 +183,5 @@ pub callees_taken : (form : UnitForm) (count : ℕ) (bytes : List ℕ) (at : ℕ
     × AllByRecursion (λ callee. IsCount form (length callee.args)) (callee_fields form count bytes at).value
 callees_taken form count bytes at fits passed =
     let all = many_taken bytes (next_callee form bytes) (callee_bytes form) (λ earlier callee. IsSpelledCallee form callee) (callee_taken form bytes fits) count [] at passed in
-    (all.0, all_callees form [] (callee_fields form count bytes at).value all.1)
+    let good = all_callees form [] (callee_fields form count bytes at).value all.1 in
+    (all.0, good.0, good.1)

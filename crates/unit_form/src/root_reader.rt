@@ -89,12 +89,7 @@ fn root_of(form: UnitForm, tag: u8, operand: &[u8]) -> Option<Root>
 
 /// The root of a tag whose operand stands at this offset, and the offset after it.
 #[tactic(auto, using(crate::proofs::Operands::operand_cut, crate::proofs::Operands::operand_broken, crate::proofs::Operands::operand_read))]
-fn read_operand(
-    form: UnitForm,
-    bytes: &[u8],
-    at: u32,
-    tag: u8,
-) -> Result<(Root, u32), FieldFault>
+fn read_operand(form: UnitForm, bytes: &[u8], at: u32, tag: u8) -> Result<(Root, u32), FieldFault>
     requires short { length bytes.now ≤ 2147483647 }
     ensures { Judges result (first_of (operand_field form tag bytes.now at).tests) (λ read. IsRead bytes.now (operand_field form tag bytes.now at) (told read.0) read.1) }
 {
