@@ -1,5 +1,5 @@
 -- Each callee that is read has an offset.
-use Rattle.std.proofs.Common.{◌≡◌, ℕ, zero, suc, ◌+◌, List, [], ◌∷◌, length, refl, sym, ap, ◌∙◌}
+use Rattle.std.proofs.Common.{◌≡◌, ℕ, zero, suc, ◌+◌, List, [], length, refl, sym, ap, ◌∙◌}
 use Rattle.unit_form.specs.Callees.{callee_field, callee_offsets, next_callee}
 use Rattle.unit_form.specs.Fields.{name_field, place_field, u16_field, variables_field}
 use Rattle.unit_form.specs.Forms.{form_of}
