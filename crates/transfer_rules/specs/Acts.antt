@@ -1,7 +1,7 @@
 -- What an operation does to what is known of a point, where it ends in no fault (ECMA-335 III.3 and III.4). Where an
 -- operand is missing, or has not the form that the operation takes, nothing is reached: the machine does not go on
 -- there.
-use Rattle.std.specs.Prelude.{ℕ, ◌+◌, ◌-◌, ℤ, pos, negsuc, nat_lt, List, length, get_or, slice_get, Option, Some, None, if◌then◌else◌}
+use Rattle.std.specs.Prelude.{ℕ, ◌+◌, ℤ, pos, negsuc, nat_lt, List, length, get_or, slice_get, Option, Some, None, if◌then◌else◌}
 use Rattle.std.specs.Option.{option_and_then}
 use Rattle.cil_model.specs.Comparisons.{comparison_of}
 use Rattle.cil_model.specs.UnitCalls.{array_place, unit_call}
@@ -18,7 +18,7 @@ use Rattle.cil_model.specs.declared.unit.CalleeInfo.{CalleeInfo}
 use Rattle.cil_model.specs.declared.unit.Unit.{Unit as MethodUnit}
 use Rattle.cil_model.specs.declared.unit_numbers.UnitCall.{UnitCall}
 use Rattle.cil_model.specs.declared.unit_numbers.UnitCall.TheVariants as calls
-use Rattle.contract_calls.specs.CallStates.{called}
+use Rattle.contract_calls.specs.CallStates.{called, given_back}
 use Rattle.domain_api.specs.declared.expr.Expr.{Expr}
 use Rattle.frame_names.specs.declared.var.Var.{Var}
 use Rattle.frame_names.specs.declared.var.Var.TheVariants as vars
@@ -61,11 +61,6 @@ stored i place known = on_one (put_into i place) known
 
 unfoldable pub duplicated : StateFacts → State
 duplicated known = with_one given (from_top 0 known) known
-
--- A result is put into its place, where it stands on top.
-unfoldable pub returned : Place → StateFacts → State
-returned places.Void known = Some known
-returned place known = with_one (put_into (length known.variables - 1) place) (from_top 0 known) known
 
 -- ---- operators
 
@@ -154,7 +149,7 @@ acted unit (ops.Text token) known = given vars.Text known
 acted unit ops.Dup known = duplicated known
 acted unit ops.Pop known = Some (popped known)
 acted unit (ops.Call number) known = behind_call unit (unit_call number) known
-acted unit ops.Return known = returned unit.result known
+acted unit ops.Return known = given_back unit (Some known)
 acted unit (ops.Branch test target) known = behind_test test known
 acted unit (ops.Switch targets) known = Some (popped known)
 acted unit (ops.Bin op) known = operated op known

@@ -1,16 +1,16 @@
 -- What the rules ask of the state before an instruction: what an operator's second operand has to be, where the faults
--- of the operator were assumed away, and what lies on the stack before a call.
+-- of the operator were assumed away, and what lies on the stack before a call and before a return.
 use Rattle.std.specs.Prelude.{Option, Some, None, slice_get}
 use Rattle.cil_model.specs.declared.instruction.BinOp.{BinOp}
 use Rattle.cil_model.specs.declared.instruction.Op.{Op}
 use Rattle.cil_model.specs.declared.instruction.Op.TheVariants as ops
 use Rattle.cil_model.specs.UnitCalls.{unit_call}
-use Rattle.cil_model.specs.WellFormed.{IsCallee}
+use Rattle.cil_model.specs.WellFormed.{IsCallee, IsWellFormed}
 use Rattle.cil_model.specs.declared.unit.CalleeInfo.{CalleeInfo}
 use Rattle.cil_model.specs.declared.unit.Unit.{Unit as MethodUnit}
 use Rattle.cil_model.specs.declared.unit_numbers.UnitCall.{UnitCall}
 use Rattle.cil_model.specs.declared.unit_numbers.UnitCall.TheVariants as calls
-use Rattle.contract_calls.specs.CallForms.{CanCall}
+use Rattle.contract_calls.specs.CallForms.{CanCall, CanReturn}
 use Rattle.frame_names.specs.declared.var.Var.{Var}
 use Rattle.frame_names.specs.declared.var.Var.TheVariants as vars
 use Rattle.number_spans.specs.Owed.{Divides, Shifts}
@@ -40,7 +40,13 @@ abbrev pub CanCallBy : MethodUnit → Option UnitCall → State → Type 0
 CanCallBy unit (Some (calls.Callee number)) state = CanCallIt (slice_get unit.callees number) state
 CanCallBy unit call state = Unit {0}
 
+-- The unit is well formed, and may return in the state.
+abbrev pub CanGiveBack : MethodUnit → State → Type 0
+CanGiveBack unit state = IsWellFormed unit × CanReturn unit state
+
 -- Where the operation calls a method, its arguments lie on top of the stack, and are of the kinds of its parameters.
+-- Where it returns, the arguments at the entry are of their kinds, and the result lies on top and is of its kind.
 abbrev pub CanDo : MethodUnit → Op → State → Type 0
 CanDo unit (ops.Call number) state = CanCallBy unit (unit_call number) state
+CanDo unit ops.Return state = CanGiveBack unit state
 CanDo unit op state = Unit {0}

@@ -8,8 +8,8 @@ ghost use Rattle.transfer_rules.specs.Operands.{on_condition};
 ghost use Rattle.transfer_rules.specs.Owed.{CanCallBy, CanDo, IsReady};
 
 use crate::arrays::{load_item, make_array, push_length, store_item};
-use crate::calls::pass_callee;
-use crate::moves::{duplicate, load, put_result, store};
+use crate::calls::{pass_callee, pass_return};
+use crate::moves::{duplicate, load, store};
 use crate::operands::{refuse, take_condition};
 use crate::operators::{complement, negate, operate};
 use abs_state::{AbsState, Var};
@@ -150,7 +150,7 @@ pub(crate) fn act(alloc: Global, state: &mut AbsState, unit: &Unit, op: &Op) -> 
         Op::Dup => duplicate(state),
         Op::Pop | Op::Switch(_) => state.pop(),
         Op::Call(number) => pass_call(alloc, state, unit, unit_call(*number)),
-        Op::Return => put_result(state, unit.result),
+        Op::Return => pass_return(alloc, state, unit),
         Op::Branch(test, _) => pass_test(state, *test),
         Op::Bin(operator) => operate(state, *operator),
         Op::Neg => negate(state),
