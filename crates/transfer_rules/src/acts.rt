@@ -71,7 +71,7 @@ fn pass_assert(state: &mut AbsState, message: bool) -> Result<(), NoMemory>
 }
 
 /// Takes what a call takes that names this.
-#[tactic(auto, using(crate::proofs::Passing::passing))]
+#[tactic(auto, unfolding(crate::specs::Acts::behind_call), using(crate::proofs::Passing::passing))]
 fn pass_named(
     alloc: Global,
     state: &mut AbsState,
@@ -85,7 +85,11 @@ fn pass_named(
         UnitCall::Assert(message) => pass_assert(state, message),
         UnitCall::Assume(message) => pass_assume(state, message),
         UnitCall::Callee(number) => pass_callee(alloc, state, unit, number),
-        _ => Ok(()),
+        UnitCall::Requires(_)
+        | UnitCall::Ensures(_)
+        | UnitCall::EndContractBlock
+        | UnitCall::Result(_)
+        | UnitCall::OldValue(_) => Ok(()),
     }
 }
 
