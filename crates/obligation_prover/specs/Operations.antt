@@ -101,6 +101,16 @@ operation_of ops.Not known = None
 operation_of ops.ConvI4 known = None
 operation_of (ops.Text token) known = None
 
--- Its conditions, in the order in which the machine tests them.
+-- ---- what is judged, and what is assumed
+
+-- The conditions that an instruction is judged by, in the order in which the machine tests them: its own obligations.
 abbrev pub conditions_at : Op → StateFacts → List Condition
 conditions_at op known = option_map_or conditions_of (operation_of op known) []
+
+-- What is assumed to have ended in no fault once an instruction went on. Of each that is what it is judged by.
+abbrev pub assumed_operation : Op → StateFacts → Option Operation
+assumed_operation op known = operation_of op known
+
+-- The conditions that a state after the instruction assumes.
+abbrev pub conditions_after : Op → StateFacts → List Condition
+conditions_after op known = option_map_or conditions_of (assumed_operation op known) []

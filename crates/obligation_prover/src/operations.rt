@@ -130,7 +130,16 @@ pub(crate) fn operation_of(op: &Op, state: &AbsState) -> Option<Operation>
     found_operation(op, state)
 }
 
-/// The condition of an instruction of the unit that is of this fault.
+/// What is assumed to have ended in no fault once an instruction with this operation went on: what it is judged by.
+pub(crate) fn assumed_operation(op: &Op, state: &AbsState) -> Option<Operation>
+    ensures value { result ≡ option_and_then (rule.assumed_operation op.now) state.now }
+    ensures there { IfSome result (λ operation. ForSome state.now (λ known. AreThere known (conditions_of operation))) }
+    ensures form { ForSome state.now HasForm }
+{
+    operation_of(op, state)
+}
+
+/// The condition of an instruction of the unit that is of this fault, among those that it is judged by.
 pub(crate) fn condition_of(
     _unit: &Unit,
     op: &Op,
