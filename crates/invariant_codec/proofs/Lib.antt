@@ -1,0 +1,6 @@
+mod Stands
+mod FormatLaws
+mod NumberLaws
+mod SegmentLaws
+mod SymbolLaws
+mod StateLaws

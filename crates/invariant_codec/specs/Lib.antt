@@ -1,0 +1,6 @@
+pub mod Parses
+pub mod Formats
+pub mod Numbers
+pub mod Segments
+pub mod Symbols
+pub mod States
