@@ -1,6 +1,10 @@
 mod Stands
+mod Counted
+mod RangesRead
 mod FormatLaws
 mod NumberLaws
 mod SegmentLaws
 mod SymbolLaws
 mod StateLaws
+mod SegmentsRead
+mod ArraysRead

@@ -11,7 +11,7 @@ use Rattle.domain_api.specs.declared.expr.Expr.{Expr}
 use Rattle.interval_domain.specs.Interval.{Interval}
 use Rattle.invariant_codec.specs.Formats.{Format, each, last_part, listed, part, tested}
 use Rattle.invariant_codec.specs.Numbers.{byte, expr, flag, is_within, near_expr, number, range}
-use Rattle.invariant_codec.specs.Segments.{KnownArray, Segment, array, array_of, array_place, array_place_of_number, arrays, bound, each_segment, first_bound, first_of, has, is_last, joined, next_bound, nullness_format, nullness_number, nullness_of_number, segment, segment_bytes, segment_of, segments, segments_in, segments_of}
+use Rattle.invariant_codec.specs.Segments.{KnownArray, Segment, array, array_of, array_place, array_place_of_number, arrays, bound, each_segment, first_bound, first_of, has, is_last, joined, next_bound, nullness_format, nullness_number, nullness_of_number, segment, segment_bytes, segment_of, segments, segments_in, segments_of, with_contents}
 use Rattle.invariant_codec.proofs.FormatLaws.{IsExact, counted_exact, each_exact, last_exact, listed_exact, part_exact, tested_exact}
 use Rattle.invariant_codec.proofs.NumberLaws.{byte_exact, expr_exact, flag_exact, near_exact, number_exact, range_exact, within}
 
@@ -52,7 +52,7 @@ each_segment_exact bytes symbols length_is count fits =
     listed_exact bytes (λ before. segment symbols length_is (is_last count before)) (segment_bytes symbols length_is) count
     (λ before. segment_exact bytes symbols length_is (is_last count before) fits) (λ before s. same_spelling symbols length_is (is_last count before) s)
 
-joined_again : (segments : List Segment) → joined (map (λ s. s.content) segments) (map (λ s. s.may_be_empty) segments) (map (λ s. s.end) segments) ≡ segments
+pub joined_again : (segments : List Segment) → joined (map (λ s. s.content) segments) (map (λ s. s.may_be_empty) segments) (map (λ s. s.end) segments) ≡ segments
 joined_again [] = refl
 joined_again (s ∷ segments) = ap (λ (others : List Segment). s ∷ others) (joined_again segments)
 
@@ -109,3 +109,8 @@ pub arrays_exact : (bytes : List ℕ) (symbols : ℕ) → IsBytes bytes → IsEx
 unfolding arrays
 arrays_exact bytes symbols fits =
     counted_exact bytes (number 2) (each (array symbols)) (number_exact bytes 2 fits (omega arith)) (λ n. each_exact bytes (array symbols) n (array_exact bytes symbols fits)) (λ n xs spelled. spelled.0)
+
+-- References and their segments in lists of their own are the same again.
+pub contents_again : (arrays : List KnownArray) → with_contents (map (λ a. a.reference) arrays) (map (λ a. a.segments) arrays) ≡ arrays
+contents_again [] = refl
+contents_again (a ∷ arrays) = ap (λ (others : List KnownArray). a ∷ others) (contents_again arrays)

@@ -13,12 +13,8 @@ use Rattle.invariant_codec.specs.States.{arrays_in, known, known_where, reached_
 use Rattle.invariant_codec.specs.Symbols.{definitions, pairs, rows, variables}
 use Rattle.invariant_codec.proofs.FormatLaws.{IsExact, choice_exact, counted_exact, each_exact, holds, last_exact, one_test, only_exact, part_exact}
 use Rattle.invariant_codec.proofs.NumberLaws.{flag_exact, number_exact, ranges_exact}
-use Rattle.invariant_codec.proofs.SegmentLaws.{arrays_exact}
+use Rattle.invariant_codec.proofs.SegmentLaws.{arrays_exact, contents_again}
 use Rattle.invariant_codec.proofs.SymbolLaws.{definitions_exact, pairs_exact, rows_exact, variables_exact}
-
-contents_again : (arrays : List KnownArray) → with_contents (map (λ a. a.reference) arrays) (map (λ a. a.segments) arrays) ≡ arrays
-contents_again [] = refl
-contents_again (a ∷ arrays) = ap (λ (others : List KnownArray). a ∷ others) (contents_again arrays)
 
 pub known_exact : (bytes : List ℕ) → IsBytes bytes → IsExact bytes known
 unfolding known

@@ -1,5 +1,5 @@
 -- References and their segments.
-use Rattle.std.specs.Prelude.{ℕ, suc, ◌+◌, ◌==◌, Bool, false, not, ◌||◌, List, [], ◌∷◌, length, map, if◌then◌else◌}
+use Rattle.std.specs.Prelude.{ℕ, suc, ◌+◌, ◌==◌, Bool, false, not, ◌||◌, List, [], ◌∷◌, ◌++◌, length, map, if◌then◌else◌}
 use Rattle.std.specs.List.{list_any}
 use Rattle.alias_facts.specs.declared.nullness.Nullness.{Nullness}
 use Rattle.alias_facts.specs.declared.nullness.Nullness.TheVariants as nullness
@@ -55,9 +55,13 @@ is_last count before = suc (length before) == count
 abbrev pub segment_bytes : ℕ → Expr → Segment → List ℕ
 segment_bytes symbols length_is = (segment symbols length_is false).spell
 
+-- The segment after these, of so many.
+abbrev pub next_segment : ℕ → Expr → ℕ → List Segment → Format Segment
+next_segment symbols length_is count before = segment symbols length_is (is_last count before)
+
 -- So many segments.
 abbrev pub each_segment : ℕ → Expr → ℕ → Format (List Segment)
-each_segment symbols length_is count = listed (λ before. segment symbols length_is (is_last count before)) (segment_bytes symbols length_is) count
+each_segment symbols length_is count = listed (next_segment symbols length_is count) (segment_bytes symbols length_is) count
 
 -- ---- segments as lists
 
@@ -67,6 +71,10 @@ segments_of first segments = record {
   contents = map (λ s. s.content) segments;
   marks = map (λ s. s.may_be_empty) segments;
 }
+
+-- The segments with one more.
+abbrev pub with_segment : Segments → Segment → Segments
+with_segment lists s = record { bounds = lists.bounds ++ s.end ∷ []; contents = lists.contents ++ s.content ∷ []; marks = lists.marks ++ s.may_be_empty ∷ [] }
 
 -- The first bound of some, and those after it.
 abbrev pub first_of : List (List Expr) → List Expr
@@ -135,3 +143,17 @@ arrays symbols = part length (number 2) (each (array symbols))
 abbrev pub with_contents : List Reference → Contents → List KnownArray
 with_contents (r ∷ references) (segments ∷ contents) = record { reference = r; segments = segments } ∷ with_contents references contents
 with_contents _ _ = []
+
+pub record Arrays : Type 0 where
+  pub references : List Reference
+  pub contents : Contents
+
+abbrev pub arrays_of : Arrays → List KnownArray
+arrays_of arrays = with_contents arrays.references arrays.contents
+
+abbrev pub in_lists : List KnownArray → Arrays
+in_lists arrays = record { references = map (λ a. a.reference) arrays; contents = map (λ a. a.segments) arrays }
+
+-- The references with one more.
+abbrev pub with_array : Arrays → KnownArray → Arrays
+with_array arrays a = record { references = arrays.references ++ a.reference ∷ []; contents = arrays.contents ++ a.segments ∷ [] }

@@ -9,7 +9,7 @@ use Rattle.pentagon_domain.specs.Rows.{is_before}
 use Rattle.pentagon_domain.specs.declared.bound_row.BoundRow.{BoundRow}
 use Rattle.symbolic_values.specs.declared.def.Def.{Def}
 use Rattle.symbolic_values.specs.declared.def.Def.TheVariants.{Eq, Lt, LtUn, NullTest, Sub}
-use Rattle.invariant_codec.specs.Formats.{Format, choice, each, in_order, last_part, only, part, tested}
+use Rattle.invariant_codec.specs.Formats.{Format, choice, comes_next, each, in_order, last_part, only, part, tested}
 use Rattle.invariant_codec.specs.Numbers.{byte, expr, flag, int64, is_within, name, near_expr, number, proper_name}
 
 -- ---- variables
@@ -55,6 +55,10 @@ row symbols =
 
 abbrev pub row_precedes : BoundRow → BoundRow → Bool
 row_precedes a b = is_before a b.s b.t
+
+-- The bound after these.
+abbrev pub next_row : ℕ → List BoundRow → Format BoundRow
+next_row symbols before = tested (comes_next row_precedes before) (row symbols)
 
 unfoldable pub rows : ℕ → Format (List BoundRow)
 rows symbols = part length (number 4) (in_order row_precedes (row symbols))
@@ -120,6 +124,10 @@ definition symbols references = part (λ d. d.0) (proper_name symbols) (λ symbo
 abbrev pub definition_precedes : Definition → Definition → Bool
 definition_precedes a b = nat_lt a.0 b.0
 
+-- The definition after these.
+abbrev pub next_definition : (symbols references : ℕ) → List Definition → Format Definition
+next_definition symbols references before = tested (comes_next definition_precedes before) (definition symbols references)
+
 unfoldable pub definitions : (symbols references : ℕ) → Format (List Definition)
 definitions symbols references = part length (number 2) (in_order definition_precedes (definition symbols references))
 
@@ -131,6 +139,10 @@ pair_of r q = (r, q)
 -- Two references, lower first.
 unfoldable pub pair : ℕ → Format Pair
 pair references = tested (λ p. nat_lt p.0 p.1) (part (λ p. p.0) (proper_name references) (λ r. last_part (λ p. p.1) (pair_of r) (proper_name references)))
+
+-- The pair after these.
+abbrev pub next_pair : ℕ → List Pair → Format Pair
+next_pair references before = tested (comes_next comes_before before) (pair references)
 
 unfoldable pub pairs : ℕ → Format (List Pair)
 pairs references = part length (number 4) (in_order comes_before (pair references))

@@ -1,0 +1,15 @@
+use Rattle.std.proofs.Common.{rules}
+use Rattle.cc_base.proofs.TestLemmas.{fault-carried}
+use Rattle.invariant_codec.specs.Symbols.{next_definition}
+use Rattle.invariant_codec.proofs.Counted.{read_next, read_fault}
+use Rattle.invariant_codec.proofs.definitions.read_each.Goals as goal
+
+pub loop-definition-preserved : goal.loop-definition-preserved
+loop-definition-preserved c =
+    let read = c.in_ok-definition.ensures in
+    (rw c.in_ok-push.ensures.items (read_next (λ before. (next_definition c.args.symbols c.args.references before).read c.args.bytes.now) c.args.count c.args.start c.loop-definition._definition c.loop-definition.at c.in_ok-definition.next c.loop-definition.definitions.items _ (search rules) c.loop-definition.invariant.0 read.0 read.1.0 read.1.1), read.1.2)
+
+pub returns-in_err-definition : goal.returns-in_err-definition
+returns-in_err-definition c =
+    fault-carried _ _ _ _ c.from_residual.ensures.1
+    (read_fault (λ before. (next_definition c.args.symbols c.args.references before).read c.args.bytes.now) c.args.count c.args.start c.loop-definition._definition c.loop-definition.at c.loop-definition.definitions.items _ (search rules) c.loop-definition.invariant.0 c.in_err-definition.ensures)
