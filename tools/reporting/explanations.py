@@ -22,7 +22,7 @@ REASONS = {
     "N2 generic": ("it has type parameters", "Write it for int or bool."),
     "N3 no IL body": ("it is abstract, external or native: it has no IL", "Nothing: there is no code to check."),
     "N4 signature type": (
-        "its result or a parameter is none of int, bool, int[], bool[], or it has more than 128 parameters",
+        "its result or a parameter is none of int, bool, int[], bool[], or it has more than 256 parameters",
         "Move the calculation into a method on these types: pass `text.Length` in place of `text`.",
     ),
     "N5 local type": (

@@ -19,7 +19,7 @@ use Rattle.array_contents.proofs.FormSteps.{formed_then, formed_where}
 use Rattle.array_contents.proofs.NarrowTest.{all_narrow}
 use Rattle.array_contents.specs.Contents.{AreFormed}
 use Rattle.array_contents.specs.FormTest.{is_narrow}
-use Rattle.state_facts.specs.Forms.{AreRising, EndsBy, HasForm, IsArrayPlace, IsNumber, IsReference, IsVar, TestsOf, lengths_of}
+use Rattle.state_facts.specs.Forms.{AreRising, EndsBy, HasForm, IsArrayPlace, IsNumber, IsReference, IsVar, SymbolsRise, TestsOf, lengths_of}
 use Rattle.state_facts.specs.StateFacts.{StateFacts}
 use Rattle.abs_state.specs.StateParts.{StateParts, AreOrdered, AreParts, known_of, parts_of}
 use Rattle.frame_names.specs.declared.reference.Reference.{Reference}
@@ -94,7 +94,7 @@ all_decide test P each (x ∷ xs) = Decides-and (test x) (list_all test xs) (eac
 -- ---- definitions rise
 
 abbrev RiseFrom : ℕ → List (ℕ × Def) → Type 0
-RiseFrom least definitions = AllByRecursion (λ d. least ≤ d.0) definitions × AreRising definitions
+RiseFrom least definitions = AllByRecursion (λ d. least ≤ d.0) definitions × SymbolsRise definitions
 
 later_all : (least more : ℕ) (definitions : List (ℕ × Def)) → least ≤ more → AllByRecursion (λ d. more ≤ d.0) definitions → AllByRecursion (λ d. least ≤ d.0) definitions
 later_all least more [] le all = tt
@@ -115,12 +115,8 @@ rise_decides least (d ∷ definitions) = Decides-like _
     (λ rise. (rise.0.0, (from_above d.0 definitions rise.1.0, rise.1.1)))
     (Decides-and (nat_le least d.0) _ (at_most_decides least d.0) (rise_decides (d.0 + 1) definitions))
 
-from_zero : (definitions : List (ℕ × Def)) → AllByRecursion (λ d. 0 ≤ d.0) definitions
-from_zero [] = tt
-from_zero (d ∷ definitions) = (omega arith, from_zero definitions)
-
 rising_decides : (definitions : List (ℕ × Def)) → Decides (are_rising definitions) (AreRising definitions)
-rising_decides definitions = Decides-like _ (λ is. is.1) (λ rise. (from_zero definitions, rise)) (rise_decides 0 definitions)
+rising_decides definitions = rise_decides 1 definitions
 
 -- ---- the whole
 

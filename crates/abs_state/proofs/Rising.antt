@@ -6,7 +6,7 @@ use Rattle.symbolic_values.specs.declared.def.Def.{Def}
 use Rattle.abs_state.specs.FormTests.{rise_from}
 
 pub rises_on : (definitions : List (ℕ × Def)) (i least : ℕ) (d : ℕ × Def) → i < length definitions → least ≤ (get_or definitions i d).0
-    → rise_from least (drop i definitions) ≡ rise_from 0 definitions → rise_from ((get_or definitions i d).0 + 1) (drop (i + 1) definitions) ≡ rise_from 0 definitions
+    → rise_from least (drop i definitions) ≡ rise_from 1 definitions → rise_from ((get_or definitions i d).0 + 1) (drop (i + 1) definitions) ≡ rise_from 1 definitions
 rises_on definitions i least d inside above so_far =
     let split : drop i definitions ≡ get_or definitions i d ∷ drop (suc i) definitions = drop-cons definitions i d inside in
     let more : i + 1 ≡ suc i = add-one i in
@@ -17,7 +17,7 @@ rises_on definitions i least d inside above so_far =
     le_true m n le = grind (arith, le)
 
 pub falls_here : (definitions : List (ℕ × Def)) (i least : ℕ) (d : ℕ × Def) → i < length definitions → (get_or definitions i d).0 < least
-    → rise_from least (drop i definitions) ≡ rise_from 0 definitions → false ≡ rise_from 0 definitions
+    → rise_from least (drop i definitions) ≡ rise_from 1 definitions → false ≡ rise_from 1 definitions
 falls_here definitions i least d inside below so_far =
     let split : drop i definitions ≡ get_or definitions i d ∷ drop (suc i) definitions = drop-cons definitions i d inside in
     let below_it : nat_le least (get_or definitions i d).0 ≡ false = le_false least _ below in
@@ -26,8 +26,8 @@ falls_here definitions i least d inside below so_far =
     le_false : (m n : ℕ) → n < m → nat_le m n ≡ false
     le_false m n lt = grind (arith, lt)
 
-pub rises_all : (definitions : List (ℕ × Def)) (i least : ℕ) → length definitions ≤ i → rise_from least (drop i definitions) ≡ rise_from 0 definitions
-    → true ≡ rise_from 0 definitions
+pub rises_all : (definitions : List (ℕ × Def)) (i least : ℕ) → length definitions ≤ i → rise_from least (drop i definitions) ≡ rise_from 1 definitions
+    → true ≡ rise_from 1 definitions
 rises_all definitions i least past so_far = let none : drop i definitions ≡ [] = drop_all i definitions past in rw none at so_far
 
 pub ruleset rising_symbols = (rises_on, falls_here, rises_all)

@@ -55,8 +55,9 @@ abbrev pub rise_from : ℕ → List (ℕ × Def) → Bool
 rise_from least [] = true
 rise_from least (d ∷ definitions) = nat_le least d.0 && rise_from (d.0 + 1) definitions
 
+-- Symbol 0 has no definition.
 abbrev pub are_rising : List (ℕ × Def) → Bool
-are_rising definitions = rise_from 0 definitions
+are_rising definitions = rise_from 1 definitions
 
 abbrev pub is_none : {X : Type 0} → List X → Bool
 is_none xs = length xs == 0

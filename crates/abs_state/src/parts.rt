@@ -163,12 +163,12 @@ impl Sizes {
     }
 }
 
-/// Returns whether each symbol is defined once at most, and they rise.
+/// Returns whether symbols from 1 on are defined, each once at most, and they rise.
 #[tactic(auto, using(crate::proofs::Rising::rising_symbols))]
 fn are_rising(definitions: &[(u32, Def)]) -> bool
     ensures { result ≡ tests.are_rising definitions.now }
 {
-    let mut least = 0;
+    let mut least = 1;
     for definition in definitions {
         let symbol = u64::from(definition.0);
         if symbol < least {

@@ -27,7 +27,7 @@ fn is_within(method: &MethodPlan) -> bool
     method.code.len() <= MAX_CODE_BYTES
         && args <= MAX_VARIABLES
         && locals <= MAX_VARIABLES
-        && args + locals + usize::from(method.max_stack) <= MAX_VARIABLES
+        && args + locals + method.max_stack as usize <= MAX_VARIABLES
 }
 
 /// Returns whether all methods keep their limits.

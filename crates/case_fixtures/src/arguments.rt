@@ -53,3 +53,11 @@ pub fn small_number_of(alloc: Global, line: u64, text: &str) -> Result<u8, Stop>
         Err(_) => Err(stop_at(alloc, line, "not a number of a byte")),
     }
 }
+
+/// A decimal number of two bytes.
+pub fn short_number_of(alloc: Global, line: u64, text: &str) -> Result<u16, Stop> {
+    match text.parse::<u16>() {
+        Ok(number) => Ok(number),
+        Err(_) => Err(stop_at(alloc, line, "not a number of two bytes")),
+    }
+}

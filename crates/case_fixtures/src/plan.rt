@@ -1,6 +1,6 @@
 //! Assemblies that a case describes: `assembly FILE NAMESPACE CLASS`, or `wide_assembly`, and a line for each method.
 
-use crate::arguments::{bytes_of, small_number_of, text_of, word_of};
+use crate::arguments::{bytes_of, short_number_of, text_of, word_of};
 use crate::wrong::{Stop, stop_at};
 use asm_writer::{AsmPlan, MethodPlan, WriteRefusal, write_assembly};
 use case_reader::Field;
@@ -82,7 +82,7 @@ fn method_of(alloc: Global, field: Field<'_>) -> Result<MethodPlan, Stop> {
         result: place_of(alloc, line, result)?,
         args: places_of(alloc, line, args)?,
         locals: places_of(alloc, line, locals)?,
-        max_stack: small_number_of(alloc, line, stack)?,
+        max_stack: short_number_of(alloc, line, stack)?,
         code: bytes_of(alloc, line, code)?,
     })
 }

@@ -26,7 +26,7 @@ use Rattle.metadata_tables.specs.Numbers.{method_def}
 use Rattle.unit_builder.specs.Meanings.{as_token}
 use Rattle.pe_reader.specs.Addresses.{metadata}
 use Rattle.method_unit.specs.Units.{IsUnit}
-use Rattle.safe_worlds.proofs.SafeWorlds.{world_is_safe}
+use Rattle.safe_worlds.proofs.SafeWorlds.{frames_keep_reach, runs_give_freely, world_is_safe}
 use Rattle.unit_builder.specs.Met.{IsAmong, first_method}
 use Rattle.unit_builder.specs.Outcomes.{IfAnalysed, entries_of, entry_of, outcome_of}
 use Rattle.unit_builder.specs.Reach.{Reaches, itself}
@@ -35,13 +35,13 @@ use Rattle.unit_builder.specs.WorldOf.{world_of}
 use Rattle.unit_builder.specs.declared.entry.MethodEntry.{MethodEntry}
 use Rattle.unit_builder.specs.declared.entry.Outcome.{Outcome}
 use Rattle.unit_builder.specs.declared.entry.Outcome.TheVariants.{Analysed, Skipped}
-use Rattle.unit_builder.proofs.ReachedWorlds.{AllAnalysed, each_of_world, world_agrees}
+use Rattle.unit_builder.proofs.ReachedWorlds.{AllAnalysed, each_of_world, world_agrees, world_begins}
 use Rattle.unit_builder.proofs.TokenLemmas.{named-among, token_at}
 use Rattle.unit_builder.proofs.VisitLemmas.{row_there, some_is}
 use Rattle.check_driver.specs.CheckText.{method_line}
 use Rattle.check_driver.specs.Checked.{AreRunnable, AsksToCheck, HasLine, IfCheck, IsHeldReportable, IsReportable, IsSafeMethod, PrintsMethod}
 use Rattle.check_driver.specs.Expected.{expected}
-use Rattle.check_driver.specs.Headline.{IsAssemblyOf, TellAllProved, WasAppended}
+use Rattle.check_driver.specs.Headline.{BeginsItsWorld, IsAssemblyOf, RunsKeepArrays, TellAllProved, WasAppended}
 use Rattle.check_driver.specs.Met.{AreUnder}
 use Rattle.check_driver.specs.Sections.{HasProvedLine, proved_line, section}
 use Rattle.check_driver.proofs.CheckedSafety.{known_of, printed_checked, something_printed}
@@ -169,6 +169,20 @@ module _ (bytes : List ℕ) (method : MethodRow) (known : IsReportable bytes) (h
   pub safe_in_world : Safe (world_of bytes from) 0
   safe_in_world = world_is_safe (world_of bytes from) (world_agrees bytes from all_analysed) all_formed all_safe 0
 
+  pub begins_world : BeginsItsWorld bytes method
+  begins_world =
+      let own = each method has itself in record {
+        unit = own.unit;
+        analysed = own.analysed;
+        first = world_begins bytes from own.unit (unit_named bytes from method own.unit (named_itself bytes method known.accepted has) own.analysed);
+      }
+
+  pub keeps_arrays : RunsKeepArrays (world_of bytes from)
+  keeps_arrays = record {
+    frames = frames_keep_reach (world_of bytes from) (world_agrees bytes from all_analysed) all_formed;
+    results = runs_give_freely (world_of bytes from) (world_agrees bytes from all_analysed) all_formed;
+  }
+
 -- ---- the words
 
 -- Today a check has one file, so that there is no second assembly.
@@ -230,9 +244,18 @@ module _ (told : Option Held) (words : List (List ℕ)) (held : Held) (k : ℕ) 
   section_safe method has line =
       printed_checked told words held bytes method met old new is.told_is (asks_to_check words held k bytes is.assembly) is.under is.appends is.known has (prints method line)
 
-  pub headline_safe : (method : MethodRow) → Contains (methods_of bytes) method → TellAllProved (section k text) bytes method → Safe (world_of bytes method.token.0) 0
+  reportable : (method : MethodRow) → Contains (methods_of bytes) method → TellAllProved (section k text) bytes method → IsReportable bytes
+  reportable method has all =
+      reportable_of told words held bytes method old new is.told_is (asks_to_check words held k bytes is.assembly) is.known (prints method (all method has itself))
+
+  pub headline_safe : (method : MethodRow) → Contains (methods_of bytes) method → TellAllProved (section k text) bytes method
+      → BeginsItsWorld bytes method × Safe (world_of bytes method.token.0) 0
   headline_safe method has all =
-      let own = all method has itself in
-      safe_in_world bytes method
-      (reportable_of told words held bytes method old new is.told_is (asks_to_check words held k bytes is.assembly) is.known (prints method own)) has
-      (λ reached among reaches. section_safe reached among (all reached among reaches))
+      let known = reportable method has all in
+      let each = λ reached among reaches. section_safe reached among (all reached among reaches) in
+      (begins_world bytes method known has each, safe_in_world bytes method known has each)
+
+  pub headline_keeps : (method : MethodRow) → Contains (methods_of bytes) method → TellAllProved (section k text) bytes method
+      → RunsKeepArrays (world_of bytes method.token.0)
+  headline_keeps method has all =
+      keeps_arrays bytes method (reportable method has all) has (λ reached among reaches. section_safe reached among (all reached among reaches))

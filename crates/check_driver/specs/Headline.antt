@@ -3,9 +3,15 @@ use Rattle.std.specs.Prelude.{◌≡◌, ℕ, List, ◌++◌, Option, Some, Cont
 use Rattle.asm_image.specs.Rows.{methods_of}
 use Rattle.asm_image.specs.declared.method_row.MethodRow.{MethodRow}
 use Rattle.cc_base.specs.Files.{Held}
+use Rattle.cil_model.specs.declared.machine.World.{World}
+use Rattle.cil_model.specs.declared.unit.Unit.{Unit as MethodUnit}
 use Rattle.command_words.specs.Words.{checked_names}
+use Rattle.safe_worlds.specs.Worlds.{FramesKeep, RunsGiveFreely}
+use Rattle.unit_builder.specs.Outcomes.{outcome_of}
 use Rattle.unit_builder.specs.Reach.{Reaches}
 use Rattle.unit_builder.specs.Walks.{calls_of}
+use Rattle.unit_builder.specs.WorldOf.{world_of}
+use Rattle.unit_builder.specs.declared.entry.Outcome.TheVariants.{Analysed}
 use Rattle.check_driver.specs.Sections.{HasProvedLine}
 
 -- The words ask for the reports of assemblies, and the file of the k-th of them, counted from 0, is held with these
@@ -26,3 +32,15 @@ abbrev pub TellAllProved : List (List ℕ) → List ℕ → MethodRow → Type 0
 TellAllProved lines bytes method =
     (reached : MethodRow) → Contains (methods_of bytes) reached → Reaches (calls_of bytes) method.token.0 reached.token.0
     → HasProvedLine lines reached
+
+-- The method is analysed, and the first unit of its world is its own.
+pub record BeginsItsWorld (bytes : List ℕ) (method : MethodRow) : Type 0 where
+  pub unit : MethodUnit
+  pub analysed : outcome_of bytes method ≡ Analysed unit
+  pub first : slice_get (world_of bytes method.token.0).units 0 ≡ Some unit
+
+-- In each run of the world a frame keeps the arrays that it was not passed, until it is gone, and what is returned is
+-- what the callers of the method know of it.
+pub record RunsKeepArrays (w : World) : Type 0 where
+  pub frames : FramesKeep w
+  pub results : RunsGiveFreely w

@@ -17,7 +17,7 @@ ghost use Rattle.assembly_answers.specs.Answers.{run_file_answer};
 ghost use Rattle.check_driver.specs.Expected.{bytes_answer, expected, file_at, files_answer};
 ghost use Rattle.check_driver.specs.Met.{AreUnder, bytes_read};
 ghost use Rattle.answer_lines.specs.Outcome.{Gives, GivesOrUnread, Leaves, last_line, status_of};
-ghost use Rattle.check_driver.specs.Headline.{IsAssemblyOf, TellAllProved, WasAppended};
+ghost use Rattle.check_driver.specs.Headline.{BeginsItsWorld, IsAssemblyOf, RunsKeepArrays, TellAllProved, WasAppended};
 ghost use Rattle.check_driver.specs.NothingOr.{NothingOr};
 ghost use Rattle.check_driver.specs.ProvedUnit.{AreSpelled, AsksForUnit, IfUnit, IsHeldSpelled, PrintsProvedUnit, SpellSafeUnit};
 ghost use Rattle.check_driver.specs.Refuted.{AsksToRefute, PrintsRefuted};
@@ -248,11 +248,18 @@ pub fn run_words<F: Files, O: Sink, E: Sink, D: Finder>(
         × LeavesAsked (asked_by given met) result (D.asked finder.old) (D.asked finder.new) }
     ensures files { F.held files.new ≡ F.held files.old }
     // Where the report of an assembly has told each method that one reaches by calls to be proved, no run of that one
-    // in its world is ever at a fault, whatever the status and however far the report came.
+    // in its world, which begins with its own unit, is ever at a fault, whatever the status and however far the report
+    // came.
     ensures headline { (held : Held) (k : ℕ) (bytes text : List ℕ) (method : MethodRow) → F.held files.old ≡ Some held
         → IsAssemblyOf (words_bytes words.now) held k bytes → WasAppended (O.written out.old) (O.written out.new) text
         → Contains (methods_of bytes) method → TellAllProved (section k text) bytes method
-        → Safe (world_of bytes method.token.0) 0 }
+        → BeginsItsWorld bytes method × Safe (world_of bytes method.token.0) 0 }
+    // Nor does a frame of such a run change an array that it was not passed, until it is gone, and what it returns is
+    // what its callers know of it.
+    ensures keeps { (held : Held) (k : ℕ) (bytes text : List ℕ) (method : MethodRow) → F.held files.old ≡ Some held
+        → IsAssemblyOf (words_bytes words.now) held k bytes → WasAppended (O.written out.old) (O.written out.new) text
+        → Contains (methods_of bytes) method → TellAllProved (section k text) bytes method
+        → RunsKeepArrays (world_of bytes method.token.0) }
     // A file that was told to be that of a proved unit is the spelling of a safe one, whatever the status.
     ensures single_unit { (held : Held) (bytes signature : List ℕ) → F.held files.old ≡ Some held
         → AsksForUnit (words_bytes words.now) held bytes

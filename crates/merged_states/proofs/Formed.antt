@@ -47,7 +47,7 @@ use Rattle.merged_states.specs.Laws.Lengths.{lengths_count, lengths_named, lengt
 use Rattle.state_facts.specs.StateFacts.{StateFacts}
 use Rattle.merged_states.specs.declared.merging.Merging.{Merging}
 use Rattle.merged_states.specs.declared.merging.Merging.TheVariants as rules
-use Rattle.merged_states.proofs.PartsFormed.{IsThere, both_def_there, each_definition, numbers_there, one_def_there, pairs_upto, rising_from, vars_there}
+use Rattle.merged_states.proofs.PartsFormed.{IsThere, both_def_there, each_definition, numbers_there, one_def_there, pairs_upto, all_rising, vars_there}
 
 -- ---- types of references
 
@@ -205,7 +205,7 @@ known_formed a b frames outcome def pairs contents formed parts =
             (each_definition (NamesOwn (length frames.numbers.keys)) def 1 (1 + length frames.numbers.keys) frames.numbers.keys (omega arith)
             (λ s u d above below is. (omega (arith, below), (parts.defs u d is).names)));
       };
-      rising = rising_from def 1 frames.numbers.keys;
+      rising = all_rising def frames.numbers.keys;
       tests = subst (λ n. AllByRecursion (λ d. TestsOf n d.1) (known_as a b frames outcome def pairs contents).facts.definitions) arrays
           (each_definition (λ d. TestsOf (length frames.references.keys) d.1) def 1 (1 + length frames.numbers.keys) frames.numbers.keys (omega arith)
           (λ s u d above below is. (parts.defs u d is).tests));

@@ -25,7 +25,7 @@ use Rattle.symbolic_values.specs.declared.def.Def.TheVariants.{Eq, Lt, LtUn, Nul
 use Rattle.symbolic_values.specs.declared.pairs.Key.{Key}
 use Rattle.symbolic_values.proofs.MeaningLaws.{fitting_is}
 use Rattle.state_facts.specs.Assuming.{definition_at}
-use Rattle.state_facts.specs.Forms.{AreRising, EndsBy, IsNumber, IsVar, TestsOf}
+use Rattle.state_facts.specs.Forms.{AreRising, EndsBy, IsNumber, IsVar, SymbolsRise, TestsOf}
 use Rattle.merged_states.specs.Parts.{common_def, def_of_both, def_of_one, definitions_from, is_of_symbols, reference_names, with_definition}
 
 same_some : {X : Type 0} (x y : X) → Some x ≡ Some y → x ≡ y
@@ -46,17 +46,21 @@ each_definition P def symbol top (u ∷ us) within each =
     with_all P symbol (def u) (definitions_from def (suc symbol) us) (λ d is. each symbol u d (omega arith) (omega (arith, within)) is)
     (each_definition P def (suc symbol) top us (omega (arith, within)) (λ s v d above below is. each s v d (omega (arith, above)) below is))
 
-rising_with : (symbol : ℕ) (found : Option Def) (rest : List (ℕ × Def)) → AllByRecursion (λ later. symbol < later.0) rest → AreRising rest
-    → AreRising (with_definition symbol found rest)
+rising_with : (symbol : ℕ) (found : Option Def) (rest : List (ℕ × Def)) → AllByRecursion (λ later. symbol < later.0) rest → SymbolsRise rest
+    → SymbolsRise (with_definition symbol found rest)
 rising_with symbol None rest above rising = rising
 rising_with symbol (Some d) rest above rising = (above, rising)
 
-pub rising_from : (def : Key → Option Def) (symbol : ℕ) (us : List Key) → AreRising (definitions_from def symbol us)
-rising_from def symbol [] = tt
-rising_from def symbol (u ∷ us) =
+symbols_rise : (def : Key → Option Def) (symbol : ℕ) (us : List Key) → SymbolsRise (definitions_from def symbol us)
+symbols_rise def symbol [] = tt
+symbols_rise def symbol (u ∷ us) =
     rising_with symbol (def u) (definitions_from def (suc symbol) us)
     (each_definition (λ later. symbol < later.0) def (suc symbol) (suc symbol + length us) us (omega arith) (λ s v d above below is. omega (arith, above)))
-    (rising_from def (suc symbol) us)
+    (symbols_rise def (suc symbol) us)
+
+pub all_rising : (def : Key → Option Def) (us : List Key) → AreRising (definitions_from def 1 us)
+all_rising def us =
+    (each_definition (λ d. 1 ≤ d.0) def 1 (1 + length us) us (omega arith) (λ s u d above below is. above), symbols_rise def 1 us)
 
 -- ---- names of pairs are there
 

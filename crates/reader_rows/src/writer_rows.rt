@@ -8,17 +8,20 @@ use std::alloc::{AllocError, Global};
 use std::test::Fail;
 
 /// Numbers of arguments, of locals and of stack slots, bytes of code, and whether a method may have them.
-const LIMITS: [(usize, usize, u8, usize, bool); 12] = [
-    (2, 0, 126, 1, true),
-    (2, 0, 127, 1, false),
-    (128, 0, 0, 1, true),
-    (129, 0, 0, 1, false),
-    (0, 128, 0, 1, true),
-    (0, 129, 0, 1, false),
-    (0, 0, 128, 1, true),
-    (0, 0, 129, 1, false),
-    (64, 32, 32, 1, true),
-    (64, 33, 32, 1, false),
+const LIMITS: [(usize, usize, u16, usize, bool); 14] = [
+    (2, 0, 254, 1, true),
+    (2, 0, 255, 1, false),
+    (256, 0, 0, 1, true),
+    (257, 0, 0, 1, false),
+    (0, 256, 0, 1, true),
+    (0, 257, 0, 1, false),
+    (0, 0, 256, 1, true),
+    (0, 0, 257, 1, false),
+    (128, 64, 64, 1, true),
+    (128, 65, 64, 1, false),
+    // The low byte of either number alone would pass.
+    (0, 0, 512, 1, false),
+    (1, 0, 65_535, 1, false),
     (0, 0, 8, 65_536, true),
     (0, 0, 8, 65_537, false),
 ];
@@ -28,7 +31,7 @@ fn plan_of(
     alloc: Global,
     args: usize,
     locals: usize,
-    max_stack: u8,
+    max_stack: u16,
     code: usize,
 ) -> Result<MethodPlan, AllocError> {
     let name = Vec::from_slice(alloc, b"m")?;

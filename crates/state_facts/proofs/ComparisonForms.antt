@@ -24,7 +24,7 @@ use Rattle.symbolic_values.specs.Names.{same_flag}
 use Rattle.symbolic_values.specs.declared.def.Def.{Def}
 use Rattle.symbolic_values.specs.declared.def.Def.TheVariants.{NullTest}
 use Rattle.state_facts.specs.Comparing.{null_tested, null_known, same_known, truth_expr, with_comparison, with_defined, with_known, with_null_known, with_null_test, with_same, with_same_known, with_tested, with_truth, is_equality}
-use Rattle.state_facts.specs.Forms.{IsNumber, IsVar, AreRising, TestsOf, HasForm}
+use Rattle.state_facts.specs.Forms.{IsNumber, IsVar, SymbolsRise, TestsOf, HasForm}
 use Rattle.state_facts.specs.StateFacts.{StateFacts, nullness_at}
 use Rattle.frame_names.specs.declared.var.Var.{Var}
 use Rattle.frame_names.specs.declared.var.Var.TheVariants as vars
@@ -34,8 +34,8 @@ use Rattle.state_facts.proofs.MoveForms.{pushed_form, number_form}
 
 -- ---- one definition more, of a later symbol
 
-pub rising_pushed : (definitions : List (ℕ × Def)) (d : ℕ × Def) → AreRising definitions → AllByRecursion (λ (e : ℕ × Def). e.0 < d.0) definitions
-    → AreRising (definitions ++ d ∷ [])
+pub rising_pushed : (definitions : List (ℕ × Def)) (d : ℕ × Def) → SymbolsRise definitions → AllByRecursion (λ (e : ℕ × Def). e.0 < d.0) definitions
+    → SymbolsRise (definitions ++ d ∷ [])
 rising_pushed [] d rising below = (tt, tt)
 rising_pushed (e ∷ definitions) d rising below =
     (all_pushed (λ (later : ℕ × Def). e.0 < later.0) definitions d rising.0 below.0, rising_pushed definitions d rising.1 below.1)
@@ -45,8 +45,11 @@ pub grows_by : (known : StateFacts) (facts : Facts) (s : ℕ) (def : Def) → Ha
     → facts.definitions ≡ known.facts.definitions ++ (s, def) ∷ [] → TestsOf (length known.references) def → Grows known facts
 grows_by known facts s def form kept later is names = record {
   form = kept;
-  rising = rw is (rising_pushed known.facts.definitions (s, def) form.rising
-      (all_weaker (NamesOwn (length known.facts.ranges)) (λ (e : ℕ × Def). e.0 < s) known.facts.definitions (λ d own. below d.0 own.0) form.named.definitions));
+  rising = rw is (
+    all_pushed (λ (d : ℕ × Def). 1 ≤ d.0) known.facts.definitions (s, def) form.rising.0 (omega (arith, later)),
+    rising_pushed known.facts.definitions (s, def) form.rising.1
+        (all_weaker (NamesOwn (length known.facts.ranges)) (λ (e : ℕ × Def). e.0 < s) known.facts.definitions (λ d own. below d.0 own.0) form.named.definitions),
+  );
   tests = rw is (all_pushed (λ (d : ℕ × Def). TestsOf (length known.references) d.1) known.facts.definitions (s, def) form.tests names);
 }
   where

@@ -41,10 +41,14 @@ abbrev pub TestsOf : ℕ → Def → Type 0
 TestsOf references (NullTest r is) = r ≤ references
 TestsOf references _ = Unit {0}
 
--- Each symbol is defined once at most, and they rise.
+-- The symbols that are defined rise, so that each is defined once at most.
+abbrev pub SymbolsRise : List (ℕ × Def) → Type 0
+SymbolsRise [] = Unit {0}
+SymbolsRise (d ∷ definitions) = AllByRecursion (λ later. d.0 < later.0) definitions × SymbolsRise definitions
+
+-- And they are symbols from 1 on: symbol 0 is the number 0, which has no definition.
 abbrev pub AreRising : List (ℕ × Def) → Type 0
-AreRising [] = Unit {0}
-AreRising (d ∷ definitions) = AllByRecursion (λ later. d.0 < later.0) definitions × AreRising definitions
+AreRising definitions = AllByRecursion (λ d. 1 ≤ d.0) definitions × SymbolsRise definitions
 
 -- Both references of a pair are there, of so many.
 abbrev pub EndsBy : ℕ → Pair → Type 0

@@ -1,6 +1,6 @@
 -- The world of a method all of whose reach is analysed: its units agree on what they say of each other, and each of
 -- them is the unit of a method that is reached.
-use Rattle.std.proofs.Common.{◌≡◌, ◌↔◌, ℕ, zero, suc, ◌+◌, ◌-◌, ◌<◌, ◌≤◌, ◌^◌, ◌==◌, true, not, List, [], ◌∷◌, ◌++◌, length, filter_map, get_or, set, Contains, Option, Some, None, IsSome, count_by, refl, sym, ap, subst, ◌∙◌, inl, inr, length-append, length-set, arith}
+use Rattle.std.proofs.Common.{◌≡◌, ◌↔◌, ℕ, zero, suc, ◌+◌, ◌-◌, ◌<◌, ◌≤◌, ◌^◌, ◌==◌, true, not, List, [], ◌∷◌, ◌++◌, length, filter_map, get_or, set, slice_get, Contains, Option, Some, None, IsSome, count_by, refl, sym, ap, subst, ◌∙◌, inl, inr, length-append, length-set, arith}
 use Rattle.std.specs.Prelude.{nat_eq}
 use Rattle.std.specs.List.{AllByRecursion, cons_option}
 use Rattle.std.proofs.lemmas.Bool.{cases_lt, eq-eqb}
@@ -253,3 +253,11 @@ module _ (asm : List ℕ) (from : ℕ) (all : AllAnalysed asm from) where
       each_found P (unit_at asm) (λ token. is_reached asm from token ≡ true) (world_tokens asm from)
       (λ token unit reached is. holds token unit (IsReach.there reach token reached) ((IsReach.reached reach token).0 reached) is)
       (each_reached asm from (IsReach.reached reach) (IsReach.there reach))
+
+-- The unit of a method that is analysed is the first of its world.
+pub world_begins : (asm : List ℕ) (from : ℕ) (unit : MethodUnit) → unit_at asm from ≡ Some unit → slice_get (world_of asm from).units 0 ≡ Some unit
+unfolding world_of world_tokens
+world_begins asm from unit is = first_found (unit_at asm) from _ is
+  where
+    first_found : (find : ℕ → Option MethodUnit) (n : ℕ) (ns : List ℕ) → find n ≡ Some unit → slice_get (filter_map find (n ∷ ns)) 0 ≡ Some unit
+    first_found find n ns found = rw found refl

@@ -107,7 +107,7 @@ pub nothing_known : HasForm no_variables
 nothing_known = record {
   narrow = tt;
   named = record { bounds = tt; definitions = tt };
-  rising = tt;
+  rising = (tt, tt);
   tests = tt;
   variables = tt;
   references = tt;
