@@ -71,13 +71,13 @@ pub int64_exact : (bytes : List ℕ) → IsBytes bytes → IsExact bytes int64
 unfolding int64 number
 int64_exact bytes fits = last_exact bytes (cast_unsigned w64) (cast_signed w64) (number 8) (number_exact bytes 8 fits (omega arith)) (λ n small. of_z-to_z w64 n small)
 
+pub both_true : (a b : Bool) → (a && b) ≡ true → (a ≡ true) × (b ≡ true)
+both_true true b e = (refl, e)
+both_true false b e = absurd (cc)
+
 -- A number that passed the test lies between the two.
 pub within : (least most n : ℕ) → is_within least most n ≡ true → (least ≤ n) × (n ≤ most)
 within least most n is = let both = both_true (nat_le least n) (nat_le n most) is in (leb-true _ _ both.0, leb-true _ _ both.1)
-  where
-    both_true : (a b : Bool) → (a && b) ≡ true → (a ≡ true) × (b ≡ true)
-    both_true true b e = (refl, e)
-    both_true false b e = absurd (cc)
 
 flag_back : (n : ℕ) → n ≤ 1 → flag_number (n == 1) ≡ n
 flag_back zero small = refl

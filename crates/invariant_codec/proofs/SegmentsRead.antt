@@ -25,7 +25,11 @@ pub none_joined : (bytes : List ℕ) (symbols : ℕ) (length_is : Expr) (count s
     → AreJoined bytes symbols length_is count start first lists 0 start
 none_joined bytes symbols length_is count start first lists is =
     let whole : count - 0 ≡ count = omega arith in
-    rw (is, whole) record { read = none_read (reads bytes symbols length_is count) count start; lists_are = refl; size = refl }
+    subst (λ (l : Segments). AreJoined bytes symbols length_is count start first l 0 start) (sym is) (record {
+      read = subst (λ n. AreRead (reads bytes symbols length_is count) count start [] n start) (sym whole) (none_read (reads bytes symbols length_is count) count start);
+      lists_are = refl;
+      size = refl;
+    })
 
 -- The lists with one more are those of the segments with one more.
 pub joined_with : (first : List Expr) (segments : List Segment) (s : Segment) → with_segment (segments_of first segments) s ≡ segments_of first (segments ++ s ∷ [])
@@ -39,25 +43,30 @@ pub joined_next : (bytes : List ℕ) (symbols : ℕ) (length_is : Expr) (count s
     → AreJoined bytes symbols length_is count start first more (i + 1) next
 joined_next bytes symbols length_is count start i at next first lists more s below before is passed value after =
     let before_it = segments_in lists in
-    let last : (i + 1 == count) ≡ is_last count before_it = ap (λ (n : ℕ). suc n == count) (sym before.size) in
+    let same : i + 1 ≡ suc (length before_it) = omega (arith, before.size) in
+    let last : (i + 1 == count) ≡ is_last count before_it = ap (λ (n : ℕ). n == count) same in
     let whole : more ≡ segments_of first (before_it ++ s ∷ []) = is ∙ ap (λ (l : Segments). with_segment l s) before.lists_are ∙ joined_with first before_it s in
     let again : segments_in more ≡ before_it ++ s ∷ [] = ap segments_in whole ∙ joined_again (before_it ++ s ∷ []) in
     record {
-      read = rw again (read_next (reads bytes symbols length_is count) count start i at next before_it s below before.read (rw (← last) passed) (rw (← last) value) (rw (← last) after));
+      read = rw again (read_next (reads bytes symbols length_is count) count start i at next before_it s below before.read
+          (subst (λ b. first_of ((segment symbols length_is b).read bytes at).tests ≡ None) last passed) (subst (λ b. s ≡ ((segment symbols length_is b).read bytes at).value) last value)
+          (subst (λ b. next ≡ ((segment symbols length_is b).read bytes at).next) last after));
       lists_are = whole ∙ ap (segments_of first) (sym again);
       size = ap length again ∙ one_more before_it s ∙ ap (λ (n : ℕ). n + 1) before.size;
     }
   where
     one_more : (xs : List Segment) (s : Segment) → length (xs ++ s ∷ []) ≡ length xs + 1
     one_more [] s = refl
-    one_more (x ∷ xs) s = ap suc (one_more xs s)
+    one_more (x ∷ xs) s = omega (arith, one_more xs s)
 
 pub joined_fault : (bytes : List ℕ) (symbols : ℕ) (length_is : Expr) (count start i at : ℕ) (first : List Expr) (lists : Segments) (fault : InvFault) → i < count
     → AreJoined bytes symbols length_is count start first lists i at → first_of ((segment symbols length_is (i + 1 == count)).read bytes at).tests ≡ Some fault
     → first_of ((each_segment symbols length_is count).read bytes start).tests ≡ Some fault
 joined_fault bytes symbols length_is count start i at first lists fault below before failed =
-    let last : (i + 1 == count) ≡ is_last count (segments_in lists) = ap (λ (n : ℕ). suc n == count) (sym before.size) in
-    read_fault (reads bytes symbols length_is count) count start i at (segments_in lists) fault below before.read (rw (← last) failed)
+    let same : i + 1 ≡ suc (length (segments_in lists)) = omega (arith, before.size) in
+    let last : (i + 1 == count) ≡ is_last count (segments_in lists) = ap (λ (n : ℕ). n == count) same in
+    read_fault (reads bytes symbols length_is count) count start i at (segments_in lists) fault below before.read
+    (subst (λ b. first_of ((segment symbols length_is b).read bytes at).tests ≡ Some fault) last failed)
 
 pub record AllJoined (parse : Parse (List Segment)) (first : List Expr) (lists : Segments) (at : ℕ) : Type 0 where
   pub tests : first_of parse.tests ≡ None

@@ -4,3 +4,5 @@ pub mod Numbers
 pub mod Segments
 pub mod Symbols
 pub mod States
+pub mod Spelling
+pub mod Written

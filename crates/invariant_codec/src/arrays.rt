@@ -29,9 +29,9 @@ struct KnownArray {
 
 impl Model for KnownArray {
     ghost use Rattle.array_segments.specs.Segments.{lists_of};
-    ghost use Rattle.invariant_codec.specs.Segments as segments;
+    ghost use Rattle.invariant_codec.specs.Segments as told;
 
-    ghost Value = { segments.KnownArray };
+    ghost Value = { told.KnownArray };
 
     ghost view = { λ a. record { reference = a.reference; segments = lists_of a.segments } };
 }
@@ -45,9 +45,9 @@ pub(crate) struct KnownArrays {
 
 impl Model for KnownArrays {
     ghost use Rattle.std.specs.Prelude.{List};
-    ghost use Rattle.invariant_codec.specs.Segments as segments;
+    ghost use Rattle.invariant_codec.specs.Segments as told;
 
-    ghost Value = { segments.Arrays };
+    ghost Value = { told.Arrays };
 
     ghost view = { λ a. record { references = a.references.items; contents = a.contents } };
 }

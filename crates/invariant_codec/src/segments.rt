@@ -25,9 +25,9 @@ struct Segment {
 }
 
 impl Model for Segment {
-    ghost use Rattle.invariant_codec.specs.Segments as segments;
+    ghost use Rattle.invariant_codec.specs.Segments as told;
 
-    ghost Value = { segments.Segment };
+    ghost Value = { told.Segment };
 
     ghost view = { λ s. record { content = s.content; may_be_empty = s.may_be_empty; end = s.end.items } };
 }
