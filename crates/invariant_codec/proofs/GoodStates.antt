@@ -42,22 +42,22 @@ use Rattle.invariant_codec.proofs.SegmentLaws.{joined_again}
 
 -- ---- lists
 
-all_of : {X : Type 0} (P Q : X → Type 0) → ((x : X) → P x → Q x) → (before xs : List X) → AllGood (λ before. P) before xs → AllByRecursion Q xs
+pub all_of : {X : Type 0} (P Q : X → Type 0) → ((x : X) → P x → Q x) → (before xs : List X) → AllGood (λ before. P) before xs → AllByRecursion Q xs
 all_of P Q so before [] good = tt
 all_of P Q so before (x ∷ xs) good = (so x good.0, all_of P Q so (before ++ x ∷ []) xs good.1)
 
 -- Of items in order, what is so of each by itself.
-each_of : {X : Type 0} (P Q : X → Type 0) (precedes : X → X → Bool) → ((x : X) → P x → Q x) → (before xs : List X)
+pub each_of : {X : Type 0} (P Q : X → Type 0) (precedes : X → X → Bool) → ((x : X) → P x → Q x) → (before xs : List X)
     → AllGood (λ before x. P x × (comes_next precedes before x ≡ true)) before xs → AllByRecursion Q xs
 each_of P Q precedes so before [] good = tt
 each_of P Q precedes so before (x ∷ xs) good = (so x good.0.0, each_of P Q precedes so (before ++ x ∷ []) xs good.1)
 
-one_more : {X : Type 0} (xs : List X) (x : X) → length (xs ++ x ∷ []) ≡ length xs + 1
+pub one_more : {X : Type 0} (xs : List X) (x : X) → length (xs ++ x ∷ []) ≡ length xs + 1
 one_more [] x = refl
 one_more (y ∷ xs) x = omega (arith, one_more xs x)
 
 -- The last of a list with one more.
-last_is : {X : Type 0} (before : List X) (x : X) → last_of (before ++ x ∷ []) ≡ Some x
+pub last_is : {X : Type 0} (before : List X) (x : X) → last_of (before ++ x ∷ []) ≡ Some x
 last_is before x =
     let size : length (before ++ x ∷ []) - 1 ≡ length before = omega (arith, one_more before x) in
     ap (λ (n : ℕ). slice_get (before ++ x ∷ []) n) size ∙ at_end before x
@@ -70,14 +70,14 @@ last_is before x =
 abbrev Goes : {X : Type 0} → (X → X → Bool) → Type 0
 Goes {X} precedes = (a b c : X) → precedes a b ≡ true → precedes b c ≡ true → precedes a c ≡ true
 
-abbrev AreAfter : {X : Type 0} → (X → X → Bool) → X → List X → Type 0
+abbrev pub AreAfter : {X : Type 0} → (X → X → Bool) → X → List X → Type 0
 AreAfter precedes x xs = AllByRecursion (λ y. precedes x y ≡ true) xs
 
 before_all : {X : Type 0} (precedes : X → X → Bool) → Goes precedes → (x y : X) (ys : List X) → precedes x y ≡ true → AreAfter precedes y ys → AreAfter precedes x ys
 before_all precedes goes x y [] first all = tt
 before_all precedes goes x y (z ∷ ys) first all = (goes x y z first all.0, before_all precedes goes x y ys first all.1)
 
-abbrev comes_by : {X : Type 0} → (X → X → Bool) → X → Option X → Bool
+abbrev pub comes_by : {X : Type 0} → (X → X → Bool) → X → Option X → Bool
 comes_by precedes y last = option_map_or (λ last. precedes last y) last true
 
 -- Where each comes after the last one before it, each comes after all of these.
@@ -96,7 +96,7 @@ at_most m n is = grind (arith, ints, is)
 below : (m n : ℤ) → int_lt m n ≡ true → m <ℤ n
 below m n is = grind (arith, ints, is)
 
-int32_fits : (z : ℤ) → numbers.int32.IsSpelled z → (LEAST ≤ℤ z) × (z ≤ℤ GREATEST)
+pub int32_fits : (z : ℤ) → numbers.int32.IsSpelled z → (LEAST ≤ℤ z) × (z ≤ℤ GREATEST)
 unfolding numbers.int32 numbers.number
 int32_fits z spelled =
     let fits : FitsSigned w32 z = subst (λ (z : ℤ). FitsSigned w32 z) (sym spelled.1) (sfits_to_z {w = w32} {n = cast_unsigned w32 z} (record { fits = spelled.0 })) in
@@ -231,7 +231,7 @@ pairs_in_order references before (p ∷ ps) good = (after_all (symbols.pair refe
 
 -- ---- references and segments
 
-bound_few : (count : ℕ) (exprs : List Expr) → (segments.bound count).IsSpelled exprs → HasFew exprs
+pub bound_few : (count : ℕ) (exprs : List Expr) → (segments.bound count).IsSpelled exprs → HasFew exprs
 unfolding segments.bound
 bound_few count exprs spelled = let is = within 1 4 (length exprs) spelled.0.1 in record { some = is.0; most = is.1 }
 
@@ -240,18 +240,16 @@ unfolding segments.bound
 bound_there count exprs spelled = all_of (numbers.expr count).IsSpelled (λ e. e.sym ≤ count) (expr_there count) [] exprs spelled.1.1
 
 -- What is so of a segment, wherever it stands.
-record IsGoodSegment (count : ℕ) (length_is : Expr) (is_last : Bool) (s : segments.Segment) : Type 0 where
-  content : IsNarrow s.content
-  few : HasFew s.end
-  there : AllByRecursion (λ e. e.sym ≤ count) s.end
-  ends : is_last ≡ true → segments.has length_is s.end ≡ true
+pub record IsGoodSegment (count : ℕ) (length_is : Expr) (is_last : Bool) (s : segments.Segment) : Type 0 where
+  pub content : IsNarrow s.content
+  pub bound : (segments.bound count).IsSpelled s.end
+  pub ends : is_last ≡ true → segments.has length_is s.end ≡ true
 
-segment_good : (count : ℕ) (length_is : Expr) (is_last : Bool) (s : segments.Segment) → (segments.segment count length_is is_last).IsSpelled s → IsGoodSegment count length_is is_last s
+pub segment_good : (count : ℕ) (length_is : Expr) (is_last : Bool) (s : segments.Segment) → (segments.segment count length_is is_last).IsSpelled s → IsGoodSegment count length_is is_last s
 unfolding segments.segment segments.next_bound
 segment_good count length_is is_last s spelled = record {
   content = narrow s.content spelled.0;
-  few = bound_few count s.end spelled.1.1.0.0;
-  there = bound_there count s.end spelled.1.1.0.0;
+  bound = spelled.1.1.0.0;
   ends = λ is. where_last is_last is spelled.1.1.0.1;
 }
   where
@@ -259,19 +257,19 @@ segment_good count length_is is_last s spelled = record {
     where_last true is test = test
     where_last false is test = absurd (true≢false (sym is))
 
-abbrev AreSegments : ℕ → Expr → ℕ → List segments.Segment → List segments.Segment → Type 0
+abbrev pub AreSegments : ℕ → Expr → ℕ → List segments.Segment → List segments.Segment → Type 0
 AreSegments count length_is all before segs = AllGood (λ before. (segments.next_segment count length_is all before).IsSpelled) before segs
 
 all_few : (count : ℕ) (length_is : Expr) (all : ℕ) (before segs : List segments.Segment) → AreSegments count length_is all before segs → AllByRecursion HasFew (map (λ s. s.end) segs)
 all_few count length_is all before [] good = tt
 all_few count length_is all before (s ∷ segs) good =
-    ((segment_good count length_is (segments.is_last all before) s good.0).few, all_few count length_is all (before ++ s ∷ []) segs good.1)
+    (bound_few count s.end (segment_good count length_is (segments.is_last all before) s good.0).bound, all_few count length_is all (before ++ s ∷ []) segs good.1)
 
 all_there : (count : ℕ) (length_is : Expr) (all : ℕ) (before segs : List segments.Segment) → AreSegments count length_is all before segs
     → AllByRecursion (AllByRecursion (λ e. e.sym ≤ count)) (map (λ s. s.end) segs)
 all_there count length_is all before [] good = tt
 all_there count length_is all before (s ∷ segs) good =
-    ((segment_good count length_is (segments.is_last all before) s good.0).there, all_there count length_is all (before ++ s ∷ []) segs good.1)
+    (bound_there count s.end (segment_good count length_is (segments.is_last all before) s good.0).bound, all_there count length_is all (before ++ s ∷ []) segs good.1)
 
 all_narrow : (count : ℕ) (length_is : Expr) (all : ℕ) (before segs : List segments.Segment) → AreSegments count length_is all before segs → AllByRecursion IsNarrow (map (λ s. s.content) segs)
 all_narrow count length_is all before [] good = tt
@@ -332,7 +330,7 @@ place_good places.Int spelled = absurd (omega (arith, within 3 4 2 spelled.0.1))
 place_good places.Bools spelled = tt
 place_good places.Ints spelled = tt
 
-abbrev AreArrays : ℕ → List segments.KnownArray → List segments.KnownArray → Type 0
+abbrev pub AreArrays : ℕ → List segments.KnownArray → List segments.KnownArray → Type 0
 AreArrays count before all = AllGood (λ before. (segments.array count).IsSpelled) before all
 
 references_good : (count : ℕ) (before all : List segments.KnownArray) → AreArrays count before all → AllByRecursion (forms.IsReference count) (map (λ a. a.reference) all)

@@ -108,7 +108,7 @@ var_same count references vars.Text = append-nil (little_bytes 1 3)
 
 row_same : (count : ℕ) (r : BoundRow) → (symbols.row count).spell r ≡ spelled.row_bytes r
 unfolding symbols.row symbols.other_symbol spelled.row_bytes numbers.proper_name numbers.number numbers.int64
-row_same count r = refl
+row_same count r = sym (append_assoc (little_bytes 2 r.s) (little_bytes 2 r.t) (spelled.int64_bytes r.k))
 
 two_same : (count tag : ℕ) (d : Def) → (symbols.def_with_two count tag).spell d ≡ spelled.two_bytes (symbols.first_in d) (symbols.second_in d)
 unfolding symbols.def_with_two
@@ -132,7 +132,7 @@ pair_same references p = refl
 
 -- ---- states
 
-known_same : (parts : StateParts) → length (states.arrays_in parts) ≡ length parts.references → states.known.spell parts ≡ spelled.known_bytes parts
+pub known_same : (parts : StateParts) → length (states.arrays_in parts) ≡ length parts.references → states.known.spell parts ≡ spelled.known_bytes parts
 unfolding states.known segments.arrays symbols.variables symbols.rows symbols.definitions symbols.pairs spelled.known_bytes numbers.number
 known_same parts size =
     let count = length parts.ranges in
@@ -150,3 +150,10 @@ known_same parts size =
     ap₂ (λ (a b : List ℕ). a ++ b) (ranges_same parts.ranges)
     (append_assoc (little_bytes 2 references) (flat_map (segments.array count).spell (states.arrays_in parts)) _
     ∙ ap₂ (λ (n : ℕ) (t : List ℕ). little_bytes 2 n ++ t) size each)
+
+-- There are as many references with their segments as references.
+pub arrays_size : (parts : StateParts) → states.known.IsSpelled parts → length (states.arrays_in parts) ≡ length parts.references
+unfolding states.known
+arrays_size parts spelled =
+    let is : parts ≡ states.reached_parts parts.ranges (states.arrays_in parts) parts.variables parts.bounds parts.definitions parts.apart = spelled.1.1.1.1.1.1 in
+    sym (ap (λ (p : StateParts). length p.references) is ∙ length-map (states.arrays_in parts) (λ a. a.reference))

@@ -6,3 +6,4 @@ pub mod Symbols
 pub mod States
 pub mod Spelling
 pub mod Written
+pub mod Spellable

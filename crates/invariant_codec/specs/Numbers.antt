@@ -70,9 +70,13 @@ near_expr symbols = part (λ e. e.sym) (name symbols) (λ sym. last_part (λ e. 
 abbrev pub hole_or_zero : Option ℤ → ℤ
 hole_or_zero hole = unwrap_or hole (pos 0)
 
--- The hole of a range between these ends, which lies strictly between them.
+-- A number strictly between these two.
+abbrev pub inner : ℤ → ℤ → Format ℤ
+inner lo hi = tested (is_inside lo hi) int32
+
+-- The hole of a range between these ends, where it has one.
 abbrev pub hole_where : ℤ → ℤ → Bool → Format (Option ℤ)
-hole_where lo hi is = choice is (last_part hole_or_zero Some (tested (is_inside lo hi) int32)) (only None)
+hole_where lo hi is = choice is (last_part hole_or_zero Some (inner lo hi)) (only None)
 
 unfoldable pub hole : ℤ → ℤ → Format (Option ℤ)
 hole lo hi = part is_some flag (hole_where lo hi)

@@ -81,6 +81,9 @@ abbrev pub first_of : List (List Expr) → List Expr
 first_of [] = []
 first_of (first ∷ ends) = first
 
+abbrev pub first_of_bounds : Segments → List Expr
+first_of_bounds lists = first_of lists.bounds
+
 abbrev pub after_first : List (List Expr) → List (List Expr)
 after_first [] = []
 after_first (first ∷ ends) = ends

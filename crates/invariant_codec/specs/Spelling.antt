@@ -75,8 +75,12 @@ var_bytes (vars.Number e) = little_bytes 1 1 ++ expr_bytes e
 var_bytes (vars.Reference r) = little_bytes 1 2 ++ little_bytes 2 r
 var_bytes vars.Text = little_bytes 1 3
 
+-- The numbers of two symbols or references.
+abbrev pub names_bytes : ℕ → ℕ → List ℕ
+names_bytes a b = little_bytes 2 a ++ little_bytes 2 b
+
 unfoldable pub row_bytes : BoundRow → List ℕ
-row_bytes row = little_bytes 2 row.s ++ (little_bytes 2 row.t ++ int64_bytes row.k)
+row_bytes row = names_bytes row.s row.t ++ int64_bytes row.k
 
 abbrev pub two_bytes : Expr → Expr → List ℕ
 two_bytes a b = expr_bytes a ++ expr_bytes b
@@ -92,7 +96,7 @@ unfoldable pub definition_bytes : Definition → List ℕ
 definition_bytes d = little_bytes 2 d.0 ++ def_bytes d.1
 
 unfoldable pub pair_bytes : Pair → List ℕ
-pair_bytes p = little_bytes 2 p.0 ++ little_bytes 2 p.1
+pair_bytes p = names_bytes p.0 p.1
 
 -- ---- states
 

@@ -5,7 +5,7 @@ ghost use Rattle.array_segments.specs.Segments.{lists_of};
 ghost use Rattle.cc_base.specs.Tests.{first_of, Judges, JudgesOrNoMemory};
 ghost use Rattle.invariant_codec.specs.Formats.{each};
 ghost use Rattle.invariant_codec.specs.Parses.{IsRead};
-ghost use Rattle.invariant_codec.specs.Segments.{array, array_place, arrays, arrays_of, in_lists, nullness_format, with_array};
+ghost use Rattle.invariant_codec.specs.Segments.{array, array_place, arrays, in_lists, nullness_format, with_array};
 
 use crate::expressions::read_near_expr;
 use crate::fault::{InvFault, InvRefusal};
@@ -126,7 +126,9 @@ fn read_each(
     requires short { length bytes.now ≤ 2147483647 }
     requires inside { start ≤ length bytes.now }
     ensures { JudgesOrNoMemory result (first_of ((each (array symbols) count).read bytes.now start).tests)
-        (λ read. IsRead bytes.now ((each (array symbols) count).read bytes.now start) (arrays_of read.0) read.1 × (read.0 ≡ in_lists (arrays_of read.0))) }
+        (λ read. (read.0 ≡ in_lists ((each (array symbols) count).read bytes.now start).value)
+        × (length read.0.references ≡ length ((each (array symbols) count).read bytes.now start).value)
+        × (read.1 ≡ ((each (array symbols) count).read bytes.now start).next) × (read.1 ≤ length bytes.now)) }
 {
     let mut arrays = KnownArrays {
         references: Vec::new(alloc),
@@ -151,7 +153,9 @@ pub(crate) fn read_arrays(
 ) -> Result<(KnownArrays, u32), InvRefusal>
     requires short { length bytes.now ≤ 2147483647 }
     ensures { JudgesOrNoMemory result (first_of ((arrays symbols).read bytes.now at).tests)
-        (λ read. IsRead bytes.now ((arrays symbols).read bytes.now at) (arrays_of read.0) read.1 × (read.0 ≡ in_lists (arrays_of read.0))) }
+        (λ read. (read.0 ≡ in_lists ((arrays symbols).read bytes.now at).value)
+        × (length read.0.references ≡ length ((arrays symbols).read bytes.now at).value)
+        × (read.1 ≡ ((arrays symbols).read bytes.now at).next) × (read.1 ≤ length bytes.now)) }
 {
     let count = read_u16(bytes, at)?;
     read_each(alloc, bytes, at + 2, count, symbols)

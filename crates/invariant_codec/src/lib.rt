@@ -8,9 +8,16 @@ mod expressions;
 mod fault;
 mod numbers;
 mod pairs;
+mod put_arrays;
+mod put_numbers;
+mod put_states;
+mod put_symbols;
 mod ranges;
 mod rows;
 mod segments;
+mod states;
 mod variables;
 
 pub use fault::{InvFault, InvRefusal};
+pub use put_states::states_bytes;
+pub use states::read_states;

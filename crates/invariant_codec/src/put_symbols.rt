@@ -2,7 +2,7 @@
 
 ghost use Rattle.std.specs.Prelude.{◌≡◌, ◌++◌, length, OnOk};
 ghost use Rattle.std.specs.List.{flat_map};
-ghost use Rattle.invariant_codec.specs.Spelling.{counted_bytes, def_bytes, definition_bytes, pair_bytes, row_bytes, two_bytes, var_bytes};
+ghost use Rattle.invariant_codec.specs.Spelling.{counted_bytes, def_bytes, definition_bytes, names_bytes, pair_bytes, row_bytes, two_bytes, var_bytes};
 
 use crate::put_numbers::{put_byte, put_expr, put_flag, put_i64, put_u16, put_u32};
 use domain_api::{Expr, NoMemory};
@@ -46,13 +46,20 @@ pub(crate) fn put_variables(out: &mut Vec<u8>, variables: &[Var]) -> Result<(), 
     put_each_var(out, variables)
 }
 
+/// Appends the numbers of two symbols or references.
+fn put_names(out: &mut Vec<u8>, a: u32, b: u32) -> Result<(), NoMemory>
+    ensures { OnOk result (out.new.items ≡ out.old.items ++ names_bytes a b) }
+{
+    put_u16(out, u64::from(a))?;
+    put_u16(out, u64::from(b))
+}
+
 /// Appends a bound of two symbols.
 #[tactic(auto, unfolding(crate::specs::Spelling::row_bytes))]
 fn put_row(out: &mut Vec<u8>, row: BoundRow) -> Result<(), NoMemory>
     ensures { OnOk result (out.new.items ≡ out.old.items ++ row_bytes row) }
 {
-    put_u16(out, u64::from(row.s))?;
-    put_u16(out, u64::from(row.t))?;
+    put_names(out, row.s, row.t)?;
     put_i64(out, row.k)
 }
 
@@ -144,8 +151,7 @@ pub(crate) fn put_definitions(out: &mut Vec<u8>, definitions: &[(u32, Def)]) -> 
 fn put_pair(out: &mut Vec<u8>, pair: (u32, u32)) -> Result<(), NoMemory>
     ensures { OnOk result (out.new.items ≡ out.old.items ++ pair_bytes pair) }
 {
-    put_u16(out, u64::from(pair.0))?;
-    put_u16(out, u64::from(pair.1))
+    put_names(out, pair.0, pair.1)
 }
 
 /// Appends pairs of references.

@@ -4,7 +4,7 @@ ghost use Rattle.std.specs.Prelude.{◌≡◌, ◌+◌, ◌-◌, ◌≤◌, None
 ghost use Rattle.cc_base.specs.Tests.{first_of, Judges, JudgesOrNoMemory};
 ghost use Rattle.interval_domain.specs.Interval.{interval, is_inside};
 ghost use Rattle.invariant_codec.specs.Formats.{each};
-ghost use Rattle.invariant_codec.specs.Numbers.{hole, range, ranges};
+ghost use Rattle.invariant_codec.specs.Numbers.{hole, inner, range, ranges};
 ghost use Rattle.invariant_codec.specs.Parses.{IsRead};
 
 use crate::fault::{InvFault, InvRefusal};
@@ -23,8 +23,22 @@ fn with_hole(range: Range, hole: i64) -> Option<Range>
     range.without(hole)
 }
 
+/// The range with the hole at this offset. It takes four bytes.
+#[tactic(auto, using(cc_base::proofs::TestLemmas::appended, cc_base::proofs::TestLemmas::first_tests, crate::proofs::RangesRead::hole_read))]
+fn read_inner(bytes: &[u8], at: u32, range: Range) -> Result<Range, InvFault>
+    ensures { Judges result (first_of ((inner range.lo range.hi).read bytes.now at).tests)
+        (λ holed. (holed ≡ interval range.lo range.hi (Some ((inner range.lo range.hi).read bytes.now at).value))
+        × (at + 4 ≡ ((inner range.lo range.hi).read bytes.now at).next) × (at + 4 ≤ length bytes.now)) }
+{
+    let hole = i64::from(read_i32(bytes, at)?);
+    match with_hole(range, hole) {
+        Some(holed) => Ok(holed),
+        None => Err(InvFault::Form(at)),
+    }
+}
+
 /// The range with the hole at this offset, if it has one, and the offset after it.
-#[tactic(auto, using(cc_base::proofs::TestLemmas::appended, cc_base::proofs::TestLemmas::first_tests), unfolding(crate::specs::Numbers::hole))]
+#[tactic(auto, using(cc_base::proofs::TestLemmas::appended), unfolding(crate::specs::Numbers::hole))]
 fn read_hole(bytes: &[u8], at: u32, range: Range) -> Result<(Range, u32), InvFault>
     requires short { length bytes.now ≤ 2147483647 }
     requires whole { range.hole ≡ None }
@@ -35,11 +49,8 @@ fn read_hole(bytes: &[u8], at: u32, range: Range) -> Result<(Range, u32), InvFau
     if !read_flag(bytes, at)? {
         return Ok((range, at + 1));
     }
-    let hole = i64::from(read_i32(bytes, at + 1)?);
-    match with_hole(range, hole) {
-        Some(holed) => Ok((holed, at + 5)),
-        None => Err(InvFault::Form(at + 1)),
-    }
+    let holed = read_inner(bytes, at + 1, range)?;
+    Ok((holed, at + 5))
 }
 
 /// The range at this offset, and the offset after it.

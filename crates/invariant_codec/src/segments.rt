@@ -4,7 +4,7 @@ ghost use Rattle.std.specs.Prelude.{◌≡◌, ◌+◌, ◌-◌, ◌≤◌, ◌�
 ghost use Rattle.array_segments.specs.Segments.{lists_of};
 ghost use Rattle.cc_base.specs.Tests.{first_of, JudgesOrNoMemory};
 ghost use Rattle.invariant_codec.specs.Parses.{IsRead};
-ghost use Rattle.invariant_codec.specs.Segments.{each_segment, segment, segments, segments_of, with_segment};
+ghost use Rattle.invariant_codec.specs.Segments.{each_segment, first_of_bounds, segment, segments, segments_of, with_segment};
 
 use crate::bounds::{read_first_bound, read_next_bound};
 use crate::fault::InvRefusal;
@@ -80,8 +80,8 @@ fn add(segs: &mut Segs<Range>, segment: Segment) -> Result<(), NoMemory>
     Ok(())
 }
 
-/// So many segments from this offset on, behind the first bound, and the offset after them.
-#[tactic(auto, using(crate::proofs::Counted::none_read, crate::proofs::SegmentsRead::all_segments))]
+/// Reads so many segments from this offset on, and adds them behind the first bound. Returns the offset after them.
+#[tactic(auto, using(crate::proofs::SegmentsRead::all_segments))]
 fn read_each(
     alloc: Global,
     bytes: &[u8],
@@ -89,22 +89,22 @@ fn read_each(
     count: u8,
     symbols: usize,
     length_is: Expr,
-    first: Vec<Expr>,
-) -> Result<(Segs<Range>, u32), InvRefusal>
+    segs: &mut Segs<Range>,
+) -> Result<u32, InvRefusal>
     requires short { length bytes.now ≤ 2147483647 }
     requires inside { start ≤ length bytes.now }
+    requires begun { lists_of segs.old ≡ segments_of (first_of_bounds (lists_of segs.old)) [] }
     ensures { JudgesOrNoMemory result (first_of ((each_segment symbols length_is count).read bytes.now start).tests)
-        (λ read. (lists_of read.0 ≡ segments_of first.items ((each_segment symbols length_is count).read bytes.now start).value)
-        × (read.1 ≡ ((each_segment symbols length_is count).read bytes.now start).next) × (read.1 ≤ length bytes.now)) }
+        (λ next. (lists_of segs.new ≡ segments_of (first_of_bounds (lists_of segs.old)) ((each_segment symbols length_is count).read bytes.now start).value)
+        × (next ≡ ((each_segment symbols length_is count).read bytes.now start).next) × (next ≤ length bytes.now)) }
 {
-    let mut segs = begun(alloc, first)?;
     let mut at = start;
     for i in 0..count {
         let (segment, next) = read_segment(alloc, bytes, at, symbols, length_is, i + 1 == count)?;
-        add(&mut segs, segment)?;
+        add(segs, segment)?;
         at = next;
     }
-    Ok((segs, at))
+    Ok(at)
 }
 
 /// The segments of an array of this length, 1 to 12, after their count, and the offset after them.
@@ -123,6 +123,7 @@ pub(crate) fn read_segments(
 {
     let count = read_within(bytes, at, 1, 12)?;
     let (first, at) = read_first_bound(alloc, bytes, at + 1, symbols)?;
-    let (segs, next) = read_each(alloc, bytes, at, count, symbols, length_is, first)?;
+    let mut segs = begun(alloc, first)?;
+    let next = read_each(alloc, bytes, at, count, symbols, length_is, &mut segs)?;
     Ok((segs, next))
 }
