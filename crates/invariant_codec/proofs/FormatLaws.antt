@@ -134,11 +134,11 @@ many_again bytes item spell exacts same before [] at rest inside good there = re
 many_again bytes item spell exacts same before (x ∷ xs) at rest inside good there =
     let first = (item before).read bytes at in
     let here = (exacts before).again at x (flat_map spell xs ++ rest) inside good.0
-        (there ∙ append_assoc (spell x) (flat_map spell xs) rest ∙ ap (λ (t : List ℕ). t ++ (flat_map spell xs ++ rest)) (sym (same before x))) in
+    (there ∙ append_assoc (spell x) (flat_map spell xs) rest ∙ ap (λ (t : List ℕ). t ++ (flat_map spell xs ++ rest)) (sym (same before x))) in
     let later = many_again bytes item spell exacts same (before ++ x ∷ []) xs first.next rest here.inside good.1 here.after in
     let others = many (λ before. (item before).read bytes) (before ++ first.value ∷ []) (length xs) first.next in
     let e : others ≡ many (λ before. (item before).read bytes) (before ++ x ∷ []) (length xs) first.next =
-        ap (λ y. many (λ before. (item before).read bytes) (before ++ y ∷ []) (length xs) first.next) here.value in
+    ap (λ y. many (λ before. (item before).read bytes) (before ++ y ∷ []) (length xs) first.next) here.value in
     record {
       passed = first_of-append_none first.tests others.tests here.passed ∙ ap (λ parse. first_of parse.tests) e ∙ later.passed;
       value = ap (λ parse. first.value ∷ parse.value) e ∙ ap (λ ys. first.value ∷ ys) later.value ∙ ap (λ y. y ∷ xs) here.value;

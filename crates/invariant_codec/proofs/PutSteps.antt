@@ -1,5 +1,5 @@
 -- One more segment, and one more reference, are written.
-use Rattle.std.proofs.Common.{◌≡◌, ℕ, zero, suc, true, ◌+◌, ◌<◌, All, Bool, List, [], ◌∷◌, ◌++◌, length, map, get_or, drop, refl, sym, ap, ap₂, ◌∙◌}
+use Rattle.std.proofs.Common.{◌≡◌, ℕ, zero, suc, true, Result, Ok, Err, OnOk, ◌+◌, ◌<◌, All, Bool, List, [], ◌∷◌, ◌++◌, length, map, get_or, drop, refl, sym, ap, ap₂, ◌∙◌}
 use Rattle.std.proofs.Common.{append_assoc, add-one, drop-cons, arith}
 use Rattle.std.proofs.lemmas.List.{drop-map, length-map}
 use Rattle.std.specs.List.{AllByRecursion}
@@ -90,3 +90,9 @@ pub each_of_form : {X : Type 0} (f : X → Segments) (xs : List X) → AllByRecu
 each_of_form f [] all k d there = absurd (omega (arith, there))
 each_of_form f (x ∷ xs) all zero d there = all.0
 each_of_form f (x ∷ xs) all (suc k) d there = each_of_form f xs all.1 k d (omega (arith, there))
+
+-- What is written after another part is the whole.
+pub put_after : {X E : Type 0} (result : Result X E) (out middle after part rest : List ℕ) → middle ≡ out ++ part → OnOk result (after ≡ middle ++ rest)
+    → OnOk result (after ≡ out ++ (part ++ rest))
+put_after (Ok x) out middle after part rest first more = more ∙ ap (λ (t : List ℕ). t ++ rest) first ∙ append_assoc out part rest
+put_after (Err e) out middle after part rest first more = tt

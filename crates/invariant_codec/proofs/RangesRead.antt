@@ -8,7 +8,7 @@ use Rattle.cc_base.specs.Tests.{first_of}
 use Rattle.cc_base.proofs.TestLemmas.{first_of-append_none}
 use Rattle.interval_domain.specs.Interval.{Interval, between, interval, is_inside, lost, without}
 use Rattle.invariant_codec.specs.Formats.{tested}
-use Rattle.invariant_codec.specs.Numbers.{hole, int32, range}
+use Rattle.invariant_codec.specs.Numbers.{hole, inner, int32, range}
 use Rattle.invariant_codec.proofs.FormatLaws.{one_test}
 
 tested_so : (r x y z : Interval) (a b c d e f g : Bool) → a ≡ false → b ≡ false → c ≡ false → d ≡ false → e ≡ false → f ≡ true → g ≡ true
@@ -33,13 +33,19 @@ made_by true r holed made = (refl, some_same made)
     some_same e = cc
 made_by false r holed made = absurd cc
 
-pub inside_made : (lo hi n : ℤ) (holed : Interval) → (if is_inside lo hi n then Some (interval lo hi (Some n)) else None) ≡ Some holed → is_inside lo hi n ≡ true
-inside_made lo hi n holed made = (made_by (is_inside lo hi n) (interval lo hi (Some n)) holed made).0
+-- A range is read with the hole that is.
+pub record InnerRead (bytes : List ℕ) (at : ℕ) (lo hi : ℤ) (holed : Interval) : Type 0 where
+  pub tests : first_of ((inner lo hi).read bytes at).tests ≡ None
+  pub value : holed ≡ interval lo hi (Some ((inner lo hi).read bytes at).value)
 
-pub holed_made : (lo hi n : ℤ) (holed : Interval) → (if is_inside lo hi n then Some (interval lo hi (Some n)) else None) ≡ Some holed → holed ≡ interval lo hi (Some n)
-holed_made lo hi n holed made = (made_by (is_inside lo hi n) (interval lo hi (Some n)) holed made).1
-
-pub ruleset hole_read = (inside_made, holed_made)
+pub inner_read : (bytes : List ℕ) (at : ℕ) (lo hi n : ℤ) (holed : Interval) → first_of (int32.read bytes at).tests ≡ None → n ≡ (int32.read bytes at).value
+    → (if is_inside lo hi n then Some (interval lo hi (Some n)) else None) ≡ Some holed → InnerRead bytes at lo hi holed
+inner_read bytes at lo hi n holed passed is made =
+    let both = made_by (is_inside lo hi n) (interval lo hi (Some n)) holed made in
+    record {
+      tests = first_of-append_none (int32.read bytes at).tests _ passed ∙ one_test _ _ (ap (is_inside lo hi) (sym is) ∙ both.0);
+      value = both.1 ∙ ap (λ (n : ℤ). interval lo hi (Some n)) is;
+    }
 
 -- A range is read whose ends and hole are.
 pub record RangeRead (bytes : List ℕ) (at : ℕ) (holed : Interval) (next : ℕ) : Type 0 where
@@ -48,7 +54,7 @@ pub record RangeRead (bytes : List ℕ) (at : ℕ) (holed : Interval) (next : �
   pub next_is : next ≡ (range.read bytes at).next
 
 pub range_read : (bytes : List ℕ) (at next : ℕ) (lo hi : ℤ) (r holed : Interval) → first_of (int32.read bytes at).tests ≡ None → lo ≡ (int32.read bytes at).value → at + 4 ≡ (int32.read bytes at).next
-    → first_of (int32.read bytes (at + 4)).tests ≡ None → hi ≡ (int32.read bytes (at + 4)).value → at + 8 ≡ (int32.read bytes (at + 4)).next → lo ≤ℤ hi → r ≡ between lo hi
+    → first_of (int32.read bytes (at + 4)).tests ≡ None → hi ≡ (int32.read bytes (at + 4)).value → at + 4 + 4 ≡ (int32.read bytes (at + 4)).next → lo ≤ℤ hi → r ≡ between lo hi
     → first_of ((hole r.lo r.hi).read bytes (at + 8)).tests ≡ None → holed ≡ interval r.lo r.hi ((hole r.lo r.hi).read bytes (at + 8)).value → next ≡ ((hole r.lo r.hi).read bytes (at + 8)).next
     → RangeRead bytes at holed next
 unfolding range
@@ -58,13 +64,14 @@ range_read bytes at next lo hi r holed p1 v1 n1 p2 v2 n2 ordered is p3 v3 n3 =
     let rest = (hole low.value high.value).read bytes high.next in
     let le : int_le lo hi ≡ true = true_from_ne_false (int_le lo hi) (λ e. grind (arith, ints, ordered, e)) in
     let value : (int32.read bytes low.next).value ≡ hi = ap (λ (n : ℕ). (int32.read bytes n).value) (sym n1) ∙ sym v2 in
-    let after : at + 8 ≡ high.next = n2 ∙ ap (λ (n : ℕ). (int32.read bytes n).next) n1 in
+    let eight : at + 8 ≡ at + 4 + 4 = omega arith in
+    let after : at + 8 ≡ high.next = eight ∙ n2 ∙ ap (λ (n : ℕ). (int32.read bytes n).next) n1 in
     let ends_low : r.lo ≡ low.value = ap (λ (r : Interval). r.lo) is ∙ v1 in
     let ends_high : r.hi ≡ high.value = ap (λ (r : Interval). r.hi) is ∙ sym value in
     let same : (hole r.lo r.hi).read bytes (at + 8) ≡ rest = ap₂ (λ (a b : ℤ). (hole a b).read bytes (at + 8)) ends_low ends_high ∙ ap (λ (n : ℕ). (hole low.value high.value).read bytes n) after in
     let tested_high : first_of high.tests ≡ None =
-        first_of-append_none (int32.read bytes low.next).tests _ (ap (λ (n : ℕ). first_of (int32.read bytes n).tests) (sym n1) ∙ p2)
-        ∙ one_test _ _ (ap₂ (λ (a b : ℤ). int_le a b) (sym v1) value ∙ le) in
+    first_of-append_none (int32.read bytes low.next).tests _ (ap (λ (n : ℕ). first_of (int32.read bytes n).tests) (sym n1) ∙ p2)
+    ∙ one_test _ _ (ap₂ (λ (a b : ℤ). int_le a b) (sym v1) value ∙ le) in
     record {
       tests = first_of-append_none low.tests _ p1 ∙ first_of-append_none high.tests _ tested_high ∙ ap (λ p. first_of p.tests) (sym same) ∙ p3;
       value = v3 ∙ ap₂ (λ (a b : ℤ). interval a b ((hole r.lo r.hi).read bytes (at + 8)).value) ends_low ends_high ∙ ap (λ p. interval low.value high.value p.value) same;

@@ -381,7 +381,7 @@ known_spelled parts reached is fits =
     let vars_there = subst (λ n. AllByRecursion (forms.IsVar count n) parts.variables) size is.form.variables in
     let pairs_there = subst (λ n. AllByRecursion (forms.EndsBy n) parts.apart) size is.form.pairs in
     let good_rows = all_both (λ r. is_pair r.s r.t ≡ true) (λ r. AreBelow (count + 1) r × FitsSigned w64 r.k) parts.bounds (proper_rows parts.bounds is.ordered.bounds)
-        (all_both (AreBelow (count + 1)) (λ r. FitsSigned w64 r.k) parts.bounds is.form.named.bounds fits.short_bounds) in
+    (all_both (AreBelow (count + 1)) (λ r. FitsSigned w64 r.k) parts.bounds is.form.named.bounds fits.short_bounds) in
     let good_definitions = all_definitions count (length all) parts.definitions is.form.rising.0 is.form.named.definitions tests fits.short_definitions in
     let good_pairs = all_both (forms.EndsBy (length all)) (λ p. is_proper p ≡ true) parts.apart pairs_there is.ordered.proper in (
       (small, (refl, good_all numbers.range.IsSpelled IsNarrow range_spelled [] parts.ranges is.form.narrow)),

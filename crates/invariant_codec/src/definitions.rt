@@ -49,7 +49,12 @@ fn read_def_with_two(bytes: &[u8], at: u32, symbols: usize, tag: u8) -> Result<D
 
 /// What a symbol is, after its tag, and the offset after it.
 #[tactic(auto, using(cc_base::proofs::TestLemmas::appended), unfolding(crate::specs::Symbols::def))]
-fn read_def(bytes: &[u8], at: u32, symbols: usize, references: usize) -> Result<(Def, u32), InvFault>
+fn read_def(
+    bytes: &[u8],
+    at: u32,
+    symbols: usize,
+    references: usize,
+) -> Result<(Def, u32), InvFault>
     requires short { length bytes.now ≤ 2147483647 }
     ensures { Judges result (first_of ((def symbols references).read bytes.now at).tests)
         (λ read. IsRead bytes.now ((def symbols references).read bytes.now at) read.0 read.1) }

@@ -66,11 +66,7 @@ fn put_reference(out: &mut Vec<u8>, reference: &Reference) -> Result<(), NoMemor
 }
 
 /// Appends a reference with its segments.
-fn put_array(
-    out: &mut Vec<u8>,
-    reference: &Reference,
-    segs: &Segs<Range>,
-) -> Result<(), NoMemory>
+fn put_array(out: &mut Vec<u8>, reference: &Reference, segs: &Segs<Range>) -> Result<(), NoMemory>
     requires written { IsWritten (lists_of segs.now) }
     ensures { OnOk result (out.new.items ≡ out.old.items ++ (reference_bytes reference.now ++ segments_bytes (lists_of segs.now))) }
 {

@@ -24,7 +24,7 @@ fn with_hole(range: Range, hole: i64) -> Option<Range>
 }
 
 /// The range with the hole at this offset. It takes four bytes.
-#[tactic(auto, using(cc_base::proofs::TestLemmas::appended, cc_base::proofs::TestLemmas::first_tests, crate::proofs::RangesRead::hole_read))]
+#[tactic(auto, using(cc_base::proofs::TestLemmas::appended, cc_base::proofs::TestLemmas::first_tests))]
 fn read_inner(bytes: &[u8], at: u32, range: Range) -> Result<Range, InvFault>
     ensures { Judges result (first_of ((inner range.lo range.hi).read bytes.now at).tests)
         (λ holed. (holed ≡ interval range.lo range.hi (Some ((inner range.lo range.hi).read bytes.now at).value))
@@ -70,7 +70,12 @@ pub(crate) fn read_range(bytes: &[u8], at: u32) -> Result<(Range, u32), InvFault
 
 /// So many ranges from this offset on, and the offset after them.
 #[tactic(auto, using(crate::proofs::Counted::none_read, crate::proofs::Counted::all_read))]
-fn read_each(alloc: Global, bytes: &[u8], start: u32, count: u16) -> Result<(Vec<Range>, u32), InvRefusal>
+fn read_each(
+    alloc: Global,
+    bytes: &[u8],
+    start: u32,
+    count: u16,
+) -> Result<(Vec<Range>, u32), InvRefusal>
     requires short { length bytes.now ≤ 2147483647 }
     requires inside { start ≤ length bytes.now }
     ensures { JudgesOrNoMemory result (first_of ((each range count).read bytes.now start).tests) (λ read. IsRead bytes.now ((each range count).read bytes.now start) read.0.items read.1) }
@@ -87,7 +92,11 @@ fn read_each(alloc: Global, bytes: &[u8], start: u32, count: u16) -> Result<(Vec
 
 /// Ranges, after their count, and the offset after them.
 #[tactic(auto, using(cc_base::proofs::TestLemmas::appended, cc_base::proofs::TestLemmas::carried), unfolding(crate::specs::Numbers::ranges))]
-pub(crate) fn read_ranges(alloc: Global, bytes: &[u8], at: u32) -> Result<(Vec<Range>, u32), InvRefusal>
+pub(crate) fn read_ranges(
+    alloc: Global,
+    bytes: &[u8],
+    at: u32,
+) -> Result<(Vec<Range>, u32), InvRefusal>
     requires short { length bytes.now ≤ 2147483647 }
     ensures { JudgesOrNoMemory result (first_of (ranges.read bytes.now at).tests) (λ read. IsRead bytes.now (ranges.read bytes.now at) read.0.items read.1) }
 {

@@ -100,11 +100,7 @@ fn read_each(
 
 /// States, after their count, and the offset after them.
 #[tactic(auto, using(cc_base::proofs::TestLemmas::appended, cc_base::proofs::TestLemmas::carried), unfolding(crate::specs::States::states))]
-fn read_counted(
-    alloc: Global,
-    bytes: &[u8],
-    at: u32,
-) -> Result<(Vec<AbsState>, u32), InvRefusal>
+fn read_counted(alloc: Global, bytes: &[u8], at: u32) -> Result<(Vec<AbsState>, u32), InvRefusal>
     requires short { length bytes.now ≤ 2147483647 }
     ensures { JudgesOrNoMemory result (first_of (states.read bytes.now at).tests)
         (λ read. IsRead bytes.now (states.read bytes.now at) (map parts_of read.0.items) read.1) }

@@ -14,7 +14,12 @@ use std::alloc::Global;
 
 /// What a variable has, after its tag, and the offset after it.
 #[tactic(auto, using(cc_base::proofs::TestLemmas::appended, cc_base::proofs::TestLemmas::first_tests), unfolding(crate::specs::Symbols::var))]
-fn read_var(bytes: &[u8], at: u32, symbols: usize, references: usize) -> Result<(Var, u32), InvFault>
+fn read_var(
+    bytes: &[u8],
+    at: u32,
+    symbols: usize,
+    references: usize,
+) -> Result<(Var, u32), InvFault>
     requires short { length bytes.now ≤ 2147483647 }
     ensures { Judges result (first_of ((var symbols references).read bytes.now at).tests)
         (λ read. IsRead bytes.now ((var symbols references).read bytes.now at) read.0 read.1) }
