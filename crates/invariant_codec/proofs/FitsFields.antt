@@ -1,10 +1,11 @@
 -- What is spelled fits its fields.
-use Rattle.std.proofs.Common.{◌≡◌, ℕ, ◌+◌, ◌<◌, ◌^◌, ℤ, Bool, true, false, List, [], ◌∷◌, ◌++◌, length, map, Option, None, Some, refl, sym, subst, ap, ◌∙◌, arith, FitsSigned, w64}
-use Rattle.std.specs.Int.{cast_signed, cast_unsigned}
+use Rattle.std.proofs.Common.{◌≡◌, ℕ, ◌<◌, ◌^◌, ℤ, Bool, true, false, List, [], ◌∷◌, ◌++◌, length, map}
+use Rattle.std.proofs.Common.{sym, subst, arith, FitsSigned, w64}
+use Rattle.std.specs.Int.{cast_unsigned}
 use Rattle.std.specs.List.{AllByRecursion}
 use Rattle.std.proofs.Math.Facts.{sfits_to_z}
 use Rattle.std.proofs.lemmas.List.{length-map}
-use Rattle.abs_state.specs.StateParts.{StateParts, nothing_listed, parts_of}
+use Rattle.abs_state.specs.StateParts.{StateParts, parts_of}
 use Rattle.array_contents.specs.Contents.{Segments}
 use Rattle.domain_api.specs.declared.expr.Expr.{Expr}
 use Rattle.pentagon_domain.specs.declared.bound_row.BoundRow.{BoundRow}
@@ -22,7 +23,8 @@ use Rattle.invariant_codec.proofs.SpellingLaws.{arrays_size}
 
 int64_fits : (z : ℤ) → numbers.int64.IsSpelled z → FitsSigned w64 z
 unfolding numbers.int64 numbers.number
-int64_fits z spelled = subst (λ (z : ℤ). FitsSigned w64 z) (sym spelled.1) (sfits_to_z {w = w64} {n = cast_unsigned w64 z} (record { fits = spelled.0 }))
+int64_fits z spelled = subst (λ (z : ℤ). FitsSigned w64 z) (sym spelled.1)
+    (sfits_to_z {w = w64} {n = cast_unsigned w64 z} (record { fits = spelled.0 }))
 
 expr_short : (count : ℕ) (e : Expr) → (numbers.expr count).IsSpelled e → IsShort e
 unfolding numbers.expr
@@ -40,7 +42,8 @@ def_short count references (LtUn a b) spelled = (expr_short count a spelled.1.0,
 def_short count references (NullTest r is) spelled = tt
 def_short count references (Sub a b) spelled = (expr_short count a spelled.1.0, expr_short count b spelled.1.1.0)
 
-definition_short : (count references : ℕ) (d : symbols.Definition) → (symbols.definition count references).IsSpelled d → IsShortDef d.1
+definition_short : (count references : ℕ) (d : symbols.Definition) → (symbols.definition count references).IsSpelled d
+    → IsShortDef d.1
 unfolding symbols.definition
 definition_short count references d spelled = def_short count references d.1 spelled.1.0
 
@@ -50,13 +53,18 @@ bound_short : (count : ℕ) (exprs : List Expr) → (segments.bound count).IsSpe
 unfolding segments.bound
 bound_short count exprs spelled = all_of (numbers.expr count).IsSpelled IsShort (expr_short count) [] exprs spelled.1.1
 
-ends_short : (count : ℕ) (length_is : Expr) (all : ℕ) (before segs : List segments.Segment) → AreSegments count length_is all before segs
+ends_short : (count : ℕ) (length_is : Expr) (all : ℕ) (before segs : List segments.Segment)
+    → AreSegments count length_is all before segs
     → AllByRecursion (AllByRecursion IsShort) (map (λ s. s.end) segs)
 ends_short count length_is all before [] good = tt
-ends_short count length_is all before (s ∷ segs) good =
-    (bound_short count s.end (segment_good count length_is (segments.is_last all before) s good.0).bound, ends_short count length_is all (before ++ s ∷ []) segs good.1)
+ends_short count length_is all before (s ∷ segs) good = (
+  bound_short count s.end (segment_good count length_is (segments.is_last all before) s good.0).bound,
+  ends_short
+      count length_is all (before ++ s ∷ []) segs good.1,
+)
 
-bounds_short : (count : ℕ) (length_is : Expr) (lists : Segments) → (segments.segments count length_is).IsSpelled lists → AllByRecursion (AllByRecursion IsShort) lists.bounds
+bounds_short : (count : ℕ) (length_is : Expr) (lists : Segments) → (segments.segments count length_is).IsSpelled lists
+    → AllByRecursion (AllByRecursion IsShort) lists.bounds
 unfolding segments.segments segments.first_bound
 bounds_short count length_is lists spelled =
     let first = segments.first_of lists.bounds in
@@ -69,16 +77,23 @@ contents_short : (count : ℕ) (before all : List segments.KnownArray) → AreAr
     → AllByRecursion (λ (l : Segments). AllByRecursion (AllByRecursion IsShort) l.bounds) (map (λ a. a.segments) all)
 unfolding segments.array
 contents_short count before [] good = tt
-contents_short count before (a ∷ all) good = (bounds_short count a.reference.length a.segments good.0.1.1.1.0, contents_short count (before ++ a ∷ []) all good.1)
+contents_short count before (a ∷ all)
+    good = (
+      bounds_short count a.reference.length a.segments good.0.1.1.1.0,
+      contents_short count
+          (before ++ a ∷ []) all good.1,
+    )
 
 -- ---- states
 
 known_fits : (parts : StateParts) → states.known.IsSpelled parts → Fits parts
-unfolding states.known numbers.ranges segments.arrays symbols.variables symbols.rows symbols.definitions symbols.pairs numbers.number
+unfolding states.known numbers.ranges segments.arrays symbols.variables symbols.rows symbols.definitions symbols.pairs
+    numbers.number
 known_fits parts spelled =
     let count = length parts.ranges in
     let all = states.arrays_in parts in
-    let is : parts ≡ states.reached_parts parts.ranges all parts.variables parts.bounds parts.definitions parts.apart = spelled.1.1.1.1.1.1 in
+    let is : parts ≡ states.reached_parts parts.ranges all parts.variables parts.bounds parts.definitions
+    parts.apart = spelled.1.1.1.1.1.1 in
     record {
       symbols = spelled.0.0;
       references = subst (λ (n : ℕ). n < 2 ^ 16) (arrays_size parts spelled) spelled.1.0.0;
@@ -86,9 +101,14 @@ known_fits parts spelled =
       bounds = spelled.1.1.1.0.0;
       definitions = spelled.1.1.1.1.0.0;
       apart = spelled.1.1.1.1.1.0.0;
-      short_bounds = each_of (symbols.row count).IsSpelled (λ r. FitsSigned w64 r.k) symbols.row_precedes (row_short count) [] parts.bounds spelled.1.1.1.0.1.1;
-      short_definitions = each_of (symbols.definition count (length all)).IsSpelled (λ d. IsShortDef d.1) symbols.definition_precedes (definition_short count (length all)) [] parts.definitions spelled.1.1.1.1.0.1.1;
-      short_contents = subst (λ (p : StateParts). AllByRecursion (λ (l : Segments). AllByRecursion (AllByRecursion IsShort) l.bounds) p.contents) (sym is) (contents_short count [] all spelled.1.0.1.1);
+      short_bounds = each_of (symbols.row count).IsSpelled (λ r. FitsSigned w64 r.k) symbols.row_precedes
+          (row_short count) [] parts.bounds spelled.1.1.1.0.1.1;
+      short_definitions = each_of (symbols.definition count (length all)).IsSpelled
+          (λ d. IsShortDef d.1) symbols.definition_precedes
+          (definition_short count (length all)) [] parts.definitions spelled.1.1.1.1.0.1.1;
+      short_contents = subst (λ (p : StateParts). AllByRecursion
+          (λ (l : Segments). AllByRecursion (AllByRecursion IsShort) l.bounds) p.contents) (sym is)
+          (contents_short count [] all spelled.1.0.1.1);
     }
 
 state_fits : (parts : StateParts) → states.state.IsSpelled parts → Fits parts
@@ -109,12 +129,19 @@ state_fits parts spelled = by parts.reached spelled.1
       short_contents = tt;
     })
 
-each_spellable : (before : List StateParts) (all : List State) → AllGood (λ before. states.state.IsSpelled) before (map parts_of all) → AllByRecursion IsSpellable all
+each_spellable : (before : List StateParts) (all : List State)
+    → AllGood (λ before. states.state.IsSpelled) before (map parts_of all) → AllByRecursion IsSpellable all
 each_spellable before [] good = tt
-each_spellable before (s ∷ all) good =
-    (record { form = state_parts (parts_of s) good.0; fits = state_fits (parts_of s) good.0 }, each_spellable (before ++ parts_of s ∷ []) all good.1)
+each_spellable before (s ∷ all) good = (
+  record { form = state_parts (parts_of s) good.0; fits = state_fits (parts_of s) good.0 },
+  each_spellable
+      (before ++ parts_of s ∷ []) all good.1,
+)
 
 -- What is spelled as states are states of which all fits.
 pub spellable : (all : List State) → states.states.IsSpelled (map parts_of all) → AreSpellable all
 unfolding states.states numbers.number
-spellable all spelled = record { count = subst (λ (n : ℕ). n < 2 ^ 16) (length-map all parts_of) spelled.0; each = each_spellable [] all spelled.1.1 }
+spellable all spelled = record {
+  count = subst (λ (n : ℕ). n < 2 ^ 16) (length-map all parts_of) spelled.0;
+  each = each_spellable [] all spelled.1.1;
+}

@@ -1,5 +1,5 @@
 -- Ranges of int32 fit where they are written.
-use Rattle.std.proofs.Common.{◌≡◌, ℤ, ◌≤ℤ◌, ◌<ℤ◌, Option, None, Some, FitsSigned, w32, arith}
+use Rattle.std.proofs.Common.{ℤ, ◌≤ℤ◌, Option, None, Some, FitsSigned, w32, arith}
 use Rattle.std.specs.Prelude.{IfSome}
 use Rattle.std.proofs.lemmas.Int.{ints}
 use Rattle.cil_model.specs.Arithmetic.{LEAST, GREATEST}
@@ -20,6 +20,7 @@ hole_fits r narrow = by r.hole narrow.inner
   where
     by : (hole : Option ℤ) → IsInner r.lo r.hi hole → IfSome hole (λ n. FitsSigned w32 n)
     by None inner = tt
-    by (Some n) inner = between_fits r.lo n r.hi narrow.least (grind (arith, ints, inner.0)) (grind (arith, ints, inner.1)) narrow.greatest
+    by (Some n) inner = between_fits r.lo n r.hi narrow.least (grind (arith, ints, inner.0))
+        (grind (arith, ints, inner.1)) narrow.greatest
 
 pub ruleset narrow_ends = (low_fits, high_fits, hole_fits)

@@ -1,5 +1,6 @@
 -- One more segment, and one more reference, are written.
-use Rattle.std.proofs.Common.{◌≡◌, ℕ, zero, suc, true, Result, Ok, Err, OnOk, ◌+◌, ◌<◌, All, Bool, List, [], ◌∷◌, ◌++◌, length, map, get_or, drop, refl, sym, ap, ap₂, ◌∙◌}
+use Rattle.std.proofs.Common.{◌≡◌, ℕ, zero, suc, true, Result, Ok, Err, OnOk, ◌+◌, ◌<◌, All, Bool, List, [], ◌∷◌, ◌++◌}
+use Rattle.std.proofs.Common.{length, map, get_or, drop, refl, sym, ap, ap₂, ◌∙◌}
 use Rattle.std.proofs.Common.{append_assoc, add-one, drop-cons, arith}
 use Rattle.std.proofs.lemmas.List.{drop-map, length-map}
 use Rattle.std.specs.List.{AllByRecursion}
@@ -11,7 +12,8 @@ use Rattle.interval_domain.specs.Interval.{Interval}
 use Rattle.number_spans.specs.Stored.{IsNarrow}
 use Rattle.state_facts.specs.Forms.{lengths_of}
 use Rattle.invariant_codec.specs.Written.{AreSegmentsOf, IsWritten}
-use Rattle.invariant_codec.specs.Spelling.{each_reference_bytes, each_segment_bytes, reference_bytes, segment_bytes, segments_bytes}
+use Rattle.invariant_codec.specs.Spelling.{each_reference_bytes, each_segment_bytes, reference_bytes, segment_bytes}
+use Rattle.invariant_codec.specs.Spelling.{segments_bytes}
 
 next_of : {X : Type 0} (xs : List X) (i : ℕ) (x : X) → i < length xs → drop i xs ≡ get_or xs i x ∷ drop (i + 1) xs
 next_of xs i x there = rw add-one (drop-cons xs i x there)
@@ -37,7 +39,8 @@ one_segment exprs_of contents marks bounds i content mark bound end before after
     let second = next_of marks i mark (rw marked there) in
     let in_bounds : i + 1 < length bounds = omega (arith, there, bounded, length-map bounds exprs_of) in
     let third = next_mapped exprs_of bounds (i + 1) bound in_bounds bound_is in
-    let rest = each_segment_bytes (drop (i + 1) contents) (drop (i + 1) marks) (drop (i + 1 + 1) (map exprs_of bounds)) in
+    let rest = each_segment_bytes (drop (i + 1) contents) (drop (i + 1) marks)
+    (drop (i + 1 + 1) (map exprs_of bounds)) in
     ap (λ (text : List ℕ). text ++ rest) more
     ∙ append_assoc before (segment_bytes content mark end) rest
     ∙ rw (first, second, third, ← content_is, ← mark_is, end_is)
@@ -78,7 +81,8 @@ pub segments_written : (parts : StateParts) → AreParts parts → parts.reached
     → AreSegmentsOf parts.references parts.contents
 segments_written parts are reached =
     let formed = (are.reached reached).form.contents in record {
-      each = formed_count (length parts.ranges) (lengths_of parts.references) parts.contents formed ∙ length-map parts.references (λ r. r.length);
+      each = formed_count (length parts.ranges) (lengths_of parts.references) parts.contents formed
+          ∙ length-map parts.references (λ r. r.length);
       written = all_written (length parts.ranges) (lengths_of parts.references) parts.contents formed;
     }
 
@@ -92,7 +96,9 @@ each_of_form f (x ∷ xs) all zero d there = all.0
 each_of_form f (x ∷ xs) all (suc k) d there = each_of_form f xs all.1 k d (omega (arith, there))
 
 -- What is written after another part is the whole.
-pub put_after : {X E : Type 0} (result : Result X E) (out middle after part rest : List ℕ) → middle ≡ out ++ part → OnOk result (after ≡ middle ++ rest)
+pub put_after : {X E : Type 0} (result : Result X E) (out middle after part rest : List ℕ) → middle ≡ out ++ part
+    → OnOk result (after ≡ middle ++ rest)
     → OnOk result (after ≡ out ++ (part ++ rest))
-put_after (Ok x) out middle after part rest first more = more ∙ ap (λ (t : List ℕ). t ++ rest) first ∙ append_assoc out part rest
+put_after (Ok x) out middle after part rest first more = more ∙ ap (λ (t : List ℕ). t ++ rest) first
+    ∙ append_assoc out part rest
 put_after (Err e) out middle after part rest first more = tt

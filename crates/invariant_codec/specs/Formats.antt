@@ -46,7 +46,11 @@ last_part part_of make last = record {
 
 -- This value, which takes no bytes.
 abbrev pub only : {Y : Type 0} → Y → Format Y
-only y = record { read = λ bytes at. record { tests = []; value = y; next = at }; spell = λ x. []; IsSpelled = λ x. x ≡ y }
+only y = record {
+  read = λ bytes at. record { tests = []; value = y; next = at };
+  spell = λ x. [];
+  IsSpelled = λ x. x ≡ y;
+}
 
 -- The one format where something is so, and else the other.
 abbrev pub choice : {X : Type 0} → Bool → Format X → Format X → Format X
@@ -90,4 +94,8 @@ in_order precedes item count = listed (λ before. tested (comes_next precedes be
 abbrev pub to_end : {X : Type 0} → Format X → List ℕ → Parse X
 to_end format bytes =
     let it = format.read bytes 0 in
-    record { tests = it.tests ++ (must (nat_le (length bytes) it.next) (Form it.next) ∷ []); value = it.value; next = it.next }
+    record {
+      tests = it.tests ++ (must (nat_le (length bytes) it.next) (Form it.next) ∷ []);
+      value = it.value;
+      next = it.next;
+    }

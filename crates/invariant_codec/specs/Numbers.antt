@@ -1,5 +1,6 @@
 -- Numbers of a fixed size, flags, expressions and ranges.
-use Rattle.std.specs.Prelude.{◌≡◌, ℕ, ◌+◌, ◌^◌, ◌<◌, ◌==◌, Bool, ◌&&◌, nat_le, ℤ, pos, negsuc, int_le, List, [], ◌∷◌, drop, length, slice_index, Option, Some, None, is_some, unwrap_or, if◌then◌else◌}
+use Rattle.std.specs.Prelude.{ℕ, ◌+◌, ◌^◌, ◌<◌, ◌==◌, Bool, ◌&&◌, nat_le, ℤ, pos, negsuc, int_le, List, [], ◌∷◌}
+use Rattle.std.specs.Prelude.{drop, length, slice_index, Option, Some, None, is_some, unwrap_or, if◌then◌else◌}
 use Rattle.std.specs.Int.{w32, w64, cast_signed, cast_unsigned}
 use Rattle.cc_base.specs.LittleEndian.{little_bytes, little_number}
 use Rattle.domain_api.specs.declared.expr.Expr.{Expr}
@@ -19,7 +20,11 @@ byte = record {
 -- A number of so many bytes, low byte first.
 unfoldable pub number : ℕ → Format ℕ
 number width = record {
-  read = λ bytes at. record { tests = field bytes at width ∷ []; value = little_number width (drop at bytes); next = at + width };
+  read = λ bytes at. record {
+    tests = field bytes at width ∷ [];
+    value = little_number width (drop at bytes);
+    next = at + width;
+  };
   spell = little_bytes width;
   IsSpelled = λ n. n < 256 ^ width;
 }
@@ -83,7 +88,10 @@ hole lo hi = part is_some flag (hole_where lo hi)
 
 -- A range of numbers of 32 bits: its lowest, its highest and its hole.
 unfoldable pub range : Format Interval
-range = part (λ r. r.lo) int32 (λ lo. part (λ r. r.hi) (tested (int_le lo) int32) (λ hi. last_part (λ r. r.hole) (interval lo hi) (hole lo hi)))
+range =
+    part (λ r. r.lo) int32 (λ lo.
+    part (λ r. r.hi) (tested (int_le lo) int32) (λ hi.
+    last_part (λ r. r.hole) (interval lo hi) (hole lo hi)))
 
 -- The ranges of symbols, after their count.
 unfoldable pub ranges : Format (List Interval)

@@ -1,5 +1,6 @@
 -- References and their segments.
-use Rattle.std.specs.Prelude.{ℕ, suc, ◌+◌, ◌==◌, Bool, false, not, ◌||◌, List, [], ◌∷◌, ◌++◌, length, map, if◌then◌else◌}
+use Rattle.std.specs.Prelude.{ℕ, suc, ◌==◌, Bool, false, not, ◌||◌, List, [], ◌∷◌, ◌++◌, length, map}
+use Rattle.std.specs.Prelude.{if◌then◌else◌}
 use Rattle.std.specs.List.{list_any}
 use Rattle.alias_facts.specs.declared.nullness.Nullness.{Nullness}
 use Rattle.alias_facts.specs.declared.nullness.Nullness.TheVariants as nullness
@@ -45,7 +46,8 @@ segment_of content may_be_empty end = record { content = content; may_be_empty =
 
 unfoldable pub segment : ℕ → Expr → Bool → Format Segment
 segment symbols length_is is_last =
-    part (λ s. s.content) range (λ content. part (λ s. s.may_be_empty) flag (λ may_be_empty.
+    part (λ s. s.content) range (λ content.
+    part (λ s. s.may_be_empty) flag (λ may_be_empty.
     last_part (λ s. s.end) (segment_of content may_be_empty) (next_bound symbols length_is is_last)))
 
 -- The segment after these is the last of so many.
@@ -61,7 +63,8 @@ next_segment symbols length_is count before = segment symbols length_is (is_last
 
 -- So many segments.
 abbrev pub each_segment : ℕ → Expr → ℕ → Format (List Segment)
-each_segment symbols length_is count = listed (next_segment symbols length_is count) (segment_bytes symbols length_is) count
+each_segment symbols length_is count =
+    listed (next_segment symbols length_is count) (segment_bytes symbols length_is) count
 
 -- ---- segments as lists
 
@@ -74,7 +77,11 @@ segments_of first segments = record {
 
 -- The segments with one more.
 abbrev pub with_segment : Segments → Segment → Segments
-with_segment lists s = record { bounds = lists.bounds ++ s.end ∷ []; contents = lists.contents ++ s.content ∷ []; marks = lists.marks ++ s.may_be_empty ∷ [] }
+with_segment lists s = record {
+  bounds = lists.bounds ++ s.end ∷ [];
+  contents = lists.contents ++ s.content ∷ [];
+  marks = lists.marks ++ s.may_be_empty ∷ [];
+}
 
 -- The first bound of some, and those after it.
 abbrev pub first_of : List (List Expr) → List Expr
@@ -131,12 +138,17 @@ abbrev pub reference_of : Place → Nullness → Expr → Reference
 reference_of place nullness length_is = record { place = place; nullness = nullness; length = length_is }
 
 abbrev pub array_of : Place → Nullness → Expr → Segments → KnownArray
-array_of place nullness length_is segments = record { reference = reference_of place nullness length_is; segments = segments }
+array_of place nullness length_is segments = record {
+  reference = reference_of place nullness length_is;
+  segments = segments;
+}
 
 unfoldable pub array : ℕ → Format KnownArray
 array symbols =
-    part (λ a. a.reference.place) array_place (λ place. part (λ a. a.reference.nullness) nullness_format (λ nullness.
-    part (λ a. a.reference.length) (near_expr symbols) (λ length_is. last_part (λ a. a.segments) (array_of place nullness length_is) (segments symbols length_is))))
+    part (λ a. a.reference.place) array_place (λ place.
+    part (λ a. a.reference.nullness) nullness_format (λ nullness.
+    part (λ a. a.reference.length) (near_expr symbols) (λ length_is.
+    last_part (λ a. a.segments) (array_of place nullness length_is) (segments symbols length_is))))
 
 -- References with their segments, after their count.
 unfoldable pub arrays : ℕ → Format (List KnownArray)
@@ -144,7 +156,8 @@ arrays symbols = part length (number 2) (each (array symbols))
 
 -- References and, in a list of their own, their segments.
 abbrev pub with_contents : List Reference → Contents → List KnownArray
-with_contents (r ∷ references) (segments ∷ contents) = record { reference = r; segments = segments } ∷ with_contents references contents
+with_contents (r ∷ references) (segments ∷ contents) =
+    record { reference = r; segments = segments } ∷ with_contents references contents
 with_contents _ _ = []
 
 pub record Arrays : Type 0 where
@@ -159,4 +172,7 @@ in_lists arrays = record { references = map (λ a. a.reference) arrays; contents
 
 -- The references with one more.
 abbrev pub with_array : Arrays → KnownArray → Arrays
-with_array arrays a = record { references = arrays.references ++ a.reference ∷ []; contents = arrays.contents ++ a.segments ∷ [] }
+with_array arrays a = record {
+  references = arrays.references ++ a.reference ∷ [];
+  contents = arrays.contents ++ a.segments ∷ [];
+}

@@ -1,8 +1,9 @@
 -- States of which each count and each number fits its field.
-use Rattle.std.specs.Prelude.{ℕ, ◌<◌, ◌^◌, FitsSigned, List, length}
+use Rattle.std.specs.Prelude.{◌<◌, ◌^◌, FitsSigned, List, length}
 use Rattle.std.specs.Int.{w64}
 use Rattle.std.specs.List.{AllByRecursion}
 use Rattle.abs_state.specs.StateParts.{AreParts, StateParts, parts_of}
+use Rattle.array_contents.specs.Contents.{Segments}
 use Rattle.domain_api.specs.declared.expr.Expr.{Expr}
 use Rattle.state_facts.specs.StateFacts.{State}
 use Rattle.symbolic_values.specs.declared.def.Def.{Def}
@@ -19,6 +20,9 @@ IsShortDef (LtUn a b) = IsShort a × IsShort b
 IsShortDef (NullTest r is) = Unit {0}
 IsShortDef (Sub a b) = IsShort a × IsShort b
 
+abbrev pub AreShortBounds : Segments → Type 0
+AreShortBounds segments = AllByRecursion (AllByRecursion IsShort) segments.bounds
+
 -- The counts of a state fit two bytes, those of bounds and pairs four, and constants are numbers of 64 bits.
 pub record Fits (parts : StateParts) : Type 0 where
   pub symbols : length parts.ranges < 2 ^ 16
@@ -29,7 +33,7 @@ pub record Fits (parts : StateParts) : Type 0 where
   pub apart : length parts.apart < 2 ^ 32
   pub short_bounds : AllByRecursion (λ row. FitsSigned w64 row.k) parts.bounds
   pub short_definitions : AllByRecursion (λ d. IsShortDef d.1) parts.definitions
-  pub short_contents : AllByRecursion (λ segments. AllByRecursion (AllByRecursion IsShort) segments.bounds) parts.contents
+  pub short_contents : AllByRecursion AreShortBounds parts.contents
 
 -- It is a state, and its counts and numbers fit.
 pub record IsSpellable (state : State) : Type 0 where

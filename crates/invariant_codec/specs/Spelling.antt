@@ -4,7 +4,6 @@ use Rattle.std.specs.Int.{w32, w64, cast_unsigned}
 use Rattle.std.specs.List.{flat_map}
 use Rattle.abs_state.specs.StateParts.{StateParts, parts_of}
 use Rattle.alias_facts.specs.PairsOf.{Pair}
-use Rattle.alias_facts.specs.declared.nullness.Nullness.{Nullness}
 use Rattle.array_contents.specs.Contents.{Contents, Segments}
 use Rattle.cc_base.specs.LittleEndian.{little_bytes}
 use Rattle.cil_model.specs.Places.{place_number}
@@ -52,20 +51,25 @@ unfoldable pub segment_bytes : Interval → Bool → List Expr → List ℕ
 segment_bytes content may_be_empty end = range_bytes content ++ (flag_bytes may_be_empty ++ bound_bytes end)
 
 abbrev pub each_segment_bytes : List Interval → List Bool → List (List Expr) → List ℕ
-each_segment_bytes (content ∷ contents) (mark ∷ marks) (end ∷ ends) = segment_bytes content mark end ++ each_segment_bytes contents marks ends
+each_segment_bytes (content ∷ contents) (mark ∷ marks) (end ∷ ends) =
+    segment_bytes content mark end ++ each_segment_bytes contents marks ends
 each_segment_bytes _ _ _ = []
 
 -- Segments after their count: the bound where the first begins, and then each segment.
 unfoldable pub segments_bytes : Segments → List ℕ
 segments_bytes lists =
-    little_bytes 1 (length lists.contents) ++ (bound_bytes (get_or lists.bounds 0 []) ++ each_segment_bytes lists.contents lists.marks (drop 1 lists.bounds))
+    little_bytes 1 (length lists.contents)
+    ++ (bound_bytes (get_or lists.bounds 0 [])
+    ++ each_segment_bytes lists.contents lists.marks (drop 1 lists.bounds))
 
 unfoldable pub reference_bytes : Reference → List ℕ
-reference_bytes r = little_bytes 1 (place_number r.place) ++ (little_bytes 1 (nullness_number r.nullness) ++ expr_bytes r.length)
+reference_bytes r =
+    little_bytes 1 (place_number r.place) ++ (little_bytes 1 (nullness_number r.nullness) ++ expr_bytes r.length)
 
 -- References, each with its segments.
 abbrev pub each_reference_bytes : List Reference → Contents → List ℕ
-each_reference_bytes (r ∷ references) (segments ∷ contents) = (reference_bytes r ++ segments_bytes segments) ++ each_reference_bytes references contents
+each_reference_bytes (r ∷ references) (segments ∷ contents) =
+    (reference_bytes r ++ segments_bytes segments) ++ each_reference_bytes references contents
 each_reference_bytes _ _ = []
 
 -- ---- variables, and what is known of symbols

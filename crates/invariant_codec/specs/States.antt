@@ -1,5 +1,5 @@
 -- States, as they stand in a file, one after another.
-use Rattle.std.specs.Prelude.{ℕ, Bool, true, List, length, map, if◌then◌else◌}
+use Rattle.std.specs.Prelude.{ℕ, Bool, true, List, length, map}
 use Rattle.abs_state.specs.StateParts.{StateParts, nothing_listed}
 use Rattle.alias_facts.specs.PairsOf.{Pair}
 use Rattle.frame_names.specs.declared.var.Var.{Var}
@@ -15,7 +15,8 @@ abbrev pub arrays_in : StateParts → List KnownArray
 arrays_in parts = with_contents parts.references parts.contents
 
 -- The parts of a state in which something is reached.
-abbrev pub reached_parts : List Interval → List KnownArray → List Var → List BoundRow → List Definition → List Pair → StateParts
+abbrev pub reached_parts : List Interval → List KnownArray → List Var → List BoundRow → List Definition
+    → List Pair → StateParts
 reached_parts ranges arrays variables bounds definitions apart = record {
   reached = true;
   variables = variables;
@@ -31,8 +32,10 @@ reached_parts ranges arrays variables bounds definitions apart = record {
 -- references are apart.
 unfoldable pub known : Format StateParts
 known =
-    part (λ p. p.ranges) ranges (λ ranges. part arrays_in (arrays (length ranges)) (λ arrays.
-    part (λ p. p.variables) (variables (length ranges) (length arrays)) (λ variables. part (λ p. p.bounds) (rows (length ranges)) (λ bounds.
+    part (λ p. p.ranges) ranges (λ ranges.
+    part arrays_in (arrays (length ranges)) (λ arrays.
+    part (λ p. p.variables) (variables (length ranges) (length arrays)) (λ variables.
+    part (λ p. p.bounds) (rows (length ranges)) (λ bounds.
     part (λ p. p.definitions) (definitions (length ranges) (length arrays)) (λ definitions.
     last_part (λ p. p.apart) (reached_parts ranges arrays variables bounds definitions) (pairs (length arrays)))))))
 

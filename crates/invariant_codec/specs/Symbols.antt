@@ -30,7 +30,8 @@ reference_in _ = 0
 
 abbrev pub var_of : (symbols references tag : ℕ) → Format Var
 var_of symbols references tag =
-    choice (tag == 1) (last_part number_in vars.Number (near_expr symbols)) (choice (tag == 2) (last_part reference_in vars.Reference (name references)) (only vars.Text))
+    choice (tag == 1) (last_part number_in vars.Number (near_expr symbols))
+    (choice (tag == 2) (last_part reference_in vars.Reference (name references)) (only vars.Text))
 
 -- What a variable has, after its tag.
 unfoldable pub var : (symbols references : ℕ) → Format Var
@@ -51,7 +52,9 @@ other_symbol symbols s = tested (λ t. is_within 1 symbols t && not (s == t)) (n
 -- A bound of two symbols.
 unfoldable pub row : ℕ → Format BoundRow
 row symbols =
-    part (λ r. r.s) (proper_name symbols) (λ s. part (λ r. r.t) (other_symbol symbols s) (λ t. last_part (λ r. r.k) (row_of s t) int64))
+    part (λ r. r.s) (proper_name symbols) (λ s.
+    part (λ r. r.t) (other_symbol symbols s) (λ t.
+    last_part (λ r. r.k) (row_of s t) int64))
 
 abbrev pub row_precedes : BoundRow → BoundRow → Bool
 row_precedes a b = is_before a b.s b.t
@@ -119,14 +122,17 @@ abbrev pub definition_of : ℕ → Def → Definition
 definition_of symbol def = (symbol, def)
 
 unfoldable pub definition : (symbols references : ℕ) → Format Definition
-definition symbols references = part (λ d. d.0) (proper_name symbols) (λ symbol. last_part (λ d. d.1) (definition_of symbol) (def symbols references))
+definition symbols references =
+    part (λ d. d.0) (proper_name symbols) (λ symbol.
+    last_part (λ d. d.1) (definition_of symbol) (def symbols references))
 
 abbrev pub definition_precedes : Definition → Definition → Bool
 definition_precedes a b = nat_lt a.0 b.0
 
 -- The definition after these.
 abbrev pub next_definition : (symbols references : ℕ) → List Definition → Format Definition
-next_definition symbols references before = tested (comes_next definition_precedes before) (definition symbols references)
+next_definition symbols references before =
+    tested (comes_next definition_precedes before) (definition symbols references)
 
 unfoldable pub definitions : (symbols references : ℕ) → Format (List Definition)
 definitions symbols references = part length (number 2) (in_order definition_precedes (definition symbols references))
@@ -138,7 +144,10 @@ pair_of r q = (r, q)
 
 -- Two references, lower first.
 unfoldable pub pair : ℕ → Format Pair
-pair references = tested (λ p. nat_lt p.0 p.1) (part (λ p. p.0) (proper_name references) (λ r. last_part (λ p. p.1) (pair_of r) (proper_name references)))
+pair references =
+    tested (λ p. nat_lt p.0 p.1)
+    (part (λ p. p.0) (proper_name references) (λ r.
+    last_part (λ p. p.1) (pair_of r) (proper_name references)))
 
 -- The pair after these.
 abbrev pub next_pair : ℕ → List Pair → Format Pair

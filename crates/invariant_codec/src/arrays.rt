@@ -55,7 +55,8 @@ impl Model for KnownArrays {
 /// The type of arrays that a byte stands for.
 #[tactic(auto, unfolding(crate::specs::Segments::array_place))]
 fn read_place(bytes: &[u8], at: u32) -> Result<Place, InvFault>
-    ensures { Judges result (first_of (array_place.read bytes.now at).tests) (λ place. IsRead bytes.now (array_place.read bytes.now at) place (at + 1)) }
+    ensures { Judges result (first_of (array_place.read bytes.now at).tests)
+        (λ place. IsRead bytes.now (array_place.read bytes.now at) place (at + 1)) }
 {
     if read_within(bytes, at, 3, 4)? == 3 {
         return Ok(Place::Bools);
@@ -66,7 +67,8 @@ fn read_place(bytes: &[u8], at: u32) -> Result<Place, InvFault>
 /// What a byte says of a reference being null.
 #[tactic(auto, unfolding(crate::specs::Segments::nullness_format))]
 fn read_nullness(bytes: &[u8], at: u32) -> Result<Nullness, InvFault>
-    ensures { Judges result (first_of (nullness_format.read bytes.now at).tests) (λ it. IsRead bytes.now (nullness_format.read bytes.now at) it (at + 1)) }
+    ensures { Judges result (first_of (nullness_format.read bytes.now at).tests)
+        (λ it. IsRead bytes.now (nullness_format.read bytes.now at) it (at + 1)) }
 {
     match read_within(bytes, at, 0, 2)? {
         0 => Ok(Nullness::May),

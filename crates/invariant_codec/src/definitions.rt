@@ -4,7 +4,8 @@ ghost use Rattle.std.specs.Prelude.{◌≡◌, ◌≢◌, ◌+◌, ◌-◌, ◌�
 ghost use Rattle.cc_base.specs.Tests.{first_of, Judges, JudgesOrNoMemory};
 ghost use Rattle.invariant_codec.specs.Formats.{comes_next, in_order};
 ghost use Rattle.invariant_codec.specs.Parses.{IsRead};
-ghost use Rattle.invariant_codec.specs.Symbols.{def, def_of_two, def_with_two, definition, definition_precedes, definitions, next_definition, null_test};
+ghost use Rattle.invariant_codec.specs.Symbols.{def, def_of_two, def_with_two, definition, definition_precedes};
+ghost use Rattle.invariant_codec.specs.Symbols.{definitions, next_definition, null_test};
 
 use crate::expressions::{read_expr, read_name, read_proper_name};
 use crate::fault::{InvFault, InvRefusal};
@@ -17,7 +18,8 @@ use symbolic_values::Def;
 #[tactic(auto, using(cc_base::proofs::TestLemmas::appended), unfolding(crate::specs::Symbols::null_test))]
 fn read_null_test(bytes: &[u8], at: u32, references: usize) -> Result<Def, InvFault>
     requires short { length bytes.now ≤ 2147483647 }
-    ensures { Judges result (first_of ((null_test references).read bytes.now at).tests) (λ d. IsRead bytes.now ((null_test references).read bytes.now at) d (at + 3)) }
+    ensures { Judges result (first_of ((null_test references).read bytes.now at).tests)
+        (λ d. IsRead bytes.now ((null_test references).read bytes.now at) d (at + 3)) }
 {
     let reference = read_name(bytes, at, references)?;
     let is_null = read_flag(bytes, at + 2)?;
@@ -40,7 +42,8 @@ fn def_of_two(tag: u8, a: Expr, b: Expr) -> Def
 #[tactic(auto, using(cc_base::proofs::TestLemmas::appended), unfolding(crate::specs::Symbols::def_with_two))]
 fn read_def_with_two(bytes: &[u8], at: u32, symbols: usize, tag: u8) -> Result<Def, InvFault>
     requires short { length bytes.now ≤ 2147483647 }
-    ensures { Judges result (first_of ((def_with_two symbols tag).read bytes.now at).tests) (λ d. IsRead bytes.now ((def_with_two symbols tag).read bytes.now at) d (at + 20)) }
+    ensures { Judges result (first_of ((def_with_two symbols tag).read bytes.now at).tests)
+        (λ d. IsRead bytes.now ((def_with_two symbols tag).read bytes.now at) d (at + 20)) }
 {
     let a = read_expr(bytes, at, symbols)?;
     let b = read_expr(bytes, at + 10, symbols)?;

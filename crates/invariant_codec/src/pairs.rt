@@ -16,7 +16,8 @@ use std::alloc::Global;
 #[tactic(auto, using(cc_base::proofs::TestLemmas::appended, cc_base::proofs::TestLemmas::first_tests), unfolding(crate::specs::Symbols::pair))]
 fn read_pair(bytes: &[u8], at: u32, references: usize) -> Result<(u32, u32), InvFault>
     requires short { length bytes.now ≤ 2147483647 }
-    ensures { Judges result (first_of ((pair references).read bytes.now at).tests) (λ p. IsRead bytes.now ((pair references).read bytes.now at) p (at + 4)) }
+    ensures { Judges result (first_of ((pair references).read bytes.now at).tests)
+        (λ p. IsRead bytes.now ((pair references).read bytes.now at) p (at + 4)) }
 {
     let r = read_proper_name(bytes, at, references)?;
     let q = read_proper_name(bytes, at + 2, references)?;
@@ -45,7 +46,8 @@ fn read_next(
     pairs: &[(u32, u32)],
 ) -> Result<(u32, u32), InvFault>
     requires short { length bytes.now ≤ 2147483647 }
-    ensures { Judges result (first_of ((next_pair references pairs.now).read bytes.now at).tests) (λ p. IsRead bytes.now ((next_pair references pairs.now).read bytes.now at) p (at + 4)) }
+    ensures { Judges result (first_of ((next_pair references pairs.now).read bytes.now at).tests)
+        (λ p. IsRead bytes.now ((next_pair references pairs.now).read bytes.now at) p (at + 4)) }
 {
     let pair = read_pair(bytes, at, references)?;
     if !comes_next(pairs, pair) {

@@ -4,7 +4,8 @@ ghost use Rattle.std.specs.Prelude.{◌≡◌, ◌++◌, length, FitsSigned, IfS
 ghost use Rattle.std.specs.Int.{w32};
 ghost use Rattle.std.specs.List.{flat_map, AllByRecursion};
 ghost use Rattle.cc_base.specs.LittleEndian.{little_bytes};
-ghost use Rattle.invariant_codec.specs.Spelling.{bound_bytes, counted_bytes, expr_bytes, flag_bytes, hole_bytes, int32_bytes, int64_bytes, range_bytes};
+ghost use Rattle.invariant_codec.specs.Spelling.{bound_bytes, counted_bytes, expr_bytes, flag_bytes, hole_bytes};
+ghost use Rattle.invariant_codec.specs.Spelling.{int32_bytes, int64_bytes, range_bytes};
 ghost use Rattle.number_spans.specs.Stored.{IsNarrow};
 
 use domain_api::{Expr, NoMemory};

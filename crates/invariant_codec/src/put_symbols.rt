@@ -2,7 +2,8 @@
 
 ghost use Rattle.std.specs.Prelude.{◌≡◌, ◌++◌, length, OnOk};
 ghost use Rattle.std.specs.List.{flat_map};
-ghost use Rattle.invariant_codec.specs.Spelling.{counted_bytes, def_bytes, definition_bytes, names_bytes, pair_bytes, row_bytes, two_bytes, var_bytes};
+ghost use Rattle.invariant_codec.specs.Spelling.{counted_bytes, def_bytes, definition_bytes, names_bytes, pair_bytes};
+ghost use Rattle.invariant_codec.specs.Spelling.{row_bytes, two_bytes, var_bytes};
 
 use crate::put_numbers::{put_byte, put_expr, put_flag, put_i64, put_u16, put_u32};
 use domain_api::{Expr, NoMemory};

@@ -57,7 +57,8 @@ fn read_hole(bytes: &[u8], at: u32, range: Range) -> Result<(Range, u32), InvFau
 #[tactic(auto, using(cc_base::proofs::TestLemmas::appended, cc_base::proofs::TestLemmas::first_tests), unfolding(crate::specs::Numbers::range))]
 pub(crate) fn read_range(bytes: &[u8], at: u32) -> Result<(Range, u32), InvFault>
     requires short { length bytes.now ≤ 2147483647 }
-    ensures { Judges result (first_of (range.read bytes.now at).tests) (λ read. IsRead bytes.now (range.read bytes.now at) read.0 read.1) }
+    ensures { Judges result (first_of (range.read bytes.now at).tests)
+        (λ read. IsRead bytes.now (range.read bytes.now at) read.0 read.1) }
 {
     let lo = i64::from(read_i32(bytes, at)?);
     let hi = i64::from(read_i32(bytes, at + 4)?);
@@ -78,7 +79,8 @@ fn read_each(
 ) -> Result<(Vec<Range>, u32), InvRefusal>
     requires short { length bytes.now ≤ 2147483647 }
     requires inside { start ≤ length bytes.now }
-    ensures { JudgesOrNoMemory result (first_of ((each range count).read bytes.now start).tests) (λ read. IsRead bytes.now ((each range count).read bytes.now start) read.0.items read.1) }
+    ensures { JudgesOrNoMemory result (first_of ((each range count).read bytes.now start).tests)
+        (λ read. IsRead bytes.now ((each range count).read bytes.now start) read.0.items read.1) }
 {
     let mut ranges = Vec::new(alloc);
     let mut at = start;
@@ -98,7 +100,8 @@ pub(crate) fn read_ranges(
     at: u32,
 ) -> Result<(Vec<Range>, u32), InvRefusal>
     requires short { length bytes.now ≤ 2147483647 }
-    ensures { JudgesOrNoMemory result (first_of (ranges.read bytes.now at).tests) (λ read. IsRead bytes.now (ranges.read bytes.now at) read.0.items read.1) }
+    ensures { JudgesOrNoMemory result (first_of (ranges.read bytes.now at).tests)
+        (λ read. IsRead bytes.now (ranges.read bytes.now at) read.0.items read.1) }
 {
     let count = read_u16(bytes, at)?;
     read_each(alloc, bytes, at + 2, count)

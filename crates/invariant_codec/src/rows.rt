@@ -15,7 +15,8 @@ use std::alloc::Global;
 /// The number of a symbol from 1 on, other than this one, where there are so many.
 #[tactic(auto, using(cc_base::proofs::TestLemmas::appended, cc_base::proofs::TestLemmas::first_tests), unfolding(crate::specs::Symbols::other_symbol))]
 fn read_other(bytes: &[u8], at: u32, symbols: usize, s: u32) -> Result<u32, InvFault>
-    ensures { Judges result (first_of ((other_symbol symbols s).read bytes.now at).tests) (λ t. IsRead bytes.now ((other_symbol symbols s).read bytes.now at) t (at + 2)) }
+    ensures { Judges result (first_of ((other_symbol symbols s).read bytes.now at).tests)
+        (λ t. IsRead bytes.now ((other_symbol symbols s).read bytes.now at) t (at + 2)) }
 {
     let t = read_u16(bytes, at)?;
     if t < 1 || usize::from(t) > symbols || s == u32::from(t) {
@@ -28,7 +29,8 @@ fn read_other(bytes: &[u8], at: u32, symbols: usize, s: u32) -> Result<u32, InvF
 #[tactic(auto, using(cc_base::proofs::TestLemmas::appended), unfolding(crate::specs::Symbols::row))]
 fn read_row(bytes: &[u8], at: u32, symbols: usize) -> Result<BoundRow, InvFault>
     requires short { length bytes.now ≤ 2147483647 }
-    ensures { Judges result (first_of ((row symbols).read bytes.now at).tests) (λ r. IsRead bytes.now ((row symbols).read bytes.now at) r (at + 12)) }
+    ensures { Judges result (first_of ((row symbols).read bytes.now at).tests)
+        (λ r. IsRead bytes.now ((row symbols).read bytes.now at) r (at + 12)) }
 {
     let s = read_proper_name(bytes, at, symbols)?;
     let t = read_other(bytes, at + 2, symbols, s)?;
@@ -50,7 +52,8 @@ fn comes_next(rows: &[BoundRow], row: BoundRow) -> bool
 #[tactic(auto, using(cc_base::proofs::TestLemmas::appended, cc_base::proofs::TestLemmas::first_tests))]
 fn read_next(bytes: &[u8], at: u32, symbols: usize, rows: &[BoundRow]) -> Result<BoundRow, InvFault>
     requires short { length bytes.now ≤ 2147483647 }
-    ensures { Judges result (first_of ((next_row symbols rows.now).read bytes.now at).tests) (λ r. IsRead bytes.now ((next_row symbols rows.now).read bytes.now at) r (at + 12)) }
+    ensures { Judges result (first_of ((next_row symbols rows.now).read bytes.now at).tests)
+        (λ r. IsRead bytes.now ((next_row symbols rows.now).read bytes.now at) r (at + 12)) }
 {
     let row = read_row(bytes, at, symbols)?;
     if !comes_next(rows, row) {

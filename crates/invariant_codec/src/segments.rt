@@ -4,7 +4,8 @@ ghost use Rattle.std.specs.Prelude.{◌≡◌, ◌+◌, ◌-◌, ◌≤◌, ◌�
 ghost use Rattle.array_segments.specs.Segments.{lists_of};
 ghost use Rattle.cc_base.specs.Tests.{first_of, JudgesOrNoMemory};
 ghost use Rattle.invariant_codec.specs.Parses.{IsRead};
-ghost use Rattle.invariant_codec.specs.Segments.{each_segment, first_of_bounds, segment, segments, segments_of, with_segment};
+ghost use Rattle.invariant_codec.specs.Segments.{each_segment, first_of_bounds, segment, segments, segments_of};
+ghost use Rattle.invariant_codec.specs.Segments.{with_segment};
 
 use crate::bounds::{read_first_bound, read_next_bound};
 use crate::fault::InvRefusal;

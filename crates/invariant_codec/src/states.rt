@@ -25,7 +25,8 @@ use std::alloc::Global;
 #[tactic(auto, using(cc_base::proofs::TestLemmas::appended, cc_base::proofs::TestLemmas::carried), unfolding(crate::specs::States::known))]
 fn read_known(alloc: Global, bytes: &[u8], at: u32) -> Result<(Parts, u32), InvRefusal>
     requires short { length bytes.now ≤ 2147483647 }
-    ensures { JudgesOrNoMemory result (first_of (known.read bytes.now at).tests) (λ read. IsRead bytes.now (known.read bytes.now at) read.0 read.1) }
+    ensures { JudgesOrNoMemory result (first_of (known.read bytes.now at).tests)
+        (λ read. IsRead bytes.now (known.read bytes.now at) read.0 read.1) }
 {
     let (ranges, at) = read_ranges(alloc, bytes, at)?;
     let symbols = ranges.len();
@@ -113,7 +114,8 @@ fn read_counted(alloc: Global, bytes: &[u8], at: u32) -> Result<(Vec<AbsState>, 
 #[tactic(auto, using(cc_base::proofs::TestLemmas::appended, cc_base::proofs::TestLemmas::first_tests, cc_base::proofs::TestLemmas::carried), unfolding(crate::specs::States::states_file))]
 fn read_first(alloc: Global, bytes: &[u8]) -> Result<Vec<AbsState>, InvRefusal>
     requires short { length bytes.now ≤ 2147483647 }
-    ensures { JudgesOrNoMemory result (first_of (states_file bytes.now).tests) (λ states. map parts_of states.items ≡ (states_file bytes.now).value) }
+    ensures { JudgesOrNoMemory result (first_of (states_file bytes.now).tests)
+        (λ states. map parts_of states.items ≡ (states_file bytes.now).value) }
 {
     let (states, end) = read_counted(alloc, bytes, 0)?;
     if bytes.len() > end as usize {
@@ -126,19 +128,21 @@ fn read_first(alloc: Global, bytes: &[u8]) -> Result<Vec<AbsState>, InvRefusal>
 ///
 /// # Errors
 ///
-/// `Short` where the first field that fails passes the end, `Form` where it breaks the form or bytes are left behind the
-/// last field, each with its offset; or memory ran out.
+/// `Short` where the first field that fails passes the end, `Form` where it breaks the form or bytes are left behind
+/// the last field, each with its offset; or memory ran out.
 ///
 /// Cost: linear in the number of bytes, but for what a state sorts of its bounds and pairs. A count takes no memory
 /// before the items that it counts are there.
 pub fn read_states(alloc: Global, bytes: &[u8]) -> Result<Vec<AbsState>, InvRefusal>
     requires short { length bytes.now ≤ 2147483647 }
     // They are read where no test of the list fails; a fault is that of the first test that does.
-    ensures judged { JudgesOrNoMemory result (first_of (states_file bytes.now).tests) (λ states. map parts_of states.items ≡ (states_file bytes.now).value) }
+    ensures judged { JudgesOrNoMemory result (first_of (states_file bytes.now).tests)
+        (λ states. map parts_of states.items ≡ (states_file bytes.now).value) }
     // What is read is spelled by the bytes.
     ensures spelled { IfOk result (λ read. (states_bytes read.items ≡ bytes.now) × AreSpellable read.items) }
     // Where the bytes spell states, these are read, unless memory runs out.
-    ensures only { (spelled : List State) → AreSpellable spelled → states_bytes spelled ≡ bytes.now → GivesOnly result (λ read. read.items ≡ spelled) }
+    ensures only { (spelled : List State) → AreSpellable spelled → states_bytes spelled ≡ bytes.now → GivesOnly result
+        (λ read. read.items ≡ spelled) }
 {
     read_first(alloc, bytes)
 }

@@ -5,4 +5,5 @@ use Rattle.invariant_codec.proofs.arrays.read_each.Given as goal
 
 abbrev pub invariant-loop-array : goal.invariant-loop-array
 invariant-loop-array l =
-    AreListed (λ before. (array l.symbols).read l.bytes) l.count l.start l.arrays (l.count - l._array) l.at × (l.at ≤ length l.bytes)
+    AreListed (λ before. (array l.symbols).read l.bytes) l.count l.start l.arrays (l.count - l._array) l.at
+    × (l.at ≤ length l.bytes)
