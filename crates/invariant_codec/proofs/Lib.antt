@@ -1,0 +1,17 @@
+mod Stands
+mod Counted
+mod FormatLaws
+mod NumberLaws
+mod SegmentLaws
+mod SymbolLaws
+mod StateLaws
+mod GoodStates
+mod SpellingLaws
+mod FitsFields
+mod Narrow
+mod SpelledFields
+mod StateAnswers
+mod RangesRead
+mod SegmentsRead
+mod ArraysRead
+mod PutSteps

@@ -1,0 +1,23 @@
+//! The bytes of an invariant: states one after another, read and written.
+#![tactic(auto)]
+
+mod arrays;
+mod bounds;
+mod definitions;
+mod expressions;
+mod fault;
+mod numbers;
+mod pairs;
+mod put_arrays;
+mod put_numbers;
+mod put_states;
+mod put_symbols;
+mod ranges;
+mod rows;
+mod segments;
+mod states;
+mod variables;
+
+pub use fault::{InvFault, InvRefusal};
+pub use put_states::states_bytes;
+pub use states::read_states;
